@@ -1,7 +1,5 @@
 -- steps one after another: the states that they pass, and the one that is left
 pub mod AtOnce
-pub mod SlotRuns
-pub mod OnePage
 pub mod FaultAtOnce
 pub mod ChangeAtOnce
 pub mod FirstEvents

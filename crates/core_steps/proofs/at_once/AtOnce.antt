@@ -1,24 +1,45 @@
--- An event that can be counted, and what a call comes to by its steps
-use Rattle.std.proofs.Common.{◌≡◌, ℕ, ◌<◌, ◌+◌, ◌∙◌, true, nat_lt, Some, refl, sym, ap, subst, arith}
-use Rattle.std.proofs.Math.Numerals.{add-one}
-use Rattle.std.specs.Prelude.{◌≢◌}
+-- Steps of a call one after another, between which its core's phase isn't written: in general, those that lock or let go slots one after
+-- another, and those at pages that are one slot
+use Rattle.std.proofs.Common.{◌≡◌, ℕ, zero, suc, ◌+◌, ◌<◌, ◌≤◌, ◌==◌, nat_le, nat_lt, Bool, true, false, cond, Option, Some, None, [], ◌∷◌, ◌++◌}
+use Rattle.std.proofs.Common.{refl, sym, subst, ap, ◌∙◌, arith, add-one}
+use Rattle.std.specs.Prelude.{◌≢◌, if◌then◌else◌}
 use Rattle.std.proofs.lemmas.Bool.Decides.{nat_tests}
 use Rattle.vm_base.specs.declared.requests.Request.{Request}
+use Rattle.vm_base.proofs.Functions.{put_same, has_in, in_has}
 use Rattle.machine_model.specs.declared.event.Event.{Event}
-use Rattle.machine_model.specs.declared.event.Event.TheVariants.{Call}
+use Rattle.machine_model.specs.declared.event.Event.TheVariants.{Call, Go}
 use Rattle.machine_model.specs.declared.event.Outcome.TheVariants.{Stepped}
+use Rattle.machine_sound.specs.Sound.{IsReached}
 use Rattle.core_steps.specs.declared.machine.Finished.TheVariants.{Last}
 use Rattle.core_steps.specs.Finishing.{Calls}
 use Rattle.machine_model.specs.declared.event.Outcome.{Outcome}
 use Rattle.machine_model.specs.Events.{core_of}
 use Rattle.machine_model.specs.declared.phase.Phase.{Phase}
-use Rattle.machine_model.specs.Actions.{to}
-use Rattle.machine_model.specs.World.{World}
-use Rattle.machine_model.specs.Step.{Acts, Step, event_limit, is_here, with_event}
-use Rattle.core_steps.specs.OnePage.{Passes, later}
+use Rattle.machine_model.specs.Actions.{to, after_reply, let_go}
+use Rattle.machine_model.specs.World.{World, Memory}
+use Rattle.machine_model.specs.Step.{Acts, Goes, Step, event_limit, is_here, with_event, StepsTo}
+use Rattle.core_steps.specs.Moving.{IsAt}
+use Rattle.core_steps.specs.OnePage.{Passes, later, logged_later}
 use Rattle.core_steps.proofs.engine.Each.{put_id, put_twice}
-use Rattle.core_steps.proofs.Reached.{steps_join}
+use Rattle.core_steps.proofs.Reached.{steps_join, well}
+use Rattle.core_steps.proofs.rows.Known.{is_at, is_left}
 use Rattle.core_steps.proofs.rows.Rows.{if_true}
+use Rattle.std.proofs.Math.Path.{fun_ext}
+use Rattle.vm_base.specs.declared.log.Entry.TheVariants as EntryOf
+use Rattle.vm_base.specs.declared.page.PageRange.{PageRange}
+use Rattle.vm_base.specs.declared.replies.Reply.{Reply}
+use Rattle.vm_base.specs.Functions.{has}
+use Rattle.vm_base.specs.Runs.{NoneIn}
+use Rattle.slot_lock.specs.declared.plan.Goal.{Goal}
+use Rattle.slot_lock.specs.declared.plan.Touch.{Touch}
+use Rattle.slot_lock.specs.declared.slot_map.Got.TheVariants.{Locked}
+use Rattle.slot_lock.specs.Plan.{goal_range}
+use Rattle.slot_lock.specs.Slots.{IsFreeSlot, IsSlot, Slots, Unlocks, between, with_owner, Locks}
+use Rattle.machine_model.specs.declared.phase.Phase.TheVariants.{Answer, Lock, Release, Try, Unlock}
+use Rattle.machine_model.specs.Holding.{page_of_touch}
+use Rattle.machine_model.specs.Locks.{all_locked, locking, held_after, locked_to}
+use Rattle.slot_lock.specs.SlotRuns.{OneByOne}
+use Rattle.core_steps.proofs.rows.Changing.{unlock_range}
 
 pub less : (n m : ℕ) → n < m → nat_lt n m ≡ true
 less n m h = grind (arith, nat_tests)
@@ -30,9 +51,6 @@ counted_step w v c e o below k here a =
     if_true (nat_lt w.calls.events event_limit) _ _ (less w.calls.events event_limit below)
     (if_true (is_here w.made (core_of e)) _ _ (subst (λ d. is_here w.made d ≡ true) (sym k) (less c w.made.cores here)) a)
 
-pub one_later : (w : World) → later 1 w ≡ with_event w
-one_later w = ap (λ n. record w { calls = record w.calls { events = n } }) (add-one w.calls.events)
-
 -- ---- where a core's call stands
 
 -- of two phases the later stays
@@ -43,13 +61,36 @@ to_twice w c a b = ap (λ f. record w { calls = record w.calls { phase = f } }) 
 pub to_same : (w : World) (c : ℕ) (a : Phase) → w.calls.phase c ≡ a → to c a w ≡ w
 to_same w c a e = ap (λ f. record w { calls = record w.calls { phase = f } }) (put_id w.calls.phase c a (sym e))
 
--- ---- a call that doesn't begin
+-- what is known of it there
+pub stands : (w : World) (c : ℕ) (a : Phase) → c < w.made.cores → ∥ IsReached (to c a w) ∥₁ → IsAt (to c a w) c a
+stands w c a here reached = is_at (to c a w) c here (well _ reached) a (put_same w.calls.phase c a)
 
-pub not_begun : (o : Outcome) (w m : World) (c : ℕ) (request : Request) → o ≢ Stepped → Step w (Call c request) o m → Calls w c request (Last o) m
-not_begun Stepped w m c request n s = absurd (n refl)
-not_begun o w m c request n s = (o, m, s, (refl, refl))
+-- ---- its steps
 
--- ---- steps after which the core's phase isn't written
+-- before the first
+pub none_yet : (w : World) (c : ℕ) (a : Phase) → to c a (later 0 w) ≡ to c a w
+none_yet w c a =
+    let sum : w.calls.events + 0 ≡ w.calls.events = omega arith in
+    ap (λ n. to c a (record w { calls = record w.calls { events = n } })) sum
+
+pub one_later : (w : World) → later 1 w ≡ with_event w
+one_later w = ap (λ n. record w { calls = record w.calls { events = n } }) (add-one w.calls.events)
+
+-- a step from a phase
+pub step_from : (m v : World) (c : ℕ) (o : Outcome) (a : Phase) → m.calls.events < event_limit → c < m.made.cores → Goes (to c a (with_event m)) c a o v
+    → Step (to c a m) (Go c) o v
+step_from m v c o a room here h =
+    counted_step (to c a m) v c (Go c) o room refl here
+    (subst (λ p. Goes (to c a (with_event m)) c p o v) (sym (put_same m.calls.phase c a)) h)
+
+-- The step after n of them leads from one phase to the next. But for the phase and the number of events, it leads from x to y.
+pub goes : (x y : World) (c n : ℕ) (a b : Phase) → x.calls.events + n < event_limit → c < x.made.cores
+    → Goes (to c a (with_event (later n x))) c a Stepped (to c b (to c a (with_event (later n y))))
+    → Step (to c a (later n x)) (Go c) Stepped (to c b (later (n + 1) y))
+goes x y c n a b room here h =
+    let one : suc (y.calls.events + n) ≡ y.calls.events + (n + 1) = omega arith in
+    step_from (later n x) _ c Stepped a room here (subst (Goes (to c a (with_event (later n x))) c a Stepped)
+    (to_twice (with_event (later n y)) c a b ∙ ap (λ k. to c b (record y { calls = record y.calls { events = k } })) one) h)
 
 pub passes_join : (w m v : World) (c : ℕ) (a b d : Phase) (n k : ℕ) → Passes w c a n b m → Passes m c b k d v → Passes w c a (n + k) d v
 passes_join w m v c a b d n k p q = record {
@@ -59,3 +100,204 @@ passes_join w m v c a b d n k p q = record {
   events = let first = p.events in let more = q.events in omega (arith, first, more);
   edges = q.edges ∙ p.edges;
 }
+
+-- ---- a call that doesn't begin
+
+pub not_begun : (o : Outcome) (w m : World) (c : ℕ) (request : Request) → o ≢ Stepped → Step w (Call c request) o m → Calls w c request (Last o) m
+not_begun Stepped w m c request n s = absurd (n refl)
+not_begun o w m c request n s = (o, m, s, (refl, refl))
+
+-- ---- slots one after another
+
+-- n events later, with these slots
+abbrev passed : Slots → ℕ → World → World
+passed t n w = later n (record w { slots = t })
+
+-- a change of slots that is a plain step, from the phase at a page to the phase at another
+abbrev IsStep : ℕ → (ℕ → Phase) → (Slots → Slots → ℕ → ℕ → Type 0) → Type 0
+IsStep c at changes = (v : World) (t : Slots) (a b : ℕ) → changes v.slots t a b → Goes v c (at a) Stepped (to c (at b) (record v { slots = t }))
+
+module _ (w : World) (c : ℕ) (at : ℕ → Phase) (changes : Slots → Slots → ℕ → ℕ → Type 0) (one : IsStep c at changes)
+    (each : (s t : Slots) (a b : ℕ) → changes s t a b → t.edge ≡ s.edge) (here : c < w.made.cores) (first : ℕ) where
+  -- one after another
+  steps : (n : ℕ) (t : Slots) (upto : ℕ) → w.calls.events + n ≤ event_limit → OneByOne changes w.slots t first n upto
+      → StepsTo (to c (at first) w) c n (to c (at upto) (passed t n w))
+  steps zero t upto room (same, start) =
+      ap (λ x. to c (at x) (passed t 0 w)) start ∙ (ap (λ s. to c (at first) (passed s 0 w)) same ∙ none_yet w c (at first))
+  steps (suc n) t upto room (m, (b, before, change)) = (
+    to c (at b) (passed m n w),
+    steps n m b (omega (arith, room)) before,
+    subst (λ k. Step (to c (at b) (passed m n w)) (Go c) Stepped (to c (at upto) (passed t k w))) (add-one n)
+        (goes (record w { slots = m }) (record w { slots = t }) c n (at b) (at upto) (omega (arith, room)) here
+        (one (to c (at b) (with_event (passed m n w))) t b upto change)),
+  )
+
+  -- which divide none
+  edges : (n : ℕ) (t : Slots) (upto : ℕ) → OneByOne changes w.slots t first n upto → t.edge ≡ w.slots.edge
+  edges zero t upto (same, start) = ap (λ (s : Slots). s.edge) same
+  edges (suc n) t upto (m, (b, before, change)) = each m t b upto change ∙ edges n m b before
+
+  -- and so the state that the code leaves
+  steps_left : (v : World) (n : ℕ) (t : Slots) (upto most : ℕ) (phase : Phase) → w.calls.phase c ≡ at first → n ≤ most → w.calls.events + most ≤ event_limit
+      → OneByOne changes w.slots t first n upto → phase ≡ at upto → v ≡ to c phase (passed t n w) → StepsTo w c n v × (v.slots.edge ≡ w.slots.edge)
+  steps_left v n t upto most phase e few room run k now = (
+    subst (λ x. StepsTo x c n v) (to_same w c (at first) e)
+        (subst (StepsTo (to c (at first) w) c n) (sym (now ∙ ap (λ x. to c x (passed t n w)) k)) (steps n t upto (omega (arith, few, room)) run)),
+    ap (λ (x : World). x.slots.edge) now ∙ edges n t upto run,
+  )
+
+-- before the goal's end the call locks on
+locks_on : (goal : Goal) (a : ℕ) → a < (goal_range goal).end → locked_to goal a ≡ Lock goal a
+locks_on goal a h =
+    let more : nat_le (goal_range goal).end a ≡ false = grind (arith, nat_tests, h) in ap (λ b. if b then all_locked goal else Lock goal a) more
+
+lock_step : (c : ℕ) (goal : Goal) → IsStep c (locked_to goal) (λ s t a b. Locks s t c a (goal_range goal).end b)
+lock_step c goal v t a b l =
+    let some = l.slot.ordered in let by = l.by_end in
+    subst (λ x. Goes v c x Stepped (to c (locked_to goal b) (record v { slots = t }))) (sym (locks_on goal a (omega (arith, some, by))))
+    (Locked b, (t, l, (refl, refl)))
+
+pub locks : (w v : World) (c : ℕ) (goal : Goal) (cursor n : ℕ) (t : Slots) (upto most : ℕ) (phase : Phase) → IsAt w c (Lock goal cursor)
+    → n ≤ most → w.calls.events + most ≤ event_limit → OneByOne (λ s t a b. Locks s t c a (goal_range goal).end b) w.slots t cursor n upto
+    → phase ≡ locked_to goal upto → v ≡ to c phase (passed t n w) → StepsTo w c n v × (v.slots.edge ≡ w.slots.edge)
+locks w v c goal cursor n t upto most phase i =
+    steps_left w c (locked_to goal) (λ s t a b. Locks s t c a (goal_range goal).end b) (lock_step c goal) (λ s t a b l. ap (λ (s : Slots). s.edge) l.now) i.here
+    cursor v n t upto most phase (i.phase ∙ sym (locks_on goal cursor (is_left w c goal cursor i)))
+
+-- before the end of what is held the call unlocks on
+unlocks_on : (held : PageRange) (reply : Reply) (a : ℕ) → a < held.end → let_go (held_after held a) reply ≡ Unlock (between a held.end) reply
+unlocks_on held reply a h =
+    let more : (a == held.end) ≡ false = grind (arith, nat_tests, h) in ap (λ b. let_go (if b then None else Some (between a held.end)) reply) more
+
+unlock_step : (c : ℕ) (held : PageRange) (reply : Reply)
+    → IsStep c (λ a. let_go (held_after held a) reply) (λ s t a b. Unlocks s t c a held.end b)
+unlock_step c held reply v t a b l =
+    let some = l.slot.ordered in let by = l.by_end in
+    subst (λ x. Goes v c x Stepped (to c (let_go (held_after held b) reply) (record v { slots = t })))
+    (sym (unlocks_on held reply a (omega (arith, some, by)))) (b, (t, l, (refl, refl)))
+
+pub unlocks : (w v : World) (c : ℕ) (held : PageRange) (reply : Reply) (n : ℕ) (t : Slots) (upto most : ℕ) (phase : Phase) → IsAt w c (Unlock held reply)
+    → n ≤ most → w.calls.events + most ≤ event_limit → OneByOne (λ s t a b. Unlocks s t c a held.end b) w.slots t held.first n upto
+    → phase ≡ let_go (held_after held upto) reply → v ≡ to c phase (passed t n w) → StepsTo w c n v × (v.slots.edge ≡ w.slots.edge)
+unlocks w v c held reply n t upto most phase i =
+    steps_left w c (λ a. let_go (held_after held a) reply) (λ s t a b. Unlocks s t c a held.end b) (unlock_step c held reply)
+    (λ s t a b l. ap (λ (s : Slots). s.edge) l.now) i.here held.first v n t upto most phase
+    (i.phase ∙ sym (unlocks_on held reply held.first (unlock_range w c held reply i).some))
+
+-- ---- pages that are one slot, which nobody holds
+
+-- A call that locks them, does its steps there and lets them go leaves the owners as they were. So the states that it passes are told by
+-- the state that is left, with the pages held.
+pub record CanHold (edge : ℕ → Bool) (owner : ℕ → Option ℕ) (r : PageRange) : Type 0 where
+  pub ordered : r.first < r.end
+  pub begins : edge r.first ≡ true
+  pub ends : edge r.end ≡ true
+  pub inside : (p : ℕ) → r.first < p → p < r.end → edge p ≡ false
+  pub free : NoneIn owner r.first r.end
+
+pub can_hold : (s : Slots) (r : PageRange) → r.end ≡ r.first + 1 → IsFreeSlot s r.first → CanHold s.edge s.owner r
+can_hold s r one alone =
+    let slot = subst (IsSlot s r.first) (sym one) alone.slot in
+    record {
+      ordered = slot.ordered;
+      begins = slot.begins;
+      ends = slot.ends;
+      inside = slot.inside;
+      free = λ p low high. ap s.owner (omega (arith, low, high, one)) ∙ alone.free;
+    }
+
+slot_of : (s : Slots) (owner : ℕ → Option ℕ) (r : PageRange) → CanHold s.edge owner r → IsSlot s r.first r.end
+slot_of s owner r can = record { ordered = can.ordered; begins = can.begins; ends = can.ends; inside = can.inside }
+
+-- they are held by the core
+abbrev pub held : Slots → ℕ → PageRange → Slots
+held s c r = with_owner s r.first r.end (Some c)
+
+abbrev pub holding : ℕ → PageRange → World → World
+holding c r w = record w { slots = held w.slots c r }
+
+-- and nobody's again
+free_again : (s : Slots) (c : ℕ) (r : PageRange) → NoneIn s.owner r.first r.end → s ≡ with_owner (held s c r) r.first r.end None
+free_again s c r none = ap (λ o. record s { owner = o }) (fun_ext (λ p. go p (has r p) refl))
+  where
+    go : (p : ℕ) (b : Bool) → has r p ≡ b → s.owner p ≡ cond b None (cond b (Some c) (s.owner p))
+    go p true e = let ends = has_in r p e in none p ends.0 ends.1
+    go p false e = refl
+
+lets_go : (s : Slots) (c : ℕ) (r : PageRange) → CanHold s.edge s.owner r → Unlocks (held s c r) s c r.first r.end r.end
+lets_go s c r can = record {
+  slot = slot_of (held s c r) s.owner r can;
+  by_end = omega arith;
+  was_held = λ p low high. rw (in_has r p low high) refl;
+  now = free_again s c r can.free;
+}
+
+-- the first step locks the pages of the goal
+pub locked : (w : World) (c : ℕ) (goal : Goal) → w.calls.events < event_limit → c < w.made.cores → CanHold w.slots.edge w.slots.owner (goal_range goal)
+    → StepsTo (to c (locking goal) w) c 1 (to c (all_locked goal) (later 1 (holding c (goal_range goal) w)))
+locked w c goal room here can =
+    let r = goal_range goal in
+    let past : nat_le r.end r.end ≡ true = grind (arith, nat_tests) in
+    let m = to c (locking goal) (with_event (later 0 (holding c r w))) in (
+      to c (locking goal) (later 0 w),
+      none_yet w c (locking goal),
+      goes w (holding c r w) c 0 (locking goal) (all_locked goal) (omega (arith, room)) here (
+        Locked r.end,
+        (
+          held w.slots c r,
+          record { slot = slot_of w.slots w.slots.owner r can; by_end = omega arith; was_free = can.free; now = refl },
+          (refl, ap (λ b. to c (if b then all_locked goal else Lock goal r.end) m) (sym past)),
+        ),
+      ),
+    )
+
+-- they are let go, and the reply handed out next,
+unlocked : (x : World) (c n : ℕ) (r : PageRange) (reply : Reply) → x.calls.events + n < event_limit → c < x.made.cores
+    → CanHold x.slots.edge x.slots.owner r
+    → Step (to c (Unlock r reply) (later n (holding c r x))) (Go c) Stepped (to c (Answer reply) (later (n + 1) x))
+unlocked x c n r reply room here can =
+    let whole : (r.end == r.end) ≡ true = grind (arith, nat_tests) in
+    let m = to c (Unlock r reply) (with_event (later n x)) in
+    goes (holding c r x) x c n (Unlock r reply) (Answer reply) room here (
+      r.end,
+      (x.slots, lets_go x.slots c r can, (refl, ap (λ b. to c (let_go (if b then None else Some (between r.end r.end)) reply) m) (sym whole))),
+    )
+
+-- or the access tried
+pub released : (x : World) (c n : ℕ) (touch : Touch) → x.calls.events + n < event_limit → c < x.made.cores
+    → CanHold x.slots.edge x.slots.owner (page_of_touch touch)
+    → Step (to c (Release touch) (later n (holding c (page_of_touch touch) x))) (Go c) Stepped (to c (Try touch) (later (n + 1) x))
+released x c n touch room here can =
+    goes (holding c (page_of_touch touch) x) x c n (Release touch) (Try touch) room here
+    (touch.page + 1, (x.slots, lets_go x.slots c (page_of_touch touch) can, (refl, refl)))
+
+-- The call's reply is logged by the next step, which leaves these slots and this memory, and its pages are let go by the one after it.
+pub answered : (from x : World) (s : Slots) (memory : Memory) (c n : ℕ) (r : PageRange) (a : Phase) (reply : Reply)
+    → StepsTo from c n (to c a (later n (holding c r x))) → x.calls.events + (n + 1) < event_limit → c < x.made.cores → CanHold s.edge s.owner r
+    → Goes (to c a (with_event (later n (holding c r x)))) c a Stepped
+    (after_reply c (Some r) reply (to c a (with_event (later n (holding c r (record x { slots = s; memory = memory }))))))
+    → StepsTo from c (suc (suc n)) (to c (Answer reply) (logged_later c reply (n + 1) (record x { slots = s; memory = memory })))
+answered from x s memory c n r a reply before room here can logs =
+    let y = logged (suc (x.calls.events + n)) in
+    let one : suc (x.calls.events + n) ≡ x.calls.events + (n + 1) = omega arith in
+    let two : x.calls.events + (n + 1 + 1) ≡ x.calls.events + (n + 1) + 1 = omega arith in
+    subst (StepsTo from c (suc (suc n))) (ap (λ k. left k (x.calls.events + (n + 1 + 1))) one ∙ ap (left (x.calls.events + (n + 1))) two) (
+      to c (Unlock r reply) (later (n + 1) (holding c r y)),
+      (
+        to c a (later n (holding c r x)),
+        before,
+        goes (holding c r x) (holding c r y) c n a (Unlock r reply) (omega (arith, room)) here logs,
+      ),
+      unlocked y c (n + 1) r reply room here can,
+    )
+  where
+    -- with the number of this event
+    logged : ℕ → World
+    logged step = record x {
+      slots = s;
+      memory = memory;
+      calls = record x.calls { log = x.calls.log ++ EntryOf.Answer step (x.calls.number c) c reply ∷ [] };
+    }
+
+    left : ℕ → ℕ → World
+    left step events = let v = logged step in to c (Answer reply) (record v { calls = record v.calls { events = events } })

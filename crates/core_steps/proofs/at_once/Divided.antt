@@ -8,8 +8,7 @@ use Rattle.vm_base.specs.declared.requests.Request.{Request}
 use Rattle.slot_lock.specs.declared.slot_map.Got.TheVariants.{Split, Locked, Held}
 use Rattle.slot_lock.specs.declared.slot_map.Fit.TheVariants as fit
 use Rattle.slot_lock.specs.Plan.{goal_range}
-use Rattle.slot_lock.specs.SlotRuns.{OneByOne}
-use Rattle.slot_lock.specs.Slots.{Slots, Divides, Locks, Unlocks}
+use Rattle.slot_lock.specs.Slots.{Slots, Divides, Locks}
 use Rattle.machine_model.specs.declared.event.Event.TheVariants.{Call, Go}
 use Rattle.machine_model.specs.declared.event.Outcome.{Outcome}
 use Rattle.machine_model.specs.declared.event.Outcome.TheVariants.{Full, Stepped}
@@ -96,12 +95,6 @@ module _ (parts : PageRange → ℕ → ℕ → Bool) where
 
   -- ---- a call that was begun
 
-  not_stepped : (w m v : World) (c : ℕ) (request : Request) (p o : Outcome) → p ≢ Stepped → Step w (Call c request) p m → (v ≡ m) × (Last o ≡ Last p)
-      → CallsAsMap parts w c request (Ok (Last o)) v
-  not_stepped w m v c request p o other s h =
-      let same : o ≡ p = let e = h.1 in cc in
-      inl (o, (λ e. other (sym same ∙ e)), subst (λ x. Step w (Call c request) x v) (sym same) (subst (Step w (Call c request) p) (sym h.0) s), refl)
-
   ended : (w m v : World) (c : ℕ) (request : Request) (p o : Outcome) → Step w (Call c request) p m → FinishesAfter m c p (Last o) v
       → v.slots.edge ≡ w.slots.edge → CallsAsMap parts w c request (Ok (Last o)) v
   ended w m v c request Stepped o s (n, (few, other, (x, steps, last))) same =
@@ -110,7 +103,9 @@ module _ (parts : PageRange → ℕ → ℕ → Bool) where
       let left : v.slots.edge ≡ m.slots.edge = same ∙ sym first in
       let half : x.slots.edge ≡ m.slots.edge = between m.slots x.slots v.slots (rising m x c n steps) (stays x (Go c) o v (λ p e. cc) last) left in
       inr (m, s, (n, (x, none_divided m x c n steps half, last, undivided x v c o last (left ∙ sym half))))
-  ended w m v c request p o s h same = not_stepped w m v c request p o (λ e. cc) s h
+  ended w m v c request p o s h same =
+      let is : o ≡ p = let last = h.1 in cc in
+      inl (o, (λ e. cc), subst (λ x. Step w (Call c request) x v) (sym is) (subst (Step w (Call c request) p) (sym h.0) s), refl)
 
   pub starts_undivided : (w v : World) (c : ℕ) (request : Request) (started : Started) → Starts w c request started v → v.slots.edge ≡ w.slots.edge
       → StartsAsMap parts w c request started v
@@ -119,16 +114,3 @@ module _ (parts : PageRange → ℕ → ℕ → Bool) where
       between w.slots m.slots v.slots (stays w (Call c request) Stepped m (λ p e. cc) begun) (rising m v c n steps) same in
       (m, begun, none_divided m v c n steps (same ∙ sym half))
   starts_undivided w v c request (Ended o) (p, m, s, h) same = ended w m v c request p o s h same
-
--- ---- slots that are locked, or unlocked, one after another
-
-pub run_edges : (changes : Slots → Slots → ℕ → ℕ → Type 0) → ((s t : Slots) (a b : ℕ) → changes s t a b → t.edge ≡ s.edge)
-    → (s t : Slots) (first n upto : ℕ) → OneByOne changes s t first n upto → t.edge ≡ s.edge
-run_edges changes each s t first zero upto (same, start) = ap (λ (x : Slots). x.edge) same
-run_edges changes each s t first (suc n) upto (m, (b, before, change)) = each m t b upto change ∙ run_edges changes each s m first n b before
-
-pub locked_edges : (s t : Slots) (c a end b : ℕ) → Locks s t c a end b → t.edge ≡ s.edge
-locked_edges s t c a end b l = ap (λ (x : Slots). x.edge) l.now
-
-pub unlocked_edges : (s t : Slots) (c a end b : ℕ) → Unlocks s t c a end b → t.edge ≡ s.edge
-unlocked_edges s t c a end b l = ap (λ (x : Slots). x.edge) l.now

@@ -1,6 +1,6 @@
 -- What the code learns of a page that is to get a frame
 use Rattle.std.proofs.Common.{◌≡◌, ℕ, zero, suc, ◌<◌, ◌≤◌, ◌^◌, Bool, true, false, not, List, length, get_or, Option, None, Some, Result}
-use Rattle.std.proofs.Common.{is_some, inl, inr, refl, sym, ap, subst, arith, ◌∙◌, cond, pos, ◌+ℤ◌, ◌<ℤ◌, ◌⊎◌, ◌==◌}
+use Rattle.std.proofs.Common.{is_some, inl, inr, refl, sym, ap, subst, arith, ◌∙◌, cond, pos, ◌+ℤ◌, ◌<ℤ◌, ◌==◌}
 use Rattle.std.specs.Prelude.{IfNone, IfSome, if◌then◌else◌, nat_lt}
 use Rattle.std.proofs.Math.Logic.{∥∥₁_elim}
 use Rattle.std.proofs.Props.{props}
@@ -10,7 +10,6 @@ use Rattle.vm_base.specs.declared.info.Back.{Back}
 use Rattle.vm_base.specs.declared.info.Back.TheVariants.{Anon, Shared, Private}
 use Rattle.vm_base.specs.declared.info.PageInfo.{PageInfo}
 use Rattle.vm_base.specs.declared.rights.Access.{Access}
-use Rattle.vm_base.specs.declared.rights.Access.TheVariants.{Load, Fetch}
 use Rattle.vm_base.specs.declared.memory.NoMemory.{NoMemory}
 use Rattle.vm_base.specs.Cores.{members}
 use Rattle.vm_base.specs.Functions.{put}
@@ -215,17 +214,6 @@ of_file_frame cached back n k (inr e) = ap (file_frame cached) e
 pub fills_zeros : (w v : World) (c : ℕ) (touch : Touch) (frame : Option ℕ) (o : Outcome) → back_of (w.slots.info touch.page) ≡ Anon
     → FillsOwn w (λ f counts. after_zeros c touch f counts w) frame o v → FillsFrame w c touch frame o v
 fills_zeros w v c touch frame o e h = subst (λ back. FillsBacked w c touch frame back touch.access o v) (sym e) h
-
-pub fills_shared : (w v : World) (c : ℕ) (touch : Touch) (frame : Option ℕ) (n k : ℕ) (o : Outcome) → back_of (w.slots.info touch.page) ≡ Shared n k
-    → FillsFromFile w c touch frame (w.memory.cached n k) o v → FillsFrame w c touch frame o v
-fills_shared w v c touch frame n k o e h = subst (λ back. FillsBacked w c touch frame back touch.access o v) (sym e) h
-
-pub fills_private : (w v : World) (c : ℕ) (touch : Touch) (frame : Option ℕ) (n k : ℕ) (o : Outcome) → back_of (w.slots.info touch.page) ≡ Private n k
-    → (touch.access ≡ Load) ⊎ (touch.access ≡ Fetch) → FillsFromFile w c touch frame (w.memory.cached n k) o v → FillsFrame w c touch frame o v
-fills_private w v c touch frame n k o e (inl a) h =
-    subst (λ back. FillsBacked w c touch frame back touch.access o v) (sym e) (subst (λ access. FillsBacked w c touch frame (Private n k) access o v) (sym a) h)
-fills_private w v c touch frame n k o e (inr a) h =
-    subst (λ back. FillsBacked w c touch frame back touch.access o v) (sym e) (subst (λ access. FillsBacked w c touch frame (Private n k) access o v) (sym a) h)
 
 -- ---- a copy in place of the frame
 

@@ -1,11 +1,10 @@
-use Rattle.std.proofs.Common.{subst}
+use Rattle.std.proofs.Common.{◌∙◌, ap, refl}
+use Rattle.slot_lock.specs.declared.plan.Goal.TheVariants as To
 use Rattle.machine_model.specs.declared.phase.Phase.TheVariants.{Lock}
-use Rattle.core_steps.specs.Moving.{IsAt}
-use Rattle.core_steps.specs.State.{world}
-use Rattle.core_steps.proofs.at_once.FaultAtOnce.{at_first}
+use Rattle.core_steps.proofs.rows.Known.{only_page}
 use Rattle.core_steps.proofs.engine.Engine.lock_at_once.Goals as goal
 
 pub fault_at_once-requires-clause-at : goal.fault_at_once-requires-clause-at
 fault_at_once-requires-clause-at g c =
-    let w = world g.M.SlotRead.slots c.args.self.now in
-    at_first w c.args.core c.in-Access.touch c.args.cursor (subst (λ x. IsAt w c.args.core (Lock x c.args.cursor)) c.in-Access.is c.requires.at)
+    let i = rw c.in-Access.is at c.requires.at in
+    i.phase ∙ ap (Lock (To.Access c.in-Access.touch)) (only_page _ c.args.core (To.Access c.in-Access.touch) c.args.cursor i refl)

@@ -1,29 +1,33 @@
+use Rattle.std.proofs.Common.{ap, arith, subst, sym}
+use Rattle.machine_model.specs.World.{World}
+use Rattle.core_steps.specs.OnePage.{CanTake}
 use Rattle.core_steps.specs.State.{world}
-use Rattle.core_steps.proofs.at_once.FaultAtOnce.{ends, gets_reached, is_valid, takes_few, takes_it}
+use Rattle.core_steps.proofs.Reached.{steps_reached}
+use Rattle.core_steps.proofs.at_once.AtOnce.{stands}
+use Rattle.core_steps.proofs.at_once.FaultAtOnce.{can_take, ends, gets}
 use Rattle.core_steps.proofs.engine.Engine.show_at_once.Goals as goal
 
 pub show_page-requires-clause-page : goal.show_page-requires-clause-page
-show_page-requires-clause-page g c = is_valid _ c.args.core c.args.touch c.requires.fault.here c.requires.fault.phase c.requires.fault.reached
+show_page-requires-clause-page g c =
+    (stands (world g.M.SlotRead.slots c.args.self.now) c.args.core _ c.requires.fault.here c.requires.fault.reached).goal.plan.page
 
 pub take_from-requires-clause-can : goal.take_from-requires-clause-can
 take_from-requires-clause-can g c =
-    takes_it (world g.M.SlotRead.slots c.args.self.now) c.args.core c.args.touch c.requires.fault c.args.info c.requires.info c.args.source c.requires.source
-    (world g.M.SlotRead.slots c.show_page.new.self) _ c.in-Ok.ensures.ok
+    subst (λ (x : World). CanTake x c.args.core c.args.source) (sym c.in-Ok.ensures.ok)
+    (can_take (world g.M.SlotRead.slots c.args.self.now) c.args.core c.args.touch c.requires.fault c.args.info c.requires.info c.args.source c.requires.source)
 
 pub take_from-requires-clause-room : goal.take_from-requires-clause-room
 take_from-requires-clause-room g c =
-    takes_few (world g.M.SlotRead.slots c.args.self.now) c.args.core c.args.touch c.requires.fault c.args.info c.requires.info c.args.source c.requires.source
-    (world g.M.SlotRead.slots c.show_page.new.self) _ c.in-Ok.ensures.ok
+    let room = c.requires.fault.room in let events = ap (λ (x : World). x.calls.events) c.in-Ok.ensures.ok in omega (arith, room, events)
 
 pub try_page-requires-clause-reached : goal.try_page-requires-clause-reached
 try_page-requires-clause-reached g c =
-    gets_reached (world g.M.SlotRead.slots c.args.self.now) c.args.core c.args.touch c.requires.fault c.args.info c.requires.info c.args.source
-    c.requires.source
-    (world g.M.SlotRead.slots c.show_page.new.self) (world g.M.SlotRead.slots c.take_from.new.self) c.frame-frame.result
-    c.frame-frame.ensures c.in-Ok.ensures.ok c.take_from.ensures
+    steps_reached _ _ c.args.core _ (gets (world g.M.SlotRead.slots c.args.self.now) c.args.core c.args.touch c.requires.fault c.args.info c.requires.info
+    c.args.source c.requires.source _ (world g.M.SlotRead.slots c.take_from.new.self) (rw c.frame-frame.ensures at c.in-Ok.ensures.ok)
+    c.take_from.ensures).steps c.requires.fault.reached
 
 pub returns : goal.returns
 returns g c =
     ends (world g.M.SlotRead.slots c.args.self.now) c.args.core c.args.touch c.requires.fault c.args.info c.requires.info c.args.source c.requires.source
-    (world g.M.SlotRead.slots c.show_page.new.self) (world g.M.SlotRead.slots c.take_from.new.self) c.frame-frame.result
-    c.frame-frame.ensures c.in-Ok.ensures.ok c.take_from.ensures c.try_page.result _ c.try_page.ensures
+    _ (world g.M.SlotRead.slots c.take_from.new.self) (rw c.frame-frame.ensures at c.in-Ok.ensures.ok) c.take_from.ensures c.try_page.result _
+    c.try_page.ensures

@@ -1,11 +1,13 @@
 use Rattle.std.proofs.Common.{ap, refl}
 use Rattle.slot_lock.specs.Slots.{Slots}
 use Rattle.core_steps.specs.State.{world}
-use Rattle.core_steps.proofs.at_once.FaultAtOnce.{can_try_later, tries}
+use Rattle.core_steps.proofs.at_once.AtOnce.{stands}
+use Rattle.core_steps.proofs.at_once.FaultAtOnce.{can_try, tries}
 use Rattle.core_steps.proofs.engine.Engine.try_page.Goals as goal
 
 pub try_touch-requires : goal.try_touch-requires
-try_touch-requires g c = can_try_later (world g.M.SlotRead.slots c.args.self.now) c.args.core c.args.touch _ c.requires.here c.requires.reached
+try_touch-requires g c =
+    can_try _ c.args.core c.args.touch _ _ (stands (world g.M.SlotRead.slots c.args.self.now) c.args.core _ c.requires.here c.requires.reached)
 
 pub returns : goal.returns
 returns g c =
