@@ -21,11 +21,12 @@ use Rattle.machine_model.specs.Step.{Acts, Goes, Step, event_limit, is_here, wit
 use Rattle.core_steps.specs.Moving.{IsAt}
 use Rattle.core_steps.specs.OnePage.{Passes, later, logged_later}
 use Rattle.core_steps.proofs.engine.Each.{put_id, put_twice}
-use Rattle.core_steps.proofs.Reached.{steps_join, well}
+use Rattle.core_steps.proofs.Reached.{steps_join, steps_reached, well}
 use Rattle.core_steps.proofs.rows.Known.{is_at, is_left}
 use Rattle.core_steps.proofs.rows.Rows.{if_true}
 use Rattle.std.proofs.Math.Path.{fun_ext}
 use Rattle.vm_base.specs.declared.log.Entry.TheVariants as EntryOf
+use Rattle.vm_base.specs.declared.info.PageInfo.{PageInfo}
 use Rattle.vm_base.specs.declared.page.PageRange.{PageRange}
 use Rattle.vm_base.specs.declared.replies.Reply.{Reply}
 use Rattle.vm_base.specs.Functions.{has}
@@ -100,6 +101,9 @@ passes_join w m v c a b d n k p q = record {
   events = let first = p.events in let more = q.events in omega (arith, first, more);
   edges = q.edges ∙ p.edges;
 }
+
+pub passes_reached : {w v : World} {c n : ℕ} {a b : Phase} → Passes w c a n b v → ∥ IsReached (to c a w) ∥₁ → ∥ IsReached (to c b v) ∥₁
+passes_reached {w} {v} {c} {n} {a} {b} p t = steps_reached (to c a w) (to c b v) c n p.steps t
 
 -- ---- a call that doesn't begin
 
@@ -184,58 +188,48 @@ unlocks w v c held reply n t upto most phase i =
     (λ s t a b l. ap (λ (s : Slots). s.edge) l.now) i.here held.first v n t upto most phase
     (i.phase ∙ sym (unlocks_on held reply held.first (unlock_range w c held reply i).some))
 
--- ---- pages that are one slot, which nobody holds
+-- ---- a page that is a slot of its own and that nobody holds
 
--- A call that locks them, does its steps there and lets them go leaves the owners as they were. So the states that it passes are told by
--- the state that is left, with the pages held.
-pub record CanHold (edge : ℕ → Bool) (owner : ℕ → Option ℕ) (r : PageRange) : Type 0 where
-  pub ordered : r.first < r.end
-  pub begins : edge r.first ≡ true
-  pub ends : edge r.end ≡ true
-  pub inside : (p : ℕ) → r.first < p → p < r.end → edge p ≡ false
-  pub free : NoneIn owner r.first r.end
-
-pub can_hold : (s : Slots) (r : PageRange) → r.end ≡ r.first + 1 → IsFreeSlot s r.first → CanHold s.edge s.owner r
-can_hold s r one alone =
-    let slot = subst (IsSlot s r.first) (sym one) alone.slot in
-    record {
-      ordered = slot.ordered;
-      begins = slot.begins;
-      ends = slot.ends;
-      inside = slot.inside;
-      free = λ p low high. ap s.owner (omega (arith, low, high, one)) ∙ alone.free;
-    }
-
-slot_of : (s : Slots) (owner : ℕ → Option ℕ) (r : PageRange) → CanHold s.edge owner r → IsSlot s r.first r.end
-slot_of s owner r can = record { ordered = can.ordered; begins = can.begins; ends = can.ends; inside = can.inside }
-
--- they are held by the core
+-- A call that locks it, does its steps there and lets it go leaves the owners as they were. So the states that it passes are told by the
+-- state that is left, with the page held. The page is given as a range, which the call's phases have.
 abbrev pub held : Slots → ℕ → PageRange → Slots
 held s c r = with_owner s r.first r.end (Some c)
 
 abbrev pub holding : ℕ → PageRange → World → World
 holding c r w = record w { slots = held w.slots c r }
 
--- and nobody's again
-free_again : (s : Slots) (c : ℕ) (r : PageRange) → NoneIn s.owner r.first r.end → s ≡ with_owner (held s c r) r.first r.end None
-free_again s c r none = ap (λ o. record s { owner = o }) (fun_ext (λ p. go p (has r p) refl))
-  where
-    go : (p : ℕ) (b : Bool) → has r p ≡ b → s.owner p ≡ cond b None (cond b (Some c) (s.owner p))
-    go p true e = let ends = has_in r p e in none p ends.0 ends.1
-    go p false e = refl
+-- what pages have may have changed since
+abbrev having : Slots → (ℕ → Option PageInfo) → World → World
+having s info x = record x { slots = record s { info = info } }
 
-lets_go : (s : Slots) (c : ℕ) (r : PageRange) → CanHold s.edge s.owner r → Unlocks (held s c r) s c r.first r.end r.end
-lets_go s c r can = record {
-  slot = slot_of (held s c r) s.owner r can;
-  by_end = omega arith;
-  was_held = λ p low high. rw (in_has r p low high) refl;
-  now = free_again s c r can.free;
-}
+module _ (s : Slots) (r : PageRange) (one : r.end ≡ r.first + 1) (alone : IsFreeSlot s r.first) where
+  is_slot : IsSlot s r.first r.end
+  is_slot = subst (IsSlot s r.first) (sym one) alone.slot
 
--- the first step locks the pages of the goal
-pub locked : (w : World) (c : ℕ) (goal : Goal) → w.calls.events < event_limit → c < w.made.cores → CanHold w.slots.edge w.slots.owner (goal_range goal)
+  is_free : NoneIn s.owner r.first r.end
+  is_free p low high = ap s.owner (omega (arith, low, high, one)) ∙ alone.free
+
+  -- it is nobody's again
+  free_again : (c : ℕ) (info : ℕ → Option PageInfo) → record s { info = info } ≡ with_owner (held (record s { info = info }) c r) r.first r.end None
+  free_again c info = ap (λ o. record s { info = info; owner = o }) (fun_ext (λ p. go p (has r p) refl))
+    where
+      go : (p : ℕ) (b : Bool) → has r p ≡ b → s.owner p ≡ cond b None (cond b (Some c) (s.owner p))
+      go p true e = let ends = has_in r p e in is_free p ends.0 ends.1
+      go p false e = refl
+
+  lets_go : (c : ℕ) (info : ℕ → Option PageInfo) → Unlocks (held (record s { info = info }) c r) (record s { info = info }) c r.first r.end r.end
+  lets_go c info = record {
+    slot = record { ordered = is_slot.ordered; begins = is_slot.begins; ends = is_slot.ends; inside = is_slot.inside };
+    by_end = omega arith;
+    was_held = λ p low high. rw (in_has r p low high) refl;
+    now = free_again c info;
+  }
+
+-- the first step locks it for the goal
+pub locked : (w : World) (c : ℕ) (goal : Goal) → w.calls.events < event_limit → c < w.made.cores → (goal_range goal).end ≡ (goal_range goal).first + 1
+    → IsFreeSlot w.slots (goal_range goal).first
     → StepsTo (to c (locking goal) w) c 1 (to c (all_locked goal) (later 1 (holding c (goal_range goal) w)))
-locked w c goal room here can =
+locked w c goal room here one alone =
     let r = goal_range goal in
     let past : nat_le r.end r.end ≡ true = grind (arith, nat_tests) in
     let m = to c (locking goal) (with_event (later 0 (holding c r w))) in (
@@ -245,59 +239,61 @@ locked w c goal room here can =
         Locked r.end,
         (
           held w.slots c r,
-          record { slot = slot_of w.slots w.slots.owner r can; by_end = omega arith; was_free = can.free; now = refl },
+          record { slot = is_slot w.slots r one alone; by_end = omega arith; was_free = is_free w.slots r one alone; now = refl },
           (refl, ap (λ b. to c (if b then all_locked goal else Lock goal r.end) m) (sym past)),
         ),
       ),
     )
 
--- they are let go, and the reply handed out next,
-unlocked : (x : World) (c n : ℕ) (r : PageRange) (reply : Reply) → x.calls.events + n < event_limit → c < x.made.cores
-    → CanHold x.slots.edge x.slots.owner r
-    → Step (to c (Unlock r reply) (later n (holding c r x))) (Go c) Stepped (to c (Answer reply) (later (n + 1) x))
-unlocked x c n r reply room here can =
+-- it is let go, and the reply handed out next,
+unlocked : (x : World) (s : Slots) (info : ℕ → Option PageInfo) (c n : ℕ) (r : PageRange) (reply : Reply) → x.calls.events + n < event_limit
+    → c < x.made.cores → r.end ≡ r.first + 1 → IsFreeSlot s r.first
+    → Step (to c (Unlock r reply) (later n (holding c r (having s info x)))) (Go c) Stepped (to c (Answer reply) (later (n + 1) (having s info x)))
+unlocked x s info c n r reply room here one alone =
+    let y = having s info x in
     let whole : (r.end == r.end) ≡ true = grind (arith, nat_tests) in
-    let m = to c (Unlock r reply) (with_event (later n x)) in
-    goes (holding c r x) x c n (Unlock r reply) (Answer reply) room here (
+    let m = to c (Unlock r reply) (with_event (later n y)) in
+    goes (holding c r y) y c n (Unlock r reply) (Answer reply) room here (
       r.end,
-      (x.slots, lets_go x.slots c r can, (refl, ap (λ b. to c (let_go (if b then None else Some (between r.end r.end)) reply) m) (sym whole))),
+      (y.slots, lets_go s r one alone c info, (refl, ap (λ b. to c (let_go (if b then None else Some (between r.end r.end)) reply) m) (sym whole))),
     )
 
 -- or the access tried
-pub released : (x : World) (c n : ℕ) (touch : Touch) → x.calls.events + n < event_limit → c < x.made.cores
-    → CanHold x.slots.edge x.slots.owner (page_of_touch touch)
-    → Step (to c (Release touch) (later n (holding c (page_of_touch touch) x))) (Go c) Stepped (to c (Try touch) (later (n + 1) x))
-released x c n touch room here can =
-    goes (holding c (page_of_touch touch) x) x c n (Release touch) (Try touch) room here
-    (touch.page + 1, (x.slots, lets_go x.slots c (page_of_touch touch) can, (refl, refl)))
+pub released : (x : World) (s : Slots) (info : ℕ → Option PageInfo) (c n : ℕ) (touch : Touch) → x.calls.events + n < event_limit
+    → c < x.made.cores → IsFreeSlot s touch.page
+    → Step (to c (Release touch) (later n (holding c (page_of_touch touch) (having s info x)))) (Go c) Stepped
+    (to c (Try touch) (later (n + 1) (having s info x)))
+released x s info c n touch room here alone =
+    let y = having s info x in
+    goes (holding c (page_of_touch touch) y) y c n (Release touch) (Try touch) room here
+    (touch.page + 1, (y.slots, lets_go s (page_of_touch touch) refl alone c info, (refl, refl)))
 
--- The call's reply is logged by the next step, which leaves these slots and this memory, and its pages are let go by the one after it.
-pub answered : (from x : World) (s : Slots) (memory : Memory) (c n : ℕ) (r : PageRange) (a : Phase) (reply : Reply)
-    → StepsTo from c n (to c a (later n (holding c r x))) → x.calls.events + (n + 1) < event_limit → c < x.made.cores → CanHold s.edge s.owner r
-    → Goes (to c a (with_event (later n (holding c r x)))) c a Stepped
-    (after_reply c (Some r) reply (to c a (with_event (later n (holding c r (record x { slots = s; memory = memory }))))))
-    → StepsTo from c (suc (suc n)) (to c (Answer reply) (logged_later c reply (n + 1) (record x { slots = s; memory = memory })))
-answered from x s memory c n r a reply before room here can logs =
+-- The call's reply is logged by the next step, after which the pages have this, and its page is let go by the one after it.
+pub answered : (from x : World) (info : ℕ → Option PageInfo) (memory : Memory) (c n : ℕ) (r : PageRange) (a : Phase) (reply : Reply)
+    → StepsTo from c n (to c a (later n (holding c r x))) → x.calls.events + (n + 1) < event_limit → c < x.made.cores
+    → r.end ≡ r.first + 1 → IsFreeSlot x.slots r.first → Goes (to c a (with_event (later n (holding c r x)))) c a Stepped
+    (after_reply c (Some r) reply (to c a (with_event (later n (holding c r (having x.slots info (record x { memory = memory })))))))
+    → StepsTo from c (suc (suc n)) (to c (Answer reply) (logged_later c reply (n + 1) (having x.slots info (record x { memory = memory }))))
+answered from x info memory c n r a reply before room here one alone logs =
     let y = logged (suc (x.calls.events + n)) in
-    let one : suc (x.calls.events + n) ≡ x.calls.events + (n + 1) = omega arith in
-    let two : x.calls.events + (n + 1 + 1) ≡ x.calls.events + (n + 1) + 1 = omega arith in
-    subst (StepsTo from c (suc (suc n))) (ap (λ k. left k (x.calls.events + (n + 1 + 1))) one ∙ ap (left (x.calls.events + (n + 1))) two) (
-      to c (Unlock r reply) (later (n + 1) (holding c r y)),
+    let same : suc (x.calls.events + n) ≡ x.calls.events + (n + 1) = omega arith in
+    let more : x.calls.events + (n + 1 + 1) ≡ x.calls.events + (n + 1) + 1 = omega arith in
+    subst (StepsTo from c (suc (suc n))) (ap (λ k. left k (x.calls.events + (n + 1 + 1))) same ∙ ap (left (x.calls.events + (n + 1))) more) (
+      to c (Unlock r reply) (later (n + 1) (holding c r (having x.slots info y))),
       (
         to c a (later n (holding c r x)),
         before,
-        goes (holding c r x) (holding c r y) c n a (Unlock r reply) (omega (arith, room)) here logs,
+        goes (holding c r x) (holding c r (having x.slots info y)) c n a (Unlock r reply) (omega (arith, room)) here logs,
       ),
-      unlocked y c (n + 1) r reply room here can,
+      unlocked y x.slots info c (n + 1) r reply room here one alone,
     )
   where
     -- with the number of this event
     logged : ℕ → World
     logged step = record x {
-      slots = s;
       memory = memory;
       calls = record x.calls { log = x.calls.log ++ EntryOf.Answer step (x.calls.number c) c reply ∷ [] };
     }
 
     left : ℕ → ℕ → World
-    left step events = let v = logged step in to c (Answer reply) (record v { calls = record v.calls { events = events } })
+    left step events = let v = having x.slots info (logged step) in to c (Answer reply) (record v { calls = record v.calls { events = events } })

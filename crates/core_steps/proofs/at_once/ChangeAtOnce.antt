@@ -38,28 +38,23 @@ use Rattle.core_steps.specs.Moving.{IsAt}
 use Rattle.core_steps.specs.OnePage.{later, replied}
 use Rattle.core_steps.specs.PageChange.{IsAlone, IsPageChange}
 use Rattle.core_steps.specs.Taking.{IsCounted}
-use Rattle.core_steps.proofs.Keeping.{changed_edges}
 use Rattle.core_steps.proofs.engine.Each.{own_dropped}
 use Rattle.core_steps.proofs.rows.Known.{are_counted, only_page, pages_counted, shot_just}
-use Rattle.core_steps.proofs.at_once.AtOnce.{CanHold, answered, can_hold, goes, held, holding, locked, to_same}
+use Rattle.core_steps.proofs.at_once.AtOnce.{answered, goes, held, holding, locked, to_same}
 
--- a change leaves slots and owners as they are
-change_held : (change : Change) (s : Slots) (c : ℕ) (r : PageRange) → CanHold s.edge s.owner r
-    → CanHold (slots_after change s).edge (slots_after change s).owner r × (held (slots_after change s) c r ≡ slots_after change (held s c r))
-change_held (Put range meta) s c r can = (can, refl)
-change_held change s c r can = (can, refl)
+-- a change changes nothing but what pages have, whoever holds them
+change_held : (change : Change) (s : Slots) (c : ℕ) (r : PageRange) → (slots_after change s ≡ record s { info = (slots_after change s).info })
+    × (held (record s { info = (slots_after change s).info }) c r ≡ slots_after change (held s c r))
+change_held (Put range meta) s c r = (refl, refl)
+change_held change s c r = (refl, refl)
 
 -- ---- the lock, and what is decided then
 
 module _ (w : World) (c : ℕ) (change : Change) (page : FreePage) (d : Decision) (i : IsPageChange w c change page d) where
-  can : CanHold w.slots.edge w.slots.owner (range_of change)
-  can = can_hold w.slots (range_of change) i.one i.found.alone
-
   locks : StepsTo w c 1 (to c (Decide change) (later 1 (holding c (range_of change) w)))
   locks =
-      let room = i.room in
       subst (λ x. StepsTo x c 1 (to c (Decide change) (later 1 (holding c (range_of change) w)))) (to_same w c (locking (To.Change change)) i.at.phase)
-      (locked w c (To.Change change) (omega (arith, room)) i.at.here can)
+      (locked w c (To.Change change) (omega arith) i.at.here i.one i.found.alone)
 
   decides : DecidesChange w.made.file (held w.slots c (range_of change)) change d
   decides = i.decides (held w.slots c (range_of change)) (sym i.found.info)
@@ -85,8 +80,8 @@ refuses_at_once w v c change page errno i left =
     let room = i.room in
     let d = Refuse errno in (
       subst (StepsTo w c 3) (sym left)
-          (answered w w w.slots w.memory c 1 (range_of change) (Decide change) (Refused errno) (locks w c change page d i) (omega (arith, room))
-          i.at.here (can w c change page d i) (d, decides w c change page d i, (refl, refl))),
+          (answered w w w.slots.info w.memory c 1 (range_of change) (Decide change) (Refused errno) (locks w c change page d i) (omega (arith, room))
+          i.at.here i.one i.found.alone (d, decides w c change page d i, (refl, refl))),
       ap (λ (x : World). x.slots.edge) left,
     )
 
@@ -131,11 +126,12 @@ module _ (w : World) (c : ℕ) (change : Change) (page : FreePage) (shoot : ℕ)
       let memory = record w.memory { counts = counts } in
       let phase = Acks (To.Change change) change in
       let m = to c phase (with_event (later 3 (holding c r told))) in
-      let after = change_held change w.slots c r (can w c change page (Act r shoot) i) in
-      let left : v ≡ replied c (reply_to change) 4 (made counts (after_shot w.hardware c shoot r) (slots_after change w.slots)) =
-      rw (now, changed, replies, shot, same) refl in (
+      let infos = (slots_after change w.slots).info in
+      let after = change_held change w.slots c r in
+      let left : v ≡ replied c (reply_to change) 4 (made counts (after_shot w.hardware c shoot r) (record w.slots { info = infos })) =
+      rw (now, changed, replies, shot, same) (ap (λ s. replied c (reply_to change) 4 (made counts (after_shot w.hardware c shoot r) s)) after.0) in (
         subst (StepsTo w c 5) (sym left)
-            (answered w told (slots_after change w.slots) memory c 3 r phase (reply_to change) tells (omega (arith, room)) i.at.here after.0 (inl (
+            (answered w told infos memory c 3 r phase (reply_to change) tells (omega (arith, room)) i.at.here i.one i.found.alone (inl (
               nobody,
               (
                 counts,
@@ -143,16 +139,16 @@ module _ (w : World) (c : ℕ) (change : Change) (page : FreePage) (shoot : ℕ)
                 (refl, ap (λ s. after_reply c (Some r) (reply_to change) (record m { slots = s; memory = memory })) after.1),
               ),
             ))),
-        ap (λ (x : World). x.slots.edge) left ∙ changed_edges w.slots change,
+        ap (λ (x : World). x.slots.edge) left,
       )
 
 -- ---- what it is to know
 
 -- what was found of it is known of the change, whose range is this
-pub page_change : (w : World) (c : ℕ) (change : Change) (cursor : ℕ) (range : PageRange) (page : FreePage) (d : Decision) (most : ℕ)
+pub page_change : {w : World} {c cursor : ℕ} {change : Change} {range : PageRange} {page : FreePage} {d : Decision} (most : ℕ)
     → IsAt w c (Lock (To.Change change) cursor) → range ≡ range_of change → range.end - range.first ≡ 1 → IsFreePage w.slots range.first page
     → DecidesPage w.made.file change page.info d → w.calls.events + most ≤ event_limit → 5 ≤ most → IsPageChange w c change page d
-page_change w c change cursor range page d most i same size found decides room enough =
+page_change {w} {c} {cursor} {change} {range} {page} {d} most i same size found decides room enough =
     let one : (range_of change).end ≡ (range_of change).first + 1 = omega (arith, rw same at size) in
     record {
       at = subst (λ p. IsAt w c (Lock (To.Change change) p)) (only_page w c (To.Change change) cursor i one) i;

@@ -39,7 +39,7 @@ use Rattle.core_steps.specs.declared.at_once.fault.Source.TheVariants.{Own, Cach
 use Rattle.core_steps.specs.Moving.{CanTry, IsAt, tried_to}
 use Rattle.core_steps.specs.OnePage.{CanTake, IsFault, IsSource, Makes, Passes, TakesFrom, after_settling, at_lock, frame_from}
 use Rattle.core_steps.specs.OnePage.{later, logged_later, steps_from, with_translation}
-use Rattle.core_steps.proofs.at_once.AtOnce.{CanHold, answered, can_hold, goes, holding, locked, one_later, passes_join}
+use Rattle.core_steps.proofs.at_once.AtOnce.{answered, goes, holding, locked, one_later, passes_join}
 use Rattle.core_steps.proofs.at_once.AtOnce.{released, stands, step_from, to_same, to_twice}
 use Rattle.core_steps.proofs.rows.Framing.{counted_few, fills_zeros, shown_here, shown_used, zeroed}
 use Rattle.core_steps.proofs.rows.Known.{frame_below, free_below, free_unused}
@@ -145,11 +145,8 @@ module _ (w : World) (c : ℕ) (touch : Touch) (fault : IsFault (at_lock c touch
   at : IsAt (at_lock c touch w) c (locking (To.Access touch))
   at = stands w c (locking (To.Access touch)) fault.here fault.reached
 
-  can : CanHold w.slots.edge w.slots.owner (page_of_touch touch)
-  can = can_hold w.slots (page_of_touch touch) refl fault.alone
-
   locks : StepsTo (at_lock c touch w) c 1 (to c (Settle touch) (later 1 (pages w)))
-  locks = let limit = fault.room in locked w c (To.Access touch) (omega (arith, limit)) fault.here can
+  locks = locked w c (To.Access touch) (omega arith) fault.here refl fault.alone
 
   -- the access fails by what is found,
   pub failed : (v : World) (reply : Reply) → ((m : World) → after_finding c touch (found_at w touch) m ≡ after_settling c touch (Err reply) m)
@@ -160,8 +157,8 @@ module _ (w : World) (c : ℕ) (touch : Touch) (fault : IsFault (at_lock c touch
         steps = 3;
         few = omega arith;
         passes = record {
-          steps = answered (at_lock c touch w) w w.slots w.memory c 1 (page_of_touch touch) (Settle touch) reply locks (omega (arith, limit)) fault.here can
-              (refl, sym (failure (to c (Settle touch) (with_event (later 1 (pages w))))));
+          steps = answered (at_lock c touch w) w w.slots.info w.memory c 1 (page_of_touch touch) (Settle touch) reply locks (omega (arith, limit))
+              fault.here refl fault.alone (refl, sym (failure (to c (Settle touch) (with_event (later 1 (pages w))))));
           cores = refl;
           phases = refl;
           events = omega arith;
@@ -275,7 +272,8 @@ module _ (w : World) (c : ℕ) (touch : Touch) (fault : IsFault (at_lock c touch
                   ∙ (ap (λ cached. installs x shown cached infos) cached ∙ installed x c touch shown put_there),
             ),
           ),
-          released (left from m) c (k + 1) touch (omega (arith, limit, few)) fault.here can,
+          released (left from m) w.slots (put w.slots.info touch.page (info_with_core c (Some shown))) c (k + 1) touch (omega (arith, limit, few)) fault.here
+              fault.alone,
         )
       where
         installs : World → PageInfo → (ℕ → ℕ → Option ℕ) → (ℕ → Option PageInfo) → World

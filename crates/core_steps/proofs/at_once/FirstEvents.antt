@@ -28,9 +28,9 @@ use Rattle.core_steps.specs.AtOnce.{CanBegin, CanStart, IsAccess, Starts, Starts
 use Rattle.core_steps.specs.Dividing.{GoesAsMap}
 use Rattle.core_steps.specs.Moving.{IsAt, tried_to}
 use Rattle.core_steps.specs.OnePage.{Makes, Passes, later}
-use Rattle.core_steps.proofs.at_once.AtOnce.{counted_step, less, one_later, passes_join, stands, step_from, to_same, to_twice}
+use Rattle.core_steps.proofs.at_once.AtOnce.{counted_step, less, one_later, passes_join, passes_reached, stands, step_from, to_same, to_twice}
 use Rattle.core_steps.proofs.events.Calling.{begun as begins_so}
-use Rattle.core_steps.proofs.Reached.{steps_join, steps_reached}
+use Rattle.core_steps.proofs.Reached.{steps_join}
 
 -- what the code finds of a call that can begin
 pub can_start : (w : World) (c : ℕ) (here : Bool) → ∥ IsReached w ∥₁ → w.calls.events + 11 < event_limit → here ≡ is_here w.made (Some c) → here ≡ true
@@ -88,20 +88,9 @@ module _ (w : World) (c : ℕ) (request : Request) (i : CanStart w c) where
   pub begins_plainly : (v : World) → v ≡ checked → (parts : PageRange → ℕ → ℕ → Bool)
       → Starts w c request (Started.Begun 1) v × StartsAsMap parts w c request (Started.Begun 1) v × ∥ IsReached v ∥₁
   begins_plainly v left parts =
-      subst (λ x. Starts w c request (Started.Begun 1) x × StartsAsMap parts w c request (Started.Begun 1) x × ∥ IsReached x ∥₁) (sym left) (
-        (omega arith, (begun, begins, (begun, refl, checks))),
-        (
-          begun,
-          begins,
-          (
-            begun,
-            refl,
-            checks,
-            subst (λ a. GoesAsMap parts begun.slots c a Stepped checked.slots) (sym (put_same w.calls.phase c (Check request))) tt,
-          ),
-        ),
-        checked_reached,
-      )
+      let exact = subst (λ a. GoesAsMap parts begun.slots c a Stepped checked.slots) (sym (put_same w.calls.phase c (Check request))) tt in
+      subst (λ x. Starts w c request (Started.Begun 1) x × StartsAsMap parts w c request (Started.Begun 1) x × ∥ IsReached x ∥₁) (sym left)
+      ((omega arith, (begun, begins, (begun, refl, checks))), (begun, begins, (begun, refl, checks, exact)), checked_reached)
 
 -- ---- an access, which is to be tried two events after a
 
@@ -135,7 +124,7 @@ so : {w a x : World} {c n : ℕ} {request : Request} {touch : Touch} {upto : Pha
     → Passes (later 2 a) c (Try touch) n upto x → StepsTo i.begun c (1 + n) (to c upto x) × ∥ IsReached (to c upto x) ∥₁
 so {w} {a} {x} {c} {n} {request} {touch} {upto} i p = (
   steps_join i.begun (to c (Try touch) (later 2 a)) (to c upto x) c 1 n i.steps p.steps,
-  steps_reached (to c (Try touch) (later 2 a)) (to c upto x) c n p.steps i.reached,
+  passes_reached p i.reached,
 )
 
 -- It is, and the call goes on. The number of events tells how many steps these were: none of them is the call's own event.

@@ -1,6 +1,6 @@
 use Rattle.std.proofs.Common.{ap, arith, ◌∙◌}
 use Rattle.machine_model.specs.World.{World}
-use Rattle.core_steps.proofs.Reached.{steps_reached}
+use Rattle.core_steps.proofs.at_once.AtOnce.{passes_reached}
 use Rattle.core_steps.proofs.at_once.FirstEvents.{called, ends, faults, goes_on}
 use Rattle.core_steps.proofs.engine.Engine.access_at_once.Goals as goal
 
@@ -18,7 +18,7 @@ returns-in-Some-clause-starts g c = ends (called c.requires c.number_call.ensure
 
 pub make_fault-requires-clause-reached : goal.make_fault-requires-clause-reached
 make_fault-requires-clause-reached g c =
-    steps_reached _ _ c.args.core 1 (rw c.in_default.is at c.try_page.ensures).steps (called c.requires c.number_call.ensures).reached
+    passes_reached (rw c.in_default.is at c.try_page.ensures) (called c.requires c.number_call.ensures).reached
 
 pub locking-requires : goal.locking-requires
 locking-requires g c = record { plan = (called c.requires c.number_call.ensures).at.plan; target = tt }

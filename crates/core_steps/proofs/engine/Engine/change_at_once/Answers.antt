@@ -12,14 +12,14 @@ pub refuse_at_once-requires : goal.refuse_at_once-requires
 refuse_at_once-requires g c = (
   c.args.change,
   c.in-Some.page,
-  page_change _ c.args.core c.args.change c.args.cursor c.range-range.result c.in-Some.page _ c.args.most c.requires.at c.range-range.ensures
-      c.if-range-ne1.false c.in-Some.ensures.some c.in-Err.ensures.refused c.requires.room c.if-most-lt-MADE.false,
+  page_change c.args.most c.requires.at c.range-range.ensures c.if-range-ne1.false c.in-Some.ensures.some c.in-Err.ensures.refused c.requires.room
+      c.if-most-lt-MADE.false,
 )
 
 pub make_at_once-requires-clause-change : goal.make_at_once-requires-clause-change
 make_at_once-requires-clause-change g c =
-    page_change _ c.args.core c.args.change c.args.cursor c.range-range.result c.in-Some.page _ c.args.most c.requires.at c.range-range.ensures
-    c.if-range-ne1.false c.in-Some.ensures.some c.in-Ok.ensures.made c.requires.room c.if-most-lt-MADE.false
+    page_change c.args.most c.requires.at c.range-range.ensures c.if-range-ne1.false c.in-Some.ensures.some c.in-Ok.ensures.made c.requires.room
+    c.if-most-lt-MADE.false
 
 pub make_at_once-requires-clause-alone : goal.make_at_once-requires-clause-alone
 make_at_once-requires-clause-alone g c =

@@ -2,8 +2,7 @@ use Rattle.std.proofs.Common.{ap, arith, subst, sym}
 use Rattle.machine_model.specs.World.{World}
 use Rattle.core_steps.specs.OnePage.{CanTake}
 use Rattle.core_steps.specs.State.{world}
-use Rattle.core_steps.proofs.Reached.{steps_reached}
-use Rattle.core_steps.proofs.at_once.AtOnce.{stands}
+use Rattle.core_steps.proofs.at_once.AtOnce.{passes_reached, stands}
 use Rattle.core_steps.proofs.at_once.FaultAtOnce.{can_take, ends, gets}
 use Rattle.core_steps.proofs.engine.Engine.show_at_once.Goals as goal
 
@@ -22,9 +21,9 @@ take_from-requires-clause-room g c =
 
 pub try_page-requires-clause-reached : goal.try_page-requires-clause-reached
 try_page-requires-clause-reached g c =
-    steps_reached _ _ c.args.core _ (gets (world g.M.SlotRead.slots c.args.self.now) c.args.core c.args.touch c.requires.fault c.args.info c.requires.info
-    c.args.source c.requires.source _ (world g.M.SlotRead.slots c.take_from.new.self) (rw c.frame-frame.ensures at c.in-Ok.ensures.ok)
-    c.take_from.ensures).steps c.requires.fault.reached
+    passes_reached (gets (world g.M.SlotRead.slots c.args.self.now) c.args.core c.args.touch c.requires.fault c.args.info c.requires.info c.args.source
+    c.requires.source _ (world g.M.SlotRead.slots c.take_from.new.self) (rw c.frame-frame.ensures at c.in-Ok.ensures.ok) c.take_from.ensures)
+    c.requires.fault.reached
 
 pub returns : goal.returns
 returns g c =

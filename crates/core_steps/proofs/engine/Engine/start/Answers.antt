@@ -1,4 +1,4 @@
-use Rattle.std.proofs.Common.{ap, arith, ◌∙◌}
+use Rattle.std.proofs.Common.{ap, arith, rules, ◌∙◌}
 use Rattle.machine_model.specs.Changes.{after_check}
 use Rattle.core_steps.specs.OnePage.{later}
 use Rattle.core_steps.specs.State.{world}
@@ -13,9 +13,7 @@ returns-in-Some-clause-divides g c =
 
 pub go_check-requires-clause-room : goal.go_check-requires-clause-room
 go_check-requires-clause-room g c =
-    reply_room (world g.M.SlotRead.slots c.args.self.now) c.args.core c.args.request
-    (can_start _ _ _ c.requires (omega (arith, c.if-self.false)) c.is_here.ensures c.if-not-is_here.false (c.can_begin.ensures c.if-not-can_begin.false))
-    _ c.number_call.ensures
+    reply_room (world g.M.SlotRead.slots c.args.self.now) c.args.core c.args.request (search rules) _ c.number_call.ensures
 
 pub returns : goal.returns
 returns g c =
