@@ -77,10 +77,9 @@ module _ (w : World) (c : ℕ) (change : Change) (page : FreePage) (d : Decision
 pub refuses_at_once : (w v : World) (c : ℕ) (change : Change) (page : FreePage) (errno : Errno) → IsPageChange w c change page (Refuse errno)
     → v ≡ replied c (Refused errno) 2 w → StepsTo w c 3 v × (v.slots.edge ≡ w.slots.edge)
 refuses_at_once w v c change page errno i left =
-    let room = i.room in
     let d = Refuse errno in (
       subst (StepsTo w c 3) (sym left)
-          (answered w w w.slots.info w.memory c 1 (range_of change) (Decide change) (Refused errno) (locks w c change page d i) (omega (arith, room))
+          (answered w w w.slots.info w.memory c 1 (range_of change) (Decide change) (Refused errno) (locks w c change page d i) (omega arith)
           i.at.here i.one i.found.alone (d, decides w c change page d i, (refl, refl))),
       ap (λ (x : World). x.slots.edge) left,
     )
@@ -94,16 +93,15 @@ module _ (w : World) (c : ℕ) (change : Change) (page : FreePage) (shoot : ℕ)
 
   tells : StepsTo w c 3 (to c (Acks (To.Change change) change) (later 3 (holding c (range_of change) told)))
   tells =
-      let room = i.room in
       let x = holding c (range_of change) w in
       let d = Act (range_of change) shoot in (
         to c (Post change shoot) (later 2 x),
         (
           to c (Decide change) (later 1 x),
           locks w c change page d i,
-          goes x x c 1 (Decide change) (Post change shoot) (omega (arith, room)) i.at.here (d, decides w c change page d i, (refl, refl)),
+          goes x x c 1 (Decide change) (Post change shoot) (omega arith) i.at.here (d, decides w c change page d i, (refl, refl)),
         ),
-        goes x (holding c (range_of change) told) c 2 (Post change shoot) (Acks (To.Change change) change) (omega (arith, room)) i.at.here (refl, refl),
+        goes x (holding c (range_of change) told) c 2 (Post change shoot) (Acks (To.Change change) change) (omega arith) i.at.here (refl, refl),
       )
 
   -- the call awaits nobody, as before
@@ -119,10 +117,8 @@ module _ (w : World) (c : ℕ) (change : Change) (page : FreePage) (shoot : ℕ)
       → h ≡ after_shot w.hardware c shoot range → slots ≡ slots_after change w.slots → reply ≡ reply_to change
       → v ≡ replied c reply 4 (made counts h slots) → StepsTo w c 5 v × (v.slots.edge ≡ w.slots.edge)
   makes_at_once counts h range slots reply v lost same shot changed replies now =
-      let room = i.room in
-      let one = i.one in
       let r = range_of change in
-      let size : 1 ≡ r.end - r.first = omega (arith, one) in
+      let size : 1 ≡ r.end - r.first = omega arith in
       let memory = record w.memory { counts = counts } in
       let phase = Acks (To.Change change) change in
       let m = to c phase (with_event (later 3 (holding c r told))) in
@@ -131,7 +127,7 @@ module _ (w : World) (c : ℕ) (change : Change) (page : FreePage) (shoot : ℕ)
       let left : v ≡ replied c (reply_to change) 4 (made counts (after_shot w.hardware c shoot r) (record w.slots { info = infos })) =
       rw (now, changed, replies, shot, same) (ap (λ s. replied c (reply_to change) 4 (made counts (after_shot w.hardware c shoot r) s)) after.0) in (
         subst (StepsTo w c 5) (sym left)
-            (answered w told infos memory c 3 r phase (reply_to change) tells (omega (arith, room)) i.at.here i.one i.found.alone (inl (
+            (answered w told infos memory c 3 r phase (reply_to change) tells (omega arith) i.at.here i.one i.found.alone (inl (
               nobody,
               (
                 counts,

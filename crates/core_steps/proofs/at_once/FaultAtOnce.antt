@@ -152,12 +152,11 @@ module _ (w : World) (c : ℕ) (touch : Touch) (fault : IsFault (at_lock c touch
   pub failed : (v : World) (reply : Reply) → ((m : World) → after_finding c touch (found_at w touch) m ≡ after_settling c touch (Err reply) m)
       → v ≡ logged_later c reply 2 w → Makes w c touch (Some reply) v
   failed v reply failure now =
-      let limit = fault.room in
       subst (Makes w c touch (Some reply)) (sym now) (record {
         steps = 3;
         few = omega arith;
         passes = record {
-          steps = answered (at_lock c touch w) w w.slots.info w.memory c 1 (page_of_touch touch) (Settle touch) reply locks (omega (arith, limit))
+          steps = answered (at_lock c touch w) w w.slots.info w.memory c 1 (page_of_touch touch) (Settle touch) reply locks (omega arith)
               fault.here refl fault.alone (refl, sym (failure (to c (Settle touch) (with_event (later 1 (pages w))))));
           cores = refl;
           phases = refl;
@@ -170,11 +169,10 @@ module _ (w : World) (c : ℕ) (touch : Touch) (fault : IsFault (at_lock c touch
   settles : (b : Phase) (s : Settled) → found_at w touch ≡ s → ((m : World) → after_finding c touch s m ≡ to c b m)
       → StepsTo (at_lock c touch w) c 2 (to c b (later 2 (pages w)))
   settles b s found finds =
-      let limit = fault.room in
       let m = to c (Settle touch) (with_event (later 1 (pages w))) in (
         to c (Settle touch) (later 1 (pages w)),
         locks,
-        goes (pages w) (pages w) c 1 (Settle touch) b (omega (arith, limit)) fault.here
+        goes (pages w) (pages w) c 1 (Settle touch) b (omega arith) fault.here
             (refl, sym (ap (λ s. after_finding c touch s m) found ∙ finds m)),
       )
 
@@ -218,17 +216,15 @@ module _ (w : World) (c : ℕ) (touch : Touch) (fault : IsFault (at_lock c touch
         subst (λ (x : World). StepsTo (at_lock c touch w) c 2 (to c (Install touch) (later 2 (pages x))))
         (sym (ap (filled f) t ∙ ap (λ i. record w { slots = record w.slots { info = i } }) same)) (settles (Install touch) (Found.Has f) h (λ m. refl))
     fetches (Cached f) m h t =
-        let limit = fault.room in
         let fill = Fill touch None in
         let known = said (Found.Cached f) h in (
           to c fill (later 2 (pages w)),
           settles fill (Found.Cached f) h (λ m. refl),
-          goes (pages w) (pages (filled f m)) c 2 fill (Install touch) (omega (arith, limit)) fault.here
+          goes (pages w) (pages (filled f m)) c 2 fill (Install touch) (omega arith) fault.here
               (shares (to c fill (with_event (later 2 (pages w)))) _ c touch f (back_of (w.slots.info touch.page)) touch.access known.0 known.1
               (t.0, t.1, (refl, ap (λ (m : Memory). to c (Install touch) (to c fill (with_event (later 2 (pages (filled f m)))))) t.2))),
         )
     fetches (Free f) m h t =
-        let limit = fault.room in
         let fill = Fill touch (Some f) in
         let taken = record w { memory = record w.memory { is_free = put w.memory.is_free f false } } in
         let x = to c fill (with_event (later 3 (pages taken))) in
@@ -237,10 +233,10 @@ module _ (w : World) (c : ℕ) (touch : Touch) (fault : IsFault (at_lock c touch
           (
             to c (Want touch None) (later 2 (pages w)),
             settles (Want touch None) Found.Wants h.0 (λ m. refl),
-            goes (pages w) (pages taken) c 2 (Want touch None) fill (omega (arith, limit)) fault.here
+            goes (pages w) (pages taken) c 2 (Want touch None) fill (omega arith) fault.here
                 (inr (f, record { free = h.2.free; least = h.2.least }, (refl, refl))),
           ),
-          goes (pages taken) (pages (filled f m)) c 3 fill (Install touch) (omega (arith, limit)) fault.here
+          goes (pages taken) (pages (filled f m)) c 3 fill (Install touch) (omega arith) fault.here
               (fills_zeros x _ c touch (Some f) Stepped back (zeroed x _ c touch f t.0 back t.1
               (ap (λ (m : Memory). to c (Install touch) (to c fill (with_event (later 3 (pages (filled f m)))))) t.2))),
         )
@@ -252,8 +248,6 @@ module _ (w : World) (c : ℕ) (touch : Touch) (fault : IsFault (at_lock c touch
     shows : (from : Source) (m : Memory) → Comes from → TakesFrom w.memory c from m
         → StepsTo (at_lock c touch w) c (suc (suc (steps_from from + 2))) (to c (Try touch) (later (steps_from from + 2 + 1 + 1) (left from m)))
     shows from m h t =
-        let limit = fault.room in
-        let few = few_steps from in
         let k = steps_from from + 2 in
         let f = frame_from from in
         let shown = record info { frame = Some f } in
@@ -266,13 +260,13 @@ module _ (w : World) (c : ℕ) (touch : Touch) (fault : IsFault (at_lock c touch
           (
             to c (Install touch) (later k (pages (filled f m))),
             fetches from m h t,
-            goes (pages (filled f m)) (pages (left from m)) c k (Install touch) (Release touch) (omega (arith, limit, few)) fault.here (
+            goes (pages (filled f m)) (pages (left from m)) c k (Install touch) (Release touch) (omega (arith, few_steps from)) fault.here (
               refl,
               ap (installs x shown w.memory.cached) twice
                   ∙ (ap (λ cached. installs x shown cached infos) cached ∙ installed x c touch shown put_there),
             ),
           ),
-          released (left from m) w.slots (put w.slots.info touch.page (info_with_core c (Some shown))) c (k + 1) touch (omega (arith, limit, few)) fault.here
+          released (left from m) w.slots (put w.slots.info touch.page (info_with_core c (Some shown))) c (k + 1) touch (omega (arith, few_steps from)) fault.here
               fault.alone,
         )
       where
@@ -306,7 +300,7 @@ module _ (w : World) (c : ℕ) (touch : Touch) (fault : IsFault (at_lock c touch
       pub ends : (r : Option Reply) (x : World) → Passes (later 4 v) c (Try touch) 1 (tried_to touch r) x → Makes w c touch r x
       ends r x tried = record {
         steps = suc (suc (steps_from from + 2)) + 1;
-        few = let few = few_steps from in omega (arith, few);
+        few = omega (arith, few_steps from);
         passes = passes_join w (later 4 v) x c (locking (To.Access touch)) (Try touch) (tried_to touch r) (suc (suc (steps_from from + 2))) 1 gets tried;
       }
 

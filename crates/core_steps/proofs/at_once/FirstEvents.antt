@@ -1,7 +1,6 @@
 -- The first events of a call, made at once: the states that it passes, and the one that is left
-use Rattle.std.proofs.Common.{◌≡◌, ℕ, suc, ◌+◌, ◌-◌, ◌<◌, ◌≤◌, Bool, true, not, length, Option, Some, None, Result, Ok, Err, refl, sym, subst, ap, ◌∙◌, arith}
+use Rattle.std.proofs.Common.{◌≡◌, ℕ, suc, ◌+◌, ◌-◌, ◌<◌, ◌≤◌, Bool, not, length, Option, None, Result, Ok, Err, refl, sym, subst, ap, ◌∙◌, arith}
 use Rattle.std.proofs.Math.Logic.{∥∥₁_map}
-use Rattle.std.proofs.lemmas.Bool.Decides.{nat_tests}
 use Rattle.vm_base.specs.declared.page.PageRange.{PageRange}
 use Rattle.vm_base.specs.declared.replies.Reply.{Reply}
 use Rattle.vm_base.specs.declared.requests.Request.{Request}
@@ -19,24 +18,18 @@ use Rattle.machine_model.specs.Actions.{answer_entry, to, with_entry}
 use Rattle.machine_model.specs.Changes.{after_check, after_plan, checked_by}
 use Rattle.machine_model.specs.Locks.{locking}
 use Rattle.machine_model.specs.Placing.{placing}
-use Rattle.machine_model.specs.Step.{Step, StepsTo, after_call, event_limit, is_here, with_event}
+use Rattle.machine_model.specs.Step.{Step, StepsTo, after_call, event_limit, with_event}
 use Rattle.machine_laws.specs.Orderly.{answer_count}
 use Rattle.machine_sound.specs.Sound.{IsReached}
 use Rattle.machine_sound.proofs.Kept.{reached_step}
 use Rattle.core_steps.specs.declared.at_once.starting.Started.TheVariants as Started
-use Rattle.core_steps.specs.AtOnce.{CanBegin, CanStart, IsAccess, Starts, StartsAsMap, with_call}
+use Rattle.core_steps.specs.AtOnce.{CanStart, IsAccess, Starts, StartsAsMap, with_call}
 use Rattle.core_steps.specs.Dividing.{GoesAsMap}
 use Rattle.core_steps.specs.Moving.{IsAt, tried_to}
 use Rattle.core_steps.specs.OnePage.{Makes, Passes, later}
 use Rattle.core_steps.proofs.at_once.AtOnce.{counted_step, less, one_later, passes_join, passes_reached, stands, step_from, to_same, to_twice}
 use Rattle.core_steps.proofs.events.Calling.{begun as begins_so}
 use Rattle.core_steps.proofs.Reached.{steps_join}
-
--- what the code finds of a call that can begin
-pub can_start : (w : World) (c : ℕ) (here : Bool) → ∥ IsReached w ∥₁ → w.calls.events + 11 < event_limit → here ≡ is_here w.made (Some c) → here ≡ true
-    → CanBegin w c → CanStart w c
-can_start w c here reached below is found begins =
-    let e = sym is ∙ found in record { reached = reached; below = below; here = grind (arith, nat_tests, e); begins = begins }
 
 -- ---- it begins, and its arguments are checked
 
@@ -49,11 +42,9 @@ module _ (w : World) (c : ℕ) (request : Request) (i : CanStart w c) where
 
   begins : Step w (Call c request) Stepped begun
   begins =
-      let room = i.begins.room in
-      let below = i.below in
-      counted_step w begun c (Call c request) Stepped (omega (arith, below)) refl i.here
+      counted_step w begun c (Call c request) Stepped (omega arith) refl i.here
       (begins_so (with_event w) begun c request (w.calls.phase c) i.begins.free
-      (sym (ap not (less (length w.calls.requests) w.made.calls room))) refl)
+      (sym (ap not (less (length w.calls.requests) w.made.calls i.begins.room))) refl)
 
   begun_reached : ∥ IsReached begun ∥₁
   begun_reached = ∥∥₁_map i.reached (λ h. reached_step w begun (Call c request) Stepped h begins)
@@ -72,10 +63,9 @@ module _ (w : World) (c : ℕ) (request : Request) (i : CanStart w c) where
 
   checks : Step begun (Go c) Stepped checked
   checks =
-      let below = i.below in
       let v = with_call c request w in
       let sum : w.calls.events + 2 ≡ suc (suc w.calls.events) = omega arith in
-      step_from (with_event v) checked c Stepped (Check request) (omega (arith, below)) i.here (
+      step_from (with_event v) checked c Stepped (Check request) (omega arith) i.here (
         refl,
         ap (λ n. after_check c request (record v { calls = record v.calls { events = n } })) sum
             ∙ sym (planned (checked_by w.made c request) (with_event (with_event v))),
@@ -144,13 +134,11 @@ pub ends : {w a x : World} {c n : ℕ} {request : Request} {touch : Touch} {repl
     → Passes (later 2 a) c (Try touch) n (Answer reply) x → n ≤ 8
     → Starts w c request (Started.Ended (Answered reply)) (later 1 x) × ∥ IsReached (later 1 x) ∥₁
 ends {w} {a} {x} {c} {n} {request} {touch} {reply} i p few =
-    let room = i.room in
-    let events = p.events in
     let made = so i p in
     let m = to c (Answer reply) x in
     let free = ap (λ f. f c) p.phases ∙ i.free in
     let last : Step m (Go c) (Answered reply) (later 1 x) =
-    step_from x (later 1 x) c (Answered reply) (Answer reply) (omega (arith, few, events, room)) (subst (λ k. c < k) (sym p.cores) i.at.here)
+    step_from x (later 1 x) c (Answered reply) (Answer reply) (omega arith) (subst (λ k. c < k) (sym p.cores) i.at.here)
     (refl, one_later x ∙ sym (to_twice (with_event x) c (Answer reply) Free ∙ to_same (with_event x) c Free free)) in (
       (Stepped, i.begun, i.begins, (1 + n, (omega (arith, few), (λ e. cc), (m, made.0, last)))),
       ∥∥₁_map made.1 (λ h. reached_step m (later 1 x) (Go c) (Answered reply) h last),
@@ -159,9 +147,8 @@ ends {w} {a} {x} {c} {n} {request} {touch} {reply} i p few =
 -- a fault's steps, and the try before them
 pub faults : {w x v : World} {c : ℕ} {touch : Touch} {r told : Option Reply} → r ≡ None → Passes w c (Try touch) 1 (tried_to touch r) x
     → (makes : Makes x c touch told v) → Passes w c (Try touch) (1 + makes.steps) (tried_to touch told) v × (1 + makes.steps ≤ 8)
-faults {w} {x} {v} {c} {touch} {r} {told} none tried makes =
-    let few = makes.few in (
-      passes_join w x v c (Try touch) (locking (To.Access touch)) (tried_to touch told) 1 makes.steps
-          (subst (λ o. Passes w c (Try touch) 1 (tried_to touch o) x) none tried) makes.passes,
-      omega (arith, few),
-    )
+faults {w} {x} {v} {c} {touch} {r} {told} none tried makes = (
+  passes_join w x v c (Try touch) (locking (To.Access touch)) (tried_to touch told) 1 makes.steps
+      (subst (λ o. Passes w c (Try touch) 1 (tried_to touch o) x) none tried) makes.passes,
+  omega arith,
+)

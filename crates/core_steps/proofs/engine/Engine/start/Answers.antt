@@ -1,9 +1,9 @@
-use Rattle.std.proofs.Common.{ap, arith, rules, ◌∙◌}
+use Rattle.std.proofs.Common.{ap, rules, ◌∙◌}
 use Rattle.machine_model.specs.Changes.{after_check}
 use Rattle.core_steps.specs.OnePage.{later}
 use Rattle.core_steps.specs.State.{world}
 use Rattle.core_steps.proofs.at_once.Divided.{starts_undivided}
-use Rattle.core_steps.proofs.at_once.FirstEvents.{begins_plainly, can_start, reply_room}
+use Rattle.core_steps.proofs.at_once.FirstEvents.{begins_plainly, reply_room}
 use Rattle.core_steps.proofs.engine.Engine.start.Goals as goal
 
 pub returns-in-Some-clause-divides : goal.returns-in-Some-clause-divides
@@ -18,7 +18,6 @@ go_check-requires-clause-room g c =
 pub returns : goal.returns
 returns g c =
     let made =
-    begins_plainly (world g.M.SlotRead.slots c.args.self.now) c.args.core c.args.request
-    (can_start _ _ _ c.requires (omega (arith, c.if-self.false)) c.is_here.ensures c.if-not-is_here.false (c.can_begin.ensures c.if-not-can_begin.false))
-    _ (c.go_check.ensures.1 ∙ ap (λ a. after_check c.args.core c.args.request (later 2 a)) c.number_call.ensures) g.M.SlotMap.parts in
+    begins_plainly (world g.M.SlotRead.slots c.args.self.now) c.args.core c.args.request (search rules) _
+    (c.go_check.ensures.1 ∙ ap (λ a. after_check c.args.core c.args.request (later 2 a)) c.number_call.ensures) g.M.SlotMap.parts in
     record { starts = made.0; divides = made.1; reached = made.2 }
