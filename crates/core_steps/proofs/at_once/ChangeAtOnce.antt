@@ -20,7 +20,7 @@ use Rattle.slot_lock.specs.Plan.{range_of}
 use Rattle.slot_lock.specs.Slots.{IsFreePage, Slots}
 use Rattle.vm_calls.specs.declared.decision.Decision.{Decision}
 use Rattle.vm_calls.specs.declared.decision.Decision.TheVariants.{Act, Refuse}
-use Rattle.vm_calls.specs.Decisions.{DecidesChange, DecidesPage}
+use Rattle.vm_calls.specs.Decisions.{DecidesPage}
 use Rattle.refcache.specs.Counts.{Counts}
 use Rattle.mmu.specs.declared.entry.Translation.{Translation}
 use Rattle.mmu.specs.declared.tlb.TlbEntry.{TlbEntry}
@@ -50,14 +50,11 @@ change_held change s c r = (refl, refl)
 
 -- ---- the lock, and what is decided then
 
-module _ (w : World) (c : ℕ) (change : Change) (page : FreePage) (d : Decision) (i : IsPageChange w c change page d) where
+module _ {w : World} {c : ℕ} {change : Change} {page : FreePage} {d : Decision} (i : IsPageChange w c change page d) where
   locks : StepsTo w c 1 (to c (Decide change) (later 1 (holding c (range_of change) w)))
   locks =
       subst (λ x. StepsTo x c 1 (to c (Decide change) (later 1 (holding c (range_of change) w)))) (to_same w c (locking (To.Change change)) i.at.phase)
       (locked w c (To.Change change) (omega arith) i.at.here i.one i.found.alone)
-
-  decides : DecidesChange w.made.file (held w.slots c (range_of change)) change d
-  decides = i.decides (held w.slots c (range_of change)) (sym i.found.info)
 
   -- its frame is one of the machine's that some page has
   pub is_counted : IfSome (frame_of page.info) (IsCounted w.memory.counts)
@@ -74,39 +71,36 @@ module _ (w : World) (c : ℕ) (change : Change) (page : FreePage) (d : Decision
 
 -- ---- a change that is refused
 
-pub refuses_at_once : (w v : World) (c : ℕ) (change : Change) (page : FreePage) (errno : Errno) → IsPageChange w c change page (Refuse errno)
+pub refuses_at_once : {w v : World} {c : ℕ} {change : Change} {page : FreePage} {errno : Errno} → IsPageChange w c change page (Refuse errno)
     → v ≡ replied c (Refused errno) 2 w → StepsTo w c 3 v × (v.slots.edge ≡ w.slots.edge)
-refuses_at_once w v c change page errno i left =
-    let d = Refuse errno in (
+refuses_at_once {w} {v} {c} {change} {page} {errno} i left =
+    let r = range_of change in (
       subst (StepsTo w c 3) (sym left)
-          (answered w w w.slots.info w.memory c 1 (range_of change) (Decide change) (Refused errno) (locks w c change page d i) (omega arith)
-          i.at.here i.one i.found.alone (d, decides w c change page d i, (refl, refl))),
+          (answered w w w.slots.info w.memory c 1 r (Decide change) (Refused errno) (locks i) (omega arith) i.at.here i.one i.found.alone
+          (Refuse errno, i.decides (held w.slots c r) (sym i.found.info), (refl, refl))),
       ap (λ (x : World). x.slots.edge) left,
     )
 
 -- ---- one that is made
 
-module _ (w : World) (c : ℕ) (change : Change) (page : FreePage) (shoot : ℕ)
+module _ {w : World} {c shoot : ℕ} {change : Change} {page : FreePage}
     (i : IsPageChange w c change page (Act (range_of change) shoot)) (alone : IsAlone shoot c) where
   abbrev told : World
   told = with_hardware (after_shot w.hardware c shoot (range_of change)) w
 
   tells : StepsTo w c 3 (to c (Acks (To.Change change) change) (later 3 (holding c (range_of change) told)))
   tells =
-      let x = holding c (range_of change) w in
-      let d = Act (range_of change) shoot in (
+      let r = range_of change in
+      let x = holding c r w in
+      let decided = i.decides (held w.slots c r) (sym i.found.info) in (
         to c (Post change shoot) (later 2 x),
         (
           to c (Decide change) (later 1 x),
-          locks w c change page d i,
-          goes x x c 1 (Decide change) (Post change shoot) (omega arith) i.at.here (d, decides w c change page d i, (refl, refl)),
+          locks i,
+          goes x x c 1 (Decide change) (Post change shoot) (omega arith) i.at.here (Act r shoot, decided, (refl, refl)),
         ),
-        goes x (holding c (range_of change) told) c 2 (Post change shoot) (Acks (To.Change change) change) (omega arith) i.at.here (refl, refl),
+        goes x (holding c r told) c 2 (Post change shoot) (Acks (To.Change change) change) (omega arith) i.at.here (refl, refl),
       )
-
-  -- the call awaits nobody, as before
-  nobody : AwaitsNobody (after_shot w.hardware c shoot (range_of change)) c
-  nobody = subst (λ h. AwaitsNobody h c) (sym (own_dropped w.hardware c shoot (range_of change) alone)) (i.at.idle refl)
 
   -- what is left, but for the reply
   abbrev made : Counts → Hardware → Slots → World
@@ -128,7 +122,8 @@ module _ (w : World) (c : ℕ) (change : Change) (page : FreePage) (shoot : ℕ)
       rw (now, changed, replies, shot, same) (ap (λ s. replied c (reply_to change) 4 (made counts (after_shot w.hardware c shoot r) s)) after.0) in (
         subst (StepsTo w c 5) (sym left)
             (answered w told infos memory c 3 r phase (reply_to change) tells (omega arith) i.at.here i.one i.found.alone (inl (
-              nobody,
+              -- the call awaits nobody, as before
+              subst (λ h. AwaitsNobody h c) (sym (own_dropped w.hardware c shoot r alone)) (i.at.idle refl),
               (
                 counts,
                 subst (λ n. CountsDown c (frame_lost change w.slots.info) r.first n w.memory.counts counts) size lost,
@@ -159,9 +154,9 @@ pub alone_by : (core set others : ℕ) → members others ≡ put (members set) 
 alone_by core set others e none d = sym (ap (λ f. f d) e) ∙ (ap (λ s. members s d) none ∙ members-empty d)
 
 -- a core that isn't recorded on the page has no translation of it
-pub nothing_left : (w : World) (c : ℕ) (change : Change) (page : FreePage) (shoot : ℕ) → IsPageChange w c change page (Act (range_of change) shoot)
+pub nothing_left : {w : World} {c shoot : ℕ} {change : Change} {page : FreePage} → IsPageChange w c change page (Act (range_of change) shoot)
     → members shoot c ≡ false → HasDropped (w.hardware.table c) (w.hardware.tlb c) (range_of change) None
-nothing_left w c change page shoot i out = (
+nothing_left {w} {c} {shoot} {change} {page} i out = (
   λ p h. no_entry p h (w.hardware.table c p) refl,
   no_tlb (w.hardware.tlb c) (λ g. g.coherent.tlbs c),
 )

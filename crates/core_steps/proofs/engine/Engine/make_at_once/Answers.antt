@@ -1,6 +1,5 @@
 use Rattle.std.proofs.Common.{sym}
 use Rattle.core_steps.specs.Parts.{parts}
-use Rattle.core_steps.specs.State.{world}
 use Rattle.core_steps.proofs.at_once.ChangeAtOnce.{is_counted, makes_at_once, nothing_left}
 use Rattle.core_steps.proofs.rows.Changing.{acts_mapped}
 use Rattle.core_steps.proofs.rows.Known.{change_pages}
@@ -10,11 +9,10 @@ pub shoot_alone-requires-clause-pages : goal.shoot_alone-requires-clause-pages
 shoot_alone-requires-clause-pages g c = rw c.range.ensures (change_pages c.args.change c.requires.change.at.goal)
 
 pub shoot_alone-requires-clause-dropped : goal.shoot_alone-requires-clause-dropped
-shoot_alone-requires-clause-dropped g c = λ out.
-    rw c.range.ensures (nothing_left (world g.M.SlotRead.slots c.args.self.now) c.args.core c.args.change c.args.page c.args.shoot c.requires.change out)
+shoot_alone-requires-clause-dropped g c = λ out. rw c.range.ensures (nothing_left c.requires.change out)
 
 pub count_page-requires-clause-counted : goal.count_page-requires-clause-counted
-count_page-requires-clause-counted g c = is_counted _ c.args.core c.args.change c.args.page _ c.requires.change
+count_page-requires-clause-counted g c = is_counted c.requires.change
 
 pub change_free-requires-clause-mapped : goal.change_free-requires-clause-mapped
 change_free-requires-clause-mapped g c =
@@ -22,9 +20,9 @@ change_free-requires-clause-mapped g c =
 
 pub returns : goal.returns
 returns g c =
-    let before = world g.M.SlotRead.slots c.args.self.now in
+    let i = c.requires.change in
+    let lost = c.count_page.ensures (g.M.SlotRead.slots c.args.self.now.map).info _ i.found.info in
     let made =
-    makes_at_once before c.args.core c.args.change c.args.page c.args.shoot c.requires.change c.requires.alone _ (parts c.shoot_alone.new.self).hardware _ _ _ _
-    (c.count_page.ensures before.slots.info _ c.requires.change.found.info) c.range.ensures c.shoot_alone.ensures.after c.change_free.ensures
-    c.reply_to.ensures c.reply_at_once.ensures in
+    makes_at_once i c.requires.alone _ (parts c.shoot_alone.new.self).hardware _ _ _ _ lost c.range.ensures c.shoot_alone.ensures.after
+    c.change_free.ensures c.reply_to.ensures c.reply_at_once.ensures in
     record { steps = made.0; edges = made.1 }

@@ -3,5 +3,5 @@ use Rattle.core_steps.proofs.engine.Engine.refuse_at_once.Goals as goal
 
 pub returns : goal.returns
 returns g c =
-    let made = refuses_at_once _ _ c.args.core c.requires.0 c.requires.1 c.args.errno c.requires.2 c.reply_at_once.ensures in
+    let made = refuses_at_once c.requires.2 c.reply_at_once.ensures in
     record { steps = made.0; edges = made.1 }
