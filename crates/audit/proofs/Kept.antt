@@ -1,7 +1,9 @@
 -- Which frames pages, and pages of files, have, once some were given back or taken
 use Rattle.std.proofs.Common.{◌≡◌, ◌≢◌, ℕ, ◌+◌, ◌-◌, ◌<◌, ◌≤◌, ◌⊎◌, inl, inr, ⊎_elim, Bool, true, false, cond, List, [], ◌∷◌, Option, Some, None, refl, sym, ◌∙◌, ap, subst, arith}
 use Rattle.std.proofs.lemmas.Bool.{cases_lt}
-use Rattle.std.specs.Prelude.{◌==◌}
+use Rattle.std.specs.Prelude.{◌==◌, ◌||◌}
+use Rattle.std.specs.List.{list_any}
+use Rattle.std.proofs.Math.Path.{fun_ext}
 use Rattle.vm_base.specs.declared.info.Meta.{Meta}
 use Rattle.vm_base.specs.declared.info.PageInfo.{PageInfo}
 use Rattle.vm_base.specs.declared.rights.Prot.{Prot}
@@ -152,13 +154,24 @@ kept_alone s t c info cached f g x one same lost free count now k =
 
 -- ---- frames of a list that are given back
 
+-- the first is given back, and then the others
+pub freed_more : (x : Framed) (xs : List Framed) (free : ℕ → Bool) → freed xs (put free x.frame true) ≡ freed (x ∷ xs) free
+freed_more x xs free = fun_ext (λ y. by (list_any (λ (z : Framed). y == z.frame) xs) (y == x.frame) (free y))
+  where
+    by : (others here was : Bool) → (others || cond here true was) ≡ ((here || others) || was)
+    by true true was = refl
+    by true false was = refl
+    by false true was = refl
+    by false false was = refl
+
 -- a frame that no page of a range has is free afterwards just where it was before
 still_free : (frame : ℕ → Option ℕ) (first end : ℕ) (xs : List Framed) (free : ℕ → Bool) (y : ℕ) → ListsFrames frame first end xs
     → ((p : ℕ) → first ≤ p → p < end → frame p ≢ Some y) → freed xs free y ≡ free y
 still_free frame first end [] free y lists none = refl
 still_free frame first end (x ∷ xs) free y lists none =
-    still_free frame (x.page + 1) end xs (put free x.frame true) y lists.4 (λ p a b. none p (omega (arith, a, lists.0)) b)
-    ∙ put_other free x.frame true y (λ same. none x.page lists.0 lists.1 (lists.3 ∙ ap Some (sym same)))
+    ap (λ (f : ℕ → Bool). f y) (sym (freed_more x xs free))
+    ∙ (still_free frame (x.page + 1) end xs (put free x.frame true) y lists.4 (λ p a b. none p (omega (arith, a, lists.0)) b)
+    ∙ put_other free x.frame true y (λ same. none x.page lists.0 lists.1 (lists.3 ∙ ap Some (sym same))))
 
 -- frames of pages are taken, each once, where pages from the first on have just taken ones, and no two the same
 taken_each : (frame : ℕ → Option ℕ) (first end : ℕ) (xs : List Framed) (count : ℕ) (free : ℕ → Bool)

@@ -1,6 +1,7 @@
 -- How a plain page map is kept: slots say what backs each page, and a frame has a page's own bytes, or
 -- those of a page of a file, once a store has changed them
-use Rattle.std.specs.Prelude.{◌≡◌, ℕ, ◌<◌, ◌≤◌, ◌⊎◌, Bool, true, false, List, [], ◌∷◌, Option, None, Some}
+use Rattle.std.specs.Prelude.{◌≡◌, ℕ, ◌<◌, ◌≤◌, ◌⊎◌, ◌==◌, ◌||◌, Bool, true, false, List, [], ◌∷◌, Option, None, Some}
+use Rattle.std.specs.List.{list_any}
 use Rattle.vm_base.specs.declared.info.Back.{Back}
 use Rattle.vm_base.specs.declared.info.Back.TheVariants.{Anon, Shared, Private}
 use Rattle.vm_base.specs.declared.info.PageInfo.{PageInfo}
@@ -116,10 +117,9 @@ AreTaken [] count free = Unit {0}
 AreTaken (x ∷ xs) count free =
     (x.frame < count) × (free x.frame ≡ false) × AreTaken xs count (put free x.frame true)
 
--- they were given back
+-- once they were given back these are free, and all that were free before
 abbrev pub freed : List Framed → (ℕ → Bool) → ℕ → Bool
-freed [] free = free
-freed (x ∷ xs) free = freed xs (put free x.frame true)
+freed list free frame = list_any (λ (x : Framed). frame == x.frame) list || free frame
 
 -- The frames of the pages of a range were given back: what is left is kept as though these were unmapped.
 pub record Forgets (s : Slots) (old new : FrameParts) (range : PageRange) : Type 0 where

@@ -98,40 +98,8 @@ fn judge_alone<M: SlotMap, A: Allocator>(
     Verdict::Legal
 }
 
-/// Makes a change whose reply is legal, of pages that are held for it.
-fn judge_held<M: SlotMap, A: Allocator>(
-    map: &mut M,
-    objects: &Objects<A>,
-    frames: &mut Frames<A>,
-    change: Change,
-    reply: Reply,
-) -> Result<Verdict, NoMemory>
-    requires sound { IsSoundChange change }
-    requires free { NobodyHolds (M.slots map.old) }
-    requires kept { Keeps (M.slots map.old) (cached_in objects.now) frames.old }
-    ensures judged { IfOk result (λ verdict. (any_place : Bool) → JudgesPlan any_place
-        (plain_kept (M.slots map.old) objects.now frames.old) (PlanOf.Change change) reply verdict
-        (plain_kept (M.slots map.new) objects.now frames.new)) }
-    ensures err { OnErr result (plain_kept (M.slots map.new) objects.now frames.new
-        ≡ plain_kept (M.slots map.old) objects.now frames.old) }
-    ensures free { NobodyHolds (M.slots map.new) }
-    ensures kept { Keeps (M.slots map.new) (cached_in objects.now) frames.new }
-{
-    match decide(map, objects, Goal::Change(change)) {
-        Decision::Refuse(errno) => Ok(compared(reply, Reply::Refused(errno))),
-        Decision::Act { .. } => {
-            let due = change_reply(change);
-            if !is_same(reply, due) {
-                return Ok(Verdict::Illegal(due));
-            }
-            make_change(map, frames, change)?;
-            Ok(Verdict::Legal)
-        }
-        Decision::Again => unreachable!(),
-    }
-}
-
-/// Makes a change whose reply is legal.
+/// Makes a change whose reply is legal: of a page alone without holding it, and of others while they are
+/// held.
 fn judge_change<M: SlotMap, A: Allocator>(
     map: &mut M,
     objects: &Objects<A>,
@@ -153,7 +121,18 @@ fn judge_change<M: SlotMap, A: Allocator>(
     if let Some(page) = free_alone(map, change) {
         return Ok(judge_alone(map, objects, frames, change, page, reply));
     }
-    judge_held(map, objects, frames, change, reply)
+    match decide(map, objects, Goal::Change(change)) {
+        Decision::Refuse(errno) => Ok(compared(reply, Reply::Refused(errno))),
+        Decision::Act { .. } => {
+            let due = change_reply(change);
+            if !is_same(reply, due) {
+                return Ok(Verdict::Illegal(due));
+            }
+            make_change(map, frames, change)?;
+            Ok(Verdict::Legal)
+        }
+        Decision::Again => unreachable!(),
+    }
 }
 
 /// Does an access whose reply is legal.

@@ -1,8 +1,9 @@
-use Rattle.std.proofs.Common.{◌+◌, ◌<◌, ◌∙◌, ap, drop, get_or, sym, subst}
-use Rattle.std.proofs.lemmas.List.{drop_more}
+use Rattle.std.proofs.Common.{◌+◌, ◌<◌, ◌∙◌, ap, arith, drop, get_or, sym, subst}
+use Rattle.std.proofs.lemmas.List.{drop_all, drop_more}
 use Rattle.slot_lock.specs.declared.framed.Framed.{Framed}
 use Rattle.frames.specs.Parts.{free_frames}
 use Rattle.audit.specs.Keeping.{AreTaken, freed}
+use Rattle.audit.proofs.Kept.{freed_more}
 use Rattle.audit.proofs.changing.give_list.Goals as goal
 
 -- what an index past the end would read
@@ -27,7 +28,14 @@ pages-preserved g c =
       taken = subst (λ n. AreTaken left n (free_frames c.give.new.self)) (sym e.count)
           (subst (λ free. AreTaken left c.pages.frames.count free) (sym e.free)
           (subst (λ xs. AreTaken xs c.pages.frames.count (free_frames c.pages.frames)) more i.taken).2);
-      rest = ap (freed left) e.free ∙ (ap (λ xs. freed xs (free_frames c.pages.frames)) (sym more) ∙ i.rest);
+      rest = ap (freed left) e.free ∙ (freed_more (get_or c.args.list.now c.pages.k unread) left (free_frames c.pages.frames)
+          ∙ (ap (λ xs. freed xs (free_frames c.pages.frames)) (sym more) ∙ i.rest));
       bytes = e.bytes ∙ i.bytes;
       count = e.count ∙ i.count;
     }
+
+-- at the end none is left to be given back
+pub returns-clause-free : goal.returns-clause-free
+returns-clause-free g c =
+    ap (λ xs. freed xs (free_frames c.pages.frames)) (sym (drop_all c.pages.k c.args.list.now (omega (arith, c.pages-test.false))))
+    ∙ c.pages.invariant.rest

@@ -4,7 +4,7 @@ use Rattle.backing.specs.Files.{cached_in}
 use Rattle.vm_calls.proofs.Readable.{readable}
 use Rattle.audit.proofs.Concluded.{act_illegal, act_legal, refuse_judged}
 use Rattle.audit.proofs.Kept.{kept_none}
-use Rattle.audit.proofs.judging.judge_held.Goals as goal
+use Rattle.audit.proofs.judging.judge_change.Goals as goal
 
 pub decide-requires-clause-readable : goal.decide-requires-clause-readable
 decide-requires-clause-readable g c =
