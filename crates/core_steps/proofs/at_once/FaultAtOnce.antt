@@ -1,7 +1,8 @@
 -- A fault whose page is a slot of its own that nobody holds, made at once: the states that it passes, and the one that is left
-use Rattle.std.proofs.Common.{◌≡◌, ℕ, suc, ◌+◌, ◌-◌, ◌<◌, ◌≤◌, ◌&&◌, ◌||◌, Bool, true, false, Option, Some, None, Err, refl, sym}
+use Rattle.std.proofs.Common.{◌≡◌, ℕ, suc, ◌+◌, ◌-◌, ◌<◌, ◌≤◌, ◌&&◌, ◌||◌, Bool, false, Option, Some, None, Err, refl, sym}
 use Rattle.std.proofs.Common.{subst, ap, ◌∙◌, arith, inl, inr, ◌⊎◌}
 use Rattle.std.specs.Prelude.{if◌then◌else◌}
+use Rattle.std.proofs.lemmas.Bool.{or_parts}
 use Rattle.vm_base.specs.declared.info.Back.{Back}
 use Rattle.vm_base.specs.declared.info.Back.TheVariants.{Anon, Shared, Private}
 use Rattle.vm_base.specs.declared.info.PageInfo.{PageInfo}
@@ -98,13 +99,10 @@ comes : (info : PageInfo) (access : Access) (frame shown : Option ℕ) → info.
 comes info access (Some f) shown e =
     by_test (Says (Some info) access shown) (is_private_store info.meta.back access && is_cached shown f) (Found.Copies f) (Found.Has f) (λ _. tt) (λ _. e)
 comes info access None None e = tt
-comes info access None (Some g) e = go (is_private_store info.meta.back access) (is_anonymous info.meta.back) refl
-  where
-    go : (a b : Bool) → is_private_store info.meta.back access ≡ a
-        → Says (Some info) access (Some g) (if a || b then Found.Wants else Found.Cached g)
-    go true b e = tt
-    go false true e = tt
-    go false false e = (e, refl)
+comes info access None (Some g) e =
+    let store = is_private_store info.meta.back access in
+    let anon = is_anonymous info.meta.back in
+    by_test (Says (Some info) access (Some g)) (store || anon) Found.Wants (Found.Cached g) (λ _. tt) (λ no. ((or_parts store anon no).0, refl))
 
 says : (o : Option PageInfo) (access : Access) (past : Bool) (shown : Option ℕ) → Says o access shown (settled o access past shown)
 says None access past shown = tt
