@@ -1,6 +1,6 @@
--- The bytes and files that the lines of a trace ask for, made one after another.
-use Rattle.std.proofs.Common.{◌≡◌, ℕ, suc, ◌+◌, ◌%◌, ◌<◌, Bool, List, [], ◌∷◌, ◌++◌, map, length, Option, Some}
-use Rattle.std.proofs.Common.{None, refl, sym, ap, ◌∙◌, arith, take, slice_get, get_or}
+-- The files that the lines of a trace ask for, made one after another.
+use Rattle.std.proofs.Common.{◌≡◌, ℕ, ◌+◌, ◌%◌, ◌<◌, Bool, List, [], ◌∷◌, ◌++◌, map, length, Option, Some}
+use Rattle.std.proofs.Common.{None, refl, sym, ap, ◌∙◌, take, slice_get, get_or}
 use Rattle.std.specs.Prelude.{◌||◌, option_map}
 use Rattle.std.specs.List.{list_any, range_with_len}
 use Rattle.std.proofs.lemmas.List.{map_push, take_more, length-map}
@@ -14,27 +14,6 @@ use Rattle.core_steps.specs.declared.setup.CallLimit.{CallLimit}
 use Rattle.core_steps.specs.Setups.{first_fault_within, is_too_long}
 use Rattle.trace.specs.declared.declaration.FileLine.{FileLine}
 use Rattle.trace.specs.Declarations.{bytes_of, file_at, declared_file}
-use Rattle.trace.proofs.TextLemmas.{range_more}
-
--- ---- the bytes of a file
-
-wraps : (seed n byte : ℕ) → byte ≡ (seed + n) % 256 → (byte + 1) % 256 ≡ (seed + (n + 1)) % 256
-wraps seed n byte e = omega (arith, e)
-
--- one byte more
-pub bytes_more : (seed n next : ℕ) (old new : List ℕ) (byte : ℕ) → next ≡ n + 1 → byte ≡ (seed + n) % 256 → new ≡ old ++ byte ∷ []
-    → old ≡ map (λ i. (seed + i) % 256) (range_with_len 0 n) → new ≡ map (λ i. (seed + i) % 256) (range_with_len 0 next)
-bytes_more seed n next old new byte e b h was =
-    let up : suc n ≡ next = omega (arith, e) in
-    h ∙ ap (λ l. l ++ byte ∷ []) was ∙ ap (λ x. map (λ i. (seed + i) % 256) (range_with_len 0 n) ++ x ∷ []) b
-    ∙ sym (map_push (λ i. (seed + i) % 256) (range_with_len 0 n) n)
-    ∙ ap (map (λ i. (seed + i) % 256)) (sym (range_more 0 n n (omega arith)))
-    ∙ ap (λ m. map (λ i. (seed + i) % 256) (range_with_len 0 m)) up
-
-pub byte_more : (seed n next byte after : ℕ) → next ≡ n + 1 → byte ≡ (seed + n) % 256 → after ≡ (byte + 1) % 256 → after ≡ (seed + next) % 256
-byte_more seed n next byte after e b h = h ∙ wraps seed n byte b ∙ ap (λ m. (seed + m) % 256) (sym e)
-
--- ---- a list of files
 
 -- what a mapping of two lists makes of one element more
 pub map_more : {X Y Z : Type 0} (f : X → Z) (g : Y → Z) (xs new : List X) (ys : List Y) (x : X) (d : Y) (n next : ℕ) → next ≡ n + 1 → n < length ys

@@ -1,13 +1,14 @@
 //! What the `vm` and `file` lines of a trace ask for.
-ghost use Rattle.std.specs.Prelude.{◌≡◌, ◌≢◌, ◌≤◌, [], false, length, map, IfOk, IfErr};
+ghost use Rattle.std.specs.Prelude.{◌≡◌, ◌≢◌, [], false, length, map, IfOk, IfErr};
 ghost use Rattle.backing.specs.Given.{given_files};
-ghost use Rattle.trace.specs.Declarations.{bytes_of, file_at, has_long};
+ghost use Rattle.trace.specs.Declarations.{file_at, has_long};
 
 use arrayvec::ArrayVec;
 use backing::FileSpec;
 use core_steps::{CallLimit, Setup, SetupFault, first_fault_within};
 use std::alloc::{AllocError, Allocator};
 use std::marker::Model;
+use trace_text::file_line::file_bytes;
 use vm_base::Mode;
 use vm_base::limits::FILE_BYTES;
 
@@ -72,20 +73,6 @@ fn has_long(files: &[FileLine]) -> bool
     files.iter().any(|file| file.len > FILE_BYTES)
 }
 
-// The bytes of a file.
-fn bytes_of<A: Allocator>(alloc: A, file: FileLine) -> Result<Vec<u8, A>, AllocError>
-    requires { file.len ≤ 1048576 }
-    ensures { IfOk result (λ bytes. bytes.items ≡ bytes_of file) }
-{
-    let mut bytes = Vec::with_capacity(alloc, file.len as usize)?;
-    let mut byte = file.seed;
-    'bytes: for _at in 0..file.len {
-        bytes.push_reserved(byte);
-        byte = byte.wrapping_add(1);
-    }
-    Ok(bytes)
-}
-
 // The files with their bytes. No files take no memory.
 fn specs_of<A: Allocator + Clone>(
     alloc: A,
@@ -102,7 +89,7 @@ fn specs_of<A: Allocator + Clone>(
     }
     let mut specs = Vec::with_capacity(alloc.clone()?, files.len())?;
     'files: for file in files {
-        let bytes = bytes_of(alloc.clone()?, *file)?;
+        let bytes = file_bytes(alloc.clone()?, file.len, file.seed)?;
         specs.push_reserved(FileSpec {
             mode: file.mode,
             bytes,
