@@ -117,35 +117,37 @@ not_begun o w m c request n s = (o, m, s, (refl, refl))
 abbrev passed : Slots → ℕ → World → World
 passed t n w = later n (record w { slots = t })
 
--- a change of slots that is a plain step, from the phase at a page to the phase at another
-abbrev IsStep : ℕ → (ℕ → Phase) → (Slots → Slots → ℕ → ℕ → Type 0) → Type 0
-IsStep c at changes = (v : World) (t : Slots) (a b : ℕ) → changes v.slots t a b → Goes v c (at a) Stepped (to c (at b) (record v { slots = t }))
-
-module _ (w : World) (c : ℕ) (at : ℕ → Phase) (changes : Slots → Slots → ℕ → ℕ → Type 0) (one : IsStep c at changes)
-    (each : (s t : Slots) (a b : ℕ) → changes s t a b → t.edge ≡ s.edge) (here : c < w.made.cores) (first : ℕ) where
-  -- one after another
+-- slots up to an end are changed one after another: at each page before it the call is in a phase in which such a change is a plain step
+module _ (w : World) (c end : ℕ) (at before : ℕ → Phase) (on : (a : ℕ) → a < end → at a ≡ before a) (changes : Slots → Slots → ℕ → ℕ → Type 0)
+    (each : (s t : Slots) (a b : ℕ) → changes s t a b → (a < b) × (b ≤ end) × (t.edge ≡ s.edge))
+    (one : (v : World) (t : Slots) (a b : ℕ) → changes v.slots t a b → Goes v c (before a) Stepped (to c (at b) (record v { slots = t })))
+    (here : c < w.made.cores) (first : ℕ) where
   steps : (n : ℕ) (t : Slots) (upto : ℕ) → w.calls.events + n ≤ event_limit → OneByOne changes w.slots t first n upto
       → StepsTo (to c (at first) w) c n (to c (at upto) (passed t n w))
   steps zero t upto room (same, start) =
       ap (λ x. to c (at x) (passed t 0 w)) start ∙ (ap (λ s. to c (at first) (passed s 0 w)) same ∙ none_yet w c (at first))
-  steps (suc n) t upto room (m, (b, before, change)) = (
-    to c (at b) (passed m n w),
-    steps n m b (omega (arith, room)) before,
-    subst (λ k. Step (to c (at b) (passed m n w)) (Go c) Stepped (to c (at upto) (passed t k w))) (add-one n)
-        (goes (record w { slots = m }) (record w { slots = t }) c n (at b) (at upto) (omega (arith, room)) here
-        (one (to c (at b) (with_event (passed m n w))) t b upto change)),
-  )
+  steps (suc n) t upto room (m, (b, done, change)) =
+      let x = to c (at b) (with_event (passed m n w)) in
+      let some = (each m t b upto change).0 in
+      let by = (each m t b upto change).1 in (
+        to c (at b) (passed m n w),
+        steps n m b (omega (arith, room)) done,
+        subst (λ k. Step (to c (at b) (passed m n w)) (Go c) Stepped (to c (at upto) (passed t k w))) (add-one n)
+            (goes (record w { slots = m }) (record w { slots = t }) c n (at b) (at upto) (omega (arith, room)) here
+            (subst (λ a. Goes x c a Stepped (to c (at upto) (record x { slots = t }))) (sym (on b (omega (arith, some, by)))) (one x t b upto change))),
+      )
 
-  -- which divide none
+  -- none is divided
   edges : (n : ℕ) (t : Slots) (upto : ℕ) → OneByOne changes w.slots t first n upto → t.edge ≡ w.slots.edge
   edges zero t upto (same, start) = ap (λ (s : Slots). s.edge) same
-  edges (suc n) t upto (m, (b, before, change)) = each m t b upto change ∙ edges n m b before
+  edges (suc n) t upto (m, (b, done, change)) = (each m t b upto change).2 ∙ edges n m b done
 
   -- and so the state that the code leaves
-  steps_left : (v : World) (n : ℕ) (t : Slots) (upto most : ℕ) (phase : Phase) → w.calls.phase c ≡ at first → n ≤ most → w.calls.events + most ≤ event_limit
-      → OneByOne changes w.slots t first n upto → phase ≡ at upto → v ≡ to c phase (passed t n w) → StepsTo w c n v × (v.slots.edge ≡ w.slots.edge)
-  steps_left v n t upto most phase e few room run k now = (
-    subst (λ x. StepsTo x c n v) (to_same w c (at first) e)
+  steps_left : (v : World) (n : ℕ) (t : Slots) (upto most : ℕ) (phase : Phase) → w.calls.phase c ≡ before first → first < end → n ≤ most
+      → w.calls.events + most ≤ event_limit → OneByOne changes w.slots t first n upto → phase ≡ at upto → v ≡ to c phase (passed t n w)
+      → StepsTo w c n v × (v.slots.edge ≡ w.slots.edge)
+  steps_left v n t upto most phase e left few room run k now = (
+    subst (λ x. StepsTo x c n v) (to_same w c (at first) (e ∙ sym (on first left)))
         (subst (StepsTo (to c (at first) w) c n) (sym (now ∙ ap (λ x. to c x (passed t n w)) k)) (steps n t upto (omega (arith, few, room)) run)),
     ap (λ (x : World). x.slots.edge) now ∙ edges n t upto run,
   )
@@ -155,38 +157,26 @@ locks_on : (goal : Goal) (a : ℕ) → a < (goal_range goal).end → locked_to g
 locks_on goal a h =
     let more : nat_le (goal_range goal).end a ≡ false = grind (arith, nat_tests, h) in ap (λ b. if b then all_locked goal else Lock goal a) more
 
-lock_step : (c : ℕ) (goal : Goal) → IsStep c (locked_to goal) (λ s t a b. Locks s t c a (goal_range goal).end b)
-lock_step c goal v t a b l =
-    let some = l.slot.ordered in let by = l.by_end in
-    subst (λ x. Goes v c x Stepped (to c (locked_to goal b) (record v { slots = t }))) (sym (locks_on goal a (omega (arith, some, by))))
-    (Locked b, (t, l, (refl, refl)))
-
 pub locks : (w v : World) (c : ℕ) (goal : Goal) (cursor n : ℕ) (t : Slots) (upto most : ℕ) (phase : Phase) → IsAt w c (Lock goal cursor)
     → n ≤ most → w.calls.events + most ≤ event_limit → OneByOne (λ s t a b. Locks s t c a (goal_range goal).end b) w.slots t cursor n upto
     → phase ≡ locked_to goal upto → v ≡ to c phase (passed t n w) → StepsTo w c n v × (v.slots.edge ≡ w.slots.edge)
 locks w v c goal cursor n t upto most phase i =
-    steps_left w c (locked_to goal) (λ s t a b. Locks s t c a (goal_range goal).end b) (lock_step c goal) (λ s t a b l. ap (λ (s : Slots). s.edge) l.now) i.here
-    cursor v n t upto most phase (i.phase ∙ sym (locks_on goal cursor (is_left w c goal cursor i)))
+    steps_left w c (goal_range goal).end (locked_to goal) (Lock goal) (locks_on goal) (λ s t a b. Locks s t c a (goal_range goal).end b)
+    (λ s t a b l. (l.slot.ordered, l.by_end, ap (λ (s : Slots). s.edge) l.now)) (λ v t a b l. (Locked b, (t, l, (refl, refl)))) i.here
+    cursor v n t upto most phase i.phase (is_left w c goal cursor i)
 
 -- before the end of what is held the call unlocks on
 unlocks_on : (held : PageRange) (reply : Reply) (a : ℕ) → a < held.end → let_go (held_after held a) reply ≡ Unlock (between a held.end) reply
 unlocks_on held reply a h =
     let more : (a == held.end) ≡ false = grind (arith, nat_tests, h) in ap (λ b. let_go (if b then None else Some (between a held.end)) reply) more
 
-unlock_step : (c : ℕ) (held : PageRange) (reply : Reply)
-    → IsStep c (λ a. let_go (held_after held a) reply) (λ s t a b. Unlocks s t c a held.end b)
-unlock_step c held reply v t a b l =
-    let some = l.slot.ordered in let by = l.by_end in
-    subst (λ x. Goes v c x Stepped (to c (let_go (held_after held b) reply) (record v { slots = t })))
-    (sym (unlocks_on held reply a (omega (arith, some, by)))) (b, (t, l, (refl, refl)))
-
 pub unlocks : (w v : World) (c : ℕ) (held : PageRange) (reply : Reply) (n : ℕ) (t : Slots) (upto most : ℕ) (phase : Phase) → IsAt w c (Unlock held reply)
     → n ≤ most → w.calls.events + most ≤ event_limit → OneByOne (λ s t a b. Unlocks s t c a held.end b) w.slots t held.first n upto
     → phase ≡ let_go (held_after held upto) reply → v ≡ to c phase (passed t n w) → StepsTo w c n v × (v.slots.edge ≡ w.slots.edge)
 unlocks w v c held reply n t upto most phase i =
-    steps_left w c (λ a. let_go (held_after held a) reply) (λ s t a b. Unlocks s t c a held.end b) (unlock_step c held reply)
-    (λ s t a b l. ap (λ (s : Slots). s.edge) l.now) i.here held.first v n t upto most phase
-    (i.phase ∙ sym (unlocks_on held reply held.first (unlock_range w c held reply i).some))
+    steps_left w c held.end (λ a. let_go (held_after held a) reply) (λ a. Unlock (between a held.end) reply) (unlocks_on held reply)
+    (λ s t a b. Unlocks s t c a held.end b) (λ s t a b l. (l.slot.ordered, l.by_end, ap (λ (s : Slots). s.edge) l.now))
+    (λ v t a b l. (b, (t, l, (refl, refl)))) i.here held.first v n t upto most phase i.phase (unlock_range w c held reply i).some
 
 -- ---- a page that is a slot of its own and that nobody holds
 
