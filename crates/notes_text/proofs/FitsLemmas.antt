@@ -2,8 +2,9 @@
 use Rattle.std.proofs.Common.{◌≡◌, ◌≢◌, ◌⊎◌, inl, inr, ℕ, zero, suc, ◌+◌, ◌^◌, ◌<◌, ◌≤◌, Bool, true, false, cond, eqb, ltb}
 use Rattle.std.proofs.Common.{List, [], ◌∷◌, ◌++◌, Option, Some, None, length}
 use Rattle.std.proofs.Common.{arith, refl, sym, ap, ◌∙◌, subst, length-append}
-use Rattle.std.specs.Prelude.{◌||◌, nat_lt}
+use Rattle.std.specs.Prelude.{nat_lt, ◌||◌}
 use Rattle.std.specs.List.{AllByRecursion}
+use Rattle.std.proofs.lemmas.Bool.{or_right}
 use Rattle.std.proofs.lemmas.Bool.Decides.{nat_tests}
 use Rattle.std.proofs.lemmas.Nat.{or_lt, pow_below, pow_pos}
 use Rattle.std.proofs.lemmas.Nat.Bits.{bit_at-zero}
@@ -12,7 +13,7 @@ use Rattle.vm_base.specs.declared.rights.Mode.{Mode}
 use Rattle.vm_base.specs.declared.requests.Request.{Request}
 use Rattle.vm_base.specs.declared.requests.Request.TheVariants.{Mmap, Munmap, Mprotect, Load, Store, Fetch}
 use Rattle.vm_base.specs.declared.replies.Reply.{Reply}
-use Rattle.vm_base.specs.declared.replies.Reply.TheVariants.{Mapped, Done, Byte, Refused, Segv, Bus, NoFrame, NoMemory}
+use Rattle.vm_base.specs.declared.replies.Reply.TheVariants.{Mapped, Byte}
 use Rattle.machine_model.specs.declared.event.Event.{Event}
 use Rattle.machine_model.specs.declared.event.Event.TheVariants as Ev
 use Rattle.machine_model.specs.declared.event.Blocker.TheVariants.{Slot, Acks}
@@ -27,7 +28,7 @@ use Rattle.trace_text.specs.Grammar.{Asks, Backs, Does, Says}
 use Rattle.trace_text.specs.declared.action.Action.{Action}
 use Rattle.trace_text.specs.declared.action.Action.TheVariants as Do
 use Rattle.trace_text.specs.declared.line.Line.{Line}
-use Rattle.trace_text.specs.declared.line.Line.TheVariants.{Blank, Space, File, Act, Fold, Finish, Now}
+use Rattle.trace_text.specs.declared.line.Line.TheVariants.{Blank, File, Act, Fold}
 use Rattle.trace_text.proofs.Choices.{chosen}
 use Rattle.trace_text.proofs.LineLemmas.{read_is_said}
 use Rattle.trace.specs.declared.declaration.FileLine.{FileLine}
@@ -39,7 +40,7 @@ use Rattle.notes_text.specs.Ends.{Collects}
 use Rattle.notes_text.specs.WrittenLaws.{FitsEvent, FitsOutcome, FitsReply, FitsRequest}
 use Rattle.notes_text.specs.Scripts.{NamesTask}
 use Rattle.notes_text.specs.TextLaws.{IsDeclared, NamedFits, NotesDeclare, ScriptsDeclare}
-use Rattle.notes_text.proofs.OutcomeWritten.{power_same, true_or, with_one}
+use Rattle.notes_text.proofs.OutcomeWritten.{power_same, with_one}
 use Rattle.notes_text.proofs.TextWritten.{none_found}
 
 -- ---- events
@@ -62,39 +63,25 @@ page_fits w page (addr, s, e) = omega (arith, s.0, e)
 
 act_fits : (core : ℕ) (action : Action) (args : List Word) → core < 64 → Does action args → FitsEvent (event_of core action)
 act_fits core (Do.Call request) args h (words, e, asks) = (h, request_fits request words asks)
-act_fits core Do.Go args h d = h
-act_fits core Do.Take args h d = h
-act_fits core Do.Flush args h d = h
-act_fits core Do.Review args h d = h
-act_fits core Do.GiveUp args h d = h
 act_fits core (Do.Frame frame) args h (w, e, s) = (h, s.0)
 act_fits core (Do.Guess page) args h (w, e, s) = (h, page_fits w page s)
-act_fits core Do.Whole args h d = h
 act_fits core (Do.Walk page) args h (w, e, s) = (h, page_fits w page s)
 act_fits core (Do.Evict page) args h (w, e, s) = (h, page_fits w page s)
+act_fits core action args h d = h
 
 said_fits : (event : Event) (line : Line) (words : List Word) → Says line words → event_said line ≡ Some event → FitsEvent event
-said_fits event Blank words s e = absurd (cc)
-said_fits event (Space cores frames calls) words s e = absurd (cc)
-said_fits event (File n mode len seed) words s e = absurd (cc)
 said_fits event (Act core action) words (c, args, is, spells, does) e =
     let same : event_of core action ≡ event = cc in subst FitsEvent same (act_fits core action args spells.0 does)
 said_fits event (Fold page) words (a, is, spells) e =
     let same : Ev.Fold page ≡ event = cc in subst FitsEvent same (page_fits a page spells)
-said_fits event (Finish core) words s e = absurd (cc)
-said_fits event (Now core request) words s e = absurd (cc)
+said_fits event line words s e = absurd (cc)
 
 -- ---- outcomes
 
 reply_fits : (reply : Reply) (words : List Word) → NamesReply reply words → FitsReply reply
 reply_fits (Mapped address) words (digits, e, s, h) = h
-reply_fits Done words h = tt
 reply_fits (Byte byte) words (w, e, s, h) = h
-reply_fits (Refused errno) words h = tt
-reply_fits (Segv code) words h = tt
-reply_fits Bus words h = tt
-reply_fits NoFrame words h = tt
-reply_fits NoMemory words h = tt
+reply_fits reply words h = tt
 
 cores_fit : (set least n : ℕ) (cores : List ℕ) → n ≡ 64 → set < 2 ^ n → Ascend least cores → with_cores set cores < 2 ^ n
 cores_fit set least n [] e h a = h
@@ -109,7 +96,7 @@ stays set core (c ∷ cs) h =
 
 some_core : (set first : ℕ) (others : List ℕ) → set ≡ with_cores 0 (first ∷ others) → 0 < set
 some_core zero first others e =
-    let one : members (with_member 0 first) first ≡ true = with_one 0 first first ∙ true_or _ _ (power_same first) in
+    let one : members (with_member 0 first) first ≡ true = with_one 0 first first ∙ or_right _ _ (power_same first) in
     let in_set : members (with_cores (with_member 0 first) others) first ≡ true = stays (with_member 0 first) first others one in
     let none : members 0 first ≡ false = ap (λ b. eqb b 1) (bit_at-zero first) in
     let bad : false ≡ true = sym none ∙ ap (λ s. members s first) e ∙ in_set in absurd (cc)

@@ -1,14 +1,13 @@
 -- Notes and their grammar.
-use Rattle.std.proofs.Common.{◌≡◌, ◌≢◌, inl, inr, ℕ, suc, ◌^◌, ◌<◌, Bool, true, false, not, eqb, List, [], ◌∷◌, ◌++◌, Option, Some, None}
+use Rattle.std.proofs.Common.{◌≡◌, ◌≢◌, ℕ, suc, ◌<◌, Bool, true, false, not, eqb, List, [], ◌∷◌, ◌++◌, Option, Some, None}
 use Rattle.std.proofs.Common.{codes, decimal, map, arith, refl, sym, ap, ◌∙◌, subst}
-use Rattle.std.specs.Prelude.{◌&&◌, IfSome, IfNone}
-use Rattle.std.specs.List.{list_all, AllZip}
+use Rattle.std.specs.Prelude.{IfSome, IfNone}
+use Rattle.std.specs.List.{list_all}
 use Rattle.std.proofs.lemmas.Bool.Decides.{nat_tests}
-use Rattle.vm_base.specs.declared.replies.Errno.{Errno}
-use Rattle.vm_base.specs.declared.replies.Errno.TheVariants.{EINVAL, ENOMEM, EACCES, EBADF, EOVERFLOW}
-use Rattle.vm_base.specs.declared.replies.SegvCode.TheVariants.{MapErr, AccErr}
+use Rattle.vm_base.specs.declared.replies.Errno.TheVariants.{EINVAL}
+use Rattle.vm_base.specs.declared.replies.SegvCode.TheVariants.{MapErr}
 use Rattle.vm_base.specs.declared.replies.Reply.{Reply}
-use Rattle.vm_base.specs.declared.replies.Reply.TheVariants.{Mapped, Done, Byte, Refused, Segv, Bus, NoFrame, NoMemory}
+use Rattle.vm_base.specs.declared.replies.Reply.TheVariants.{Mapped, Byte, Refused, Segv}
 use Rattle.machine_model.specs.declared.event.Event.{Event}
 use Rattle.machine_model.specs.declared.event.Blocker.TheVariants.{Slot, Acks}
 use Rattle.machine_model.specs.declared.event.Outcome.{Outcome}
@@ -16,48 +15,30 @@ use Rattle.machine_model.specs.declared.event.Outcome.TheVariants.{Stepped, Wait
 use Rattle.seats.specs.declared.noted.Noted.{Noted}
 use Rattle.seats.specs.Notes.{noted}
 use Rattle.trace_text.specs.Words.{Word, words_of, begins_word}
-use Rattle.trace_text.specs.Number.{digit_of}
 use Rattle.trace_text.specs.Request.{◌>>=◌, front_number}
 use Rattle.trace_text.specs.Line.{line_of_words}
-use Rattle.trace_text.specs.Spelling.{IsDigit, SpellsNumber}
-use Rattle.trace_text.specs.declared.line.Line.{Line}
 use Rattle.trace_text.proofs.Choices.{bind_some}
 use Rattle.trace_text.proofs.LineLemmas.{said_is_read, read_is_said}
-use Rattle.trace_text.proofs.SpellingLemmas.{digit_all, number_only, reads_printed, front_all, front_only}
+use Rattle.trace_text.proofs.BytesLemmas.{decimal_has, digits_have, words_have}
+use Rattle.trace_text.proofs.SpellingLemmas.{front_all, front_only}
+use Rattle.trace_text.proofs.WordLemmas.{words_join}
 use Rattle.notes_text.specs.Outcomes.{outcome_of}
 use Rattle.notes_text.specs.Grammar.{NamesReply, NamesOutcome, NamesEvent, NamesNote, Ascend, event_said}
 use Rattle.notes_text.specs.Laws.{ReadsAllOutcomes, ReadsOnlyOutcomes, NotesAreOne}
 use Rattle.trace_text.specs.Halves.{are_clear, AreHalves}
 use Rattle.notes_text.specs.Halves.{event_named, note_of}
 use Rattle.notes_text.proofs.OutcomeLemmas.{outcome_all, outcome_only}
-use Rattle.notes_text.proofs.SplitLemmas.{words_join, SplitsAt, splits, bytes_clear}
+use Rattle.notes_text.proofs.SplitLemmas.{splits}
 use Rattle.trace_text.proofs.HalvesLemmas.{halves_one}
 
 -- ---- the words of an outcome have no sign
 
-digit_clear : (base c d : ℕ) → IsDigit base c d → not (eqb c 61) ≡ true
-digit_clear base c d h =
-    let digit : digit_of c ≡ Some d = digit_all base c d h in
-    let other : c ≢ 61 = (λ e. let bad : digit_of 61 ≡ Some d = ap digit_of (sym e) ∙ digit in cc) in
-    grind (arith, nat_tests, other)
-
-digits_clear : (base : ℕ) (w ds : List ℕ) → AllZip (IsDigit base) w ds → are_clear w ≡ true
-digits_clear base [] ds z = refl
-digits_clear base (c ∷ cs) [] z = absurd z
-digits_clear base (c ∷ cs) (d ∷ ds) z =
-    let one : not (eqb c 61) ≡ true = digit_clear base c d z.0 in
-    let more : are_clear cs ≡ true = digits_clear base cs ds z.1 in
-    rw (one, more) refl
-
-number_clear : (w : Word) (n : ℕ) → SpellsNumber w n → are_clear w ≡ true
-number_clear w n (h, inl s) = digits_clear 10 w s.digits s.each
-number_clear w n (h, inr (digits, e, s)) = ap are_clear e ∙ digits_clear 16 digits s.digits s.each
-
-pub spells_decimal : (n : ℕ) → n < 2 ^ 64 → SpellsNumber (decimal n) n
-spells_decimal n h = number_only (decimal n) n ((reads_printed n h).0)
+-- no sign
+abbrev unsigned : ℕ → Bool
+unsigned c = not (eqb c 61)
 
 decimal_clear : (n : ℕ) → n < 64 → are_clear (decimal n) ≡ true
-decimal_clear n h = number_clear (decimal n) n (spells_decimal n (omega arith))
+decimal_clear n h = decimal_has unsigned (refl, refl, refl) n (omega (arith, h))
 
 cores_clear : (least : ℕ) (cores : List ℕ) → Ascend least cores → list_all are_clear (map decimal cores) ≡ true
 cores_clear least [] a = refl
@@ -68,20 +49,12 @@ cores_clear least (c ∷ cs) (low, small, more) =
 
 reply_clear : (r : Reply) (words : List Word) → NamesReply r words → list_all are_clear words ≡ true
 reply_clear (Mapped a) words (digits, e, s, h) =
-    let one : are_clear digits ≡ true = digits_clear 16 digits s.digits s.each in rw (e, one) refl
-reply_clear Done words e = rw e refl
+    let one : are_clear digits ≡ true = digits_have unsigned (refl, refl, refl) 16 digits s.digits s.each in rw (e, one) refl
 reply_clear (Byte b) words (w, e, s, h) =
-    let one : are_clear w ≡ true = digits_clear 10 w s.digits s.each in rw (e, one) refl
+    let one : are_clear w ≡ true = digits_have unsigned (refl, refl, refl) 10 w s.digits s.each in rw (e, one) refl
 reply_clear (Refused EINVAL) words e = rw e refl
-reply_clear (Refused ENOMEM) words e = rw e refl
-reply_clear (Refused EACCES) words e = rw e refl
-reply_clear (Refused EBADF) words e = rw e refl
-reply_clear (Refused EOVERFLOW) words e = rw e refl
 reply_clear (Segv MapErr) words e = rw e refl
-reply_clear (Segv AccErr) words e = rw e refl
-reply_clear Bus words e = rw e refl
-reply_clear NoFrame words e = rw e refl
-reply_clear NoMemory words e = rw e refl
+reply_clear r words e = rw e refl
 
 outcome_clear : (o : Outcome) (words : List Word) → NamesOutcome o words → list_all are_clear words ≡ true
 outcome_clear Stepped words e = rw e refl
@@ -139,7 +112,7 @@ note_found line note (ticket, event, outcome, e, spelled, named, came) =
       behind = rest;
       halves = record {
         is = s.is ∙ ap (λ l. s.front ++ 32 ∷ 61 ∷ l) is;
-        clear = bytes_clear rest (ap (list_all are_clear) after ∙ outcome_clear note.outcome outcome came);
+        clear = words_have unsigned refl rest (ap (list_all are_clear) after ∙ outcome_clear note.outcome outcome came);
       };
       reads = ap (λ l. note_of l (words_of rest)) s.before ∙ ap (λ l. note_of (ticket ∷ event) l) after
           ∙ ap (λ o. o >>= λ t. event_named t.1 >>= λ e. outcome_of outcome >>= λ o. Some (noted t.0 e o)) (front_all ticket event note.ticket spelled)

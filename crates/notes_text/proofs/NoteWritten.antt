@@ -22,18 +22,19 @@ use Rattle.notes_text.specs.Verdicts.{unended}
 use Rattle.notes_text.specs.Written.{core_word, event_words, note_head, note_text, request_words, spaced}
 use Rattle.notes_text.specs.WrittenLaws.{FitsEvent, FitsOutcome, WritesWhatIsRead}
 use Rattle.notes_text.proofs.PrintableLemmas.{cores_printable, decimal_printable, reply_printable}
-use Rattle.notes_text.proofs.SplitLemmas.{words_join}
-use Rattle.notes_text.proofs.WrittenLemmas.{AreWords, IsWord, address_spells, address_word, decimal_spells, decimal_word, number_clear, one_word}
+use Rattle.trace_text.proofs.BytesLemmas.{address_number, decimal_has, decimal_number}
+use Rattle.trace_text.proofs.WordLemmas.{IsWord, one_word, unspaced, words_join}
+use Rattle.notes_text.proofs.WrittenLemmas.{AreWords, address_word, decimal_word}
 use Rattle.notes_text.proofs.WrittenLemmas.{request_are_words, request_asked, word_before, words_spaced}
 use Rattle.notes_text.proofs.OutcomeWritten.{acks_written, replies_written}
 
 -- ---- events
 
 core_is : (core : ℕ) → core < 64 → IsWord (core_word core)
-core_is core h = one_word 99 (decimal core) (number_clear (decimal core) core (decimal_spells core (omega (arith, h))))
+core_is core h = one_word 99 (decimal core) (decimal_has unspaced (refl, refl, refl) core (omega (arith, h)))
 
 page_spelled : (page : ℕ) → page < 2 ^ 52 → SpellsPage (start_of page) page
-page_spelled page h = (page * 4096, address_spells (page * 4096) (omega (arith, h)), omega arith)
+page_spelled page h = (page * 4096, address_number (page * 4096) (omega (arith, h)), omega arith)
 
 page_is : (page : ℕ) → page < 2 ^ 52 → IsWord (start_of page)
 page_is page h = address_word (page * 4096) (omega (arith, h))
@@ -54,7 +55,7 @@ event_written (Ev.Call core request) (h, f) = record {
 }
 event_written (Ev.Go core) h = record { named = acts core Do.Go (codes "go" ∷ []) h refl; words = (core_is core h, (refl, tt)) }
 event_written (Ev.Frame core frame) (h, f) = record {
-  named = acts core (Do.Frame frame) (codes "frame" ∷ decimal frame ∷ []) h (decimal frame, refl, decimal_spells frame f);
+  named = acts core (Do.Frame frame) (codes "frame" ∷ decimal frame ∷ []) h (decimal frame, refl, decimal_number frame f);
   words = (core_is core h, (refl, (decimal_word frame f, tt)));
 }
 event_written (Ev.Guess core page) (h, f) = record {
@@ -134,7 +135,7 @@ writes_what_is_read note h =
       event_words note.event,
       words_of o.line,
       ap words_of line ∙ line_words (decimal note.ticket) (event_words note.event) o.line (decimal_word note.ticket h.ticket) e.words,
-      decimal_spells note.ticket h.ticket,
+      decimal_number note.ticket h.ticket,
       e.named,
       o.named,
     )

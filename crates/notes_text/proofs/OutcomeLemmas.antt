@@ -1,12 +1,9 @@
 -- Outcomes and their grammar.
-use Rattle.std.proofs.Common.{◌≡◌, ◌⊎◌, inl, inr, ℕ, suc, ◌<◌, ◌≤◌, ◌^◌, Bool, true, false, cond, eqb, List, [], ◌∷◌, ◌++◌, Option, Some, None, is_some, length}
+use Rattle.std.proofs.Common.{◌≡◌, ◌⊎◌, inl, inr, ℕ, suc, ◌<◌, ◌≤◌, ◌^◌, true, false, cond, List, [], ◌∷◌, ◌++◌, Option, Some, None, is_some, length}
 use Rattle.std.proofs.Common.{codes, decimal, map, arith, refl, sym, ap, ◌∙◌, subst}
 use Rattle.std.proofs.lemmas.Bool.Decides.{nat_tests}
-use Rattle.std.specs.Prelude.{nat_lt, ◌&&◌, option_map}
-use Rattle.std.specs.Str.{bytes_eq}
-use Rattle.std.proofs.lemmas.Slice.Eq.{bytes_eq-Decides}
+use Rattle.std.specs.Prelude.{nat_lt, option_map}
 use Rattle.vm_base.specs.Cores.{with_member}
-use Rattle.vm_base.specs.declared.replies.Errno.{Errno}
 use Rattle.vm_base.specs.declared.replies.Errno.TheVariants.{EINVAL, ENOMEM, EACCES, EBADF, EOVERFLOW}
 use Rattle.vm_base.specs.declared.replies.SegvCode.TheVariants.{MapErr, AccErr}
 use Rattle.vm_base.specs.declared.replies.Reply.{Reply}
@@ -18,11 +15,13 @@ use Rattle.trace_text.specs.Words.{Word, front_word}
 use Rattle.trace_text.specs.Number.{number_of}
 use Rattle.trace_text.specs.Request.{◌>>=◌, ended}
 use Rattle.trace_text.specs.Line.{core_number}
-use Rattle.trace_text.specs.Spelling.{SpellsIn, SpellsNumber}
-use Rattle.trace_text.proofs.Choices.{bind_some, ended_some, front_some, chosen}
+use Rattle.trace_text.specs.Spelling.{SpellsIn}
+use Rattle.trace_text.proofs.Choices.{bind_some, by_name, by_word, ended_some, front_some, chosen}
 use Rattle.trace_text.proofs.CoreLemmas.{core_all, core_only}
-use Rattle.trace_text.proofs.SpellingLemmas.{number_all, number_only, no_x}
-use Rattle.notes_text.specs.Outcomes.{is_hexadecimal, value_of, single_of, alone, cores_from, acks_of, slot_of, wait_of, segv_of, named_of, valued, outcome_of}
+use Rattle.trace_text.specs.Values.{is_hexadecimal, value_of}
+use Rattle.trace_text.proofs.SpellingLemmas.{number_only}
+use Rattle.trace_text.proofs.ValueLemmas.{decimal_value, hexadecimal_value, not_hexadecimal}
+use Rattle.notes_text.specs.Outcomes.{single_of, alone, cores_from, acks_of, slot_of, wait_of, segv_of, valued, outcome_of}
 use Rattle.notes_text.specs.Grammar.{NamesReply, NamesOutcome, NamesAcks, Ascend, with_cores}
 
 -- ---- what is named is read
@@ -37,29 +36,6 @@ cores_all least set (c ∷ cs) (low, small, more) =
     let test : nat_lt c least ≡ false = grind (arith, nat_tests) in
     rw (k, test) (cores_all (suc c) (with_member set c) cs more)
 
--- decimal digits don't begin as an address does
-not_hexadecimal : (w : Word) (n : ℕ) → SpellsIn 10 w n → is_hexadecimal w ≡ false
-not_hexadecimal [] n s = refl
-not_hexadecimal (c ∷ []) n s = refl
-not_hexadecimal (c ∷ (d ∷ ds)) n s = no_x c d ds s.digits s.each
-
-decimal_value : (w : Word) (n : ℕ) → SpellsIn 10 w n → n ≤ 255 → value_of w ≡ Some (Byte n)
-unfolding value_of
-decimal_value w n s h =
-    let k : number_of w ≡ Some n = number_all w n (omega arith, inl s) in
-    let no : is_hexadecimal w ≡ false = not_hexadecimal w n s in
-    let test : nat_lt 255 n ≡ false = grind (arith, nat_tests) in
-    ap (λ o. o >>= λ m. cond (is_hexadecimal w) (Some (Mapped m)) (cond (nat_lt 255 m) None (Some (Byte m)))) k
-    ∙ ap (λ b. cond b (Some (Mapped n)) (cond (nat_lt 255 n) None (Some (Byte n)))) no
-    ∙ ap (λ b. cond b None (Some (Byte n))) test
-
-hexadecimal_value : (digits : Word) (n : ℕ) → SpellsIn 16 digits n → n < 2 ^ 64 → value_of (codes "0x" ++ digits) ≡ Some (Mapped n)
-unfolding value_of
-hexadecimal_value digits n s h =
-    let w = codes "0x" ++ digits in
-    let k : number_of w ≡ Some n = number_all w n (h, inr (digits, refl, s)) in
-    ap (λ o. o >>= λ m. Some (Mapped m)) k
-
 -- a word that is a value
 value_all : (w : Word) (reply : Reply) → value_of w ≡ Some reply → outcome_of (w ∷ []) ≡ Some (Answered reply)
 unfolding outcome_of
@@ -68,18 +44,10 @@ value_all w reply k = ap (λ v. valued v w []) k
 reply_all : (r : Reply) (words : List Word) → NamesReply r words → outcome_of words ≡ Some (Answered r)
 unfolding outcome_of segv_of value_of
 reply_all (Mapped a) words (digits, e, s, h) = ap outcome_of e ∙ value_all (codes "0x" ++ digits) (Mapped a) (hexadecimal_value digits a s h)
-reply_all Done words e = rw e refl
 reply_all (Byte b) words (w, e, s, h) = ap outcome_of e ∙ value_all w (Byte b) (decimal_value w b s h)
 reply_all (Refused EINVAL) words e = rw e refl
-reply_all (Refused ENOMEM) words e = rw e refl
-reply_all (Refused EACCES) words e = rw e refl
-reply_all (Refused EBADF) words e = rw e refl
-reply_all (Refused EOVERFLOW) words e = rw e refl
 reply_all (Segv MapErr) words e = rw e refl
-reply_all (Segv AccErr) words e = rw e refl
-reply_all Bus words e = rw e refl
-reply_all NoFrame words e = rw e refl
-reply_all NoMemory words e = rw e refl
+reply_all r words e = rw e refl
 
 pub outcome_all : (o : Outcome) (words : List Word) → NamesOutcome o words → outcome_of words ≡ Some o
 unfolding outcome_of wait_of slot_of value_of
@@ -135,100 +103,46 @@ slot_only words o e =
     subst (λ p. NamesOutcome p (codes "wait" ∷ codes "slot" ∷ words)) same
     (small, ap (λ l. codes "wait" ∷ codes "slot" ∷ l) (front_some words first ef ∙ ap (λ w. w ∷ first.1) is ∙ ap (λ l. decimal core ∷ l) none))
 
--- a word that the test knew
-word_is : (w t : Word) → bytes_eq w t ≡ true → w ≡ t
-word_is w t b = (bytes_eq-Decides w t).0 b
-
 wait_only : (words : List Word) (o : Outcome) → wait_of words ≡ Some o → NamesOutcome o (codes "wait" ∷ words)
 unfolding wait_of
 wait_only words o e =
     let (kind, ek, e1) = bind_some (front_word words) _ o e in
-    let is = front_some words kind ek in
-    elim (chosen (bytes_eq kind.0 (codes "slot")) (slot_of kind.1) _ (Some o) e1) [
-      | inl h ↦ subst (λ l. NamesOutcome o (codes "wait" ∷ l)) (sym (is ∙ ap (λ w. w ∷ kind.1) (word_is kind.0 (codes "slot") h.0))) (slot_only kind.1 o h.1)
-      | inr h ↦ elim (chosen (bytes_eq kind.0 (codes "acks")) (acks_of kind.1) None (Some o) h.1) [
-        | inl k ↦ subst (λ l. NamesOutcome o (codes "wait" ∷ l)) (sym (is ∙ ap (λ w. w ∷ kind.1) (word_is kind.0 (codes "acks") k.0))) (acks_only kind.1 o k.1)
-        | inr k ↦ let bad = k.1 in absurd (cc)
-      ]
-    ]
+    let names : Word → Type 0 = (λ w. NamesOutcome o (codes "wait" ∷ w ∷ kind.1)) in
+    subst (λ l. NamesOutcome o (codes "wait" ∷ l)) (sym (front_some words kind ek))
+    (by_word names kind.0 (codes "slot") _ _ o e1 (slot_only kind.1 o) (λ e.
+    by_word names kind.0 (codes "acks") _ _ o e (acks_only kind.1 o) (λ e. absurd (cc))))
+
+-- behind whose code no word is left
+segv_ended : (code : Word) (rest : List Word) (p o : Outcome) → NamesOutcome p (codes "segv" ∷ code ∷ []) → ended rest p ≡ Some o
+    → NamesOutcome o (codes "segv" ∷ code ∷ rest)
+segv_ended code rest p o names e =
+    let (none, same) = ended_some rest p o e in
+    subst (λ q. NamesOutcome q (codes "segv" ∷ code ∷ rest)) same (subst (λ l. NamesOutcome p (codes "segv" ∷ code ∷ l)) (sym none) names)
 
 segv_only : (words : List Word) (o : Outcome) → segv_of words ≡ Some o → NamesOutcome o (codes "segv" ∷ words)
 unfolding segv_of
 segv_only words o e =
     let (code, ek, e1) = bind_some (front_word words) _ o e in
-    let is = front_some words code ek in
-    elim (chosen (bytes_eq code.0 (codes "maperr")) (ended code.1 (Answered (Segv MapErr))) _ (Some o) e1) [
-      | inl h ↦ let (none, same) = ended_some code.1 (Answered (Segv MapErr)) o h.1 in
-          subst (λ p. NamesOutcome p (codes "segv" ∷ words)) same
-          (ap (λ l. codes "segv" ∷ l) (is ∙ ap (λ w. w ∷ code.1) (word_is code.0 (codes "maperr") h.0) ∙ ap (λ l. codes "maperr" ∷ l) none))
-      | inr h ↦ elim (chosen (bytes_eq code.0 (codes "accerr")) (ended code.1 (Answered (Segv AccErr))) None (Some o) h.1) [
-        | inl k ↦ let (none, same) = ended_some code.1 (Answered (Segv AccErr)) o k.1 in
-            subst (λ p. NamesOutcome p (codes "segv" ∷ words)) same
-            (ap (λ l. codes "segv" ∷ l) (is ∙ ap (λ w. w ∷ code.1) (word_is code.0 (codes "accerr") k.0) ∙ ap (λ l. codes "accerr" ∷ l) none))
-        | inr k ↦ let bad = k.1 in absurd (cc)
-      ]
-    ]
+    let names : Word → Type 0 = (λ w. NamesOutcome o (codes "segv" ∷ w ∷ code.1)) in
+    subst (λ l. NamesOutcome o (codes "segv" ∷ l)) (sym (front_some words code ek))
+    (by_word names code.0 (codes "maperr") _ _ o e1 (segv_ended (codes "maperr") code.1 (Answered (Segv MapErr)) o refl) (λ e.
+    by_word names code.0 (codes "accerr") _ _ o e (segv_ended (codes "accerr") code.1 (Answered (Segv AccErr)) o refl) (λ e. absurd (cc))))
 
 -- an outcome of one word, by its name
-Named : Word → Outcome → Type 0
+abbrev Named : Word → Outcome → Type 0
 Named w o = NamesOutcome o (w ∷ [])
 
-by_name : (w t : Word) (o p : Outcome) → bytes_eq w t ≡ true → Some o ≡ Some p → Named t o → Named w p
-unfolding Named
-by_name w t o p b e n =
-    let same : o ≡ p = cc in
-    subst (λ q. NamesOutcome q (w ∷ [])) same (subst (λ v. NamesOutcome o (v ∷ [])) (sym (word_is w t b)) n)
-
 single_only : (w : Word) (o : Outcome) → single_of w ≡ Some o → Named w o
-unfolding Named
-single_only w o e = elim (chosen (bytes_eq w (codes "step")) _ _ (Some o) e) [
-  | inl h ↦ by_name w (codes "step") Stepped o h.0 h.1 refl
-  | inr h ↦ elim (chosen (bytes_eq w (codes "idle")) _ _ (Some o) h.1) [
-    | inl h ↦ by_name w (codes "idle") Idle o h.0 h.1 refl
-    | inr h ↦ elim (chosen (bytes_eq w (codes "full")) _ _ (Some o) h.1) [
-      | inl h ↦ by_name w (codes "full") Full o h.0 h.1 refl
-      | inr h ↦ elim (chosen (bytes_eq w (codes "done")) _ _ (Some o) h.1) [
-        | inl h ↦ by_name w (codes "done") (Answered Done) o h.0 h.1 refl
-        | inr h ↦ refused w o h.1
-      ]
-    ]
-  ]
-]
-  where
-    others : (w : Word) (o : Outcome) → cond (bytes_eq w (codes "bus")) (Some (Answered Bus)) (cond (bytes_eq w (codes "noframe")) (Some (Answered NoFrame))
-        (cond (bytes_eq w (codes "nomemory")) (Some (Answered NoMemory)) None)) ≡ Some o → NamesOutcome o (w ∷ [])
-    others w o e = elim (chosen (bytes_eq w (codes "bus")) _ _ (Some o) e) [
-      | inl h ↦ by_name w (codes "bus") (Answered Bus) o h.0 h.1 refl
-      | inr h ↦ elim (chosen (bytes_eq w (codes "noframe")) _ _ (Some o) h.1) [
-        | inl h ↦ by_name w (codes "noframe") (Answered NoFrame) o h.0 h.1 refl
-        | inr h ↦ elim (chosen (bytes_eq w (codes "nomemory")) _ _ (Some o) h.1) [
-          | inl h ↦ by_name w (codes "nomemory") (Answered NoMemory) o h.0 h.1 refl
-          | inr h ↦ let bad = h.1 in absurd (cc)
-        ]
-      ]
-    ]
-
-    refused : (w : Word) (o : Outcome) → cond (bytes_eq w (codes "einval")) (Some (Answered (Refused EINVAL)))
-        (cond (bytes_eq w (codes "enomem")) (Some (Answered (Refused ENOMEM))) (cond (bytes_eq w (codes "eacces")) (Some (Answered (Refused EACCES)))
-        (cond (bytes_eq w (codes "ebadf")) (Some (Answered (Refused EBADF))) (cond (bytes_eq w (codes "eoverflow")) (Some (Answered (Refused EOVERFLOW)))
-        (cond (bytes_eq w (codes "bus")) (Some (Answered Bus)) (cond (bytes_eq w (codes "noframe")) (Some (Answered NoFrame))
-        (cond (bytes_eq w (codes "nomemory")) (Some (Answered NoMemory)) None))))))) ≡ Some o → NamesOutcome o (w ∷ [])
-    refused w o e = elim (chosen (bytes_eq w (codes "einval")) _ _ (Some o) e) [
-      | inl h ↦ by_name w (codes "einval") (Answered (Refused EINVAL)) o h.0 h.1 refl
-      | inr h ↦ elim (chosen (bytes_eq w (codes "enomem")) _ _ (Some o) h.1) [
-        | inl h ↦ by_name w (codes "enomem") (Answered (Refused ENOMEM)) o h.0 h.1 refl
-        | inr h ↦ elim (chosen (bytes_eq w (codes "eacces")) _ _ (Some o) h.1) [
-          | inl h ↦ by_name w (codes "eacces") (Answered (Refused EACCES)) o h.0 h.1 refl
-          | inr h ↦ elim (chosen (bytes_eq w (codes "ebadf")) _ _ (Some o) h.1) [
-            | inl h ↦ by_name w (codes "ebadf") (Answered (Refused EBADF)) o h.0 h.1 refl
-            | inr h ↦ elim (chosen (bytes_eq w (codes "eoverflow")) _ _ (Some o) h.1) [
-              | inl h ↦ by_name w (codes "eoverflow") (Answered (Refused EOVERFLOW)) o h.0 h.1 refl
-              | inr h ↦ others w o h.1
-            ]
-          ]
-        ]
-      ]
-    ]
+single_only w o e =
+    by_name Named w (codes "step") Stepped _ o e refl (λ e. by_name Named w (codes "idle") Idle _ o e refl (λ e.
+    by_name Named w (codes "full") Full _ o e refl (λ e. by_name Named w (codes "done") (Answered Done) _ o e refl (λ e.
+    by_name Named w (codes "einval") (Answered (Refused EINVAL)) _ o e refl (λ e.
+    by_name Named w (codes "enomem") (Answered (Refused ENOMEM)) _ o e refl (λ e.
+    by_name Named w (codes "eacces") (Answered (Refused EACCES)) _ o e refl (λ e.
+    by_name Named w (codes "ebadf") (Answered (Refused EBADF)) _ o e refl (λ e.
+    by_name Named w (codes "eoverflow") (Answered (Refused EOVERFLOW)) _ o e refl (λ e.
+    by_name Named w (codes "bus") (Answered Bus) _ o e refl (λ e. by_name Named w (codes "noframe") (Answered NoFrame) _ o e refl (λ e.
+    by_name Named w (codes "nomemory") (Answered NoMemory) _ o e refl (λ e. absurd (cc)))))))))))))
 
 value_only : (w : Word) (r : Reply) → value_of w ≡ Some r → NamesReply r (w ∷ [])
 unfolding value_of
@@ -263,7 +177,7 @@ alone_some [] said o e = (refl, e)
 alone_some (w ∷ ws) said o e = absurd (cc)
 
 pub outcome_only : (words : List Word) (o : Outcome) → outcome_of words ≡ Some o → NamesOutcome o words
-unfolding outcome_of Named
+unfolding outcome_of
 outcome_only words o e =
     let (name, en, e1) = bind_some (front_word words) _ o e in
     subst (NamesOutcome o) (sym (front_some words name en)) (go name.0 name.1 (value_of name.0) refl e1)
@@ -272,14 +186,11 @@ outcome_only words o e =
     go w rest (Some r) k e =
         let (none, same) = ended_some rest (Answered r) o e in
         subst (λ p. NamesOutcome p (w ∷ rest)) same (subst (λ l. NamesOutcome (Answered r) (w ∷ l)) (sym none) (value_only w r k))
-    go w rest None k e = elim (chosen (bytes_eq w (codes "wait")) (wait_of rest) _ (Some o) e) [
-      | inl h ↦ subst (λ v. NamesOutcome o (v ∷ rest)) (sym (word_is w (codes "wait") h.0)) (wait_only rest o h.1)
-      | inr h ↦ elim (chosen (bytes_eq w (codes "segv")) (segv_of rest) _ (Some o) h.1) [
-        | inl j ↦ subst (λ v. NamesOutcome o (v ∷ rest)) (sym (word_is w (codes "segv") j.0)) (segv_only rest o j.1)
-        | inr j ↦
-            let (none, is) = alone_some rest (single_of w) o j.1 in subst (λ l. NamesOutcome o (w ∷ l)) (sym none) (single_only w o is)
-      ]
-    ]
+    go w rest None k e =
+        by_word (λ v. NamesOutcome o (v ∷ rest)) w (codes "wait") _ _ o e (wait_only rest o) (λ e.
+        by_word (λ v. NamesOutcome o (v ∷ rest)) w (codes "segv") _ _ o e (segv_only rest o) (λ e.
+        let (none, is) = alone_some rest (single_of w) o e in
+        subst (λ l. NamesOutcome o (w ∷ l)) (sym none) (single_only w o is)))
 
 -- where there is a word
 pub acks_begun : (words : List Word) → is_some (front_word words) ≡ true → acks_of words ≡ (cores_from 0 0 words >>= λ set. Some (Wait (Acks set)))

@@ -1,54 +1,34 @@
 -- The text of an outcome names it.
-use Rattle.std.proofs.Common.{◌≡◌, ◌≢◌, inl, inr, ℕ, zero, suc, ◌+◌, ◌-◌, ◌^◌, ◌<◌, ◌≤◌, Bool, true, false, cond, not, eqb, ltb, ◌&&◌, ◌||◌, ◌⊎◌, List, [], ◌∷◌, ◌++◌, Some, None, length, subst}
-use Rattle.std.proofs.Common.{codes, decimal, map, arith, refl, sym, ap, ◌∙◌, append-nil, append_assoc}
-use Rattle.std.proofs.lemmas.Bool.{cases_lt, cases_eq}
+use Rattle.std.proofs.Common.{◌≡◌, ◌≢◌, inl, inr, ℕ, zero, suc, ◌+◌, ◌-◌, ◌^◌, ◌<◌, ◌≤◌, Bool, true, false, cond, eqb, ltb, ◌&&◌, ◌||◌, List, [], ◌∷◌, ◌++◌, subst}
+use Rattle.std.proofs.Common.{codes, decimal, map, arith, refl, sym, ap, ◌∙◌}
+use Rattle.std.proofs.lemmas.Bool.{cases_lt, cases_eq, or_right}
 use Rattle.std.proofs.lemmas.Bool.Decides.{nat_tests}
-use Rattle.std.proofs.lemmas.Fmt.{decimal_digit}
-use Rattle.std.proofs.lemmas.Nat.Bits.{bit_at_or, bit_at-lt, bit_at-zero, bit_at-pow_same, bit_at-pow_other, bit_at_above}
-use Rattle.std.specs.Prelude.{filter, flat_map, bit_or}
-use Rattle.std.specs.Int.{bit_at}
+use Rattle.std.proofs.lemmas.Nat.Bits.{bit_at-zero, bit_at-pow_same, bit_at-pow_other, bit_at_above}
+use Rattle.std.specs.Prelude.{filter, flat_map}
 use Rattle.std.specs.List.{range_with_len}
-use Rattle.vm_base.specs.Cores.{members, with_member, either}
-use Rattle.vm_base.specs.declared.replies.Errno.TheVariants.{EINVAL, ENOMEM, EACCES, EBADF, EOVERFLOW}
-use Rattle.vm_base.specs.declared.replies.SegvCode.TheVariants.{MapErr, AccErr}
+use Rattle.vm_base.specs.Cores.{members, with_member}
+use Rattle.vm_base.specs.declared.replies.Errno.TheVariants.{EINVAL}
+use Rattle.vm_base.specs.declared.replies.SegvCode.TheVariants.{MapErr}
 use Rattle.vm_base.specs.declared.replies.Reply.{Reply}
-use Rattle.vm_base.specs.declared.replies.Reply.TheVariants.{Mapped, Done, Byte, Refused, Segv, Bus, NoFrame, NoMemory}
+use Rattle.vm_base.specs.declared.replies.Reply.TheVariants.{Mapped, Byte, Refused, Segv}
 use Rattle.vm_base.proofs.CoreSets.{members-or, members-same}
-use Rattle.trace_text.specs.Words.{Word, words_of}
-use Rattle.trace_text.specs.Printing.{hexadecimal, address_of, text_of, core_text, cores_text}
-use Rattle.trace_text.specs.Spelling.{SpellsIn}
-use Rattle.trace_text.proofs.SpellingLemmas.{hexadecimal_spells, decimal_spells}
+use Rattle.trace_text.specs.Words.{words_of}
+use Rattle.trace_text.specs.Printing.{hexadecimal, text_of, core_text, cores_text}
+use Rattle.trace_text.proofs.SpellingLemmas.{decimal_is, hexadecimal_is}
 use Rattle.notes_text.specs.Written.{spaced}
 use Rattle.notes_text.specs.Grammar.{NamesReply, NamesAcks, Ascend, with_cores}
 use Rattle.notes_text.specs.WrittenLaws.{FitsReply}
-use Rattle.notes_text.proofs.SplitLemmas.{words_join}
+use Rattle.trace_text.proofs.WordLemmas.{words_join}
 use Rattle.notes_text.proofs.WrittenLemmas.{AreWords, address_word, decimal_word, words_spaced}
 
 -- ---- replies
 
-hexadecimal_is : (n : ℕ) → SpellsIn 16 (hexadecimal n) n
-hexadecimal_is zero = record { digits = 0 ∷ []; each = ((omega arith, inl refl), tt); some = omega arith; value = refl }
-hexadecimal_is (suc n) = hexadecimal_spells (suc n) (omega arith)
-
-decimal_is : (n : ℕ) → n < 2 ^ 64 → SpellsIn 10 (decimal n) n
-decimal_is zero h = subst (λ w. SpellsIn 10 w 0) (sym (decimal_digit 0 (omega arith)))
-    (record { digits = 0 ∷ []; each = ((omega arith, inl refl), tt); some = omega arith; value = refl })
-decimal_is (suc n) h = decimal_spells (suc n) (omega arith) h
-
 pub replies_written : (reply : Reply) → FitsReply reply → NamesReply reply (words_of (text_of reply))
 replies_written (Mapped a) h = (hexadecimal a, address_word a h, hexadecimal_is a, h)
-replies_written Done h = refl
 replies_written (Byte b) h = let low : b < 2 ^ 64 = omega (arith, h) in (decimal b, decimal_word b low, decimal_is b low, h)
 replies_written (Refused EINVAL) h = refl
-replies_written (Refused ENOMEM) h = refl
-replies_written (Refused EACCES) h = refl
-replies_written (Refused EBADF) h = refl
-replies_written (Refused EOVERFLOW) h = refl
 replies_written (Segv MapErr) h = refl
-replies_written (Segv AccErr) h = refl
-replies_written Bus h = refl
-replies_written NoFrame h = refl
-replies_written NoMemory h = refl
+replies_written r h = refl
 
 -- ---- cores that are waited for
 
@@ -83,10 +63,6 @@ false_or : (a b : Bool) → b ≡ false → a || b ≡ a
 false_or true b e = refl
 false_or false b e = e
 
-pub true_or : (a b : Bool) → b ≡ true → a || b ≡ true
-true_or true b e = refl
-true_or false b e = e
-
 below_with : (set s from : ℕ) → members set from ≡ true → Below set s from → Below set (with_member s from) (from + 1)
 unfolding Below
 below_with set s from is old k = with_one s from k ∙ go
@@ -97,7 +73,7 @@ below_with set s from is old k = with_one s from k ∙ go
           let one : members (2 ^ from) k ≡ true = ap (members (2 ^ from)) e ∙ power_same from in
           let low : ltb k (from + 1) ≡ true = grind (arith, nat_tests) in
           let mine : members set k ≡ true = ap (members set) e ∙ is in
-          true_or _ _ one ∙ sym (ap (λ b. b && members set k) low ∙ mine)
+          or_right _ _ one ∙ sym (ap (λ b. b && members set k) low ∙ mine)
       | inr ne ↦
           let none : members (2 ^ from) k ≡ false = power_other from k ne in
           let same : ltb k from ≡ ltb k (from + 1) = grind (arith, nat_tests) in

@@ -57,26 +57,15 @@ given_named cores core task line words e says =
 act_named : (cores core : ℕ) (action : Action) (line : ScriptLine) (words : List Word) → given_to cores core (task_done action) ≡ Some line
     → Says (Act core action) words → NamesTask cores line words
 act_named cores core (Do.Call request) line words e says = absurd (cc)
-act_named cores core Do.Go line words e says = absurd (cc)
-act_named cores core Do.Take line words e says = absurd (cc)
 act_named cores core Do.Flush line words e says = given_named cores core Flush line words e says
 act_named cores core Do.Review line words e says = given_named cores core Review line words e says
-act_named cores core Do.GiveUp line words e says = absurd (cc)
-act_named cores core (Do.Frame frame) line words e says = absurd (cc)
-act_named cores core (Do.Guess page) line words e says = absurd (cc)
-act_named cores core Do.Whole line words e says = absurd (cc)
-act_named cores core (Do.Walk page) line words e says = absurd (cc)
-act_named cores core (Do.Evict page) line words e says = absurd (cc)
+act_named cores core action line words e says = absurd (cc)
 
 said_named : (cores : ℕ) (said : Line) (line : ScriptLine) (words : List Word) → task_said cores said ≡ Some line → Says said words
     → NamesTask cores line words
-said_named cores Blank line words e says = absurd (cc)
-said_named cores (Space all frames calls) line words e says = absurd (cc)
-said_named cores (File n mode len seed) line words e says = absurd (cc)
 said_named cores (Act core action) line words e says = act_named cores core action line words e says
-said_named cores (Fold page) line words e says = absurd (cc)
-said_named cores (Finish core) line words e says = absurd (cc)
 said_named cores (Now core request) line words e says = given_named cores core (Call request) line words e says
+said_named cores said line words e says = absurd (cc)
 
 task_only : (cores : ℕ) (line : ScriptLine) (words : List Word) → script_line_of cores words ≡ Some line → NamesTask cores line words
 unfolding script_line_of

@@ -12,10 +12,10 @@ use Rattle.vm_base.specs.declared.requests.Flags.{Flags}
 use Rattle.vm_base.specs.declared.requests.Request.{Request}
 use Rattle.vm_base.specs.declared.requests.Request.TheVariants.{Mmap, Munmap, Mprotect, Load, Store, Fetch}
 use Rattle.vm_base.specs.declared.rights.Prot.{Prot}
-use Rattle.vm_base.specs.declared.replies.Errno.TheVariants.{EINVAL, ENOMEM, EACCES, EBADF, EOVERFLOW}
-use Rattle.vm_base.specs.declared.replies.SegvCode.TheVariants.{MapErr, AccErr}
+use Rattle.vm_base.specs.declared.replies.Errno.TheVariants.{EINVAL}
+use Rattle.vm_base.specs.declared.replies.SegvCode.TheVariants.{MapErr}
 use Rattle.vm_base.specs.declared.replies.Reply.{Reply}
-use Rattle.vm_base.specs.declared.replies.Reply.TheVariants.{Mapped, Done, Byte, Refused, Segv, Bus, NoFrame, NoMemory}
+use Rattle.vm_base.specs.declared.replies.Reply.TheVariants.{Mapped, Byte, Refused, Segv}
 use Rattle.machine_model.specs.declared.event.Event.{Event}
 use Rattle.machine_model.specs.declared.event.Event.TheVariants as Ev
 use Rattle.machine_model.specs.declared.event.Blocker.TheVariants.{Slot, Acks}
@@ -24,7 +24,8 @@ use Rattle.machine_model.specs.declared.event.Outcome.TheVariants.{Stepped, Wait
 use Rattle.seats.specs.declared.noted.Noted.{Noted}
 use Rattle.trace.specs.OutcomeText.{outcome_text}
 use Rattle.trace_text.specs.Printing.{address_of, core_text, cores_text, text_of}
-use Rattle.trace_text.specs.Spelling.{mark, rights_text}
+use Rattle.trace_text.specs.Spelling.{rights_text}
+use Rattle.trace_text.proofs.Choices.{of_four, of_three}
 use Rattle.trace_text.proofs.PrintingLemmas.{address_digits}
 use Rattle.notes_text.specs.Written.{event_words, flags_text, note_head, note_text, request_words, spaced}
 use Rattle.notes_text.specs.WrittenLaws.{FitsEvent, FitsNote, FitsOutcome, FitsReply, FitsRequest}
@@ -46,38 +47,14 @@ word_short : (n : ℕ) → n < 2 ^ 64 → length (address_of n) ≤ 20
 word_short n h = omega (arith, address_short n h)
 
 rights_short : (prot : Prot) → length (rights_text prot) ≤ 20
-rights_short prot = go prot.read prot.write prot.exec
-  where
-    go : (r w x : Bool) → length (mark r (codes "r") ++ mark w (codes "w") ++ mark x (codes "x")) ≤ 20
-    go true true true = omega arith
-    go true true false = omega arith
-    go true false true = omega arith
-    go true false false = omega arith
-    go false true true = omega arith
-    go false true false = omega arith
-    go false false true = omega arith
-    go false false false = omega arith
+rights_short prot = of_three (λ r w x. length (rights_text (record { read = r; write = w; exec = x })) ≤ 20)
+    (omega arith, omega arith, omega arith, omega arith, omega arith, omega arith, omega arith, omega arith) prot.read prot.write prot.exec
 
 flags_short : (flags : Flags) → length (flags_text flags) ≤ 20
-flags_short flags = go flags.private flags.shared flags.fixed flags.anon
-  where
-    go : (p s f a : Bool) → length (flags_text (record { private = p; shared = s; fixed = f; anon = a })) ≤ 20
-    go true true true true = omega arith
-    go true true true false = omega arith
-    go true true false true = omega arith
-    go true true false false = omega arith
-    go true false true true = omega arith
-    go true false true false = omega arith
-    go true false false true = omega arith
-    go true false false false = omega arith
-    go false true true true = omega arith
-    go false true true false = omega arith
-    go false true false true = omega arith
-    go false true false false = omega arith
-    go false false true true = omega arith
-    go false false true false = omega arith
-    go false false false true = omega arith
-    go false false false false = omega arith
+flags_short flags = of_four (λ p s f a. length (flags_text (record { private = p; shared = s; fixed = f; anon = a })) ≤ 20)
+    (omega arith, omega arith, omega arith, omega arith, omega arith, omega arith, omega arith, omega arith)
+    (omega arith, omega arith, omega arith, omega arith, omega arith, omega arith, omega arith, omega arith)
+    flags.private flags.shared flags.fixed flags.anon
 
 core_short : (core : ℕ) → core < 64 → length (decimal core) ≤ 2
 core_short core h = length-decimal-le 2 core (omega arith) (omega (arith, h)) (omega (arith, h))
@@ -104,11 +81,7 @@ request_short (Fetch addr) a = (omega arith, (word_short addr a, tt))
 
 request_few : (request : Request) → length (request_words request) ≤ 7
 request_few (Mmap addr len prot flags file off) = omega arith
-request_few (Munmap addr len) = omega arith
-request_few (Mprotect addr len prot) = omega arith
-request_few (Load addr) = omega arith
-request_few (Store addr byte) = omega arith
-request_few (Fetch addr) = omega arith
+request_few request = omega arith
 
 event_short : (event : Event) → FitsEvent event → AreShort (event_words event)
 event_short (Ev.Call core request) (h, f) = (core_in core h, (omega arith, request_short request f))
@@ -126,17 +99,7 @@ event_short (Ev.GiveUp core) h = (core_in core h, (omega arith, tt))
 
 event_few : (event : Event) → length (event_words event) ≤ 9
 event_few (Ev.Call core request) = omega (arith, request_few request)
-event_few (Ev.Go core) = omega arith
-event_few (Ev.Frame core frame) = omega arith
-event_few (Ev.Guess core page) = omega arith
-event_few (Ev.Whole core) = omega arith
-event_few (Ev.Take core) = omega arith
-event_few (Ev.Walk core page) = omega arith
-event_few (Ev.Evict core page) = omega arith
-event_few (Ev.Flush core) = omega arith
-event_few (Ev.Review core) = omega arith
-event_few (Ev.Fold page) = omega arith
-event_few (Ev.GiveUp core) = omega arith
+event_few event = omega arith
 
 event_length : (event : Event) → FitsEvent event → length (spaced (event_words event)) ≤ 189
 event_length event h = omega (arith, spaced_short (event_words event) (event_short event h), event_few event)
@@ -154,18 +117,10 @@ go_length core h =
 
 reply_length : (reply : Reply) → FitsReply reply → length (text_of reply) ≤ 20
 reply_length (Mapped a) h = word_short a h
-reply_length Done h = omega arith
 reply_length (Byte b) h = decimal_short b (omega (arith, h))
 reply_length (Refused EINVAL) h = omega arith
-reply_length (Refused ENOMEM) h = omega arith
-reply_length (Refused EACCES) h = omega arith
-reply_length (Refused EBADF) h = omega arith
-reply_length (Refused EOVERFLOW) h = omega arith
 reply_length (Segv MapErr) h = omega arith
-reply_length (Segv AccErr) h = omega arith
-reply_length Bus h = omega arith
-reply_length NoFrame h = omega arith
-reply_length NoMemory h = omega arith
+reply_length reply h = omega arith
 
 -- of those of n cores from one on
 some_length : (set n from : ℕ) → from + n ≤ 64 → length (flat_map core_text (filter (members set) (range_with_len from n))) ≤ 3 * n

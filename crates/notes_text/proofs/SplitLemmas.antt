@@ -1,69 +1,10 @@
 -- Words on both sides of a sign.
-use Rattle.std.proofs.Common.{◌≡◌, ◌≢◌, ℕ, ◌+◌, Bool, true, false, cond, not, eqb, List, [], ◌∷◌, ◌++◌, codes, arith, refl, sym, ap, ◌∙◌, subst, Option, Some, None, append_assoc, zero, suc, ◌<◌, length, take, drop, get_or}
-use Rattle.std.proofs.lemmas.List.{take-append-drop}
-use Rattle.std.specs.Prelude.{◌&&◌}
-use Rattle.std.specs.List.{list_all}
+use Rattle.std.proofs.Common.{◌≡◌, ◌≢◌, ℕ, ◌+◌, Bool, true, false, not, eqb, List, [], ◌∷◌, ◌++◌, codes, arith, refl, sym, ap, ◌∙◌}
+use Rattle.std.proofs.lemmas.Bool.{not-true}
 use Rattle.std.proofs.lemmas.Bool.Decides.{nat_tests}
 use Rattle.trace_io.specs.Lines.{onto}
 use Rattle.trace_text.specs.Words.{Word, words_of, begins_word}
-use Rattle.trace_text.specs.Halves.{are_clear}
-
--- ---- words, a byte at a time
-
-flip : (b : Bool) → not b ≡ true → b ≡ false
-flip true e = absurd (cc)
-flip false e = refl
-
-at_space : (x : ℕ) (xs : List ℕ) → eqb x 32 ≡ true → words_of (x ∷ xs) ≡ words_of xs
-at_space x xs e = ap (λ b. cond b (words_of xs) (cond (begins_word xs) (onto x (words_of xs)) ((x ∷ []) ∷ words_of xs))) e
-
-pub at_end : (x : ℕ) (xs : List ℕ) → eqb x 32 ≡ false → begins_word xs ≡ false → words_of (x ∷ xs) ≡ (x ∷ []) ∷ words_of xs
-at_end x xs e f =
-    ap (λ b. cond b (words_of xs) (cond (begins_word xs) (onto x (words_of xs)) ((x ∷ []) ∷ words_of xs))) e
-    ∙ ap (λ b. cond b (onto x (words_of xs)) ((x ∷ []) ∷ words_of xs)) f
-
-pub at_more : (x : ℕ) (xs : List ℕ) → eqb x 32 ≡ false → begins_word xs ≡ true → words_of (x ∷ xs) ≡ onto x (words_of xs)
-at_more x xs e f =
-    ap (λ b. cond b (words_of xs) (cond (begins_word xs) (onto x (words_of xs)) ((x ∷ []) ∷ words_of xs))) e
-    ∙ ap (λ b. cond b (onto x (words_of xs)) ((x ∷ []) ∷ words_of xs)) f
-
-onto_begun : (x : ℕ) (ls : List Word) → (v : Word) × (vs : List Word) × (onto x ls ≡ (x ∷ v) ∷ vs)
-onto_begun x [] = ([], [], refl)
-onto_begun x (l ∷ ls) = (l, ls, refl)
-
--- the first byte of a word is in the first word
-begun : (xs : List ℕ) → begins_word xs ≡ true → (y : ℕ) × (v : Word) × (vs : List Word) × (words_of xs ≡ (y ∷ v) ∷ vs)
-begun [] e = absurd (cc)
-begun (x ∷ xs) e = go (begins_word xs) refl
-  where
-    letter : eqb x 32 ≡ false
-    letter = flip (eqb x 32) e
-
-    go : (b : Bool) → begins_word xs ≡ b → (y : ℕ) × (v : Word) × (vs : List Word) × (words_of (x ∷ xs) ≡ (y ∷ v) ∷ vs)
-    go true f = let (v, vs, is) = onto_begun x (words_of xs) in (x, v, vs, at_more x xs letter f ∙ is)
-    go false f = (x, [], words_of xs, at_end x xs letter f)
-
-onto_join : (x : ℕ) (vs us : List Word) (v : Word) (ws : List Word) → vs ≡ v ∷ ws → onto x (vs ++ us) ≡ onto x vs ++ us
-onto_join x vs us v ws e = ap (λ l. onto x (l ++ us)) e ∙ ap (λ l. onto x l ++ us) (sym e)
-
--- a space divides words
-pub words_join : (xs ys : List ℕ) → words_of (xs ++ 32 ∷ ys) ≡ words_of xs ++ words_of ys
-words_join [] ys = refl
-words_join (x ∷ xs) ys = go (words_join xs ys) (eqb x 32) (begins_word xs) refl refl
-  where
-    same : (xs : List ℕ) → begins_word (xs ++ 32 ∷ ys) ≡ begins_word xs
-    same [] = refl
-    same (z ∷ zs) = refl
-
-    go : words_of (xs ++ 32 ∷ ys) ≡ words_of xs ++ words_of ys → (b c : Bool) → eqb x 32 ≡ b → begins_word xs ≡ c
-        → words_of (x ∷ (xs ++ 32 ∷ ys)) ≡ words_of (x ∷ xs) ++ words_of ys
-    go h true c e f = at_space x (xs ++ 32 ∷ ys) e ∙ h ∙ ap (λ l. l ++ words_of ys) (sym (at_space x xs e))
-    go h false false e f =
-        at_end x (xs ++ 32 ∷ ys) e (same xs ∙ f) ∙ ap (λ l. (x ∷ []) ∷ l) h ∙ ap (λ l. l ++ words_of ys) (sym (at_end x xs e f))
-    go h false true e f =
-        let (y, v, vs, is) = begun xs f in
-        at_more x (xs ++ 32 ∷ ys) e (same xs ∙ f) ∙ ap (onto x) h
-        ∙ onto_join x (words_of xs) (words_of ys) (y ∷ v) vs is ∙ ap (λ l. l ++ words_of ys) (sym (at_more x xs e f))
+use Rattle.trace_text.proofs.WordLemmas.{at_end, at_more, at_space, begun}
 
 -- ---- where the sign stands
 
@@ -94,7 +35,7 @@ Others xs os = (es : List Word) → words_of xs ≡ es ++ codes "=" ∷ os → (
 split_here : (x : ℕ) (zs : List ℕ) (os : List Word) → eqb x 32 ≡ true → begins_word zs ≡ true → words_of zs ≡ codes "=" ∷ os → SplitsAt (x ∷ zs) [] os
 split_here x [] os s b v = absurd (cc)
 split_here x (z ∷ zs) os s b v =
-    let letter : eqb z 32 ≡ false = flip (eqb z 32) b in
+    let letter : eqb z 32 ≡ false = not-true (eqb z 32) b in
     let (sign, edge, rest) = sign_first z zs os letter v in
     let space : x ≡ 32 = grind (arith, nat_tests, s) in
     record {
@@ -176,43 +117,3 @@ unfolding Others
 splits [] [] os w n = absurd (cc)
 splits [] (e ∷ es) os w n = absurd (cc)
 splits (x ∷ xs) es os w n = split_more x xs es os (λ fs. splits xs fs os) w n (eqb x 32) (begins_word xs) refl refl
-
--- ---- bytes without a sign
-
-pub are_clear_words : List Word → Bool
-are_clear_words words = list_all are_clear words
-
-both : (a b : Bool) → a ≡ true → b ≡ true → (a && b) ≡ true
-both a b e f = rw (e, f) refl
-
-first : (a b : Bool) → (a && b) ≡ true → a ≡ true
-first true b e = refl
-first false b e = absurd (cc)
-
-second : (a b : Bool) → (a && b) ≡ true → b ≡ true
-second true b e = e
-second false b e = absurd (cc)
-
-onto_clear : (x : ℕ) (words : List Word) → list_all are_clear (onto x words) ≡ true → (not (eqb x 61) ≡ true) × (list_all are_clear words ≡ true)
-onto_clear x [] e = (first (not (eqb x 61)) true (first (not (eqb x 61) && true) true e), refl)
-onto_clear x (w ∷ ws) e =
-    let front = first (not (eqb x 61) && are_clear w) (list_all are_clear ws) e in
-    let back = second (not (eqb x 61) && are_clear w) (list_all are_clear ws) e in
-    (first (not (eqb x 61)) (are_clear w) front, both (are_clear w) (list_all are_clear ws) (second (not (eqb x 61)) (are_clear w) front) back)
-
-pub bytes_clear : (bytes : List ℕ) → list_all are_clear (words_of bytes) ≡ true → are_clear bytes ≡ true
-bytes_clear [] e = refl
-bytes_clear (x ∷ xs) e = go (bytes_clear xs) (eqb x 32) (begins_word xs) refl refl
-  where
-    go : (list_all are_clear (words_of xs) ≡ true → are_clear xs ≡ true) → (a b : Bool) → eqb x 32 ≡ a → begins_word xs ≡ b → not (eqb x 61) && are_clear xs ≡ true
-    go h true b s f =
-        let byte : x ≡ 32 = grind (arith, nat_tests, s) in
-        both (not (eqb x 61)) (are_clear xs) (ap (λ c. not (eqb c 61)) byte) (h (ap (list_all are_clear) (sym (at_space x xs s)) ∙ e))
-    go h false false s f =
-        let parts : (not (eqb x 61) && true) && list_all are_clear (words_of xs) ≡ true = ap (list_all are_clear) (sym (at_end x xs s f)) ∙ e in
-        let front = first (not (eqb x 61) && true) (list_all are_clear (words_of xs)) parts in
-        both (not (eqb x 61)) (are_clear xs) (first (not (eqb x 61)) true front)
-        (h (second (not (eqb x 61) && true) (list_all are_clear (words_of xs)) parts))
-    go h false true s f =
-        let parts = onto_clear x (words_of xs) (ap (list_all are_clear) (sym (at_more x xs s f)) ∙ e) in
-        both (not (eqb x 61)) (are_clear xs) parts.0 (h parts.1)

@@ -21,7 +21,9 @@ use Rattle.trace_text.specs.Grammar.{Says}
 use Rattle.trace_text.specs.declared.line.Line.{Line}
 use Rattle.trace_text.specs.declared.line.Line.TheVariants.{Blank, Space, File}
 use Rattle.trace_text.proofs.LineLemmas.{said_is_read, read_is_said}
+use Rattle.trace_text.proofs.BytesLemmas.{append_has, decimal_number}
 use Rattle.trace_text.proofs.PrintableLemmas.{read_is_printable}
+use Rattle.trace_text.proofs.WordLemmas.{IsWord}
 use Rattle.trace_text.proofs.SpellingLemmas.{reads_printed}
 use Rattle.trace.specs.declared.declaration.FileLine.{FileLine}
 use Rattle.trace.specs.Declarations.{Asked, asked_fault, asks_for, has_long, is_next, with_file}
@@ -34,8 +36,8 @@ use Rattle.notes_text.specs.WrittenLaws.{FitsNote}
 use Rattle.notes_text.specs.TextLaws.{FitsLine, IsDeclared, WrittenIsSaid}
 use Rattle.notes_text.proofs.CollectLemmas.{file_taken, item_taken, space_taken}
 use Rattle.notes_text.proofs.NoteWritten.{IsLine, IsWritten, event_written, line_words, outcome_line}
-use Rattle.notes_text.proofs.PrintableLemmas.{decimal_printable, printable_append, printable_unbroken}
-use Rattle.notes_text.proofs.WrittenLemmas.{AreWords, IsWord, decimal_spells, decimal_word, word_before, words_spaced}
+use Rattle.notes_text.proofs.PrintableLemmas.{decimal_printable, printable, printable_unbroken}
+use Rattle.notes_text.proofs.WrittenLemmas.{AreWords, decimal_word, word_before, words_spaced}
 
 abbrev Names : ℕ → Noted → List Word → Type 0
 Names cores note words = NamesNote note words
@@ -105,9 +107,9 @@ space_line_taken cores frames calls c f l =
       decimal frames,
       decimal calls ∷ [],
       refl,
-      decimal_spells cores c,
-      decimal_spells frames f,
-      inr (decimal calls, refl, decimal_spells calls l),
+      decimal_number cores c,
+      decimal_number frames f,
+      inr (decimal calls, refl, decimal_number calls l),
     ) in
     space_taken true Names nothing _ (codes "vm" ++ spaced words) cores frames calls s.printable (ap kind_of s.words_are) refl s.read
     (λ e. ap length s.words_are) refl
@@ -140,9 +142,9 @@ file_line_taken asked file n l s =
       decimal file.len,
       decimal file.seed,
       refl,
-      decimal_spells asked.next low,
-      decimal_spells file.len l,
-      decimal_spells file.seed seed,
+      decimal_number asked.next low,
+      decimal_number file.len l,
+      decimal_number file.seed seed,
       s,
     ) in
     let next : is_next asked asked.next ≡ true = grind (arith, nat_tests, n) in
@@ -276,9 +278,9 @@ has_line note h =
     record {
       line = note_head note ++ o.line;
       text = ap (λ t. note_head note ++ t) o.text ∙ sym (append_assoc (note_head note) o.line (10 ∷ []));
-      printable = printable_append (note_head note) o.line
-          (printable_append (decimal note.ticket ++ spaced (event_words note.event)) (codes " = ")
-          (printable_append (decimal note.ticket) (spaced (event_words note.event)) (decimal_printable note.ticket h.ticket) (event_printable note h))
+      printable = append_has printable (note_head note) o.line
+          (append_has printable (decimal note.ticket ++ spaced (event_words note.event)) (codes " = ")
+          (append_has printable (decimal note.ticket) (spaced (event_words note.event)) (decimal_printable note.ticket h.ticket) (event_printable note h))
           refl) o.printable;
       some = subst (λ l. line_of l ≢ Some Blank) (sym shape)
           (not_blank (decimal note.ticket) note.ticket behind (event_words note.event ++ codes "=" ∷ words_of o.line) t (ap words_of (sym shape) ∙ words));
@@ -288,7 +290,7 @@ has_line note h =
         event_words note.event,
         words_of o.line,
         words,
-        decimal_spells note.ticket h.ticket,
+        decimal_number note.ticket h.ticket,
         e.named,
         o.named,
       );

@@ -1,32 +1,20 @@
 -- What the words of an outcome say.
-use Rattle.std.specs.Prelude.{ℕ, suc, ◌&&◌, Bool, false, List, [], ◌∷◌, Option, None, Some}
-use Rattle.std.specs.Prelude.{if◌then◌else◌, ◌==◌, nat_lt, codes}
+use Rattle.std.specs.Prelude.{ℕ, suc, List, [], ◌∷◌, Option, None, Some}
+use Rattle.std.specs.Prelude.{if◌then◌else◌, nat_lt, codes}
 use Rattle.std.specs.Str.{bytes_eq}
 use Rattle.vm_base.specs.Cores.{with_member}
 use Rattle.vm_base.specs.declared.replies.Errno.TheVariants.{EINVAL, ENOMEM, EACCES, EBADF, EOVERFLOW}
 use Rattle.vm_base.specs.declared.replies.SegvCode.TheVariants.{MapErr, AccErr}
 use Rattle.vm_base.specs.declared.replies.Reply.{Reply}
-use Rattle.vm_base.specs.declared.replies.Reply.TheVariants.{Mapped, Done, Byte, Refused, Segv, Bus}
+use Rattle.vm_base.specs.declared.replies.Reply.TheVariants.{Done, Refused, Segv, Bus}
 use Rattle.vm_base.specs.declared.replies.Reply.TheVariants.{NoFrame, NoMemory}
 use Rattle.machine_model.specs.declared.event.Blocker.TheVariants.{Slot, Acks}
 use Rattle.machine_model.specs.declared.event.Outcome.{Outcome}
 use Rattle.machine_model.specs.declared.event.Outcome.TheVariants.{Stepped, Wait, Idle, Answered, Full}
-use Rattle.trace_text.specs.Words.{Word, byte, front_word}
-use Rattle.trace_text.specs.Number.{number_of}
+use Rattle.trace_text.specs.Words.{Word, front_word}
 use Rattle.trace_text.specs.Request.{◌>>=◌, ended}
 use Rattle.trace_text.specs.Line.{core_number}
-
--- the word begins as an address does
-abbrev pub is_hexadecimal : Word → Bool
-is_hexadecimal [] = false
-is_hexadecimal (c ∷ []) = false
-is_hexadecimal (c ∷ d ∷ ds) = (c == byte (codes "0")) && (d == byte (codes "x"))
-
--- a reply that is a number: an address in hexadecimal digits, a byte in decimal ones
-unfoldable pub value_of : Word → Option Reply
-value_of word = do
-  n ← number_of word
-  if is_hexadecimal word then Some (Mapped n) else if nat_lt 255 n then None else Some (Byte n)
+use Rattle.trace_text.specs.Values.{value_of}
 
 -- an outcome of one word that is no number
 abbrev pub single_of : Word → Option Outcome

@@ -1,5 +1,5 @@
 -- What notes and their declaration are written as: words, each behind a space.
-use Rattle.std.specs.Prelude.{ℕ, suc, ◌||◌, Bool, true, false, List, [], ◌∷◌, ◌++◌, codes, decimal, if◌then◌else◌}
+use Rattle.std.specs.Prelude.{ℕ, suc, ◌||◌, List, [], ◌∷◌, ◌++◌, codes, decimal, if◌then◌else◌}
 use Rattle.std.specs.List.{flat_map}
 use Rattle.vm_base.specs.declared.requests.Flags.{Flags}
 use Rattle.vm_base.specs.declared.requests.Request.{Request}
@@ -10,7 +10,7 @@ use Rattle.seats.specs.declared.noted.Noted.{Noted}
 use Rattle.trace_text.specs.Words.{Word}
 use Rattle.trace_text.specs.Printing.{address_of}
 use Rattle.trace_text.specs.Lists.{start_of}
-use Rattle.trace_text.specs.Spelling.{mode_text, rights_text}
+use Rattle.trace_text.specs.Spelling.{letter, mode_text, rights_text}
 use Rattle.trace.specs.declared.declaration.FileLine.{FileLine}
 use Rattle.trace.specs.Declarations.{Asked}
 use Rattle.trace.specs.OutcomeText.{outcome_text}
@@ -19,11 +19,6 @@ use Rattle.trace.specs.OutcomeText.{outcome_text}
 abbrev pub spaced : List Word → List ℕ
 spaced [] = []
 spaced (w ∷ ws) = codes " " ++ w ++ spaced ws
-
--- a flag's letter, where it is set
-abbrev pub letter : Bool → List ℕ → List ℕ
-letter true text = text
-letter false text = []
 
 -- the letters of the flags that are set, in this order, or a dash for none
 abbrev pub flags_text : Flags → Word

@@ -3,9 +3,9 @@ ghost use Rattle.std.specs.Prelude.{◌≡◌, ◌+◌, ◌≤◌, ◌++◌, cod
 ghost use Rattle.notes_text.specs.Written.{event_words, spaced};
 ghost use Rattle.trace_text.specs.Lists.{start_of};
 
-use crate::request_text::{push_count, push_request, push_word};
+use crate::request_text::push_request;
 use machine_model::Event;
-use trace_text::{LineText, number_text, push_start};
+use trace_text::{LineText, number_text, push_count, push_start, push_word};
 use vm_base::CoreId;
 
 // Appends a space, the core's word, a space and this word.

@@ -2,39 +2,14 @@
 ghost use Rattle.std.specs.Prelude.{◌≡◌};
 ghost use Rattle.trace_text.specs.Request.{ended};
 ghost use Rattle.trace_text.specs.Words.{words_of};
-ghost use Rattle.notes_text.specs.Outcomes.{acks_of, alone, is_hexadecimal, named_of, outcome_of, segv_of, single_of};
-ghost use Rattle.notes_text.specs.Outcomes.{slot_of, value_of, wait_of};
+ghost use Rattle.notes_text.specs.Outcomes.{acks_of, alone, named_of, outcome_of, segv_of, single_of};
+ghost use Rattle.notes_text.specs.Outcomes.{slot_of, wait_of};
 
 use machine_model::{Blocker, Outcome};
 use trace_text::core_line::read_core_number;
-use trace_text::number::read_number;
+use trace_text::value::read_value;
 use trace_text::words::next_word;
 use vm_base::{CoreSet, Errno, Reply, SegvCode};
-
-// Tells whether the word begins as an address does.
-fn is_hexadecimal(word: &[u8]) -> bool
-    ensures { result ≡ is_hexadecimal word.now }
-{
-    match word {
-        [b'0', b'x', ..] => true,
-        _ => false,
-    }
-}
-
-// The reply that is a number: an address in hexadecimal digits, a byte in decimal ones.
-#[tactic(auto, unfolding(crate::specs::Outcomes::value_of))]
-fn read_value(word: &[u8]) -> Option<Reply>
-    ensures { result ≡ value_of word.now }
-{
-    let number = read_number(word)?;
-    if is_hexadecimal(word) {
-        return Some(Reply::Mapped(number));
-    }
-    if number > 255 {
-        return None;
-    }
-    Some(Reply::Byte(number as u8))
-}
 
 // The outcome of one word that is no number.
 fn read_single(word: &[u8]) -> Option<Outcome>

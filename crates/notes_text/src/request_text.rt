@@ -2,38 +2,10 @@
 ghost use Rattle.std.specs.Prelude.{◌≡◌, ◌+◌, ◌≤◌, ◌∷◌, ◌++◌, [], codes, decimal, length};
 ghost use Rattle.trace_text.specs.Printing.{address_of};
 ghost use Rattle.trace_text.specs.Spelling.{rights_text};
-ghost use Rattle.notes_text.specs.Written.{flags_text, letter, request_words, spaced};
+ghost use Rattle.notes_text.specs.Written.{flags_text, request_words, spaced};
 
-use trace_text::{LineText, address_text, number_text, push_rights};
+use trace_text::{LineText, push_address, push_count, push_letter, push_rights, push_word};
 use vm_base::{Flags, Prot, Request};
-
-/// Appends a space and the word.
-pub fn push_word(text: &mut LineText, word: &str)
-    requires { length text.old.bytes + length word.now + 1 ≤ 256 }
-    ensures bytes { text.new.bytes ≡ text.old.bytes ++ codes " " ++ word.now }
-    ensures long { length text.new.bytes ≡ length text.old.bytes + length word.now + 1 }
-{
-    text.push_str(" ");
-    text.push_str(word);
-}
-
-// Appends a space and the address.
-fn push_address(text: &mut LineText, address: u64)
-    requires { length text.old.bytes + 21 ≤ 256 }
-    ensures bytes { text.new.bytes ≡ text.old.bytes ++ codes " " ++ address_of address }
-    ensures short { length text.new.bytes ≤ length text.old.bytes + 21 }
-{
-    push_word(text, address_text(address).as_str());
-}
-
-/// Appends a space and the number.
-pub fn push_count(text: &mut LineText, number: u64)
-    requires { length text.old.bytes + 21 ≤ 256 }
-    ensures bytes { text.new.bytes ≡ text.old.bytes ++ codes " " ++ decimal number }
-    ensures short { length text.new.bytes ≤ length text.old.bytes + 21 }
-{
-    push_word(text, number_text(number).as_str());
-}
 
 // Appends a space and the rights.
 fn push_prot(text: &mut LineText, prot: Prot)
@@ -43,18 +15,6 @@ fn push_prot(text: &mut LineText, prot: Prot)
 {
     text.push_str(" ");
     push_rights(text, prot);
-}
-
-// Appends a flag's letter, if it is set.
-fn push_letter(text: &mut LineText, is_set: bool, word: &str)
-    requires room { length text.old.bytes + 1 ≤ 256 }
-    requires one { length word.now ≤ 1 }
-    ensures bytes { text.new.bytes ≡ text.old.bytes ++ letter is_set word.now }
-    ensures short { length text.new.bytes ≤ length text.old.bytes + 1 }
-{
-    if is_set {
-        text.push_str(word);
-    }
 }
 
 // Appends a space and the flags.

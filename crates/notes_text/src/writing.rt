@@ -10,7 +10,6 @@ ghost use Rattle.notes_text.specs.WriteEnds.{Writes};
 
 use crate::event_text::push_event;
 use crate::ordering::in_order;
-use crate::request_text::{push_count, push_word};
 use crate::script::Script;
 use crate::verdict::write_both;
 use seats::Noted;
@@ -19,7 +18,7 @@ use trace::declaration::{Declaration, FileLine};
 use trace::fault::TraceFault;
 use trace::outcome_text::write_outcome;
 use trace_io::sink::{Sink, WriteFailed, write_all};
-use trace_text::{LineText, push_number};
+use trace_text::{LineText, push_count, push_number, push_word};
 use vm_base::Mode;
 
 // The word of what a file is open for.
