@@ -20,7 +20,7 @@ use Rattle.slot_lock.specs.declared.plan.Plan.TheVariants as PlanOf
 use Rattle.slot_lock.specs.Plan.{range_of, IsSoundChange, IsSoundGoal}
 use Rattle.slot_lock.specs.Slots.{Slots, IsHeld}
 use Rattle.vm_calls.specs.declared.decision.Decision.TheVariants.{Act}
-use Rattle.vm_calls.specs.Decisions.{Decides, DecidesChange, entry_of}
+use Rattle.vm_calls.specs.Decisions.{Decides, entry_of}
 use Rattle.vm_calls.specs.Decisions.DecidesProtect.{no_page, no_write, acts}
 use Rattle.vm_calls.proofs.Targets.{place-act}
 use Rattle.machine_model.specs.declared.phase.Phase.TheVariants.{Acks, Unlock}
@@ -75,13 +75,6 @@ all_mapped : (files : ℕ → Option File) (s : Slots) (range : PageRange) (prot
 all_mapped files s range prot shoot (no_page a e) = absurd cc
 all_mapped files s range prot shoot (no_write a w r e) = absurd cc
 all_mapped files s range prot shoot (acts a r k) = λ p h. mapped (s.info p) (λ e. a (p, h, e))
-
--- a change that is to be made can be
-pub acts_mapped : (files : ℕ → Option File) (s : Slots) (change : Change) (shoot : ℕ) → DecidesChange files s change (Act (range_of change) shoot)
-    → IsMappedFor s change
-acts_mapped files s (Put range meta) shoot d = tt
-acts_mapped files s (Clear range) shoot d = tt
-acts_mapped files s (Protect range prot) shoot d = all_mapped files s range prot shoot d
 
 protects : (w : World) (goal : Goal) (range : PageRange) (prot : Prot) → IsChangeOf goal (Protect range prot) → IsChosen w.made w.slots goal range
     → IsMappedFor w.slots (Protect range prot)

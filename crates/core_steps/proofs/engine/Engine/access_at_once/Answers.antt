@@ -1,14 +1,7 @@
-use Rattle.std.proofs.Common.{ap, arith, ◌∙◌}
-use Rattle.machine_model.specs.World.{World}
+use Rattle.std.proofs.Common.{arith}
 use Rattle.core_steps.proofs.at_once.AtOnce.{passes_reached}
 use Rattle.core_steps.proofs.at_once.FirstEvents.{called, ends, faults, goes_on}
 use Rattle.core_steps.proofs.engine.Engine.access_at_once.Goals as goal
-
-pub try_page-requires-clause-here : goal.try_page-requires-clause-here
-try_page-requires-clause-here g c = (called c.requires c.number_call.ensures).at.here
-
-pub try_page-requires-clause-room : goal.try_page-requires-clause-room
-try_page-requires-clause-room g c = let room = (called c.requires c.number_call.ensures).room in omega (arith, room)
 
 pub try_page-requires-clause-reached : goal.try_page-requires-clause-reached
 try_page-requires-clause-reached g c = (called c.requires c.number_call.ensures).reached
@@ -32,6 +25,3 @@ pub returns-in-Some-make_fault-clause-starts : goal.returns-in-Some-make_fault-c
 returns-in-Some-make_fault-clause-starts g c =
     let made = faults c.in_default.is c.try_page.ensures c.make_fault.ensures in
     ends (called c.requires c.number_call.ensures) (rw c.in-Some-make_fault.is at made.0) made.1
-
-pub returns-in-Some-clause-edges : goal.returns-in-Some-clause-edges
-returns-in-Some-clause-edges g c = c.try_page.ensures.edges ∙ ap (λ (w : World). w.slots.edge) c.number_call.ensures

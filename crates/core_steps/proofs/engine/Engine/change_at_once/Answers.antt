@@ -1,12 +1,5 @@
-use Rattle.std.proofs.Common.{arith}
-use Rattle.machine_laws.proofs.Deciding.{sound_range}
 use Rattle.core_steps.proofs.at_once.ChangeAtOnce.{alone_by, page_change}
 use Rattle.core_steps.proofs.engine.Engine.change_at_once.Goals as goal
-
-pub free_page-requires : goal.free_page-requires
-free_page-requires g c =
-    rw c.range-range.ensures (let pages = sound_range c.args.change c.requires.at.goal.plan in
-    let low = pages.low in let some = pages.some in let high = pages.high in (low, omega (arith, some, high)))
 
 pub refuse_at_once-requires : goal.refuse_at_once-requires
 refuse_at_once-requires g c = (

@@ -1,7 +1,6 @@
-use Rattle.std.proofs.Common.{◌<◌, subst, sym, ap, ◌∙◌}
+use Rattle.std.proofs.Common.{subst, sym}
 use Rattle.machine_sound.specs.Sound.{IsReached}
 use Rattle.core_steps.specs.State.{world}
-use Rattle.machine_model.specs.World.{World}
 use Rattle.core_steps.proofs.Reached.{well}
 use Rattle.core_steps.proofs.rows.Known.{is_at}
 use Rattle.core_steps.proofs.at_once.AtOnce.{to_same}
@@ -15,12 +14,6 @@ make_fault-reply-requires-clause-reached g c =
 pub tried_to-requires : goal.tried_to-requires
 tried_to-requires g c =
     (is_at (world g.M.SlotRead.slots c.args.self.now) c.args.core c.requires.here (well _ c.requires.reached) _ c.requires.at).goal
-
-pub go_to-requires : goal.go_to-requires
-go_to-requires g c = subst (λ n. c.args.core < n) (sym c.make_fault-reply.ensures.passes.cores) c.requires.here
-
-pub returns-clause-edges : goal.returns-clause-edges
-returns-clause-edges g c = ap (λ (w : World). w.slots.edge) c.go_to.ensures ∙ c.make_fault-reply.ensures.passes.edges
 
 pub returns-clause-steps : goal.returns-clause-steps
 returns-clause-steps g c =

@@ -1,7 +1,5 @@
-use Rattle.std.proofs.Common.{sym}
 use Rattle.core_steps.specs.Parts.{parts}
 use Rattle.core_steps.proofs.at_once.ChangeAtOnce.{is_counted, makes_at_once, nothing_left}
-use Rattle.core_steps.proofs.rows.Changing.{acts_mapped}
 use Rattle.core_steps.proofs.rows.Known.{change_pages}
 use Rattle.core_steps.proofs.engine.Engine.make_at_once.Goals as goal
 
@@ -13,10 +11,6 @@ shoot_alone-requires-clause-dropped g c = λ out. rw c.range.ensures (nothing_le
 
 pub count_page-requires-clause-counted : goal.count_page-requires-clause-counted
 count_page-requires-clause-counted g c = is_counted c.requires.change
-
-pub change_free-requires-clause-mapped : goal.change_free-requires-clause-mapped
-change_free-requires-clause-mapped g c =
-    let i = c.requires.change in acts_mapped _ (g.M.SlotRead.slots c.args.self.now.map) c.args.change c.args.shoot (i.decides _ (sym i.found.info))
 
 pub returns : goal.returns
 returns g c =

@@ -1,4 +1,4 @@
-use Rattle.std.proofs.Common.{ap, arith, subst, sym}
+use Rattle.std.proofs.Common.{subst, sym}
 use Rattle.machine_model.specs.World.{World}
 use Rattle.core_steps.specs.OnePage.{CanTake}
 use Rattle.core_steps.specs.State.{world}
@@ -14,10 +14,6 @@ pub take_from-requires-clause-can : goal.take_from-requires-clause-can
 take_from-requires-clause-can g c =
     subst (λ (x : World). CanTake x c.args.core c.args.source) (sym c.in-Ok.ensures.ok)
     (can_take (world g.M.SlotRead.slots c.args.self.now) c.args.core c.args.touch c.requires.fault c.args.info c.requires.info c.args.source c.requires.source)
-
-pub take_from-requires-clause-room : goal.take_from-requires-clause-room
-take_from-requires-clause-room g c =
-    let room = c.requires.fault.room in let events = ap (λ (x : World). x.calls.events) c.in-Ok.ensures.ok in omega (arith, room, events)
 
 pub try_page-requires-clause-reached : goal.try_page-requires-clause-reached
 try_page-requires-clause-reached g c =
