@@ -7,10 +7,10 @@ ghost use Rattle.import_lackey.specs.Traced.{TraceEnds};
 
 use crate::tracing::trace_lines;
 use import_text::counts::Counts;
-use import_text::log::{ImportFault, read_log, write_out};
+use import_text::log::{ImportFault, read_log};
 use import_text::writing::write_taken;
 use std::alloc::Global;
-use trace_io::sink::Sink;
+use trace_io::sink::{Sink, write_out};
 use trace_io::source::Source;
 
 /// How many frames the space of a trace with accesses has: as many as one may have.

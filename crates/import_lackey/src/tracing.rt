@@ -9,9 +9,9 @@ ghost use Rattle.import_lackey.specs.Tracing.{accessed, asked_for, call_taken, c
 use crate::heard::{Access, Heard, Touch, read_heard};
 use import_text::counts::Counts;
 use import_text::said::Said;
-use import_text::speech::front_line;
 use import_text::taking::{ADDRESS_END, Fate, Mapping, Reason, Taken, ask, take, take_file};
 use std::alloc::{AllocError, Global};
+use trace_io::lines::front_line;
 use trace_text::number_text;
 use vm_base::{Flags, Prot, Request};
 

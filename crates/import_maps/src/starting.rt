@@ -8,9 +8,9 @@ ghost use Rattle.import_maps.specs.Starting.{entry_listed, file_listed, flags_of
 
 use crate::entries::{Entered, Entries};
 use crate::listed::{Kind, Listed, kind_of, read_listed};
-use import_text::speech::front_line;
 use import_text::taking::{ADDRESS_END, Step, Taken, reaches, use_file};
 use std::alloc::{AllocError, Global};
+use trace_io::lines::front_line;
 use vm_base::{CoreId, Flags, Request};
 
 /// The first address that a program may have.

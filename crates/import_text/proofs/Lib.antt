@@ -1,7 +1,6 @@
 mod TokenLemmas
 pub mod SpeechLemmas
 mod JoinLemmas
-mod LogLemmas
 pub mod EndLemmas
 mod TakingLemmas
 mod SaidLemmas

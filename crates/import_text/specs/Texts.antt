@@ -1,11 +1,11 @@
 -- The text of the trace that was made.
-use Rattle.std.specs.Prelude.{ℕ, ◌+◌, Bool, true, false, List, [], ◌∷◌, ◌++◌, if◌then◌else◌, codes, decimal, length, max, min}
+use Rattle.std.specs.Prelude.{ℕ, ◌+◌, List, [], ◌∷◌, ◌++◌, if◌then◌else◌, codes, decimal, length, max, min}
 use Rattle.std.specs.List.{flat_map}
 use Rattle.vm_base.specs.declared.requests.Flags.{Flags}
 use Rattle.vm_base.specs.declared.requests.Request.{Request}
 use Rattle.vm_base.specs.declared.requests.Request.TheVariants.{Mmap, Munmap, Mprotect, Load, Store, Fetch}
 use Rattle.trace_text.specs.Printing.{address_of}
-use Rattle.trace_text.specs.Spelling.{rights_text}
+use Rattle.trace_text.specs.Spelling.{letter, rights_text}
 use Rattle.import_text.specs.Taking.{SoFar}
 use Rattle.import_text.specs.declared.taking.Step.{Step}
 
@@ -13,15 +13,10 @@ use Rattle.import_text.specs.declared.taking.Step.{Step}
 abbrev pub range_text : ℕ → ℕ → List ℕ
 range_text addr len = codes " " ++ address_of addr ++ codes " " ++ decimal len
 
--- a letter that stands there or not
-abbrev pub mark_text : Bool → List ℕ → List ℕ
-mark_text true letter = letter
-mark_text false letter = []
-
 -- the kind of a mapping in letters
 abbrev pub kind_text : Flags → List ℕ
-kind_text flags = codes " " ++ mark_text flags.private (codes "p") ++ mark_text flags.shared (codes "s")
-    ++ mark_text flags.fixed (codes "f") ++ mark_text flags.anon (codes "a")
+kind_text flags = codes " " ++ letter flags.private (codes "p") ++ letter flags.shared (codes "s")
+    ++ letter flags.fixed (codes "f") ++ letter flags.anon (codes "a")
 
 -- a file's number and an offset, which an anonymous mapping leaves out
 abbrev pub backing_text : Flags → ℕ → ℕ → List ℕ

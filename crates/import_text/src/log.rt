@@ -1,23 +1,18 @@
 //! A log is read whole, and its trace is written.
-ghost use Rattle.std.specs.Prelude.{◌≡◌, ◌⊎◌, ◌+◌, ◌<◌, ◌≤◌, ◌^◌, Err, IfErr, IfOk, OnErr, OnOk, drop, length, true};
-ghost use Rattle.std.specs.Io.KnownBytes.{Appends};
-ghost use Rattle.trace_io.specs.Sink.{AppendsFront};
+ghost use Rattle.std.specs.Prelude.{◌≡◌, ◌⊎◌, ◌<◌, ◌^◌, Err, IfOk, OnErr, OnOk, true};
 ghost use Rattle.import_text.specs.Counts.{total};
 ghost use Rattle.import_text.specs.Ends.{ImportEnds, TellsImport};
 ghost use Rattle.import_text.specs.Taking.{so_far};
-ghost use Rattle.trace_io.specs.Source.{Gives, HasEnded, HasStopped, Reads, read_bytes};
+ghost use Rattle.trace_io.specs.Source.{HasStopped, Reads};
 
 use crate::counts::Counts;
 use crate::import::import_lines;
 use crate::taking::Taken;
 use crate::writing::{FRAMES, write_taken};
-use std::alloc::{AllocError, Global};
+use std::alloc::Global;
 use thiserror::Error;
-use trace_io::sink::{Sink, write_all};
-use trace_io::source::{ReadFailed, Source};
-
-/// How many bytes are read at once.
-const CHUNK: usize = 65_536;
+use trace_io::sink::{Sink, write_out};
+use trace_io::source::{Source, Unread, read_all};
 
 /// Why no trace was made, or not all of it written.
 #[derive(Clone, Copy, Debug, PartialEq, Eq, Error)]
@@ -33,28 +28,6 @@ pub enum ImportFault {
     WriteFailed,
 }
 
-// Room for what one read gives.
-fn new_chunk(alloc: Global) -> Result<Vec<u8>, AllocError>
-    ensures { IfOk result (λ chunk. length chunk.items ≡ 65536) }
-{
-    let chunk = vec![in alloc; 0u8; CHUNK]?;
-    Ok(chunk)
-}
-
-// Reads into the chunk.
-fn read_chunk<S: Source>(chunk: &mut Vec<u8>, reader: &mut S) -> Result<usize, ReadFailed>
-    requires { 0 < length chunk.old.items }
-    ensures same { length chunk.new.items ≡ length chunk.old.items }
-    ensures room { IfOk result (λ n. n ≤ length chunk.new.items) }
-    ensures bytes { Gives (S.stream reader.old) (S.stream reader.new) (read_bytes result (drop 0 chunk.new.items)) }
-    ensures end { IfOk result (λ n. n ≡ 0 → HasEnded (S.stream reader.new)) }
-    ensures count { OnOk result (S.reads reader.new ≡ S.reads reader.old + 1) }
-    ensures limit { OnOk result (S.reads reader.old < 2 ^ 32) }
-    ensures stopped { OnErr result (HasStopped (S.failed reader.new) (S.reads reader.new)) }
-{
-    reader.read(&mut chunk[0..])
-}
-
 /// Reads until the input ends. Where a read fails, or there is no memory, some of it was read.
 pub fn read_log<S: Source>(alloc: Global, reader: &mut S) -> Result<Vec<u8>, ImportFault>
     ensures log { IfOk result (λ log. Reads (S.stream reader.old) (S.stream reader.new) (λ input unread. input ≡ log.items)) }
@@ -62,40 +35,11 @@ pub fn read_log<S: Source>(alloc: Global, reader: &mut S) -> Result<Vec<u8>, Imp
     ensures read { result ≡ Err ImportFault.ReadFailed → HasStopped (S.failed reader.new) (S.reads reader.new) }
     ensures write { result ≡ Err ImportFault.WriteFailed → ⊥ }
 {
-    let Ok(mut chunk) = new_chunk(alloc) else {
-        return Err(ImportFault::NoMemory);
-    };
-    let mut log: Vec<u8> = Vec::new(alloc);
-    'reads: loop {
-        let count = match read_chunk(&mut chunk, reader) {
-            Ok(count) => count,
-            Err(_) => return Err(ImportFault::ReadFailed),
-        };
-        if count == 0 {
-            return Ok(log);
-        }
-        if let Err(_) = log.extend_from_slice(&chunk[..count]) {
-            return Err(ImportFault::NoMemory);
-        }
+    match read_all(alloc, reader) {
+        Ok(log) => Ok(log),
+        Err(Unread::ReadFailed) => Err(ImportFault::ReadFailed),
+        Err(Unread::NoMemory) => Err(ImportFault::NoMemory),
     }
-}
-
-/// Writes all of the bytes, which have gone out then. At an `Err` a front of them was written.
-pub fn write_out<W: Sink>(writer: &mut W, bytes: &[u8]) -> Result<(), ImportFault>
-    ensures ok { OnOk result (Appends (W.contents writer.old) (W.contents writer.new) bytes.now) }
-    ensures out { OnOk result (W.is_flushed writer.new ≡ true) }
-    ensures kept { OnOk result (W.failed writer.new ≡ W.failed writer.old) }
-    ensures front { OnErr result (AppendsFront (W.contents writer.old) (W.contents writer.new) bytes.now) }
-    ensures err { OnErr result (W.failed writer.new ≡ true) }
-    ensures fault { IfErr result (λ f. f ≡ ImportFault.WriteFailed) }
-{
-    if let Err(_) = write_all(writer, bytes) {
-        return Err(ImportFault::WriteFailed);
-    }
-    if let Err(_) = writer.flush() {
-        return Err(ImportFault::WriteFailed);
-    }
-    Ok(())
 }
 
 // Writes the trace of a log, and answers how many lines were kept, changed and left out.

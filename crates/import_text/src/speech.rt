@@ -1,11 +1,11 @@
 //! Which thread a line of strace is about, and what it says of it.
-ghost use Rattle.std.specs.Prelude.{◌≡◌, ◌<◌, ◌∷◌, IfOk, length, map, option_map};
+ghost use Rattle.std.specs.Prelude.{◌≡◌, ◌<◌, IfOk, map, option_map};
 ghost use Rattle.trace_io.specs.Lines.{lines_of};
 ghost use Rattle.import_text.specs.Speech.{begun_of, numbered, returned_of, spoken, speech_of};
 
 use crate::tokens::{next_count, next_token};
-use memchr::memchr;
 use std::alloc::{AllocError, Global};
+use trace_io::lines::front_line;
 
 /// What a line says, and of which thread.
 #[derive(Clone, Copy, Debug)]
@@ -39,30 +39,6 @@ pub fn read_speech(line: &[u8]) -> Speech<'_>
             thread: 0,
             text: line,
         },
-    }
-}
-
-// What follows all of the bytes: nothing.
-fn nothing_after(log: &[u8]) -> &[u8]
-    ensures { length result.now ≡ 0 }
-{
-    let (_, rest) = log.split_at(log.len());
-    rest
-}
-
-/// The first line, without its newline, and what follows it.
-pub fn front_line(log: &[u8]) -> (&[u8], &[u8])
-    requires { 0 < length log.now }
-    ensures lines { lines_of log.now ≡ result.0.now ∷ lines_of result.1.now }
-    ensures less { length result.1.now < length log.now }
-{
-    match memchr(b'\n', log) {
-        Some(end) => {
-            let (line, _) = log.split_at(end);
-            let (_, rest) = log.split_at(end + 1);
-            (line, rest)
-        }
-        None => (log, nothing_after(log)),
     }
 }
 

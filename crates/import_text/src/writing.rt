@@ -4,11 +4,11 @@ ghost use Rattle.std.specs.List.{flat_map};
 ghost use Rattle.trace_text.specs.Printing.{address_of};
 ghost use Rattle.trace_text.specs.Spelling.{rights_text};
 ghost use Rattle.import_text.specs.Taking.{so_far, use_of};
-ghost use Rattle.import_text.specs.Texts.{asked_text, backing_text, first_line, imported_text, kind_text, mark_text, range_text, step_line, use_line, use_lines};
+ghost use Rattle.import_text.specs.Texts.{asked_text, backing_text, first_line, imported_text, kind_text, range_text, step_line, use_line, use_lines};
 
 use crate::taking::{FileUse, Step, Taken};
 use std::alloc::{AllocError, Global};
-use trace_text::{LineText, address_text, push_number, push_rights};
+use trace_text::{LineText, push_address, push_count, push_letter, push_number, push_rights};
 use vm_base::{Flags, Request};
 
 /// How many frames the space of a trace without accesses has: lines that are added by hand may need some.
@@ -16,26 +16,6 @@ pub const FRAMES: u64 = 256;
 
 /// How many calls an imported trace may ask for at least.
 pub const CALLS: u64 = 4096;
-
-// Appends a space and the address.
-fn push_address(text: &mut LineText, address: u64)
-    requires { length text.old.bytes + 21 ≤ 256 }
-    ensures bytes { text.new.bytes ≡ text.old.bytes ++ codes " " ++ address_of address }
-    ensures short { length text.new.bytes ≤ length text.old.bytes + 21 }
-{
-    text.push_str(" ");
-    text.push_str(address_text(address).as_str());
-}
-
-// Appends a space and the number.
-fn push_count(text: &mut LineText, number: u64)
-    requires { length text.old.bytes + 21 ≤ 256 }
-    ensures bytes { text.new.bytes ≡ text.old.bytes ++ codes " " ++ decimal number }
-    ensures short { length text.new.bytes ≤ length text.old.bytes + 21 }
-{
-    text.push_str(" ");
-    push_number(text, number);
-}
 
 // Appends a range's address and length, each behind a space.
 fn push_range(text: &mut LineText, addr: u64, len: u64)
@@ -47,18 +27,6 @@ fn push_range(text: &mut LineText, addr: u64, len: u64)
     push_count(text, len);
 }
 
-// Appends a flag's letter, if it is set.
-fn push_mark(text: &mut LineText, is_set: bool, letter: &str)
-    requires room { length text.old.bytes + 1 ≤ 256 }
-    requires one { length letter.now ≤ 1 }
-    ensures bytes { text.new.bytes ≡ text.old.bytes ++ mark_text is_set letter.now }
-    ensures short { length text.new.bytes ≤ length text.old.bytes + 1 }
-{
-    if is_set {
-        text.push_str(letter);
-    }
-}
-
 // Appends a space and the flags' letters.
 fn push_kind(text: &mut LineText, flags: Flags)
     requires { length text.old.bytes + 5 ≤ 256 }
@@ -66,10 +34,10 @@ fn push_kind(text: &mut LineText, flags: Flags)
     ensures short { length text.new.bytes ≤ length text.old.bytes + 5 }
 {
     text.push_str(" ");
-    push_mark(text, flags.private, "p");
-    push_mark(text, flags.shared, "s");
-    push_mark(text, flags.fixed, "f");
-    push_mark(text, flags.anon, "a");
+    push_letter(text, flags.private, "p");
+    push_letter(text, flags.shared, "s");
+    push_letter(text, flags.fixed, "f");
+    push_letter(text, flags.anon, "a");
 }
 
 // Appends the file and the offset, where the mapping isn't anonymous.

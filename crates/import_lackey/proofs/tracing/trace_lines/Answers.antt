@@ -1,5 +1,5 @@
 use Rattle.std.proofs.Common.{length, arith, ap}
-use Rattle.import_text.proofs.SpeechLemmas.{few_lines}
+use Rattle.trace_io.proofs.TextLemmas.{few_lines}
 use Rattle.import_lackey.proofs.tracing.trace_lines.Goals as goal
 
 pub and-counts-requires : goal.and-counts-requires

@@ -1,5 +1,5 @@
 use Rattle.std.proofs.Common.{length, arith, ap}
-use Rattle.import_text.proofs.SpeechLemmas.{few_lines}
+use Rattle.trace_io.proofs.TextLemmas.{few_lines}
 use Rattle.import_maps.proofs.starting.read_list.Goals as goal
 
 pub and-entries-requires : goal.and-entries-requires
