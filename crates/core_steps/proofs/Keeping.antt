@@ -1,15 +1,14 @@
 -- What steps keep: what the machine was made with, which calls were begun, unless one begins, where slots begin, unless some are joined, and what pages have
 -- that the step doesn't change. Events only rise.
-use Rattle.std.proofs.Common.{◌≡◌, ◌≢◌, ℕ, ◌≤◌, ◌==◌, true, false, refl, sym, ap, ◌∙◌, subst, arith, Option}
+use Rattle.std.proofs.Common.{◌≡◌, ◌≢◌, ℕ, ◌≤◌, true, false, refl, sym, ap, ◌∙◌, subst, arith, Option}
 use Rattle.std.proofs.lemmas.Bool.Decides.{nat_tests}
 use Rattle.vm_base.specs.declared.info.PageInfo.{PageInfo}
 use Rattle.vm_base.specs.declared.page.PageRange.{PageRange}
 use Rattle.vm_base.specs.declared.requests.Request.{Request}
 use Rattle.vm_base.specs.Functions.{has, put}
+use Rattle.vm_base.proofs.Functions.{put_other}
 use Rattle.slot_lock.specs.declared.plan.Change.{Change}
-use Rattle.slot_lock.specs.declared.plan.Change.TheVariants.{Put, Clear, Protect}
 use Rattle.slot_lock.specs.declared.plan.Touch.{Touch}
-use Rattle.slot_lock.specs.Plan.{range_of}
 use Rattle.slot_lock.specs.Changes.{changed}
 use Rattle.slot_lock.specs.Slots.{Slots}
 use Rattle.machine_model.specs.declared.event.Event.{Event}
@@ -19,6 +18,7 @@ use Rattle.machine_model.specs.declared.phase.Phase.{Phase}
 use Rattle.machine_model.specs.Holding.{page_of_touch, some_has}
 use Rattle.machine_model.specs.World.{World}
 use Rattle.machine_model.specs.Step.{Step, with_event}
+use Rattle.machine_laws.proofs.Changed.{changed_edge, same_outside}
 use Rattle.machine_laws.proofs.Shapes.{Shape, rests, begins, ends, goes, aims, gives_up, works, joins, Comes, stopped, acts, comes}
 use Rattle.machine_laws.proofs.Shapes.{GoesBy, moves, divides, cuts, fits, owns, lets_go, answers, posts, commits, takes, zeroes, first_copies}
 use Rattle.machine_laws.proofs.Shapes.{caches, shares, posts_copy, copies, installs, accesses, faults, IsGoing, going, picking}
@@ -30,9 +30,7 @@ abbrev Stay : Slots → Slots → Type 0
 Stay s t = (p : ℕ) → s.edge p ≡ true → t.edge p ≡ true
 
 pub changed_edges : (s : Slots) (change : Change) → (changed s change).edge ≡ s.edge
-changed_edges s (Put range meta) = refl
-changed_edges s (Clear range) = refl
-changed_edges s (Protect range prot) = refl
+changed_edges s change = changed_edge s change
 
 -- ---- a call that goes on, or a core that works beside its call, where pages of this range alone may change
 
@@ -60,15 +58,9 @@ outside : (w : World) (c : ℕ) (phase : Phase) (p : ℕ) → w.calls.phase c �
     → some_has (changes_in phase) p ≡ false
 outside w c phase p e h = subst (λ x. some_has (changes_in x) p ≡ false) e h
 
-change_keeps : (s : Slots) (change : Change) (p : ℕ) → has (range_of change) p ≡ false → (changed s change).info p ≡ s.info p
-change_keeps s (Put range meta) p h = rw h refl
-change_keeps s (Clear range) p h = rw h refl
-change_keeps s (Protect range prot) p h = rw h refl
-
 put_keeps : (s : ℕ → Option PageInfo) (touch : Touch) (info : Option PageInfo) (p : ℕ) → has (page_of_touch touch) p ≡ false
     → put s touch.page info p ≡ s p
-put_keeps s touch info p h =
-    let other : (p == touch.page) ≡ false = grind (arith, nat_tests) in rw other refl
+put_keeps s touch info p h = put_other s touch.page info p (grind (arith, nat_tests))
 
 goes_on : (w : World) (c : ℕ) (v : World) → GoesBy w c v → Leaves (changes_in (w.calls.phase c)) w v
 goes_on w c v (moves new m h) = alike _ w v _ h (refl, refl, refl) refl refl
@@ -84,7 +76,7 @@ goes_on w c v (lets_go held b t new l u h) =
 goes_on w c v (answers held reply r h) = alike _ w v _ h (refl, refl, refl) refl refl
 goes_on w c v (posts change shoot e h) = alike _ w v _ h (refl, refl, refl) refl refl
 goes_on w c v (commits goal change counts e n l h) =
-    left _ w v _ h (refl, refl, refl) (λ p b. ap (λ f. f p) (changed_edges w.slots change) ∙ b) (λ p o. change_keeps w.slots change p (outside w c _ p e o))
+    left _ w v _ h (refl, refl, refl) (λ p b. ap (λ f. f p) (changed_edges w.slots change) ∙ b) (λ p o. same_outside w.slots change p (outside w c _ p e o))
 goes_on w c v (takes touch old f e l h) = alike _ w v _ h (refl, refl, refl) refl refl
 goes_on w c v (zeroes touch f counts e b t h) =
     left _ w v _ h (refl, refl, refl) (λ p b. b) (λ p o. put_keeps w.slots.info touch _ p (outside w c _ p e o))

@@ -1,17 +1,21 @@
 -- What a step of an engine does, and which steps may be refused for memory: those at which a slot
 -- is to be divided or cut, those that install the first entry of a table of the last level, and,
 -- where the log keeps its entries, those that make a copy of a private page, which the log is to have
-use Rattle.std.specs.Prelude.{◌≡◌, ℕ, ◌<◌, ◌⊎◌, Bool, true, false, Option, None, Some, IfSome, Result, Ok, Err}
+use Rattle.std.specs.Prelude.{◌≡◌, ◌≢◌, ℕ, ◌<◌, ◌⊎◌, Bool, true, false, Option, None, Some, IfSome, Result, Ok, Err, is_some}
 use Rattle.vm_base.specs.declared.replies.Reply.{Reply}
-use Rattle.vm_base.specs.Pages.{IsPage}
+use Rattle.vm_base.specs.declared.page.PageRange.{PageRange}
+use Rattle.vm_base.specs.Info.{frame_of}
+use Rattle.vm_base.specs.Pages.{IsPage, IsPageRange}
 use Rattle.mmu.specs.Tables.{IsEmptyBeside}
 use Rattle.slot_lock.specs.declared.plan.Goal.{Goal}
 use Rattle.slot_lock.specs.declared.plan.Goal.TheVariants as To
 use Rattle.slot_lock.specs.declared.plan.Touch.{Touch}
 use Rattle.slot_lock.specs.declared.plan.Plan.{Plan}
 use Rattle.slot_lock.specs.declared.plan.Plan.TheVariants as PlanOf
-use Rattle.slot_lock.specs.Plan.{IsSound, IsSoundGoal, IsSoundTouch, goal_range}
-use Rattle.slot_lock.specs.Slots.{Slots, Crosses, IsCrossed}
+use Rattle.slot_lock.specs.declared.plan.Change.{Change}
+use Rattle.slot_lock.specs.Changes.{IsMappedFor}
+use Rattle.slot_lock.specs.Plan.{IsSound, IsSoundChange, IsSoundGoal, IsSoundTouch, goal_range, range_of}
+use Rattle.slot_lock.specs.Slots.{Slots, Crosses, IsCrossed, IsHeld, IsSlotBy, OwnsAll}
 use Rattle.refcache.specs.Steps.{IsUnused}
 use Rattle.vm_calls.specs.Settling.{is_private_store}
 use Rattle.machine_model.specs.declared.event.Event.{Event}
@@ -20,8 +24,9 @@ use Rattle.machine_model.specs.declared.event.Outcome.{Outcome}
 use Rattle.machine_model.specs.declared.event.Outcome.TheVariants.{Stepped, Idle, Full}
 use Rattle.machine_model.specs.declared.phase.Phase.{Phase}
 use Rattle.machine_model.specs.declared.phase.Phase.TheVariants.{Lock, Guess, Find, Back, Cut, Decide, Post, Acks}
-use Rattle.machine_model.specs.declared.phase.Phase.TheVariants.{Answer, Try, Settle, Want, Fill, CopyPost}
+use Rattle.machine_model.specs.declared.phase.Phase.TheVariants.{Unlock, Answer, Try, Settle, Want, Fill, CopyPost}
 use Rattle.machine_model.specs.declared.phase.Phase.TheVariants.{CopyAcks, Install, Release}
+use Rattle.machine_model.specs.Actions.{after_reply, to}
 use Rattle.machine_model.specs.Changes.{AwaitsNobody, Awaits}
 use Rattle.machine_model.specs.Files.{back_of}
 use Rattle.machine_model.specs.Holding.{awaits_in, is_open, taken_in}
@@ -31,6 +36,7 @@ use Rattle.machine_model.specs.World.{World, Hardware}
 use Rattle.machine_laws.specs.Orderly.{answer_count}
 use Rattle.machine_sound.specs.Invariant.{IsWellFormed}
 use Rattle.core_steps.specs.Filling.{IsAloneAt}
+use Rattle.core_steps.specs.Taking.{AreCounted}
 
 -- ---- want of memory
 
@@ -78,6 +84,13 @@ goal_in (CopyAcks touch frame) = Some (To.Access touch)
 goal_in (Install touch) = Some (To.Access touch)
 goal_in (Release touch) = Some (To.Access touch)
 goal_in _ = None
+
+-- ---- where a call goes on
+
+-- the call goes on in a phase, or is answered, while it holds these pages
+abbrev pub goes_or_ends : ℕ → Option PageRange → Result Phase Reply → World → World
+goes_or_ends core held (Ok phase) w = to core phase w
+goes_or_ends core held (Err reply) w = after_reply core held reply w
 
 -- ---- copies
 
@@ -139,6 +152,49 @@ pub record IsTaken (w : World) (f : ℕ) : Type 0 where
   pub object : f < w.memory.counts.objects
   pub unused : IsUnused w.memory.counts f
 
+-- the page whose slot is to be locked next
+abbrev pub cursor_in : Phase → Option ℕ
+cursor_in (Lock goal cursor) = Some cursor
+cursor_in _ = None
+
+-- the pages whose first slot is to be unlocked next
+abbrev pub left_in : Phase → Option PageRange
+left_in (Back place target held) = Some held
+left_in (Unlock held reply) = Some held
+left_in _ = None
+
+-- it can be
+pub record CanUnlock (s : Slots) (core : ℕ) (pages : PageRange) : Type 0 where
+  pub held : s.owner pages.first ≡ Some core
+  pub slot : IsSlotBy s pages.first pages.end
+
+-- the pages at whose edges slots are to be cut
+abbrev pub cut_in : Phase → Option PageRange
+cut_in (Cut place target range) = Some range
+cut_in _ = None
+
+-- they can be
+pub record CanCut (s : Slots) (core : ℕ) (range : PageRange) : Type 0 where
+  pub valid : IsPageRange range
+  pub held : OwnsAll s core range.first range.end
+
+-- the change that is to be made
+abbrev pub change_in : Phase → Option Change
+change_in (Acks goal change) = Some change
+change_in _ = None
+
+-- it can be
+pub record CanChange (s : Slots) (core : ℕ) (change : Change) : Type 0 where
+  pub sound : IsSoundChange change
+  pub held : IsHeld s core (range_of change)
+  pub mapped : IsMappedFor s change
+
+-- the page of an access that has its frame, or the one of which a copy is due
+abbrev pub framed_in : Phase → Option ℕ
+framed_in (CopyAcks touch frame) = Some touch.page
+framed_in (Install touch) = Some touch.page
+framed_in _ = None
+
 -- and its call is in this phase. What follows from that is named here once, for all steps.
 pub record IsAt (w : World) (core : ℕ) (at : Phase) : Type 0 where
   pub here : core < w.made.cores
@@ -152,6 +208,12 @@ pub record IsAt (w : World) (core : ℕ) (at : Phase) : Type 0 where
   pub counted : core < w.memory.counts.cores
   pub objects : (f : ℕ) → f < w.made.frames → f < w.memory.counts.objects
   pub idle : awaits_in at ≡ None → AwaitsNobody w.hardware core
+  pub ahead : IfSome (cursor_in at) (λ p. w.slots.owner p ≢ Some core)
+  pub left : IfSome (left_in at) (CanUnlock w.slots core)
+  pub cut : IfSome (cut_in at) (CanCut w.slots core)
+  pub change : IfSome (change_in at) (CanChange w.slots core)
+  pub framed : IfSome (framed_in at) (λ p. is_some (frame_of (w.slots.info p)) ≡ true)
+  pub users : AreCounted w.slots w.memory.counts
 
 -- ---- an access
 

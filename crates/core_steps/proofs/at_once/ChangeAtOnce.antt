@@ -39,7 +39,7 @@ use Rattle.core_steps.specs.OnePage.{later, replied}
 use Rattle.core_steps.specs.PageChange.{IsAlone, IsPageChange}
 use Rattle.core_steps.specs.Taking.{IsCounted}
 use Rattle.core_steps.proofs.engine.Each.{own_dropped}
-use Rattle.core_steps.proofs.rows.Known.{are_counted, only_page, pages_counted, shot_just}
+use Rattle.core_steps.proofs.rows.Known.{only_page, page_counted, shot_just}
 use Rattle.core_steps.proofs.at_once.AtOnce.{answered, goes, held, holding, locked, to_same}
 
 -- a change changes nothing but what pages have, whoever holds them
@@ -63,11 +63,7 @@ module _ {w : World} {c : ℕ} {change : Change} {page : FreePage} {d : Decision
       go : (o : Option ℕ) → frame_of page.info ≡ o → IfSome o (IsCounted w.memory.counts)
       go None e = tt
       go (Some f) e =
-          let had : frame_of (w.slots.info (range_of change).first) ≡ Some f = ap frame_of (sym i.found.info) ∙ e in
-          record {
-            object = (are_counted w i.at.well).object (range_of change).first f had;
-            used = ∥∥₁_elim i.at.well (hlevel props) (λ g. pages_counted w g (range_of change).first f had);
-          }
+          page_counted w (range_of change).first f i.at.well (ap frame_of (sym i.found.info) ∙ e)
 
 -- ---- a change that is refused
 

@@ -117,7 +117,7 @@ without_none : (s : ℕ → Bool) (es : List TlbEntry) → Every (λ (e : TlbEnt
 without_none s [] none = refl
 without_none s (e ∷ es) none = rw none.0 (ap (λ xs. e ∷ xs) (without_none s es none.1))
 
-nothing_dropped : (h : Hardware) (core : ℕ) (range : PageRange) → HasDropped (h.table core) (h.tlb core) range None
+pub nothing_dropped : (h : Hardware) (core : ℕ) (range : PageRange) → HasDropped (h.table core) (h.tlb core) range None
     → tlb_invalidated (tables_cleared h core range) core range ≡ h
 nothing_dropped h core range none =
     ap (λ t. tlb_invalidated (record h { table = t }) core range) (put_id h.table core _ (over_id (h.table core) (has range) None none.0))
@@ -129,15 +129,6 @@ pub own_dropped : (h : Hardware) (core set : ℕ) (range : PageRange) → IsAlon
     → after_shot h core set range ≡ tlb_invalidated (tables_cleared h core range) core range
 own_dropped h core set range alone =
     ap (λ b. record (tlb_invalidated (tables_cleared h core range) core range) { inbox = b }) (fun_ext (λ d. rw (alone d) refl))
-
--- the core of the set that is shot is this one, or there is none
-pub shot_alone : (h0 h1 : Hardware) (core set : ℕ) (range : PageRange) → IsAlone set core
-    → h1 ≡ tlb_invalidated (tables_cleared h0 core range) core range → h1 ≡ after_shot h0 core set range
-shot_alone h0 h1 core set range alone e = e ∙ sym (own_dropped h0 core set range alone)
-
-pub shot_nobody : (h : Hardware) (core set : ℕ) (range : PageRange) → IsAlone set core → HasDropped (h.table core) (h.tlb core) range None
-    → h ≡ after_shot h core set range
-shot_nobody h core set range alone none = sym (own_dropped h core set range alone ∙ nothing_dropped h core range none)
 
 pub shot_set : (h0 h2 : Hardware) (core set to : ℕ) (range : PageRange) (boxes : ℕ → List Message)
     → h2 ≡ tlb_invalidated (tables_cleared h0 core range) core range

@@ -1,23 +1,22 @@
 -- What the code learns of the core that is to make a step: it knows only that the state is one that runs reach
-use Rattle.std.proofs.Common.{◌≡◌, ◌≢◌, ℕ, ◌+◌, ◌<◌, ◌==◌, ◌||◌, Bool, true, false, List, [], ◌∷◌, Option, Some, None}
-use Rattle.std.proofs.Common.{is_some, refl, sym, subst, ap, arith, cond, ◌∙◌, pos, ◌<ℤ◌, ◌&&◌, nat_lt}
+use Rattle.std.proofs.Common.{◌≡◌, ◌≢◌, ℕ, ◌+◌, ◌<◌, Bool, true, false, List, [], ◌∷◌, Option, Some, None}
+use Rattle.std.proofs.Common.{is_some, refl, sym, subst, ap, arith, cond, ◌∙◌, ◌&&◌, nat_lt}
 use Rattle.std.specs.Prelude.{if◌then◌else◌, IfSome, ◌↔◌}
 use Rattle.std.proofs.Math.Logic.{∥∥₁_elim, ∥∥₁_map}
 use Rattle.std.proofs.Props.{props}
+use Rattle.std.proofs.lemmas.Bool.{or_left, or_right}
 use Rattle.std.proofs.lemmas.Bool.Decides.{nat_tests}
-use Rattle.std.proofs.lemmas.Int.{ints}
 use Rattle.vm_base.specs.declared.info.PageInfo.{PageInfo}
 use Rattle.vm_base.specs.declared.page.PageRange.{PageRange}
 use Rattle.vm_base.specs.declared.rights.Access.{Access}
 use Rattle.vm_base.specs.declared.rights.Access.TheVariants.{Load, Store, Fetch}
 use Rattle.vm_base.specs.declared.rights.Prot.{Prot}
 use Rattle.vm_base.specs.Cores.{members}
-use Rattle.vm_base.specs.Functions.{has}
 use Rattle.vm_base.specs.Pages.{IsPage, IsPageRange, are_pages, is_page}
 use Rattle.vm_base.specs.Info.{frame_of}
 use Rattle.vm_base.specs.Plain.{File}
 use Rattle.vm_base.specs.Rights.{is_allowed}
-use Rattle.vm_base.proofs.Functions.{in_has, eq_true}
+use Rattle.vm_base.proofs.Functions.{has_in, in_has}
 use Rattle.slot_lock.specs.declared.plan.Change.{Change}
 use Rattle.slot_lock.specs.declared.plan.Change.TheVariants.{Put, Clear, Protect}
 use Rattle.slot_lock.specs.declared.plan.Plan.{Plan}
@@ -26,23 +25,20 @@ use Rattle.slot_lock.specs.declared.plan.Touch.{Touch}
 use Rattle.slot_lock.specs.declared.plan.Goal.{Goal}
 use Rattle.slot_lock.specs.declared.plan.Goal.TheVariants as To
 use Rattle.slot_lock.specs.Plan.{goal_plan, goal_range, range_of, HasTarget, IsSound, IsSoundGoal, IsSoundTouch}
-use Rattle.slot_lock.specs.Slots.{Slots, IsHeld, IsUser}
+use Rattle.slot_lock.specs.Slots.{Slots, IsHeld, IsUser, between}
+use Rattle.slot_lock.proofs.Divisions.{slot_by}
 use Rattle.vm_calls.specs.declared.decision.Decision.TheVariants.{Act}
 use Rattle.vm_calls.specs.Decisions.{DecidesChange}
 use Rattle.vm_calls.specs.Decisions.DecidesProtect.{no_page, no_write, acts}
 use Rattle.vm_calls.proofs.Passed.{checked_is_sound}
 use Rattle.mmu.specs.declared.entry.Translation.{Translation}
-use Rattle.mmu.specs.declared.tlb.TlbEntry.{TlbEntry}
-use Rattle.mmu.specs.declared.translated.Translated.TheVariants as By
-use Rattle.mmu.specs.Entry.{has_right, permits, translation_of}
-use Rattle.mmu.specs.Tables.{translated}
-use Rattle.mmu.specs.Tlb.{tlb_at}
+use Rattle.mmu.specs.Entry.{has_right}
 use Rattle.shootdown.specs.declared.message.Message.{Message}
 use Rattle.shootdown.specs.declared.message.Took.{Took}
 use Rattle.shootdown.specs.declared.message.Took.TheVariants as TookOf
-use Rattle.shootdown.specs.Messages.{asked, message_of}
+use Rattle.shootdown.specs.Messages.{asked}
 use Rattle.refcache.specs.declared.reports.Review.TheVariants as review
-use Rattle.refcache.specs.Counts.{Counts, true_count}
+use Rattle.refcache.specs.Counts.{Counts}
 use Rattle.refcache.specs.Sound.{AreReached}
 use Rattle.refcache.specs.Steps.{Takes, Reviewing, IsUnused}
 use Rattle.refcache.proofs.Reached.{reached_is_orderly}
@@ -52,19 +48,29 @@ use Rattle.machine_model.specs.declared.phase.Phase.TheVariants.{Settle, Want, F
 use Rattle.machine_model.specs.World.{World}
 use Rattle.machine_model.specs.Changes.{AwaitsNobody}
 use Rattle.machine_model.specs.Files.{is_private, shows_some, prot_shown, prot_installed}
-use Rattle.machine_model.specs.Holding.{can_give_up, awaits_in, holds, is_open, page_of_touch, range_held, some_has, taken_in}
-use Rattle.machine_model.specs.Translating.{entry_for, entry_of_page, translated_by, frame_reached}
-use Rattle.machine_counting.proofs.Kept.{counted_positive, framed_page}
-use Rattle.machine_laws.specs.Orderly.{IsOrderly, IsAsked, IsCutFor, IsCutRange, IsUsable, Serves, answer_count}
-use Rattle.machine_laws.proofs.Deciding.{acts_valid, sound_range}
+use Rattle.machine_model.specs.Holding.{awaits_in, is_open, page_of_touch, range_held, some_has, taken_in}
+use Rattle.machine_model.specs.Translating.{translated_by, frame_reached}
+use Rattle.machine_counting.proofs.Kept.{counted_positive}
+use Rattle.machine_laws.specs.Orderly.{IsOrderly, IsAsked, IsCutFor, IsUsable, Serves, answer_count}
+use Rattle.machine_laws.proofs.Deciding.{acts_in, acts_valid, sound_range}
+use Rattle.machine_laws.proofs.Going.{call_sound, page_range}
 use Rattle.machine_laws.proofs.Moves.{call_at, IsCallOf}
 use Rattle.machine_laws.proofs.OpenCalls.{one, open_put}
-use Rattle.machine_coherence.specs.Coherent.{Every, IsSoundEntry, AreAsked}
+use Rattle.machine_coherence.specs.Coherent.{AreAsked}
+use Rattle.machine_coherence.proofs.Lists.{none_sent}
 use Rattle.machine_sound.specs.Invariant.{IsWellFormed}
+use Rattle.machine_sound.proofs.Reaching.{backs, reaches}
 use Rattle.core_steps.specs.Filling.{IsAloneAt}
-use Rattle.core_steps.specs.Moving.{IsAt, IsTaken, goal_in, page_in, plan_in}
-use Rattle.core_steps.specs.Taking.{AreCounted}
+use Rattle.core_steps.specs.Moving.{IsAt, IsTaken, CanUnlock, CanCut, CanChange}
+use Rattle.core_steps.specs.Moving.{goal_in, page_in, plan_in, cursor_in, left_in, cut_in, change_in, framed_in}
+use Rattle.core_steps.specs.Taking.{IsCounted}
+use Rattle.core_steps.proofs.rows.Changing.{act_sound, act_mapped}
 use Rattle.core_steps.proofs.rows.Sounding.{goal_if, sound_if}
+
+-- what holds of the value that there is, if there is one
+pub if_some : {A : Type 0} (o : Option A) (P : A → Type 0) → ((x : A) → o ≡ Some x → P x) → IfSome o P
+if_some None P h = tt
+if_some (Some x) P h = h x refl
 
 -- ---- what is known of a call in its phase
 
@@ -82,24 +88,17 @@ frame_counted w f t h = ∥∥₁_elim t (hlevel props) (λ g. subst (λ n. f < 
 pub free_below : (w : World) → ∥ IsWellFormed w ∥₁ → (f : ℕ) → w.memory.is_free f ≡ true → f < w.made.frames
 free_below w t f e = ∥∥₁_elim t (hlevel props) (λ g. g.order.memory.free f e)
 
--- a message is of a core that waits for its pages
-asked_by : (phase : ℕ → Phase) (d c : ℕ) (ms : List Message) (m : Message) → AreAsked phase d ms → message_of ms c ≡ Some m → awaits_in (phase c) ≡ Some m.range
-asked_by phase d c [] m k h = absurd cc
-asked_by phase d c (x ∷ ms) m k h = go (x.from == c) (asked_by phase d c ms m k.3) refl h
-  where
-    go : (b : Bool) → (message_of ms c ≡ Some m → awaits_in (phase c) ≡ Some m.range) → (x.from == c) ≡ b
-        → (if b then Some x else message_of ms c) ≡ Some m → awaits_in (phase c) ≡ Some m.range
-    go true rest e i =
-        let from : x.from ≡ c = eq_true x.from c e in
-        let same : x ≡ m = cc in
-        ap (λ n. awaits_in (phase n)) (sym from) ∙ (k.1 ∙ ap (λ y. Some y.range) same)
-    go false rest e i = rest i
+-- the frame of a page is counted
+pub page_counted : (w : World) (p f : ℕ) → ∥ IsWellFormed w ∥₁ → frame_of (w.slots.info p) ≡ Some f → IsCounted w.memory.counts f
+page_counted w p f t h =
+    ∥∥₁_elim t (hlevel props) (λ g. record {
+      object = subst (λ n. f < n) (sym g.order.memory.objects) ((g.order.pages p).frame f h);
+      used = counted_positive w g.order g.counted f p h;
+    })
 
-pub touch_range : (touch : Touch) → IsSoundTouch touch → IsPageRange (page_of_touch touch)
-touch_range touch h = record { some = omega arith; low = h.page.0; high = let last = h.page.1 in omega (arith, last) }
-
-pub page_is : (touch : Touch) → has (page_of_touch touch) touch.page ≡ true
-page_is touch = in_has (page_of_touch touch) touch.page (omega arith) (omega arith)
+usable_framed : (file : ℕ → Option File) (o : Option PageInfo) (access : Access) (f : ℕ) → IsUsable file o access (Some f) → is_some (frame_of o) ≡ true
+usable_framed file None access f u = absurd u
+usable_framed file (Some info) access f u = ap is_some u.2
 
 module _ (w : World) (c : ℕ) (here : c < w.made.cores) (fine : ∥ IsWellFormed w ∥₁) where
   -- room for a reply
@@ -115,19 +114,18 @@ module _ (w : World) (c : ℕ) (here : c < w.made.cores) (fine : ∥ IsWellForme
   sound phase plan e serves = sound_if plan (∥∥₁_map fine (λ g. served w c plan g.order here (serves (call_at w c phase e g.order).asked)))
 
   -- and so is its goal, where its target is of its mapping
-  reaches : (phase : Phase) (goal : Goal) → w.calls.phase c ≡ phase
+  aims : (phase : Phase) (goal : Goal) → w.calls.phase c ≡ phase
       → (IsAsked w.made w.calls.requests c (w.calls.number c) phase → Serves w.made w.calls.requests c (w.calls.number c) (goal_plan goal))
       → (IsCallOf w c phase → HasTarget goal) → IsSoundGoal goal
-  reaches phase goal e serves has_target =
+  aims phase goal e serves has_target =
       goal_if goal (∥∥₁_map fine (λ g.
-      let call = call_at w c phase e g.order in
-      record { plan = served w c (goal_plan goal) g.order here (serves call.asked); target = has_target call }))
+      let call = call_at w c phase e g.order in call_sound w c goal g.order here (serves call.asked) (has_target call)))
 
   goals : (phase : Phase) → w.calls.phase c ≡ phase → IfSome (goal_in phase) IsSoundGoal
-  goals (Lock goal cursor) e = reaches (Lock goal cursor) goal e (λ h. h) (λ call. call.ready.2)
-  goals (Find place target) e = reaches (Find place target) _ e (λ h. h) (λ call. call.ready)
-  goals (Cut place target range) e = reaches (Cut place target range) _ e (λ h. h) (λ call. call.ready.0)
-  goals (Acks goal change) e = reaches (Acks goal change) goal e (λ h. h) (λ call. call.ready.0)
+  goals (Lock goal cursor) e = aims (Lock goal cursor) goal e (λ h. h) (λ call. call.ready.2)
+  goals (Find place target) e = aims (Find place target) _ e (λ h. h) (λ call. call.ready)
+  goals (Cut place target range) e = aims (Cut place target range) _ e (λ h. h) (λ call. call.ready.0)
+  goals (Acks goal change) e = aims (Acks goal change) goal e (λ h. h) (λ call. call.ready.0)
   goals Free e = tt
   goals (Check request) e = tt
   goals (Guess place) e = tt
@@ -135,7 +133,7 @@ module _ (w : World) (c : ℕ) (here : c < w.made.cores) (fine : ∥ IsWellForme
   goals (Unlock held reply) e = tt
   goals (Answer reply) e = tt
   goals (Try touch) e = tt
-  goals phase e = reaches phase _ e (λ h. h) (λ call. tt)
+  goals phase e = aims phase _ e (λ h. h) (λ call. tt)
 
   plans : (phase : Phase) → w.calls.phase c ≡ phase → IfSome (plan_in phase) IsSound
   plans (Guess place) e = sound (Guess place) _ e (λ h. h)
@@ -143,18 +141,29 @@ module _ (w : World) (c : ℕ) (here : c < w.made.cores) (fine : ∥ IsWellForme
   plans (Try touch) e = sound (Try touch) _ e (λ h. h)
   plans phase e = tt
 
+  -- what it holds
+  held : (phase : Phase) (range : PageRange) → w.calls.phase c ≡ phase → range_held phase ≡ Some range → (IsCallOf w c phase → IsPageRange range)
+      → IsHeld w.slots c range
+  held phase range e some pages =
+      ∥∥₁_elim fine (hlevel props) (λ g.
+      let call = call_at w c phase e g.order in
+      let cut = subst (IsCutFor w.slots.edge) some call.cut (pages call).some in
+      record {
+        pages = pages call;
+        cut = record { begins = cut.0; ends = cut.1 };
+        held = λ p a b. call.owned p (ap (λ r. some_has r p) some ∙ in_has range p a b);
+      })
+
   -- the page of an access is a slot of its own
   alone : (phase : Phase) (touch : Touch) → w.calls.phase c ≡ phase → range_held phase ≡ Some (page_of_touch touch) → IsSoundTouch touch
       → IsAloneAt w.slots c touch.page
-  alone phase touch e held s =
-      ∥∥₁_elim fine (hlevel props) (λ g.
-      let call = call_at w c phase e g.order in
-      let cut = subst (IsCutFor w.slots.edge) held call.cut (omega arith) in
+  alone phase touch e some s =
+      let h = held phase (page_of_touch touch) e some (λ call. page_range touch s) in
       record {
         valid = s.page;
-        held = call.owned touch.page (ap (λ r. some_has r touch.page) held ∙ page_is touch);
-        alone = record { ordered = omega arith; begins = cut.0; ends = cut.1; inside = λ p a b. absurd (omega (arith, a, b)) };
-      })
+        held = h.held touch.page (omega arith) (omega arith);
+        alone = record { ordered = omega arith; begins = h.cut.begins; ends = h.cut.ends; inside = λ p a b. absurd (omega (arith, a, b)) };
+      }
 
   pages : (phase : Phase) → w.calls.phase c ≡ phase → IfSome (page_in phase) (IsAloneAt w.slots c)
   pages (Settle touch) e = alone (Settle touch) touch e refl (goals (Settle touch) e).plan
@@ -166,26 +175,86 @@ module _ (w : World) (c : ℕ) (here : c < w.made.cores) (fine : ∥ IsWellForme
   pages (Release touch) e = alone (Release touch) touch e refl (goals (Release touch) e).plan
   pages phase e = tt
 
-  takes : (phase : Phase) → w.calls.phase c ≡ phase → (o : Option ℕ) → taken_in phase ≡ o → IfSome o (IsTaken w)
-  takes phase e None t = tt
-  takes phase e (Some f) t =
-      ∥∥₁_elim fine (hlevel props) (λ g.
+  takes : (phase : Phase) → w.calls.phase c ≡ phase → IfSome (taken_in phase) (IsTaken w)
+  takes phase e =
+      if_some (taken_in phase) (IsTaken w) (λ f t. ∥∥₁_elim fine (hlevel props) (λ g.
       let below = (call_at w c phase e g.order).taken f t in
       record {
         here = below;
         busy = g.counted.busy c f (ap taken_in e ∙ t);
         object = frame_counted w f fine below;
         unused = g.counted.taken c f (ap taken_in e ∙ t);
-      })
+      }))
 
   -- a call that awaits no pages awaits nobody
-  idle : awaits_in (w.calls.phase c) ≡ None → AwaitsNobody w.hardware c
-  idle none d = go (message_of (w.hardware.inbox d) c) refl
-    where
-      go : (m : Option Message) → message_of (w.hardware.inbox d) c ≡ m → is_some m ≡ false
-      go None e = refl
-      go (Some m) e =
-          ∥∥₁_elim fine (hlevel props) (λ g. let asked = asked_by w.calls.phase d c (w.hardware.inbox d) m (g.coherent.asked d) e in absurd cc)
+  idle : (phase : Phase) → w.calls.phase c ≡ phase → awaits_in phase ≡ None → AwaitsNobody w.hardware c
+  idle phase e none d =
+      ∥∥₁_elim fine (hlevel props) (λ g. ap is_some (none_sent w.calls.phase c d (w.hardware.inbox d) (ap awaits_in e ∙ none) (g.coherent.asked d)))
+
+  -- the cursor's page isn't held yet
+  ahead : (phase : Phase) → w.calls.phase c ≡ phase → IfSome (cursor_in phase) (λ p. w.slots.owner p ≢ Some c)
+  ahead (Lock goal cursor) e =
+      ∥∥₁_elim fine (hlevel props) (λ g own.
+      let inside = has_in (between (goal_range goal).first cursor) cursor ((call_at w c (Lock goal cursor) e g.order).only cursor own) in
+      let below = inside.1 in absurd (omega (arith, below)))
+  ahead phase e = tt
+
+  unlocks : (pages : PageRange) → IsHeld w.slots c pages → CanUnlock w.slots c pages
+  unlocks pages h = record {
+    held = h.held pages.first (omega arith) h.pages.some;
+    slot = slot_by w.slots pages.first pages.end h.pages.some h.cut.begins h.cut.ends;
+  }
+
+  left : (phase : Phase) → w.calls.phase c ≡ phase → IfSome (left_in phase) (CanUnlock w.slots c)
+  left (Back place target pages) e = unlocks pages (held (Back place target pages) pages e refl (λ call. call.ready.1.pages))
+  left (Unlock pages reply) e = unlocks pages (held (Unlock pages reply) pages e refl (λ call. call.ready))
+  left phase e = tt
+
+  cuts : (phase : Phase) → w.calls.phase c ≡ phase → IfSome (cut_in phase) (CanCut w.slots c)
+  cuts (Cut place target range) e =
+      ∥∥₁_elim fine (hlevel props) (λ g.
+      let call = call_at w c (Cut place target range) e g.order in
+      let chosen = call.ready.1 in
+      record {
+        valid = acts_valid w.made.file w.slots (To.Place place target) range chosen.0 (goals (Cut place target range) e) chosen.1;
+        held = record {
+          held = λ p a b. call.owned p (acts_in w.made.file w.slots (To.Place place target) range chosen.0 p chosen.1 (in_has range p a b));
+        };
+      })
+  cuts phase e = tt
+
+  -- the change that is to be made is one that the pages held let the call make
+  makes : (goal : Goal) (change : Change) → w.calls.phase c ≡ Acks goal change → IsWellFormed w → CanChange w.slots c change
+  makes goal change e g =
+      let call = call_at w c (Acks goal change) e g.order in
+      let acts = call.ready.2 in
+      let sound = act_sound w goal change (goals (Acks goal change) e) call.ready.1 acts in
+      let pages = sound_range change sound in
+      let cut = call.cut_out pages.some in
+      record {
+        sound = sound;
+        held = record {
+          pages = pages;
+          cut = record { begins = cut.0; ends = cut.1 };
+          held = λ p a b. call.owned p (acts_in w.made.file w.slots goal (range_of change) acts.0 p acts.1 (in_has (range_of change) p a b));
+        };
+        mapped = act_mapped w goal change call.ready.1 acts;
+      }
+
+  changes : (phase : Phase) → w.calls.phase c ≡ phase → IfSome (change_in phase) (CanChange w.slots c)
+  changes (Acks goal (Put range meta)) e = ∥∥₁_elim fine (hlevel props) (makes goal (Put range meta) e)
+  changes (Acks goal (Clear range)) e = ∥∥₁_elim fine (hlevel props) (makes goal (Clear range) e)
+  changes (Acks goal (Protect range prot)) e = ∥∥₁_elim fine (hlevel props) (makes goal (Protect range prot) e)
+  changes phase e = tt
+
+  framed : (phase : Phase) → w.calls.phase c ≡ phase → IfSome (framed_in phase) (λ p. is_some (frame_of (w.slots.info p)) ≡ true)
+  framed (CopyAcks touch frame) e =
+      ∥∥₁_elim fine (hlevel props) (λ g.
+      let u = (call_at w c (CopyAcks touch frame) e g.order).ready in usable_framed w.made.file (w.slots.info touch.page) touch.access u.0 u.1)
+  framed (Install touch) e =
+      ∥∥₁_elim fine (hlevel props) (λ g.
+      let u = (call_at w c (Install touch) e g.order).ready in usable_framed w.made.file (w.slots.info touch.page) touch.access u.0 u.1)
+  framed phase e = tt
 
   pub is_at : (phase : Phase) → w.calls.phase c ≡ phase → IsAt w c phase
   is_at phase e = record {
@@ -196,10 +265,16 @@ module _ (w : World) (c : ℕ) (here : c < w.made.cores) (fine : ∥ IsWellForme
     goal = goals phase e;
     plan = plans phase e;
     page = pages phase e;
-    taken = takes phase e (taken_in phase) refl;
+    taken = takes phase e;
     counted = core_counted w c fine here;
     objects = λ f. frame_counted w f fine;
-    idle = λ none. idle (ap awaits_in e ∙ none);
+    idle = idle phase e;
+    ahead = ahead phase e;
+    left = left phase e;
+    cut = cuts phase e;
+    change = changes phase e;
+    framed = framed phase e;
+    users = record { rest = w; well = fine };
   }
 
 -- ---- the order
@@ -207,68 +282,10 @@ module _ (w : World) (c : ℕ) (here : c < w.made.cores) (fine : ∥ IsWellForme
 pub order : {w : World} {c : ℕ} {phase : Phase} → IsAt w c phase → ∥ IsOrderly w ∥₁
 order i = ∥∥₁_map i.well (λ g. g.order)
 
--- ---- what a call owns
-
-pub owns : (w : World) (c : ℕ) (phase : Phase) → IsAt w c phase → (p : ℕ) → holds phase p ≡ true → w.slots.owner p ≡ Some c
-owns w c phase i p h = ∥∥₁_elim (order i) (hlevel props) (λ g. (call_at w c phase i.phase g).owned p h)
-
-pub owns_not : (w : World) (c : ℕ) (phase : Phase) → IsAt w c phase → (p : ℕ) → holds phase p ≡ false → w.slots.owner p ≢ Some c
-owns_not w c phase i p h =
-    ∥∥₁_elim (order i) (hlevel props) (λ g o. let clash = (call_at w c phase i.phase g).only p o in absurd (cc))
-
--- a slot begins at each end of what it holds
-pub cut_at : (w : World) (c : ℕ) (phase : Phase) (held : PageRange) → IsAt w c phase → range_held phase ≡ Some held → held.first < held.end
-    → IsCutRange w.slots.edge held
-cut_at w c phase held i e some =
-    ∥∥₁_elim (order i) (hlevel props) (λ g. subst (IsCutFor w.slots.edge) e (call_at w c phase i.phase g).cut some)
-
--- ---- what the invariant says of the hardware, the counts and the frames
-
-pub pages_counted : (w : World) → IsWellFormed w → (p f : ℕ) → frame_of (w.slots.info p) ≡ Some f → pos 0 <ℤ true_count w.memory.counts f
-pages_counted w g p f h = counted_positive w g.order g.counted f p h
-
--- what backs a translation: a mapped page of the machine's, which has a frame of the machine's
-backed_here : (w : World) (p core : ℕ) (e : Translation) → IsOrderly w → (o : Option PageInfo) → w.slots.info p ≡ o → entry_of_page w.memory.cached o ≡ Some e
-    → IsPage p × (e.frame < w.made.frames)
-backed_here w p core e g None same h = absurd cc
-backed_here w p core e g (Some info) same h =
-    let at = framed info.frame h in
-    ((g.pages p).valid (ap is_some same), (g.pages p).frame e.frame (ap frame_of same ∙ at))
-  where
-    framed : (o : Option ℕ) → entry_for (prot_installed w.memory.cached info) o ≡ Some e → o ≡ Some e.frame
-    framed None k = absurd cc
-    framed (Some f) k = let same_entry : translation_of f (prot_installed w.memory.cached info) ≡ e = cc in ap (λ x. Some x.frame) same_entry
-
-table_here : (w : World) → IsWellFormed w → (c p : ℕ) (e : Translation) → w.hardware.table c p ≡ Some e → IsPage p × (e.frame < w.made.frames)
-table_here w g c p e h = backed_here w p c e g.order (w.slots.info p) refl (g.coherent.tables c p e h).entry
-
--- the first translation of the page is one that the slot backs
-first_here : (w : World) → IsWellFormed w → (c p : ℕ) (e : Translation) (es : List TlbEntry)
-    → Every (IsSoundEntry w.memory.cached w.slots.info c (w.hardware.table c) (w.hardware.inbox c)) es → tlb_at es p ≡ Some e → e.frame < w.made.frames
-first_here w g c p e [] k h = absurd cc
-first_here w g c p e (x ∷ es) k h = by (x.page == p) (first_here w g c p e es k.1) h
-  where
-    by : (b : Bool) → (tlb_at es p ≡ Some e → e.frame < w.made.frames) → (if b then Some x.translation else tlb_at es p) ≡ Some e → e.frame < w.made.frames
-    by true rest j =
-        let same : x.translation ≡ e = cc in
-        subst (λ t. t.frame < w.made.frames) same
-        (backed_here w x.page c x.translation g.order (w.slots.info x.page) refl k.0.0.entry).1
-    by false rest j = rest j
-
-tlb_here : (w : World) → IsWellFormed w → (c p : ℕ) (e : Translation) → tlb_at (w.hardware.tlb c) p ≡ Some e → e.frame < w.made.frames
-tlb_here w g c p e h = first_here w g c p e (w.hardware.tlb c) (g.coherent.tlbs c) h
-
 -- ---- cores and frames
 
 pub free_unused : (w : World) (f : ℕ) → ∥ IsWellFormed w ∥₁ → w.memory.is_free f ≡ true → IsUnused w.memory.counts f
 free_unused w f t h = ∥∥₁_elim t (hlevel props) (λ g. g.counted.free f h)
-
-pub are_counted : (w : World) → ∥ IsWellFormed w ∥₁ → AreCounted w.slots.info w.memory.counts
-are_counted w t = record {
-  page = λ p f h. ∥∥₁_elim t (hlevel props) (λ g. framed_page w g.order f p h);
-  object = λ p f h. frame_counted w f t (∥∥₁_elim t (hlevel props) (λ g. (g.order.pages p).frame f h));
-  used = λ f. ∥∥₁_elim t (hlevel props) (λ g. let a = g.counted.users f in omega (arith, ints, a));
-}
 
 -- a frame that a review frees isn't free yet: it was queued
 pub freed_frame : (w v : Counts) (c f : ℕ) → AreReached w → Takes w (Reviewing c (review.Freed f)) v → (f < w.objects) × (w.queued f ≡ true)
@@ -291,28 +308,12 @@ freed_busy w c f v t h = go (w.memory.is_free f) refl
 
 -- ---- translations
 
--- the tables have entries of valid pages alone
-pub entry_page : (w : World) (c p : ℕ) (e : Translation) → ∥ IsWellFormed w ∥₁ → w.hardware.table c p ≡ Some e → IsPage p
-entry_page w c p e t h = ∥∥₁_elim t (hlevel props) (λ g. (table_here w g c p e h).0)
-
-pub frame_below : (w : World) (c : ℕ) (touch : Touch) (f : ℕ) → ∥ IsWellFormed w ∥₁ → frame_reached (translated_by w.hardware c touch) ≡ Some f → f < w.made.frames
-frame_below w c touch f t h = go (tlb_at (w.hardware.tlb c) touch.page) (w.hardware.table c touch.page) refl refl h
-  where
-    hits : (e : Translation) (b : Bool) → frame_reached (if b then By.Hit e.frame else By.Fault) ≡ Some f → e.frame ≡ f
-    hits e true k = cc
-    hits e false k = absurd cc
-
-    fills : (e : Translation) (b : Bool) → frame_reached (if b then By.Fill e.frame else By.Fault) ≡ Some f → e.frame ≡ f
-    fills e true k = cc
-    fills e false k = absurd cc
-
-    go : (cached entry : Option Translation) → tlb_at (w.hardware.tlb c) touch.page ≡ cached → w.hardware.table c touch.page ≡ entry
-        → frame_reached (translated cached entry touch.access) ≡ Some f → f < w.made.frames
-    go (Some e) entry a b k =
-        subst (λ n. n < w.made.frames) (hits e (permits e touch.access) k) (∥∥₁_elim t (hlevel props) (λ g. tlb_here w g c touch.page e a))
-    go None (Some e) a b k =
-        subst (λ n. n < w.made.frames) (fills e (permits e touch.access) k) (∥∥₁_elim t (hlevel props) (λ g. (table_here w g c touch.page e b).1))
-    go None None a b k = absurd cc
+pub frame_below : (w : World) (c : ℕ) (touch : Touch) (f : ℕ) → ∥ IsWellFormed w ∥₁ → frame_reached (translated_by w.hardware c touch) ≡ Some f
+    → f < w.made.frames
+frame_below w c touch f t h =
+    ∥∥₁_elim t (hlevel props) (λ g.
+    let at = reaches w.memory.cached w.slots.info w.calls.phase w.hardware c touch f g.coherent h in
+    (g.order.pages touch.page).frame f (ap frame_of at.mapped ∙ at.frame))
 
 -- ---- the pages that are to be locked
 
@@ -326,25 +327,6 @@ only_page w c goal cursor i one =
     ∥∥₁_elim (order i) (hlevel props) (λ g.
     let ready = (call_at w c (Lock goal cursor) i.phase g).ready in
     let from = ready.0 in let upto = ready.1 in omega (arith, from, upto, one))
-
--- the cursor's page isn't held yet
-pub not_ahead : (w : World) (c : ℕ) (goal : Goal) (cursor : ℕ) → IsAt w c (Lock goal cursor) → w.slots.owner cursor ≢ Some c
-not_ahead w c goal cursor i = owns_not w c (Lock goal cursor) i cursor (past (goal_range goal).first cursor)
-  where
-    past : (a n : ℕ) → has (record { first = a; end = n }) n ≡ false
-    past a n = grind (arith, nat_tests)
-
--- ---- a range that is held whole
-
-pub held_range : (w : World) (c : ℕ) (phase : Phase) (range : PageRange) → IsAt w c phase → range_held phase ≡ Some range → IsPageRange range
-    → IsHeld w.slots c range
-held_range w c phase range i e pages =
-    let cut = cut_at w c phase range i e pages.some in
-    record {
-      pages = pages;
-      cut = record { begins = cut.0; ends = cut.1 };
-      held = λ p a b. owns w c phase i p (ap (λ r. some_has r p) e ∙ in_has range p a b);
-    }
 
 -- ---- shootdowns
 
@@ -380,7 +362,7 @@ awaited_pages w c range (Acks goal change) g e here h =
 awaited_pages w c range (CopyAcks touch frame) g e here h =
     let call = call_at w c (CopyAcks touch frame) e g in
     let same : page_of_touch touch ≡ range = cc in
-    subst (λ r. are_pages r ≡ true) same (valid_range (page_of_touch touch) (touch_range touch (served w c (PlanOf.Touch touch) g here call.asked)))
+    subst (λ r. are_pages r ≡ true) same (valid_range (page_of_touch touch) (page_range touch (served w c (PlanOf.Touch touch) g here call.asked)))
 awaited_pages w c range phase g e here h = absurd cc
 
 -- a call that awaits pages is of one of the machine's cores
@@ -405,7 +387,7 @@ message_pages w d t took e = subst IsValidAsked (sym e) (go (w.hardware.inbox d)
         let awaited_one = (subst (AreAsked w.calls.phase d) same (g.coherent.asked d)).1 in
         awaited_pages w m.from m.range (w.calls.phase m.from) g.order refl (awaits_here w m.from m.range g.order awaited_one) awaited_one))
 
-pub valid_page : (p : ℕ) → IsPage p → is_page p ≡ true
+valid_page : (p : ℕ) → IsPage p → is_page p ≡ true
 valid_page p h = let low = h.0 in let high = h.1 in grind (arith, nat_tests, low, high)
 
 -- what is no page has no entry
@@ -414,27 +396,20 @@ no_page_entry w c p t not_page = go (w.hardware.table c p) refl
   where
     go : (o : Option Translation) → w.hardware.table c p ≡ o → o ≡ None
     go None e = refl
-    go (Some x) e = absurd (let yes = valid_page p (entry_page w c p x t e) in cc)
+    go (Some x) e =
+        ∥∥₁_elim t (hlevel props) (λ g.
+        let mapped = (backs w.memory.cached (w.slots.info p) c x (g.coherent.tables c p x e)).mapped in
+        absurd (let yes = valid_page p ((g.order.pages p).valid (ap is_some mapped)) in cc))
 
 -- ---- a page that is to be installed
 
-pub right_allowed : (prot : Prot) (access : Access) → is_allowed prot access ≡ true → has_right prot ≡ true
+right_allowed : (prot : Prot) (access : Access) → is_allowed prot access ≡ true → has_right prot ≡ true
 right_allowed prot Load h = h
-right_allowed prot Store h = write prot.read prot.write prot.exec h
-  where
-    write : (a b d : Bool) → b ≡ true → (a || b || d) ≡ true
-    write true b d e = refl
-    write false true d e = refl
-    write false false d e = absurd cc
-right_allowed prot Fetch h = exec prot.read prot.write prot.exec h
-  where
-    exec : (a b d : Bool) → d ≡ true → (a || b || d) ≡ true
-    exec true b d e = refl
-    exec false true d e = refl
-    exec false false d e = e
+right_allowed prot Store h = or_left _ prot.exec (or_right prot.read prot.write h)
+right_allowed prot Fetch h = or_right _ prot.exec h
 
 -- what shows its file's page may be read
-pub right_shown : (shown : Bool) (prot : Prot) → has_right prot ≡ true → has_right (prot_shown shown prot) ≡ true
+right_shown : (shown : Bool) (prot : Prot) → has_right prot ≡ true → has_right (prot_shown shown prot) ≡ true
 right_shown true prot h = refl
 right_shown false prot h = h
 
@@ -446,25 +421,3 @@ install_right w c touch info i e =
     let usable = (call_at w c (Install touch) i.phase g).ready in
     right_shown (is_private info.meta.back && shows_some w.memory.cached info.meta.back info.frame) info.meta.prot
     (right_allowed info.meta.prot touch.access (subst (λ o. IsUsable w.made.file o touch.access (Some usable.0)) e usable.1).0))
-
-pub install_frame : (w : World) (c : ℕ) (touch : Touch) (info : PageInfo) → IsAt w c (Install touch) → w.slots.info touch.page ≡ Some info
-    → info.frame ≡ None → ⊥
-install_frame w c touch info i e none =
-    ∥∥₁_elim (order i) (hlevel props) (λ g.
-    let usable = (call_at w c (Install touch) i.phase g).ready in
-    let frame = (subst (λ o. IsUsable w.made.file o touch.access (Some usable.0)) e usable.1).2 in
-    absurd cc)
-
-pub install_mapped : (w : World) (c : ℕ) (touch : Touch) → IsAt w c (Install touch) → w.slots.info touch.page ≡ None → ⊥
-install_mapped w c touch i e =
-    ∥∥₁_elim (order i) (hlevel props) (λ g.
-    let usable = (call_at w c (Install touch) i.phase g).ready in
-    subst (λ o. IsUsable w.made.file o touch.access (Some usable.0)) e usable.1)
-
--- a call that may be given up has no reply yet
-pub opened : (phase : Phase) → can_give_up phase ≡ true → is_open phase ≡ true
-opened Free e = absurd cc
-opened (Acks goal change) e = absurd cc
-opened (Unlock held reply) e = absurd cc
-opened (Answer reply) e = absurd cc
-opened phase e = refl

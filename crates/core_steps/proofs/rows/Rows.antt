@@ -1,7 +1,8 @@
 -- Rows of the model that turn on one test
 use Rattle.std.proofs.Common.{◌≡◌, ℕ, Bool, true, false, not, ◌&&◌, List, [], ◌∷◌, Option, None, Some}
-use Rattle.std.proofs.Common.{Result, is_some, cond, refl, sym, ap, subst}
+use Rattle.std.proofs.Common.{is_some, cond, refl, sym, ap, subst}
 use Rattle.std.proofs.Math.Numerals.{add-one}
+use Rattle.std.proofs.lemmas.Bool.{and_right}
 use Rattle.std.specs.Prelude.{if◌then◌else◌, ◌+◌}
 use Rattle.vm_base.specs.Functions.{put}
 use Rattle.slot_lock.specs.declared.plan.Touch.{Touch}
@@ -14,7 +15,7 @@ use Rattle.shootdown.specs.declared.message.Took.TheVariants as TookOf
 use Rattle.shootdown.specs.Messages.{asked, remaining}
 use Rattle.machine_model.specs.declared.event.Event.{Event}
 use Rattle.machine_model.specs.declared.event.Outcome.{Outcome}
-use Rattle.machine_model.specs.declared.event.Outcome.TheVariants.{Stepped, Idle}
+use Rattle.machine_model.specs.declared.event.Outcome.TheVariants.{Idle}
 use Rattle.machine_model.specs.Step.{Acts, with_event}
 use Rattle.machine_model.specs.declared.phase.Phase.TheVariants.{Release}
 use Rattle.machine_model.specs.World.{World, Hardware}
@@ -23,28 +24,19 @@ use Rattle.slot_lock.specs.Slots.{with_info}
 use Rattle.machine_model.specs.Accesses.{after_install}
 use Rattle.vm_base.specs.Info.{info_with_core}
 use Rattle.machine_model.specs.Actions.{to}
-use Rattle.vm_base.specs.declared.replies.Reply.{Reply}
-use Rattle.vm_base.specs.declared.requests.Request.{Request}
-use Rattle.slot_lock.specs.declared.plan.Plan.{Plan}
-use Rattle.machine_model.specs.Changes.{after_check, after_plan, checked_by}
 use Rattle.core_steps.specs.OnePage.{with_translation}
-use Rattle.vm_base.specs.declared.page.PageRange.{PageRange}
-use Rattle.machine_model.specs.Translating.{TakesMessage, Walks, after_walk, can_walk, tables_cleared}
-use Rattle.machine_model.specs.Translating.{tlb_invalidated, with_hardware, with_inbox, with_table, entry_of_page}
+use Rattle.machine_model.specs.Translating.{Walks, after_walk, can_walk}
+use Rattle.machine_model.specs.Translating.{with_inbox, with_table, entry_of_page}
 use Rattle.core_steps.proofs.engine.Each.{put_id}
 
 pub if_true : (b : Bool) (x y : Type 0) → b ≡ true → x → cond b x y
 if_true true x y e h = h
 if_true false x y e h = absurd (cc)
 
-pub if_false : (b : Bool) (x y : Type 0) → b ≡ false → y → cond b x y
-if_false true x y e h = absurd (cc)
-if_false false x y e h = h
-
 -- ---- a TLB
 
 pub not_walked : (w v : World) (c p : ℕ) → can_walk w.hardware c p ≡ false → v ≡ w → Walks w c p Idle v
-not_walked w v c p e h = if_false (can_walk w.hardware c p) _ _ e (refl, h)
+not_walked w v c p e h = rw e (refl, h)
 
 -- without an entry, or with a translation, there is nothing to walk
 same_tlb : (cached entry : Option Translation) (p : ℕ) (es : List TlbEntry) → (not (is_some cached) && is_some entry) ≡ false
@@ -57,26 +49,9 @@ pub walk_none : (h : Hardware) (c p : ℕ) → can_walk h c p ≡ false → afte
 walk_none h c p e = ap (λ f. record h { tlb = f }) (put_id h.tlb c _ (same_tlb (tlb_at (h.tlb c) p) (h.table c p) p (h.tlb c) e))
 
 pub no_entry : (h : Hardware) (c p : ℕ) → h.table c p ≡ None → can_walk h c p ≡ false
-no_entry h c p e = subst (λ o. (not (is_some (tlb_at (h.tlb c) p)) && is_some o) ≡ false) (sym e) (never (not (is_some (tlb_at (h.tlb c) p))))
-  where
-    never : (b : Bool) → (b && false) ≡ false
-    never true = refl
-    never false = refl
+no_entry h c p e = and_right (not (is_some (tlb_at (h.tlb c) p))) (is_some (h.table c p)) (ap is_some e)
 
 -- ---- a message
-
-pub cleared : (w v : World) (c : ℕ) (range : PageRange) → TookOf.Clear range ≡ asked (w.hardware.inbox c)
-    → v ≡ with_hardware (with_inbox (tables_cleared w.hardware c range) c (remaining (w.hardware.inbox c))) w
-    → TakesMessage w c (asked (w.hardware.inbox c)) Stepped v
-cleared w v c range e h = subst (λ t. TakesMessage w c t Stepped v) e (refl, h)
-
-pub invalidated : (w v : World) (c : ℕ) (range : PageRange) → TookOf.Invalidate range ≡ asked (w.hardware.inbox c)
-    → v ≡ with_hardware (with_inbox (tlb_invalidated w.hardware c range) c (remaining (w.hardware.inbox c))) w
-    → TakesMessage w c (asked (w.hardware.inbox c)) Stepped v
-invalidated w v c range e h = subst (λ t. TakesMessage w c t Stepped v) e (refl, h)
-
-pub nothing_taken : (w v : World) (c : ℕ) → TookOf.Idle ≡ asked (w.hardware.inbox c) → v ≡ w → TakesMessage w c (asked (w.hardware.inbox c)) Idle v
-nothing_taken w v c e h = subst (λ t. TakesMessage w c t Idle v) e (refl, h)
 
 pub none_left : (h : Hardware) (c : ℕ) → asked (h.inbox c) ≡ TookOf.Idle → with_inbox h c (remaining (h.inbox c)) ≡ h
 none_left h c e = ap (λ f. record h { inbox = f }) (put_id h.inbox c _ (same (h.inbox c) e))
@@ -88,14 +63,6 @@ none_left h c e = ap (λ f. record h { inbox = f }) (put_id h.inbox c _ (same (h
     same : (ms : List Message) → asked ms ≡ TookOf.Idle → remaining ms ≡ ms
     same [] i = refl
     same (m ∷ ms) i = absurd (acts m m.is_cleared i)
-
--- ---- a frame that is asked for, and a call that is given up
-
--- ---- the arguments of a request
-
-pub planned : (w v : World) (c : ℕ) (request : Request) (r : Result Plan Reply) → r ≡ checked_by w.made c request → v ≡ after_plan c r w
-    → v ≡ after_check c request w
-planned w v c request r e h = subst (λ r. v ≡ after_plan c r w) e h
 
 -- ---- a page's translation is installed
 

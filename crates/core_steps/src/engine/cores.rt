@@ -219,10 +219,10 @@ impl<H: Hardware, A: Allocator> Cores<H, A> {
         ensures some { IfSome result (λ set. Awaits (parts self.now).hardware core set) }
     {
         let waiting = self.waiting(core);
-        if waiting.first().is_some() {
-            return Some(waiting);
+        match waiting.first() {
+            Some(_) => Some(waiting),
+            None => None,
         }
-        None
     }
 
     /// The 64 bits of the entry that the core's tables have of the page.

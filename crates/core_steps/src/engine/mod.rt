@@ -55,11 +55,11 @@ impl<M: SlotMap, H: Hardware, A: Allocator, L: Ledger> Engine<M, H, A, L> {
 
     /// The same of a core whose call is to make a step, with what is known of it there.
     #[inline(always)]
-    pub fn stands(&self, core: CoreId) -> Phase
+    pub fn stands(&self, core: CoreId) -> &Phase
         requires { IsOf (world M.slots self.now) core }
-        ensures { IsAt (world M.slots self.now) core result }
+        ensures { IsAt (world M.slots self.now) core result.now }
     {
-        self.phase_of(core)
+        &self.calls.phases[core.index() as usize]
     }
 
     /// The call of a core goes on in a phase.

@@ -94,7 +94,10 @@ impl<M: SlotMap, H: Hardware, A: Allocator, L: Ledger> Engine<M, H, A, L> {
         if !is_copy_due(phase) {
             return false;
         }
-        self.cores.awaited(core).is_some()
+        match self.cores.awaited(core) {
+            Some(_) => true,
+            None => false,
+        }
     }
 
     /// The core's call is given up, if it still can be: a frame that no page has yet goes
@@ -104,7 +107,7 @@ impl<M: SlotMap, H: Hardware, A: Allocator, L: Ledger> Engine<M, H, A, L> {
         ensures { GivesUp (world M.slots self.old) core (phase_of self.old core) result
             (world M.slots self.new) }
     {
-        let phase = self.stands(core);
+        let phase = *self.stands(core);
         if !can_give_up(&phase) {
             return Outcome::Idle;
         }

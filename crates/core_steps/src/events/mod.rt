@@ -53,7 +53,7 @@ impl<M: SlotMap, H: Hardware, A: Allocator, L: Ledger> Engine<M, H, A, L> {
             (λ outcome. GoesAsMap M.parts (M.slots self.old.map) core (phase_of self.old core) outcome
             (M.slots self.new.map)) }
     {
-        match self.calls.phases[core.index() as usize] {
+        match *self.stands(core) {
             Phase::Free => Ok(Outcome::Idle),
             Phase::Check(request) => Ok(self.go_check(core, request)),
             Phase::Lock { goal, cursor } => self.go_lock(core, goal, cursor),

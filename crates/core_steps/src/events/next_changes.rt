@@ -39,7 +39,6 @@ impl<M: SlotMap, H: Hardware, A: Allocator, L: Ledger> Engine<M, H, A, L> {
         if !self.is_here(Some(core)) {
             return None;
         }
-        let phase = self.stands(core);
-        changes_in(&phase)
+        changes_in(self.stands(core))
     }
 }

@@ -12,7 +12,7 @@ ghost use Rattle.machine_model.specs.Counting.{CountsDown, frame_lost};
 ghost use Rattle.machine_model.specs.Step.{Goes};
 ghost use Rattle.core_steps.specs.State.{world};
 ghost use Rattle.core_steps.specs.Moving.{IsAt};
-ghost use Rattle.core_steps.specs.Taking.{AreCounted, AreUsed, CountsEach, IsCounted};
+ghost use Rattle.core_steps.specs.Taking.{AreCounted, IsCounted};
 
 use crate::engine::Engine;
 use crate::ledger::Ledger;
@@ -24,17 +24,6 @@ use slot_lock::{Change, Framed, FramedPages, Goal, SlotMap};
 use std::alloc::Allocator;
 use vm_base::{CoreId, PageInfo, PageRange};
 
-/// Counts the frames of the listed pages down, in order.
-fn count_list<A: Allocator>(counts: &mut Refcache<A>, core: CoreId, list: &[Framed])
-    requires here { core < (counts_of counts.old).cores }
-    requires used { AreUsed list.now (counts_of counts.old) }
-    ensures { CountsEach core list.now (counts_of counts.old) (counts_of counts.new) }
-{
-    'pages: for k in 0..list.len() {
-        counts.dec(core, list[k].frame);
-    }
-}
-
 /// Counts the frames of all pages of the range down, in order of pages, a list of them at a time.
 fn count_frames<M: SlotMap, A: Allocator>(
     map: &M,
@@ -44,7 +33,7 @@ fn count_frames<M: SlotMap, A: Allocator>(
 )
     requires pages { IsPageRange range }
     requires here { core < (counts_of counts.old).cores }
-    requires counted { AreCounted (M.slots map.now).info (counts_of counts.old) }
+    requires counted { AreCounted (M.slots map.now) (counts_of counts.old) }
     ensures { CountsDown core (λ p. frame_of ((M.slots map.now).info p)) range.first
         (range.end - range.first) (counts_of counts.old) (counts_of counts.new) }
 {
@@ -53,7 +42,10 @@ fn count_frames<M: SlotMap, A: Allocator>(
     'lists: while from < range.end {
         list.clear();
         from = map.list_frames(from, range.end, &mut list);
-        count_list(counts, core, &list);
+        let framed: &[Framed] = &list;
+        'pages: for k in 0..framed.len() {
+            counts.dec(core, framed[k].frame);
+        }
     }
 }
 
@@ -96,7 +88,7 @@ fn count_lost<M: SlotMap, A: Allocator>(
 )
     requires sound { IsSoundChange change }
     requires here { core < (counts_of counts.old).cores }
-    requires counted { AreCounted (M.slots map.now).info (counts_of counts.old) }
+    requires counted { AreCounted (M.slots map.now) (counts_of counts.old) }
     ensures { CountsDown core (frame_lost change (M.slots map.now).info)
         (range_of change).first ((range_of change).end - (range_of change).first)
         (counts_of counts.old) (counts_of counts.new) }
@@ -120,7 +112,7 @@ fn make_change<M: SlotMap, A: Allocator>(
     requires held { IsHeld (M.slots map.old) core (range_of change) }
     requires mapped { IsMappedFor (M.slots map.old) change }
     requires here { core < (counts_of counts.old).cores }
-    requires counted { AreCounted (M.slots map.old).info (counts_of counts.old) }
+    requires counted { AreCounted (M.slots map.old) (counts_of counts.old) }
     ensures slots { M.slots map.new ≡ slots_after change (M.slots map.old) }
     ensures counted { CountsDown core (frame_lost change (M.slots map.old).info)
         (range_of change).first ((range_of change).end - (range_of change).first)

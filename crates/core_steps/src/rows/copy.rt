@@ -82,11 +82,13 @@ impl<M: SlotMap, H: Hardware, A: Allocator, L: Ledger> Engine<M, H, A, L> {
         if let Some(waiting) = self.cores.awaited(core) {
             return Ok(Outcome::Wait(Blocker::Acks(waiting)));
         }
-        if let Some(info) = self.map.page(touch.page)
-            && let Some(shown) = info.frame
-        {
-            self.make_copy(core, touch, frame, shown, info)?;
-        }
+        let Some(info) = self.map.page(touch.page) else {
+            unreachable!()
+        };
+        let Some(shown) = info.frame else {
+            unreachable!()
+        };
+        self.make_copy(core, touch, frame, shown, info)?;
         Ok(Outcome::Stepped)
     }
 }

@@ -175,11 +175,13 @@ impl<M: SlotMap, H: Hardware, A: Allocator, L: Ledger> Engine<M, H, A, L> {
             (WantsMemory L.keeps (world M.slots self.old) core (Phase.Install touch))
             (world M.slots self.old) result (world M.slots self.new) }
     {
-        if let Some(info) = self.map.page(touch.page)
-            && let Some(frame) = info.frame
-        {
-            self.show_page(core, touch.page, info, frame)?;
-        }
+        let Some(info) = self.map.page(touch.page) else {
+            unreachable!()
+        };
+        let Some(frame) = info.frame else {
+            unreachable!()
+        };
+        self.show_page(core, touch.page, info, frame)?;
         self.go_to(core, Phase::Release(touch));
         Ok(Outcome::Stepped)
     }

@@ -122,7 +122,7 @@ impl<M: SlotMap, H: Hardware, A: Allocator, L: Ledger> Engine<M, H, A, L> {
         ensures { GuessesThisRun (world M.slots self.old) core (phase_of self.old core) first result
             (world M.slots self.new) }
     {
-        let Phase::Guess(place) = self.stands(core) else {
+        let Phase::Guess(place) = *self.stands(core) else {
             return Outcome::Idle;
         };
         if !has_run(place, first) {
@@ -138,7 +138,7 @@ impl<M: SlotMap, H: Hardware, A: Allocator, L: Ledger> Engine<M, H, A, L> {
         ensures { TakesWindow (world M.slots self.old) core (phase_of self.old core) result
             (world M.slots self.new) }
     {
-        let Phase::Guess(place) = self.stands(core) else {
+        let Phase::Guess(place) = *self.stands(core) else {
             return Outcome::Idle;
         };
         self.go_to(core, trying(place, Target::Window));

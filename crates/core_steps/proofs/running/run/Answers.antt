@@ -26,42 +26,31 @@ events-preserved g c = record {
   count = search rules;
 }
 
-pub returns-clause-run : goal.returns-clause-run
-returns-clause-run g c =
-    let all : take c.events.at c.args.events.now ≡ c.args.events.now = take_all c.events.at c.args.events.now c.events-test.false in
-    let new = new_world (made_of c.args.setup) (g.M.SlotRead.slots c.args.map) in
-    subst (λ es. Run new es c.events.outcomes.items (world g.M.SlotRead.slots c.events.machine.engine)) all c.events.invariant.run
-
-pub returns-clause-brackets : goal.returns-clause-brackets
-returns-clause-brackets g c =
-    let all : take c.events.at c.args.events.now ≡ c.args.events.now = take_all c.events.at c.args.events.now c.events-test.false in
-    all_bracketed (made_of c.args.setup) (g.M.SlotRead.slots c.args.map) _ c.args.events.now c.events.outcomes.items _
-    (few_cores c.args.setup c.in-Ok-new.ensures.sound) c.requires all c.events.invariant.run
-
-pub returns-clause-sound : goal.returns-clause-sound
-returns-clause-sound g c =
-    let all : take c.events.at c.args.events.now ≡ c.args.events.now = take_all c.events.at c.args.events.now c.events-test.false in
-    all_sound (made_of c.args.setup) (g.M.SlotRead.slots c.args.map) _ c.args.events.now c.events.outcomes.items _
-    (few_cores c.args.setup c.in-Ok-new.ensures.sound) c.requires all c.events.invariant.run
+pub returns : goal.returns
+returns g c =
+    let made = made_of c.args.setup in
+    let slots = g.M.SlotRead.slots c.args.map in
+    let es = c.args.events.now in
+    let os = c.events.outcomes.items in
+    let v = world g.M.SlotRead.slots c.events.machine.engine in
+    let all : take c.events.at es ≡ es = take_all c.events.at es c.events-test.false in
+    let few = few_cores c.args.setup c.in-Ok-new.ensures.sound in
+    let run = c.events.invariant.run in
+    record {
+      run = subst (λ es. Run (new_world made slots) es os v) all run;
+      as_map = subst (λ es. RunsAsMap g.M.SlotMap.parts g.M.SlotMap.can_fold g.M.SlotMap.folds (new_world made slots) es os v) all c.events.invariant.as_map;
+      all = search rules;
+      plain = all_plain made slots _ es os v few c.requires all run;
+      brackets = all_bracketed made slots _ es os v few c.requires all run;
+      sound = all_sound made slots _ es os v few c.requires all run;
+      fault = tt;
+    }
 
 pub returns-in-Err-step-clause-fault : goal.returns-in-Err-step-clause-fault
 returns-in-Err-step-clause-fault g c = (
   c.in-Ok-new.ensures.sound,
   inr (refused_next _ _ _ c.events.at c.index-events-at.result _ _ c.events-test.true c.index-events-at.is c.events.invariant.run c.in-Err-step.ensures.step.1),
 )
-
-pub returns-clause-as_map : goal.returns-clause-as_map
-returns-clause-as_map g c =
-    let all : take c.events.at c.args.events.now ≡ c.args.events.now = take_all c.events.at c.args.events.now c.events-test.false in
-    let new = new_world (made_of c.args.setup) (g.M.SlotRead.slots c.args.map) in
-    subst (λ es. RunsAsMap g.M.SlotMap.parts g.M.SlotMap.can_fold g.M.SlotMap.folds new es c.events.outcomes.items
-    (world g.M.SlotRead.slots c.events.machine.engine)) all c.events.invariant.as_map
-
-pub returns-clause-plain : goal.returns-clause-plain
-returns-clause-plain g c =
-    let all : take c.events.at c.args.events.now ≡ c.args.events.now = take_all c.events.at c.args.events.now c.events-test.false in
-    all_plain (made_of c.args.setup) (g.M.SlotRead.slots c.args.map) _ c.args.events.now c.events.outcomes.items _
-    (few_cores c.args.setup c.in-Ok-new.ensures.sound) c.requires all c.events.invariant.run
 
 -- a list that finds no room is to have an outcome
 some_outcome : (n : ℕ) → (n ≡ 0 → false ≡ true) → 0 < n

@@ -2,7 +2,7 @@ use Rattle.std.proofs.Common.{refl, sym, ap, ◌∙◌}
 use Rattle.machine_model.specs.Translating.{tables_cleared, tlb_invalidated}
 use Rattle.core_steps.specs.State.{world}
 use Rattle.core_steps.proofs.rows.Known.{message_pages}
-use Rattle.core_steps.proofs.rows.Rows.{cleared, invalidated, none_left, nothing_taken}
+use Rattle.core_steps.proofs.rows.Rows.{none_left}
 use Rattle.core_steps.proofs.engine.Engine.take.Goals as goal
 
 pub clear_tables-requires-clause-pages : goal.clear_tables-requires-clause-pages
@@ -10,17 +10,21 @@ clear_tables-requires-clause-pages g c = message_pages (world g.M.SlotRead.slots
 
 pub returns-in-Clear : goal.returns-in-Clear
 returns-in-Clear g c =
-    cleared (world g.M.SlotRead.slots c.args.self.now) _ c.args.core c.in-Clear.range c.in-Clear.ensures.took
-    (ap (λ h. record (world g.M.SlotRead.slots c.args.self.now) { hardware = h })
-    (c.clear_tables.ensures.after ∙ ap (λ h. tables_cleared h c.args.core c.in-Clear.range) c.take.ensures.after))
+    rw (← c.in-Clear.ensures.took) (
+      refl,
+      ap (λ h. record (world g.M.SlotRead.slots c.args.self.now) { hardware = h })
+          (c.clear_tables.ensures.after ∙ ap (λ h. tables_cleared h c.args.core c.in-Clear.range) c.take.ensures.after),
+    )
 
 pub returns-in-Invalidate : goal.returns-in-Invalidate
 returns-in-Invalidate g c =
-    invalidated (world g.M.SlotRead.slots c.args.self.now) _ c.args.core c.in-Invalidate.range c.in-Invalidate.ensures.took
-    (ap (λ h. record (world g.M.SlotRead.slots c.args.self.now) { hardware = h })
-    (c.invalidate.ensures.after ∙ ap (λ h. tlb_invalidated h c.args.core c.in-Invalidate.range) c.take.ensures.after))
+    rw (← c.in-Invalidate.ensures.took) (
+      refl,
+      ap (λ h. record (world g.M.SlotRead.slots c.args.self.now) { hardware = h })
+          (c.invalidate.ensures.after ∙ ap (λ h. tlb_invalidated h c.args.core c.in-Invalidate.range) c.take.ensures.after),
+    )
 
 pub returns-in-Idle : goal.returns-in-Idle
 returns-in-Idle g c =
-    nothing_taken (world g.M.SlotRead.slots c.args.self.now) _ c.args.core c.in-Idle.ensures.took
-    (rw (c.take.ensures.after, none_left (world g.M.SlotRead.slots c.args.self.now).hardware c.args.core (sym c.in-Idle.ensures.took)) refl)
+    rw (← c.in-Idle.ensures.took)
+    (refl, rw (c.take.ensures.after, none_left (world g.M.SlotRead.slots c.args.self.now).hardware c.args.core (sym c.in-Idle.ensures.took)) refl)

@@ -1,56 +1,59 @@
-use Rattle.std.proofs.Common.{◌<◌, ◌≤◌, ⊎_elim, arith, refl, sym, subst}
+use Rattle.std.proofs.Common.{◌<◌, ◌≤◌, ⊎_elim, arith, sym, subst}
 use Rattle.std.proofs.lemmas.Bool.{cases_lt}
-use Rattle.refcache.specs.Parts.{counts_of}
-use Rattle.core_steps.specs.Taking.{AreUsed, CountsEach}
-use Rattle.slot_lock.specs.Framed.{frames_in}
+use Rattle.slot_lock.specs.Framed.{ListsFrames, frames_in}
 use Rattle.slot_lock.proofs.Listing.{list_moves, list_whole}
-use Rattle.core_steps.proofs.rows.Lost.{each_cores, each_still, listed_used, lost_list, lost_none}
+use Rattle.machine_counting.proofs.CountingDown.{counts_from}
+use Rattle.core_steps.proofs.rows.Lost.{listed_all, listed_known, listed_next}
 use Rattle.core_steps.proofs.rows.commit.count_frames.Goals as goal
 
 pub lists-init : goal.lists-init
 lists-init g c = record {
   low = omega arith;
   high = let some = c.requires.pages.some in omega (arith, some);
-  here = c.requires.here;
-  still = record { left = (g.M.SlotRead.slots c.args.map.now).info; same = λ p a. refl; counted = c.requires.counted };
-  counted = lost_none _ _ _ _ _ (λ p a b. absurd (omega (arith, a, b)));
+  counted = counts_from c.args.core _ c.args.range.first _;
 }
 
-pub count_list-requires-clause-used : goal.count_list-requires-clause-used
-count_list-requires-clause-used g c =
+pub pages-init : goal.pages-init
+pages-init g c =
     let frame = frames_in (g.M.SlotRead.slots c.args.map.now) in
-    let lists = list_whole frame c.lists.from c.list_frames-from.result c.clear.new.self.items c.list_frames-from.new.list.items
-    c.clear.ensures c.list_frames-from.ensures.added in
-    subst (λ xs. AreUsed xs (counts_of c.lists.counts)) (sym c.deref.ensures.0)
-    (listed_used frame c.lists.from c.list_frames-from.result c.list_frames-from.new.list.items
-    (counts_of c.lists.counts) c.lists.invariant.still lists)
+    let e = c.list_frames-from.ensures in
+    record {
+      from = c.lists.from;
+      low = c.lists.invariant.low;
+      high = e.low;
+      left = subst (ListsFrames frame c.lists.from c.list_frames-from.result) (sym c.deref-framed.ensures.0)
+          (list_whole frame c.lists.from c.list_frames-from.result c.clear.new.self.items c.list_frames-from.new.list.items c.clear.ensures e.added);
+      counted = c.lists.invariant.counted;
+    }
+
+pub dec-requires : goal.dec-requires
+dec-requires g c =
+    let known = listed_known (g.M.SlotRead.slots c.args.map.now) c.args.core c.args.range.first _ _ c.pages.k _ _ c.pages-test.true c.requires.counted
+    c.requires.here c.pages.invariant in
+    record { core = known.0; object = known.1.object; used = known.1.used }
+
+pub pages-preserved : goal.pages-preserved
+pages-preserved g c = listed_next c.args.core _ c.args.range.first _ _ c.pages.k _ _ _ c.pages-test.true c.pages.invariant c.dec.ensures.step
 
 pub lists-smaller : goal.lists-smaller
 lists-smaller g c =
     let frame = frames_in (g.M.SlotRead.slots c.args.map.now) in
-    let lists = list_whole frame c.lists.from c.list_frames-from.result c.clear.new.self.items c.list_frames-from.new.list.items
-    c.clear.ensures c.list_frames-from.ensures.added in
+    let e = c.list_frames-from.ensures in
     let more : c.lists.from < c.list_frames-from.result = ⊎_elim
     (λ (l : c.list_frames-from.result < c.args.range.end).
-    let full = c.list_frames-from.ensures.full l in
-    list_moves frame c.lists.from c.list_frames-from.result c.list_frames-from.new.list.items (omega (arith, full)) lists)
+    let full = e.full l in
+    list_moves frame c.lists.from c.list_frames-from.result c.list_frames-from.new.list.items (omega (arith, full))
+    (list_whole frame c.lists.from c.list_frames-from.result c.clear.new.self.items c.list_frames-from.new.list.items c.clear.ensures e.added))
     (λ (l : c.args.range.end ≤ c.list_frames-from.result). omega (arith, c.lists-test.true))
     (cases_lt c.list_frames-from.result c.args.range.end) in
     omega (arith, more, c.lists-test.true)
 
 pub lists-preserved : goal.lists-preserved
 lists-preserved g c =
-    let i = c.lists.invariant in
-    let e = c.list_frames-from.ensures in
-    let frame = frames_in (g.M.SlotRead.slots c.args.map.now) in
-    let lists = list_whole frame c.lists.from c.list_frames-from.result c.clear.new.self.items c.list_frames-from.new.list.items c.clear.ensures e.added in
-    let each = subst (λ xs. CountsEach c.args.core xs (counts_of c.lists.counts) (counts_of c.count_list.new.counts)) c.deref.ensures.0 c.count_list.ensures in
-    let low = i.low in
+    let low = c.lists.invariant.low in
+    let on = c.list_frames-from.ensures.low in
     record {
-      low = omega (arith, low, e.low);
-      high = e.high;
-      here = subst (λ n. c.args.core < n) (sym (each_cores c.args.core _ (counts_of c.lists.counts) (counts_of c.count_list.new.counts) each)) i.here;
-      still = each_still c.args.core frame c.lists.from c.list_frames-from.result c.list_frames-from.new.list.items _ _ e.low i.still lists each;
-      counted = lost_list c.args.core frame c.args.range.first c.lists.from c.list_frames-from.result c.list_frames-from.new.list.items _ _
-          _ low e.low i.counted lists each;
+      low = omega (arith, low, on);
+      high = c.list_frames-from.ensures.high;
+      counted = listed_all c.args.core _ c.args.range.first _ _ c.pages.k _ _ c.pages-test.false c.pages.invariant;
     }

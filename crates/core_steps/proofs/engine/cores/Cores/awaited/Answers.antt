@@ -1,14 +1,14 @@
-use Rattle.std.proofs.Common.{sym, ◌∙◌}
-use Rattle.core_steps.specs.Parts.{parts}
-use Rattle.core_steps.proofs.rows.Changing.{awaits_by, nobody_by}
+use Rattle.std.proofs.Common.{ap, sym, ◌∙◌}
+use Rattle.vm_base.specs.Cores.{members}
+use Rattle.vm_base.proofs.CoreSets.{members-empty}
 use Rattle.core_steps.proofs.engine.cores.Cores.awaited.Goals as goal
 
-pub returns-then-is_some-clause-some : goal.returns-then-is_some-clause-some
-returns-then-is_some-clause-some g c =
-    awaits_by (parts c.args.self.now).hardware c.args.core c.waiting-waiting.result c.first.result c.first.ensures.member
-    (sym c.is_some.ensures ∙ c.if-is_some.true) c.waiting-waiting.ensures
+pub returns-in-Some-clause-some : goal.returns-in-Some-clause-some
+returns-in-Some-clause-some g c = record {
+  some = (c.in-Some.field-0, sym (ap (λ f. f c.in-Some.field-0) c.waiting-waiting.ensures) ∙ c.in-Some.ensures.member);
+  exact = c.waiting-waiting.ensures;
+}
 
-pub returns-clause-none : goal.returns-clause-none
-returns-clause-none g c =
-    nobody_by (parts c.args.self.now).hardware c.args.core c.waiting-waiting.result c.first.result c.first.ensures.none
-    (sym c.is_some.ensures ∙ c.if-is_some.false) c.waiting-waiting.ensures
+pub returns-in-None-clause-none : goal.returns-in-None-clause-none
+returns-in-None-clause-none g c = λ d.
+    sym (ap (λ f. f d) c.waiting-waiting.ensures) ∙ (ap (λ s. members s d) c.in-None.ensures.none ∙ members-empty d)
