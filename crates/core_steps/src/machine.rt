@@ -303,7 +303,7 @@ impl<M: SlotMap, A: Allocator + Clone> Machine<M, A, Kept<A>> {
         ensures entries { result.now ≡ (state self.now).calls.log }
         ensures legal { IsLegal (state self.now) }
     {
-        &self.engine.calls.ledger.items
+        &self.engine.calls.ledger.entries.items
     }
 
     /// The requests of the calls begun, in order: an entry's call is the one with that number, from 1.

@@ -1,6 +1,7 @@
 //! A ledger that keeps requests and entries, for all of which memory is taken when it is made.
-ghost use Rattle.std.specs.Prelude.{◌≡◌, ◌≤◌, true, length, vec_len, vec_capacity};
+ghost use Rattle.std.specs.Prelude.{◌≡◌, ◌≤◌, true, vec_capacity};
 
+use crate::ledger::entries::KeptEntries;
 use crate::ledger::{Ledger, Opening};
 use std::alloc::{AllocError, Allocator};
 use vm_base::{Entry, Request};
@@ -12,13 +13,9 @@ pub struct Kept<A: Allocator> {
     pub requests: Vec<Request, A>,
     /// How many there may be at the most.
     pub calls: u64,
-    /// The entries so far.
-    pub items: Vec<Entry, A>,
-    /// How many there may be at the most.
-    pub limit: u64,
+    /// The entries so far, and the room for them.
+    pub entries: KeptEntries<A>,
     ghost room_to_begin: { calls ≤ vec_capacity requests },
-    ghost room: { limit ≤ vec_capacity items },
-    ghost within: { vec_len items ≤ limit },
 }
 
 impl<A: Allocator> Ledger for Kept<A> {
@@ -26,9 +23,9 @@ impl<A: Allocator> Ledger for Kept<A> {
 
     ghost calls = { λ log. log.calls };
 
-    ghost entries = { λ log. log.items.items };
+    ghost entries = { λ log. log.entries.items.items };
 
-    ghost limit = { λ log. log.limit };
+    ghost limit = { λ log. log.entries.limit };
 
     ghost keeps = { true };
 
@@ -42,33 +39,26 @@ impl<A: Allocator> Ledger for Kept<A> {
     }
 
     fn push(&mut self, entry: Entry) {
-        self.items.push_reserved(entry);
+        self.entries.push(entry);
     }
 
     fn push_beyond(&mut self, entry: Entry) -> Result<(), AllocError> {
-        let Some(limit) = self.limit.checked_add(1) else {
-            return Err(AllocError);
-        };
-        self.items.try_reserve(limit as usize - self.items.len())?;
-        self.limit = limit;
-        self.items.push_reserved(entry);
-        Ok(())
+        self.entries.push_beyond(entry)
     }
 
     fn kept(&self) -> Option<&[Entry]> {
-        Some(&self.items)
+        Some(&self.entries.items)
     }
 }
 
 impl<A: Allocator + Clone> Opening<A> for Kept<A> {
     fn open(alloc: A, limit: u64) -> Result<Self, AllocError> {
         let requests = Vec::with_capacity(alloc.clone()?, limit as usize)?;
-        let items = Vec::with_capacity(alloc, limit as usize)?;
+        let entries = KeptEntries::with_room(alloc, limit)?;
         Ok(Kept {
             requests,
             calls: limit,
-            items,
-            limit,
+            entries,
         })
     }
 }

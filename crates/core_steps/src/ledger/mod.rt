@@ -1,5 +1,5 @@
-//! What becomes of the requests of the calls begun, and of the entries of the log: the trait, and a file
-//! for each ledger. Nothing here knows of the machine.
+//! What becomes of the requests of the calls begun, and of the entries of the log: the trait, a file
+//! for each ledger, and the entries of those that keep them. Nothing here knows of the machine.
 ghost use Rattle.std.specs.Prelude.{◌≡◌, ◌+◌, ◌<◌, ◌≤◌, ◌++◌, ◌∷◌, [], ℕ, List, length, Bool};
 ghost use Rattle.std.specs.Prelude.{false, true, IfOk, IfNone, IfSome, OnOk, OnErr};
 ghost use Rattle.vm_base.specs.declared.log.Entry.{Entry as EntryOf};
@@ -7,8 +7,10 @@ ghost use Rattle.vm_base.specs.declared.requests.Request.{Request as RequestOf};
 ghost use Rattle.core_steps.specs.Setups.{most_calls};
 ghost use Rattle.core_steps.specs.declared.setup.CallLimit.TheVariants.{Long, Usual};
 
+pub mod entries;
 pub mod forgotten;
 pub mod kept;
+pub mod logged;
 
 use std::alloc::AllocError;
 use vm_base::{Entry, Request};
@@ -24,7 +26,7 @@ pub trait Ledger {
     ghost entries: { Self → List EntryOf };
     // How many there may be at the most.
     ghost limit: { Self → ℕ };
-    // Whether both can be read again.
+    // Whether the entries can be read again.
     ghost keeps: { Bool };
 
     /// How many calls began.
@@ -68,7 +70,7 @@ pub trait Ledger {
 /// A ledger that can be made.
 pub trait Opening<A>: Ledger {
     /// An empty one, with room for so many requests and as many entries: up to 2^40, or 1,048,576
-    /// where both are kept.
+    /// where entries are kept.
     fn open(alloc: A, limit: u64) -> Result<Self, AllocError>
     where
         Self: Sized,
