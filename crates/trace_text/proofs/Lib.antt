@@ -15,3 +15,4 @@ pub mod WordLemmas
 pub mod ValueLemmas
 pub mod DigitTable
 pub mod HalvesLemmas
+pub mod LogLineLemmas

@@ -62,10 +62,10 @@ start_printed n text number new h e f =
 
 -- ---- a byte, digit by digit
 
-tens : (b : ℕ) → 10 ≤ b → b < 100 → decimal b ≡ (48 + b / 10) ∷ (48 + b % 10) ∷ []
+pub tens : (b : ℕ) → 10 ≤ b → b < 100 → decimal b ≡ (48 + b / 10) ∷ (48 + b % 10) ∷ []
 tens b low high = decimal_step b low (omega arith) ∙ ap (λ l. l ++ (48 + b % 10) ∷ []) (decimal_digit (b / 10) (omega arith))
 
-hundreds : (b : ℕ) → 100 ≤ b → b < 256 → decimal b ≡ (48 + b / 100) ∷ (48 + b / 10 % 10) ∷ (48 + b % 10) ∷ []
+pub hundreds : (b : ℕ) → 100 ≤ b → b < 256 → decimal b ≡ (48 + b / 100) ∷ (48 + b / 10 % 10) ∷ (48 + b % 10) ∷ []
 hundreds b low high =
     let first : b / 10 / 10 ≡ b / 100 = omega arith in
     decimal_step b (omega arith) (omega arith) ∙ ap (λ l. l ++ (48 + b % 10) ∷ []) (tens (b / 10) (omega arith) (omega arith))

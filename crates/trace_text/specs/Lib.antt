@@ -7,6 +7,7 @@ pub mod Line
 pub mod Printing
 pub mod Spelling
 pub mod Lists
+pub mod LogLines
 pub mod Grammar
 pub mod Halves
 pub mod Values

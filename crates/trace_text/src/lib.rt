@@ -9,6 +9,7 @@ pub mod file_line;
 pub mod grammar;
 pub mod line;
 pub mod lists;
+pub mod log_lines;
 pub mod number;
 pub mod printing;
 pub mod request;
@@ -24,6 +25,7 @@ pub use line::{
     read_words,
 };
 pub use lists::{push_rights, push_start, write_answer, write_detach, write_map_line};
+pub use log_lines::LogLines;
 pub use printing::{
     LineText, ShortText, address_text, number_text, push_address, push_count, push_letter,
     push_number, push_reply, push_word,

@@ -1,0 +1,35 @@
+-- Pieces that are written one behind another at the front of an array.
+use Rattle.std.proofs.Common.{◌≡◌, ℕ, ◌+◌, ◌^◌, ◌/◌, ◌%◌, ◌<◌, ◌≤◌, List, [], ◌∷◌, ◌++◌, length, take, decimal, arith, refl, sym, ap, ◌∙◌, append_assoc, take-take}
+use Rattle.std.proofs.Math.Seq.{take-append-add}
+use Rattle.std.proofs.lemmas.Fmt.{decimal_step}
+use Rattle.std.proofs.lemmas.List.{length-take-le}
+
+-- of a piece only its front counts
+pub front_put : (old new digits : List ℕ) (at len end : ℕ) → at ≤ length old → len ≤ length digits → end ≡ at + length digits
+    → take end new ≡ take at old ++ digits → take (at + len) new ≡ take at old ++ take len digits
+front_put old new digits at len end within some long is =
+    let front : length (take at old) ≡ at = length-take-le at old within in
+    sym (take-take (at + len) end new (omega arith))
+    ∙ ap (take (at + len)) is
+    ∙ ap (λ n. take (n + len) (take at old ++ digits)) (sym front)
+    ∙ take-append-add (take at old) digits len
+
+-- a number's last two digits, and those before
+pub two_more : (n : ℕ) → 100 ≤ n → n < 2 ^ 64 → decimal n ≡ decimal (n / 100) ++ (48 + n % 100 / 10) ∷ (48 + n % 100 % 10) ∷ []
+two_more n low high =
+    let front : n / 10 / 10 ≡ n / 100 = omega arith in
+    let tens : n / 10 % 10 ≡ n % 100 / 10 = omega arith in
+    let ones : n % 10 ≡ n % 100 % 10 = omega arith in
+    decimal_step n (omega arith) high
+    ∙ ap (λ l. l ++ (48 + n % 10) ∷ []) (decimal_step (n / 10) (omega arith) (omega arith))
+    ∙ append_assoc (decimal (n / 10 / 10)) ((48 + n / 10 % 10) ∷ []) ((48 + n % 10) ∷ [])
+    ∙ ap (λ k. decimal k ++ (48 + n / 10 % 10) ∷ (48 + n % 10) ∷ []) front
+    ∙ ap (λ k. decimal (n / 100) ++ (48 + k) ∷ (48 + n % 10) ∷ []) tens
+    ∙ ap (λ k. decimal (n / 100) ++ (48 + n % 100 / 10) ∷ (48 + k) ∷ []) ones
+
+-- seven pieces one behind another are one
+pub seven_put : (o a b c d e f g : List ℕ) → ((((((o ++ a) ++ b) ++ c) ++ d) ++ e) ++ f) ++ g ≡ o ++ ((((((a ++ b) ++ c) ++ d) ++ e) ++ f) ++ g)
+seven_put o a b c d e f g =
+    ap (λ l. l ++ g) (ap (λ l. l ++ f) (ap (λ l. l ++ e) (ap (λ l. l ++ d) (ap (λ l. l ++ c) (append_assoc o a b)
+    ∙ append_assoc o (a ++ b) c) ∙ append_assoc o ((a ++ b) ++ c) d) ∙ append_assoc o (((a ++ b) ++ c) ++ d) e)
+    ∙ append_assoc o ((((a ++ b) ++ c) ++ d) ++ e) f) ∙ append_assoc o (((((a ++ b) ++ c) ++ d) ++ e) ++ f) g
