@@ -471,7 +471,7 @@ fn in_eight_sets(place: u64) -> u64 {
 
 /// 64 pages that share a set.
 fn in_one_set(place: u64) -> u64 {
-    4096 + (place % 8) * ((1 << 29) + (1 << 21)) + (place / 8) * (1 << 32)
+    4096 + (place % 8) * (1 << 29) + (place / 8) * (1 << 32)
 }
 
 /// Loads of 64 pages, which the TLB has, from the first place on, each so many places after the last one, modulo their number.

@@ -1,7 +1,8 @@
 pub mod Empty
 pub mod Distinct
-pub mod Places
-pub mod Chains
+pub mod Orders
+pub mod Filings
+pub mod MovedUp
 pub mod Clearing
 pub mod Valid
 pub mod LastTable

@@ -1,5 +1,5 @@
 -- A TLB: the translations that a core holds, the oldest filled first
-use Rattle.std.specs.Prelude.{◌≡◌, ℕ, ◌==◌, ◌&&◌, not, Bool, true, is_some, if◌then◌else◌, length}
+use Rattle.std.specs.Prelude.{ℕ, ◌==◌, ◌&&◌, not, Bool, true, is_some, if◌then◌else◌, length}
 use Rattle.std.specs.Prelude.{List, [], ◌∷◌, ◌++◌, Option, None, Some, drop, filter}
 use Rattle.std.specs.Prelude.{bit_xor, ◌/◌, ◌%◌, ◌^◌}
 use Rattle.mmu.specs.declared.entry.Translation.{Translation}
@@ -28,6 +28,6 @@ abbrev pub tlb_filled : ℕ → Translation → List TlbEntry → List TlbEntry
 tlb_filled p e es =
     (if length es == 64 then drop 1 es else es) ++ record { page = p; translation = e } ∷ []
 
--- a number below 256 for each page: the lower four bytes of the page's number, in one by xor
+-- a number below 64 for each page: four times six bits of the page's number, in one by xor
 unfoldable pub page_hash : ℕ → ℕ
-page_hash p = bit_xor (bit_xor (bit_xor p (p / 2 ^ 8)) (p / 2 ^ 16)) (p / 2 ^ 24) % 256
+page_hash p = bit_xor (bit_xor p (p / 2 ^ 12)) (bit_xor p (p / 2 ^ 12) / 2 ^ 6) % 64

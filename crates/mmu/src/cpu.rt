@@ -133,6 +133,30 @@ impl<A: Allocator + Clone> Cpu<A> {
             }),
         }
     }
+
+    /// Translates an access to a page that the TLB doesn't have. It stands apart so that a hit keeps
+    /// few registers.
+    #[inline(never)]
+    fn translate_anew(&mut self, page: u64, access: Access) -> Translated
+        requires page { is_valid page ≡ true }
+        requires absent { tlb_at (⟦<Self as Hardware>⟧.tlb self.old) page ≡ None }
+        ensures value { result ≡ translated None (⟦<Self as Hardware>⟧.table self.old page) access }
+        ensures table { ⟦<Self as Hardware>⟧.table self.new ≡ ⟦<Self as Hardware>⟧.table self.old }
+        ensures tables { ⟦<Self as Hardware>⟧.has_table self.new
+            ≡ ⟦<Self as Hardware>⟧.has_table self.old }
+        ensures tlb { ⟦<Self as Hardware>⟧.tlb self.new
+            ≡ tlb_after result page (⟦<Self as Hardware>⟧.table self.old page)
+            (⟦<Self as Hardware>⟧.tlb self.old) }
+    {
+        if let Some(entry) = self.root.entry(PAGES, page) {
+            if entry.permits(access) {
+                self.tlb.fill(page, entry);
+                return Translated::Fill(entry.frame);
+            }
+        }
+        self.tlb.drop_page(page);
+        Translated::Fault
+    }
 }
 
 impl<A: Allocator + Clone> Hardware for Cpu<A> {
@@ -140,22 +164,20 @@ impl<A: Allocator + Clone> Hardware for Cpu<A> {
 
     ghost has_table = { λ c. ⟦<Root<A> as Level<A>>⟧.has_table c.root };
 
-    ghost tlb = { λ c. entries_of c.tlb.fills.items };
+    ghost tlb = { λ c. entries_of c.tlb.places c.tlb.fills.items };
 
     ghost few = { λ c. c.tlb.few };
 
     ghost distinct = { λ c. c.tlb.distinct };
 
+    #[inline(never)]
     fn translate(&mut self, page: u64, access: Access) -> Translated {
         if let Some(cached) = self.tlb.find(page) {
             if cached.permits(access) {
                 return Translated::Hit(cached.frame);
             }
-        } else if let Some(entry) = self.root.entry(PAGES, page) {
-            if entry.permits(access) {
-                self.tlb.fill(page, entry);
-                return Translated::Fill(entry.frame);
-            }
+        } else {
+            return self.translate_anew(page, access);
         }
         self.tlb.drop_page(page);
         Translated::Fault

@@ -5,6 +5,7 @@
 pub mod cpu;
 pub mod entry;
 pub mod level;
+mod place_sets;
 pub mod tlb;
 pub mod translated;
 

@@ -1,22 +1,27 @@
 //! The translations that a core holds, the oldest filled first.
 ghost use Rattle.std.specs.Prelude.{◌≡◌, ◌==◌, ◌+◌, ◌<◌, ◌≤◌, [], ◌∷◌, ◌++◌, true, None, IfSome};
-ghost use Rattle.std.specs.Prelude.{length, drop, take, map, slice_set, if◌then◌else◌};
+ghost use Rattle.std.specs.Prelude.{length, drop, slice_index, slice_set, if◌then◌else◌, ℕ};
 ghost use Rattle.vm_base.specs.Functions.{has};
+ghost use Rattle.vm_base.specs.Cores.{members};
 ghost use Rattle.mmu.specs.Tlb.{tlb_at, tlb_without, tlb_filled, are_distinct, page_hash, is_at};
-ghost use Rattle.mmu.specs.Fills.{entries_of, filled_at, has_page, dropped, filled_page, filled_older};
-ghost use Rattle.mmu.specs.Fills.{AreChained};
+ghost use Rattle.mmu.specs.Fills.{entries_of, page_at, count_below, IsHeld, NoneBefore, IsMovedUp};
+ghost use Rattle.mmu.specs.Fills.{AreOrdered, AreSets};
 
 use crate::entry::Translation;
+use crate::place_sets;
 use arrayvec::ArrayVec;
 use vm_base::PageRange;
 
 /// How many translations a TLB holds at most.
-const HELD: usize = 64;
+const PLACES: usize = 64;
 
-/// How many translations are filled before the held ones are moved to the front.
-const PLACES: usize = 128;
+/// How many translations are filled before the order begins anew with the held ones.
+const FILLS: usize = 192;
 
-/// A range of at most so many pages is dropped page by page, and a longer one place by place.
+/// Stands in the order for a translation that was dropped.
+const DROPPED: u8 = 64;
+
+/// A range of at most so many pages is dropped page by page, and a longer one fill by fill.
 const FEW_PAGES: u64 = 16;
 
 /// A cached translation of a page.
@@ -26,36 +31,29 @@ pub struct TlbEntry {
     pub translation: Translation,
 }
 
-/// A translation that was filled. It keeps its place when it is dropped, so that the others keep
-/// theirs.
-#[derive(Clone, Copy, Debug, Default)]
-struct Filled {
-    entry: TlbEntry,
-    /// Whether the TLB still holds it.
-    is_held: bool,
-    /// One more than the place of the newest of the older ones whose page has the same hash; 0
-    /// where none has it.
-    older: u8,
-}
-
 /// At most 64 translations, of distinct pages.
 #[derive(Drop)]
 pub struct Tlb {
-    /// What was filled, the oldest first.
-    fills: ArrayVec<Filled, PLACES>,
-    /// For each hash, one more than the place of the newest whose page has it; 0 where none has it.
-    /// From there on `older` leads to all others.
-    newest: [u8; 256],
-    /// No place before this one is held.
+    /// The translations, each at a place that it keeps until it goes.
+    places: [TlbEntry; PLACES],
+    /// The places of the translations in the order of their fills, the oldest first; where one was
+    /// dropped no place.
+    fills: ArrayVec<u8, FILLS>,
+    /// Where in the order each place that is held stands.
+    at: [u8; PLACES],
+    /// For each hash the places of the translations whose page has it.
+    sets: [u64; PLACES],
+    /// The places that no translation has.
+    free: u64,
+    /// The order has no place before this.
     first: usize,
-    /// How many places are held.
-    held: usize,
-    ghost few: { length (entries_of fills.items) ≤ 64 },
-    ghost counted: { held ≡ length (entries_of fills.items) },
-    ghost distinct: { are_distinct (entries_of fills.items) ≡ true },
+    ghost few: { length (entries_of places fills.items) ≤ 64 },
+    ghost counted: { length (entries_of places fills.items) + count_below (members free) 64 ≡ 64 },
+    ghost distinct: { are_distinct (entries_of places fills.items) ≡ true },
     ghost begun: { first ≤ length fills.items },
-    ghost gone: { entries_of (take first fills.items) ≡ [] },
-    ghost chained: { AreChained newest (map filled_page fills.items) (map filled_older fills.items) },
+    ghost gone: { NoneBefore first fills.items },
+    ghost ordered: { AreOrdered fills.items at free },
+    ghost filed: { AreSets sets places free },
 }
 
 impl Tlb {
@@ -64,129 +62,147 @@ impl Tlb {
         ensures { result.fills.items ≡ [] }
     {
         Tlb {
+            places: [TlbEntry::default(); PLACES],
             fills: ArrayVec::new(),
-            newest: [0; 256],
+            at: [0; PLACES],
+            sets: [0; PLACES],
+            free: u64::MAX,
             first: 0,
-            held: 0,
         }
     }
 
     /// The translation of the page.
     pub fn find(&self, page: u64) -> Option<Translation>
-        ensures { result ≡ tlb_at (entries_of self.now.fills.items) page }
+        ensures { result ≡ tlb_at (entries_of self.now.places self.now.fills.items) page }
     {
         match self.place_of(page) {
             None => None,
-            Some(place) => Some(self.fills[place].entry.translation),
+            Some(place) => Some(self.places[place].translation),
         }
     }
 
-    /// The place of the page's translation, if there is one: the newest of its hash, or one older.
+    /// The place of the page's translation, if there is one: one of the set of its hash.
     fn place_of(&self, page: u64) -> Option<usize>
-        ensures within { IfSome result (λ place. place < length self.now.fills.items) }
-        ensures found { IfSome result (λ place.
-            has_page page (filled_at self.now.fills.items place) ≡ true) }
-        ensures missing { result ≡ None → tlb_at (entries_of self.now.fills.items) page ≡ None }
+        ensures held { IfSome result (λ place. IsHeld self.now.free place) }
+        ensures found { IfSome result (λ place. page_at self.now.places place ≡ page) }
+        ensures missing { result ≡ None
+            → tlb_at (entries_of self.now.places self.now.fills.items) page ≡ None }
     {
-        let mut link = usize::from(self.newest[hash(page)]);
-        'chain: while self.first < link {
-            let filled = self.fills[link - 1];
-            if filled.is_held && filled.entry.page == page {
-                return Some(link - 1);
+        let mut rest = self.sets[hash(page)];
+        'set: while rest != 0 {
+            let place = place_sets::first(rest);
+            if self.places[place].page == page {
+                return Some(place);
             }
-            link = usize::from(filled.older);
+            rest = place_sets::without(rest, place);
         }
         None
     }
 
     /// Takes in the translation of a page that has none. Where there is no room, the oldest filled
     /// goes.
+    #[inline(always)]
     pub fn fill(&mut self, page: u64, translation: Translation)
-        requires { tlb_at (entries_of self.old.fills.items) page ≡ None }
-        ensures { entries_of self.new.fills.items
-            ≡ tlb_filled page translation (entries_of self.old.fills.items) }
+        requires { tlb_at (entries_of self.old.places self.old.fills.items) page ≡ None }
+        ensures { entries_of self.new.places self.new.fills.items
+            ≡ tlb_filled page translation (entries_of self.old.places self.old.fills.items) }
     {
         self.make_room();
-        self.push(page, translation);
+        if self.free == 0 {
+            self.replace_oldest(page, translation);
+        } else {
+            self.push(page, translation);
+        }
     }
 
-    /// Drops the oldest filled where there is no room for another, and moves the held ones to the
-    /// front where no place is left.
+    /// Lets the order begin anew where it is full.
     fn make_room(&mut self)
-        ensures entries { entries_of self.new.fills.items
-            ≡ (if length (entries_of self.old.fills.items) == 64
-            then drop 1 (entries_of self.old.fills.items) else entries_of self.old.fills.items) }
-        ensures few { length (entries_of self.new.fills.items) < 64 }
-        ensures room { length self.new.fills.items < 128 }
+        ensures entries { entries_of self.new.places self.new.fills.items
+            ≡ entries_of self.old.places self.old.fills.items }
+        ensures room { length self.new.fills.items < 192 }
     {
-        if self.held == HELD {
-            self.drop_oldest();
-        }
         if self.fills.is_full() {
             self.move_up();
         }
     }
 
-    /// Drops the oldest filled.
-    fn drop_oldest(&mut self)
-        requires { 0 < length (entries_of self.old.fills.items) }
-        ensures { entries_of self.new.fills.items ≡ drop 1 (entries_of self.old.fills.items) }
+    /// Takes in the translation of a page that has none, in the place of the oldest filled.
+    fn replace_oldest(&mut self, page: u64, translation: Translation)
+        requires full { length (entries_of self.old.places self.old.fills.items) ≡ 64 }
+        requires room { length self.old.fills.items < 192 }
+        requires absent { tlb_at (entries_of self.old.places self.old.fills.items) page ≡ None }
+        ensures { entries_of self.new.places self.new.fills.items
+            ≡ drop 1 (entries_of self.old.places self.old.fills.items)
+            ++ record { page = page; translation = translation } ∷ [] }
     {
-        let oldest = self.oldest();
-        self.let_go(oldest);
-        self.first = oldest + 1;
+        self.drop_oldest();
+        self.push(page, translation);
     }
 
-    /// The place of the oldest filled that is held, or the number of places where none is.
+    /// Drops the oldest filled.
+    fn drop_oldest(&mut self)
+        requires { 0 < length (entries_of self.old.places self.old.fills.items) }
+        ensures entries { entries_of self.new.places self.new.fills.items
+            ≡ drop 1 (entries_of self.old.places self.old.fills.items) }
+        ensures len { length self.new.fills.items ≡ length self.old.fills.items }
+    {
+        let first = self.oldest();
+        let oldest = usize::from(self.fills[first]);
+        self.let_go(oldest);
+        self.first = first + 1;
+    }
+
+    /// Where the order has its first place, or its length where it has none.
     fn oldest(&self) -> usize
         ensures within { result ≤ length self.now.fills.items }
-        ensures bounded { result ≤ 128 }
-        ensures held { result < length self.now.fills.items
-            → (filled_at self.now.fills.items result).is_held ≡ true }
-        ensures gone { entries_of (take result self.now.fills.items) ≡ [] }
+        ensures bounded { result ≤ 192 }
+        ensures place { result < length self.now.fills.items
+            → slice_index self.now.fills.items result < 64 }
+        ensures gone { NoneBefore result self.now.fills.items }
     {
         let end = self.fills.len();
-        'gone: for place in self.first..end {
-            if self.fills[place].is_held {
-                return place;
+        'gone: for i in self.first..end {
+            if usize::from(self.fills[i]) < PLACES {
+                return i;
             }
         }
         end
     }
 
-    /// Moves the held translations to the front.
+    /// Lets the order begin anew with the translations that are held.
+    #[inline(never)]
     fn move_up(&mut self)
-        ensures entries { entries_of self.new.fills.items ≡ entries_of self.old.fills.items }
-        ensures short { length self.new.fills.items ≡ length (entries_of self.old.fills.items) }
+        ensures entries { entries_of self.new.places self.new.fills.items
+            ≡ entries_of self.old.places self.old.fills.items }
+        ensures short { length self.new.fills.items
+            ≡ length (entries_of self.old.places self.old.fills.items) }
     {
-        self.fills.retain(|filled| filled.is_held);
-        self.newest = chain(&mut self.fills);
+        self.fills = moved_up(&self.fills, self.first, &mut self.at);
         self.first = 0;
     }
 
     /// Takes in the translation of a page that has none, behind the others.
     fn push(&mut self, page: u64, translation: Translation)
-        requires few { length (entries_of self.old.fills.items) < 64 }
-        requires room { length self.old.fills.items < 128 }
-        requires absent { tlb_at (entries_of self.old.fills.items) page ≡ None }
-        ensures entries { entries_of self.new.fills.items ≡ entries_of self.old.fills.items
+        requires few { length (entries_of self.old.places self.old.fills.items) < 64 }
+        requires room { length self.old.fills.items < 192 }
+        requires absent { tlb_at (entries_of self.old.places self.old.fills.items) page ≡ None }
+        ensures { entries_of self.new.places self.new.fills.items
+            ≡ entries_of self.old.places self.old.fills.items
             ++ record { page = page; translation = translation } ∷ [] }
-        ensures len { length self.new.fills.items ≡ length self.old.fills.items + 1 }
     {
-        let hash = hash(page);
-        self.fills.push(Filled {
-            entry: TlbEntry { page, translation },
-            is_held: true,
-            older: self.newest[hash],
-        });
-        self.newest[hash] = self.fills.len() as u8;
-        self.held += 1;
+        let place = place_sets::first(self.free);
+        let set = hash(page);
+        self.places[place] = TlbEntry { page, translation };
+        self.at[place] = self.fills.len() as u8;
+        self.sets[set] = place_sets::with(self.sets[set], place);
+        self.free = place_sets::without(self.free, place);
+        self.fills.push(place as u8);
     }
 
     /// Drops the translations of the pages of the range.
     pub fn invalidate(&mut self, range: PageRange)
-        ensures { entries_of self.new.fills.items
-            ≡ tlb_without (has range) (entries_of self.old.fills.items) }
+        ensures { entries_of self.new.places self.new.fills.items
+            ≡ tlb_without (has range) (entries_of self.old.places self.old.fills.items) }
     {
         if range.end.saturating_sub(range.first) <= FEW_PAGES {
             self.drop_each(range);
@@ -197,23 +213,23 @@ impl Tlb {
 
     /// Drops the translations of the pages of the range, each of which is looked for.
     fn drop_each(&mut self, range: PageRange)
-        ensures { entries_of self.new.fills.items
-            ≡ tlb_without (has range) (entries_of self.old.fills.items) }
+        ensures { entries_of self.new.places self.new.fills.items
+            ≡ tlb_without (has range) (entries_of self.old.places self.old.fills.items) }
     {
         'pages: for page in range.first..range.end {
             self.drop_page(page);
         }
     }
 
-    /// Drops the translations of the pages of the range, which are looked for at each place. The next
-    /// walk begins where the first is held.
+    /// Drops the translations of the pages of the range, which are looked for in the whole order.
+    /// The next walk begins where it has its first place.
     fn drop_within(&mut self, range: PageRange)
-        ensures { entries_of self.new.fills.items
-            ≡ tlb_without (has range) (entries_of self.old.fills.items) }
+        ensures { entries_of self.new.places self.new.fills.items
+            ≡ tlb_without (has range) (entries_of self.old.places self.old.fills.items) }
     {
-        'places: for place in self.first..self.fills.len() {
-            let filled = self.fills[place];
-            if filled.is_held && range.contains(filled.entry.page) {
+        'fills: for i in self.first..self.fills.len() {
+            let place = usize::from(self.fills[i]);
+            if place < PLACES && range.contains(self.places[place].page) {
                 self.let_go(place);
             }
         }
@@ -222,8 +238,8 @@ impl Tlb {
 
     /// Drops the translation of the page.
     pub fn drop_page(&mut self, page: u64)
-        ensures { entries_of self.new.fills.items
-            ≡ tlb_without (is_at page) (entries_of self.old.fills.items) }
+        ensures { entries_of self.new.places self.new.fills.items
+            ≡ tlb_without (is_at page) (entries_of self.old.places self.old.fills.items) }
     {
         if let Some(place) = self.place_of(page) {
             self.let_go(place);
@@ -232,38 +248,48 @@ impl Tlb {
 
     /// Drops the translation at a place that is held.
     fn let_go(&mut self, place: usize)
-        requires within { place < length self.old.fills.items }
-        requires held { (filled_at self.old.fills.items place).is_held ≡ true }
-        ensures { self.new.fills.items ≡ slice_set self.old.fills.items place
-            (dropped (filled_at self.old.fills.items place)) }
+        requires { IsHeld self.old.free place }
+        ensures fills { self.new.fills.items
+            ≡ slice_set self.old.fills.items (slice_index self.old.at place) 64 }
+        ensures places { self.new.places ≡ self.old.places }
     {
-        self.fills[place].is_held = false;
-        self.held -= 1;
+        let set = hash(self.places[place].page);
+        self.sets[set] = place_sets::without(self.sets[set], place);
+        self.free = place_sets::with(self.free, place);
+        let at = usize::from(self.at[place]);
+        self.fills[at] = DROPPED;
     }
 }
 
-/// The lower four bytes of the page's number, in one by xor. It tells 64 pages of any stride of a
-/// power of 2 apart.
+/// Four times six bits of the page's number, the lowest ones, in one by xor. It tells 64 pages of
+/// any stride of a power of 2 up to 2^18 apart.
 #[tactic(auto, unfolding(crate::specs::Tlb::page_hash))]
 fn hash(page: u64) -> usize
     ensures value { result ≡ page_hash page }
-    ensures below { result < 256 }
+    ensures below { result < 64 }
 {
-    ((page ^ (page >> 8) ^ (page >> 16) ^ (page >> 24)) % 256) as usize
+    let folded = page ^ (page >> 12);
+    ((folded ^ (folded >> 6)) % 64) as usize
 }
 
-/// Leads from each place to the next older one of its hash; where those begin, by hash.
-fn chain(fills: &mut [Filled]) -> [u8; 256]
-    requires { length fills.old ≤ 128 }
-    ensures entries { entries_of fills.new ≡ entries_of fills.old }
-    ensures chained { AreChained result (map filled_page fills.new) (map filled_older fills.new) }
-    ensures len { length fills.new ≡ length fills.old }
+/// The places of an order without those before the first and where one was dropped; where each
+/// stands now.
+fn moved_up(fills: &[u8], first: usize, at: &mut [u8; PLACES]) -> ArrayVec<u8, FILLS>
+    requires few { length fills.now ≤ 192 }
+    requires begun { first ≤ length fills.now }
+    requires even { length at.old ≡ 64 }
+    requires gone { NoneBefore first fills.now }
+    requires there { (i : ℕ) → i < length fills.now → slice_index fills.now i < 64
+        → slice_index at.old (slice_index fills.now i) ≡ i }
+    ensures { IsMovedUp fills.now at.old (length fills.now) result.items at.new }
 {
-    let mut newest = [0; 256];
-    'places: for place in 0..fills.len() {
-        let hash = hash(fills[place].entry.page);
-        fills[place].older = newest[hash];
-        newest[hash] = (place + 1) as u8;
+    let mut moved = ArrayVec::new();
+    'order: for i in first..fills.len() {
+        let place = fills[i];
+        if usize::from(place) < PLACES {
+            at[usize::from(place)] = moved.len() as u8;
+            moved.push(place);
+        }
     }
-    newest
+    moved
 }

@@ -48,7 +48,7 @@ pub struct OneSet;
 
 impl Places for OneSet {
     fn page(&self, place: u64) -> u64 {
-        4096 + place % 8 * ((1 << 29) + (1 << 21)) + place / 8 * (1 << 32)
+        4096 + place % 8 * (1 << 29) + place / 8 * (1 << 32)
     }
 }
 

@@ -1,9 +1,8 @@
-use Rattle.std.proofs.Common.{Some, sym, ap, ◌∙◌}
-use Rattle.mmu.specs.Fills.{filled_at}
-use Rattle.mmu.proofs.Places.{there}
+use Rattle.std.proofs.Common.{sym}
+use Rattle.mmu.proofs.Filings.{page_found}
 use Rattle.mmu.proofs.tlb.Tlb.find.Goals as goal
 
 pub returns-in-Some : goal.returns-in-Some
 returns-in-Some c =
-    ap (λ fs. Some (filled_at fs c.in-Some.place).entry.translation) c.deref.ensures.0
-    ∙ sym (there c.args.self.now.fills.items c.args.page c.in-Some.place c.args.self.now.distinct c.in-Some.ensures.within c.in-Some.ensures.found)
+    let t = c.args.self.now in
+    sym (page_found t.places t.fills.items t.at t.free c.in-Some.place c.args.page t.ordered t.distinct c.in-Some.ensures.held c.in-Some.ensures.found)

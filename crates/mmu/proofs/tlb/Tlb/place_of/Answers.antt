@@ -1,31 +1,37 @@
-use Rattle.std.proofs.Common.{◌≡◌, ◌-◌, ◌<◌, false, refl, subst, sym, arith}
-use Rattle.mmu.specs.Fills.{filled_at, has_page}
-use Rattle.mmu.proofs.Chains.{Walked, walk_begun, step_on, other_page, walk_ended}
+use Rattle.std.proofs.Common.{◌≡◌, ◌≢◌, ◌<◌, sym, subst, slice_index, arith}
+use Rattle.std.proofs.lemmas.Bool.Decides.{nat_tests}
+use Rattle.mmu.specs.Tlb.{page_hash}
+use Rattle.mmu.specs.Fills.{page_at}
+use Rattle.mmu.proofs.Filings.{IsPassed, none_passed, one_passed, all_passed, set_missing, page_missing}
 use Rattle.mmu.proofs.tlb.Tlb.place_of.Goals as goal
-use Rattle.mmu.proofs.tlb.Tlb.place_of.Goals.{After-from-link-in-chain, else-filled-via-then-filled+else-filled-page, else-filled-via-else-filled}
 
-pub chain-init : goal.chain-init
-chain-init c =
-    subst (Walked c.args.self.now.fills.items c.args.page) (sym c.from-link.ensures)
-    (walk_begun c.args.self.now.newest c.args.self.now.fills.items c.args.page c.hash.result c.args.self.now.chained c.hash.ensures.value c.hash.ensures.below)
+pub set-init : goal.set-init
+set-init c =
+    let t = c.args.self.now in
+    subst (λ h. IsPassed (slice_index t.sets (page_hash c.args.page)) t.places c.args.page (slice_index t.sets h))
+    (sym c.hash.ensures.value) (none_passed (slice_index t.sets (page_hash c.args.page)) t.places c.args.page)
 
--- the place isn't the page's, so the walk goes on
-on : (c : After-from-link-in-chain) → Walked c.args.self.now.fills.items c.args.page c.from-link-in-chain.result
-    × (c.from-link-in-chain.result < c.chain.link)
-on c =
-    let other : has_page c.args.page (filled_at c.deref.result.now (c.chain.link - 1)) ≡ false = elim c.else-filled.branch [
-      | else-filled-via-then-filled+else-filled-page w ↦ other_page (filled_at c.deref.result.now (c.chain.link - 1)) c.args.page w.if-filled-page.false
-      | else-filled-via-else-filled w ↦ rw w.if-filled.false refl
-    ] in
-    step_on c.args.self.now.newest c.args.self.now.fills.items c.deref.result.now c.args.page c.chain.link c.from-link-in-chain.result
-    c.args.self.now.chained c.chain.invariant (omega (arith, c.chain-test.true)) c.deref.ensures.0 other c.from-link-in-chain.ensures
+pub returns-then-self-place-clause-held : goal.returns-then-self-place-clause-held
+returns-then-self-place-clause-held c =
+    let t = c.args.self.now in
+    (t.filed.within (page_hash c.args.page) c.first-place.result (subst (λ h. h < 64) c.hash.ensures.value c.hash.ensures.below)
+    (c.set.invariant.part c.first-place.result c.first-place.ensures.member)).0
 
-pub chain-smaller : goal.chain-smaller
-chain-smaller c = (on c).1
+pub set-smaller : goal.set-smaller
+set-smaller c = c.without-rest.ensures.less c.first-place.ensures.member
 
-pub chain-preserved : goal.chain-preserved
-chain-preserved c = (on c).0
+pub set-preserved : goal.set-preserved
+set-preserved c =
+    let t = c.args.self.now in
+    let ne : page_at t.places c.first-place.result ≢ c.args.page = grind (arith, nat_tests) in
+    one_passed (slice_index t.sets (page_hash c.args.page)) t.places c.args.page c.set.rest c.first-place.result c.without-rest.result c.set.invariant
+    c.without-rest.ensures.members ne
 
 pub returns-clause-missing : goal.returns-clause-missing
-returns-clause-missing c = λ _. walk_ended c.args.self.now.fills.items c.args.page c.chain.link c.args.self.now.first c.args.self.now.gone
-    (omega (arith, c.chain-test.false)) c.chain.invariant
+returns-clause-missing c = λ _.
+    let t = c.args.self.now in
+    let none : c.set.rest ≡ 0 = grind (arith, nat_tests) in
+    let set = slice_index t.sets (page_hash c.args.page) in
+    page_missing t.places t.fills.items t.at t.free c.args.page t.ordered
+    (set_missing t.sets t.places t.free c.args.page t.filed
+    (all_passed set t.places c.args.page (subst (IsPassed set t.places c.args.page) none c.set.invariant)))
