@@ -17,7 +17,7 @@ ghost use Rattle.core_steps.specs.declared.setup.CallLimit.TheVariants.{Usual};
 use crate::fault::{TraceFault, status_of_fault};
 use crate::replayer::{Replayer, Staged};
 use crate::shown::{Show, write_log, write_maps, write_told};
-use core_steps::{CallLimit, Forgotten, Kept, Opening};
+use core_steps::{CallLimit, Forgotten, Logged, Opening};
 use std::alloc::Allocator;
 use std::io::Write;
 use trace_io::lines::{Found, LineReader, NoLine};
@@ -219,7 +219,7 @@ fn replay_text<A: Allocator + Clone + Drop, S: Source, W: Sink, X: Watch + Drop>
     ensures kept { (result.ended ≡ Err WriteFailed) ⊎ (W.failed writer.new ≡ W.failed writer.old) }
 {
     match show {
-        Show::OutcomesAndLog => replay_over::<Kept<A>, A, S, W, X>(
+        Show::OutcomesAndLog => replay_over::<Logged<A>, A, S, W, X>(
             alloc,
             lines,
             reader,
