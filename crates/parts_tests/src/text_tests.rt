@@ -7,9 +7,10 @@ use trace_text::line::{
     first_word_is_file, first_word_is_vm, is_printable, is_printable_line, read_line,
 };
 use trace_text::lists::{write_answer, write_detach, write_map_line};
+use trace_text::log_lines::LogLines;
 use trace_text::printing::{LineText, address_text, number_text, push_number, push_reply};
 use trace_text::sign::halves;
-use vm_base::{Back, Errno, PageRange, Prot, Reply, Request, SegvCode};
+use vm_base::{Back, CoreId, Entry, Errno, PageRange, Prot, Reply, Request, SegvCode};
 
 /// Sizes of a space. Each row of a table is a line and what it says, as `Debug` shows that.
 const SPACES: &str = "\
@@ -405,6 +406,54 @@ fn copies_of_the_log(rt: HostRuntime) {
     ] {
         assert!(rt; is_detach(&mut text, step, page, line));
     }
+}
+
+/// Whether the lines of these entries are the text, one behind another.
+fn are_log_lines(entries: &[Entry], lines: &str) -> bool {
+    let mut text = LineText::new();
+    let mut all = LogLines::new();
+    for entry in entries {
+        if all.is_full() {
+            return false;
+        }
+        all.push(*entry, &mut text);
+    }
+    all.as_bytes() == lines.as_bytes()
+}
+
+/// The entry of an answer of core 0.
+fn answered(step: u64, call: u64, reply: Reply) -> Entry {
+    Entry::Answer {
+        step,
+        call,
+        core: CoreId::new(0),
+        reply,
+    }
+}
+
+#[test]
+fn lines_of_the_log(rt: HostRuntime) {
+    let entries = [
+        answered(0, 9, Reply::Byte(0)),
+        answered(10, 99, Reply::Byte(99)),
+        answered(100, 100, Reply::Byte(100)),
+        answered(199, 200, Reply::Done),
+        answered(12_345, 12_345, Reply::Byte(255)),
+        answered(12_399, 12_400, Reply::Mapped(0x10000)),
+        Entry::Detach {
+            step: 12_401,
+            call: 1,
+            page: 16,
+        },
+        answered(u64::MAX, u64::MAX - 1, Reply::Segv(SegvCode::AccErr)),
+        answered(1_000_000, 1_000_001, Reply::NoFrame),
+    ];
+    assert!(rt;
+        are_log_lines(
+            &entries,
+            "log 0 call 9 0\nlog 10 call 99 99\nlog 100 call 100 100\nlog 199 call 200 done\nlog 12345 call 12345 255\nlog 12399 call 12400 0x10000\nlog 12401 detach 0x10000\nlog 18446744073709551615 call 18446744073709551614 segv accerr\nlog 1000000 call 1000001 noframe\n"
+        )
+    );
 }
 
 /// Whether the pages' line of the list of mappings is this one.

@@ -1,6 +1,6 @@
 -- What is written piece by piece, whole or a front of it.
 use Rattle.std.proofs.Common.{◌≡◌, ℕ, ◌+◌, ◌<◌, ◌≤◌, List, [], ◌∷◌, ◌++◌, Option, length, take, drop, get_or}
-use Rattle.std.proofs.Common.{arith, refl, sym, ap, ◌∙◌, subst, append-nil, length-append}
+use Rattle.std.proofs.Common.{arith, refl, sym, ap, ◌∙◌, subst, append-nil, append_assoc, length-append}
 use Rattle.std.proofs.Math.Seq.{take-append-add}
 use Rattle.std.proofs.lemmas.Grind.{common_steps, flat_map-append}
 use Rattle.std.proofs.lemmas.List.{take_more, take-append-drop, take-append-le}
@@ -59,30 +59,41 @@ lines_more log n x h is =
     ap (flat_map entry_text) (take_more log n x h ∙ ap (λ y. take n log ++ y ∷ []) (sym is))
     ∙ flat_map-append entry_text (take n log) (x ∷ []) ∙ ap (λ t. flat_map entry_text (take n log) ++ t) (append-nil (entry_text x))
 
--- no entry was written yet
-pub log_none : (a : Option (List ℕ)) → Appends a a (log_text [])
+-- some lines were handed on, and the others wait
+abbrev pub IsHanded : Option (List ℕ) → Option (List ℕ) → List ℕ → List ℕ → Type 0
+IsHanded a b waiting text = (done : List ℕ) × Appends a b done × (done ++ waiting ≡ text)
+
+-- there is no line yet
+pub handed_none : (a : Option (List ℕ)) (waiting : List ℕ) → waiting ≡ [] → IsHanded a a waiting (log_text [])
 unfolding log_text
-log_none a = Appends-nil a
+handed_none a waiting none = ([], Appends-nil a, none)
 
--- one entry more was written
-pub log_more : (a b c : Option (List ℕ)) (log : List Entry) (n : ℕ) (x : Entry) → n < length log → x ≡ get_or log n x
-    → Appends a b (log_text (take n log)) → Appends b c (entry_text x) → Appends a c (log_text (take (n + 1) log))
-log_more a b c log n x h is p q = subst (Appends a c) (sym (lines_more log n x h is)) (Appends-trans a b c _ _ p q)
+-- room was made, and the line of one entry more waits
+pub handed_more : (a b c : Option (List ℕ)) (log : List Entry) (n : ℕ) (x : Entry) (was rest now : List ℕ) → n < length log → x ≡ get_or log n x
+    → IsHanded a b was (log_text (take n log)) → (text : List ℕ) × Appends b c text × (was ≡ text ++ rest) → now ≡ rest ++ entry_text x
+    → IsHanded a c now (log_text (take (n + 1) log))
+handed_more a b c log n x was rest now h is p q e = (
+  p.0 ++ q.0,
+  Appends-trans a b c p.0 q.0 p.1 q.1,
+  ap (λ t. (p.0 ++ q.0) ++ t) e ∙ append_assoc p.0 q.0 (rest ++ entry_text x)
+      ∙ ap (λ t. p.0 ++ t) (sym (append_assoc q.0 rest (entry_text x)) ∙ ap (λ t. t ++ entry_text x) (sym q.2))
+      ∙ sym (append_assoc p.0 was (entry_text x)) ∙ ap (λ t. t ++ entry_text x) p.2 ∙ sym (lines_more log n x h is),
+)
 
--- a front of an entry was written
-pub log_front : (a b c : Option (List ℕ)) (log : List Entry) (n : ℕ) (x : Entry) → n < length log → x ≡ get_or log n x
-    → Appends a b (log_text (take n log)) → AppendsFront b c (entry_text x) → AppendsFront a c (log_text log)
+-- a front of the waiting ones was handed on
+pub handed_front : (a b c : Option (List ℕ)) (log : List Entry) (n : ℕ) (waiting : List ℕ) → IsHanded a b waiting (log_text (take n log))
+    → AppendsFront b c waiting → AppendsFront a c (log_text log)
 unfolding log_text
-log_front a b c log n x h is p q =
-    let front : AppendsFront a c (log_text (take (n + 1) log)) =
-    subst (AppendsFront a c) (sym (lines_more log n x h is)) (front_more a b c _ _ p q) in
-    let whole = sym (flat_map-append entry_text (take (n + 1) log) (drop (n + 1) log)) ∙ ap log_text (take-append-drop (n + 1) log) in
-    subst (AppendsFront a c) whole (longer_front a c _ (flat_map entry_text (drop (n + 1) log)) front)
+handed_front a b c log n waiting p q =
+    let front : AppendsFront a c (log_text (take n log)) = subst (AppendsFront a c) p.2 (front_more a b c p.0 waiting p.1 q) in
+    let whole = sym (flat_map-append entry_text (take n log) (drop n log)) ∙ ap log_text (take-append-drop n log) in
+    subst (AppendsFront a c) whole (longer_front a c _ (flat_map entry_text (drop n log)) front)
 
--- all entries were written
-pub log_whole : (a b : Option (List ℕ)) (log : List Entry) (n : ℕ) → length log ≤ n → Appends a b (log_text (take n log))
-    → Appends a b (log_text log)
-log_whole a b log n h p = subst (λ l. Appends a b (log_text l)) (whole log n h) p
+-- all of them were handed on
+pub handed_all : (a b c : Option (List ℕ)) (log : List Entry) (n : ℕ) (waiting : List ℕ) → length log ≤ n
+    → IsHanded a b waiting (log_text (take n log)) → Appends b c waiting → Appends a c (log_text log)
+handed_all a b c log n waiting h p q =
+    subst (Appends a c) (p.2 ∙ ap log_text (whole log n h)) (Appends-trans a b c p.0 waiting p.1 q)
   where
     whole : (log : List Entry) (n : ℕ) → length log ≤ n → take n log ≡ log
     whole log n h = grind (arith, common_steps)

@@ -1,13 +1,14 @@
 //! What a replay shows beside the text of each line.
-ghost use Rattle.std.specs.Prelude.{◌≡◌, ℕ, List, OnErr, OnOk, true};
+ghost use Rattle.std.specs.Prelude.{◌≡◌, ℕ, List, ◌++◌, OnErr, OnOk, true};
 ghost use Rattle.std.specs.Io.KnownBytes.{Appends};
 ghost use Rattle.trace_io.specs.Sink.{AppendsFront};
 ghost use Rattle.trace.specs.Shown.{told, IsBegunBehind, IsBehind};
-ghost use Rattle.trace_text.specs.Lists.{entry_text, log_text};
+ghost use Rattle.trace_text.specs.Lists.{log_text};
+ghost use Rattle.trace_text.specs.LogLines.{HasRoom, so_far};
 
 use crate::replayer::Staged;
 use trace_io::sink::{Sink, WriteFailed, write_all};
-use trace_text::{LineText, write_answer, write_detach, write_map_line};
+use trace_text::{LineText, LogLines, write_map_line};
 use vm_base::Entry;
 
 /// What a replay writes.
@@ -37,23 +38,29 @@ pub fn write_told<W: Sink>(writer: &mut W, show: Show, text: &LineText) -> Resul
     }
 }
 
-// Replaces the text by the line of an entry.
-fn write_entry(text: &mut LineText, entry: Entry)
-    ensures { text.new.bytes ≡ entry_text entry }
+// Hands the lines on, where there may be no room for one more.
+#[inline(always)]
+fn make_room<W: Sink>(writer: &mut W, lines: &mut LogLines) -> Result<(), WriteFailed>
+    ensures room { OnOk result (HasRoom lines.new) }
+    ensures ok { OnOk result ((text : List ℕ) × Appends (W.contents writer.old) (W.contents writer.new) text
+        × (so_far lines.old ≡ text ++ so_far lines.new)) }
+    ensures kept { OnOk result (W.failed writer.new ≡ W.failed writer.old) }
+    ensures front { OnErr result
+        (AppendsFront (W.contents writer.old) (W.contents writer.new) (so_far lines.old)) }
+    ensures err { OnErr result (W.failed writer.new ≡ true) }
 {
-    match entry {
-        Entry::Answer {
-            step,
-            call,
-            reply,
-            ..
-        } => write_answer(text, step, call, reply),
-        Entry::Detach { step, page, .. } => write_detach(text, step, page),
+    if !lines.is_full() {
+        return Ok(());
     }
+    if let Err(failed) = write_all(writer, lines.as_bytes()) {
+        return Err(failed);
+    }
+    lines.clear();
+    Ok(())
 }
 
 /// Writes a line for each entry of a log, in order. At an `Err` a front of them was
-/// written. The text is where each line is made.
+/// written. The text is where rare lines are made.
 pub fn write_log<W: Sink>(
     writer: &mut W,
     log: &[Entry],
@@ -65,14 +72,18 @@ pub fn write_log<W: Sink>(
         (AppendsFront (W.contents writer.old) (W.contents writer.new) (log_text log.now)) }
     ensures err { OnErr result (W.failed writer.new ≡ true) }
 {
+    let mut lines = LogLines::new();
     let mut at = 0;
     'entries: while at < log.len() {
-        let entry = log[at];
-        write_entry(text, entry);
-        if let Err(failed) = write_all(writer, text.as_str().as_bytes()) {
+        if let Err(failed) = make_room(writer, &mut lines) {
             return Err(failed);
         }
+        let entry = log[at];
+        lines.push(entry, text);
         at += 1;
+    }
+    if let Err(failed) = write_all(writer, lines.as_bytes()) {
+        return Err(failed);
     }
     Ok(())
 }
