@@ -26,7 +26,6 @@ use Rattle.machine_model.specs.declared.phase.Phase.{Phase}
 use Rattle.machine_model.specs.declared.phase.Phase.TheVariants.{Lock, Guess, Find, Back, Cut, Decide, Post, Acks}
 use Rattle.machine_model.specs.declared.phase.Phase.TheVariants.{Unlock, Answer, Try, Settle, Want, Fill, CopyPost}
 use Rattle.machine_model.specs.declared.phase.Phase.TheVariants.{CopyAcks, Install, Release}
-use Rattle.machine_model.specs.Actions.{after_reply, to}
 use Rattle.machine_model.specs.Changes.{AwaitsNobody, Awaits}
 use Rattle.machine_model.specs.Files.{back_of}
 use Rattle.machine_model.specs.Holding.{awaits_in, is_open, taken_in}
@@ -84,13 +83,6 @@ goal_in (CopyAcks touch frame) = Some (To.Access touch)
 goal_in (Install touch) = Some (To.Access touch)
 goal_in (Release touch) = Some (To.Access touch)
 goal_in _ = None
-
--- ---- where a call goes on
-
--- the call goes on in a phase, or is answered, while it holds these pages
-abbrev pub goes_or_ends : ℕ → Option PageRange → Result Phase Reply → World → World
-goes_or_ends core held (Ok phase) w = to core phase w
-goes_or_ends core held (Err reply) w = after_reply core held reply w
 
 -- ---- copies
 

@@ -1,12 +1,8 @@
 //! A call begins, and its arguments are checked.
-ghost use Rattle.std.specs.Prelude.{◌≡◌, ℕ, ◌<◌, length, IfOk, None};
-ghost use Rattle.slot_lock.specs.Plan.{IsSound};
-ghost use Rattle.machine_model.specs.Changes.{after_plan};
+ghost use Rattle.std.specs.Prelude.{◌≡◌, ◌<◌, length};
 ghost use Rattle.machine_model.specs.Step.{Goes};
-ghost use Rattle.machine_model.specs.World.{World};
 ghost use Rattle.machine_laws.specs.Orderly.{answer_count};
 ghost use Rattle.core_steps.specs.AtOnce.{with_call};
-ghost use Rattle.core_steps.specs.Moving.{goes_or_ends};
 ghost use Rattle.core_steps.specs.State.{world};
 
 use crate::engine::Engine;
@@ -17,22 +13,8 @@ use machine_model::{Outcome, Phase};
 use mmu::Hardware;
 use slot_lock::{Goal, Plan, SlotMap};
 use std::alloc::Allocator;
-use vm_base::{CoreId, Reply, Request};
+use vm_base::{CoreId, Request};
 use vm_calls::check;
-
-/// Where a call goes on that its arguments don't refuse, and that has this plan.
-#[inline(always)]
-fn begun(checked: Result<Plan, Reply>) -> Result<Phase, Reply>
-    requires { IfOk checked (λ plan. IsSound plan) }
-    ensures { (core : ℕ) (w : World) → after_plan core checked w ≡ goes_or_ends core None result w }
-{
-    match checked {
-        Ok(Plan::Change(change)) => Ok(locking(Goal::Change(change))),
-        Ok(Plan::Touch(touch)) => Ok(Phase::Try(touch)),
-        Ok(Plan::Place(place)) => Ok(placing(place)),
-        Err(reply) => Err(reply),
-    }
-}
 
 impl<M: SlotMap, H: Hardware, A: Allocator, L: Ledger> Engine<M, H, A, L> {
     /// The request is noted, and the core's call has its number.
@@ -53,8 +35,10 @@ impl<M: SlotMap, H: Hardware, A: Allocator, L: Ledger> Engine<M, H, A, L> {
         requires room { answer_count (L.entries self.old.calls.ledger) < self.old.calls.limit }
         ensures { Goes (world M.slots self.old) core (Phase.Check request) result (world M.slots self.new) }
     {
-        match begun(check(&self.objects, core, request)) {
-            Ok(phase) => self.go_to(core, phase),
+        match check(&self.objects, core, request) {
+            Ok(Plan::Change(change)) => self.go_to(core, locking(Goal::Change(change))),
+            Ok(Plan::Touch(touch)) => self.go_to(core, Phase::Try(touch)),
+            Ok(Plan::Place(place)) => self.go_to(core, placing(place)),
             Err(reply) => self.reply(core, None, reply),
         }
         Outcome::Stepped
