@@ -4,7 +4,7 @@ ghost use Rattle.std.specs.Prelude.{◌≡◌, None, IfOk, replicate};
 use crate::reading::Said;
 use audit::{Auditor, Call, Verdict};
 use backing::FileSpec;
-use history::History;
+use ghost_list::GhostList;
 use slot_lock::SlotMap;
 use std::alloc::{AllocError, Allocator};
 use vm_base::{CoreId, NoMemory, Reply, Request};
@@ -31,7 +31,7 @@ pub struct Hearing<M: SlotMap, A: Allocator> {
     /// What the call of each core asks for that waits.
     pub waiting: Vec<Option<Request>, A>,
     /// The calls that were judged, all of them legal.
-    pub calls: History<Call>,
+    pub calls: GhostList<Call>,
     /// How many these are.
     pub judged: u64,
     /// How many lines were passed over.
@@ -78,7 +78,7 @@ impl<M: SlotMap + Drop, A: Allocator + Clone + Drop> Hearing<M, A> {
         Ok(Hearing {
             auditor,
             waiting,
-            calls: History::new(),
+            calls: GhostList::new(),
             judged: 0,
             passed: 0,
         })

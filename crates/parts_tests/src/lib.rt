@@ -1,5 +1,5 @@
-//! Tests of the parts of a machine and of its text, a module for each crate that is tested: `history`,
-//! `frames`, `refcache`, `backing`, `shootdown`, `mmu`, `tickets`, `seats`, `trace_io`
+//! Tests of the parts of a machine and of its text, a module for each crate that is tested:
+//! `ghost_list`, `frames`, `refcache`, `backing`, `shootdown`, `mmu`, `tickets`, `seats`, `trace_io`
 //! (`io_tests`), `trace_text` (`text_tests`), `import_text`, `import_maps`
 //! (`maps_tests`), `import_lackey` (`lackey_tests`), and `picture` with `lives` (`picture_tests`).
 #![tactic(auto)]
@@ -9,7 +9,7 @@ mod backing_tests;
 #[cfg(test)]
 mod frames_tests;
 #[cfg(test)]
-mod history_tests;
+mod ghost_list_tests;
 #[cfg(test)]
 mod import_tests;
 #[cfg(test)]

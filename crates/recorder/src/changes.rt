@@ -6,7 +6,7 @@ ghost use Rattle.recorder.specs.Changes.{Changes, changes_recorded, stood};
 use crate::looking::phase_in;
 use crate::recorder::moment_of;
 use core_steps::{Ledger, Machine};
-use history::History;
+use ghost_list::GhostList;
 use machine_model::{Event, Outcome, Phase};
 use picture::moments::Recorded;
 use slot_lock::{Change, SlotMap};
@@ -20,7 +20,7 @@ use watched::Watch;
 #[derive(Drop)]
 pub struct ChangeRecorder<A: Allocator> {
     steps: u64,
-    all: History<Recorded>,
+    all: GhostList<Recorded>,
     kept: Vec<Recorded, A>,
     // No memory was refused so far.
     is_whole: bool,
@@ -63,7 +63,7 @@ impl<A: Allocator> ChangeRecorder<A> {
     {
         ChangeRecorder {
             steps: 0,
-            all: History::new(),
+            all: GhostList::new(),
             kept: Vec::new(alloc),
             is_whole: true,
         }

@@ -7,7 +7,7 @@ ghost use Rattle.std.specs.Io.{WritesAtMost};
 ghost use Rattle.std.specs.Io.KnownBytes.{Keeps, Appends, WriteAppends};
 ghost use Rattle.trace_io.specs.Sink.{AppendsFront};
 
-use history::History;
+use ghost_list::GhostList;
 use std::alloc::Allocator;
 use std::io::{BufWriter, Write};
 use std::snapshot::Snapshot;
@@ -47,13 +47,13 @@ pub trait Sink {
         ensures err { OnErr result (failed self.new ≡ true) };
 }
 
-/// Any writer behind a buffer, with the bytes that it took as a history, its failures noted, and
-/// whether it was flushed after its last write.
+/// Any writer behind a buffer, with the bytes that it took as a ghost list, its failures noted,
+/// and whether it was flushed after its last write.
 #[derive(Drop)]
 pub struct Noted<W: Write + Drop, A: Allocator> {
     pub writer: BufWriter<W, A>,
     /// All bytes that were taken.
-    pub taken: History<u8>,
+    pub taken: GhostList<u8>,
     pub failed: bool,
     pub flushed: bool,
     // What the writer held at first.
@@ -74,7 +74,7 @@ impl<W: Write + Drop, A: Allocator> Noted<W, A> {
         let first = Snapshot::of(&writer);
         Noted {
             writer,
-            taken: History::new(),
+            taken: GhostList::new(),
             failed: false,
             flushed: true,
             first,

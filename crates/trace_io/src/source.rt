@@ -5,7 +5,7 @@ ghost use Rattle.std.specs.Prelude.{if◌then◌else◌, ◌≤◌, Some, Err, d
 ghost use Rattle.std.specs.Io.{ReadsAtMost};
 ghost use Rattle.trace_io.specs.Source.{Stream, Gives, HasEnded, HasStopped, Reads, read_bytes};
 
-use history::History;
+use ghost_list::GhostList;
 use std::alloc::{AllocError, Allocator};
 use std::io::Read;
 
@@ -42,7 +42,7 @@ pub trait Source {
         ensures err { OnErr result (HasStopped (failed self.new) (reads self.new)) };
 }
 
-/// Any reader, with the bytes that it gave as a history, its reads counted and a failure noted.
+/// Any reader, with the bytes that it gave as a ghost list, its reads counted and a failure noted.
 #[derive(Drop)]
 pub struct Counted<R> {
     pub reader: R,
@@ -51,7 +51,7 @@ pub struct Counted<R> {
     /// A read has met the end, and no other is made.
     pub ended: bool,
     /// All bytes that were given.
-    pub given: History<u8>,
+    pub given: GhostList<u8>,
 }
 
 impl<R> Counted<R> {
@@ -68,7 +68,7 @@ impl<R> Counted<R> {
             reads: 0,
             failed: false,
             ended: false,
-            given: History::new(),
+            given: GhostList::new(),
         }
     }
 }

@@ -2,19 +2,19 @@
 ghost use Rattle.std.specs.Prelude.{◌≡◌, ◌+◌, false, length};
 
 use crate::ledger::{Ledger, Opening};
-use history::History;
+use ghost_list::GhostList;
 use std::alloc::AllocError;
 use vm_base::{Entry, Request};
 
 /// A ledger that keeps nothing. It takes no memory.
 #[derive(Drop)]
 pub struct Forgotten {
-    requests: History<Request>,
+    requests: GhostList<Request>,
     /// How many requests there are.
     begun: u64,
-    entries: History<Entry>,
+    entries: GhostList<Entry>,
     /// Those for which there was no room at first.
-    beyond: History<Entry>,
+    beyond: GhostList<Entry>,
     /// For how many of each there was room at first.
     limit: u64,
     ghost counted: { begun ≡ length requests.items },
@@ -59,10 +59,10 @@ impl Ledger for Forgotten {
 impl<A: Drop> Opening<A> for Forgotten {
     fn open(_alloc: A, limit: u64) -> Result<Self, AllocError> {
         Ok(Forgotten {
-            requests: History::new(),
+            requests: GhostList::new(),
             begun: 0,
-            entries: History::new(),
-            beyond: History::new(),
+            entries: GhostList::new(),
+            beyond: GhostList::new(),
             limit,
         })
     }

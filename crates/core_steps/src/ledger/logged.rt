@@ -3,14 +3,14 @@ ghost use Rattle.std.specs.Prelude.{◌≡◌, true, length};
 
 use crate::ledger::entries::KeptEntries;
 use crate::ledger::{Ledger, Opening};
-use history::History;
+use ghost_list::GhostList;
 use std::alloc::{AllocError, Allocator};
 use vm_base::{Entry, Request};
 
 /// A ledger that keeps the entries, and no request. Memory for all entries is taken when it is made.
 #[derive(Drop)]
 pub struct Logged<A: Allocator> {
-    requests: History<Request>,
+    requests: GhostList<Request>,
     /// How many requests there are.
     begun: u64,
     /// How many there may be at the most.
@@ -58,7 +58,7 @@ impl<A: Allocator> Opening<A> for Logged<A> {
     fn open(alloc: A, limit: u64) -> Result<Self, AllocError> {
         let entries = KeptEntries::with_room(alloc, limit)?;
         Ok(Logged {
-            requests: History::new(),
+            requests: GhostList::new(),
             begun: 0,
             calls: limit,
             entries,

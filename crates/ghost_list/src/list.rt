@@ -6,34 +6,34 @@ use std::marker::{Model, PhantomData};
 
 /// What came so far, in order. A clause reads it as `items`.
 #[derive(Drop)]
-pub struct History<T> {
+pub struct GhostList<T> {
     of: PhantomData<T>,
     pub ghost items: { List T },
 }
 
-impl<T> Model for History<T> {
+impl<T> Model for GhostList<T> {
     ghost also_owns = { λ _. ftrue };
 }
 
-impl<T> History<T> {
-    /// A history before anything came.
-    pub fn new() -> History<T>
+impl<T> GhostList<T> {
+    /// A list of nothing.
+    pub fn new() -> GhostList<T>
         ensures { result.items ≡ [] }
     {
-        History { of: PhantomData }
+        GhostList { of: PhantomData }
     }
 
-    /// The history and one more.
-    pub fn and(&self, last: &T) -> History<T>
+    /// The list and one more.
+    pub fn and(&self, last: &T) -> GhostList<T>
         ensures { result.items ≡ self.now.items ++ last.now ∷ [] }
     {
-        History { of: PhantomData }
+        GhostList { of: PhantomData }
     }
 
-    /// The history and some more, in order.
-    pub fn and_all(&self, more: &[T]) -> History<T>
+    /// The list and some more, in order.
+    pub fn and_all(&self, more: &[T]) -> GhostList<T>
         ensures { result.items ≡ self.now.items ++ more.now }
     {
-        History { of: PhantomData }
+        GhostList { of: PhantomData }
     }
 }

@@ -32,12 +32,12 @@ use denote.Triple.Spec.{Meets, triple_of}
 use denote.Triple.Table.{entered}
 use denote.Triple.Walked.{says, Stays, stay_dropped, walk_of, ends_at, Walks, walked, walk_Meets, Goes-dropped}
 use Rattle.std.specs.contracts.marker.PhantomData as Mark
-use Rattle.history.proofs.Walks.{none, one, one_made}
-use Rattle.history.specs.contracts.history.History as History
-use Rattle.history.specs.contracts.history.History.and_all as F
-use Rattle.history.specs.contracts.history.History.and_all.Key.{name as #self}
-use Rattle.history.proofs.history.History.and_all.Statement as stated
-use Rattle.history.proofs.history.History.and_all.Code as code
+use Rattle.ghost_list.proofs.Walks.{none, one, one_made}
+use Rattle.ghost_list.specs.contracts.list.GhostList as GhostList
+use Rattle.ghost_list.specs.contracts.list.GhostList.and_all as F
+use Rattle.ghost_list.specs.contracts.list.GhostList.and_all.Key.{name as #self}
+use Rattle.ghost_list.proofs.list.GhostList.and_all.Statement as stated
+use Rattle.ghost_list.proofs.list.GhostList.and_all.Code as code
 
 module _ (A : RattleType) where
   abbrev args : Args
@@ -54,7 +54,7 @@ module _ (A : RattleType) where
 
   abbrev stayed : Stays ended.signature.params ended.kept
   stayed = (
-    stay_dropped (RefOf (0 ∷ []) tt (plain (λ _. History.the_row (param 0 A))) (λ _. tt)) yes,
+    stay_dropped (RefOf (0 ∷ []) tt (plain (λ _. GhostList.the_row (param 0 A))) (λ _. tt)) yes,
     (stay_dropped (SliceRefOf (1 ∷ []) tt (plain (λ _. param 0 A)) (λ _. tt)) yes, tt),
   )
 
@@ -77,7 +77,7 @@ module _ (A : RattleType) where
       walk : length z.0.3.1.0.now < 2 ^ 64 → ent 𝓤 (on_entry 𝓛 ended.signature z.0.0 z.0.1 z.0.3 z.0.4) (WpFn 𝓤 H C Λ function (p ∷ s ∷ []) Post)
       walk fits =
           let a = z.0.3 in
-          let made : (History.the_row (param 0 A)).Denot =
+          let made : (GhostList.the_row (param 0 A)).Denot =
           record { of = record {}; items = a.0.now.items ++ a.1.0.now } in
           qed 𝓛 ((raw (alive 𝓛 ended.signature z.0.0 z.0.1) ⊛ ‵ (owns (types_at ended.signature.params z.0.0) a z.0.4)) ∷ []) ∵
           split ! $ keep ! (0 ∷ []) $
@@ -93,13 +93,13 @@ module _ (A : RattleType) where
     walks : (C : Calls 𝓤 H) (Λ : Loops 𝓤 H) → Walks 𝓛 ended stayed (WpFn 𝓤 H C Λ function) held
     walks C Λ =
         walked 𝓛 ended stayed held (WpFn 𝓤 H C Λ function) (λ κs. (shr_vals, (shr_slice_vals, tt)))
-        (λ κs. (shr_Tells (named 0) κs.0 (History.the_row (param 0 A)), (shr_slice_Tells (named 1) κs.1.0 (param 0 A), tt)))
+        (λ κs. (shr_Tells (named 0) κs.0 (GhostList.the_row (param 0 A)), (shr_slice_Tells (named 1) κs.1.0 (param 0 A), tt)))
         (λ κs qs bounds a y are. via 𝓤 _ (fst∗ 𝓤 _ ((held κs a).requires y)) (walk C Λ ((κs, qs, bounds, a, (shr_vals a.0, (shr_slice_vals a.1.0, tt))), y) are.1.0.0.1.0))
 
     meets : (𝓣 : Tables 𝓤 H) → Meets 𝓛 ended.signature (WpFn 𝓤 H 𝓣.C 𝓣.Λ function) (closing 𝓛 ended held)
     meets 𝓣 =
         walk_Meets 𝓛 ended stayed (
-          Goes-dropped 𝓛 3 (RefOf (0 ∷ []) tt (plain (λ _. History.the_row (param 0 A))) (λ _. tt)) yes (λ κs x f. refl),
+          Goes-dropped 𝓛 3 (RefOf (0 ∷ []) tt (plain (λ _. GhostList.the_row (param 0 A))) (λ _. tt)) yes (λ κs x f. refl),
           (Goes-dropped 𝓛 3 (SliceRefOf (1 ∷ []) tt (plain (λ _. param 0 A)) (λ _. tt)) yes (λ κs x f. refl), tt),
         ) held
         (WpFn 𝓤 H 𝓣.C 𝓣.Λ function) (WpFn-mono 𝓤 H 𝓛.laws 𝓣 function) (walks 𝓣.C 𝓣.Λ)
