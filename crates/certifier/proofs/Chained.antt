@@ -7,7 +7,8 @@ use Rattle.std.proofs.Math.Logic.{∥∥₁_elim}
 use Rattle.certifier.specs.Histories.{AreInOrder}
 
 module _ {A : Type 0} where
-  begins_from : (first end : ℕ) (slots : List (SlotHistory A)) (k : ℕ) (d : SlotHistory A) → Chain first end slots → k < length slots → first ≤ (get_or slots k d).first
+  begins_from : (first end : ℕ) (slots : List (SlotHistory A)) (k : ℕ) (d : SlotHistory A) → Chain first end slots → k < length slots
+      → first ≤ (get_or slots k d).first
   begins_from first end [] k d h lt = absurd (omega (arith, lt))
   begins_from first end (s ∷ ss) zero d h lt = let e = h.0 in omega (arith, e)
   begins_from first end (s ∷ ss) (suc k) d h lt =

@@ -1,5 +1,6 @@
 -- A run that is followed note by note, and the slots beside it
-use Rattle.std.proofs.Common.{◌≡◌, ◌≢◌, ℕ, ◌+◌, ◌<◌, ◌≤◌, Bool, true, false, List, [], ◌∷◌, ◌++◌, refl, sym, subst, ap, ◌∙◌, ⊎_elim, arith, length, get_or, Option}
+use Rattle.std.proofs.Common.{◌≡◌, ◌≢◌, ℕ, ◌+◌, ◌<◌, ◌≤◌, Bool, true, false, List, [], ◌∷◌, ◌++◌, refl, sym, subst, ap}
+use Rattle.std.proofs.Common.{◌∙◌, ⊎_elim, arith, length, get_or, Option}
 use Rattle.std.specs.Prelude.{count_by}
 use Rattle.std.proofs.lemmas.Bool.{cases_lt}
 use Rattle.vm_base.specs.declared.info.PageInfo.{PageInfo}
@@ -24,7 +25,8 @@ use Rattle.seats.specs.declared.noted.Noted.{Noted}
 use Rattle.certifier.specs.declared.looks.Look.{Look}
 use Rattle.certifier.specs.declared.result.CertifyFault.{CertifyFault}
 use Rattle.certifier.specs.declared.result.CertifyFault.TheVariants as By
-use Rattle.certifier.specs.Following.{events_of, outcomes_of, answers_call, maps_of, one_if, AreStates, Fails, GoesAstray, IsCertified, IsNewTree, Leads, NoteLeads, Refuses}
+use Rattle.certifier.specs.Following.{events_of, outcomes_of, answers_call, maps_of, one_if, AreStates, Fails, GoesAstray}
+use Rattle.certifier.specs.Following.{IsCertified, IsNewTree, Leads, NoteLeads, Refuses}
 use Rattle.certifier.specs.Histories.{AllGoAlong, IsFirstAstray, IsPageOf}
 use Rattle.certifier.specs.Looks.{AreLooked, IsCaughtUp}
 use Rattle.certifier.specs.Order.{AreNumbered, in_order, with_ticket}
@@ -52,7 +54,8 @@ module _ {A : Type 0} (P : PageRange → ℕ → ℕ → Bool) (C : Slots → �
     pub now : states t ≡ w
     pub looked : AreLooked n (maps_of states) w.slots.info t histories looks
 
-  pub followed_first : (looks : List Look) → ((maps : ℕ → ℕ → Option PageInfo) (now : ℕ → Option PageInfo) → AreLooked n maps now 0 histories looks) → Followed 0 new looks 0
+  pub followed_first : (looks : List Look) → ((maps : ℕ → ℕ → Option PageInfo) (now : ℕ → Option PageInfo) → AreLooked n maps now 0 histories looks)
+      → Followed 0 new looks 0
   followed_first looks h = record {
     run = refl;
     as_map = refl;
@@ -99,8 +102,8 @@ module _ {A : Type 0} (P : PageRange → ℕ → ℕ → Bool) (C : Slots → �
   -- one note more
   pub followed_next : (t : ℕ) (w v : World) (looks : List Look) (calls more : ℕ) (x : Noted) → with_ticket t notes ≡ x ∷ [] → Leads P C F w x.event x.outcome v
       → more ≡ one_if (answers_call x)
-      → ((k : ℕ) (d : SlotHistory A) (l : Look) (page : ℕ) → k < length histories → some_has (may_change w x.event) page ≡ true → IsPageOf (get_or histories k d) page
-      → IsCaughtUp t (get_or looks k l))
+      → ((k : ℕ) (d : SlotHistory A) (l : Look) (page : ℕ) → k < length histories → some_has (may_change w x.event) page ≡ true
+      → IsPageOf (get_or histories k d) page → IsCaughtUp t (get_or looks k l))
       → Followed t w looks calls → Followed (t + 1) v looks (calls + more)
   followed_next t w v looks calls more x is leads count caught h = record {
     run = next_note new notes t x w v x.outcome is refl h.run leads.step;
@@ -119,12 +122,12 @@ module _ {A : Type 0} (P : PageRange → ℕ → ℕ → Bool) (C : Slots → �
 
 -- ---- what it comes to
 
-module _ {A : Type 0} (P : PageRange → ℕ → ℕ → Bool) (C : Slots → ℕ → Type 0) (F : Slots → Slots → ℕ → Type 0) (setup : Setup A) (slots : Slots) (notes : List Noted)
-    (histories : List (SlotHistory A)) where
+module _ {A : Type 0} (P : PageRange → ℕ → ℕ → Bool) (C : Slots → ℕ → Type 0) (F : Slots → Slots → ℕ → Type 0) (setup : Setup A) (slots : Slots)
+    (notes : List Noted) (histories : List (SlotHistory A)) where
   -- a note that the machine refuses
-  pub refused : (n t : ℕ) (w : World) (looks : List Look) (calls : ℕ) (x : Noted) (fault : CertifyFault) → fault_of setup ≡ Option.None → AreNumbered notes → IsNewTree slots
-      → with_ticket t notes ≡ x ∷ [] → Followed P C F (new_world (made_of setup) slots) notes n histories t w looks calls → Refuses P C F w x t fault
-      → Fails P C F setup notes histories fault
+  pub refused : (n t : ℕ) (w : World) (looks : List Look) (calls : ℕ) (x : Noted) (fault : CertifyFault) → fault_of setup ≡ Option.None → AreNumbered notes
+      → IsNewTree slots → with_ticket t notes ≡ x ∷ [] → Followed P C F (new_world (made_of setup) slots) notes n histories t w looks calls
+      → Refuses P C F w x t fault → Fails P C F setup notes histories fault
   refused n t w looks calls x (By.Differs ticket noted expected) sound numbered new is h r =
       rw (r.0, r.1) (
         sound,

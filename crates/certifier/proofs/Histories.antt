@@ -1,5 +1,6 @@
 -- Changes of a slot up to a ticket, and what one look at it settles
-use Rattle.std.proofs.Common.{◌≡◌, ◌≢◌, ◌⊎◌, ⊎_elim, inl, inr, ℕ, zero, suc, ◌<◌, ◌≤◌, ◌+◌, ◌-◌, Bool, true, false, cond, List, [], ◌∷◌, ◌++◌, length, take, get_or, max, min, Option, refl, sym, ap, ◌∙◌, subst, arith}
+use Rattle.std.proofs.Common.{◌≡◌, ◌≢◌, ◌⊎◌, ⊎_elim, inl, inr, ℕ, zero, suc, ◌<◌, ◌≤◌, ◌+◌, ◌-◌, Bool, true, false, cond, List, [], ◌∷◌, ◌++◌, length}
+use Rattle.std.proofs.Common.{take, get_or, max, min, Option, refl, sym, ap, ◌∙◌, subst, arith}
 use Rattle.std.specs.Prelude.{nat_le}
 use Rattle.std.proofs.lemmas.Bool.{cases_lt}
 use Rattle.std.proofs.lemmas.Bool.Decides.{nat_tests}
@@ -55,7 +56,8 @@ one_applied n bound changes look new d dated h lt is count content =
           ∙ ap (λ k. replay (take k changes)) (sym count);
       before = λ k less. ⊎_elim
           (λ (l : k < look.applied). let b = h.before k l in omega arith)
-          (λ (l : look.applied ≤ k). let same : k ≡ look.applied = omega (arith, count, less, l) in subst (λ j. ticket_at changes j < bound + 1) (sym same) (omega (arith, here)))
+          (λ (l : look.applied ≤ k). let same : k ≡ look.applied = omega (arith, count, less, l) in
+          subst (λ j. ticket_at changes j < bound + 1) (sym same) (omega (arith, here)))
           (cases_lt k look.applied);
       later = λ k from to. let r = dated.rise look.applied k (omega (arith, count, from)) to in omega (arith, r, here);
     }
@@ -69,13 +71,15 @@ none_applied n bound changes look d dated h other = record {
   before = λ k less. let b = h.before k less in omega arith;
   later = λ k from to.
       let lt : look.applied < length changes = omega arith in
-      let here : ticket_at changes look.applied ≡ (get_or changes look.applied d).ticket = ap (λ (c : SlotChange). c.ticket) (get_or_default changes look.applied _ d lt) in
+      let here : ticket_at changes look.applied ≡ (get_or changes look.applied d).ticket =
+      ap (λ (c : SlotChange). c.ticket) (get_or_default changes look.applied _ d lt) in
       let l = h.later look.applied (omega arith) lt in
       let ne = other lt in
       let above : bound < ticket_at changes look.applied = grind (arith, here, l, ne) in
       ⊎_elim
       (λ (m : look.applied < k). let r = dated.rise look.applied k m to in omega (arith, r, above))
-      (λ (m : k ≤ look.applied). let same : k ≡ look.applied = omega (arith, m, from) in subst (λ j. bound + 1 ≤ ticket_at changes j) (sym same) (omega (arith, above)))
+      (λ (m : k ≤ look.applied). let same : k ≡ look.applied = omega (arith, m, from) in
+      subst (λ j. bound + 1 ≤ ticket_at changes j) (sym same) (omega (arith, above)))
       (cases_lt look.applied k);
 }
 
@@ -84,7 +88,8 @@ pub next_later : (n bound next t : ℕ) (changes : List SlotChange) (look : Look
     → look.applied < length changes → next ≡ max (min (get_or changes look.applied d).ticket t) bound
     → (k : ℕ) → look.applied ≤ k → k < length changes → next ≤ ticket_at changes k
 next_later n bound next t changes look d dated h lt is k from to =
-    let here : ticket_at changes look.applied ≡ (get_or changes look.applied d).ticket = ap (λ (c : SlotChange). c.ticket) (get_or_default changes look.applied _ d lt) in
+    let here : ticket_at changes look.applied ≡ (get_or changes look.applied d).ticket =
+    ap (λ (c : SlotChange). c.ticket) (get_or_default changes look.applied _ d lt) in
     let l = h.later look.applied (omega arith) lt in
     let below : next ≤ ticket_at changes look.applied = omega (arith, is, here, l) in
     ⊎_elim
@@ -166,8 +171,9 @@ module _ {A : Type 0} (n : ℕ) (maps : ℕ → ℕ → Option PageInfo) (now : 
       }
 
   -- what the slot's pages have is settled up to the next change
-  pub settled : (seen : ℕ) (look new : Look) → IsSeen n maps now t (seen + 1) s look → look.seen ≡ seen → new.applied ≡ look.applied → new.content ≡ look.content
-      → seen < new.seen → new.seen ≤ t → ((k : ℕ) → look.applied ≤ k → k < length s.changes.items → new.seen ≤ ticket_at s.changes.items k)
+  pub settled : (seen : ℕ) (look new : Look) → IsSeen n maps now t (seen + 1) s look → look.seen ≡ seen → new.applied ≡ look.applied
+      → new.content ≡ look.content → seen < new.seen → new.seen ≤ t
+      → ((k : ℕ) → look.applied ≤ k → k < length s.changes.items → new.seen ≤ ticket_at s.changes.items k)
       → ((look.applied ≡ 0) × (s.changes.items ≢ [])) ⊎ HasContent s now look.content → IsSeen n maps now t new.seen s new
   settled seen look new h at count content more most later found = record {
     dated = h.dated;
@@ -185,8 +191,8 @@ module _ {A : Type 0} (n : ℕ) (maps : ℕ → ℕ → Option PageInfo) (now : 
     still = λ u page from to has. h.still u page (omega (arith, at, more, from)) to has;
   }
     where
-      now_agrees : (u : ℕ) → seen ≤ u → u < new.seen → HasBegun u s.changes.items → ((look.applied ≡ 0) × (s.changes.items ≢ [])) ⊎ HasContent s now look.content
-          → HasContent s (maps u) (replay (up_to u s.changes.items))
+      now_agrees : (u : ℕ) → seen ≤ u → u < new.seen → HasBegun u s.changes.items
+          → ((look.applied ≡ 0) × (s.changes.items ≢ [])) ⊎ HasContent s now look.content → HasContent s (maps u) (replay (up_to u s.changes.items))
       now_agrees u from less begun (inl none) = λ page has.
           let first = begun_first s.changes.items u none.1 begun in
           let l = later 0 (omega (arith, none.0)) first.0 in

@@ -1,5 +1,6 @@
 -- Looks at all slots
-use Rattle.std.proofs.Common.{◌≡◌, ◌≢◌, ◌⊎◌, ⊎_elim, inl, inr, ℕ, ◌<◌, ◌≤◌, ◌+◌, ◌-◌, ◌^◌, Bool, true, false, List, [], ◌∷◌, ◌++◌, length, get_or, set, Option, Some, None, refl, sym, ap, ◌∙◌, subst, arith, not, IsTrue, ◌↔◌, IfSome, IfNone}
+use Rattle.std.proofs.Common.{◌≡◌, ◌≢◌, ◌⊎◌, ⊎_elim, inl, inr, ℕ, ◌<◌, ◌≤◌, ◌+◌, ◌-◌, ◌^◌, Bool, true, false, List, [], ◌∷◌, ◌++◌, length, get_or, set, Option}
+use Rattle.std.proofs.Common.{Some, None, refl, sym, ap, ◌∙◌, subst, arith, not, IsTrue, ◌↔◌, IfSome, IfNone}
 use Rattle.std.proofs.lemmas.Bool.{cases_lt, cases_eq}
 use Rattle.std.proofs.lemmas.List.{get_or_append_left, get_or_push, get_or-set_other, get_or-set_same, get_or_default, length-append, length-set}
 use Rattle.vm_base.specs.declared.info.PageInfo.{PageInfo}
@@ -9,7 +10,8 @@ use Rattle.vm_base.proofs.Functions.{has_in, in_has}
 use Rattle.live_levels.specs.declared.close.SlotHistory.{SlotHistory}
 use Rattle.machine_model.specs.Holding.{some_has}
 use Rattle.certifier.specs.declared.looks.Look.{Look}
-use Rattle.certifier.specs.Histories.{AllGoAlong, AreDated, AreInOrder, DiffersBelow, GoesAlong, HasBegun, HasContent, IsFirstAstray, IsFirstPageOf, IsPageOf, Strays}
+use Rattle.certifier.specs.Histories.{AllGoAlong, AreDated, AreInOrder, DiffersBelow, GoesAlong, HasBegun, HasContent}
+use Rattle.certifier.specs.Histories.{IsFirstAstray, IsFirstPageOf, IsPageOf, Strays}
 use Rattle.certifier.specs.Looks.{AreApplied, AreLooked, IsCaughtUp, IsFirstMarked, IsLooked, IsSeen, NoneMarked}
 
 -- a test has one outcome
@@ -83,7 +85,8 @@ module _ {A : Type 0} where
       → ((k : ℕ) (d : SlotHistory A) → k < from → (get_or slots k d).first + (get_or slots k d).count ≤ range.first)
       → CaughtFrom t from at looks
       → ((k : ℕ) (d : SlotHistory A) (page : ℕ) → at ≤ k → k < length slots → has range page ≡ true → ¬ IsPageOf (get_or slots k d) page)
-      → (k : ℕ) (d : SlotHistory A) (l : Look) (page : ℕ) → k < length slots → has range page ≡ true → IsPageOf (get_or slots k d) page → IsCaughtUp t (get_or looks k l)
+      → (k : ℕ) (d : SlotHistory A) (l : Look) (page : ℕ) → k < length slots → has range page ≡ true → IsPageOf (get_or slots k d) page
+      → IsCaughtUp t (get_or looks k l)
   caught_all slots range looks t from at before caught after k d l page less in_range of = ⊎_elim
       (λ (m : k < from).
       let end = before k d m in
@@ -119,8 +122,9 @@ module _ {A : Type 0} where
       absurd (none page (subst (λ x. IsPageOf x page) slot of)))
       (cases_lt k at)
 
-  pub marked_here : (slots : List (SlotHistory A)) (looks : List Look) (at page : ℕ) (s : SlotHistory A) (look : Look) → length looks ≡ length slots → at < length slots
-      → s ≡ get_or slots at s → look ≡ get_or looks at look → look.is_bad ≡ true → IsFirstPageOf s page → NoneMarked at slots looks → IsFirstMarked slots looks page
+  pub marked_here : (slots : List (SlotHistory A)) (looks : List Look) (at page : ℕ) (s : SlotHistory A) (look : Look) → length looks ≡ length slots
+      → at < length slots → s ≡ get_or slots at s → look ≡ get_or looks at look → look.is_bad ≡ true → IsFirstPageOf s page → NoneMarked at slots looks
+      → IsFirstMarked slots looks page
   marked_here slots looks at page s look count lt is there bad first before = record {
     at = at;
     within = lt;
@@ -165,8 +169,8 @@ module _ {A : Type 0} (n : ℕ) where
     differs = λ e. h.differs (sym (old h.ticket h.page h.within) ∙ e);
   })
 
-  pub step_looked : (maps new : ℕ → ℕ → Option PageInfo) (now then : ℕ → Option PageInfo) (t : ℕ) (range : Option PageRange) (slots : List (SlotHistory A)) (looks : List Look)
-      → ((u page : ℕ) → u < t → new u page ≡ maps u page) → ((page : ℕ) → new t page ≡ then page)
+  pub step_looked : (maps new : ℕ → ℕ → Option PageInfo) (now then : ℕ → Option PageInfo) (t : ℕ) (range : Option PageRange) (slots : List (SlotHistory A))
+      (looks : List Look) → ((u page : ℕ) → u < t → new u page ≡ maps u page) → ((page : ℕ) → new t page ≡ then page)
       → ((page : ℕ) → some_has range page ≡ false → then page ≡ now page)
       → ((k : ℕ) (d : SlotHistory A) (l : Look) (page : ℕ) → k < length slots → some_has range page ≡ true → IsPageOf (get_or slots k d) page
       → IsCaughtUp t (get_or looks k l))
@@ -182,8 +186,9 @@ module _ {A : Type 0} (n : ℕ) where
 
   -- ---- one look
 
-  pub look_set : (maps : ℕ → ℕ → Option PageInfo) (now : ℕ → Option PageInfo) (t : ℕ) (slots : List (SlotHistory A)) (looks : List Look) (at : ℕ) (s : SlotHistory A) (look : Look)
-      → at < length slots → s ≡ get_or slots at s → IsLooked n maps now t s look → AreLooked n maps now t slots looks → AreLooked n maps now t slots (set looks at look)
+  pub look_set : (maps : ℕ → ℕ → Option PageInfo) (now : ℕ → Option PageInfo) (t : ℕ) (slots : List (SlotHistory A)) (looks : List Look) (at : ℕ)
+      (s : SlotHistory A) (look : Look) → at < length slots → s ≡ get_or slots at s → IsLooked n maps now t s look → AreLooked n maps now t slots looks
+      → AreLooked n maps now t slots (set looks at look)
   look_set maps now t slots looks at s look lt is one h = record {
     count = length-set looks at look ∙ h.count;
     each = λ k d l less. ⊎_elim
@@ -198,8 +203,9 @@ module _ {A : Type 0} (n : ℕ) where
   }
 
   -- the look at the place
-  pub look_there : (maps : ℕ → ℕ → Option PageInfo) (now : ℕ → Option PageInfo) (t : ℕ) (slots : List (SlotHistory A)) (looks : List Look) (at : ℕ) (s : SlotHistory A) (look : Look)
-      → at < length slots → s ≡ get_or slots at s → look ≡ get_or looks at look → AreLooked n maps now t slots looks → IsLooked n maps now t s look
+  pub look_there : (maps : ℕ → ℕ → Option PageInfo) (now : ℕ → Option PageInfo) (t : ℕ) (slots : List (SlotHistory A)) (looks : List Look) (at : ℕ)
+      (s : SlotHistory A) (look : Look) → at < length slots → s ≡ get_or slots at s → look ≡ get_or looks at look → AreLooked n maps now t slots looks
+      → IsLooked n maps now t s look
   look_there maps now t slots looks at s look lt is there h = rw (is, there) (h.each at s look lt)
 
   -- ---- the first looks
@@ -209,8 +215,8 @@ module _ {A : Type 0} (n : ℕ) where
     pub count : length looks ≡ at
     pub each : (k : ℕ) (d : SlotHistory A) (l : Look) → k < at → IsLooked n maps now 0 (get_or slots k d) (get_or looks k l)
 
-  pub opened_one : (maps : ℕ → ℕ → Option PageInfo) (now : ℕ → Option PageInfo) (s : SlotHistory A) (look : Look) → look.applied ≡ 0 → look.content ≡ None → look.seen ≡ 0
-      → (b : Bool) → look.is_bad ≡ not b → IsTrue b ↔ AreDated n s.changes.items → IsLooked n maps now 0 s look
+  pub opened_one : (maps : ℕ → ℕ → Option PageInfo) (now : ℕ → Option PageInfo) (s : SlotHistory A) (look : Look) → look.applied ≡ 0 → look.content ≡ None
+      → look.seen ≡ 0 → (b : Bool) → look.is_bad ≡ not b → IsTrue b ↔ AreDated n s.changes.items → IsLooked n maps now 0 s look
   opened_one maps now s look none empty zero b bad dated = record {
     bad = λ e. inl (not_so b _ (sym bad ∙ e) dated);
     good = λ e. record {
@@ -227,8 +233,9 @@ module _ {A : Type 0} (n : ℕ) where
     };
   }
 
-  pub opened_more : (maps : ℕ → ℕ → Option PageInfo) (now : ℕ → Option PageInfo) (at : ℕ) (slots : List (SlotHistory A)) (looks : List Look) (s : SlotHistory A) (look : Look)
-      → at < length slots → s ≡ get_or slots at s → IsLooked n maps now 0 s look → AreOpened maps now at slots looks → AreOpened maps now (at + 1) slots (looks ++ look ∷ [])
+  pub opened_more : (maps : ℕ → ℕ → Option PageInfo) (now : ℕ → Option PageInfo) (at : ℕ) (slots : List (SlotHistory A)) (looks : List Look) (s : SlotHistory A)
+      (look : Look) → at < length slots → s ≡ get_or slots at s → IsLooked n maps now 0 s look → AreOpened maps now at slots looks
+      → AreOpened maps now (at + 1) slots (looks ++ look ∷ [])
   opened_more maps now at slots looks s look lt is one h = record {
     count = let c = h.count in let e : length (looks ++ look ∷ []) ≡ length looks + 1 = length-append looks (look ∷ []) in omega (arith, c, e);
     each = λ k d l less. ⊎_elim
@@ -247,7 +254,8 @@ module _ {A : Type 0} (n : ℕ) where
 
   -- ---- the end
 
-  went_along : (maps : ℕ → ℕ → Option PageInfo) (now : ℕ → Option PageInfo) (s : SlotHistory A) (look : Look) → n ≤ look.seen → IsSeen n maps now n look.seen s look → GoesAlong n maps s
+  went_along : (maps : ℕ → ℕ → Option PageInfo) (now : ℕ → Option PageInfo) (s : SlotHistory A) (look : Look) → n ≤ look.seen
+      → IsSeen n maps now n look.seen s look → GoesAlong n maps s
   went_along maps now s look end h = record { dated = h.dated; agrees = λ t less begun. h.agrees t (omega (arith, end, less)) begun }
 
   pub along : (maps : ℕ → ℕ → Option PageInfo) (now : ℕ → Option PageInfo) (end : ℕ) (slots : List (SlotHistory A)) (looks : List Look) → end ≤ length slots
@@ -260,8 +268,8 @@ module _ {A : Type 0} (n : ℕ) where
       went_along maps now (get_or slots k d) (get_or looks k l) (caught k d l page within has good) ((h.each k d l within).good good)
 
   pub all_caught : (slots : List (SlotHistory A)) (looks : List Look)
-      → ((k : ℕ) (d : SlotHistory A) (l : Look) (page : ℕ) → k < length slots → has (record { first = 0; end = 2 ^ 35 }) page ≡ true → IsPageOf (get_or slots k d) page
-      → IsCaughtUp n (get_or looks k l))
+      → ((k : ℕ) (d : SlotHistory A) (l : Look) (page : ℕ) → k < length slots → has (record { first = 0; end = 2 ^ 35 }) page ≡ true
+      → IsPageOf (get_or slots k d) page → IsCaughtUp n (get_or looks k l))
       → (k : ℕ) (d : SlotHistory A) (l : Look) (page : ℕ) → k < length slots → IsPageOf (get_or slots k d) page → IsCaughtUp n (get_or looks k l)
   all_caught slots looks h k d l page lt of = let v = of.valid.1 in h k d l page lt (in_has (record { first = 0; end = 2 ^ 35 }) page (omega arith) v) of
 

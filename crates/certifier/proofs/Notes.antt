@@ -1,5 +1,6 @@
 -- Runs that grow by the note with the next ticket
-use Rattle.std.proofs.Common.{◌≡◌, ◌≢◌, ℕ, ◌+◌, ◌<◌, ◌≤◌, Bool, true, false, List, [], ◌∷◌, ◌++◌, refl, sym, subst, ap, ◌∙◌, arith, length, get_or, map, filter, Some, None, Option}
+use Rattle.std.proofs.Common.{◌≡◌, ◌≢◌, ℕ, ◌+◌, ◌<◌, ◌≤◌, Bool, true, false, List, [], ◌∷◌, ◌++◌, refl, sym, subst, ap, ◌∙◌}
+use Rattle.std.proofs.Common.{arith, length, get_or, map, filter, Some, None, Option}
 use Rattle.std.specs.Prelude.{count_by}
 use Rattle.std.proofs.Math.Numerals.{add-one}
 use Rattle.std.proofs.lemmas.List.{map-append, get_or_default, length-append}
@@ -88,8 +89,9 @@ next_note w notes t x m v o is same r s =
     (subst (λ (os : List Outcome). Run w (events_of (in_order t notes) ++ x.event ∷ []) os v) (sym os)
     (run_more (events_of (in_order t notes)) (outcomes_of (in_order t notes)) w m v x.event x.outcome r step))
 
-pub next_joined : (P : PageRange → ℕ → ℕ → Bool) (C : Slots → ℕ → Type 0) (F : Slots → Slots → ℕ → Type 0) (w : World) (notes : List Noted) (t : ℕ) (x : Noted) (m v : World) (o : Outcome)
-    → with_ticket t notes ≡ x ∷ [] → o ≡ x.outcome → RunsAsMap P C F w (events_of (in_order t notes)) (outcomes_of (in_order t notes)) m
+pub next_joined : (P : PageRange → ℕ → ℕ → Bool) (C : Slots → ℕ → Type 0) (F : Slots → Slots → ℕ → Type 0) (w : World) (notes : List Noted) (t : ℕ) (x : Noted)
+    (m v : World) (o : Outcome) → with_ticket t notes ≡ x ∷ [] → o ≡ x.outcome
+    → RunsAsMap P C F w (events_of (in_order t notes)) (outcomes_of (in_order t notes)) m
     → Step m x.event o v → JoinsAsMap C F m x.event o v → DividesAsMap P m x.event o v
     → RunsAsMap P C F w (events_of (in_order (t + 1) notes)) (outcomes_of (in_order (t + 1) notes)) v
 next_joined P C F w notes t x m v o is same r s j k =
@@ -125,8 +127,8 @@ counted notes t x calls is c =
 -- ---- what it comes to
 
 -- the machine comes to another outcome
-pub differs : {A : Type 0} (P : PageRange → ℕ → ℕ → Bool) (C : Slots → ℕ → Type 0) (F : Slots → Slots → ℕ → Type 0) (setup : Setup A) (slots : Slots) (notes : List Noted) (t : ℕ) (x : Noted)
-    (m v : World) (o : Outcome) → IsNewTree slots → with_ticket t notes ≡ x ∷ [] → o ≢ x.outcome
+pub differs : {A : Type 0} (P : PageRange → ℕ → ℕ → Bool) (C : Slots → ℕ → Type 0) (F : Slots → Slots → ℕ → Type 0) (setup : Setup A) (slots : Slots)
+    (notes : List Noted) (t : ℕ) (x : Noted) (m v : World) (o : Outcome) → IsNewTree slots → with_ticket t notes ≡ x ∷ [] → o ≢ x.outcome
     → RunsAsMap P C F (new_world (made_of setup) slots) (events_of (in_order t notes)) (outcomes_of (in_order t notes)) m
     → Step m x.event o v → JoinsAsMap C F m x.event o v → DividesAsMap P m x.event o v → DiffersAt P C F setup notes t x.outcome o
 differs P C F setup slots notes t x m v o new is other r s j k = record {

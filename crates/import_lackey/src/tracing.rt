@@ -4,7 +4,8 @@ ghost use Rattle.trace_io.specs.Lines.{lines_of};
 ghost use Rattle.import_text.specs.Counts.{total};
 ghost use Rattle.import_text.specs.Taking.{so_far};
 ghost use Rattle.import_lackey.specs.Heard.{heard_of};
-ghost use Rattle.import_lackey.specs.Tracing.{accessed, asked_for, call_taken, covers, heard_taken, is_mapped, is_whole, mmap_taken, page_of, placed, state_of, there, touch_taken, touched, touched_at, trace_of};
+ghost use Rattle.import_lackey.specs.Tracing.{accessed, asked_for, call_taken, covers, heard_taken, is_mapped, is_whole, mmap_taken, page_of, placed};
+ghost use Rattle.import_lackey.specs.Tracing.{state_of, there, touch_taken, touched, touched_at, trace_of};
 
 use crate::heard::{Access, Heard, Touch, read_heard};
 use import_text::counts::Counts;

@@ -48,7 +48,8 @@ with_file s e None = (without_file s e, Is.Changed)
 -- a file is mapped if its pages lie within what a file may have, and else anonymous pages in its place
 abbrev pub file_listed : SoFar → Entry → SoFar × Entered
 file_listed s e = if reaches e.off (e.end - e.start)
-    then with_file (record { threads = s.threads; files = files_with s.files (shown_name e.name) (e.off + (e.end - e.start)); heap_end = s.heap_end; steps = s.steps })
+    then with_file
+    (record { threads = s.threads; files = files_with s.files (shown_name e.name) (e.off + (e.end - e.start)); heap_end = s.heap_end; steps = s.steps })
     e (file_place s.files (shown_name e.name))
     else with_file s e None
 

@@ -4,7 +4,8 @@ ghost use Rattle.trace_io.specs.Lines.{lines_of};
 ghost use Rattle.import_text.specs.Taking.{so_far};
 ghost use Rattle.import_maps.specs.Entries.{total};
 ghost use Rattle.import_maps.specs.Listed.{entry_of, entry_said};
-ghost use Rattle.import_maps.specs.Starting.{entry_listed, file_listed, flags_of, heap_with, is_inside, line_listed, shown_name, start_of, with_request, without_file};
+ghost use Rattle.import_maps.specs.Starting.{entry_listed, file_listed, flags_of, heap_with, is_inside, line_listed};
+ghost use Rattle.import_maps.specs.Starting.{shown_name, start_of, with_request, without_file};
 
 use crate::entries::{Entered, Entries};
 use crate::listed::{Kind, Listed, kind_of, read_listed};

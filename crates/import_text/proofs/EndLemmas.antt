@@ -33,7 +33,8 @@ pub imports_front : (start : SoFar) (thread : Option ℕ) (input text : List ℕ
 imports_front start thread input text old new counts s h e w =
     subst (AppendsFront old new) (e ∙ ap (λ (p : SoFar × Counts). imported_text 256 p.0) h) w
 
-pub stops_here : (start : SoFar) (thread : Option ℕ) (input : List ℕ) (o : Option (List ℕ)) (f : ImportFault) → (f ≡ WriteFailed → ⊥) → ImportStops start thread input o o f
+pub stops_here : (start : SoFar) (thread : Option ℕ) (input : List ℕ) (o : Option (List ℕ)) (f : ImportFault) → (f ≡ WriteFailed → ⊥)
+    → ImportStops start thread input o o f
 stops_here start thread input o ReadFailed n = keeps_same o
 stops_here start thread input o NoMemory n = keeps_same o
 stops_here start thread input o WriteFailed n = absurd (n refl)

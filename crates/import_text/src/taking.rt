@@ -2,7 +2,8 @@
 ghost use Rattle.std.specs.Prelude.{◌≡◌, ◌≤◌, ◌^◌, IfOk, OnOk, length, map};
 ghost use Rattle.std.specs.Str.{bytes_eq};
 ghost use Rattle.import_text.specs.Taking.{after_break, after_file, after_mapping, after_move, after_request, after_said, anonymous, asked_by};
-ghost use Rattle.import_text.specs.Taking.{file_place, files_with, heap_moved, in_place, nothing_taken, place_named, place_of, reaches, resized, rounded, so_far, use_of, widened};
+ghost use Rattle.import_text.specs.Taking.{file_place, files_with, heap_moved, in_place, nothing_taken, place_named, place_of};
+ghost use Rattle.import_text.specs.Taking.{reaches, resized, rounded, so_far, use_of, widened};
 
 use crate::said::{Said, read_file_name};
 use std::alloc::{AllocError, Global};

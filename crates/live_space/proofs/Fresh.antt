@@ -15,5 +15,6 @@ each_push P (y ∷ ys) x h last (suc k) d lt = each_push (λ j s. P (suc j) s) y
 pub fresh_push : (w : TableId) (n : ℕ) (ss : List SeatView) (s : SeatView) → AreFresh w n ss → IsFresh w n s → AreFresh w (n + 1) (ss ++ s ∷ [])
 fresh_push w n ss s h new = record {
   count = omega (arith, length_push ss s, h.count);
-  each = λ k d lt. each_push (λ j t. IsFresh w j t) ss s (λ j e less. h.each j e (omega (arith, h.count))) (subst (λ (m : ℕ). IsFresh w m s) (sym h.count) new) k d (omega (arith, h.count));
+  each = λ k d lt. each_push (λ j t. IsFresh w j t) ss s (λ j e less. h.each j e (omega (arith, h.count)))
+      (subst (λ (m : ℕ). IsFresh w m s) (sym h.count) new) k d (omega (arith, h.count));
 }

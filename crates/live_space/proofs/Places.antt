@@ -1,5 +1,6 @@
 -- Placed mappings: where they go, and the slots that they cut or get room in
-use Rattle.std.proofs.Common.{◌≡◌, ℕ, zero, suc, ◌+◌, ◌<◌, ◌≤◌, List, [], ◌∷◌, ◌++◌, length, map, get_or, Option, Some, None, arith, sym, ap, ◌∙◌, subst, length-append}
+use Rattle.std.proofs.Common.{◌≡◌, ℕ, zero, suc, ◌+◌, ◌<◌, ◌≤◌, List, [], ◌∷◌, ◌++◌, length, map, get_or, Option, Some}
+use Rattle.std.proofs.Common.{None, arith, sym, ap, ◌∙◌, subst, length-append}
 use Rattle.std.specs.Prelude.{All}
 use Rattle.std.proofs.lemmas.List.{length-map}
 use Rattle.vm_base.specs.declared.page.PageRange.{PageRange}

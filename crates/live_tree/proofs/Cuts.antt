@@ -164,9 +164,10 @@ still_held first end gs hs more at s lt here is pages some held =
 
 -- ---- the whole step, from what its parts tell
 
-pub cut_done : (core : ℕ) (range : PageRange) (first end : ℕ) (gs hs ks : List (Option (MutexGuard SlotView))) (at from until next n : ℕ) (slot : MutexGuard SlotView)
-    → All IsSome gs × SideBySide first end (map slot_of gs) → IsFirstCrossing range (map slot_of gs) at → Some slot ≡ get_or gs at (Some slot)
-    → from ≡ (mutex_guard_value slot).first → until ≡ from + (mutex_guard_value slot).count → AddsSlots core from next n gs hs → (n ≡ 512) × (next ≡ until)
+pub cut_done : (core : ℕ) (range : PageRange) (first end : ℕ) (gs hs ks : List (Option (MutexGuard SlotView))) (at from until next n : ℕ)
+    (slot : MutexGuard SlotView) → All IsSome gs × SideBySide first end (map slot_of gs) → IsFirstCrossing range (map slot_of gs) at
+    → Some slot ≡ get_or gs at (Some slot) → from ≡ (mutex_guard_value slot).first → until ≡ from + (mutex_guard_value slot).count
+    → AddsSlots core from next n gs hs → (n ≡ 512) × (next ≡ until)
     → ((fs more : List (Option (MutexGuard SlotView))) → hs ≡ fs ++ more → length more ≡ 512 → ks ≡ take at fs ++ (more ++ drop (at + 1) fs))
     → CutsFirst core range (record { first = first; end = end; slots = map slot_of gs })
     (record { first = first; end = end; slots = map slot_of ks }) × (All IsSome ks × SideBySide first end (map slot_of ks))

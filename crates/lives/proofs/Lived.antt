@@ -9,7 +9,8 @@ use Rattle.picture.specs.Shapes.{stretches_of}
 use Rattle.picture.specs.declared.moments.Recorded.{Recorded}
 use Rattle.picture.specs.declared.shapes.Stretch.{Stretch}
 
-grown : (all : List Recorded) (rows : List PageRange) (k d : ℕ) → (rest : List Stretch) × (first_stretches all rows (k + d) ≡ first_stretches all rows k ++ rest)
+grown : (all : List Recorded) (rows : List PageRange) (k d : ℕ)
+    → (rest : List Stretch) × (first_stretches all rows (k + d) ≡ first_stretches all rows k ++ rest)
 grown all rows k zero = let e : k + 0 ≡ k = omega arith in ([], ap (first_stretches all rows) e ∙ sym (append-nil (first_stretches all rows k)))
 grown all rows k (suc d) =
     let (rest, same) = grown all rows k d in
@@ -17,19 +18,22 @@ grown all rows k (suc d) =
     let next = stretches_of all (k + d) (row_at rows (k + d)) all in
     (rest ++ next, ap (first_stretches all rows) e ∙ (ap (λ l. l ++ next) same ∙ append_assoc (first_stretches all rows k) rest next))
 
-grown_to : (all : List Recorded) (rows : List PageRange) (k n : ℕ) → k ≤ n → (rest : List Stretch) × (first_stretches all rows n ≡ first_stretches all rows k ++ rest)
+grown_to : (all : List Recorded) (rows : List PageRange) (k n : ℕ) → k ≤ n
+    → (rest : List Stretch) × (first_stretches all rows n ≡ first_stretches all rows k ++ rest)
 grown_to all rows k n h =
     let (rest, same) = grown all rows k (n - k) in
     let e : k + (n - k) ≡ n = omega arith in
     (rest, ap (first_stretches all rows) (sym e) ∙ same)
 
 -- what is shown is known once there are more than are shown
-pub shown_soon : (all : List Recorded) (rows : List PageRange) (k n : ℕ) → k ≤ n → 2000 < length (first_stretches all rows k) → shown (first_stretches all rows k) ≡ shown (first_stretches all rows n)
+pub shown_soon : (all : List Recorded) (rows : List PageRange) (k n : ℕ) → k ≤ n → 2000 < length (first_stretches all rows k)
+    → shown (first_stretches all rows k) ≡ shown (first_stretches all rows n)
 shown_soon all rows k n h more =
     let (rest, same) = grown_to all rows k n h in
     sym (ap shown same ∙ take-append-le 2000 (first_stretches all rows k) rest (omega arith))
 
-pub more_soon : (all : List Recorded) (rows : List PageRange) (k n : ℕ) → k ≤ n → 2000 < length (first_stretches all rows k) → are_more (first_stretches all rows k) ≡ are_more (first_stretches all rows n)
+pub more_soon : (all : List Recorded) (rows : List PageRange) (k n : ℕ) → k ≤ n → 2000 < length (first_stretches all rows k)
+    → are_more (first_stretches all rows k) ≡ are_more (first_stretches all rows n)
 more_soon all rows k n h more =
     let (rest, same) = grown_to all rows k n h in
     let long = length-append (first_stretches all rows k) rest in

@@ -1,5 +1,6 @@
 -- The lives of mappings over a whole run.
-use Rattle.std.specs.Prelude.{ℕ, zero, suc, ◌+◌, ◌-◌, ◌*◌, ◌/◌, ◌^◌, Bool, List, [], ◌∷◌, ◌++◌, Option, None, Some, if◌then◌else◌, codes, decimal, length, min, nat_lt, slice_get, take}
+use Rattle.std.specs.Prelude.{ℕ, zero, suc, ◌+◌, ◌-◌, ◌*◌, ◌/◌, ◌^◌, Bool, List, [], ◌∷◌, ◌++◌, Option, None, Some, if◌then◌else◌}
+use Rattle.std.specs.Prelude.{codes, decimal, length, min, nat_lt, slice_get, take}
 use Rattle.std.specs.List.{concat, flat_map}
 use Rattle.vm_base.specs.declared.page.PageRange.{PageRange}
 use Rattle.trace_text.specs.Lists.{start_of}

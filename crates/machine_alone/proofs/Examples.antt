@@ -72,7 +72,8 @@ in_its_window = (
   _,
   (
     Some 134217728,
-    in_window (λ h. let e = h.0 in cc) ((record { low = omega arith; high = omega arith }, λ p h. refl), λ r l room. let low = room.0.low in omega (arith, l, low)),
+    in_window (λ h. let e = h.0 in cc)
+        ((record { low = omega arith; high = omega arith }, λ p h. refl), λ r l room. let low = room.0.low in omega (arith, l, low)),
     (refl, refl),
   ),
 )

@@ -399,8 +399,8 @@ waiting_leads free w t c request x h a none =
     subst (λ log. Replays x.calls.requests (nothing_mapped x.made.file) log t) (sym same) h.first
 
 -- what it will be answered, and the frame that it has taken
-will_answer : (w : World) (t : Plain) (c : ℕ) (request : Request) (x : World) (range : PageRange) → IsServing w.memory.is_free w t c request x → (f : IsWellFormed x)
-    → f.plain ≡ t → Waits (x.calls.phase c) range
+will_answer : (w : World) (t : Plain) (c : ℕ) (request : Request) (x : World) (range : PageRange) → IsServing w.memory.is_free w t c request x
+    → (f : IsWellFormed x) → f.plain ≡ t → Waits (x.calls.phase c) range
     → WillAnswer t c request range × (taken_below x.memory.is_free x.made.frames ≡ taken_below w.memory.is_free x.made.frames + frames_for request)
 will_answer w t c request x range h f from (for_change goal change p i) =
     let z = change_answers x t c request goal change f from h.number p in (

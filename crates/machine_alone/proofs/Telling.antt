@@ -285,7 +285,8 @@ told_on w c v f others (shares touch own x counts e k n t h) =
           (after_sharing c touch own x counts w).memory;
     }) v h refl
 told_on w c v f others (posts_copy touch x e h) =
-    posted_told w c (CopyAcks touch x) (recorded_cores (w.slots.info touch.page)) (page_of_touch touch) v f others h (ap awaits_in e) refl (copy_users w.slots touch)
+    posted_told w c (CopyAcks touch x) (recorded_cores (w.slots.info touch.page)) (page_of_touch touch) v f others h (ap awaits_in e) refl
+    (copy_users w.slots touch)
 told_on w c v f others (copies touch x g counts e n a t h) =
     let made : World = after_copy c touch x g counts w in
     to_untold c (Install touch) (with_entry (detach_entry w c touch.page) (record w { slots = made.slots; memory = made.memory })) v h refl

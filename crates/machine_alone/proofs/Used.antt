@@ -292,8 +292,9 @@ usable_info : (file : ℕ → Option File) (o : Option PageInfo) (access : Acces
 usable_info file None access frame u = absurd u
 usable_info file (Some info) access frame u = (info, refl)
 
-install_used : (t : Plain) (first : Users) (c : ℕ) (request : Request) (copy : Option ℕ) (w : World) (touch : Touch) → IsWellFormed w → w.calls.phase c ≡ Install touch
-    → IsUsed t first c request copy w → Same (recorded (after_install c touch w).slots) (with_user touch.page c (users_left copy first))
+install_used : (t : Plain) (first : Users) (c : ℕ) (request : Request) (copy : Option ℕ) (w : World) (touch : Touch) → IsWellFormed w
+    → w.calls.phase c ≡ Install touch → IsUsed t first c request copy w
+    → Same (recorded (after_install c touch w).slots) (with_user touch.page c (users_left copy first))
 install_used t first c request copy w touch f e u =
     let k : IsCallOf w c (Install touch) = call_at w c (Install touch) e f.order in
     let z = usable_info w.made.file (w.slots.info touch.page) touch.access (Some k.ready.0) k.ready.1 in
@@ -367,8 +368,9 @@ unused_page file (Some info) access u framed d = go (is_recorded (Some info) d) 
     go true e = absurd (let a : is_some info.frame ≡ true = framed d e in let b : is_some info.frame ≡ false = ap is_some u.2 in cc)
 
 -- its first frame is a copy
-first_used : (t : Plain) (first : Users) (c : ℕ) (request : Request) (copy : Option ℕ) (w : World) (touch : Touch) (x : ℕ) → IsWellFormed w → AreFramed w.slots.info
-    → w.calls.phase c ≡ Fill touch (Some x) → IsUsed t first c request copy w → Same (recorded w.slots) (users_left (Some touch.page) first)
+first_used : (t : Plain) (first : Users) (c : ℕ) (request : Request) (copy : Option ℕ) (w : World) (touch : Touch) (x : ℕ) → IsWellFormed w
+    → AreFramed w.slots.info → w.calls.phase c ≡ Fill touch (Some x) → IsUsed t first c request copy w
+    → Same (recorded w.slots) (users_left (Some touch.page) first)
 first_used t first c request copy w touch x f framed e u =
     let k : IsCallOf w c (Fill touch (Some x)) = call_at w c (Fill touch (Some x)) e f.order in
     let z = used_at t first c request copy w (Fill touch (Some x)) e u in
@@ -378,8 +380,9 @@ first_used t first c request copy w touch x f framed e u =
 
 -- ---- every plain step
 
-pub used_on : (free : ℕ → Bool) (t : Plain) (first : Users) (c : ℕ) (request : Request) (copy : Option ℕ) (w v : World) (f : IsWellFormed w) → AreFramed w.slots.info
-    → nth w.calls.requests (w.calls.number c) ≡ Some request → IsSureOf free c w → (status (w.calls.phase c) ≡ Asked → IsFrom t copy f.plain)
+pub used_on : (free : ℕ → Bool) (t : Plain) (first : Users) (c : ℕ) (request : Request) (copy : Option ℕ) (w v : World) (f : IsWellFormed w)
+    → AreFramed w.slots.info → nth w.calls.requests (w.calls.number c) ≡ Some request → IsSureOf free c w
+    → (status (w.calls.phase c) ≡ Asked → IsFrom t copy f.plain)
     → IsStoreFor request copy → IsUsed t first c request copy w → (g : GoesBy w c v) → IsUsed t first c request (copy_after g copy) v
 used_on free m first c request copy w v f framed number sure from asks u (moves new k h) =
     used_to m first c request copy new w v h (moves_used m first c request copy w new u k)

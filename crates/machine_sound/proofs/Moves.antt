@@ -89,8 +89,8 @@ copies_on w event c page phase s h m f u can is good =
 
 -- ---- the call of core c has its reply
 
-pub tells : (w : World) (event : Event) (c : ℕ) (held : Option PageRange) (reply : Reply) (s : Slots) (h : Hardware) (m : Memory) (f : IsWellFormed w) (u : Plain)
-    (request : Request) → nth w.calls.requests (w.calls.number c) ≡ Some request → Stands f.plain c request reply u
+pub tells : (w : World) (event : Event) (c : ℕ) (held : Option PageRange) (reply : Reply) (s : Slots) (h : Hardware) (m : Memory) (f : IsWellFormed w)
+    (u : Plain) (request : Request) → nth w.calls.requests (w.calls.number c) ≡ Some request → Stands f.plain c request reply u
     → IsDue event w.memory.is_free (answer_entry w c reply) → Shows w.made.file s.info m u
     → Leaves w event (after_reply c held reply (record w { slots = s; hardware = h; memory = m }))
 tells w event c held reply s h m f u request number stands due good =

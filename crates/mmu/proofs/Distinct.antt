@@ -96,8 +96,10 @@ past_absent (x ∷ xs) behind p h = rw (parts x xs p h).0 (past_absent xs behind
 itself : (p : ℕ) → (p == p) ≡ true
 itself p = grind (arith, nat_tests)
 
-pub found_between : (front behind : List TlbEntry) (e : TlbEntry) → are_distinct (front ++ e ∷ behind) ≡ true → tlb_at (front ++ e ∷ behind) e.page ≡ Some e.translation
-found_between front behind e h = past_absent front (e ∷ behind) e.page (absent_before front behind e h) ∙ ap (λ b. if b then Some e.translation else tlb_at behind e.page) (itself e.page)
+pub found_between : (front behind : List TlbEntry) (e : TlbEntry) → are_distinct (front ++ e ∷ behind) ≡ true
+    → tlb_at (front ++ e ∷ behind) e.page ≡ Some e.translation
+found_between front behind e h = past_absent front (e ∷ behind) e.page (absent_before front behind e h)
+    ∙ ap (λ b. if b then Some e.translation else tlb_at behind e.page) (itself e.page)
 
 -- without a page that has none
 pub none_dropped : (es : List TlbEntry) (p : ℕ) → tlb_at es p ≡ None → es ≡ tlb_without (is_at p) es

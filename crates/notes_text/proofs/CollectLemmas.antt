@@ -1,5 +1,6 @@
 -- Whole texts, a line at a time.
-use Rattle.std.proofs.Common.{◌≡◌, ◌≢◌, true, false, cond, OnOk, IfErr, IfOk, ℕ, ◌+◌, ◌<◌, ◌≤◌, Bool, List, [], ◌∷◌, ◌++◌, Option, Some, None, Result, Ok, Err, length, take, ◌⊎◌, inl, inr}
+use Rattle.std.proofs.Common.{◌≡◌, ◌≢◌, true, false, cond, OnOk, IfErr, IfOk, ℕ, ◌+◌, ◌<◌, ◌≤◌, Bool, List, [], ◌∷◌, ◌++◌, Option}
+use Rattle.std.proofs.Common.{Some, None, Result, Ok, Err, length, take, ◌⊎◌, inl, inr}
 use Rattle.std.proofs.Common.{arith, refl, sym, ap, ◌∙◌, subst, append_assoc, append-nil, length-append}
 use Rattle.std.proofs.lemmas.Bool.Decides.{nat_tests}
 use Rattle.std.specs.Prelude.{is_ok, is_err, ◌==◌, IsSomeAnd}
@@ -227,14 +228,16 @@ some_asked None h = absurd h
 some_asked (Some a) h = (a, refl, h)
 
 -- no text is at fault for a write
-pub stops_own : {T X : Type 0} (k : Bool) (N : ℕ → T → List Word → Type 0) (input unread : List ℕ) (f : TraceFault) → Stops k N input unread f → f ≡ WriteFailed → X
+pub stops_own : {T X : Type 0} (k : Bool) (N : ℕ → T → List Word → Type 0) (input unread : List ℕ) (f : TraceFault) → Stops k N input unread f
+    → f ≡ WriteFailed → X
 unfolding is_own
 stops_own k N input unread f (reading e p r u) w = let clash : ReadFailed ≡ WriteFailed = sym e ∙ w in absurd (cc)
 stops_own k N input unread f (unmade e u) w = let clash : NoMemory ≡ WriteFailed = sym e ∙ w in absurd (cc)
 stops_own k N input unread f (wanting e p line others m r n) w = let clash : NoMemory ≡ WriteFailed = sym e ∙ w in absurd (cc)
 stops_own k N input unread f (overlong p line others m l e) w = let clash : TooLong (length p.done + 1) ≡ WriteFailed = sym e ∙ w in absurd (cc)
 stops_own k N input unread f (refusing p line others m l r) w =
-    let clash : true ≡ false = sym (own_at (are_printable line) p.collected.asked (length p.done + 1) (kind_of (words_of line))) ∙ ap is_own (sym r.fault ∙ w) in absurd (cc)
+    let clash : true ≡ false = sym (own_at (are_printable line) p.collected.asked (length p.done + 1) (kind_of (words_of line)))
+    ∙ ap is_own (sym r.fault ∙ w) in absurd (cc)
 stops_own k N input unread f (unopened p m c) w = go p.collected.asked c
   where
     go : {X : Type 0} (a : Option Asked) → CannotMake a f → X

@@ -147,7 +147,8 @@ pub not_found : (line front behind : List ℕ) (note : Noted) → AreHalves line
 not_found line front behind note h none names =
     let f = note_found line note names in
     let (p, q) = halves_one line f.front f.behind front behind f.halves h in
-    let clash : None ≡ Some note = sym none ∙ ap (λ l. note_of (words_of l) (words_of behind)) (sym p) ∙ ap (λ l. note_of (words_of f.front) (words_of l)) (sym q) ∙ f.reads in
+    let clash : None ≡ Some note = sym none ∙ ap (λ l. note_of (words_of l) (words_of behind)) (sym p)
+    ∙ ap (λ l. note_of (words_of f.front) (words_of l)) (sym q) ∙ f.reads in
     absurd (cc)
 
 -- ---- the laws

@@ -1,5 +1,6 @@
 -- The text of an outcome names it.
-use Rattle.std.proofs.Common.{◌≡◌, ◌≢◌, inl, inr, ℕ, zero, suc, ◌+◌, ◌-◌, ◌^◌, ◌<◌, ◌≤◌, Bool, true, false, cond, eqb, ltb, ◌&&◌, ◌||◌, List, [], ◌∷◌, ◌++◌, subst}
+use Rattle.std.proofs.Common.{◌≡◌, ◌≢◌, inl, inr, ℕ, zero, suc, ◌+◌, ◌-◌, ◌^◌, ◌<◌, ◌≤◌, Bool, true, false, cond, eqb}
+use Rattle.std.proofs.Common.{ltb, ◌&&◌, ◌||◌, List, [], ◌∷◌, ◌++◌, subst}
 use Rattle.std.proofs.Common.{codes, decimal, map, arith, refl, sym, ap, ◌∙◌}
 use Rattle.std.proofs.lemmas.Bool.{cases_lt, cases_eq, or_right}
 use Rattle.std.proofs.lemmas.Bool.Decides.{nat_tests}
@@ -103,14 +104,16 @@ below_without set s from is old k = old k ∙ go
 gathered : (set n from s : ℕ) → Below set s from → Below set (with_cores s (among set from n)) (from + n)
 unfolding among
 gathered set zero from s h = subst (Below set s) (omega arith) h
-gathered set (suc n) from s h = subst (Below set (with_cores s (among set from (suc n)))) sum (go (λ t k. gathered set n (from + 1) t k) (members set from) refl)
+gathered set (suc n) from s h = subst (Below set (with_cores s (among set from (suc n)))) sum
+    (go (λ t k. gathered set n (from + 1) t k) (members set from) refl)
   where
     sum : from + 1 + n ≡ from + suc n
     sum = omega arith
 
     go : ((t : ℕ) → Below set t (from + 1) → Below set (with_cores t (filter (members set) (range_with_len (from + 1) n))) (from + 1 + n))
         → (b : Bool) → members set from ≡ b
-        → Below set (with_cores s (cond b (from ∷ filter (members set) (range_with_len (from + 1) n)) (filter (members set) (range_with_len (from + 1) n)))) (from + 1 + n)
+        → Below set (with_cores s (cond b (from ∷ filter (members set) (range_with_len (from + 1) n)) (filter (members set) (range_with_len (from + 1) n))))
+        (from + 1 + n)
     go more true e = more (with_member s from) (below_with set s from e h)
     go more false e = more s (below_without set s from e h)
 

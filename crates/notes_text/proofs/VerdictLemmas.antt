@@ -1,5 +1,6 @@
 -- What is written of a verdict, and what a verdict says.
-use Rattle.std.proofs.Common.{◌≡◌, inl, inr, true, ℕ, ◌≤◌, Bool, List, [], ◌∷◌, ◌++◌, Option, Some, None, Result, Ok, Err, OnOk, OnErr, IfOk, IfErr, length, take, map}
+use Rattle.std.proofs.Common.{◌≡◌, inl, inr, true, ℕ, ◌≤◌, Bool, List, [], ◌∷◌, ◌++◌, Option, Some, None, Result, Ok, Err}
+use Rattle.std.proofs.Common.{OnOk, OnErr, IfOk, IfErr, length, take, map}
 use Rattle.std.proofs.Common.{arith, refl, sym, ap, ◌∙◌, subst, append-nil, length-append, option_map}
 use Rattle.std.proofs.lemmas.List.{take-append-le}
 use Rattle.std.proofs.KnownBytes.{Appends-trans, Appends-kept}

@@ -56,7 +56,8 @@ flags_word flags = of_four (λ p s f a. IsWord (flags_text (record { private = p
 flags_spelled : (flags : Flags) → SpellsFlags (flags_text flags) flags
 flags_spelled flags = go flags.private flags.shared flags.fixed flags.anon
   where
-    go : (p s f a : Bool) → SpellsFlags (flags_text (record { private = p; shared = s; fixed = f; anon = a })) (record { private = p; shared = s; fixed = f; anon = a })
+    go : (p s f a : Bool) → SpellsFlags (flags_text (record { private = p; shared = s; fixed = f; anon = a }))
+        (record { private = p; shared = s; fixed = f; anon = a })
     go true true true true = inl (record { private = refl; shared = refl; fixed = refl; anon = refl; others = refl })
     go true true true false = inl (record { private = refl; shared = refl; fixed = refl; anon = refl; others = refl })
     go true true false true = inl (record { private = refl; shared = refl; fixed = refl; anon = refl; others = refl })

@@ -36,8 +36,8 @@ trial_open p n m trues few e count zeros = record {
     unused : (o : ℕ) → IsUnused (counts_of p) o
     unused o = subst (λ v. IsUnused v o) (sym e) (unused_open n m o)
 
-trial_on : (p q : Parts) (s : CountStep) (n : ℕ) (xs ys : List ℕ) (fresh : Bool) → IsTrial p n xs fresh → Takes (counts_of p) s (counts_of q) → length ys ≡ length xs
-    → ((o : ℕ) → o < length xs → pos (slice_index_or ys o 0) ≡ pos (slice_index_or xs o 0) +ℤ change s o) → IsTrial q n ys false
+trial_on : (p q : Parts) (s : CountStep) (n : ℕ) (xs ys : List ℕ) (fresh : Bool) → IsTrial p n xs fresh → Takes (counts_of p) s (counts_of q)
+    → length ys ≡ length xs → ((o : ℕ) → o < length xs → pos (slice_index_or ys o 0) ≡ pos (slice_index_or xs o 0) +ℤ change s o) → IsTrial q n ys false
 trial_on p q s n xs ys fresh f t count moves = record {
   same_cores = l.cores ∙ f.same_cores;
   few = f.few;

@@ -309,7 +309,8 @@ folded-Joins v u ok page l plain e =
     state = (cell_at rs page).state
 
     -- what the pages of the slot have
-    info : (p : ℕ) → slot_start rs page ≤ p → p < slot_start rs page + (cell_at rs page).width → (tree_slots v).info p ≡ info_from state.info (p - slot_start rs page)
+    info : (p : ℕ) → slot_start rs page ≤ p → p < slot_start rs page + (cell_at rs page).width
+        → (tree_slots v).info p ≡ info_from state.info (p - slot_start rs page)
     info p a b = info_kept rs (runs v) page e p ∙ ap (λ (c : Cell). info_from c.state.info c.offset) (cell_of rs page p a b)
 
     owner : (p : ℕ) → slot_start rs page ≤ p → p < slot_start rs page + (cell_at rs page).width → (tree_slots v).owner p ≡ None

@@ -23,7 +23,8 @@ use Rattle.radix_range.specs.TreeLaws.{pages_are}
 pub of_root : (v : Parts) → IsRadix v → (end : ℕ) → end ≤ 2 ^ 36 → end ≤ 512 * width_of v.level
 of_root v ok end h = let n = pages_are v ok in omega arith
 
-pub users_are : (rs : List Run) (range : PageRange) (core : ℕ) (b : Bool) → (b ≡ true) ↔ HasUser rs range.first range.end core → (b ≡ true) ↔ IsUser (run_slots rs) range core
+pub users_are : (rs : List Run) (range : PageRange) (core : ℕ) (b : Bool) → (b ≡ true) ↔ HasUser rs range.first range.end core
+    → (b ≡ true) ↔ IsUser (run_slots rs) range core
 users_are rs range core b h = (
   λ is. let w = h.0 is in (w.0, in_has range w.0 w.1 w.2, is_recorded-from (cell_at rs w.0).state.info (cell_at rs w.0).offset core ∙ w.3),
   λ u. let m = has_in range u.0 u.1 in h.1 (u.0, m.0, m.1, sym (is_recorded-from (cell_at rs u.0).state.info (cell_at rs u.0).offset core) ∙ u.2),

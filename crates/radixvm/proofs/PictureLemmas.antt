@@ -26,7 +26,8 @@ After S = S → World → Event → Outcome → World → S
 
 -- all lines were watched
 pub all_recorded : {S T : Type 0} (s t : Stream) (after : After S) (one r : S) (ended : Result T TraceFault) (x : T) → ended ≡ Ok x
-    → IfOk ended (λ u. Reads s t (λ input unread. IsSeen after one r Outcomes input None None)) → Reads s t (λ input unread. Records after one input unread (Ok r))
+    → IfOk ended (λ u. Reads s t (λ input unread. IsSeen after one r Outcomes input None None))
+    → Reads s t (λ input unread. Records after one input unread (Ok r))
 all_recorded s t after one r (Ok y) x is h = h
 all_recorded s t after one r (Err f) x is h = absurd (cc)
 
@@ -46,8 +47,8 @@ drawn after one text input unread old new r (Err f) h w (inl (none, kept)) = inl
 drawn after one text input unread old new r (Err f) h w (inr (failed, front)) = inr (failed, inr (r, h, front))
 
 -- of what was recorded by one who began so
-pub all_drawn : {S T : Type 0} (s t : Stream) (after : After S) (made one : S) (text : S → List ℕ) (old new : Option (List ℕ)) (r : S) (ended : Result T TraceFault)
-    → made ≡ one → Reads s t (λ input unread. Records after made input unread (Ok r)) → OnOk ended (Appends old new (text r))
+pub all_drawn : {S T : Type 0} (s t : Stream) (after : After S) (made one : S) (text : S → List ℕ) (old new : Option (List ℕ)) (r : S)
+    (ended : Result T TraceFault) → made ≡ one → Reads s t (λ input unread. Records after made input unread (Ok r)) → OnOk ended (Appends old new (text r))
     → IfErr ended (λ f. ((f ≡ NoMemory) × Keeps old new) ⊎ ((f ≡ WriteFailed) × AppendsFront old new (text r)))
     → Reads s t (λ input unread. TextEnds after one text input unread old new ended)
 all_drawn s t after made one text old new r ended is h w e =

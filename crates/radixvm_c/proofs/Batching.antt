@@ -1,5 +1,6 @@
 -- Batches that grow by one event
-use Rattle.std.proofs.Common.{◌≡◌, ℕ, Bool, false, ◌+◌, ◌<◌, ◌≤◌, List, [], ◌∷◌, ◌++◌, refl, sym, subst, ap, ◌∙◌, take, drop, map, length, get_or, set, arith, Ok, Err}
+use Rattle.std.proofs.Common.{◌≡◌, ℕ, Bool, false, ◌+◌, ◌<◌, ◌≤◌, List, [], ◌∷◌, ◌++◌, refl, sym, subst, ap, ◌∙◌, take}
+use Rattle.std.proofs.Common.{drop, map, length, get_or, set, arith, Ok, Err}
 use Rattle.std.specs.Prelude.{Option, Some}
 use Rattle.std.proofs.lemmas.List.{drop_more, set_at, set-get_or, length-map, length-append, map_push, map_more}
 use Rattle.std.proofs.lemmas.Option.{slice_get-get_or}
@@ -62,8 +63,8 @@ same_place xs n d put e = ap (λ x. set xs n x) e ∙ set-get_or xs n d
 pub runs_none : (w : World) (raws : List RawEvent) (was : List RawOutcome) → RunsFirst w raws 0 was was w
 runs_none w raws was = record { events = []; outcomes = []; said = refl; run = refl; count = refl; told = refl }
 
-pub runs_more : (keeps : Bool) (w : World) (raws : List RawEvent) (n : ℕ) (was now : List RawOutcome) (m : World) (d : RawEvent) (put : RawOutcome) (u : Unit {0})
-    (v : World) → n < length raws → length raws ≤ length was → Takes keeps m (get_or raws n d) put (Ok u) put v → RunsFirst w raws n was now m
+pub runs_more : (keeps : Bool) (w : World) (raws : List RawEvent) (n : ℕ) (was now : List RawOutcome) (m : World) (d : RawEvent) (put : RawOutcome)
+    (u : Unit {0}) (v : World) → n < length raws → length raws ≤ length was → Takes keeps m (get_or raws n d) put (Ok u) put v → RunsFirst w raws n was now m
     → RunsFirst w raws (n + 1) was (set now n put) v
 runs_more keeps w raws n was now m d put u v low room takes h = record {
   events = h.events ++ takes.0 ∷ [];
@@ -76,8 +77,9 @@ runs_more keeps w raws n was now m d put u v low room takes h = record {
 }
 
 -- an event that isn't taken leaves what is told, and the machine
-pub runs_still : (keeps : Bool) (w : World) (raws : List RawEvent) (n : ℕ) (was now : List RawOutcome) (m : World) (d : RawEvent) (c put : RawOutcome) (stop : Stop)
-    (v : World) → Takes keeps m (get_or raws n d) (get_or now n c) (Err stop) put v → RunsFirst w raws n was now m → RunsFirst w raws n was (set now n put) v
+pub runs_still : (keeps : Bool) (w : World) (raws : List RawEvent) (n : ℕ) (was now : List RawOutcome) (m : World) (d : RawEvent) (c put : RawOutcome)
+    (stop : Stop) (v : World) → Takes keeps m (get_or raws n d) (get_or now n c) (Err stop) put v → RunsFirst w raws n was now m
+    → RunsFirst w raws n was (set now n put) v
 runs_still keeps w raws n was now m d c put BadEvent v takes h =
     subst (λ x. RunsFirst w raws n was (set now n put) x) (sym takes.1)
     (subst (λ xs. RunsFirst w raws n was xs m) (sym (same_place now n c put takes.2)) h)
@@ -107,8 +109,8 @@ pub makes_none : (w : World) (raws : List RawEvent) (was : List RawOutcome) → 
 makes_none w raws was = record { items = []; finished = []; said = refl; made = refl; count = refl; told = refl }
 
 pub makes_more : (keeps : Bool) (w : World) (raws : List RawEvent) (n : ℕ) (was now : List RawOutcome) (m : World) (d : RawEvent) (put : RawOutcome)
-    (u : Unit {0}) (v : World) → n < length raws → length raws ≤ length was → TakesItem keeps m (get_or raws n d) put (Ok u) put v → MakesFirst w raws n was now m
-    → MakesFirst w raws (n + 1) was (set now n put) v
+    (u : Unit {0}) (v : World) → n < length raws → length raws ≤ length was → TakesItem keeps m (get_or raws n d) put (Ok u) put v
+    → MakesFirst w raws n was now m → MakesFirst w raws (n + 1) was (set now n put) v
 makes_more keeps w raws n was now m d put u v low room takes h = record {
   items = h.items ++ takes.0 ∷ [];
   finished = h.finished ++ takes.1 ∷ [];
@@ -119,8 +121,8 @@ makes_more keeps w raws n was now m d put u v low room takes h = record {
       ap (λ x. set now n x) takes.4 ∙ told_more finished_code h.finished takes.1 n was now h.count inside h.told;
 }
 
-pub makes_still : (keeps : Bool) (w : World) (raws : List RawEvent) (n : ℕ) (was now : List RawOutcome) (m : World) (d : RawEvent) (c put : RawOutcome) (stop : Stop)
-    (v : World) → n < length raws → TakesItem keeps m (get_or raws n d) (get_or now n c) (Err stop) put v → MakesFirst w raws n was now m
+pub makes_still : (keeps : Bool) (w : World) (raws : List RawEvent) (n : ℕ) (was now : List RawOutcome) (m : World) (d : RawEvent) (c put : RawOutcome)
+    (stop : Stop) (v : World) → n < length raws → TakesItem keeps m (get_or raws n d) (get_or now n c) (Err stop) put v → MakesFirst w raws n was now m
     → MakesUntil keeps w raws (record { stop = Some stop; count = n }) was (set now n put) v
 makes_still keeps w raws n was now m d c put BadEvent v low takes h = (
   m,

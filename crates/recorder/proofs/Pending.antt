@@ -1,5 +1,6 @@
 -- Calls that aren't answered yet, recorded one after another
-use Rattle.std.proofs.Common.{◌≡◌, ℕ, ◌+◌, ◌<◌, ◌≤◌, arith, List, ◌∷◌, ◌++◌, [], Option, None, Some, Bool, true, false, cond, refl, sym, ap, ◌∙◌, length, drop, get_or}
+use Rattle.std.proofs.Common.{◌≡◌, ℕ, ◌+◌, ◌<◌, ◌≤◌, arith, List, ◌∷◌, ◌++◌, [], Option, None, Some, Bool, true, false}
+use Rattle.std.proofs.Common.{cond, refl, sym, ap, ◌∙◌, length, drop, get_or}
 use Rattle.std.proofs.Math.ListN.{drop_of_length-le}
 use Rattle.std.proofs.lemmas.List.{at_drop_more}
 use Rattle.picture.specs.declared.moments.Recorded.{Recorded}
@@ -20,7 +21,8 @@ begin_pending r (Some call) = pushed_pending r (begin_of call)
 
 -- one call more
 pub call_pushed : (r first next : Recording) (calls : List (Option Pending)) (x : Option Pending) (n : ℕ) → n < 64 → length r.pending ≡ 64 → r.pending ≡ calls
-    → x ≡ get_or r.pending n None → next ≡ begin_pushed r x → all_pushed r (drop n calls) ≡ all_pushed first calls → all_pushed next (drop (n + 1) calls) ≡ all_pushed first calls
+    → x ≡ get_or r.pending n None → next ≡ begin_pushed r x → all_pushed r (drop n calls) ≡ all_pushed first calls
+    → all_pushed next (drop (n + 1) calls) ≡ all_pushed first calls
 call_pushed r first next calls x n p whole same is came rest =
     let long : length calls ≡ 64 = ap length (sym same) ∙ whole in
     let there : n < length calls = omega (arith, p, long) in
@@ -28,8 +30,8 @@ call_pushed r first next calls x n p whole same is came rest =
     ∙ (sym (at_drop_more (all_pushed r) calls n None there) ∙ rest)
 
 -- all calls
-pub all_called : (r first : Recording) (calls : List (Option Pending)) (n : ℕ) → 64 ≤ n → (0 < n → length calls ≡ 64) → all_pushed r (drop n calls) ≡ all_pushed first calls
-    → r ≡ all_pushed first calls
+pub all_called : (r first : Recording) (calls : List (Option Pending)) (n : ℕ) → 64 ≤ n → (0 < n → length calls ≡ 64)
+    → all_pushed r (drop n calls) ≡ all_pushed first calls → r ≡ all_pushed first calls
 all_called r first calls n end whole rest =
     let long : length calls ≡ 64 = whole (omega (arith, end)) in
     let past : length calls ≤ n = omega (arith, end, long) in

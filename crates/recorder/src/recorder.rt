@@ -75,7 +75,8 @@ impl<A: Allocator> Model for Recorder<A> {
 
 impl<A: Allocator> Recorder<A> {
     ghost use Rattle.std.specs.Prelude.{◌≡◌, ◌<◌, IfOk, None, length, slice_index_or};
-    ghost use Rattle.recorder.specs.Recording.{advanced, answered, begun, change_made, deed_done, nothing_recorded, noted, all_pushed, begin_pushed, pushed, told_others};
+    ghost use Rattle.recorder.specs.Recording.{advanced, answered, begun, change_made, deed_done, nothing_recorded, noted};
+    ghost use Rattle.recorder.specs.Recording.{all_pushed, begin_pushed, pushed, told_others};
 
     /// A recorder of the steps from `first` to `last`, or of the first 2,000 of them, before the first step of a run.
     /// Steps are numbered from 1. An error is a refusal of memory.

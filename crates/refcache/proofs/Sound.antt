@@ -142,5 +142,6 @@ pub freed_unused : (p q : Parts) (c o : ℕ) → IsSound p → Takes (counts_of 
 freed_unused p q c o f t = unused (counts_of p) c o (counts_of q) t.1 (known (counts_of p) f.reached).settled
 
 -- the front of a queue is marked as queued
-pub queued_front : (v : Counts) (c o since : ℕ) (rest : List Queued) → AreReached v → v.queue c ≡ record { object = o; epoch = since } ∷ rest → v.queued o ≡ true
+pub queued_front : (v : Counts) (c o since : ℕ) (rest : List Queued) → AreReached v → v.queue c ≡ record { object = o; epoch = since } ∷ rest
+    → v.queued o ≡ true
 queued_front v c o since rest r front = (known v r).settled.single.marks o c (subst (Stands o) (sym front) (inl refl))

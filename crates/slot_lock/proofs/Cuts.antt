@@ -150,7 +150,8 @@ moved rs ok i at h p = go (found rs ok p)
     go f = ⊎_elim (λ (l : f.at < i). lower f l) (λ (l : i ≤ f.at). ⊎_elim (λ (m : i < f.at). higher f m)
         (λ (m : f.at ≤ i). same f (omega arith)) (cases_lt i f.at)) (cases_lt f.at i)
 
-pub cut_list-Divides : (rs : List Slot) → IsSlotList rs → (i at : ℕ) → IsInside rs i at → Divides (slots_of rs) (slots_of (cut_list rs i at)) (get_slot rs i).owner at
+pub cut_list-Divides : (rs : List Slot) → IsSlotList rs → (i at : ℕ) → IsInside rs i at
+    → Divides (slots_of rs) (slots_of (cut_list rs i at)) (get_slot rs i).owner at
 cut_list-Divides rs ok i at h = record {
   info = λ j p. same_info p (moved rs ok i at h p) j;
   owners = λ j p. same_owner p (moved rs ok i at h p) j;

@@ -173,7 +173,8 @@ same_place rs qs range g h p f =
       until = λ l. let m : f.at + 1 < length rs = omega arith in let u = f.is.until m in let a = start (f.at + 1) m in omega (arith, a, u);
     })
 
-pub edited_inside : (rs qs : List Slot) (range : PageRange) (g : Slot → Slot) → Edited rs qs range g → (p : ℕ) → has range p ≡ true → slot_at qs p ≡ g (slot_at rs p)
+pub edited_inside : (rs qs : List Slot) (range : PageRange) (g : Slot → Slot) → Edited rs qs range g → (p : ℕ) → has range p ≡ true
+    → slot_at qs p ≡ g (slot_at rs p)
 edited_inside rs qs range g h p a = go (found rs h.ok p)
   where
     go : (f : Found rs p) → slot_at qs p ≡ g (slot_at rs p)
@@ -181,7 +182,8 @@ edited_inside rs qs range g h p a = go (found rs h.ok p)
         ∙ (h.done.inside f.at f.is.within (sym (ap (λ (r : Slot). has range r.start) f.slot) ∙ (within_slot rs h.ok range h.cut p ∙ a))
         ∙ sym (ap g f.slot))
 
-pub edited_outside : (rs qs : List Slot) (range : PageRange) (g : Slot → Slot) → Edited rs qs range g → (p : ℕ) → has range p ≡ false → slot_at qs p ≡ slot_at rs p
+pub edited_outside : (rs qs : List Slot) (range : PageRange) (g : Slot → Slot) → Edited rs qs range g → (p : ℕ) → has range p ≡ false
+    → slot_at qs p ≡ slot_at rs p
 edited_outside rs qs range g h p a = go (found rs h.ok p)
   where
     go : (f : Found rs p) → slot_at qs p ≡ slot_at rs p

@@ -137,7 +137,8 @@ cut_again rs ok i h = ext_get_or nobody _ rs lengths (λ k l. each k)
     each k = ⊎_elim
         (λ (m : k ≤ i). below _ i _ inside k m ∙ low rs i h k m)
         (λ (m : i < k). ⊎_elim
-        (λ (e : k ≡ i + 1). ap (get_slot (cut_list (joined_list rs i) i (get_slot rs (i + 1)).start)) e ∙ (here _ i _ inside ∙ (tail ∙ ap (get_slot rs) (sym e))))
+        (λ (e : k ≡ i + 1). ap (get_slot (cut_list (joined_list rs i) i (get_slot rs (i + 1)).start)) e
+        ∙ (here _ i _ inside ∙ (tail ∙ ap (get_slot rs) (sym e))))
         (λ (ne : k ≢ i + 1).
         let back : k - 1 + 1 ≡ k = omega arith in
         ap (get_slot (cut_list (joined_list rs i) i (get_slot rs (i + 1)).start)) (sym back)
@@ -150,7 +151,8 @@ cut_again rs ok i h = ext_get_or nobody _ rs lengths (λ k l. each k)
         flip (inr a) = inl a
 
 -- one edge fewer
-pub slots_of-joined : (rs : List Slot) → IsSlotList rs → (i : ℕ) → CanGo rs i → slots_of (joined_list rs i) ≡ without_edge (slots_of rs) (get_slot rs (i + 1)).start
+pub slots_of-joined : (rs : List Slot) → IsSlotList rs → (i : ℕ) → CanGo rs i
+    → slots_of (joined_list rs i) ≡ without_edge (slots_of rs) (get_slot rs (i + 1)).start
 slots_of-joined rs ok i h = same_slots _ _ (λ p. sym (ap (λ f. f p) divided.info)) (λ p. sym (ap (λ f. f p) divided.owners)) edge
   where
     qs_ok : IsSlotList (joined_list rs i)
@@ -173,9 +175,11 @@ pub next_info : (rs : List Slot) → IsSlotList rs → (k : ℕ) → k + 1 < len
 next_info rs ok k h =
     let slot = slot_at_is rs ok (get_slot rs k).start k (record { within = omega arith; from = omega arith; until = λ l. ok.rising k l }) in
     let none : (get_slot rs k).start - (get_slot rs k).start ≡ 0 = omega arith in
-    ap (λ (r : Slot). info_from r.info ((get_slot rs k).start - r.start)) slot ∙ (ap (info_from (get_slot rs k).info) none ∙ info_from_zero (get_slot rs k).info)
+    ap (λ (r : Slot). info_from r.info ((get_slot rs k).start - r.start)) slot
+    ∙ (ap (info_from (get_slot rs k).info) none ∙ info_from_zero (get_slot rs k).info)
 
-page_info : (rs : List Slot) → IsSlotList rs → (page i : ℕ) → IsAt rs page i → (slots_of rs).info page ≡ info_from (get_slot rs i).info (page - (get_slot rs i).start)
+page_info : (rs : List Slot) → IsSlotList rs → (page i : ℕ) → IsAt rs page i
+    → (slots_of rs).info page ≡ info_from (get_slot rs i).info (page - (get_slot rs i).start)
 page_info rs ok page i at = ap (λ (r : Slot). info_from r.info (page - r.start)) (slot_at_is rs ok page i at)
 
 on_info : (rs : List Slot) → IsSlotList rs → (page i end : ℕ) → IsAt rs page i → page ≤ end

@@ -97,7 +97,9 @@ users_first rs range i at none = record {
     two : (b : Bool) → b ≡ false → b ≡ true → ⊥
     two b e f = cc
 
-pub users_next : (rs : List Slot) → IsSlotList rs → (range : PageRange) (cores more i : ℕ) → range.first < range.end → Users rs range cores i → i + 1 < length rs → (get_slot rs i).start < range.end → ((core : ℕ) → members more core ≡ (members cores core || is_recorded (get_slot rs i).info core)) → Users rs range more (i + 1)
+pub users_next : (rs : List Slot) → IsSlotList rs → (range : PageRange) (cores more i : ℕ) → range.first < range.end → Users rs range cores i
+    → i + 1 < length rs → (get_slot rs i).start < range.end → ((core : ℕ) → members more core ≡ (members cores core || is_recorded (get_slot rs i).info core))
+    → Users rs range more (i + 1)
 users_next rs ok range cores more i some u h l joined = record {
   walk = walk_next rs ok range.first i u.walk h;
   only = λ core m. only core (members cores core) refl (sym (joined core) ∙ m);
@@ -137,7 +139,8 @@ users_next rs ok range cores more i some u h l joined = record {
         ∙ (sym (ap (λ o. is_recorded o core) (info_in rs ok i v.page h from v.below)) ∙ v.is)))
         (cases_lt v.page (get_slot rs i).start)
 
-pub users_all : (rs : List Slot) (range : PageRange) (cores i : ℕ) → Users rs range cores i → range.end ≤ (get_slot rs i).start → (core : ℕ) → (members cores core ≡ true) ↔ IsUser (slots_of rs) range core
+pub users_all : (rs : List Slot) (range : PageRange) (cores i : ℕ) → Users rs range cores i → range.end ≤ (get_slot rs i).start → (core : ℕ)
+    → (members cores core ≡ true) ↔ IsUser (slots_of rs) range core
 users_all rs range cores i u l core = (to, from)
   where
     to : members cores core ≡ true → IsUser (slots_of rs) range core

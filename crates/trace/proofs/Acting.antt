@@ -33,14 +33,15 @@ pub space_running : {X : Type 0} (g : X → World) (limit : CallLimit) (d : Opti
 space_running g limit d None n e = absurd cc
 space_running g limit d (Some x) n e = refl
 
-pub space_late : {X : Type 0} (g : X → World) (limit : CallLimit) (d : Option Asked) (m : Option X) (n : ℕ) (f : TraceFault) → is_some m ≡ false → is_some d ≡ true
-    → IfSome d (λ a. LateFails limit a n f) → SpaceFails (stage_of limit d (option_map g m)) n f
+pub space_late : {X : Type 0} (g : X → World) (limit : CallLimit) (d : Option Asked) (m : Option X) (n : ℕ) (f : TraceFault) → is_some m ≡ false
+    → is_some d ≡ true → IfSome d (λ a. LateFails limit a n f) → SpaceFails (stage_of limit d (option_map g m)) n f
 space_late g limit d (Some x) n f e i h = absurd cc
 space_late g limit None None n f e i h = absurd cc
 space_late g limit (Some a) None n f e i h = h
 
-pub space_taken : {X : Type 0} (g : X → World) (limit : CallLimit) (d : Option Asked) (m : Option X) (cores frames calls : ℕ) → is_some m ≡ false → is_some d ≡ false
-    → LineActs (stage_of limit d (option_map g m)) (Space cores frames calls) (stage_of limit (Some (asks_for cores frames calls)) (option_map g m)) []
+pub space_taken : {X : Type 0} (g : X → World) (limit : CallLimit) (d : Option Asked) (m : Option X) (cores frames calls : ℕ) → is_some m ≡ false
+    → is_some d ≡ false → LineActs (stage_of limit d (option_map g m)) (Space cores frames calls)
+    (stage_of limit (Some (asks_for cores frames calls)) (option_map g m)) []
 space_taken g limit d (Some x) cores frames calls e i = absurd cc
 space_taken g limit (Some a) None cores frames calls e i = absurd cc
 space_taken g limit None None cores frames calls e i = (limit, refl, refl, refl)
@@ -59,15 +60,15 @@ pub bad_running : {X : Type 0} (g : X → World) (limit : CallLimit) (d : Option
 bad_running g limit d None n k e = absurd cc
 bad_running g limit d (Some x) n k e = refl
 
-pub bad_space : {X : Type 0} (g : X → World) (limit : CallLimit) (d : Option Asked) (m : Option X) (n : ℕ) (words : List Word) → is_some m ≡ false → is_none d ≡ true
-    → begins_with_vm words ≡ true → BadFails (stage_of limit d (option_map g m)) n (kind_of words) (BadLine n)
+pub bad_space : {X : Type 0} (g : X → World) (limit : CallLimit) (d : Option Asked) (m : Option X) (n : ℕ) (words : List Word) → is_some m ≡ false
+    → is_none d ≡ true → begins_with_vm words ≡ true → BadFails (stage_of limit d (option_map g m)) n (kind_of words) (BadLine n)
 bad_space g limit d (Some x) n words e i h = absurd cc
 bad_space g limit (Some a) None n words e i h = absurd cc
 bad_space g limit None None n words e i h =
     subst (λ b. BadFails (stage_of limit None None) n (if b then OfSpace else if begins_with_file words then OfFile else OfEvents) (BadLine n)) (sym h) refl
 
-pub bad_other : {X : Type 0} (g : X → World) (limit : CallLimit) (d : Option Asked) (m : Option X) (n : ℕ) (words : List Word) → is_some m ≡ false → is_none d ≡ true
-    → begins_with_vm words ≡ false → BadFails (stage_of limit d (option_map g m)) n (kind_of words) NoVmLine
+pub bad_other : {X : Type 0} (g : X → World) (limit : CallLimit) (d : Option Asked) (m : Option X) (n : ℕ) (words : List Word) → is_some m ≡ false
+    → is_none d ≡ true → begins_with_vm words ≡ false → BadFails (stage_of limit d (option_map g m)) n (kind_of words) NoVmLine
 bad_other g limit d (Some x) n words e i h = absurd cc
 bad_other g limit (Some a) None n words e i h = absurd cc
 bad_other g limit None None n words e i h =
@@ -78,8 +79,8 @@ bad_other g limit None None n words e i h =
     go true = refl
     go false = refl
 
-pub bad_file : {X : Type 0} (g : X → World) (limit : CallLimit) (d : Option Asked) (m : Option X) (n : ℕ) (words : List Word) → is_some m ≡ false → is_none d ≡ false
-    → begins_with_file words ≡ true → BadFails (stage_of limit d (option_map g m)) n (kind_of words) (BadLine n)
+pub bad_file : {X : Type 0} (g : X → World) (limit : CallLimit) (d : Option Asked) (m : Option X) (n : ℕ) (words : List Word) → is_some m ≡ false
+    → is_none d ≡ false → begins_with_file words ≡ true → BadFails (stage_of limit d (option_map g m)) n (kind_of words) (BadLine n)
 bad_file g limit d (Some x) n words e i h = absurd cc
 bad_file g limit None None n words e i h = absurd cc
 bad_file g limit (Some a) None n words e i h =
@@ -87,8 +88,8 @@ bad_file g limit (Some a) None n words e i h =
     (sym (no_both words h))
     (subst (λ b. BadFails (stage_of limit (Some a) None) n (if b then OfFile else OfEvents) (BadLine n)) (sym h) refl)
 
-pub bad_late : {X : Type 0} (g : X → World) (limit : CallLimit) (d : Option Asked) (m : Option X) (n : ℕ) (words : List Word) (f : TraceFault) → is_some m ≡ false
-    → is_none d ≡ false → begins_with_file words ≡ false → IfSome d (λ a. LateFails limit a n f)
+pub bad_late : {X : Type 0} (g : X → World) (limit : CallLimit) (d : Option Asked) (m : Option X) (n : ℕ) (words : List Word) (f : TraceFault)
+    → is_some m ≡ false → is_none d ≡ false → begins_with_file words ≡ false → IfSome d (λ a. LateFails limit a n f)
     → BadFails (stage_of limit d (option_map g m)) n (kind_of words) f
 bad_late g limit d (Some x) n words f e i h l = absurd cc
 bad_late g limit None None n words f e i h l = absurd cc

@@ -27,7 +27,8 @@ before [] file (suc j) ne = refl
 before (f ∷ fs) file zero ne = refl
 before (f ∷ fs) file (suc j) ne = before fs file j (λ e. ne (ap suc e))
 
-one_more : (files : List FileLine) (file : FileLine) (n : ℕ) → n ≡ length files → put (file_at files) n (declared_file (Some file)) ≡ file_at (files ++ file ∷ [])
+one_more : (files : List FileLine) (file : FileLine) (n : ℕ) → n ≡ length files
+    → put (file_at files) n (declared_file (Some file)) ≡ file_at (files ++ file ∷ [])
 one_more files file n e = fun_ext (put_all (λ j o. o ≡ file_at (files ++ file ∷ []) j) (file_at files) n (declared_file (Some file))
     (ap declared_file (sym (ap (slice_get (files ++ file ∷ [])) e ∙ at_end files file)))
     (λ j ne. ap declared_file (before files file j (λ k. ne (k ∙ sym e)))))
@@ -71,7 +72,8 @@ pub declares_file : (a : Asked) (n : ℕ) (file : FileLine) (s : Reached) → is
 declares_file a n file s next d = go (nat_lt (length a.files) 17) refl
   where
     go : (b : Bool) → nat_lt (length a.files) 17 ≡ b
-        → IsDeclared (record a { next = suc a.next; files = if b then a.files ++ file ∷ [] else a.files }) (with_opened s n (file_with file.mode (bytes_of file)))
+        → IsDeclared (record a { next = suc a.next; files = if b then a.files ++ file ∷ [] else a.files })
+        (with_opened s n (file_with file.mode (bytes_of file)))
     go true few l =
         let was = d (grind (arith, nat_tests)) in
         let count : length (a.files ++ file ∷ []) ≡ length a.files + 1 = length-append a.files (file ∷ []) in

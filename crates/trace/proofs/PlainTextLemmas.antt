@@ -371,7 +371,8 @@ meets_opening a slots s few new e = subst (Meets (new_world (made_by a) slots)) 
 
 opened : (old : Stage) (w : World) (s : Reached) → ReachedAt old s → Opens old w → Meets w s
 opened (Start limit) w s r o = absurd o
-opened (Declared limit a) w s r o = subst (λ w. Meets w s) (sym o.1) (meets_opening a new_tree s (few_cores limit a o.0) new_tree_new (r (few_files limit a o.0)).1)
+opened (Declared limit a) w s r o =
+    subst (λ w. Meets w s) (sym o.1) (meets_opening a new_tree s (few_cores limit a o.0) new_tree_new (r (few_files limit a o.0)).1)
 opened (Running m) w s r o = subst (λ w. Meets w s) (sym o) r
 
 -- ---- a line
@@ -404,7 +405,8 @@ line_plain (File n mode len seed) old new s text below r (limit, a, is, next, no
     inr (record {
       next = with_opened s n (file_with mode (seeded len seed));
       answers = (refl, t);
-      reached = subst (λ x. ReachedAt x (with_opened s n (file_with mode (seeded len seed)))) (sym now) (declares_file a n file s next (subst (λ x. ReachedAt x s) is r));
+      reached = subst (λ x. ReachedAt x (with_opened s n (file_with mode (seeded len seed)))) (sym now)
+          (declares_file a n file s next (subst (λ x. ReachedAt x s) is r));
     })
 line_plain (Act core action) old new s text below r (w, v, opens, gives, is) =
     let top : events_at new ≡ v.calls.events = ap events_at is in

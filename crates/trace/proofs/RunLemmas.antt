@@ -158,8 +158,8 @@ pub next_line : (input line rest ys : List ℕ) (done : List (List ℕ)) → lin
     → IsFirstLine rest line ys → lines_of input ≡ done ++ line ∷ lines_of ys
 next_line input line rest ys done e u f = e ∙ ap (λ l. done ++ l) (lines-first rest line ys u f)
 
-pub run_more : (limit : CallLimit) (show : Show) (input : List ℕ) (old : Option (List ℕ)) (now next : Scene) (number : ℕ) → HasRun limit show input old now number
-    → Advances show now next → HasRun limit show input old next (number + 1)
+pub run_more : (limit : CallLimit) (show : Show) (input : List ℕ) (old : Option (List ℕ)) (now next : Scene) (number : ℕ)
+    → HasRun limit show input old now number → Advances show now next → HasRun limit show input old next (number + 1)
 run_more limit show input old now next number h a =
     let ys = next.left in
     let first : IsFirstLine h.rest a.line ys = subst (λ x. IsFirstLine x a.line ys) h.left a.takes in
@@ -178,7 +178,8 @@ run_more limit show input old now next number h a =
     }
 
 -- what was acted on so far
-front_of : (limit : CallLimit) (show : Show) (input : List ℕ) (old : Option (List ℕ)) (now : Scene) (number : ℕ) → HasRun limit show input old now number → Front limit input
+front_of : (limit : CallLimit) (show : Show) (input : List ℕ) (old : Option (List ℕ)) (now : Scene) (number : ℕ) → HasRun limit show input old now number
+    → Front limit input
 front_of limit show input old now number h = record { done = h.done; more = lines_of h.rest; stage = now.stage; text = h.text; lines = h.lines; runs = h.runs }
 
 -- what is held and what is unread is what is left
@@ -206,7 +207,8 @@ run_fails limit show input old now next number f h (unsent e k) =
     writing e (front_of limit show input old now number h) (whole_front _ _ _ (Appends-kept _ _ _ _ h.appends k))
 run_fails limit show input old now next number f h (too_long e b k) =
     let l = long_first 256 h.rest (subst (λ x. 256 < length x) h.left b.0) (subst (λ x. IsUnbroken (take 257 x)) h.left b.1) in
-    overlong (front_of limit show input old now number h) l.line l.others l.lines l.long (e ∙ ap (λ n. TooLong (n + 1)) h.count) (Appends-kept _ _ _ _ h.appends k)
+    overlong (front_of limit show input old now number h) l.line l.others l.lines l.long (e ∙ ap (λ n. TooLong (n + 1)) h.count)
+    (Appends-kept _ _ _ _ h.appends k)
 run_fails limit show input old now next number f h (no_memory e line held short u t l w k) =
     let ys = next.left in
     let first : IsFirstLine h.rest line ys = subst (λ x. IsFirstLine x line ys) h.left t in
@@ -262,8 +264,8 @@ front_kept : (a b c : Option (List ℕ)) (xs : List ℕ) → AppendsFront a b xs
 front_kept a b c xs p k = (p.0, p.1, Appends-kept a b c (take p.0 xs) p.2 k)
 
 -- a flush keeps what was written
-pub stops_kept : (limit : CallLimit) (show : Show) (input : List ℕ) (unread : List ℕ) (a b c : Option (List ℕ)) (f : TraceFault) → Stops limit show input unread a b f
-    → Keeps b c → Stops limit show input unread a c f
+pub stops_kept : (limit : CallLimit) (show : Show) (input : List ℕ) (unread : List ℕ) (a b c : Option (List ℕ)) (f : TraceFault)
+    → Stops limit show input unread a b f → Keeps b c → Stops limit show input unread a c f
 stops_kept limit show input unread a b c f (reading e p r u w) k = reading e p r u (Appends-kept _ _ _ _ w k)
 stops_kept limit show input unread a b c f (unmade e u w) k = unmade e u (Appends-kept _ _ _ _ w k)
 stops_kept limit show input unread a b c f (wanting e p line others m r n w) k = wanting e p line others m r n (Appends-kept _ _ _ _ w k)

@@ -1,5 +1,6 @@
 -- What is seen of lines, and of a whole replay
-use Rattle.std.proofs.Common.{◌≡◌, ℕ, ◌≤◌, List, [], ◌∷◌, ◌++◌, Option, None, Some, Result, Ok, Err, OnOk, length, refl, sym, ap, ◌∙◌, subst, append_assoc, append-nil}
+use Rattle.std.proofs.Common.{◌≡◌, ℕ, ◌≤◌, List, [], ◌∷◌, ◌++◌, Option, None, Some, Result, Ok, Err, OnOk, length, refl}
+use Rattle.std.proofs.Common.{sym, ap, ◌∙◌, subst, append_assoc, append-nil}
 use Rattle.std.specs.Prelude.{IfOk, IsSomeAnd}
 use Rattle.std.specs.Io.KnownBytes.{Keeps, Appends}
 use Rattle.std.proofs.KnownBytes.{Appends-nil, Appends-trans, Appends-kept}
@@ -35,20 +36,21 @@ use Rattle.trace.proofs.TurnLemmas.{line_told}
 
 -- ---- what a line of an event asks for
 
-pub step_seen : {S : Type 0} (after : S → World → Event → Outcome → World → S) (e : Event) (o : Outcome) (one other : S) (w v : World) (text : List ℕ) → Step w e o v
-    → other ≡ after one w e o v → text ≡ outcome_text o → Sees after one w (AsksOne e) v other text
+pub step_seen : {S : Type 0} (after : S → World → Event → Outcome → World → S) (e : Event) (o : Outcome) (one other : S) (w v : World) (text : List ℕ)
+    → Step w e o v → other ≡ after one w e o v → text ≡ outcome_text o → Sees after one w (AsksOne e) v other text
 step_seen after e o one other w v text s is t = (e ∷ [], o ∷ [], (o, refl, refl, t), (v, s, (refl, is)))
 
 pub finish_seen : {S : Type 0} (after : S → World → Event → Outcome → World → S) (core : ℕ) (f : Finished) (one other : S) (w v : World) (text : List ℕ)
     → WatchesFinish after one w core f v other → text ≡ finished_text f → Sees after one w (AsksFinish core) v other text
 finish_seen after core f one other w v text h t = (h.1, h.2, (h.0, f, h.3, t), h.4)
 
-pub call_seen : {S : Type 0} (after : S → World → Event → Outcome → World → S) (core : ℕ) (request : Request) (f : Finished) (one other : S) (w v : World) (text : List ℕ)
-    → WatchesCall after one w core request f v other → text ≡ finished_text f → Sees after one w (Asks (Now core request)) v other text
+pub call_seen : {S : Type 0} (after : S → World → Event → Outcome → World → S) (core : ℕ) (request : Request) (f : Finished) (one other : S) (w v : World)
+    (text : List ℕ) → WatchesCall after one w core request f v other → text ≡ finished_text f → Sees after one w (Asks (Now core request)) v other text
 call_seen {S} after core request f one other w v text (o, m, step, more) t = go o step more
   where
     alone : (o : Outcome) (mid : S) → Step w (Ev.Call core request) o m → mid ≡ after one w (Ev.Call core request) o m → (v ≡ m) × (other ≡ mid) × (f ≡ Last o)
-        → ((text ≡ outcome_text o) → AsksCall core request o (Ev.Call core request ∷ []) (o ∷ []) text) → Sees after one w (Asks (Now core request)) v other text
+        → ((text ≡ outcome_text o) → AsksCall core request o (Ev.Call core request ∷ []) (o ∷ []) text)
+        → Sees after one w (Asks (Now core request)) v other text
     alone o mid step same (stays, is, last) asks =
         (Ev.Call core request ∷ [], o ∷ [], (o, asks (t ∙ ap finished_text last)), (m, step, (stays, is ∙ same)))
 
@@ -112,8 +114,8 @@ opened after first mid (Declared limit a) w es os r o = (
 )
 opened after first mid (Running m) w es os r o = (r.0, subst (λ x. Watches after first (new_machine r.0) es os x mid) (sym o) r.1)
 
-event_grows : {S : Type 0} (after : S → World → Event → Outcome → World → S) (first mid other : S) (old new : Stage) (lines : List (List ℕ)) (line before text : List ℕ)
-    (l : Line) → line_of line ≡ Some l → SeesEvent after old mid l new other text → SeesAll after first old lines before mid
+event_grows : {S : Type 0} (after : S → World → Event → Outcome → World → S) (first mid other : S) (old new : Stage) (lines : List (List ℕ))
+    (line before text : List ℕ) (l : Line) → line_of line ≡ Some l → SeesEvent after old mid l new other text → SeesAll after first old lines before mid
     → SeesAll after first new (lines ++ line ∷ []) (before ++ text) other
 event_grows after first mid other old new lines line before text l e (w, v, opens, is, (fs, ps, asks, watches)) (es, os, all, leads) =
     let (asked, came) = opened after first mid old w es os leads opens in (
@@ -128,12 +130,14 @@ event_grows after first mid other old new lines line before text l e (w, v, open
 pub event_line_grows : {S : Type 0} (after : S → World → Event → Outcome → World → S) (first mid other : S) (old new : Stage) (lines : List (List ℕ))
     (line before text : List ℕ) (said : Option Line) → said ≡ line_of line → IsSomeAnd said (λ l. SeesEvent after old mid l new other text)
     → SeesAll after first old lines before mid → SeesAll after first new (lines ++ line ∷ []) (before ++ text) other
-event_line_grows after first mid other old new lines line before text (Some l) e h s = event_grows after first mid other old new lines line before text l (sym e) h s
+event_line_grows after first mid other old new lines line before text (Some l) e h s =
+    event_grows after first mid other old new lines line before text l (sym e) h s
 event_line_grows after first mid other old new lines line before text None e h s = absurd h
 
 -- a line that is none leads on from stage to stage
-quiet_grows : {S : Type 0} (after : S → World → Event → Outcome → World → S) (first mid : S) (old new : Stage) (lines : List (List ℕ)) (line before text : List ℕ)
-    (l : Line) → line_of line ≡ Some l → Asks l [] [] text → ((es : List Event) (os : List Outcome) → Leads after first old es os mid → Leads after first new es os mid)
+quiet_grows : {S : Type 0} (after : S → World → Event → Outcome → World → S) (first mid : S) (old new : Stage) (lines : List (List ℕ))
+    (line before text : List ℕ) (l : Line) → line_of line ≡ Some l → Asks l [] [] text
+    → ((es : List Event) (os : List Outcome) → Leads after first old es os mid → Leads after first new es os mid)
     → SeesAll after first old lines before mid → SeesAll after first new (lines ++ line ∷ []) (before ++ text) mid
 quiet_grows after first mid old new lines line before text l e asks leads (es, os, all, came) = (
   es ++ [],
@@ -143,8 +147,9 @@ quiet_grows after first mid old new lines line before text l e asks leads (es, o
       (subst (λ x. Leads after first new es x mid) (sym (append-nil os)) (leads es os came)),
 )
 
-pub blank_grows : {S : Type 0} (after : S → World → Event → Outcome → World → S) (first mid : S) (stage : Stage) (lines : List (List ℕ)) (line before text : List ℕ)
-    → line_of line ≡ Some Blank → text ≡ [] → SeesAll after first stage lines before mid → SeesAll after first stage (lines ++ line ∷ []) (before ++ text) mid
+pub blank_grows : {S : Type 0} (after : S → World → Event → Outcome → World → S) (first mid : S) (stage : Stage) (lines : List (List ℕ))
+    (line before text : List ℕ) → line_of line ≡ Some Blank → text ≡ [] → SeesAll after first stage lines before mid
+    → SeesAll after first stage (lines ++ line ∷ []) (before ++ text) mid
 blank_grows after first mid stage lines line before text e none s =
     quiet_grows after first mid stage stage lines line before text Blank e (refl, refl, none) (λ es os h. h) s
 
@@ -167,8 +172,8 @@ file_grows after first mid other old new lines line before text n mode len seed 
 -- ---- a replay
 
 -- a line whose text was written was seen
-pub line_seen : {R : Type 0} (saw : R → R → List (List ℕ) → List ℕ → Type 0) (show : Show) (r q : R) (old new : Scene) (mid : Option (List ℕ)) (line seen text : List ℕ)
-    → length line ≤ 256 → IsUnbroken line → IsFirstLine old.left line new.left → seen ≡ line → Acts old.stage seen new.stage text
+pub line_seen : {R : Type 0} (saw : R → R → List (List ℕ) → List ℕ → Type 0) (show : Show) (r q : R) (old new : Scene) (mid : Option (List ℕ))
+    (line seen text : List ℕ) → length line ≤ 256 → IsUnbroken line → IsFirstLine old.left line new.left → seen ≡ line → Acts old.stage seen new.stage text
     → Keeps old.written mid → Appends mid new.written (told show text) → Grows saw r seen q text → AdvancesSeen saw show r q old new
 unfolding line_told
 line_seen saw show r q old new mid line seen text short unbroken takes same acts keeps wrote grows =
@@ -192,8 +197,8 @@ seen_none Holds show input old now h e w = record {
   appends = subst (Appends old now.written) (sym (told_none show)) (subst (λ o. Appends old o []) (sym w) (Appends-nil old));
 }
 
-pub seen_more : {R : Type 0} (saw : R → R → List (List ℕ) → List ℕ → Type 0) (show : Show) (first r q : R) (input : List ℕ) (old : Option (List ℕ)) (now next : Scene)
-    → HasSeen (saw first r) show input old now → AdvancesSeen saw show r q now next → HasSeen (saw first q) show input old next
+pub seen_more : {R : Type 0} (saw : R → R → List (List ℕ) → List ℕ → Type 0) (show : Show) (first r q : R) (input : List ℕ) (old : Option (List ℕ))
+    (now next : Scene) → HasSeen (saw first r) show input old now → AdvancesSeen saw show r q now next → HasSeen (saw first q) show input old next
 seen_more saw show first r q input old now next h (a, grows) = record {
   done = h.done ++ a.line ∷ [];
   text = h.text ++ a.text;

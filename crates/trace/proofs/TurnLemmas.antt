@@ -82,7 +82,8 @@ unfolding is_own
 own_bytes false s n line f e = ap is_own e
 own_bytes true s n line f e = own_said s n (kind_of (words_of line)) (line_of line) f e
 
-own_act : (keeps : Bool) (s : Stage) (n : ℕ) (line : List ℕ) (f : TraceFault) → ((f ≡ NoMemory) × LineWants keeps s line) ⊎ LineFails s n line f → is_own f ≡ true
+own_act : (keeps : Bool) (s : Stage) (n : ℕ) (line : List ℕ) (f : TraceFault) → ((f ≡ NoMemory) × LineWants keeps s line) ⊎ LineFails s n line f
+    → is_own f ≡ true
 unfolding is_own
 own_act keeps s n line f (inl e) = ap is_own e.0
 own_act keeps s n line f (inr h) = own_bytes (are_printable line) s n line f h.because

@@ -74,7 +74,8 @@ accesses_one t u v addr a byte y z h k =
     let same : y ≡ z = cc in
     (same, h.1 ∙ (ap (λ (r : Reply). accessed t addr byte r) same ∙ sym k.1))
 
-performs_one : (t u v : Plain) (core : ℕ) (request : Request) (y z : Reply) → Performs IsFirstPlace t core request y u → Performs IsFirstPlace t core request z v → (y ≡ z) × (u ≡ v)
+performs_one : (t u v : Plain) (core : ℕ) (request : Request) (y z : Reply) → Performs IsFirstPlace t core request y u
+    → Performs IsFirstPlace t core request z v → (y ≡ z) × (u ≡ v)
 performs_one t u v core (Mmap addr len prot flags file off) y z h k =
     maps_at_one flags.fixed t u v (record { core = core; addr = addr; len = len; meta = meta_of prot flags file off }) y z h k
 performs_one t u v core (Munmap addr len) y z h k = (h.0 ∙ sym k.0, h.1 ∙ sym k.1)
@@ -88,5 +89,6 @@ after_one : (t u v : Plain) (core : ℕ) (request : Request) (y z : Reply) (o : 
 after_one t u v core request y z None h k = performs_one t u v core request y z h k
 after_one t u v core request y z (Some refused) h k = (h.0 ∙ sym k.0, h.1 ∙ sym k.1)
 
-pub one_answer : (t u v : Plain) (core : ℕ) (request : Request) (y z : Reply) → FirstApplies t core request y u → FirstApplies t core request z v → (y ≡ z) × (u ≡ v)
+pub one_answer : (t u v : Plain) (core : ℕ) (request : Request) (y z : Reply) → FirstApplies t core request y u → FirstApplies t core request z v
+    → (y ≡ z) × (u ≡ v)
 one_answer t u v core request y z h k = after_one t u v core request y z (refusal (λ n. mode_of (t.file n)) request) h k

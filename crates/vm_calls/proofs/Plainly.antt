@@ -300,8 +300,8 @@ mmap-applied t core addr len prot flags file off goal Again ok a = a
 
 -- ---- munmap
 
-unmaps : (t : Plain) (s : Slots) (core addr len : ℕ) (d : Decision) → ActsOn s (pages_of addr len) d → refusal (λ n. mode_of (t.file n)) (Munmap addr len) ≡ None
-    → IsPlain t core (Munmap addr len) (To.Change (Clear (pages_of addr len))) d
+unmaps : (t : Plain) (s : Slots) (core addr len : ℕ) (d : Decision) → ActsOn s (pages_of addr len) d
+    → refusal (λ n. mode_of (t.file n)) (Munmap addr len) ≡ None → IsPlain t core (Munmap addr len) (To.Change (Clear (pages_of addr len))) d
 unmaps t s core addr len (Refuse e) a ok = absurd a
 unmaps t s core addr len Again a ok = absurd a
 unmaps t s core addr len (Act changes shoot) a ok = applied t core (Munmap addr len) Done (after_unmapping t changes) ok

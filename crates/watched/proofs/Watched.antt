@@ -25,8 +25,8 @@ watches_then after (e ∷ es) fs (o ∷ os) ps one mid last w m v r s =
     (r.0, r.1, watches_then after es fs os ps (after one w e o r.0) mid last r.0 m v r.2 s)
 
 -- one step more
-pub watches_step : {S : Type 0} (after : S → World → Event → Outcome → World → S) (es : List Event) (os : List Outcome) (e : Event) (o : Outcome) (one mid last : S)
-    (w m v : World) → Watches after one w es os m mid → Step m e o v → last ≡ after mid m e o v
+pub watches_step : {S : Type 0} (after : S → World → Event → Outcome → World → S) (es : List Event) (os : List Outcome) (e : Event) (o : Outcome)
+    (one mid last : S) (w m v : World) → Watches after one w es os m mid → Step m e o v → last ≡ after mid m e o v
     → Watches after one w (es ++ e ∷ []) (os ++ o ∷ []) v last
 watches_step after es os e o one mid last w m v r s is =
     watches_then after es (e ∷ []) os (o ∷ []) one mid last w m v r (v, s, (refl, is))
@@ -41,23 +41,24 @@ replicate_more (suc n) x = ap (λ xs. x ∷ xs) (replicate_more n x)
 abbrev pub WatchesSteps : {S : Type 0} → (S → World → Event → Outcome → World → S) → S → World → ℕ → ℕ → World → S → Type 0
 WatchesSteps after one w core n v other = Watches after one w (replicate n (Go core)) (replicate n Stepped) v other
 
-next_step : {S : Type 0} (after : S → World → Event → Outcome → World → S) (core n : ℕ) (one mid last : S) (w m v : World) → WatchesSteps after one w core n m mid
-    → Step m (Go core) Stepped v → last ≡ after mid m (Go core) Stepped v → WatchesSteps after one w core (suc n) v last
+next_step : {S : Type 0} (after : S → World → Event → Outcome → World → S) (core n : ℕ) (one mid last : S) (w m v : World)
+    → WatchesSteps after one w core n m mid → Step m (Go core) Stepped v → last ≡ after mid m (Go core) Stepped v → WatchesSteps after one w core (suc n) v last
 next_step after core n one mid last w m v r s is =
     subst (λ es. Watches after one w es (replicate (suc n) Stepped) v last) (replicate_more n (Go core))
     (subst (λ os. Watches after one w (replicate n (Go core) ++ Go core ∷ []) os v last) (replicate_more n Stepped)
     (watches_step after (replicate n (Go core)) (replicate n Stepped) (Go core) Stepped one mid last w m v r s is))
 
 -- after some plain steps one is plain
-pub steps_watched_more : {S : Type 0} (after : S → World → Event → Outcome → World → S) (core n : ℕ) (o : Outcome) (one mid last : S) (w m v : World) → o ≡ Stepped
-    → WatchesSteps after one w core n m mid → Step m (Go core) o v → last ≡ after mid m (Go core) o v → WatchesSteps after one w core (n + 1) v last
+pub steps_watched_more : {S : Type 0} (after : S → World → Event → Outcome → World → S) (core n : ℕ) (o : Outcome) (one mid last : S) (w m v : World)
+    → o ≡ Stepped → WatchesSteps after one w core n m mid → Step m (Go core) o v → last ≡ after mid m (Go core) o v
+    → WatchesSteps after one w core (n + 1) v last
 steps_watched_more after core n o one mid last w m v e r s is =
     subst (λ k. WatchesSteps after one w core k v last) (sym (add-one n)) (next_step after core n one mid last w m v r
     (subst (λ o. Step m (Go core) o v) e s) (subst (λ o. last ≡ after mid m (Go core) o v) e is))
 
 -- or is the last
-pub steps_watched_end : {S : Type 0} (after : S → World → Event → Outcome → World → S) (core n : ℕ) (o : Outcome) (one mid last : S) (w m v : World) → n < finish_limit
-    → o ≢ Stepped → WatchesSteps after one w core n m mid → Step m (Go core) o v → last ≡ after mid m (Go core) o v
+pub steps_watched_end : {S : Type 0} (after : S → World → Event → Outcome → World → S) (core n : ℕ) (o : Outcome) (one mid last : S) (w m v : World)
+    → n < finish_limit → o ≢ Stepped → WatchesSteps after one w core n m mid → Step m (Go core) o v → last ≡ after mid m (Go core) o v
     → WatchesFinish after one w core (Last o) v last
 steps_watched_end after core n o one mid last w m v few other r s is = (
   n,
@@ -107,8 +108,8 @@ call_not_begun w v core request o not s = (o, v, s, go o not)
     go (Answered reply) not = (refl, refl)
     go Full not = (refl, refl)
 
-pub call_finished : (w m v : World) (core : ℕ) (request : Request) (o : Outcome) (f : Finished) → o ≡ Stepped → Step w (Call core request) o m → Finishes m core f v
-    → Calls w core request f v
+pub call_finished : (w m v : World) (core : ℕ) (request : Request) (o : Outcome) (f : Finished) → o ≡ Stepped → Step w (Call core request) o m
+    → Finishes m core f v → Calls w core request f v
 call_finished w m v core request o f e s r = (Stepped, m, subst (λ o. Step w (Call core request) o m) e s, r)
 
 pub call_refused : (keeps : Bool) (w m v : World) (core : ℕ) (request : Request) (o : Outcome) → o ≡ Stepped → Step w (Call core request) o m
@@ -125,7 +126,8 @@ steps_unwatched : {S : Type 0} (one : S) (n core : ℕ) (w v : World) → StepsT
 steps_unwatched one zero core w v s = (s, refl)
 steps_unwatched one (suc n) core w v s = next_step same_after core n one one one w s.0 v (steps_unwatched one n core w s.0 s.1) s.2 refl
 
-pub finish_unwatched : {S : Type 0} (one : S) (w : World) (core : ℕ) (f : Finished) (v : World) → Finishes w core f v → WatchesFinish same_after one w core f v one
+pub finish_unwatched : {S : Type 0} (one : S) (w : World) (core : ℕ) (f : Finished) (v : World) → Finishes w core f v
+    → WatchesFinish same_after one w core f v one
 finish_unwatched one w core (Last o) v h =
     steps_watched_end same_after core h.0 o one one one w h.1.2.0 v h.1.0 h.1.1 (steps_unwatched one h.0 core w h.1.2.0 h.1.2.1) h.1.2.2 refl
 finish_unwatched one w core Stuck v h = steps_watched_stuck same_after core h.0 one one w v h.1.0 (steps_unwatched one h.0 core w v h.1.1)

@@ -264,8 +264,8 @@ module _ (w : World) (c : ℕ) (touch : Touch) (fault : IsFault (at_lock c touch
                   ∙ (ap (λ cached. installs x shown cached infos) cached ∙ installed x c touch shown put_there),
             ),
           ),
-          released (left from m) w.slots (put w.slots.info touch.page (info_with_core c (Some shown))) c (k + 1) touch (omega (arith, few_steps from)) fault.here
-              fault.alone,
+          released (left from m) w.slots (put w.slots.info touch.page (info_with_core c (Some shown))) c (k + 1) touch
+              (omega (arith, few_steps from)) fault.here fault.alone,
         )
       where
         installs : World → PageInfo → (ℕ → ℕ → Option ℕ) → (ℕ → Option PageInfo) → World

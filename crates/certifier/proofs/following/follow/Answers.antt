@@ -20,12 +20,13 @@ tickets-init g c = rw c.in-Ok-new.ensures.opening
 pub tickets-preserved : goal.tickets-preserved
 tickets-preserved g c =
     let lt = c.tickets-test.true in
-    let is = only _ c.args.standings.now c.tickets.at _ c.in-Once.place c.note_of-note.result c.requires.standings c.tickets-test.true c.in-Once.is c.note_of-note.ensures in
+    let is = only _ c.args.standings.now c.tickets.at _ c.in-Once.place c.note_of-note.result c.requires.standings c.tickets-test.true c.in-Once.is
+    c.note_of-note.ensures in
     let told = c.in-Ok-take_note.ensures.ok in
-    followed_next _ _ _ _ _ (length c.args.standings.now) c.args.histories.now c.tickets.at _ _ c.look_before.new.looks.items c.tickets.calls c.in-Ok-take_note.few
-    c.note_of-note.result is told.1 told.0 c.look_before.ensures.caught
-    (followed_looked _ _ _ _ _ (length c.args.standings.now) c.args.histories.now c.tickets.at _ c.tickets.looks.items c.look_before.new.looks.items c.tickets.calls
-    (λ maps. c.look_before.ensures.looked (length c.args.standings.now) maps (omega (arith, lt))) c.tickets.invariant)
+    followed_next _ _ _ _ _ (length c.args.standings.now) c.args.histories.now c.tickets.at _ _ c.look_before.new.looks.items c.tickets.calls
+    c.in-Ok-take_note.few c.note_of-note.result is told.1 told.0 c.look_before.ensures.caught
+    (followed_looked _ _ _ _ _ (length c.args.standings.now) c.args.histories.now c.tickets.at _ c.tickets.looks.items c.look_before.new.looks.items
+    c.tickets.calls (λ maps. c.look_before.ensures.looked (length c.args.standings.now) maps (omega (arith, lt))) c.tickets.invariant)
 
 pub returns-in-Some-clause-err : goal.returns-in-Some-clause-err
 returns-in-Some-clause-err g c =
@@ -44,8 +45,9 @@ returns-clause-ok g c =
     let end = c.tickets-test.false in
     let at_end = c.tickets.auto.at-end in
     let n = length c.args.standings.now in
-    certified _ _ _ c.args.setup (g.M.SlotRead.slots c.args.slots) _ c.args.histories.now n _ c.tickets.looks.items c.tickets.calls (few_cores c.args.setup c.requires.sound)
-    (numbered _ c.args.standings.now c.requires.standings c.requires.once) c.requires.new c.requires.standings.count
+    certified _ _ _ c.args.setup (g.M.SlotRead.slots c.args.slots) _ c.args.histories.now n _ c.tickets.looks.items c.tickets.calls
+    (few_cores c.args.setup c.requires.sound) (numbered _ c.args.standings.now c.requires.standings c.requires.once) c.requires.new
+    c.requires.standings.count
     (subst (λ k. Followed g.M.SlotMap.parts g.M.SlotMap.can_fold g.M.SlotMap.folds (new_world (made_of c.args.setup) (g.M.SlotRead.slots c.args.slots))
     (all_notes (map (λ s. s.now) c.args.seats.now)) n c.args.histories.now k (state c.tickets.machine) c.tickets.looks.items c.tickets.calls)
     (omega (arith, end, at_end)) c.tickets.invariant)
@@ -53,7 +55,9 @@ returns-clause-ok g c =
 
 pub returns-in-Err-take_note-clause-err : goal.returns-in-Err-take_note-clause-err
 returns-in-Err-take_note-clause-err g c =
-    let is = only _ c.args.standings.now c.tickets.at _ c.in-Once.place c.note_of-note.result c.requires.standings c.tickets-test.true c.in-Once.is c.note_of-note.ensures in
-    refused _ _ _ c.args.setup (g.M.SlotRead.slots c.args.slots) _ c.args.histories.now (length c.args.standings.now) c.tickets.at _ c.tickets.looks.items c.tickets.calls
+    let is = only _ c.args.standings.now c.tickets.at _ c.in-Once.place c.note_of-note.result c.requires.standings c.tickets-test.true c.in-Once.is
+    c.note_of-note.ensures in
+    refused _ _ _ c.args.setup (g.M.SlotRead.slots c.args.slots) _ c.args.histories.now
+    (length c.args.standings.now) c.tickets.at _ c.tickets.looks.items c.tickets.calls
     c.note_of-note.result c.in-Err-take_note.fault c.requires.sound (numbered _ c.args.standings.now c.requires.standings c.requires.once) c.requires.new is
     c.tickets.invariant c.in-Err-take_note.ensures.err

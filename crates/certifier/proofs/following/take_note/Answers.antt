@@ -16,7 +16,8 @@ pub returns-clause-ok : goal.returns-clause-ok
 returns-clause-ok g c = (
   c.answers.ensures.one,
   subst
-      (λ (o : Outcome). Leads g.M.SlotMap.parts g.M.SlotMap.can_fold g.M.SlotMap.folds (state c.args.machine.now) c.args.note.now.event o (state c.step.new.self))
+      (λ (o : Outcome). Leads g.M.SlotMap.parts g.M.SlotMap.can_fold g.M.SlotMap.folds (state c.args.machine.now) c.args.note.now.event o
+      (state c.step.new.self))
       (c.is_same.ensures.yes c.if-not-is_same.false)
       (record { step = c.in-Ok.ensures.step; joins = c.in-Ok.ensures.joins; divides = c.in-Ok.ensures.divides }),
 )

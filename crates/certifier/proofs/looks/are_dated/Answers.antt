@@ -14,7 +14,8 @@ changes-preserved c =
           let this = read_ticket c.args.changes.now c.changes.at w.index-changes-at-then-at-gt0.result c.changes-test.true w.index-changes-at-then-at-gt0.is in
           let this_is = ap (λ (x : SlotChange). x.ticket) w.index-changes-at-then-at-gt0.is in
           let lt = c.changes-test.true in
-          let last = read_ticket c.args.changes.now (c.changes.at - 1) w.index-changes-at-then-at-gt0-2.result (omega (arith, lt)) w.index-changes-at-then-at-gt0-2.is in
+          let last = read_ticket c.args.changes.now (c.changes.at - 1) w.index-changes-at-then-at-gt0-2.result
+          (omega (arith, lt)) w.index-changes-at-then-at-gt0-2.is in
           let last_is = ap (λ (x : SlotChange). x.ticket) w.index-changes-at-then-at-gt0-2.is in
           let above = w.if-changes-at.false in
           omega (arith, this, last, above, this_is, last_is)

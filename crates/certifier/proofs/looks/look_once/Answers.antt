@@ -10,12 +10,13 @@ pub returns-then-strays-clause-looked : goal.returns-then-strays-clause-looked
 returns-then-strays-clause-looked g c = λ n maps le h good.
     let look = c.args.look.now in
     let new = c.apply_due.new.look in
-    let due = subst (λ (cs : List SlotChange). (n : ℕ) → AreDated n cs → AreApplied look.seen cs look → AreApplied (look.seen + 1) cs new) c.as_slice.ensures.value
-    c.apply_due.ensures.applied in
+    let due = subst (λ (cs : List SlotChange). (n : ℕ) → AreDated n cs → AreApplied look.seen cs look → AreApplied (look.seen + 1) cs new)
+    c.as_slice.ensures.value c.apply_due.ensures.applied in
     let seen = with_due n maps _ c.args.t c.args.slot.now look new h (due n h.dated h.applied) c.apply_due.ensures.same.0 in
     let found = c.strays.ensures.yes c.if-strays.true in
     record {
-      bad = λ e. inr (astray n maps _ c.args.t c.args.slot.now look.seen found.1.0 new seen c.apply_due.ensures.same.0 c.requires.open found.0 found.1.1 found.1.2);
+      bad = λ e. inr (astray n maps _ c.args.t c.args.slot.now look.seen found.1.0 new seen c.apply_due.ensures.same.0 c.requires.open found.0 found.1.1
+          found.1.2);
       good = λ e. absurd cc;
     }
 
@@ -24,12 +25,13 @@ returns-else-strays-clause-looked g c = λ n maps le h good.
     let look = c.args.look.now in
     let new = c.apply_due.new.look in
     let same = c.apply_due.ensures.same.0 in
-    let due = subst (λ (cs : List SlotChange). (n : ℕ) → AreDated n cs → AreApplied look.seen cs look → AreApplied (look.seen + 1) cs new) c.as_slice.ensures.value
-    c.apply_due.ensures.applied in
+    let due = subst (λ (cs : List SlotChange). (n : ℕ) → AreDated n cs → AreApplied look.seen cs look → AreApplied (look.seen + 1) cs new)
+    c.as_slice.ensures.value c.apply_due.ensures.applied in
     let applied = due n h.dated h.applied in
     let seen = with_due n maps _ c.args.t c.args.slot.now look new h applied same in
     let next = subst (λ (cs : List SlotChange). (n : ℕ) → AreDated n cs → AreApplied (new.seen + 1) cs new
-    → (k : ℕ) → new.applied ≤ k → k < length cs → c.next_seen-look.result ≤ ticket_at cs k) c.as_slice-else-strays.ensures.value c.next_seen-look.ensures.next in
+    → (k : ℕ) → new.applied ≤ k → k < length cs → c.next_seen-look.result ≤ ticket_at cs k) c.as_slice-else-strays.ensures.value
+    c.next_seen-look.ensures.next in
     let more = c.next_seen-look.ensures.more in
     let still = good in
     record {

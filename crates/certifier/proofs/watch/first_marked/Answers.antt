@@ -7,7 +7,8 @@ use Rattle.certifier.proofs.watch.first_marked.Goals.{then-looks-at+in_default, 
 pub slots-preserved : goal.slots-preserved
 slots-preserved g c = elim c.if-looks-at.branch [
   | then-looks-at+in_default w ↦
-      empty_more c.args.slots.now c.args.looks.now c.slots.at w.index-slots-at.result c.slots-test.true w.index-slots-at.is w.in_default.ensures.none c.slots.invariant
+      empty_more c.args.slots.now c.args.looks.now c.slots.at w.index-slots-at.result c.slots-test.true w.index-slots-at.is w.in_default.ensures.none
+      c.slots.invariant
   | else-looks-at w ↦
       good_more c.args.slots.now c.args.looks.now c.slots.at c.index-looks-at.result c.requires c.slots-test.true c.index-looks-at.is
       (ap (λ (x : Look). x.is_bad) c.index-looks-at.is ∙ w.if-looks-at.false) c.slots.invariant

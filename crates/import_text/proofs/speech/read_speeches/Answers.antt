@@ -7,4 +7,5 @@ use Rattle.import_text.proofs.speech.read_speeches.Goals as goal
 pub lines-preserved : goal.lines-preserved
 lines-preserved c =
     ap (λ xs. map spoken xs ++ map speech_of (lines_of c.front_line.result.1.now)) c.in_ok-push.ensures.items
-    ∙ one_more spoken _ _ c.args.log.now c.lines.rest.now c.front_line.result.0.now c.front_line.result.1.now c.front_line.ensures.lines c.read_speech.ensures c.lines.invariant
+    ∙ one_more spoken _ _ c.args.log.now c.lines.rest.now c.front_line.result.0.now c.front_line.result.1.now c.front_line.ensures.lines c.read_speech.ensures
+    c.lines.invariant

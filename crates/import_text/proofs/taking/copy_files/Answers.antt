@@ -10,5 +10,6 @@ files-preserved c =
     let here = map-at use_of files c.files.at c.index-files-at.result ([], 0) c.files-test.true ∙ ap use_of (sym c.index-files-at.is) in
     record {
       within = omega (arith, c.files-test.true);
-      same = ap (map use_of) c.in_ok-push.ensures.items ∙ copied_more c.files.copies.items _ (map use_of files) _ low c.files.invariant.same (c.in_ok-file.ensures ∙ sym here);
+      same = ap (map use_of) c.in_ok-push.ensures.items ∙ copied_more c.files.copies.items _ (map use_of files) _ low c.files.invariant.same
+          (c.in_ok-file.ensures ∙ sym here);
     }

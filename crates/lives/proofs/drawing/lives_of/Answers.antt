@@ -9,7 +9,8 @@ returns-clause-shown c = elim c.rows-test.branch [
   | then-rows-test+else-len-le2000 w ↦
       let within : c.rows.at ≤ min (length c.args.rows.now) 2001 = rw c.min-most.ensures at c.rows.invariant.within in
       let many : 2000 < length c.rows.lives.items = omega (arith, w.len.ensures, w.if-len-le2000) in
-      ap shown c.rows.invariant.made ∙ shown_soon c.args.moments.now c.args.rows.now c.rows.at (min (length c.args.rows.now) 2001) within (rw c.rows.invariant.made at many)
+      ap shown c.rows.invariant.made ∙ shown_soon c.args.moments.now c.args.rows.now c.rows.at (min (length c.args.rows.now) 2001) within
+      (rw c.rows.invariant.made at many)
   | else-rows-test w ↦ search rules
 ]
 
@@ -18,6 +19,7 @@ returns-clause-more c = elim c.rows-test.branch [
   | then-rows-test+else-len-le2000 w ↦
       let within : c.rows.at ≤ min (length c.args.rows.now) 2001 = rw c.min-most.ensures at c.rows.invariant.within in
       let many : 2000 < length c.rows.lives.items = omega (arith, w.len.ensures, w.if-len-le2000) in
-      ap are_more c.rows.invariant.made ∙ more_soon c.args.moments.now c.args.rows.now c.rows.at (min (length c.args.rows.now) 2001) within (rw c.rows.invariant.made at many)
+      ap are_more c.rows.invariant.made ∙ more_soon c.args.moments.now c.args.rows.now c.rows.at (min (length c.args.rows.now) 2001) within
+      (rw c.rows.invariant.made at many)
   | else-rows-test w ↦ search rules
 ]

@@ -8,4 +8,5 @@ returns-in-Err-clause-finds g c = reads_map _ _ _ _ c.in-Err.ensures.err (λ xs 
 
 pub returns-clause-finds : goal.returns-clause-finds
 returns-clause-finds g c =
-    reads_map _ _ _ _ c.in-Ok-collect.ensures.ok (λ xs ys k p. found_verdict _ _ _ _ xs ys _ _ p c.judge_collected-judged.ensures.ok c.judge_collected-judged.ensures.err)
+    reads_map _ _ _ _ c.in-Ok-collect.ensures.ok
+    (λ xs ys k p. found_verdict _ _ _ _ xs ys _ _ p c.judge_collected-judged.ensures.ok c.judge_collected-judged.ensures.err)

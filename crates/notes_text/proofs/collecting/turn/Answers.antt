@@ -10,10 +10,12 @@ returns-in-Err-ReadFailed-clause-turns g c =
     reads_map _ _ _ _ given.kept (λ xs ys k p. read_fails refl _ given.unbroken (given.few, refl) p)
 
 pub returns-in-Err-WriteFailed-clause-turns : goal.returns-in-Err-WriteFailed-clause-turns
-returns-in-Err-WriteFailed-clause-turns g c = let clash : false ≡ true = (c.in-Err-WriteFailed.ensures.write (ap Err c.in-Err-WriteFailed.field-0-is)).0 in absurd (cc)
+returns-in-Err-WriteFailed-clause-turns g c = let clash : false ≡ true = (c.in-Err-WriteFailed.ensures.write (ap Err c.in-Err-WriteFailed.field-0-is)).0 in
+    absurd (cc)
 
 pub returns-in-Err-WriteFailed-clause-read : goal.returns-in-Err-WriteFailed-clause-read
-returns-in-Err-WriteFailed-clause-read g c e = let clash : false ≡ true = (c.in-Err-WriteFailed.ensures.write (ap Err c.in-Err-WriteFailed.field-0-is)).0 in absurd (cc)
+returns-in-Err-WriteFailed-clause-read g c e = let clash : false ≡ true = (c.in-Err-WriteFailed.ensures.write (ap Err c.in-Err-WriteFailed.field-0-is)).0 in
+    absurd (cc)
 
 pub returns-in-Ok-End-clause-turns : goal.returns-in-Ok-End-clause-turns
 returns-in-Ok-End-clause-turns g c =

@@ -4,7 +4,8 @@ use Rattle.picture.specs.Drawing.{arrow_text}
 use Rattle.picture.proofs.canvas.put_arrows.Given as goal
 
 abbrev pub invariant-arrows : goal.invariant-arrows
-invariant-arrows l = record { within : l.at ≤ length l.arrows; written : l.out.items ≡ l.initial.out.items ++ flat_map (arrow_text l.view) (take l.at l.arrows) }
+invariant-arrows l =
+    record { within : l.at ≤ length l.arrows; written : l.out.items ≡ l.initial.out.items ++ flat_map (arrow_text l.view) (take l.at l.arrows) }
 
 abbrev pub decreases-arrows : goal.decreases-arrows
 decreases-arrows l = length l.arrows - l.at

@@ -18,5 +18,5 @@ files-preserved c = record {
 
 pub returns-in-Err-NotThere-clause-err : goal.returns-in-Err-NotThere-clause-err
 returns-in-Err-NotThere-clause-err c =
-    first_missing c.args.bytes.now c.args.files.now c.files.all.items c.files.at _ c.files-test.true (c.in-Err-NotThere.ensures.err c.in-Err-NotThere.field-0-is)
-    c.files.invariant.are
+    first_missing c.args.bytes.now c.args.files.now c.files.all.items c.files.at _ c.files-test.true
+    (c.in-Err-NotThere.ensures.err c.in-Err-NotThere.field-0-is) c.files.invariant.are

@@ -14,7 +14,8 @@ returns-then-n-min-clause-found c =
     let next = get_or_default c.args.slots.now (c.slots.i + 1) c.index-slots-i-in-slots.result nobody more in
     let here_too = get_or_default c.args.slots.now c.slots.i c.index-slots-i-in-slots-2.result nobody f.walk.within in
     let none : is_some (get_slot c.args.slots.now c.slots.i).info ≡ false = rw here_too at (sym (c.if-is_some.ensures {u = tt})) in
-    let enough : c.args.n ≤ min (get_slot c.args.slots.now (c.slots.i + 1)).start c.args.range.end - c.slots.start = rw (c.min.ensures, next) at c.if-n-min.true in
+    let enough : c.args.n ≤ min (get_slot c.args.slots.now (c.slots.i + 1)).start c.args.range.end - c.slots.start =
+    rw (c.min.ensures, next) at c.if-n-min.true in
     free_found _ c.requires.list c.args.range _ _ _ c.requires.some f more none enough
 
 pub slots-preserved : goal.slots-preserved

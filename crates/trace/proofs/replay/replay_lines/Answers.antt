@@ -23,7 +23,8 @@ lines-preserved g c =
       budget = omega (arith, less, c.lines.invariant.budget);
       kept = kept;
       ran = λ limit start. reads_then _ _ _ _ _ _ (c.lines.invariant.ran limit start) turns (λ xs ys zs k h a. run_more limit _ xs _ _ _ _ h a);
-      seen = reads_then _ _ _ _ _ _ c.lines.invariant.seen (c.in-Ok-true.ensures.seen c.in-Ok-true.field-0-test) (λ xs ys zs k h a. seen_more g.R.Staged.saw _ _ _ _ xs _ _ _ h a);
+      seen = reads_then _ _ _ _ _ _ c.lines.invariant.seen (c.in-Ok-true.ensures.seen c.in-Ok-true.field-0-test)
+          (λ xs ys zs k h a. seen_more g.R.Staged.saw _ _ _ _ xs _ _ _ h a);
     }
 
 pub close-requires : goal.close-requires
@@ -32,7 +33,8 @@ close-requires g c e = c.requires.keeps ∙ ap keeps_log e
 pub returns-in-Ok-false-clause-ends : goal.returns-in-Ok-false-clause-ends
 returns-in-Ok-false-clause-ends g c =
     let turns = rw c.in-Ok-false.field-0-test at c.in-Ok-false.ensures.turns in
-    λ limit start. reads_then _ _ _ _ _ _ (c.lines.invariant.ran limit start) turns (λ xs ys zs k h a. run_ends limit _ xs _ _ _ _ _ _ h a c.close.ensures.ok c.close.ensures.err)
+    λ limit start. reads_then _ _ _ _ _ _ (c.lines.invariant.ran limit start) turns
+    (λ xs ys zs k h a. run_ends limit _ xs _ _ _ _ _ _ h a c.close.ensures.ok c.close.ensures.err)
 
 pub returns-in-Err-clause-ends : goal.returns-in-Err-clause-ends
 returns-in-Err-clause-ends g c = λ limit start.

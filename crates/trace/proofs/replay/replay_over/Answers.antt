@@ -8,5 +8,6 @@ returns-clause-ends g c = c.replay_lines-ended.ensures.ends c.args.limit c.withi
 
 pub returns-clause-seen : goal.returns-clause-seen
 returns-clause-seen g c =
-    IfOk-weaker c.replay_lines-ended.result _ _ (λ u h. reads_map _ _ _ _ h (λ xs ys k s. is_seen g.X.Watch.after _ _ _ _ _ _ xs _ _ c.within-replayer.ensures.watch
+    IfOk-weaker c.replay_lines-ended.result _ _
+    (λ u h. reads_map _ _ _ _ h (λ xs ys k s. is_seen g.X.Watch.after _ _ _ _ _ _ xs _ _ c.within-replayer.ensures.watch
     c.into_watch.ensures s)) c.replay_lines-ended.ensures.seen

@@ -13,5 +13,5 @@ returns-in-Err-clause-ends g c =
 
 pub returns-in-Ok-clause-seen : goal.returns-in-Ok-clause-seen
 returns-in-Ok-clause-seen g c =
-    IfOk-weaker c.replay_read-beside.result.replayed.ended _ _ (λ u h. reads_map _ _ _ _ h (λ xs ys k s. seen_kept g.X.Watch.after _ _ _ xs _ _ _ s c.flush.ensures.bytes))
-    c.replay_read-beside.ensures.seen
+    IfOk-weaker c.replay_read-beside.result.replayed.ended _ _
+    (λ u h. reads_map _ _ _ _ h (λ xs ys k s. seen_kept g.X.Watch.after _ _ _ xs _ _ _ s c.flush.ensures.bytes)) c.replay_read-beside.ensures.seen

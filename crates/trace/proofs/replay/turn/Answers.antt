@@ -30,7 +30,8 @@ pub returns-in-Err-clause-turns : goal.returns-in-Err-clause-turns
 returns-in-Err-clause-turns g c =
     let given = c.in-Ok-Line.ensures in
     let found = rw c.in-Ok-Line.field-0-is at given.found in
-    reads_map _ _ _ _ found (λ xs ys k p. act_fails _ _ _ _ _ _ _ _ _ c.requires.keeps given.written p.0 p.1 p.2 (given.few, refl) c.line.ensures c.in-Err.ensures.err)
+    reads_map _ _ _ _ found (λ xs ys k p. act_fails _ _ _ _ _ _ _ _ _ c.requires.keeps given.written p.0 p.1 p.2
+    (given.few, refl) c.line.ensures c.in-Err.ensures.err)
 
 pub returns-in-Err-clause-read : goal.returns-in-Err-clause-read
 returns-in-Err-clause-read g c e = not_read _ _ _ _ _ c.in-Err.ensures.err (cc)

@@ -10,7 +10,8 @@ use Rattle.live_tree.proofs.held.cut.crossing.Goals as goal
 pub guards-preserved : goal.guards-preserved
 guards-preserved g c =
     let fits : CrossesNoEdge c.args.range (slot_of c.guard-item.result) = search rules in
-    one_more_holds (CrossesNoEdge c.args.range) c.as_slice-guard-items.result.now c.guards.at c.guard-item.result (omega arith) c.guard-item.is c.guards.invariant fits
+    one_more_holds (CrossesNoEdge c.args.range) c.as_slice-guard-items.result.now c.guards.at c.guard-item.result
+    (omega arith) c.guard-item.is c.guards.invariant fits
 
 pub returns-clause-none : goal.returns-clause-none
 returns-clause-none g c =

@@ -8,8 +8,8 @@ pages-init c = from_first c.args.range (entries_of c.args.self.now.places c.args
 
 pub pages-preserved : goal.pages-preserved
 pages-preserved c =
-    c.drop_page.ensures ∙ page_more c.args.range c.pages.page (entries_of c.pages.self.places c.pages.self.fills.items) (entries_of c.args.self.now.places c.args.self.now.fills.items)
-    (omega arith) (omega (arith, c.pages-test.true)) c.pages.invariant
+    c.drop_page.ensures ∙ page_more c.args.range c.pages.page (entries_of c.pages.self.places c.pages.self.fills.items)
+    (entries_of c.args.self.now.places c.args.self.now.fills.items) (omega arith) (omega (arith, c.pages-test.true)) c.pages.invariant
 
 pub returns : goal.returns
 returns c =

@@ -19,6 +19,7 @@ returns-clause-ok g c =
     let taken = item_taken g.T.LineOf.needs_calls g.T.LineOf.names (record { asked = c.self.inside.declaration; items = c.self.inside.items.items })
     (record { asked = c.self.inside.declaration; items = c.push.new.self.items }) c.args.line.now c.in-Some.declaration c.in-Some-read.item
     c.requires.printable c.requires.some c.requires.kind c.in-Some.is (sym c.fault.ensures ∙ c.in_default-fault.is) names
-    (ap (λ l. record { asked = c.self.inside.declaration; items = l }) (pushed _ _ _ _ c.push.ensures.items (sym c.is_err.ensures.value ∙ c.if-is_err.false))) in
+    (ap (λ l. record { asked = c.self.inside.declaration; items = l })
+    (pushed _ _ _ _ c.push.ensures.items (sym c.is_err.ensures.value ∙ c.if-is_err.false))) in
     subst (λ (o : Collected _). Takes g.T.LineOf.needs_calls g.T.LineOf.names o c.args.line.now
     (record { asked = c.self.inside.declaration; items = c.push.new.self.items })) c.self.view_is taken

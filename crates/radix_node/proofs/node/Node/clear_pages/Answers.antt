@@ -9,8 +9,8 @@ pub pages-preserved : goal.pages-preserved
 pages-preserved g c =
     let is : Own c.in-Own.state ≡ get_or c.pages.slots c.pages.k c.index-slots-k.result = search rules in
     page_more c.index-slots-k.result c.in-Own.state c.clear.new.self (runs c.args.self.now) c.args.first c.args.end 0
-    (0 + (c.pages.k - c.args.first)) (Put None) c.requires.level c.pages-test.true c.requires.within (record { fits = omega (arith, c.requires.within); alone = λ leaf. cc }) is refl
-    c.clear.ensures c.pages.invariant
+    (0 + (c.pages.k - c.args.first)) (Put None) c.requires.level c.pages-test.true c.requires.within
+    (record { fits = omega (arith, c.requires.within); alone = λ leaf. cc }) is refl c.clear.ensures c.pages.invariant
 
 pub returns : goal.returns
 returns g c =

@@ -12,7 +12,8 @@ pages-preserved g c =
     let is : Own c.in-Own.state ≡ get_or c.pages.slots c.pages.k c.index-slots-k.result = search rules in
     page_more c.index-slots-k.result c.in-Own.state c.follow.new.self (runs c.args.self.now) c.args.first c.args.end c.args.by
     (c.args.by + (c.pages.k - c.args.first)) (Put (Some c.args.info.now)) c.requires.level c.pages-test.true c.requires.within c.requires.sound is refl
-    (c.follow.ensures ∙ ap (λ (s : State). record { info = info_from s.info (c.args.by + (c.pages.k - c.args.first)); owner = c.in-Own.state.owner }) c.mapped-made.ensures.state) c.pages.invariant
+    (c.follow.ensures ∙ ap (λ (s : State). record { info = info_from s.info (c.args.by + (c.pages.k - c.args.first)); owner = c.in-Own.state.owner })
+    c.mapped-made.ensures.state) c.pages.invariant
 
 pub returns : goal.returns
 returns g c =

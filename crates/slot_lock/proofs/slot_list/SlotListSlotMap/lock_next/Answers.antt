@@ -41,7 +41,8 @@ pub returns-then-end-slot_end-clause-exact : goal.returns-then-end-slot_end-clau
 returns-then-end-slot_end-clause-exact g c =
     let at = rw c.deref.ensures.value at c.place-i.ensures in
     let slot = read_slot c.args.self.now.slots.items c.place-i.result c.index-slot.result.now at.within c.index-slot.ensures in
-    at_end two_parts _ _ (between c.args.cursor c.args.end) (edge_of _ c.args.self.now.ok _ _ at (rw slot at c.if-slot-cursor.false)) c.in_ok-cut-2.ensures.exact
+    at_end two_parts _ _ (between c.args.cursor c.args.end) (edge_of _ c.args.self.now.ok _ _ at (rw slot at c.if-slot-cursor.false))
+    c.in_ok-cut-2.ensures.exact
 
 pub returns-then-slot-cursor-clause-step : goal.returns-then-slot-cursor-clause-step
 returns-then-slot-cursor-clause-step g c =

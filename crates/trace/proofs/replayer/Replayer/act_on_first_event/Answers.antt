@@ -9,14 +9,16 @@ pub returns-clause-ok : goal.returns-clause-ok
 returns-clause-ok g c =
     acted c.watch_line-done.result c.args.line (stage_of c.args.self.now.limit c.args.self.now.declaration (option_map state c.args.self.now.machine))
     (state c.in-Ok.machine) (state c.watch_line-done.new.machine) c.watch_line-done.new.text.bytes
-    (subst (λ m. Opens (stage_of c.args.self.now.limit c.args.self.now.declaration (option_map state m)) (state c.in-Ok.machine)) (sym c.requires) c.in-Ok.ensures.ok)
+    (subst (λ m. Opens (stage_of c.args.self.now.limit c.args.self.now.declaration (option_map state m)) (state c.in-Ok.machine))
+    (sym c.requires) c.in-Ok.ensures.ok)
     c.watch_line-done.ensures.ok
 
 pub returns-clause-err : goal.returns-clause-err
 returns-clause-err g c =
-    not_acted g.L.Ledger.keeps c.watch_line-done.result c.args.line (stage_of c.args.self.now.limit c.args.self.now.declaration (option_map state c.args.self.now.machine))
-    (state c.in-Ok.machine) c.args.number
-    (subst (λ m. Opens (stage_of c.args.self.now.limit c.args.self.now.declaration (option_map state m)) (state c.in-Ok.machine)) (sym c.requires) c.in-Ok.ensures.ok)
+    not_acted g.L.Ledger.keeps c.watch_line-done.result c.args.line
+    (stage_of c.args.self.now.limit c.args.self.now.declaration (option_map state c.args.self.now.machine)) (state c.in-Ok.machine) c.args.number
+    (subst (λ m. Opens (stage_of c.args.self.now.limit c.args.self.now.declaration (option_map state m)) (state c.in-Ok.machine))
+    (sym c.requires) c.in-Ok.ensures.ok)
     c.watch_line-done.ensures.err
 
 pub returns-clause-seen : goal.returns-clause-seen
@@ -24,5 +26,6 @@ returns-clause-seen g c =
     event_seen c.watch_line-done.result g.X.Watch.after c.args.line
     (stage_of c.args.self.now.limit c.args.self.now.declaration (option_map state c.args.self.now.machine)) (state c.in-Ok.machine)
     (state c.watch_line-done.new.machine) c.args.self.now.watch c.watch_line-done.new.watch c.watch_line-done.new.text.bytes
-    (subst (λ m. Opens (stage_of c.args.self.now.limit c.args.self.now.declaration (option_map state m)) (state c.in-Ok.machine)) (sym c.requires) c.in-Ok.ensures.ok)
+    (subst (λ m. Opens (stage_of c.args.self.now.limit c.args.self.now.declaration (option_map state m)) (state c.in-Ok.machine))
+    (sym c.requires) c.in-Ok.ensures.ok)
     c.watch_line-done.ensures.seen

@@ -4,4 +4,5 @@ use Rattle.watched.proofs.Watched.{call_unwatched}
 use Rattle.watched.proofs.unwatched.UnwatchedWatch.call.Goals as goal
 
 pub returns-clause-watched : goal.returns-clause-watched
-returns-clause-watched g c = IfOk-weaker c.call.result _ _ (λ f h. call_unwatched c.args.self.now (state c.args.machine.now) c.args.core c.args.request f (state c.call.new.self) h) c.call.ensures.ends
+returns-clause-watched g c = IfOk-weaker c.call.result _ _
+    (λ f h. call_unwatched c.args.self.now (state c.args.machine.now) c.args.core c.args.request f (state c.call.new.self) h) c.call.ensures.ends

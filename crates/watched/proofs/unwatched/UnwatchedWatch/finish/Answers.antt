@@ -4,4 +4,5 @@ use Rattle.watched.proofs.Watched.{finish_unwatched}
 use Rattle.watched.proofs.unwatched.UnwatchedWatch.finish.Goals as goal
 
 pub returns-clause-watched : goal.returns-clause-watched
-returns-clause-watched g c = IfOk-weaker c.finish.result _ _ (λ f h. finish_unwatched c.args.self.now (state c.args.machine.now) c.args.core f (state c.finish.new.self) h) c.finish.ensures.ends
+returns-clause-watched g c = IfOk-weaker c.finish.result _ _
+    (λ f h. finish_unwatched c.args.self.now (state c.args.machine.now) c.args.core f (state c.finish.new.self) h) c.finish.ensures.ends

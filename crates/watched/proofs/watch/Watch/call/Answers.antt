@@ -14,23 +14,24 @@ returns-then-ne-clause-ends g c =
 pub returns-then-ne-clause-watched : goal.returns-then-ne-clause-watched
 returns-then-ne-clause-watched g c =
     let other : c.in-Ok.outcome ≢ Stepped = search rules in
-    call_watched_end g.Self.Watch.after c.args.core c.args.request c.in-Ok.outcome c.args.self.now c.step.new.self (state c.args.machine.now) (state c.step.new.machine) other
-    c.in-Ok.ensures.step c.in-Ok.ensures.watched
+    call_watched_end g.Self.Watch.after c.args.core c.args.request c.in-Ok.outcome c.args.self.now c.step.new.self (state c.args.machine.now)
+    (state c.step.new.machine) other c.in-Ok.ensures.step c.in-Ok.ensures.watched
 
 pub returns-clause-ends : goal.returns-clause-ends
 returns-clause-ends g c =
     let plain : c.in-Ok.outcome ≡ Stepped = search rules in
-    IfOk-weaker c.finish.result _ _ (λ f h. call_finished (state c.args.machine.now) (state c.step.new.machine) (state c.finish.new.machine) c.args.core c.args.request
-    c.in-Ok.outcome f plain c.in-Ok.ensures.step h) c.finish.ensures.ends
+    IfOk-weaker c.finish.result _ _ (λ f h. call_finished (state c.args.machine.now) (state c.step.new.machine)
+    (state c.finish.new.machine) c.args.core c.args.request c.in-Ok.outcome f plain c.in-Ok.ensures.step h) c.finish.ensures.ends
 
 pub returns-clause-err : goal.returns-clause-err
 returns-clause-err g c =
     let plain : c.in-Ok.outcome ≡ Stepped = search rules in
-    on_err_weaker c.finish.result (λ h. call_refused g.L.Ledger.keeps (state c.args.machine.now) (state c.step.new.machine) (state c.finish.new.machine) c.args.core
-    c.args.request c.in-Ok.outcome plain c.in-Ok.ensures.step h) c.finish.ensures.err
+    on_err_weaker c.finish.result (λ h. call_refused g.L.Ledger.keeps (state c.args.machine.now) (state c.step.new.machine)
+    (state c.finish.new.machine) c.args.core c.args.request c.in-Ok.outcome plain c.in-Ok.ensures.step h) c.finish.ensures.err
 
 pub returns-clause-watched : goal.returns-clause-watched
 returns-clause-watched g c =
     let plain : c.in-Ok.outcome ≡ Stepped = search rules in
-    IfOk-weaker c.finish.result _ _ (λ f h. call_watched g.Self.Watch.after c.args.core c.args.request c.in-Ok.outcome f c.args.self.now c.step.new.self c.finish.new.self
-    (state c.args.machine.now) (state c.step.new.machine) (state c.finish.new.machine) plain c.in-Ok.ensures.step c.in-Ok.ensures.watched h) c.finish.ensures.watched
+    IfOk-weaker c.finish.result _ _ (λ f h. call_watched g.Self.Watch.after c.args.core c.args.request c.in-Ok.outcome f c.args.self.now c.step.new.self
+    c.finish.new.self (state c.args.machine.now) (state c.step.new.machine)
+    (state c.finish.new.machine) plain c.in-Ok.ensures.step c.in-Ok.ensures.watched h) c.finish.ensures.watched

@@ -29,7 +29,8 @@ steps-preserved g c =
     record {
       few = omega (arith, c.steps-test.true);
       made = steps_more _ _ _ c.args.core c.steps.n _ plain c.steps.invariant.made c.in-Ok.ensures.step;
-      watched = steps_watched_more g.Self.Watch.after c.args.core c.steps.n _ _ _ _ _ _ _ plain c.steps.invariant.watched c.in-Ok.ensures.step c.in-Ok.ensures.watched;
+      watched = steps_watched_more g.Self.Watch.after c.args.core c.steps.n _ _ _ _ _ _ _ plain c.steps.invariant.watched c.in-Ok.ensures.step
+          c.in-Ok.ensures.watched;
     }
 
 pub returns-clause-ends : goal.returns-clause-ends
