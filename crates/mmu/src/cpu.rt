@@ -154,7 +154,6 @@ impl<A: Allocator + Clone> Cpu<A> {
                 return Translated::Fill(entry.frame);
             }
         }
-        self.tlb.drop_page(page);
         Translated::Fault
     }
 }
