@@ -136,7 +136,7 @@ pub record IsServedAlone (w : World) (t : Plain) (core : ℕ) (request : Request
       × FirstReplies t core request k.reply k.after)
       ⊎ IsAwaiting w x t core request outcome v
 
--- in each state that a machine reaches, with any number of cores
+-- in each state that a machine reaches, with up to 64 cores
 abbrev pub AllLoneCallsAreAnswered : Type 0
 AllLoneCallsAreAnswered =
     (w begun : World) (t : Plain) (core : ℕ) (request : Request) → IsReached w → LeadsTo w t

@@ -208,7 +208,7 @@ pub record Order (made : Made) (s : Slots) (m : Memory) (phase : ℕ → Phase) 
   pub memory : IsMemory made m
   -- only the machine's cores have calls
   pub outside : (c : ℕ) → made.cores ≤ c → phase c ≡ Free
-  -- the window of each core has valid pages alone
+  -- a set of cores tells so many apart, and each has a window of valid pages alone
   pub few : made.cores ≤ 64
   -- each call without a reply finds room in the log, which is made with room for one reply of each
   -- call

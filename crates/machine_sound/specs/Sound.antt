@@ -121,7 +121,7 @@ pub record IsSoundStep (w : World) (event : Event) (outcome : Outcome) (v : Worl
 -- events.
 pub record IsReached (w : World) : Type 0 where
   pub made : Made
-  -- each core's window has valid pages
+  -- a set of cores tells so many apart, and each has a window of valid pages alone
   pub few : made.cores ≤ 64
   pub slots : Slots
   pub events : List Event

@@ -56,7 +56,7 @@ IsItemRefused keeps w (To.Call core request) v = IsCallRefused keeps w core requ
 IsItemRefused keeps w (To.Finish core) v = IsRefused keeps w core v
 IsItemRefused keeps w (To.Step event) v = (v ≡ w) × MayWant keeps w event
 
--- an item is made, or is refused for want of memory and changes nothing
+-- an item is made, or a step of it is refused for want of memory, before which its steps stay made
 abbrev pub MakesOne : Bool → World → Item → Result Finished MemoryFault → World → Type 0
 MakesOne keeps w item (Ok finished) v = Makes w item finished v
 MakesOne keeps w item (Err _) v = IsItemRefused keeps w item v
