@@ -298,13 +298,13 @@ and all are unmapped or go on from one another.
 
 Shootdown. munmap, mprotect and an mmap over pages that are used clear them in
 the core's own tables and TLB, and send a message to the other cores that are
-noted on these pages, and to no others. The call reads wait acks C.. until
+recorded on these pages, and to no others. The call reads wait acks C.. until
 each has taken it twice: at the first take a core clears its tables, at the
 second its TLB, and acknowledges. Until then it may still read and write the
 old page. A core whose own call waits can take, walk, flush and review.
 
 Private pages show their file, until a store gives the page a copy. Other cores
-that are noted on it have to take twice before, too.
+that are recorded on it have to take twice before, too.
 
 Frames are counted, one for each page that has the frame, and one more where
 it caches a page of a file. A core notes changes of a count for itself. flush

@@ -1,4 +1,5 @@
-//! The program: a trace is replayed, notes are certified, or a script is run on threads, and what that gives goes to standard output.
+//! The program: its first word says what is done with a trace, notes, a script, a log or replies
+//! (`command`), and what that gives goes to standard output.
 #![tactic(auto)]
 
 #[cfg(test)]

@@ -42,7 +42,7 @@ pub enum Kind {
     Flush,
     /// The core reviews the front of its queue.
     Review,
-    /// Slots are joined at the page `at`. No core is read.
+    /// Slots are joined at the page `at`, whichever the core is.
     Fold,
     /// The core's call is given up.
     GiveUp,

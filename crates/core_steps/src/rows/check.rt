@@ -17,7 +17,7 @@ use vm_base::{CoreId, Request};
 use vm_calls::check;
 
 impl<M: SlotMap, H: Hardware, A: Allocator, L: Ledger> Engine<M, H, A, L> {
-    /// The request is noted, and the core's call has its number.
+    /// The ledger takes the request, and the core's call has its number.
     #[inline(always)]
     pub fn number_call(&mut self, core: CoreId, request: Request)
         requires here { core < length self.old.calls.phases.items }
