@@ -1,7 +1,10 @@
 //! Whole lists of events, and why they may fail.
 use crate::machines::{declared, machine_over, push_outcomes};
 use backing::FileSpec;
-use core_steps::{CallLimit, Finished, Forgotten, Kept, Machine, RunFault, Setup, SetupFault, run};
+use core_steps::{
+    CallLimit, Finished, Forgotten, Kept, Logged, Machine, Opening, RunFault, Setup, SetupFault,
+    run,
+};
 use linked_list_allocator::LocalHeap;
 use machine_model::{Event, Outcome};
 use slot_lock::SlotList;
@@ -37,12 +40,13 @@ fn mmap_and_go(len: u64) -> [Event; 4] {
     ]
 }
 
-/// Tells whether a run of one core, one frame and two calls came to these outcomes and left this log.
-fn comes_to(
+/// Tells whether a run of one core, one frame and two calls came to these outcomes, and left this log
+/// where its ledger keeps one.
+fn comes_to<L: Opening<Global> + Drop>(
     alloc: Global,
     events: &[Event],
     outcomes: &[Outcome],
-    log: &[Entry],
+    log: Option<&[Entry]>,
 ) -> Result<bool, NoMemory> {
     let map = SlotList::new(alloc.clone()?)?;
     let setup = Setup {
@@ -51,29 +55,15 @@ fn comes_to(
         files: Vec::new(alloc.clone()?),
         calls: 2,
     };
-    match run::<SlotList<Global>, Global, Kept<Global>>(alloc, map, setup, events) {
-        Ok(done) => Ok(done.outcomes.as_slice() == outcomes && done.machine.log() == log),
-        Err(_) => Ok(false),
-    }
-}
-
-/// Tells whether such a run came to these outcomes, whose log was only counted.
-fn comes_to_counted(
-    alloc: Global,
-    events: &[Event],
-    outcomes: &[Outcome],
-) -> Result<bool, NoMemory> {
-    let map = SlotList::new(alloc.clone()?)?;
-    let setup = Setup {
-        cores: 1,
-        frames: 1,
-        files: Vec::new(alloc.clone()?),
-        calls: 2,
+    let Ok(done) = run::<SlotList<Global>, Global, L>(alloc, map, setup, events) else {
+        return Ok(false);
     };
-    match run::<SlotList<Global>, Global, Forgotten>(alloc, map, setup, events) {
-        Ok(done) => Ok(done.outcomes.as_slice() == outcomes),
-        Err(_) => Ok(false),
-    }
+    let is_log_right = match (done.machine.kept_log(), log) {
+        (Some(kept), Some(log)) => kept == log,
+        (None, None) => true,
+        _ => false,
+    };
+    Ok(is_log_right && done.outcomes.as_slice() == outcomes)
 }
 
 /// Why a run of three steps of a call fails, if it does. The slot map has memory of its own.
@@ -124,15 +114,11 @@ fn a_refused_call(rt: HostRuntime) -> Result<(), Fail> {
     }];
     let events = mmap_and_go(0);
     for (begun, logged) in [(4, 1), (0, 0)] {
-        let is_right = comes_to(
-            rt.alloc(),
-            &events[..begun],
-            &outcomes[..begun],
-            &log[..logged],
-        )?;
-        assert!(rt; is_right);
-        let is_counted_right = comes_to_counted(rt.alloc(), &events[..begun], &outcomes[..begun])?;
-        assert!(rt; is_counted_right);
+        let (events, outcomes) = (&events[..begun], &outcomes[..begun]);
+        let log = Some(&log[..logged]);
+        assert!(rt; comes_to::<Kept<Global>>(rt.alloc(), events, outcomes, log)?);
+        assert!(rt; comes_to::<Logged<Global>>(rt.alloc(), events, outcomes, log)?);
+        assert!(rt; comes_to::<Forgotten>(rt.alloc(), events, outcomes, None)?);
     }
     Ok(())
 }
