@@ -8,10 +8,8 @@ use Rattle.machine_model.specs.declared.event.Event.{Event}
 use Rattle.machine_model.specs.declared.event.Outcome.{Outcome}
 use Rattle.machine_model.specs.World.{World, Made, new_world}
 use Rattle.machine_model.specs.Step.{Step, Run}
-use Rattle.machine_laws.specs.Brackets.{IsBracketed}
 use Rattle.machine_laws.proofs.Bracketed.{bracketed}
-use Rattle.machine_sound.specs.Sound.{SoundRun}
-use Rattle.machine_sound.proofs.Kept.{run_more, runs_sound}
+use Rattle.machine_sound.proofs.Kept.{run_more}
 use Rattle.core_steps.specs.Moving.{MayWant, JoinsAsMap}
 use Rattle.core_steps.specs.Dividing.{DividesAsMap}
 use Rattle.core_steps.specs.Running.{IsRefusedAt, LogsPlainly, RunsAsMap}
@@ -20,15 +18,6 @@ use Rattle.vm_base.specs.Plain.{nothing_mapped}
 use Rattle.vm_base.specs.Log.{Replays}
 use Rattle.machine_sound.specs.Sound.{IsReached}
 use Rattle.machine_sound.proofs.Kept.{reached_sound}
-
--- the first events are all of them
-pub all_bracketed : (made : Made) (slots : Slots) (first es : List Event) (os : List Outcome) (w : World) → made.cores ≤ 64 → IsNew slots
-    → first ≡ es → Run (new_world made slots) first os w → IsBracketed es os w.calls.requests w.calls.log
-all_bracketed made slots first es os w few new e r = bracketed made slots es os w few new (subst (λ es. Run (new_world made slots) es os w) e r)
-
-pub all_sound : (made : Made) (slots : Slots) (first es : List Event) (os : List Outcome) (w : World) → made.cores ≤ 64 → IsNew slots → first ≡ es
-    → Run (new_world made slots) first os w → SoundRun (new_world made slots) es os w
-all_sound made slots first es os w few new e r = runs_sound made slots es os w few new (subst (λ es. Run (new_world made slots) es os w) e r)
 
 -- the event at n comes next
 pub next_run : (w : World) (es : List Event) (n : ℕ) (e : Event) (os : List Outcome) (m v : World) (o : Outcome) → n < length es
@@ -64,7 +53,7 @@ run_made [] (p ∷ os) w v r = absurd r
 run_made (e ∷ es) [] w v r = absurd r
 run_made (e ∷ es) (o ∷ os) w v r = run_made es os r.0 v r.2 ∙ step_made w e o r.0 r.1
 
-plainly : (made : Made) (slots : Slots) (es : List Event) (os : List Outcome) (w : World) → made.cores ≤ 64 → IsNew slots
+pub plainly : (made : Made) (slots : Slots) (es : List Event) (os : List Outcome) (w : World) → made.cores ≤ 64 → IsNew slots
     → Run (new_world made slots) es os w → LogsPlainly made.file es os w.calls.log
 plainly made slots es os w few new r =
     let is_reached : IsReached w = record { made = made; few = few; slots = slots; events = es; outcomes = os; new = new; run = r } in
@@ -74,7 +63,3 @@ plainly made slots es os w few new r =
       subst (λ qs. Replays qs (nothing_mapped made.file) w.calls.log sound.0) (bracketed made slots es os w few new r).requests
           (subst (λ m. Replays w.calls.requests (nothing_mapped m.file) w.calls.log sound.0) same sound.1.log),
     )
-
-pub all_plain : (made : Made) (slots : Slots) (first es : List Event) (os : List Outcome) (w : World) → made.cores ≤ 64 → IsNew slots → first ≡ es
-    → Run (new_world made slots) first os w → LogsPlainly made.file es os w.calls.log
-all_plain made slots first es os w few new e r = plainly made slots es os w few new (subst (λ es. Run (new_world made slots) es os w) e r)

@@ -42,6 +42,11 @@ few_cores_within limit s e =
     let few = (sound limit s.cores s.frames (length s.files.items) (has_long s.files.items) s.calls e).some_cores in
     grind (arith, nat_tests, few)
 
+-- it asks for no more calls than the limit
+pub few_calls_within : {A : Type 0} (limit : CallLimit) (s : Setup A) → fault_within limit s ≡ None → s.calls ≤ most_calls limit
+few_calls_within limit s e =
+    few_within limit s.calls (sound limit s.cores s.frames (length s.files.items) (has_long s.files.items) s.calls e).calls_within
+
 -- a setup without fault has none within the longer limit
 pub sound_long : {A : Type 0} (limit : CallLimit) (s : Setup A) → fault_within limit s ≡ None → fault_within Long s ≡ None
 sound_long limit s e =
@@ -55,7 +60,6 @@ fits_usual keeps e = absurd (cc)
 -- where the ledger keeps its entries, the limit is the usual one
 pub few_calls : {A : Type 0} (limit : CallLimit) (keeps : Bool) (s : Setup A) → fault_within limit s ≡ None → Fits keeps limit → keeps ≡ true
     → s.calls ≤ most_calls Usual
-few_calls Usual keeps s e fits kept =
-    few_within Usual s.calls (sound Usual s.cores s.frames (length s.files.items) (has_long s.files.items) s.calls e).calls_within
+few_calls Usual keeps s e fits kept = few_calls_within Usual s e
 few_calls Long true s e fits kept = let no : true ≡ false = fits refl in absurd (cc)
 few_calls Long false s e fits kept = absurd cc

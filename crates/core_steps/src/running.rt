@@ -1,5 +1,5 @@
 //! A list of events on a new machine.
-ghost use Rattle.std.specs.Prelude.{◌≡◌, IfOk, IfErr, length};
+ghost use Rattle.std.specs.Prelude.{◌≡◌, ◌≤◌, [], IfOk, IfErr, OnOk, length, vec_capacity};
 ghost use Rattle.slot_lock.specs.Slots.{IsNew};
 ghost use Rattle.machine_model.specs.World.{new_world};
 ghost use Rattle.machine_model.specs.Step.{Run as RunsTo};
@@ -7,14 +7,14 @@ ghost use Rattle.machine_laws.specs.Brackets.{IsBracketed};
 ghost use Rattle.machine_sound.specs.Sound.{SoundRun};
 ghost use Rattle.core_steps.specs.Machine.{state};
 ghost use Rattle.core_steps.specs.Setups.{IsFirstFault, made_of};
-ghost use Rattle.core_steps.specs.Running.{Fails, LogsPlainly, RunsAsMap};
+ghost use Rattle.core_steps.specs.Running.{Fails, IsRefusedAt, LogsPlainly, RunsAsMap};
 ghost use Rattle.backing.specs.Given.{given_files};
 
-use crate::ledger::Opening;
+use crate::ledger::{Ledger, Opening};
 use crate::machine::Machine;
 use crate::run_result::{Run, RunFault};
 use crate::setup::{Setup, SetupFault};
-use machine_model::Event;
+use machine_model::{Event, Outcome};
 use slot_lock::SlotMap;
 use std::alloc::Allocator;
 
@@ -56,13 +56,34 @@ pub fn run<M: SlotMap + Drop, A: Allocator + Clone + Drop, L: Opening<A> + Drop>
     let Ok(mut outcomes) = Vec::with_capacity(alloc, events.len()) else {
         return Err(RunFault::NoMemory { at: events.len() });
     };
+    match take_events(&mut machine, events, &mut outcomes) {
+        Ok(()) => Ok(Run { outcomes, machine }),
+        Err(at) => Err(RunFault::NoMemory { at }),
+    }
+}
+
+// Takes all events, in order, and their outcomes into a list that has room for them. Where one is
+// refused for memory, its place is told.
+fn take_events<M: SlotMap, A: Allocator + Clone, L: Ledger>(
+    machine: &mut Machine<M, A, L>,
+    events: &[Event],
+    outcomes: &mut Vec<Outcome, A>,
+) -> Result<(), usize>
+    requires none { outcomes.old.items ≡ [] }
+    requires room { length events.now ≤ vec_capacity outcomes.old }
+    ensures run { OnOk result (RunsTo (state machine.old) events.now outcomes.new.items (state machine.new)) }
+    ensures as_map { OnOk result (RunsAsMap M.parts M.can_fold M.folds (state machine.old) events.now
+        outcomes.new.items (state machine.new)) }
+    ensures all { OnOk result (length outcomes.new.items ≡ length events.now) }
+    ensures err { IfErr result (λ at. IsRefusedAt L.keeps (state machine.old) events.now at) }
+{
     'events: for at in 0..events.len() {
         let event = events[at];
         let outcome = match machine.step(event) {
             Ok(outcome) => outcome,
-            Err(_) => return Err(RunFault::NoMemory { at }),
+            Err(_) => return Err(at),
         };
         outcomes.push_reserved(outcome);
     }
-    Ok(Run { outcomes, machine })
+    Ok(())
 }

@@ -6,10 +6,12 @@ ghost use Rattle.core_steps.specs.Parts.{parts};
 pub mod call_table;
 pub mod calls;
 pub mod cores;
+mod stores;
 
 use crate::engine::call_table::new_call_table;
 use crate::engine::calls::CallTable;
 use crate::engine::cores::{Bare, Cores};
+use crate::engine::stores::{Stores, new_stores};
 use crate::ledger::{Ledger, Opening};
 use crate::setup::Setup;
 use backing::Objects;
@@ -97,11 +99,14 @@ impl<M: SlotMap + Drop, H: Bare<A>, A: Allocator + Clone + Drop, L: Opening<A> +
             files,
             calls,
         } = setup;
-        let objects = Objects::new(alloc.clone()?, files)?;
-        let counts = Refcache::new(alloc.clone()?, cores as u8, frames as u32)?;
-        let frames = Frames::new(alloc.clone()?, frames as u32)?;
+        let stores = new_stores(alloc.clone()?, files, cores as u8, frames as u32)?;
         let table = new_call_table(alloc.clone()?, cores as usize, calls)?;
         let cores = Cores::new(alloc, cores as u8)?;
+        let Stores {
+            objects,
+            counts,
+            frames,
+        } = stores;
         Ok(Engine {
             map,
             cores,
