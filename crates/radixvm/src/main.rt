@@ -1,41 +1,7 @@
-//! The program: its first word says what is done with a trace, notes, a script, a log or replies
-//! (`command`), and what that gives goes to standard output.
+//! The program: its words, over standard input and output, are those of `command_line`.
 #![tactic(auto)]
 
-#[cfg(test)]
-mod audit_tests;
-mod auditing;
-#[cfg(test)]
-mod certify_tests;
-mod certifying;
-mod command;
-mod echo;
-mod explain;
-#[cfg(test)]
-mod explain_tests;
-#[cfg(test)]
-mod fault_tests;
-mod help;
-#[cfg(test)]
-mod import_tests;
-mod importing;
-mod input;
-mod job;
-mod live;
-#[cfg(test)]
-mod live_tests;
-#[cfg(test)]
-mod long_tests;
-#[cfg(test)]
-mod picture_tests;
-mod picturing;
-#[cfg(test)]
-mod summary_tests;
-mod summing;
-#[cfg(test)]
-mod tests;
-
-use command::{WordsFault, program, refuse_words};
+use command_line::command::{WordsFault, program, refuse_words};
 use live_script::OnThreads;
 use std::io::BufWriter;
 use std::process::ExitCode;

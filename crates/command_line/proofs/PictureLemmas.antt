@@ -1,0 +1,104 @@
+-- A picture of a trace, written and flushed
+use Rattle.std.proofs.Common.{◌≡◌, ℕ, ◌⊎◌, inl, inr, true, false, Bool, List, Option, None, Some, Result, Ok, Err}
+use Rattle.std.proofs.Common.{OnOk, IfOk, IfErr, refl, sym, ap, ◌∙◌, subst, length, take}
+use Rattle.std.proofs.KnownBytes.{Appends-kept, Keeps-refl, Keeps-trans}
+use Rattle.std.specs.Io.KnownBytes.{Keeps, Appends}
+use Rattle.trace_io.proofs.LineLemmas.{reads_map}
+use Rattle.trace_io.specs.Sink.{AppendsFront}
+use Rattle.trace_io.specs.Source.{HasStopped, Stream, Reads}
+use Rattle.core_steps.specs.declared.setup.CallLimit.TheVariants.{Usual}
+use Rattle.machine_model.specs.World.{World}
+use Rattle.machine_model.specs.declared.event.Event.{Event}
+use Rattle.machine_model.specs.declared.event.Outcome.{Outcome}
+use Rattle.trace.specs.declared.fault.TraceFault.{TraceFault}
+use Rattle.trace.specs.declared.fault.TraceFault.TheVariants.{NoMemory, ReadFailed, WriteFailed}
+use Rattle.trace.specs.declared.shown.Show.TheVariants.{Outcomes}
+use Rattle.trace.specs.Ends.{Ends, TellsFaults}
+use Rattle.trace.specs.Seen.{IsSeen}
+use Rattle.trace.proofs.ShownLemmas.{whole_front}
+use Rattle.command_line.specs.declared.picturing.Drawing.{Drawing}
+use Rattle.command_line.specs.declared.picturing.Drawing.TheVariants.{Steps, Lives}
+use Rattle.command_line.specs.Picture.{Draws, Fails, PictureEnds, Records, TextEnds}
+
+-- what one who watches is after each step
+abbrev After : Type 0 → Type 0
+After S = S → World → Event → Outcome → World → S
+
+-- all lines were watched
+pub all_recorded : {S T : Type 0} (s t : Stream) (after : After S) (one r : S) (ended : Result T TraceFault) (x : T) → ended ≡ Ok x
+    → IfOk ended (λ u. Reads s t (λ input unread. IsSeen after one r Outcomes input None None))
+    → Reads s t (λ input unread. Records after one input unread (Ok r))
+all_recorded s t after one r (Ok y) x is h = h
+all_recorded s t after one r (Err f) x is h = absurd (cc)
+
+-- a fault of the trace
+pub none_recorded : {T : Type 0} (s t : Stream) (ended : Result T TraceFault) (f : TraceFault) → ended ≡ Err f
+    → Reads s t (λ input unread. Ends Usual Outcomes input unread None None ended) → Reads s t (λ input unread. Fails input unread f)
+none_recorded s t ended f e h =
+    reads_map s t _ _ (subst (λ r. Reads s t (λ input unread. Ends Usual Outcomes input unread None None r)) e h) (λ xs ys k w. inl w)
+
+-- the text was written, or wasn't
+drawn : {S T : Type 0} (after : After S) (one : S) (text : S → List ℕ) (input unread : List ℕ) (old new : Option (List ℕ)) (r : S) (ended : Result T TraceFault)
+    → Records after one input unread (Ok r) → OnOk ended (Appends old new (text r))
+    → IfErr ended (λ f. ((f ≡ NoMemory) × Keeps old new) ⊎ ((f ≡ WriteFailed) × AppendsFront old new (text r)))
+    → TextEnds after one text input unread old new ended
+drawn after one text input unread old new r (Ok x) h w e = (r, h, w)
+drawn after one text input unread old new r (Err f) h w (inl (none, kept)) = inl (inr none, kept)
+drawn after one text input unread old new r (Err f) h w (inr (failed, front)) = inr (failed, inr (r, h, front))
+
+-- of what was recorded by one who began so
+pub all_drawn : {S T : Type 0} (s t : Stream) (after : After S) (made one : S) (text : S → List ℕ) (old new : Option (List ℕ)) (r : S)
+    (ended : Result T TraceFault) → made ≡ one → Reads s t (λ input unread. Records after made input unread (Ok r)) → OnOk ended (Appends old new (text r))
+    → IfErr ended (λ f. ((f ≡ NoMemory) × Keeps old new) ⊎ ((f ≡ WriteFailed) × AppendsFront old new (text r)))
+    → Reads s t (λ input unread. TextEnds after one text input unread old new ended)
+all_drawn s t after made one text old new r ended is h w e =
+    reads_map s t _ _ (subst (λ m. Reads s t (λ input unread. Records after m input unread (Ok r))) is h)
+    (λ xs ys k seen. drawn after one text xs ys old new r ended seen w e)
+
+-- after a fault nothing was
+pub none_drawn : {S : Type 0} (s t : Stream) (after : After S) (one : S) (text : S → List ℕ) (old : Option (List ℕ)) (f : TraceFault)
+    → Reads s t (λ input unread. Fails input unread f) → Reads s t (λ input unread. TextEnds {T = Unit} after one text input unread old old (Err f))
+none_drawn s t after one text old f h = reads_map s t _ _ h (λ xs ys k why. inl (why, Keeps-refl old))
+
+-- a flush keeps what was written
+front_then : (a b c : Option (List ℕ)) (xs : List ℕ) → AppendsFront a b xs → Keeps b c → AppendsFront a c xs
+front_then a b c xs p k = (p.0, p.1, Appends-kept a b c (take p.0 xs) p.2 k)
+
+text_kept : {S T : Type 0} (after : After S) (one : S) (text : S → List ℕ) (input unread : List ℕ) (a b c : Option (List ℕ)) (ended : Result T TraceFault)
+    → TextEnds after one text input unread a b ended → Keeps b c → TextEnds after one text input unread a c ended
+text_kept after one text input unread a b c (Ok x) (r, h, w) k = (r, h, Appends-kept a b c _ w k)
+text_kept after one text input unread a b c (Err f) (inl (why, kept)) k = inl (why, Keeps-trans a b c kept k)
+text_kept after one text input unread a b c (Err f) (inr (failed, inl kept)) k = inr (failed, inl (Keeps-trans a b c kept k))
+text_kept after one text input unread a b c (Err f) (inr (failed, inr (r, h, front))) k = inr (failed, inr (r, h, front_then a b c _ front k))
+
+pub picture_kept : {T : Type 0} (drawing : Drawing) (input unread : List ℕ) (a b c : Option (List ℕ)) (ended : Result T TraceFault)
+    → PictureEnds drawing input unread a b ended → Keeps b c → PictureEnds drawing input unread a c ended
+picture_kept (Steps steps) input unread a b c ended h k = text_kept _ _ _ input unread a b c ended h k
+picture_kept Lives input unread a b c ended h k = text_kept _ _ _ input unread a b c ended h k
+
+-- a flush that failed may have lost it
+text_lost : {S T : Type 0} (after : After S) (one : S) (text : S → List ℕ) (input unread : List ℕ) (a b c : Option (List ℕ)) (ended : Result T TraceFault)
+    → TextEnds after one text input unread a b ended → Keeps b c → TextEnds {T = T} after one text input unread a c (Err WriteFailed)
+text_lost after one text input unread a b c (Ok x) (r, h, w) k = inr (refl, inr (r, h, whole_front a c _ (Appends-kept a b c _ w k)))
+text_lost after one text input unread a b c (Err f) (inl (why, kept)) k = inr (refl, inl (Keeps-trans a b c kept k))
+text_lost after one text input unread a b c (Err f) (inr (failed, inl kept)) k = inr (refl, inl (Keeps-trans a b c kept k))
+text_lost after one text input unread a b c (Err f) (inr (failed, inr (r, h, front))) k = inr (refl, inr (r, h, front_then a b c _ front k))
+
+pub picture_lost : {T : Type 0} (drawing : Drawing) (input unread : List ℕ) (a b c : Option (List ℕ)) (ended : Result T TraceFault)
+    → PictureEnds drawing input unread a b ended → Keeps b c → PictureEnds {T = T} drawing input unread a c (Err WriteFailed)
+picture_lost (Steps steps) input unread a b c ended h k = text_lost _ _ _ input unread a b c ended h k
+picture_lost Lives input unread a b c ended h k = text_lost _ _ _ input unread a b c ended h k
+
+-- what is told after a flush
+pub told_kept : {T : Type 0} (r : Result T TraceFault) (stopped : Bool) (reads : ℕ) (a b c flushed : Bool) → (r ≡ Err ReadFailed → HasStopped stopped reads)
+    → (r ≡ Err WriteFailed → b ≡ true) → (r ≡ Err WriteFailed) ⊎ (b ≡ a) → c ≡ b → flushed ≡ true → TellsFaults r stopped reads a c flushed
+told_kept r stopped reads a b c flushed read write kept same out = record { read = read; write = λ w. same ∙ write w; out = go kept }
+  where
+    go : (r ≡ Err WriteFailed) ⊎ (b ≡ a) → (r ≡ Err WriteFailed) ⊎ ((c ≡ a) × (flushed ≡ true))
+    go (inl w) = inl w
+    go (inr k) = inr (same ∙ k, out)
+
+-- and after one that failed
+pub told_lost : {T : Type 0} (r : Result T TraceFault) (stopped : Bool) (reads : ℕ) (a c flushed : Bool) → r ≡ Err WriteFailed → c ≡ true
+    → TellsFaults r stopped reads a c flushed
+told_lost r stopped reads a c flushed is failed = record { read = λ e. absurd (cc); write = λ w. failed; out = inl is }

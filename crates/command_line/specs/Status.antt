@@ -1,0 +1,60 @@
+-- The status that the program ends with.
+use Rattle.std.specs.Prelude.{ℕ, Bool, true, false, Result, Ok, Err}
+use Rattle.audit_text.specs.declared.input.AuditFault.{AuditFault}
+use Rattle.audit_text.specs.declared.input.AuditFault.TheVariants as For
+use Rattle.audit_text.specs.declared.judging.Verdict.{Verdict}
+use Rattle.audit_text.specs.declared.judging.Verdict.TheVariants.{Legal, Illegal}
+use Rattle.import_text.specs.declared.log.ImportFault.{ImportFault}
+use Rattle.live_script.specs.declared.texts.TextFault.{TextFault}
+use Rattle.live_script.specs.declared.texts.TextFault.TheVariants.{Text, Live}
+use Rattle.command_line.specs.declared.command.WordsFault.{WordsFault}
+use Rattle.command_line.specs.declared.command.WordsFault.TheVariants as OutOf
+use Rattle.command_line.specs.declared.command.WordsFault.TheVariants.{NotUtf8}
+use Rattle.trace.specs.Status.{fault_status}
+use Rattle.trace.specs.declared.fault.TraceFault.{TraceFault}
+
+-- of notes: 0 where they are certified, 1 where they are refused
+abbrev pub certified_status : Result Bool TraceFault → ℕ
+certified_status (Ok true) = 0
+certified_status (Ok false) = 1
+certified_status (Err f) = fault_status f
+
+-- of a script: 3 where a task of a core couldn't begin
+abbrev pub script_status : TextFault → ℕ
+script_status (Text f) = fault_status f
+script_status (Live f) = 3
+
+-- of notes that were written
+abbrev pub live_status : {T : Type 0} → Result T TextFault → ℕ
+live_status (Ok x) = 0
+live_status (Err f) = script_status f
+
+-- of notes that were certified or refused
+abbrev pub certified_live_status : Result Bool TextFault → ℕ
+certified_live_status (Ok true) = 0
+certified_live_status (Ok false) = 1
+certified_live_status (Err f) = script_status f
+
+-- of words that can't be read
+abbrev pub words_status : WordsFault → ℕ
+words_status NotUtf8 = 2
+words_status OutOf.NoMemory = 3
+
+-- of a log: 0 where its trace was written
+abbrev pub import_status : {T : Type 0} → Result T ImportFault → ℕ
+import_status (Ok told) = 0
+import_status (Err f) = 3
+
+-- of replies that are judged: 0 where they are legal, 1 where one isn't
+abbrev pub audit_fault_status : AuditFault → ℕ
+audit_fault_status (For.BadLine number) = 2
+audit_fault_status (For.TooLong number) = 2
+audit_fault_status For.NoVmLine = 2
+audit_fault_status For.ReadFailed = 3
+audit_fault_status For.NoMemory = 3
+audit_fault_status For.WriteFailed = 3
+
+abbrev pub audit_status : Result Verdict AuditFault → ℕ
+audit_status (Ok (Legal calls passed)) = 0
+audit_status (Ok (Illegal line call due)) = 1
+audit_status (Err f) = audit_fault_status f

@@ -1,0 +1,52 @@
+//! What the word `audit` does.
+ghost use Rattle.std.specs.Prelude.{◌≡◌, ◌≤◌, Bool, Result};
+ghost use Rattle.audit_text.specs.Ends.{AuditEnds, TellsAudit};
+ghost use Rattle.audit_text.specs.declared.input.AuditFault.{AuditFault};
+ghost use Rattle.audit_text.specs.declared.judging.Verdict.{Verdict};
+ghost use Rattle.command_line.specs.Status.{audit_fault_status, audit_status};
+ghost use Rattle.trace_io.specs.Source.{Reads};
+
+use audit_text::{AuditFault, Verdict, audit_text};
+use radix_range::RadixMap;
+use std::alloc::Global;
+use std::io::Write;
+use trace_io::sink::Sink;
+use trace_io::source::Source;
+
+// Prints the fault as `radixvm: ` and its text, and answers the status: 2 where the text is at fault, 3 where its surroundings are.
+fn refuse<E: Write>(fault: AuditFault, errors: &mut E) -> u8
+    ensures value { result ≡ audit_fault_status fault }
+    ensures within { result ≤ 3 }
+{
+    let _ = writeln!(errors, "radixvm: {fault}");
+    match fault {
+        AuditFault::BadLine(_) | AuditFault::TooLong(_) | AuditFault::NoVmLine => 2,
+        AuditFault::ReadFailed | AuditFault::NoMemory | AuditFault::WriteFailed => 3,
+    }
+}
+
+/// Judges the replies of a text by the plain page map, at any place where that is asked for, prints a fault as `radixvm: ` and
+/// its text, and answers the status: 0 where all are legal, 1 where one isn't, or that of the fault.
+pub fn audit<S: Source, W: Sink, E: Write>(
+    alloc: Global,
+    reader: &mut S,
+    out: &mut W,
+    errors: &mut E,
+    any_place: bool,
+) -> u8
+    ensures ends { (r : Result Verdict AuditFault) × (result ≡ audit_status r)
+        × Reads (S.stream reader.old) (S.stream reader.new)
+        (λ input unread. AuditEnds any_place input (W.contents out.old) (W.contents out.new) r)
+        × TellsAudit r (S.failed reader.new) (S.reads reader.new)
+        (W.failed out.old) (W.failed out.new) (W.is_flushed out.new) }
+    ensures within { result ≤ 3 }
+{
+    let Ok(map) = RadixMap::new(alloc) else {
+        return refuse(AuditFault::NoMemory, errors);
+    };
+    match audit_text(alloc, map, reader, out, any_place) {
+        Ok(Verdict::Legal { .. }) => 0,
+        Ok(Verdict::Illegal { .. }) => 1,
+        Err(fault) => refuse(fault, errors),
+    }
+}

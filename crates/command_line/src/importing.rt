@@ -1,0 +1,171 @@
+//! What the word `import` does.
+ghost use Rattle.std.specs.Prelude.{◌≡◌, ◌<◌, ◌≤◌, ◌^◌, Result};
+ghost use Rattle.import_lackey.specs.Traced.{TraceEnds};
+ghost use Rattle.import_maps.specs.Entries.{total as entries_total};
+ghost use Rattle.import_maps.specs.Mapped.{MapsEnds, TellsMaps};
+ghost use Rattle.import_maps.specs.declared.mapped.Told.{Told};
+ghost use Rattle.import_text.specs.Counts.{total};
+ghost use Rattle.import_text.specs.Ends.{TellsImport};
+ghost use Rattle.import_text.specs.declared.counts.Counts.{Counts};
+ghost use Rattle.import_text.specs.declared.log.ImportFault.{ImportFault};
+ghost use Rattle.command_line.specs.Status.{import_status};
+ghost use Rattle.trace_io.specs.Source.{Reads};
+
+use import_lackey::traced::trace_log;
+use import_maps::entries::Entries;
+use import_maps::mapped::import_mapped;
+use import_text::counts::Counts;
+use import_text::log::ImportFault;
+use std::alloc::Global;
+use std::io::Write;
+use trace_io::sink::Sink;
+use trace_io::source::Source;
+
+// Prints one count and what was counted, if there was any.
+fn tell_count<E: Write>(count: u64, what: &str, errors: &mut E) {
+    if count > 0 {
+        let _ = writeln!(errors, "  {count} {what}");
+    }
+}
+
+// Prints how many lines were changed, and how.
+fn tell_changed<E: Write>(counts: &Counts, errors: &mut E) {
+    tell_count(counts.heap, "changed: brk, as mmap or munmap", errors);
+    tell_count(
+        counts.moves,
+        "changed: mremap, as munmap and mmap of zero bytes",
+        errors,
+    );
+    tell_count(
+        counts.files,
+        "changed: a mapping of a file, as one of zero bytes",
+        errors,
+    );
+}
+
+// Prints how many lines were left out, and why.
+fn tell_left<E: Write>(counts: &Counts, errors: &mut E) {
+    tell_count(counts.other, "left out: other calls, and events", errors);
+    tell_count(
+        counts.half,
+        "left out: the other half of a call that stands in two lines",
+        errors,
+    );
+    tell_count(counts.failed, "left out: calls that failed", errors);
+    tell_count(counts.still, "left out: no page came or went", errors);
+    tell_count(counts.elsewhere, "left out: other processes", errors);
+    tell_count(
+        counts.before,
+        "left out: before the process began another program",
+        errors,
+    );
+    tell_count(counts.unread, "left out: in a form that isn't read", errors);
+}
+
+// Prints how many lines of a list were kept, changed and left out, and why, if there were any.
+fn tell_entries<E: Write>(entries: &Entries, errors: &mut E)
+    requires { entries_total entries.now < 2 ^ 64 }
+{
+    let kept = entries.kept;
+    let changed = entries.changed;
+    let left = entries.left();
+    if kept == 0 && changed == 0 && left == 0 {
+        return;
+    }
+    let _ = writeln!(
+        errors,
+        "maps: {kept} lines kept, {changed} changed, {left} left out"
+    );
+    tell_count(
+        changed,
+        "changed: a mapping of a file, as one of zero bytes",
+        errors,
+    );
+    tell_count(entries.kernel, "left out: the kernel's own pages", errors);
+    tell_count(
+        entries.outside,
+        "left out: outside the addresses of a trace",
+        errors,
+    );
+    tell_count(
+        entries.unread,
+        "left out: in a form that isn't read",
+        errors,
+    );
+}
+
+// Prints how many lines were kept, changed and left out, and why.
+fn tell_counts<E: Write>(counts: &Counts, errors: &mut E)
+    requires { total counts.now < 2 ^ 64 }
+{
+    let kept = counts.kept;
+    let changed = counts.changed();
+    let left = counts.left();
+    let _ = writeln!(
+        errors,
+        "import: {kept} lines kept, {changed} changed, {left} left out"
+    );
+    tell_changed(counts, errors);
+    tell_left(counts, errors);
+}
+
+// Prints the fault as `radixvm: ` and its text, and answers the status.
+fn tell_fault<E: Write>(fault: ImportFault, errors: &mut E) -> u8
+    ensures { result ≡ 3 }
+{
+    let _ = writeln!(errors, "radixvm: {fault}");
+    3
+}
+
+/// Makes a trace of a list of mappings and of a log of strace, of the process of this thread or of
+/// the first line's, prints how many lines of both became what on `errors`, or a fault as
+/// `radixvm: ` and its text, and answers the status: 0, or 3 for a fault.
+pub fn import<L: Source, S: Source, W: Sink, E: Write>(
+    alloc: Global,
+    list: &mut L,
+    reader: &mut S,
+    out: &mut W,
+    errors: &mut E,
+    thread: Option<u64>,
+) -> u8
+    ensures ends { (r : Result Told ImportFault) × (result ≡ import_status r)
+        × Reads (L.stream list.old) (L.stream list.new) (λ listed left.
+        Reads (S.stream reader.old) (S.stream reader.new)
+        (λ input unread. MapsEnds listed thread input (W.contents out.old) (W.contents out.new) r))
+        × TellsMaps r (L.failed list.new) (L.reads list.new) (S.failed reader.new) (S.reads reader.new)
+        (W.failed out.old) (W.failed out.new) (W.is_flushed out.new) }
+    ensures within { result ≤ 3 }
+{
+    match import_mapped(alloc, list, reader, out, thread) {
+        Ok(told) => {
+            tell_entries(&told.entries, errors);
+            tell_counts(&told.counts, errors);
+            0
+        }
+        Err(fault) => tell_fault(fault, errors),
+    }
+}
+
+/// Makes a trace of a log of lackey, prints how many of its lines became what on `errors`, or a fault
+/// as `radixvm: ` and its text, and answers the status: 0, or 3 for a fault.
+pub fn import_accesses<S: Source, W: Sink, E: Write>(
+    alloc: Global,
+    reader: &mut S,
+    out: &mut W,
+    errors: &mut E,
+) -> u8
+    ensures ends { (r : Result Counts ImportFault) × (result ≡ import_status r)
+        × Reads (S.stream reader.old) (S.stream reader.new)
+        (λ input unread. TraceEnds input (W.contents out.old) (W.contents out.new) r)
+        × TellsImport r (S.failed reader.new) (S.reads reader.new)
+        (W.failed out.old) (W.failed out.new) (W.is_flushed out.new) }
+    ensures within { result ≤ 3 }
+{
+    match trace_log(alloc, reader, out) {
+        Ok(counts) => {
+            tell_counts(&counts, errors);
+            0
+        }
+        Err(fault) => tell_fault(fault, errors),
+    }
+}

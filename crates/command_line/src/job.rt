@@ -1,0 +1,124 @@
+//! What the program does once its words are read.
+ghost use Rattle.std.specs.Prelude.{◌≡◌, ◌≤◌, Result};
+ghost use Rattle.command_line.specs.Echo.{EchoEnds};
+ghost use Rattle.trace.specs.Ends.{Ends, TellsFaults};
+ghost use Rattle.trace.specs.Shown.{limit_for};
+ghost use Rattle.trace.specs.Status.{status_of};
+ghost use Rattle.trace.specs.declared.fault.TraceFault.{TraceFault};
+ghost use Rattle.trace_io.specs.Source.{Reads};
+
+use crate::echo::replay_echoing;
+use crate::explain::explain;
+use crate::summing::tell_summary;
+use core_steps::CallLimit;
+use std::alloc::Allocator;
+use std::io::Write;
+use trace::replay::{Replayed, replay_summing, replay_telling};
+use trace::shown::Show;
+use trace_io::sink::Sink;
+use trace_io::source::Source;
+use watched::Summary;
+
+/// What a run shows of its trace, and how many calls it lets the trace ask for.
+#[derive(Clone, Copy, Debug, PartialEq, Eq)]
+pub struct Shows {
+    /// What goes to standard output.
+    pub show: Show,
+    /// How many calls the trace may ask for, where its log isn't shown.
+    pub limit: CallLimit,
+    /// Whether more is told of a fault than its text.
+    pub explains: bool,
+    /// Whether the numbers of the run are told, where no fault ended it.
+    pub sums: bool,
+}
+
+// Prints the replay's fault, and what is known of it where that is asked for, and answers the status.
+fn tell_end<A: Allocator, E: Write>(
+    replayed: &Replayed<A>,
+    limit: CallLimit,
+    explains: bool,
+    errors: &mut E,
+) -> u8
+    ensures value { result ≡ status_of replayed.now.ended }
+    ensures within { result ≤ 3 }
+{
+    let status = replayed.tell(errors);
+    if explains
+        && let Err(fault) = replayed.ended
+        && let Some(lines) = &replayed.lines
+    {
+        explain(fault, limit, lines.line(), errors);
+    }
+    status
+}
+
+// As `run`, step by step, and prints the numbers of the run behind it.
+fn run_summing<A: Allocator + Clone + Drop, S: Source, W: Sink, E: Write>(
+    alloc: A,
+    reader: &mut S,
+    out: &mut W,
+    errors: &mut E,
+    shows: Shows,
+) -> u8
+    ensures ends { (r : Result Unit TraceFault) × (result ≡ status_of r)
+        × Reads (S.stream reader.old) (S.stream reader.new)
+        (λ input unread. Ends (limit_for shows.show shows.limit) shows.show input unread
+        (W.contents out.old) (W.contents out.new) r)
+        × TellsFaults r (S.failed reader.new) (S.reads reader.new)
+        (W.failed out.old) (W.failed out.new) (W.is_flushed out.new) }
+    ensures within { result ≤ 3 }
+{
+    let mut summary = Summary::new();
+    let replayed = replay_summing(alloc, reader, out, shows.show, shows.limit, &mut summary);
+    let status = tell_end(&replayed, shows.limit, shows.explains, errors);
+    if status == 0 {
+        tell_summary(&summary, errors);
+    }
+    status
+}
+
+/// Replays the trace, showing what is asked for, prints a fault as `radixvm: ` and its
+/// text, behind it, where that is asked for, what is known of it, and answers the status: 0,
+/// or that of the fault. Where that is asked for, the numbers of a run without fault come behind it.
+pub fn run<A: Allocator + Clone + Drop, S: Source, W: Sink, E: Write>(
+    alloc: A,
+    reader: &mut S,
+    out: &mut W,
+    errors: &mut E,
+    shows: Shows,
+) -> u8
+    ensures ends { (r : Result Unit TraceFault) × (result ≡ status_of r)
+        × Reads (S.stream reader.old) (S.stream reader.new)
+        (λ input unread. Ends (limit_for shows.show shows.limit) shows.show input unread
+        (W.contents out.old) (W.contents out.new) r)
+        × TellsFaults r (S.failed reader.new) (S.reads reader.new)
+        (W.failed out.old) (W.failed out.new) (W.is_flushed out.new) }
+    ensures within { result ≤ 3 }
+{
+    if shows.sums {
+        return run_summing(alloc, reader, out, errors, shows);
+    }
+    let replayed = replay_telling(alloc, reader, out, shows.show, shows.limit);
+    tell_end(&replayed, shows.limit, shows.explains, errors)
+}
+
+/// As `run`, of outcomes, and shows each line of an event beside its outcome, with the `vm` and
+/// `file` lines.
+pub fn run_echoing<A: Allocator + Clone + Drop, S: Source, W: Sink, E: Write>(
+    alloc: A,
+    reader: &mut S,
+    out: &mut W,
+    errors: &mut E,
+    limit: CallLimit,
+    explains: bool,
+) -> u8
+    ensures ends { (r : Result Unit TraceFault) × (result ≡ status_of r)
+        × Reads (S.stream reader.old) (S.stream reader.new)
+        (λ input unread. EchoEnds limit input (W.contents out.old) (W.contents out.new) r)
+        × TellsFaults r (S.failed reader.new) (S.reads reader.new)
+        (W.failed out.old) (W.failed out.new) (W.is_flushed out.new) }
+    ensures within { result ≤ 3 }
+{
+    let replayed = replay_echoing(alloc, reader, out, limit);
+    tell_end(&replayed, limit, explains, errors)
+}

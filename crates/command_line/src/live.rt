@@ -1,0 +1,80 @@
+//! What the word `live` does: a script is run on threads.
+ghost use Rattle.std.specs.Prelude.{◌≡◌, ◌≤◌, Bool, Result};
+ghost use Rattle.live_script.specs.Texts.{EndsText, IsNotesText, IsVerdictText, TellsText};
+ghost use Rattle.live_script.specs.declared.texts.TextFault.{TextFault};
+ghost use Rattle.command_line.specs.Status.{certified_live_status, live_status, script_status};
+ghost use Rattle.trace_io.specs.Source.{Reads};
+
+use live_script::Runner;
+use live_script::texts::{TextFault, certify_run, run_text};
+use radix_range::RadixMap;
+use slot_lock::SlotMap;
+use std::alloc::Allocator;
+use std::io::Write;
+use std::sync::Wait;
+use std::thread::Threads;
+use trace::fault::status_of_fault;
+use trace_io::sink::Sink;
+use trace_io::source::Source;
+
+// Prints the fault as `radixvm: ` and its text, and answers the status that it ends the program with: 3 where a task of a core
+// couldn't begin, else that of its text's fault.
+fn tell_fault<E: Write>(fault: TextFault, errors: &mut E) -> u8
+    ensures value { result ≡ script_status fault }
+    ensures within { result ≤ 3 }
+{
+    let _ = writeln!(errors, "radixvm: {fault}");
+    match fault {
+        TextFault::Text(fault) => status_of_fault(fault),
+        TextFault::Live(_) => 3,
+    }
+}
+
+/// Runs the script, and writes the notes of all its cores. Prints a fault as `radixvm: ` and its text, and answers the
+/// status: 0, or that of the fault.
+pub fn live<
+    A: Allocator + Clone + Drop,
+    T: Threads + Wait + Sync,
+    R: Runner<A>,
+    S: Source,
+    W: Sink,
+    E: Write,
+>(rt: &T, runner: &R, alloc: A, reader: &mut S, out: &mut W, errors: &mut E) -> u8
+    ensures ends { (r : Result Unit TextFault) × (result ≡ live_status r)
+        × Reads (S.stream reader.old) (S.stream reader.new) (λ input unread. EndsText
+        (λ script done text. IsNotesText script text) input unread (W.contents out.old) (W.contents out.new) r)
+        × TellsText r (S.failed reader.new) (S.reads reader.new)
+        (W.failed out.old) (W.failed out.new) (W.is_flushed out.new) }
+    ensures within { result ≤ 3 }
+{
+    match run_text(rt, runner, alloc, reader, out) {
+        Ok(()) => 0,
+        Err(fault) => tell_fault(fault, errors),
+    }
+}
+
+/// As `live`, but writes in place of the notes what certifying them beside the histories of slots comes to: the status is 1
+/// where they are refused.
+pub fn certify_live<
+    A: Allocator + Clone + Drop,
+    T: Threads + Wait + Sync,
+    R: Runner<A>,
+    S: Source,
+    W: Sink,
+    E: Write,
+>(rt: &T, runner: &R, alloc: A, reader: &mut S, out: &mut W, errors: &mut E) -> u8
+    ensures ends { (r : Result Bool TextFault) × (result ≡ certified_live_status r)
+        × Reads (S.stream reader.old) (S.stream reader.new) (λ input unread. EndsText
+        (λ script told text. IsVerdictText A ⟦<RadixMap<A> as SlotMap>⟧.parts ⟦<RadixMap<A> as SlotMap>⟧.can_fold
+        ⟦<RadixMap<A> as SlotMap>⟧.folds script told text)
+        input unread (W.contents out.old) (W.contents out.new) r)
+        × TellsText r (S.failed reader.new) (S.reads reader.new)
+        (W.failed out.old) (W.failed out.new) (W.is_flushed out.new) }
+    ensures within { result ≤ 3 }
+{
+    match certify_run(rt, runner, alloc, reader, out) {
+        Ok(true) => 0,
+        Ok(false) => 1,
+        Err(fault) => tell_fault(fault, errors),
+    }
+}

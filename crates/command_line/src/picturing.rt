@@ -1,0 +1,260 @@
+//! What the word `picture` does.
+ghost use Rattle.std.specs.Prelude.{◌≡◌, ◌≢◌, ◌≤◌, ◌⊎◌, Err, IfErr, None, OnOk, Result, false, true};
+ghost use Rattle.std.specs.Io.KnownBytes.{Appends, Keeps};
+ghost use Rattle.command_line.specs.Picture.{PictureEnds, Records, TextEnds, lives_of, picture_of};
+ghost use Rattle.recorder.specs.Changes.{changes_recorded, nothing_changed};
+ghost use Rattle.recorder.specs.Looking.{recorded};
+ghost use Rattle.recorder.specs.Recording.{nothing_recorded};
+ghost use Rattle.trace.specs.Ends.{TellsFaults};
+ghost use Rattle.trace.specs.Status.{status_of};
+ghost use Rattle.trace.specs.declared.fault.TraceFault.{TraceFault};
+ghost use Rattle.trace.specs.declared.fault.TraceFault.TheVariants as Of;
+ghost use Rattle.trace_io.specs.Sink.{AppendsFront};
+ghost use Rattle.trace_io.specs.Source.{HasStopped, Reads};
+
+use core_steps::CallLimit;
+use lives::drawing::draw_lives;
+use picture::canvas::draw;
+use picture::places::view_of;
+use recorder::{ChangeRecorder, Recorder};
+use std::alloc::Global;
+use std::io::Write;
+use trace::fault::TraceFault;
+use trace::replay::{Replayed, replay_watched};
+use trace::shown::Show;
+use trace_io::sink::{Sink, WriteFailed, write_all};
+use trace_io::source::Source;
+use watched::Watch;
+
+/// Which steps a picture shows, by their numbers.
+#[derive(Clone, Copy, Debug, PartialEq, Eq)]
+pub struct Steps {
+    /// The first.
+    pub first: u64,
+    /// The last one at the most.
+    pub last: u64,
+}
+
+/// What a picture shows.
+#[derive(Clone, Copy, Debug, PartialEq, Eq)]
+pub enum Drawing {
+    /// What happened in these steps.
+    Steps(Steps),
+    /// The lives of mappings over all steps.
+    Lives,
+}
+
+// Where the lines' text goes, in whose place the picture is shown.
+#[derive(Drop)]
+struct Unshown {
+    is_flushed: bool,
+}
+
+impl Sink for Unshown {
+    ghost contents = { λ s. None };
+
+    ghost failed = { λ s. false };
+
+    ghost is_flushed = { λ s. s.is_flushed };
+
+    fn write(&mut self, bytes: &[u8]) -> Result<usize, WriteFailed> {
+        self.is_flushed = false;
+        Ok(bytes.len())
+    }
+
+    fn flush(&mut self) -> Result<(), WriteFailed> {
+        self.is_flushed = true;
+        Ok(())
+    }
+}
+
+// Replays the trace beside one who watches each step.
+fn record<S: Source, X: Watch + Drop>(
+    alloc: Global,
+    reader: &mut S,
+    watch: X,
+) -> Result<X, TraceFault>
+    ensures ends { Reads (S.stream reader.old) (S.stream reader.new)
+        (λ input unread. Records X.after watch input unread result) }
+    ensures read { result ≡ Err Of.ReadFailed → HasStopped (S.failed reader.new) (S.reads reader.new) }
+    ensures unwritten { result ≢ Err Of.WriteFailed }
+{
+    let mut unshown = Unshown { is_flushed: true };
+    let beside = replay_watched(
+        alloc,
+        reader,
+        &mut unshown,
+        Show::Outcomes,
+        CallLimit::Usual,
+        watch,
+    );
+    match beside.replayed.ended {
+        Ok(()) => Ok(beside.watch),
+        Err(fault) => Err(fault),
+    }
+}
+
+// Writes the picture of what was recorded in these steps.
+fn write_picture<W: Sink>(
+    alloc: Global,
+    recorder: &Recorder<Global>,
+    steps: Steps,
+    out: &mut W,
+) -> Result<(), TraceFault>
+    ensures ok { OnOk result (Appends (W.contents out.old) (W.contents out.new)
+        (picture_of steps.first steps.last recorder.now)) }
+    ensures err { IfErr result (λ f. ((f ≡ Of.NoMemory) × Keeps (W.contents out.old) (W.contents out.new))
+        ⊎ ((f ≡ Of.WriteFailed) × AppendsFront (W.contents out.old) (W.contents out.new)
+        (picture_of steps.first steps.last recorder.now))) }
+    ensures write { result ≡ Err Of.WriteFailed → W.failed out.new ≡ true }
+    ensures kept { (result ≡ Err Of.WriteFailed) ⊎ (W.failed out.new ≡ W.failed out.old) }
+{
+    let cores = recorder.cores().min(64) as u8;
+    let view = view_of(cores, steps.first, steps.last.min(recorder.steps()));
+    let Ok(text) = draw(alloc, view, recorder.moments()) else {
+        return Err(TraceFault::NoMemory);
+    };
+    if write_all(out, text.as_slice()).is_err() {
+        return Err(TraceFault::WriteFailed);
+    }
+    Ok(())
+}
+
+// Says which steps are shown, where that isn't all of those that are asked for, or how many there
+// are, where it is none.
+fn tell_steps<E: Write>(recorder: &Recorder<Global>, steps: Steps, errors: &mut E) {
+    let all = recorder.steps();
+    let first = steps.first;
+    let last = first.saturating_add(1999);
+    if all < first {
+        let _ = writeln!(errors, "picture: the trace has {all} steps");
+    } else if all.min(steps.last) > last {
+        let _ = writeln!(errors, "picture: shows steps {first} to {last} of {all}");
+    }
+}
+
+// Replays the trace, says on `errors` which steps are shown where that is due, and writes their picture.
+fn draw_steps<S: Source, W: Sink, E: Write>(
+    alloc: Global,
+    reader: &mut S,
+    out: &mut W,
+    errors: &mut E,
+    steps: Steps,
+) -> Result<(), TraceFault>
+    ensures ends { Reads (S.stream reader.old) (S.stream reader.new) (λ input unread.
+        TextEnds recorded (nothing_recorded steps.first steps.last) (picture_of steps.first steps.last)
+        input unread (W.contents out.old) (W.contents out.new) result) }
+    ensures read { result ≡ Err Of.ReadFailed → HasStopped (S.failed reader.new) (S.reads reader.new) }
+    ensures write { result ≡ Err Of.WriteFailed → W.failed out.new ≡ true }
+    ensures kept { (result ≡ Err Of.WriteFailed) ⊎ (W.failed out.new ≡ W.failed out.old) }
+{
+    let Ok(recorder) = Recorder::new(alloc, steps.first, steps.last) else {
+        return Err(TraceFault::NoMemory);
+    };
+    match record(alloc, reader, recorder) {
+        Ok(recorder) => {
+            tell_steps(&recorder, steps, errors);
+            write_picture(alloc, &recorder, steps, out)
+        }
+        Err(fault) => Err(fault),
+    }
+}
+
+// Writes the lives of what was mapped in the run.
+fn write_lives<W: Sink>(
+    alloc: Global,
+    recorder: &ChangeRecorder<Global>,
+    out: &mut W,
+) -> Result<(), TraceFault>
+    ensures ok { OnOk result (Appends (W.contents out.old) (W.contents out.new) (lives_of recorder.now)) }
+    ensures err { IfErr result (λ f. ((f ≡ Of.NoMemory) × Keeps (W.contents out.old) (W.contents out.new))
+        ⊎ ((f ≡ Of.WriteFailed)
+        × AppendsFront (W.contents out.old) (W.contents out.new) (lives_of recorder.now))) }
+    ensures write { result ≡ Err Of.WriteFailed → W.failed out.new ≡ true }
+    ensures kept { (result ≡ Err Of.WriteFailed) ⊎ (W.failed out.new ≡ W.failed out.old) }
+{
+    let Ok(moments) = recorder.moments() else {
+        return Err(TraceFault::NoMemory);
+    };
+    let Ok(text) = draw_lives(alloc, recorder.steps(), moments) else {
+        return Err(TraceFault::NoMemory);
+    };
+    if write_all(out, text.as_slice()).is_err() {
+        return Err(TraceFault::WriteFailed);
+    }
+    Ok(())
+}
+
+// Replays the trace, and writes the lives of its mappings.
+fn draw_all_lives<S: Source, W: Sink>(
+    alloc: Global,
+    reader: &mut S,
+    out: &mut W,
+) -> Result<(), TraceFault>
+    ensures ends { Reads (S.stream reader.old) (S.stream reader.new) (λ input unread.
+        TextEnds changes_recorded nothing_changed lives_of
+        input unread (W.contents out.old) (W.contents out.new) result) }
+    ensures read { result ≡ Err Of.ReadFailed → HasStopped (S.failed reader.new) (S.reads reader.new) }
+    ensures write { result ≡ Err Of.WriteFailed → W.failed out.new ≡ true }
+    ensures kept { (result ≡ Err Of.WriteFailed) ⊎ (W.failed out.new ≡ W.failed out.old) }
+{
+    let recorder = ChangeRecorder::new(alloc);
+    match record(alloc, reader, recorder) {
+        Ok(recorder) => write_lives(alloc, &recorder, out),
+        Err(fault) => Err(fault),
+    }
+}
+
+// Replays the trace, and writes this picture of it.
+fn draw_trace<S: Source, W: Sink, E: Write>(
+    alloc: Global,
+    reader: &mut S,
+    out: &mut W,
+    errors: &mut E,
+    drawing: Drawing,
+) -> Result<(), TraceFault>
+    ensures ends { Reads (S.stream reader.old) (S.stream reader.new) (λ input unread.
+        PictureEnds drawing input unread (W.contents out.old) (W.contents out.new) result) }
+    ensures read { result ≡ Err Of.ReadFailed → HasStopped (S.failed reader.new) (S.reads reader.new) }
+    ensures write { result ≡ Err Of.WriteFailed → W.failed out.new ≡ true }
+    ensures kept { (result ≡ Err Of.WriteFailed) ⊎ (W.failed out.new ≡ W.failed out.old) }
+{
+    match drawing {
+        Drawing::Steps(steps) => draw_steps(alloc, reader, out, errors, steps),
+        Drawing::Lives => draw_all_lives(alloc, reader, out),
+    }
+}
+
+// Prints the fault that there is, and answers the status.
+fn tell_end<E: Write>(ended: Result<(), TraceFault>, errors: &mut E) -> u8
+    ensures value { result ≡ status_of ended }
+    ensures within { result ≤ 3 }
+{
+    let replayed = Replayed::<Global> { ended, lines: None };
+    replayed.tell(errors)
+}
+
+/// Replays the trace, and writes a picture of it: of what happened in these steps, or in the first
+/// 2,000 of them, which is then said on `errors`; or of the lives of mappings over all steps. Prints
+/// a fault, of which there is no picture, as `radixvm: ` and its text, and answers the status: 0, or
+/// that of the fault.
+pub fn picture<S: Source, W: Sink, E: Write>(
+    alloc: Global,
+    reader: &mut S,
+    out: &mut W,
+    errors: &mut E,
+    drawing: Drawing,
+) -> u8
+    ensures ends { (r : Result Unit TraceFault) × (result ≡ status_of r)
+        × Reads (S.stream reader.old) (S.stream reader.new)
+        (λ input unread. PictureEnds drawing input unread (W.contents out.old) (W.contents out.new) r)
+        × TellsFaults r (S.failed reader.new) (S.reads reader.new)
+        (W.failed out.old) (W.failed out.new) (W.is_flushed out.new) }
+    ensures within { result ≤ 3 }
+{
+    let drawn = draw_trace(alloc, reader, out, errors, drawing);
+    match out.flush() {
+        Ok(()) => tell_end(drawn, errors),
+        Err(_) => tell_end(Err(TraceFault::WriteFailed), errors),
+    }
+}
