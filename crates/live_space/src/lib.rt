@@ -16,5 +16,3 @@ mod locking;
 pub mod making;
 mod placing;
 pub mod space;
-#[cfg(test)]
-mod tests;

@@ -1,15 +1,16 @@
 //! The making and the end of a space, and the texts of faults.
-use crate::fault::LiveFault;
-use crate::gate::{Gate, Open, Point};
-use crate::space::Live;
 use backing::FileSpec;
 use core_steps::{Setup, SetupFault};
 use linked_list_allocator::LocalHeap;
+use live_lanes::heaps::fill;
+use live_space::fault::LiveFault;
+use live_space::gate::{Gate, Open, Point};
+use live_space::space::Live;
 use std::alloc::Global;
 use std::test::Fail;
 use vm_base::{CoreId, Mode, NoMemory};
 
-// A setup without files.
+/// A setup without files.
 fn setup(alloc: Global, cores: u64, frames: u64, calls: u64) -> Setup<Global> {
     Setup {
         cores,
@@ -19,13 +20,13 @@ fn setup(alloc: Global, cores: u64, frames: u64, calls: u64) -> Setup<Global> {
     }
 }
 
-// The fault of a setup, if it has one.
+/// The fault of a setup, if it has one.
 fn fault(alloc: Global, cores: u64, frames: u64, calls: u64) -> Option<SetupFault> {
     Live::new(alloc, setup(alloc, cores, frames, calls)).err()
 }
 
-// What a space of 2 cores, 3 frames and 5 calls tells of itself and of its seats, and how many
-// slots it has at its end.
+/// What a space of 2 cores, 3 frames and 5 calls tells of itself and of its seats, and how many
+/// slots it has at its end.
 fn told(alloc: Global) -> Option<(usize, usize, u64, [CoreId; 2], usize)> {
     let (live, seats) = Live::new(alloc, setup(alloc, 2, 3, 5)).ok()?;
     let [first, second] = seats.as_slice() else {
@@ -54,7 +55,7 @@ fn the_first_fault_of_a_setup_is_told(rt: HostRuntime) -> Result<(), Fail> {
     Ok(())
 }
 
-// The fault of a setup of one core with so many files of so many bytes, and with so many calls.
+/// The fault of a setup of one core with so many files of so many bytes, and with so many calls.
 fn fault_of_files(
     alloc: Global,
     count: usize,
@@ -88,7 +89,7 @@ fn files_have_their_faults(rt: HostRuntime) -> Result<(), Fail> {
     Ok(())
 }
 
-// A setup of one core and one frame, in a heap.
+/// A setup of one core and one frame, in a heap.
 fn setup_of_one(heap: &LocalHeap) -> Setup<&LocalHeap> {
     Setup {
         cores: 1,
@@ -98,7 +99,7 @@ fn setup_of_one(heap: &LocalHeap) -> Setup<&LocalHeap> {
     }
 }
 
-// Whether there is room for a space of one core.
+/// Whether there is room for a space of one core.
 fn has_room(heap: &LocalHeap) -> Result<bool, SetupFault> {
     match Live::new(heap, setup_of_one(heap)) {
         Ok(_made) => Ok(true),
@@ -123,19 +124,8 @@ fn heaps_that_are_too_small(rt: HostRuntime) -> Result<(), Fail> {
     Ok(())
 }
 
-// Takes all memory that is free but for pieces of less than 64 bytes.
-fn fill<'h>(heap: &'h LocalHeap, taken: &mut Vec<Vec<u8, &'h LocalHeap>>) -> Result<(), NoMemory> {
-    for _piece in 0..100_000u64 {
-        let Ok(piece) = Vec::with_capacity(heap, 64) else {
-            return Ok(());
-        };
-        taken.push(piece)?;
-    }
-    Ok(())
-}
-
-// Whether the end of a space is refused where memory is full, so that the space comes back, and is
-// made once there is memory.
+/// Whether the end of a space is refused where memory is full, so that the space comes back, and is
+/// made once there is memory.
 fn ends_once_there_is_memory(alloc: Global) -> Result<bool, NoMemory> {
     let heap = LocalHeap::new(alloc, 1_500_000)?;
     let Ok((live, _seats)) = Live::new(&heap, setup_of_one(&heap)) else {
