@@ -1,5 +1,5 @@
 -- A run that is followed note by note, and the slots beside it
-use Rattle.std.proofs.Common.{◌≡◌, ◌≢◌, ℕ, ◌+◌, ◌<◌, ◌≤◌, Bool, true, false, List, [], ◌∷◌, ◌++◌, refl, sym, subst, ap}
+use Rattle.std.proofs.Common.{◌≡◌, ◌≢◌, ℕ, ◌+◌, ◌<◌, ◌≤◌, Bool, true, false, List, [], ◌∷◌, refl, sym, subst, ap}
 use Rattle.std.proofs.Common.{◌∙◌, ⊎_elim, arith, length, get_or, Option}
 use Rattle.std.specs.Prelude.{count_by}
 use Rattle.std.proofs.lemmas.Bool.{cases_lt}
@@ -9,7 +9,6 @@ use Rattle.vm_base.specs.Functions.{put}
 use Rattle.vm_base.proofs.Functions.{put_other, put_same}
 use Rattle.slot_lock.specs.Slots.{Slots}
 use Rattle.live_levels.specs.declared.close.SlotHistory.{SlotHistory}
-use Rattle.machine_model.specs.declared.event.Event.{Event}
 use Rattle.machine_model.specs.declared.event.Outcome.{Outcome}
 use Rattle.machine_model.specs.Holding.{some_has}
 use Rattle.machine_model.specs.World.{World, new_world}
@@ -19,14 +18,15 @@ use Rattle.machine_sound.proofs.Kept.{runs_sound}
 use Rattle.core_steps.specs.declared.setup.Setup.{Setup}
 use Rattle.core_steps.specs.Changing.{may_change}
 use Rattle.core_steps.specs.Running.{RunsAsMap}
-use Rattle.core_steps.specs.Setups.{fault_of, made_of}
+use Rattle.core_steps.specs.Setups.{made_of}
 use Rattle.core_steps.proofs.Keeping.{keeps}
+use Rattle.core_steps.proofs.Reached.{few_cores}
 use Rattle.seats.specs.declared.noted.Noted.{Noted}
 use Rattle.certifier.specs.declared.looks.Look.{Look}
 use Rattle.certifier.specs.declared.result.CertifyFault.{CertifyFault}
 use Rattle.certifier.specs.declared.result.CertifyFault.TheVariants as By
-use Rattle.certifier.specs.Following.{events_of, outcomes_of, answers_call, maps_of, one_if, AreStates, Fails, GoesAstray}
-use Rattle.certifier.specs.Following.{IsCertified, IsNewTree, Leads, NoteLeads, Refuses}
+use Rattle.certifier.specs.Following.{events_of, outcomes_of, answers_call, maps_of, one_if, AreStates, Fails}
+use Rattle.certifier.specs.Following.{IsCertified, IsOpening, Leads, NoteLeads, Refuses}
 use Rattle.certifier.specs.Histories.{AllGoAlong, IsFirstAstray, IsPageOf}
 use Rattle.certifier.specs.Looks.{AreLooked, IsCaughtUp}
 use Rattle.certifier.specs.Order.{AreNumbered, in_order, with_ticket}
@@ -122,60 +122,69 @@ module _ {A : Type 0} (P : PageRange → ℕ → ℕ → Bool) (C : Slots → �
 
 -- ---- what it comes to
 
-module _ {A : Type 0} (P : PageRange → ℕ → ℕ → Bool) (C : Slots → ℕ → Type 0) (F : Slots → Slots → ℕ → Type 0) (setup : Setup A) (slots : Slots)
+module _ {A : Type 0} (P : PageRange → ℕ → ℕ → Bool) (C : Slots → ℕ → Type 0) (F : Slots → Slots → ℕ → Type 0) (setup : Setup A) (first : World)
     (notes : List Noted) (histories : List (SlotHistory A)) where
-  -- a note that the machine refuses
-  pub refused : (n t : ℕ) (w : World) (looks : List Look) (calls : ℕ) (x : Noted) (fault : CertifyFault) → fault_of setup ≡ Option.None → AreNumbered notes
-      → IsNewTree slots → with_ticket t notes ≡ x ∷ [] → Followed P C F (new_world (made_of setup) slots) notes n histories t w looks calls
-      → Refuses P C F w x t fault → Fails P C F setup notes histories fault
-  refused n t w looks calls x (By.Differs ticket noted expected) sound numbered new is h r =
-      rw (r.0, r.1) (
-        sound,
-        numbered,
-        differs P C F setup slots notes t x w r.3.0 expected new is
-            (subst (λ (o : Outcome). expected ≢ o) r.1 r.2) h.as_map r.3.1.step r.3.1.joins r.3.1.divides,
-      )
-  refused n t w looks calls x By.NoMemory sound numbered new is h r = sound
-  refused n t w looks calls x (By.Setup fault) sound numbered new is h r = absurd r
-  refused n t w looks calls x (By.Ticket ticket) sound numbered new is h r = absurd r
-  refused n t w looks calls x (By.Slot page) sound numbered new is h r = absurd r
+  -- up to this ticket, from a new machine of the setup
+  opened : (n t k : ℕ) (w : World) (looks : List Look) (calls : ℕ) → (o : IsOpening setup first) → t ≡ k → Followed P C F first notes n histories t w looks calls
+      → Followed P C F (new_world (made_of setup) o.slots) notes n histories k w looks calls
+  opened n t k w looks calls o e h =
+      subst (λ (v : World). Followed P C F v notes n histories k w looks calls) o.is
+      (subst (λ u. Followed P C F first notes n histories u w looks calls) e h)
 
-  pub astray : (n : ℕ) (w : World) (looks : List Look) (calls page : ℕ) → fault_of setup ≡ Option.None → AreNumbered notes → IsNewTree slots → n ≡ length notes
-      → Followed P C F (new_world (made_of setup) slots) notes n histories n w looks calls
+  -- a note that the machine refuses
+  pub refused : (n t : ℕ) (w : World) (looks : List Look) (calls : ℕ) (x : Noted) (fault : CertifyFault) → IsOpening setup first → AreNumbered notes
+      → with_ticket t notes ≡ x ∷ [] → Followed P C F first notes n histories t w looks calls
+      → Refuses P C F w x t fault → Fails P C F setup notes histories fault
+  refused n t w looks calls x (By.Differs ticket noted expected) o numbered is h r =
+      rw (r.0, r.1) (
+        o.sound,
+        numbered,
+        differs P C F setup o.slots notes t x w r.3.0 expected o.new is
+            (subst (λ (u : Outcome). expected ≢ u) r.1 r.2) (opened n t t w looks calls o refl h).as_map r.3.1.step r.3.1.joins r.3.1.divides,
+      )
+  refused n t w looks calls x By.NoMemory o numbered is h r = o.sound
+  refused n t w looks calls x (By.Setup fault) o numbered is h r = absurd r
+  refused n t w looks calls x (By.Ticket ticket) o numbered is h r = absurd r
+  refused n t w looks calls x (By.Slot page) o numbered is h r = absurd r
+
+  pub astray : (n t : ℕ) (w : World) (looks : List Look) (calls page : ℕ) → IsOpening setup first → AreNumbered notes → n ≡ length notes → t ≡ n
+      → Followed P C F first notes n histories t w looks calls
       → ((maps : ℕ → ℕ → Option PageInfo) → AreLooked n maps w.slots.info n histories looks → IsFirstAstray n maps histories page)
       → Fails P C F setup notes histories (By.Slot page)
-  astray n w looks calls page sound numbered new e h first = (
-    sound,
-    numbered,
-    record {
-      slots = slots;
-      new = new;
-      states = h.states;
-      are_states = subst (λ k. AreStates P C F (new_world (made_of setup) slots) notes k h.states) e h.are_states;
-      first = subst (λ k. IsFirstAstray k (maps_of h.states) histories page) e (first (maps_of h.states) h.looked);
-    },
-  )
+  astray n t w looks calls page o numbered e end h strays =
+      let all = opened n t n w looks calls o end h in (
+        o.sound,
+        numbered,
+        record {
+          slots = o.slots;
+          new = o.new;
+          states = all.states;
+          are_states = subst (λ k. AreStates P C F (new_world (made_of setup) o.slots) notes k all.states) e all.are_states;
+          first = subst (λ k. IsFirstAstray k (maps_of all.states) histories page) e (strays (maps_of all.states) all.looked);
+        },
+      )
 
-  pub certified : (n : ℕ) (w : World) (looks : List Look) (calls : ℕ) → (made_of setup).cores ≤ 64 → AreNumbered notes → IsNewTree slots → n ≡ length notes
-      → Followed P C F (new_world (made_of setup) slots) notes n histories n w looks calls
+  pub certified : (n t : ℕ) (w : World) (looks : List Look) (calls : ℕ) → IsOpening setup first → AreNumbered notes → n ≡ length notes → t ≡ n
+      → Followed P C F first notes n histories t w looks calls
       → ((maps : ℕ → ℕ → Option PageInfo) → AreLooked n maps w.slots.info n histories looks → AllGoAlong n maps histories)
       → IsCertified P C F setup notes histories calls
-  certified n w looks calls few numbered new e h along =
-      let opening = new_world (made_of setup) slots in
-      let all = subst (λ k. Followed P C F opening notes k histories k w looks calls) e h in
+  certified n t w looks calls o numbered e end h along =
+      let opening = new_world (made_of setup) o.slots in
+      let few = few_cores setup o.sound in
+      let all = subst (λ k. Followed P C F opening notes k histories k w looks calls) e (opened n t n w looks calls o end h) in
       let each = subst (λ k. (maps : ℕ → ℕ → Option PageInfo) → AreLooked k maps w.slots.info k histories looks → AllGoAlong k maps histories) e along in
       let es = events_of (in_order (length notes) notes) in
       let os = outcomes_of (in_order (length notes) notes) in
       record {
         numbered = numbered;
-        slots = slots;
-        new = new;
+        slots = o.slots;
+        new = o.new;
         run = record {
           end = w;
           run = all.run;
           as_map = all.as_map;
-          brackets = bracketed (made_of setup) slots es os w few new.new all.run;
-          sound = runs_sound (made_of setup) slots es os w few new.new all.run;
+          brackets = bracketed (made_of setup) o.slots es os w few o.new.new all.run;
+          sound = runs_sound (made_of setup) o.slots es os w few o.new.new all.run;
           calls = all.calls;
         };
         states = all.states;

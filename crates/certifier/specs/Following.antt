@@ -102,6 +102,13 @@ pub record IsNewTree (slots : Slots) : Type 0 where
   pub new : IsNew slots
   pub edges : slots.edge ≡ root_edges
 
+-- a new machine of the setup, which makes one, has this state over some new tree
+pub record IsOpening {A : Type 0} (setup : Setup A) (w : World) : Type 0 where
+  pub sound : fault_of setup ≡ None
+  pub slots : Slots
+  pub new : IsNewTree slots
+  pub is : w ≡ new_world (made_of setup) slots
+
 -- All these notes have the tickets below their number, each once, and in order of tickets they are a
 -- run of a new machine, along which each of the slots went that has valid pages.
 pub record IsCertified {A : Type 0} (parts : PageRange → ℕ → ℕ → Bool) (CanFold : Slots → ℕ → Type 0)

@@ -1,13 +1,17 @@
 //! Notes in order of their tickets, given to a machine one after another.
-ghost use Rattle.std.specs.Prelude.{◌≡◌, ◌≢◌, ◌≤◌, ◌<◌, ℕ, true, false, IfOk, IfErr, None, length, map, get_or};
+ghost use Rattle.std.specs.Prelude.{◌≡◌, ◌≢◌, ◌≤◌, ◌<◌, ℕ, true, false, IfOk, IfErr, None, Option, length, map, get_or};
+ghost use Rattle.vm_base.specs.declared.info.PageInfo.{PageInfo};
 ghost use Rattle.core_steps.specs.Machine.{state};
+ghost use Rattle.core_steps.specs.declared.setup.Setup.{Setup};
 ghost use Rattle.core_steps.specs.Setups.{fault_of};
 ghost use Rattle.certifier.specs.declared.order.Standing.TheVariants as StandingOf;
-ghost use Rattle.certifier.specs.Following.{IsCertified, IsNewTree, Fails, Leads, Refuses, answers_call, one_if};
+ghost use Rattle.certifier.specs.Following.{IsCertified, IsNewTree, IsOpening, Fails, Leads, Refuses, answers_call, one_if};
 ghost use Rattle.certifier.specs.Histories.{AreInOrder};
+ghost use Rattle.certifier.specs.Looks.{AreLooked};
 ghost use Rattle.certifier.specs.Order.{all_notes};
 ghost use Rattle.certifier.specs.Standings.{AreStandings, is_once};
 
+use crate::looks::Look;
 use crate::order::{Standing, note_of};
 use crate::result::{Certified, CertifyFault};
 use crate::watch::{first_astray, first_looks, look_before};
@@ -63,6 +67,47 @@ fn take_note<M: SlotMap, A: Allocator + Clone, L: Ledger>(
     Ok(answers(note))
 }
 
+/// Gives each noted event, in order of tickets, to the machine, and looks at the slots beside it. Tells
+/// whether the notes are certified for the setups of which it is a new machine.
+fn follow_notes<M: SlotMap, A: Allocator + Clone, L: Ledger>(
+    machine: &mut Machine<M, A, L>,
+    looks: &mut Vec<Look, A>,
+    seats: &[&[Noted]],
+    standings: &[Standing],
+    histories: &[SlotHistory<A>],
+) -> Result<Certified, CertifyFault>
+    requires standings { AreStandings (map (λ s. s.now) seats.now) standings.now }
+    requires once { (t : ℕ) → t < length standings.now
+        → is_once (get_or standings.now t StandingOf.No) ≡ true }
+    requires order { AreInOrder histories.now }
+    requires looks { (maps : ℕ → ℕ → Option PageInfo) (now : ℕ → Option PageInfo)
+        → AreLooked (length standings.now) maps now 0 histories.now looks.old.items }
+    ensures ok { IfOk result (λ done. (setup : Setup A) → IsOpening setup (state machine.old)
+        → IsCertified M.parts M.can_fold M.folds setup
+        (all_notes (map (λ s. s.now) seats.now)) histories.now done.calls) }
+    ensures err { IfErr result (λ fault. (setup : Setup A) → IsOpening setup (state machine.old)
+        → Fails M.parts M.can_fold M.folds setup
+        (all_notes (map (λ s. s.now) seats.now)) histories.now fault) }
+{
+    let mut calls = 0u64;
+    'tickets: for at in 0..standings.len() {
+        // (each stands once, so that this doesn't come)
+        let Standing::Once(place) = standings[at] else {
+            return Err(CertifyFault::NoMemory);
+        };
+        let note = note_of(seats, place);
+        look_before(machine, histories, looks, note.event, at as u64);
+        calls += match take_note(machine, &note, at as u64) {
+            Ok(few) => few,
+            Err(fault) => return Err(fault),
+        };
+    }
+    match first_astray(machine, histories, looks, standings.len() as u64) {
+        Some(page) => Err(CertifyFault::Slot { page }),
+        None => Ok(Certified { calls }),
+    }
+}
+
 /// Gives each noted event, in order of tickets, to a new machine over a new tree of slots. The notes are
 /// certified where each ticket stands once, each event comes to just the outcome that was noted, and
 /// the slots went along.
@@ -85,32 +130,15 @@ pub fn follow<M: SlotMap + Drop, A: Allocator + Clone + Drop, L: Opening<A> + Dr
     ensures err { IfErr result (λ fault. Fails M.parts M.can_fold M.folds setup
         (all_notes (map (λ s. s.now) seats.now)) histories.now fault) }
 {
-    let n = standings.len() as u64;
     let Ok(own) = alloc.clone() else {
         return Err(CertifyFault::NoMemory);
     };
-    let Ok(mut looks) = first_looks(own, histories, n) else {
+    let Ok(mut looks) = first_looks(own, histories, standings.len() as u64) else {
         return Err(CertifyFault::NoMemory);
     };
     let mut machine = match Machine::<M, A, L>::new(alloc, slots, setup) {
         Ok(machine) => machine,
         Err(_) => return Err(CertifyFault::NoMemory),
     };
-    let mut calls = 0u64;
-    'tickets: for at in 0..standings.len() {
-        // (each stands once, so that this doesn't come)
-        let Standing::Once(place) = standings[at] else {
-            return Err(CertifyFault::NoMemory);
-        };
-        let note = note_of(seats, place);
-        look_before(&machine, histories, &mut looks, note.event, at as u64);
-        calls += match take_note(&mut machine, &note, at as u64) {
-            Ok(few) => few,
-            Err(fault) => return Err(fault),
-        };
-    }
-    match first_astray(&machine, histories, &mut looks, n) {
-        Some(page) => Err(CertifyFault::Slot { page }),
-        None => Ok(Certified { calls }),
-    }
+    follow_notes(&mut machine, &mut looks, seats, standings, histories)
 }

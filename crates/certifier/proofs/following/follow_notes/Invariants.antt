@@ -1,13 +1,11 @@
 use Rattle.std.proofs.Common.{map, length}
 use Rattle.core_steps.specs.Machine.{state}
-use Rattle.core_steps.specs.Setups.{made_of}
-use Rattle.machine_model.specs.World.{new_world}
 use Rattle.certifier.specs.Order.{all_notes}
 use Rattle.certifier.proofs.Followed.{Followed}
-use Rattle.certifier.proofs.following.follow.Given as goal
+use Rattle.certifier.proofs.following.follow_notes.Given as goal
 
 -- the notes with tickets so far were followed
 abbrev pub invariant-tickets : goal.invariant-tickets
 invariant-tickets g l = Followed g.M.SlotMap.parts g.M.SlotMap.can_fold g.M.SlotMap.folds
-    (new_world (made_of l.fn.setup) (g.M.SlotRead.slots l.fn.slots)) (all_notes (map (λ s. s.now) l.seats)) (length l.standings)
+    (state l.fn.machine) (all_notes (map (λ s. s.now) l.seats)) (length l.standings)
     l.histories l.at (state l.machine) l.looks.items l.calls
