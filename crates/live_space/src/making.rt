@@ -2,6 +2,8 @@
 ghost use Rattle.std.specs.Prelude.{◌≡◌, ◌<◌, ◌≤◌, [], None, IfOk, IfErr, length, All};
 ghost use Rattle.std.specs.Arc.{arc_value};
 ghost use Rattle.tickets.specs.Tickets.{IsNew};
+ghost use Rattle.backing.specs.Files.{files_of};
+ghost use Rattle.backing.specs.Given.{given_files};
 ghost use Rattle.vm_base.specs.Pages.{page_count};
 ghost use Rattle.core_steps.specs.Setups.{IsFirstFault, fault_of};
 ghost use Rattle.live_space.specs.Space.{AreFresh, IsMade, IsOf};
@@ -60,15 +62,13 @@ fn make<A: Allocator + Clone>(
     let count = cores as u8;
     let number = frames as u32;
     let share = calls / cores;
-    let epochs = Epochs::new(count);
-    let pages = new_pages(&alloc, &files)?;
-    let objects = Objects::new(alloc.clone()?, files)?;
-    let (tickets, first) = Tickets::new(alloc.clone()?)?;
-    let tickets = Arc::new(alloc.clone()?, tickets)?;
-    let seats = new_seats(&alloc, &tickets, first, count)?;
+    let opened = open_files(&alloc, files)?;
+    let seating = new_seating(&alloc, count)?;
     let states = new_cores(&alloc, count, number)?;
     let cells = new_frames(&alloc, number)?;
     let tree = SharedTree::new(alloc)?;
+    let Opened { objects, pages } = opened;
+    let Seating { tickets, seats } = seating;
     let live = Live {
         tickets,
         tree,
@@ -76,10 +76,49 @@ fn make<A: Allocator + Clone>(
         pages,
         cores: states,
         frames: cells,
-        epochs: CachePadded::new(Mutex::new(epochs)),
+        epochs: CachePadded::new(Mutex::new(Epochs::new(count))),
         share,
     };
     Ok((live, seats))
+}
+
+// The files as they are opened, and the pages of each.
+#[derive(Drop)]
+struct Opened<A: Allocator> {
+    objects: Objects<A>,
+    pages: Vec<Vec<Mutex<CachedFrame>, A>, A>,
+}
+
+// Opens the files, none of whose pages a frame caches. Their bytes are moved, not copied.
+fn open_files<A: Allocator + Clone>(
+    alloc: &A,
+    files: Vec<FileSpec<A>, A>,
+) -> Result<Opened<A>, NoMemory>
+    requires { length files.items ≤ 16 }
+    ensures files { IfOk result (λ opened. files_of opened.objects ≡ given_files files.items) }
+    ensures pages { IfOk result (λ opened. length opened.pages.items ≡ length files.items) }
+{
+    let pages = new_pages(alloc, &files)?;
+    let objects = Objects::new(alloc.clone()?, files)?;
+    Ok(Opened { objects, pages })
+}
+
+// The word from which tickets are drawn, and the seats that draw from it.
+#[derive(Drop)]
+struct Seating<A: Allocator> {
+    tickets: Arc<Tickets<A>, A>,
+    seats: Vec<Seat<A>, A>,
+}
+
+// A new word, and so many seats of it, which have noted nothing, by their cores.
+fn new_seating<A: Allocator + Clone>(alloc: &A, count: u8) -> Result<Seating<A>, NoMemory>
+    requires { (1 ≤ count) × (count ≤ 64) }
+    ensures { IfOk result (λ made. AreFresh (arc_value made.tickets) count made.seats.items) }
+{
+    let (tickets, first) = Tickets::new(alloc.clone()?)?;
+    let tickets = Arc::new(alloc.clone()?, tickets)?;
+    let seats = new_seats(alloc, &tickets, first, count)?;
+    Ok(Seating { tickets, seats })
 }
 
 // So many seats of one word, which have noted nothing, by their cores.

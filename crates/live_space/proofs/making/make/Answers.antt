@@ -1,16 +1,24 @@
 use Rattle.std.proofs.Common.{rules}
+use Rattle.core_steps.specs.declared.setup.CallLimit.TheVariants.{Usual}
+use Rattle.core_steps.proofs.Setups.{few_cores_within}
 use Rattle.live_space.proofs.Own.{fresh_own}
 use Rattle.live_space.proofs.making.make.Goals as goal
+
+pub new_cores-requires : goal.new_cores-requires
+new_cores-requires g c = few_cores_within Usual c.args.setup c.requires
+
+pub new-requires-2 : goal.new-requires-2
+new-requires-2 g c = few_cores_within Usual c.args.setup c.requires
 
 pub returns-clause-made : goal.returns-clause-made
 returns-clause-made g c = record {
   sound = c.requires;
   cores = c.in_ok-states.ensures;
   frames = c.in_ok-cells.ensures;
-  file = c.in_ok-objects.ensures.files;
+  file = c.in_ok-opened.ensures.files;
   share = search rules;
-  seats = c.in_ok-seats.ensures;
+  seats = c.in_ok-seating.ensures;
 }
 
 pub returns-clause-own : goal.returns-clause-own
-returns-clause-own g c = fresh_own _ _ _ c.in_ok-states.ensures c.in_ok-seats.ensures
+returns-clause-own g c = fresh_own _ _ _ c.in_ok-states.ensures c.in_ok-seating.ensures
