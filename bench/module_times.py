@@ -9,16 +9,16 @@ import pathlib
 import re
 import sys
 
-PARTS = "Answers Code Given Goals Invariants Key Kinds Lts Met Proof Reads Statement Tie".split()
+PARTS = "Answers Carried Code Given Goals Invariants Key Kinds Layout Lts Met Mir Named Proof Reads Statement Symbol TheLink Tie View".split()
 
 
 def module_of(path):
     """The module of a file: its part of a function, and whose it is."""
-    name = re.sub(r"(\.decls)?\.oantt$", "", path.name)
-    whose, _, part = name.rpartition(".")
-    if part in PARTS:
-        return part, whose
-    return ("lemmas" if "-proofs." in name else "specs" if "-specs" in name else "rest"), name
+    whose = re.sub(r"(\.decls)?\.oantt$", "", path.name)
+    part = "lemmas" if "-proofs." in whose else "specs" if "-specs" in whose else "rest"
+    while (found := whose.rpartition("."))[2].split("-")[0] in PARTS:
+        whose, part = found[0], found[2].split("-")[0]
+    return part, whose
 
 
 def tell(title, counts, count):

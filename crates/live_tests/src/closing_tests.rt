@@ -58,28 +58,40 @@ pub fn are_answered<R: Wait, A: Allocator + Clone>(
     true
 }
 
+/// A space of one core in which a page is mapped.
+pub fn with_a_page<R: Wait, A: Allocator + Clone>(rt: &R, alloc: A) -> Option<Alone<A>> {
+    let mut alone = alone_in(alloc)?;
+    if are_answered(rt, &mut alone, "c0! mmap 0x10000 4096 rw- pfa") {
+        Some(alone)
+    } else {
+        None
+    }
+}
+
+/// How many slots such a space has at its end, if it answers one more call and ends.
+pub fn slots_at_end<R: Wait, A: Allocator + Clone>(rt: &R, mut alone: Alone<A>) -> Option<usize> {
+    if !are_answered(rt, &mut alone, "c0! munmap 0x10000 4096") {
+        return None;
+    }
+    let (_, histories) = alone.close().ok()?;
+    Some(histories.slots().len())
+}
+
 /// How many slots a space has at its end, which is refused first where memory is full: then the same
 /// space answers a call, and ends once there is memory.
 fn slots_after_a_refused_end<R: Wait>(rt: &R, alloc: Global) -> Result<Option<usize>, NoMemory> {
     let heap = LocalHeap::new(alloc, AMPLE)?;
-    let Some(mut alone) = alone_in(&heap) else {
+    let Some(alone) = with_a_page(rt, &heap) else {
         return Ok(None);
     };
-    if !are_answered(rt, &mut alone, "c0! mmap 0x10000 4096 rw- pfa") {
-        return Ok(None);
-    }
     let mut taken = Vec::new(alloc);
     fill(&heap, &mut taken)?;
-    let Err(mut alone) = alone.close() else {
-        return Ok(None);
-    };
-    taken.clear();
-    if !are_answered(rt, &mut alone, "c0! munmap 0x10000 4096") {
-        return Ok(None);
-    }
     match alone.close() {
-        Ok((_, histories)) => Ok(Some(histories.slots().len())),
-        Err(_) => Ok(None),
+        Ok(_) => Ok(None),
+        Err(alone) => {
+            taken.clear();
+            Ok(slots_at_end(rt, alone))
+        }
     }
 }
 

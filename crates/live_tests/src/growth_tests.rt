@@ -1,5 +1,5 @@
 //! Spaces that are made, and that end, where memory is full and given back bit by bit.
-use crate::closing_tests::{alone_in, are_answered};
+use crate::closing_tests::{slots_at_end, with_a_page};
 use crate::starved_tests::Came;
 use core_steps::SetupFault;
 use linked_list_allocator::LocalHeap;
@@ -41,23 +41,18 @@ fn made(alloc: Global, given: usize) -> Result<Came, NoMemory> {
 /// answers a call, and ends once there is memory.
 fn ended<R: Wait>(rt: &R, alloc: Global, given: usize) -> Result<Came, NoMemory> {
     let heap = LocalHeap::new(alloc, AMPLE)?;
-    let Some(mut alone) = alone_in(&heap) else {
+    let Some(alone) = with_a_page(rt, &heap) else {
         return Ok(Came::Otherwise);
     };
-    if !are_answered(rt, &mut alone, "c0! mmap 0x10000 4096 rw- pfa") {
-        return Ok(Came::Otherwise);
-    }
     let mut taken = Vec::new(alloc);
     fill_but(&heap, &mut taken, given)?;
-    let Err(mut alone) = alone.close() else {
+    let Err(alone) = alone.close() else {
         return Ok(Came::Answered);
     };
     taken.clear();
-    let is_answered = are_answered(rt, &mut alone, "c0! munmap 0x10000 4096");
-    if is_answered && alone.close().is_ok() {
-        Ok(Came::Refused)
-    } else {
-        Ok(Came::Otherwise)
+    match slots_at_end(rt, alone) {
+        Some(_) => Ok(Came::Refused),
+        None => Ok(Came::Otherwise),
     }
 }
 

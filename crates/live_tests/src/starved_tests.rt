@@ -1,4 +1,7 @@
 //! Calls of spaces whose memory is full, and given back bit by bit.
+ghost use Rattle.std.specs.Prelude.{All};
+ghost use Rattle.live_space.specs.Space.{IsOf};
+
 use linked_list_allocator::LocalHeap;
 use live_lanes::ending::certified;
 use live_lanes::heaps::{AMPLE, fill};
@@ -7,6 +10,7 @@ use live_lanes::script::{request_of, setup_of};
 use live_space::fault::LiveFault;
 use live_space::gate::Open;
 use live_space::space::Live;
+use seats::Seat;
 use std::alloc::Global;
 use std::sync::Wait;
 use std::test::Fail;
@@ -82,6 +86,24 @@ fn call_both<'h, R: Wait>(
     Ok((came, is_answered))
 }
 
+/// What came of the calls on this space, and its seats behind them.
+fn called<'h, R: Wait>(
+    rt: &R,
+    alloc: Global,
+    heap: &'h LocalHeap,
+    live: &Live<&'h LocalHeap>,
+    seats: Vec<Seat<&'h LocalHeap>, &'h LocalHeap>,
+    calls: Calls<'_>,
+    given: usize,
+) -> Result<((Came, bool), Vec<Seat<&'h LocalHeap>, Global>), NoMemory>
+    requires { All (IsOf live.now) seats.items }
+{
+    let mut lanes = lanes_of(alloc, live, seats)?;
+    let came = call_both(rt, alloc, heap, lanes.as_mut_slice(), calls, given)?;
+    let seats = seats_of(alloc, lanes)?;
+    Ok((came, seats))
+}
+
 /// What came of the calls on a space of its own: the starved one, whether the second seat's were
 /// answered, and whether the notes are certified.
 fn told<R: Wait>(
@@ -95,9 +117,7 @@ fn told<R: Wait>(
     let Ok((live, seats)) = Live::new(&heap, setup_of(&heap, script)?) else {
         return Err(NoMemory);
     };
-    let mut lanes = lanes_of(alloc, &live, seats)?;
-    let (came, is_answered) = call_both(rt, alloc, &heap, lanes.as_mut_slice(), calls, given)?;
-    let seats = seats_of(alloc, lanes)?;
+    let ((came, is_answered), seats) = called(rt, alloc, &heap, &live, seats, calls, given)?;
     let is_certified = certified(&heap, setup_of(&heap, script)?, live, &seats).is_ok();
     Ok((came, is_answered, is_certified))
 }
@@ -194,6 +214,26 @@ fn answered<R: Wait>(rt: &R, lane: &mut Lane<'_, &LocalHeap>, times: usize) -> u
     times
 }
 
+/// How many calls of one page the last lane has answered in a row once no memory is left, after 40 of
+/// each with ample memory.
+fn answered_by_last<'h, R: Wait>(
+    rt: &R,
+    alloc: Global,
+    heap: &'h LocalHeap,
+    lanes: &mut [Lane<'_, &'h LocalHeap>],
+) -> Result<usize, NoMemory> {
+    let mut taken = Vec::new(alloc);
+    let mut count = 0usize;
+    for lane in lanes {
+        if answered(rt, lane, 40) != 40 {
+            return Ok(0);
+        }
+        fill(heap, &mut taken)?;
+        count = answered(rt, lane, 1_000);
+    }
+    Ok(count)
+}
+
 /// How many calls of one page are answered in a row where no memory is left, after 40 with ample
 /// memory: by then the lists of notes and of the slot's changes have room, since they grow by
 /// doubling.
@@ -204,16 +244,7 @@ fn answered_without_memory<R: Wait>(rt: &R, alloc: Global) -> Result<usize, NoMe
         return Err(NoMemory);
     };
     let mut lanes = lanes_of(alloc, &live, seats)?;
-    let mut taken = Vec::new(alloc);
-    let mut count = 0usize;
-    for lane in lanes.as_mut_slice() {
-        if answered(rt, lane, 40) != 40 {
-            return Ok(0);
-        }
-        fill(&heap, &mut taken)?;
-        count = answered(rt, lane, 1_000);
-    }
-    Ok(count)
+    answered_by_last(rt, alloc, &heap, lanes.as_mut_slice())
 }
 
 // Each takes no memory but for its notes and for its page's change, until a list is full.
