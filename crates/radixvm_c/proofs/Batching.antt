@@ -8,11 +8,12 @@ use Rattle.core_steps.specs.Moving.{MayWant}
 use Rattle.radixvm_c.specs.declared.batch.Stop.{Stop}
 use Rattle.radixvm_c.specs.declared.batch.Stop.TheVariants.{BadEvent, NoMemory}
 use Rattle.machine_model.specs.World.{World, Made, new_world}
-use Rattle.machine_sound.proofs.Kept.{run_more, reached_opening}
+use Rattle.machine_laws.proofs.Bracketed.{bracketed}
+use Rattle.machine_sound.proofs.Kept.{run_more, runs_sound, reached_opening}
 use Rattle.slot_lock.specs.Slots.{Slots, IsNew}
 use Rattle.core_steps.specs.Machine.{IsLegal}
 use Rattle.core_steps.proofs.Reached.{legal}
-use Rattle.core_steps.proofs.Runs.{all_plain, all_bracketed, all_sound}
+use Rattle.core_steps.proofs.Runs.{plainly}
 use Rattle.radixvm_c.specs.declared.batch.Ended.{Ended}
 use Rattle.radixvm_c.specs.declared.opening.RawSetup.{RawSetup}
 use Rattle.radixvm_c.specs.declared.opening.RawFile.{RawFile}
@@ -148,9 +149,9 @@ ran_new setup files buffer raws was ended told made slots v is new h stops = rec
   last = v;
   runs = h;
   stops = stops;
-  plain = all_plain made slots h.events h.events h.outcomes v is.few new refl h.run;
-  brackets = all_bracketed made slots h.events h.events h.outcomes v is.few new refl h.run;
-  sound = all_sound made slots h.events h.events h.outcomes v is.few new refl h.run;
+  plain = plainly made slots h.events h.outcomes v is.few new h.run;
+  brackets = bracketed made slots h.events h.outcomes v is.few new h.run;
+  sound = runs_sound made slots h.events h.outcomes v is.few new h.run;
 }
 
 pub ran : (setup : RawSetup) (files : List RawFile) (buffer : List ℕ) (raws : List RawEvent) (was : List RawOutcome) (ended : Ended) (told : List RawOutcome)
