@@ -51,6 +51,7 @@ const ACTIONS: &str = "\
 c7 call load 0 => Some(Act(CoreId { index: 7 }, Call(Load { addr: 0 })))
 c63 go => Some(Act(CoreId { index: 63 }, Go))
 c1  take => Some(Act(CoreId { index: 1 }, Take))
+c63 take => Some(Act(CoreId { index: 63 }, Take))
 c0 flush  => Some(Act(CoreId { index: 0 }, Flush))
 c0 review => Some(Act(CoreId { index: 0 }, Review))
 c2 giveup => Some(Act(CoreId { index: 2 }, GiveUp))
@@ -68,6 +69,7 @@ c0 evict 0xffffffffffffffff => Some(Act(CoreId { index: 0 }, Evict(4503599627370
 /// Other lines, those that say nothing, and two bad ones that end in a space.
 const OTHERS: &str = "\
 c10 finish  => Some(Finish(CoreId { index: 10 }))
+c9 finish => Some(Finish(CoreId { index: 9 }))
 fold 0x1000 => Some(Fold(1))
 fold 4095 => Some(Fold(0))
  => Some(Blank)
@@ -159,6 +161,9 @@ c0 takes
 c0 Take
 c0 give up
 c0 take 1
+c0 finis
+c0 finish 1
+c64 finish
 c0 flush 0
 c0 review c1
 c0 giveup now

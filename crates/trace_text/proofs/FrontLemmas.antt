@@ -14,6 +14,7 @@ use Rattle.trace_text.specs.Number.{digit_of, value_from, below_word, number_of}
 use Rattle.trace_text.specs.Request.{◌>>=◌, ended, front_byte, front_number, load_of, store_of, fetch_of, mmap_of, munmap_of, mprotect_of, request_of}
 use Rattle.trace_text.specs.Front.{BeginsCore, BeginsNow, EndsValue, NamesByOne, NamesByTwo}
 use Rattle.trace_text.specs.Line.{act_of, are_printable, core_of, is_comment, line_of, line_of_words, now_of, task_of}
+use Rattle.trace_text.specs.declared.line.Line.{Line}
 use Rattle.trace_text.specs.declared.line.Line.TheVariants.{Act, Now}
 use Rattle.trace_text.proofs.CoreLemmas.{core_all, two_digits}
 use Rattle.trace_text.proofs.LineLemmas.{acts, now_read}
@@ -23,7 +24,6 @@ use Rattle.trace_text.proofs.BytesLemmas.{append_has, decimal_has}
 use Rattle.trace_text.proofs.WordLemmas.{one_word, unspaced, words-front, words_join}
 use Rattle.trace_text.specs.Action.{action_of, evict_of, walk_of}
 use Rattle.trace_text.specs.declared.action.Action.{Action}
-use Rattle.trace_text.specs.declared.action.Action.TheVariants.{Flush, Review}
 use Rattle.vm_base.specs.declared.requests.Request.{Request}
 use Rattle.vm_base.specs.declared.requests.Request.TheVariants.{Load, Store}
 
@@ -271,9 +271,9 @@ told_words : (core : ℕ) (args : List ℕ) → core < 64 → words_of (99 ∷ (
 told_words core args small =
     words_join (99 ∷ decimal core) args ∙ ap (λ l. l ++ words_of args) (one_word 99 (decimal core) (core_unspaced core small))
 
-pub told_some : (bytes args : List ℕ) (core : ℕ) (action : Action) → BeginsCore bytes core args → Some (Act core action) ≡ task_of core (words_of args)
-    → Some (Act core action) ≡ line_of_words (words_of bytes)
-told_some bytes args core action begins e =
+pub told_some : (bytes args : List ℕ) (core : ℕ) (line : Line) → BeginsCore bytes core args → Some line ≡ task_of core (words_of args)
+    → Some line ≡ line_of_words (words_of bytes)
+told_some bytes args core line begins e =
     e ∙ sym (ap (λ b. line_of_words (words_of b)) begins.is ∙ ap line_of_words (told_words core args begins.low)
     ∙ acts (99 ∷ decimal core) core (words_of args) (core_all (99 ∷ decimal core) core (begins.low, refl)))
 
@@ -301,10 +301,7 @@ unfolding task_of act_of action_of
 evict_told bytes args None is e = tt
 evict_told bytes args (Some action) is e = λ core. ap (λ o. o >>= λ a. Some (Act core a)) e ∙ ap (λ b. task_of core (words_of b)) (sym is)
 
-pub flush_told : (bytes : List ℕ) (core : ℕ) → bytes ≡ codes "flush" → Some (Act core Flush) ≡ task_of core (words_of bytes)
-unfolding task_of act_of action_of
-flush_told bytes core is = ap (λ b. task_of core (words_of b)) (sym is)
-
-pub review_told : (bytes : List ℕ) (core : ℕ) → bytes ≡ codes "review" → Some (Act core Review) ≡ task_of core (words_of bytes)
-unfolding task_of act_of action_of
-review_told bytes core is = ap (λ b. task_of core (words_of b)) (sym is)
+-- one word that is all of it
+pub word_told : (name bytes : List ℕ) (core : ℕ) (line : Line) → Some line ≡ task_of core (words_of name) → bytes ≡ name
+    → Some line ≡ task_of core (words_of bytes)
+word_told name bytes core line told is = told ∙ ap (λ b. task_of core (words_of b)) (sym is)

@@ -1,6 +1,6 @@
 -- Pieces that are written one behind another at the front of an array.
 use Rattle.std.proofs.Common.{◌≡◌, ℕ, ◌+◌, ◌^◌, ◌/◌, ◌%◌, ◌<◌, ◌≤◌, List, [], ◌∷◌, ◌++◌, length, take, decimal, arith}
-use Rattle.std.proofs.Common.{refl, sym, ap, ◌∙◌, append_assoc, take-take}
+use Rattle.std.proofs.Common.{sym, ap, ◌∙◌, append_assoc, take-take}
 use Rattle.std.proofs.Math.Seq.{take-append-add}
 use Rattle.std.proofs.lemmas.Fmt.{decimal_step}
 use Rattle.std.proofs.lemmas.List.{length-take-le}

@@ -142,6 +142,17 @@ fn behind_evict(bytes: &[u8]) -> Option<&[u8]>
     }
 }
 
+// Tells whether these bytes are `take`.
+#[inline(always)]
+fn is_take(bytes: &[u8]) -> bool
+    ensures { result ≡ true → bytes.now ≡ codes "take" }
+{
+    match bytes {
+        [b't', b'a', b'k', b'e'] => true,
+        _ => false,
+    }
+}
+
 // Tells whether these bytes are `flush`.
 #[inline(always)]
 fn is_flush(bytes: &[u8]) -> bool
@@ -169,6 +180,9 @@ fn is_review(bytes: &[u8]) -> bool
 pub(crate) fn front_action(bytes: &[u8]) -> Option<Action>
     ensures { IfSome result (λ action. (core : ℕ) → Some (Act core action) ≡ task_of core (words_of bytes.now)) }
 {
+    if is_take(bytes) {
+        return Some(Action::Take);
+    }
     if let Some(args) = behind_walk(bytes) {
         return read_walk(args);
     }

@@ -1,9 +1,9 @@
 //! What a line of a trace says.
-ghost use Rattle.std.specs.Prelude.{◌≡◌, IfSome, option_map};
+ghost use Rattle.std.specs.Prelude.{◌≡◌, IfSome, Some, codes, option_map, true};
 ghost use Rattle.trace_text.specs.Front.{BeginsCore, BeginsNow, NamesByOne, NamesByTwo};
 ghost use Rattle.trace_text.specs.Words.{words_of};
 ghost use Rattle.trace_text.specs.Line.{are_printable, begins_with, begins_with_file, begins_with_vm};
-ghost use Rattle.trace_text.specs.Line.{fold_of, is_comment, line_of, line_of_words};
+ghost use Rattle.trace_text.specs.Line.{fold_of, is_comment, line_of, line_of_words, task_of};
 
 use crate::action::{Action, front_action, read_page_alone};
 use crate::core_line::read_core_line;
@@ -215,6 +215,30 @@ fn front_core(bytes: &[u8]) -> Option<(CoreId, &[u8])>
     two_digits_core(bytes)
 }
 
+// Tells whether these bytes are `finish`.
+#[inline(always)]
+fn is_finish(bytes: &[u8]) -> bool
+    ensures { result ≡ true → bytes.now ≡ codes "finish" }
+{
+    match bytes {
+        [b'f', b'i', b'n', b'i', b's', b'h'] => true,
+        _ => false,
+    }
+}
+
+// What these bytes tell the core, where that is one of the commonest and they begin with its name;
+// `None` where it isn't, or they tell it nothing that a line may.
+#[inline(always)]
+fn front_task(core: CoreId, bytes: &[u8]) -> Option<Line>
+    ensures { IfSome result (λ line. Some line ≡ task_of core (words_of bytes.now)) }
+{
+    if is_finish(bytes) {
+        return Some(Line::Finish(core));
+    }
+    let action = front_action(bytes)?;
+    Some(Line::Act(core, action))
+}
+
 #[tactic(auto, unfolding(crate::specs::Line::line_of_words))]
 fn read_by_first_word(bytes: &[u8]) -> Option<Line>
     ensures { result ≡ line_of_words (words_of bytes.now) }
@@ -243,9 +267,9 @@ pub fn read_words(bytes: &[u8]) -> Option<Line>
         return Some(Line::Now(begun.0, request));
     }
     if let Some(begun) = front_core(bytes)
-        && let Some(action) = front_action(begun.1)
+        && let Some(line) = front_task(begun.0, begun.1)
     {
-        return Some(Line::Act(begun.0, action));
+        return Some(line);
     }
     read_by_first_word(bytes)
 }

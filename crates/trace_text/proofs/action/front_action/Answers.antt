@@ -1,5 +1,9 @@
-use Rattle.std.proofs.Common.{sym, ◌∙◌}
-use Rattle.trace_text.proofs.FrontLemmas.{evict_told, flush_told, review_told, walk_told}
+use Rattle.std.proofs.Common.{codes, refl}
+use Rattle.trace_text.specs.Action.{action_of}
+use Rattle.trace_text.specs.Line.{act_of, task_of}
+use Rattle.trace_text.specs.declared.action.Action.TheVariants.{Flush, Review, Take}
+use Rattle.trace_text.specs.declared.line.Line.TheVariants.{Act}
+use Rattle.trace_text.proofs.FrontLemmas.{evict_told, walk_told, word_told}
 use Rattle.trace_text.proofs.action.front_action.Goals as goal
 
 pub returns-in-Some : goal.returns-in-Some
@@ -9,8 +13,14 @@ pub returns-in-Some-behind_evict : goal.returns-in-Some-behind_evict
 returns-in-Some-behind_evict c =
     evict_told c.args.bytes.now c.in-Some-behind_evict.args.now c.read_evict.result c.in-Some-behind_evict.ensures c.read_evict.ensures
 
+pub returns-then-is_take : goal.returns-then-is_take
+unfolding task_of act_of action_of
+returns-then-is_take c = λ core. word_told (codes "take") c.args.bytes.now core (Act core Take) refl (c.is_take.ensures c.if-is_take.true)
+
 pub returns-then-is_flush : goal.returns-then-is_flush
-returns-then-is_flush c = λ core. flush_told c.args.bytes.now core (c.is_flush.ensures c.if-is_flush.true)
+unfolding task_of act_of action_of
+returns-then-is_flush c = λ core. word_told (codes "flush") c.args.bytes.now core (Act core Flush) refl (c.is_flush.ensures c.if-is_flush.true)
 
 pub returns-then-is_review : goal.returns-then-is_review
-returns-then-is_review c = λ core. review_told c.args.bytes.now core (c.is_review.ensures c.if-is_review.true)
+unfolding task_of act_of action_of
+returns-then-is_review c = λ core. word_told (codes "review") c.args.bytes.now core (Act core Review) refl (c.is_review.ensures c.if-is_review.true)

@@ -12,5 +12,5 @@ returns-in-Some c =
 
 pub returns : goal.returns
 returns c =
-    told_some c.args.bytes.now c.in-Some-front_core.begun.1.now c.in-Some-front_core.begun.0 c.in-Some-front_action.action c.in-Some-front_core.ensures
-    (c.in-Some-front_action.ensures c.in-Some-front_core.begun.0)
+    told_some c.args.bytes.now c.in-Some-front_core.begun.1.now c.in-Some-front_core.begun.0 c.in-Some-front_task.line c.in-Some-front_core.ensures
+    c.in-Some-front_task.ensures
