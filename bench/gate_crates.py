@@ -21,6 +21,11 @@ def stat_of(process):
     return int(fields[1]), fields[19], sum(int(fields[at]) for at in (11, 12, 13, 14)) / TICK
 
 
+def is_copy(process):
+    """Tells whether the process is a copy that a rattle forked: its seconds are among those of its parent once it has ended."""
+    return pathlib.Path(f"/proc/{stat_of(process)[0]}/cmdline").read_bytes().split(b"\0")[0].endswith(b"/rattle")
+
+
 def is_below(process, top):
     """Tells whether the process was started by this one, or by one that it started."""
     pid = int(process.name)
@@ -35,7 +40,7 @@ def look(top, seen):
         try:
             words = (process / "cmdline").read_bytes().decode().split("\0")
             crate = re.search(r"--crate-name (\w+)", " ".join(words))
-            if not words[0].endswith("/rattle") or not crate or not is_below(process, top):
+            if not words[0].endswith("/rattle") or not crate or not is_below(process, top) or is_copy(process):
                 continue
             folder = os.readlink(process / "cwd")
             kind = "edits" if "/rt-edit-" in folder else "tests" if "--test" in words or "src/main.rt" in words else "library"
