@@ -5,21 +5,13 @@ pub mod certifying;
 pub mod fault;
 pub mod lane;
 pub mod ran;
-#[cfg(test)]
-mod random_tests;
 pub mod runner;
 pub mod running;
-#[cfg(test)]
-mod starved_tests;
 mod tasks;
-#[cfg(test)]
-mod telling;
-#[cfg(test)]
-mod tests;
 pub mod texts;
 
 pub use certifying::certify_ran;
 pub use fault::RunFault;
 pub use ran::Ran;
 pub use runner::{InTurn, OnThreads, Runner};
-pub use running::{run_in_turn, run_script};
+pub use running::{begin, finish_in_turn, run_in_turn, run_script};

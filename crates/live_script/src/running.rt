@@ -29,8 +29,10 @@ fn lanes_of<A: Allocator>(alloc: A, seats: Vec<Seat<A>, A>) -> Result<Vec<Lane<A
     Ok(lanes)
 }
 
-// A space as the script declares it, in which no task is done yet.
-pub(crate) fn begin<A: Allocator + Clone>(alloc: A, script: &Script<A>) -> Result<Ran<A>, RunFault>
+/// Makes the space that the script declares, in which no task is done yet: then `finish_in_turn` does them.
+///
+/// A fault of the declaration is told before anything is made.
+pub fn begin<A: Allocator + Clone>(alloc: A, script: &Script<A>) -> Result<Ran<A>, RunFault>
     ensures begun { IfOk result (λ ran. IsBegun script.now.asked ran.live ran.seats) }
     ensures fault { IfErr result (λ fault. Fails script.now fault) }
 {
@@ -94,7 +96,7 @@ fn run_in_order<R: Wait, A: Allocator + Clone>(
 }
 
 // Why the first lane stopped that did.
-pub(crate) fn first_fault<A: Allocator>(lanes: &[Lane<A>]) -> Option<LiveFault>
+fn first_fault<A: Allocator>(lanes: &[Lane<A>]) -> Option<LiveFault>
     ensures { result ≡ first_fault (map (λ lane. lane.fault) lanes.now) }
 {
     'lanes: for at in 0..lanes.len() {
@@ -122,8 +124,12 @@ fn finish_side_by_side<R: Threads + Wait + Sync>(
     }
 }
 
-// The same without threads.
-pub(crate) fn finish_in_turn<R: Wait, A: Allocator + Clone>(
+/// Does all that the script asks for in the space that `begin` made for it, one core after another. Where all was done,
+/// each seat has the notes of just its core's tasks.
+///
+/// A core stops at its first task that can't begin, while the others go on; of several such faults the least core's is
+/// told.
+pub fn finish_in_turn<R: Wait, A: Allocator + Clone>(
     rt: &R,
     script: &Script<A>,
     mut ran: Ran<A>,

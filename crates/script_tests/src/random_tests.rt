@@ -1,9 +1,6 @@
 //! Scripts that look random, each of whose runs on threads is certified.
-use crate::certifying::certify_ran;
-use crate::ran::Ran;
-use crate::running::run_script;
 use crate::telling::{certified_text, script_of, text_of, verdict_of};
-use machine_model::Outcome;
+use live_script::{Ran, certify_ran, run_script};
 use notes_text::{Script, Task};
 use std::alloc::Global;
 use std::sync::Wait;

@@ -1,12 +1,9 @@
 //! Scripts whose memory is refused: all of it is taken, and given back bit by bit until they are run.
-use crate::certifying::certify_ran;
-use crate::fault::RunFault;
-use crate::ran::Ran;
-use crate::running::{begin, finish_in_turn, run_in_turn};
 use crate::telling::script_of;
 use certifier::CertifyFault;
 use core_steps::SetupFault;
 use linked_list_allocator::LocalHeap;
+use live_script::{Ran, RunFault, begin, certify_ran, finish_in_turn, run_in_turn};
 use live_space::fault::LiveFault;
 use notes_text::Script;
 use std::alloc::Global;
@@ -168,6 +165,34 @@ fn a_space_isnt_made_without_memory(rt: HostRuntime) -> Result<(), Fail> {
 fn no_task_begins_without_memory(rt: HostRuntime) -> Result<(), Fail> {
     let refusals = refusals_of(&rt, rt.alloc(), true)?;
     assert!(rt; refusals.is_some_and(|r| r.made == 0 && r.begun > 0 && r.certified > 0));
+    Ok(())
+}
+
+/// What the tasks come to where memory is full once the space is made.
+fn ended_in_full_heap<R: Wait>(
+    rt: &R,
+    alloc: Global,
+    text: &str,
+) -> Result<Option<RunFault>, NoMemory> {
+    let heap = LocalHeap::new(alloc, AMPLE)?;
+    let script = script_of(&heap, text)?;
+    let Ok(begun) = begin(&heap, &script) else {
+        return Err(NoMemory);
+    };
+    let mut taken = Vec::new(alloc);
+    fill(&heap, &mut taken)?;
+    Ok(finish_in_turn(rt, &script, begun).err())
+}
+
+// No core has a share of the one call, so a call of one stops it, and a flush wants memory for a note.
+#[test]
+fn of_two_faults_the_least_cores_is_told(rt: HostRuntime) -> Result<(), Fail> {
+    let calls = ended_in_full_heap(&rt, rt.alloc(), "vm 3 2 1\nc2 flush\nc1! load 0\n")?;
+    assert!(rt; calls == Some(RunFault::Live(LiveFault::Calls)));
+    let memory = ended_in_full_heap(&rt, rt.alloc(), "vm 3 2 1\nc2! load 0\nc1 flush\n")?;
+    assert!(rt; memory == Some(RunFault::Live(LiveFault::NoMemory)));
+    let none = ended_in_full_heap(&rt, rt.alloc(), "vm 3 2 1\n")?;
+    assert!(rt; none.is_none());
     Ok(())
 }
 

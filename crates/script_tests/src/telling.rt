@@ -1,6 +1,6 @@
 //! What running a script comes to, as text, for tests.
-use crate::ran::Ran;
 use certifier::{Certified, CertifyFault};
+use live_script::Ran;
 use notes_text::{Script, certify_text, read_script, write_notes};
 use std::alloc::{Allocator, Global};
 use trace::fault::TraceFault;

@@ -1,10 +1,7 @@
 //! Scripts that are run on threads, and why some aren't.
-use crate::certifying::certify_ran;
-use crate::fault::RunFault;
-use crate::ran::Ran;
-use crate::running::{first_fault, run_in_turn, run_script};
 use crate::telling::{certified_text, script_of, text_of, verdict_of};
 use core_steps::SetupFault;
+use live_script::{Ran, RunFault, certify_ran, run_in_turn, run_script};
 use live_space::fault::LiveFault;
 use machine_model::Outcome;
 use notes_text::Script;
@@ -181,31 +178,10 @@ c2! load 0
 c1! load 0
 ";
 
-/// The fault of the least core, where the others' are these.
-fn least_fault<R: Wait>(
-    rt: &R,
-    alloc: Global,
-    faults: [Option<LiveFault>; 3],
-) -> Result<Option<LiveFault>, NoMemory> {
-    let script = script_of(alloc, "vm 3 4\n")?;
-    let Ok(mut ran) = run_in_turn(rt, alloc, &script) else {
-        return Err(NoMemory);
-    };
-    for core in 0..3usize {
-        if core < ran.lanes.len() {
-            ran.lanes[core].fault = faults[core];
-        }
-    }
-    Ok(first_fault(ran.lanes.as_slice()))
-}
-
 #[test]
 fn the_least_cores_fault_is_told(rt: HostRuntime) -> Result<(), Fail> {
     let text = told(&rt, rt.alloc(), TOO_MANY)?;
     assert_eq!(rt; text.as_str(), "live V1\n");
-    let faults = [None, Some(LiveFault::Notes), Some(LiveFault::Calls)];
-    assert!(rt; least_fault(&rt, rt.alloc(), faults)? == Some(LiveFault::Notes));
-    assert!(rt; least_fault(&rt, rt.alloc(), [None, None, None])?.is_none());
     Ok(())
 }
 
