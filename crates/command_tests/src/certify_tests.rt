@@ -1,5 +1,7 @@
 //! Notes that are certified, refused, or no notes, and what the word `certify` says of them.
-use crate::word_tests::{AMPLE, Limits, comes_to, dripping_of, run_words, sink_of, text_of};
+use crate::word_tests::{
+    AMPLE, Came, Limits, Ran, comes_to, dripping_of, run_words, sink_of, text_of,
+};
 use command_line::certifying::certify;
 use linked_list_allocator::LocalHeap;
 use std::alloc::Global;
@@ -314,8 +316,8 @@ fn certificates_unwritten(rt: HostRuntime) {
     assert!(rt; comes_to((rt.alloc(), &rt), CERTIFY, OTHERS, AMPLE, (REFUSAL, b"", 1)));
 }
 
-// Whether the notes are certified in a heap of this size. Where they aren't, it has to be told that memory was wanting.
-fn is_certified_in(alloc: Global, size: usize) -> Option<bool> {
+// What certifying the notes comes to in a heap of this size.
+fn certified_in(alloc: Global, size: usize) -> Option<Ran> {
     let Ok(heap) = LocalHeap::new(alloc, size) else {
         return None;
     };
@@ -323,15 +325,26 @@ fn is_certified_in(alloc: Global, size: usize) -> Option<bool> {
     let mut out = sink_of(alloc, AMPLE);
     let mut errors = Vec::new(alloc);
     let status = certify(&heap, &mut reader, &mut out, &mut errors);
-    let out = out.writer.into_parts().0.held;
-    if status == 0 && out.as_slice() == b"certified 1\n".as_slice() && errors.is_empty() {
-        return Some(true);
+    Some(Ran {
+        out: out.writer.into_parts().0.held,
+        errors,
+        status,
+    })
+}
+
+// Whether this is the certificate. Where it isn't, it has to be told that memory was wanting.
+fn is_certificate((out, errors, status): Came<'_>) -> Option<bool> {
+    match status {
+        0 if errors.is_empty() && out == b"certified 1\n".as_slice() => Some(true),
+        3 if out.is_empty() && errors == b"radixvm: out of memory\n".as_slice() => Some(false),
+        _ => None,
     }
-    let is_told = errors.as_slice() == b"radixvm: out of memory\n".as_slice();
-    if is_told && out.is_empty() && status == 3 {
-        return Some(false);
-    }
-    None
+}
+
+// Whether the notes are certified in a heap of this size, or want memory.
+fn is_certified_in(alloc: Global, size: usize) -> Option<bool> {
+    let ran = certified_in(alloc, size)?;
+    is_certificate((&ran.out, &ran.errors, ran.status))
 }
 
 // How many of the heaps of 4 KiB, 8 KiB and so on are too small, where the notes are certified in all larger ones.
