@@ -1,5 +1,5 @@
-//! Tests of scripts that are run, on threads and one core after another, with ample memory and without; `telling` has what
-//! they are made of.
+//! Tests of scripts that are run, on threads and one core after another, with ample memory and without;
+//! `telling` has what they are made of.
 #![tactic(auto)]
 
 #[cfg(test)]
