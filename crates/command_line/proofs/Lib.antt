@@ -1,3 +1,2 @@
-mod ActLemmas
 mod EchoLemmas
 mod PictureLemmas

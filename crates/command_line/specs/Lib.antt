@@ -3,3 +3,4 @@ pub mod Help
 pub mod Input
 pub mod Picture
 pub mod Status
+pub mod Words

@@ -1,10 +1,7 @@
 //! What the word `audit` does.
-ghost use Rattle.std.specs.Prelude.{◌≡◌, ◌≤◌, Bool, Result};
-ghost use Rattle.audit_text.specs.Ends.{AuditEnds, TellsAudit};
-ghost use Rattle.audit_text.specs.declared.input.AuditFault.{AuditFault};
-ghost use Rattle.audit_text.specs.declared.judging.Verdict.{Verdict};
-ghost use Rattle.command_line.specs.Status.{audit_fault_status, audit_status};
-ghost use Rattle.trace_io.specs.Source.{Reads};
+ghost use Rattle.std.specs.Prelude.{◌≡◌, ◌≤◌};
+ghost use Rattle.command_line.specs.Status.{audit_fault_status};
+ghost use Rattle.command_line.specs.Words.{AuditsReplies, read_from, written_to};
 
 use audit_text::{AuditFault, Verdict, audit_text};
 use radix_range::RadixMap;
@@ -34,11 +31,8 @@ pub fn audit<S: Source, W: Sink, E: Write>(
     errors: &mut E,
     any_place: bool,
 ) -> u8
-    ensures ends { (r : Result Verdict AuditFault) × (result ≡ audit_status r)
-        × Reads (S.stream reader.old) (S.stream reader.new)
-        (λ input unread. AuditEnds any_place input (W.contents out.old) (W.contents out.new) r)
-        × TellsAudit r (S.failed reader.new) (S.reads reader.new)
-        (W.failed out.old) (W.failed out.new) (W.is_flushed out.new) }
+    ensures ends { AuditsReplies any_place
+        (read_from S.Source reader.old reader.new) (written_to W.Sink out.old out.new) result }
     ensures within { result ≤ 3 }
 {
     let Ok(map) = RadixMap::new(alloc) else {

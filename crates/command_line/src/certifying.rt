@@ -1,10 +1,6 @@
 //! What the word `certify` does.
-ghost use Rattle.std.specs.Prelude.{◌≡◌, ◌≤◌, Bool, Result};
-ghost use Rattle.notes_text.specs.CertifyEnds.{Certifies};
-ghost use Rattle.command_line.specs.Status.{certified_status};
-ghost use Rattle.trace.specs.Ends.{TellsFaults};
-ghost use Rattle.trace.specs.declared.fault.TraceFault.{TraceFault};
-ghost use Rattle.trace_io.specs.Source.{Reads};
+ghost use Rattle.std.specs.Prelude.{◌≤◌};
+ghost use Rattle.command_line.specs.Words.{CertifiesNotes, read_from, written_to};
 
 use notes_text::certify_text;
 use radix_range::RadixMap;
@@ -23,12 +19,9 @@ pub fn certify<A: Allocator + Clone + Drop, S: Source, W: Sink, E: Write>(
     out: &mut W,
     errors: &mut E,
 ) -> u8
-    ensures ends { (r : Result Bool TraceFault) × (result ≡ certified_status r)
-        × Reads (S.stream reader.old) (S.stream reader.new) (λ input unread. Certifies A
+    ensures ends { CertifiesNotes A
         ⟦<RadixMap<A> as SlotMap>⟧.parts ⟦<RadixMap<A> as SlotMap>⟧.can_fold ⟦<RadixMap<A> as SlotMap>⟧.folds
-        input unread (W.contents out.old) (W.contents out.new) r)
-        × TellsFaults r (S.failed reader.new) (S.reads reader.new)
-        (W.failed out.old) (W.failed out.new) (W.is_flushed out.new) }
+        (read_from S.Source reader.old reader.new) (written_to W.Sink out.old out.new) result }
     ensures within { result ≤ 3 }
 {
     match certify_text(alloc, reader, out) {

@@ -1,31 +1,12 @@
 //! The words of the command line, and what each does.
-ghost use Rattle.std.specs.Prelude.{◌≡◌, ◌≤◌, ℕ, Bool, IfOk, Option, Result};
+ghost use Rattle.std.specs.Prelude.{◌≡◌, ◌≤◌, ℕ, Bool, IfOk, Option};
 ghost use Rattle.std.specs.Io.KnownBytes.{Appends};
-ghost use Rattle.notes_text.specs.CertifyEnds.{Certifies};
-ghost use Rattle.core_steps.specs.declared.setup.CallLimit.{CallLimit};
-ghost use Rattle.audit_text.specs.Ends.{AuditEnds, TellsAudit};
-ghost use Rattle.audit_text.specs.declared.input.AuditFault.{AuditFault};
-ghost use Rattle.audit_text.specs.declared.judging.Verdict.{Verdict};
-ghost use Rattle.import_lackey.specs.Traced.{TraceEnds};
-ghost use Rattle.import_maps.specs.Mapped.{MapsEnds, TellsMaps};
-ghost use Rattle.import_maps.specs.declared.mapped.Told.{Told as ImportTold};
-ghost use Rattle.import_text.specs.Ends.{TellsImport};
-ghost use Rattle.import_text.specs.declared.counts.Counts.{Counts};
-ghost use Rattle.import_text.specs.declared.log.ImportFault.{ImportFault};
-ghost use Rattle.live_script.specs.Texts.{EndsText, IsNotesText, IsVerdictText, TellsText};
-ghost use Rattle.live_script.specs.declared.texts.TextFault.{TextFault};
-ghost use Rattle.command_line.specs.Echo.{EchoEnds};
 ghost use Rattle.command_line.specs.Help.{page_of};
-ghost use Rattle.command_line.specs.Picture.{PictureEnds};
-ghost use Rattle.command_line.specs.Status.{audit_status, certified_live_status, certified_status, import_status, live_status, words_status};
+ghost use Rattle.command_line.specs.Status.{words_status};
+ghost use Rattle.command_line.specs.Words.{DoesWork, read_from, written_to};
 ghost use Rattle.command_line.specs.declared.help.Topic.{Topic};
 ghost use Rattle.command_line.specs.declared.job.Shows.{Shows};
-ghost use Rattle.command_line.specs.declared.picturing.Drawing.{Drawing};
-ghost use Rattle.trace.specs.Ends.{Ends, TellsFaults};
-ghost use Rattle.trace.specs.Shown.{limit_for};
-ghost use Rattle.trace.specs.Status.{status_of};
-ghost use Rattle.trace.specs.declared.fault.TraceFault.{TraceFault};
-ghost use Rattle.trace_io.specs.Source.{Reads};
+ghost use Rattle.core_steps.specs.declared.setup.CallLimit.{CallLimit};
 
 use crate::auditing::audit;
 use crate::certifying::certify;
@@ -457,7 +438,7 @@ fn refuse_file<E: Write>(errors: &mut E) -> u8
     status_of_fault(fault)
 }
 
-// Does what the parsed words ask for, a replay, one with its lines, a certificate, or a run on threads, with its status.
+// Does what the parsed words ask for, and answers its status.
 fn act<T: Threads + Wait + Sync, R: Runner<Global>, L: Source, S: Source, W: Sink, E: Write>(
     rt: &T,
     runner: &R,
@@ -468,66 +449,11 @@ fn act<T: Threads + Wait + Sync, R: Runner<Global>, L: Source, S: Source, W: Sin
     out: &mut W,
     errors: &mut E,
 ) -> u8
-    ensures ran { IfOk parsed.entry (λ task. (shows : Shows) → task.work ≡ Work.Replay shows
-        → (r : Result Unit TraceFault) × (result ≡ status_of r)
-        × Reads (S.stream reader.old) (S.stream reader.new)
-        (λ input unread. Ends (limit_for shows.show shows.limit) shows.show input unread
-        (W.contents out.old) (W.contents out.new) r)
-        × TellsFaults r (S.failed reader.new) (S.reads reader.new)
-        (W.failed out.old) (W.failed out.new) (W.is_flushed out.new)) }
-    ensures echoed { IfOk parsed.entry (λ task. (limit : CallLimit) (explains : Bool)
-        → task.work ≡ Work.Echo limit explains
-        → (r : Result Unit TraceFault) × (result ≡ status_of r)
-        × Reads (S.stream reader.old) (S.stream reader.new)
-        (λ input unread. EchoEnds limit input (W.contents out.old) (W.contents out.new) r)
-        × TellsFaults r (S.failed reader.new) (S.reads reader.new)
-        (W.failed out.old) (W.failed out.new) (W.is_flushed out.new)) }
-    ensures certified { IfOk parsed.entry (λ task. task.work ≡ Work.Certify
-        → (r : Result Bool TraceFault) × (result ≡ certified_status r)
-        × Reads (S.stream reader.old) (S.stream reader.new) (λ input unread. Certifies Global
+    ensures does { IfOk parsed.entry (λ task. DoesWork Global
         ⟦<RadixMap<Global> as SlotMap>⟧.parts ⟦<RadixMap<Global> as SlotMap>⟧.can_fold
-        ⟦<RadixMap<Global> as SlotMap>⟧.folds input unread (W.contents out.old) (W.contents out.new) r)
-        × TellsFaults r (S.failed reader.new) (S.reads reader.new)
-        (W.failed out.old) (W.failed out.new) (W.is_flushed out.new)) }
-    ensures lived { IfOk parsed.entry (λ task. task.work ≡ Work.Live
-        → (r : Result Unit TextFault) × (result ≡ live_status r)
-        × Reads (S.stream reader.old) (S.stream reader.new) (λ input unread. EndsText
-        (λ script done text. IsNotesText script text) input unread (W.contents out.old) (W.contents out.new) r)
-        × TellsText r (S.failed reader.new) (S.reads reader.new)
-        (W.failed out.old) (W.failed out.new) (W.is_flushed out.new)) }
-    ensures certified_live { IfOk parsed.entry (λ task. task.work ≡ Work.CertifyLive
-        → (r : Result Bool TextFault) × (result ≡ certified_live_status r)
-        × Reads (S.stream reader.old) (S.stream reader.new) (λ input unread. EndsText
-        (λ script told text. IsVerdictText Global ⟦<RadixMap<Global> as SlotMap>⟧.parts
-        ⟦<RadixMap<Global> as SlotMap>⟧.can_fold ⟦<RadixMap<Global> as SlotMap>⟧.folds script told text)
-        input unread (W.contents out.old) (W.contents out.new) r)
-        × TellsText r (S.failed reader.new) (S.reads reader.new)
-        (W.failed out.old) (W.failed out.new) (W.is_flushed out.new)) }
-    ensures imported { IfOk parsed.entry (λ task. (thread : Option ℕ) → task.work ≡ Work.Import thread
-        → (r : Result ImportTold ImportFault) × (result ≡ import_status r)
-        × Reads (L.stream list.old) (L.stream list.new) (λ listed left.
-        Reads (S.stream reader.old) (S.stream reader.new)
-        (λ input unread. MapsEnds listed thread input (W.contents out.old) (W.contents out.new) r))
-        × TellsMaps r (L.failed list.new) (L.reads list.new) (S.failed reader.new) (S.reads reader.new)
-        (W.failed out.old) (W.failed out.new) (W.is_flushed out.new)) }
-    ensures audited { IfOk parsed.entry (λ task. (any : Bool) → task.work ≡ Work.Audit any
-        → (r : Result Verdict AuditFault) × (result ≡ audit_status r)
-        × Reads (S.stream reader.old) (S.stream reader.new)
-        (λ input unread. AuditEnds any input (W.contents out.old) (W.contents out.new) r)
-        × TellsAudit r (S.failed reader.new) (S.reads reader.new)
-        (W.failed out.old) (W.failed out.new) (W.is_flushed out.new)) }
-    ensures pictured { IfOk parsed.entry (λ task. (drawing : Drawing) → task.work ≡ Work.Picture drawing
-        → (r : Result Unit TraceFault) × (result ≡ status_of r)
-        × Reads (S.stream reader.old) (S.stream reader.new)
-        (λ input unread. PictureEnds drawing input unread (W.contents out.old) (W.contents out.new) r)
-        × TellsFaults r (S.failed reader.new) (S.reads reader.new)
-        (W.failed out.old) (W.failed out.new) (W.is_flushed out.new)) }
-    ensures traced { IfOk parsed.entry (λ task. task.work ≡ Work.ImportAccesses
-        → (r : Result Counts ImportFault) × (result ≡ import_status r)
-        × Reads (S.stream reader.old) (S.stream reader.new)
-        (λ input unread. TraceEnds input (W.contents out.old) (W.contents out.new) r)
-        × TellsImport r (S.failed reader.new) (S.reads reader.new)
-        (W.failed out.old) (W.failed out.new) (W.is_flushed out.new)) }
+        ⟦<RadixMap<Global> as SlotMap>⟧.folds task.work
+        (read_from L.Source list.old list.new) (read_from S.Source reader.old reader.new)
+        (written_to W.Sink out.old out.new) result) }
     ensures within { result ≤ 3 }
 {
     match parsed {

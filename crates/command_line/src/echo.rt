@@ -8,7 +8,7 @@ ghost use Rattle.core_steps.specs.declared.setup.CallLimit.{CallLimit};
 ghost use Rattle.trace.specs.declared.fault.TraceFault.TheVariants as Of;
 ghost use Rattle.trace.specs.Ends.{TellsFaults};
 ghost use Rattle.trace.specs.Stage.{Start};
-ghost use Rattle.trace.specs.Turns.{Scene};
+ghost use Rattle.trace.specs.Turns.{scene};
 ghost use Rattle.command_line.specs.Echo.{EchoEnds, EchoTurns, echo};
 
 use arrayvec::ArrayVec;
@@ -76,19 +76,8 @@ fn turn<A: Allocator, S: Source, W: Sink, R: Staged>(
     requires few { number + 1 < 2 ^ 64 }
     requires keeps { R.keeps ≡ false }
     ensures turns { Reads (S.stream reader.old) (S.stream reader.new) (λ xs ys. EchoTurns
-        (record {
-          left = left xs lines.old;
-          unread = xs;
-          stage = R.stage replayer.old;
-          written = W.contents writer.old;
-        })
-        (record {
-          left = left ys lines.new;
-          unread = ys;
-          stage = R.stage replayer.new;
-          written = W.contents writer.new;
-        })
-        number result) }
+        (scene (left xs lines.old) xs (R.stage replayer.old) (W.contents writer.old))
+        (scene (left ys lines.new) ys (R.stage replayer.new) (W.contents writer.new)) number result) }
     ensures budget { IfOk result (λ more. more ≡ true
         → budget (S.reads reader.new) lines.new < budget (S.reads reader.old) lines.old) }
     ensures read { result ≡ Err Of.ReadFailed → HasStopped (S.failed reader.new) (S.reads reader.new) }

@@ -1,15 +1,8 @@
 //! What the word `import` does.
-ghost use Rattle.std.specs.Prelude.{◌≡◌, ◌<◌, ◌≤◌, ◌^◌, Result};
-ghost use Rattle.import_lackey.specs.Traced.{TraceEnds};
+ghost use Rattle.std.specs.Prelude.{◌≡◌, ◌<◌, ◌≤◌, ◌^◌};
 ghost use Rattle.import_maps.specs.Entries.{total as entries_total};
-ghost use Rattle.import_maps.specs.Mapped.{MapsEnds, TellsMaps};
-ghost use Rattle.import_maps.specs.declared.mapped.Told.{Told};
 ghost use Rattle.import_text.specs.Counts.{total};
-ghost use Rattle.import_text.specs.Ends.{TellsImport};
-ghost use Rattle.import_text.specs.declared.counts.Counts.{Counts};
-ghost use Rattle.import_text.specs.declared.log.ImportFault.{ImportFault};
-ghost use Rattle.command_line.specs.Status.{import_status};
-ghost use Rattle.trace_io.specs.Source.{Reads};
+ghost use Rattle.command_line.specs.Words.{ImportsAccesses, ImportsLog, read_from, written_to};
 
 use import_lackey::traced::trace_log;
 use import_maps::entries::Entries;
@@ -128,12 +121,8 @@ pub fn import<L: Source, S: Source, W: Sink, E: Write>(
     errors: &mut E,
     thread: Option<u64>,
 ) -> u8
-    ensures ends { (r : Result Told ImportFault) × (result ≡ import_status r)
-        × Reads (L.stream list.old) (L.stream list.new) (λ listed left.
-        Reads (S.stream reader.old) (S.stream reader.new)
-        (λ input unread. MapsEnds listed thread input (W.contents out.old) (W.contents out.new) r))
-        × TellsMaps r (L.failed list.new) (L.reads list.new) (S.failed reader.new) (S.reads reader.new)
-        (W.failed out.old) (W.failed out.new) (W.is_flushed out.new) }
+    ensures ends { ImportsLog thread (read_from L.Source list.old list.new)
+        (read_from S.Source reader.old reader.new) (written_to W.Sink out.old out.new) result }
     ensures within { result ≤ 3 }
 {
     match import_mapped(alloc, list, reader, out, thread) {
@@ -154,11 +143,8 @@ pub fn import_accesses<S: Source, W: Sink, E: Write>(
     out: &mut W,
     errors: &mut E,
 ) -> u8
-    ensures ends { (r : Result Counts ImportFault) × (result ≡ import_status r)
-        × Reads (S.stream reader.old) (S.stream reader.new)
-        (λ input unread. TraceEnds input (W.contents out.old) (W.contents out.new) r)
-        × TellsImport r (S.failed reader.new) (S.reads reader.new)
-        (W.failed out.old) (W.failed out.new) (W.is_flushed out.new) }
+    ensures ends { ImportsAccesses
+        (read_from S.Source reader.old reader.new) (written_to W.Sink out.old out.new) result }
     ensures within { result ≤ 3 }
 {
     match trace_log(alloc, reader, out) {

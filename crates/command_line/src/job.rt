@@ -1,11 +1,7 @@
 //! What the program does once its words are read.
-ghost use Rattle.std.specs.Prelude.{◌≡◌, ◌≤◌, Result};
-ghost use Rattle.command_line.specs.Echo.{EchoEnds};
-ghost use Rattle.trace.specs.Ends.{Ends, TellsFaults};
-ghost use Rattle.trace.specs.Shown.{limit_for};
+ghost use Rattle.std.specs.Prelude.{◌≡◌, ◌≤◌};
+ghost use Rattle.command_line.specs.Words.{EchoesTrace, ReplaysTrace, read_from, written_to};
 ghost use Rattle.trace.specs.Status.{status_of};
-ghost use Rattle.trace.specs.declared.fault.TraceFault.{TraceFault};
-ghost use Rattle.trace_io.specs.Source.{Reads};
 
 use crate::echo::replay_echoing;
 use crate::explain::explain;
@@ -60,12 +56,8 @@ fn run_summing<A: Allocator + Clone + Drop, S: Source, W: Sink, E: Write>(
     errors: &mut E,
     shows: Shows,
 ) -> u8
-    ensures ends { (r : Result Unit TraceFault) × (result ≡ status_of r)
-        × Reads (S.stream reader.old) (S.stream reader.new)
-        (λ input unread. Ends (limit_for shows.show shows.limit) shows.show input unread
-        (W.contents out.old) (W.contents out.new) r)
-        × TellsFaults r (S.failed reader.new) (S.reads reader.new)
-        (W.failed out.old) (W.failed out.new) (W.is_flushed out.new) }
+    ensures ends { ReplaysTrace shows
+        (read_from S.Source reader.old reader.new) (written_to W.Sink out.old out.new) result }
     ensures within { result ≤ 3 }
 {
     let mut summary = Summary::new();
@@ -87,12 +79,8 @@ pub fn run<A: Allocator + Clone + Drop, S: Source, W: Sink, E: Write>(
     errors: &mut E,
     shows: Shows,
 ) -> u8
-    ensures ends { (r : Result Unit TraceFault) × (result ≡ status_of r)
-        × Reads (S.stream reader.old) (S.stream reader.new)
-        (λ input unread. Ends (limit_for shows.show shows.limit) shows.show input unread
-        (W.contents out.old) (W.contents out.new) r)
-        × TellsFaults r (S.failed reader.new) (S.reads reader.new)
-        (W.failed out.old) (W.failed out.new) (W.is_flushed out.new) }
+    ensures ends { ReplaysTrace shows
+        (read_from S.Source reader.old reader.new) (written_to W.Sink out.old out.new) result }
     ensures within { result ≤ 3 }
 {
     if shows.sums {
@@ -112,11 +100,8 @@ pub fn run_echoing<A: Allocator + Clone + Drop, S: Source, W: Sink, E: Write>(
     limit: CallLimit,
     explains: bool,
 ) -> u8
-    ensures ends { (r : Result Unit TraceFault) × (result ≡ status_of r)
-        × Reads (S.stream reader.old) (S.stream reader.new)
-        (λ input unread. EchoEnds limit input (W.contents out.old) (W.contents out.new) r)
-        × TellsFaults r (S.failed reader.new) (S.reads reader.new)
-        (W.failed out.old) (W.failed out.new) (W.is_flushed out.new) }
+    ensures ends { EchoesTrace limit
+        (read_from S.Source reader.old reader.new) (written_to W.Sink out.old out.new) result }
     ensures within { result ≤ 3 }
 {
     let replayed = replay_echoing(alloc, reader, out, limit);

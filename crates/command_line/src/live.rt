@@ -1,9 +1,7 @@
 //! What the word `live` does: a script is run on threads.
-ghost use Rattle.std.specs.Prelude.{◌≡◌, ◌≤◌, Bool, Result};
-ghost use Rattle.live_script.specs.Texts.{EndsText, IsNotesText, IsVerdictText, TellsText};
-ghost use Rattle.live_script.specs.declared.texts.TextFault.{TextFault};
-ghost use Rattle.command_line.specs.Status.{certified_live_status, live_status, script_status};
-ghost use Rattle.trace_io.specs.Source.{Reads};
+ghost use Rattle.std.specs.Prelude.{◌≡◌, ◌≤◌};
+ghost use Rattle.command_line.specs.Status.{script_status};
+ghost use Rattle.command_line.specs.Words.{CertifiesRun, RunsScript, read_from, written_to};
 
 use live_script::Runner;
 use live_script::texts::{TextFault, certify_run, run_text};
@@ -40,11 +38,7 @@ pub fn live<
     W: Sink,
     E: Write,
 >(rt: &T, runner: &R, alloc: A, reader: &mut S, out: &mut W, errors: &mut E) -> u8
-    ensures ends { (r : Result Unit TextFault) × (result ≡ live_status r)
-        × Reads (S.stream reader.old) (S.stream reader.new) (λ input unread. EndsText
-        (λ script done text. IsNotesText script text) input unread (W.contents out.old) (W.contents out.new) r)
-        × TellsText r (S.failed reader.new) (S.reads reader.new)
-        (W.failed out.old) (W.failed out.new) (W.is_flushed out.new) }
+    ensures ends { RunsScript (read_from S.Source reader.old reader.new) (written_to W.Sink out.old out.new) result }
     ensures within { result ≤ 3 }
 {
     match run_text(rt, runner, alloc, reader, out) {
@@ -63,13 +57,9 @@ pub fn certify_live<
     W: Sink,
     E: Write,
 >(rt: &T, runner: &R, alloc: A, reader: &mut S, out: &mut W, errors: &mut E) -> u8
-    ensures ends { (r : Result Bool TextFault) × (result ≡ certified_live_status r)
-        × Reads (S.stream reader.old) (S.stream reader.new) (λ input unread. EndsText
-        (λ script told text. IsVerdictText A ⟦<RadixMap<A> as SlotMap>⟧.parts ⟦<RadixMap<A> as SlotMap>⟧.can_fold
-        ⟦<RadixMap<A> as SlotMap>⟧.folds script told text)
-        input unread (W.contents out.old) (W.contents out.new) r)
-        × TellsText r (S.failed reader.new) (S.reads reader.new)
-        (W.failed out.old) (W.failed out.new) (W.is_flushed out.new) }
+    ensures ends { CertifiesRun A
+        ⟦<RadixMap<A> as SlotMap>⟧.parts ⟦<RadixMap<A> as SlotMap>⟧.can_fold ⟦<RadixMap<A> as SlotMap>⟧.folds
+        (read_from S.Source reader.old reader.new) (written_to W.Sink out.old out.new) result }
     ensures within { result ≤ 3 }
 {
     match certify_run(rt, runner, alloc, reader, out) {

@@ -1,13 +1,12 @@
 //! What the word `picture` does.
-ghost use Rattle.std.specs.Prelude.{◌≡◌, ◌≢◌, ◌≤◌, ◌⊎◌, Err, IfErr, None, OnOk, Result, false, true};
+ghost use Rattle.std.specs.Prelude.{◌≡◌, ◌≢◌, ◌≤◌, ◌⊎◌, Err, IfErr, None, OnOk, false, true};
 ghost use Rattle.std.specs.Io.KnownBytes.{Appends, Keeps};
 ghost use Rattle.command_line.specs.Picture.{PictureEnds, Records, TextEnds, lives_of, picture_of};
+ghost use Rattle.command_line.specs.Words.{PicturesTrace, read_from, written_to};
 ghost use Rattle.recorder.specs.Changes.{changes_recorded, nothing_changed};
 ghost use Rattle.recorder.specs.Looking.{recorded};
 ghost use Rattle.recorder.specs.Recording.{nothing_recorded};
-ghost use Rattle.trace.specs.Ends.{TellsFaults};
 ghost use Rattle.trace.specs.Status.{status_of};
-ghost use Rattle.trace.specs.declared.fault.TraceFault.{TraceFault};
 ghost use Rattle.trace.specs.declared.fault.TraceFault.TheVariants as Of;
 ghost use Rattle.trace_io.specs.Sink.{AppendsFront};
 ghost use Rattle.trace_io.specs.Source.{HasStopped, Reads};
@@ -245,11 +244,8 @@ pub fn picture<S: Source, W: Sink, E: Write>(
     errors: &mut E,
     drawing: Drawing,
 ) -> u8
-    ensures ends { (r : Result Unit TraceFault) × (result ≡ status_of r)
-        × Reads (S.stream reader.old) (S.stream reader.new)
-        (λ input unread. PictureEnds drawing input unread (W.contents out.old) (W.contents out.new) r)
-        × TellsFaults r (S.failed reader.new) (S.reads reader.new)
-        (W.failed out.old) (W.failed out.new) (W.is_flushed out.new) }
+    ensures ends { PicturesTrace drawing
+        (read_from S.Source reader.old reader.new) (written_to W.Sink out.old out.new) result }
     ensures within { result ≤ 3 }
 {
     let drawn = draw_trace(alloc, reader, out, errors, drawing);

@@ -18,6 +18,9 @@ pub record Scene : Type 0 where
   pub stage : Stage
   pub written : Option (List ℕ)
 
+abbrev pub scene : List ℕ → List ℕ → Stage → Option (List ℕ) → Scene
+scene left unread stage written = record { left = left; unread = unread; stage = stage; written = written }
+
 -- a line was taken, acted on, and its text written where it is to be shown
 pub record Advances (show : Show) (old new : Scene) : Type 0 where
   pub line : List ℕ

@@ -4,7 +4,7 @@ ghost use Rattle.trace_io.specs.Source.{HasStopped, Reads};
 ghost use Rattle.trace_io.specs.Window.{left, budget, opening};
 ghost use Rattle.trace.specs.declared.fault.TraceFault.TheVariants.{ReadFailed, WriteFailed};
 ghost use Rattle.trace.specs.declared.shown.Show.TheVariants.{OutcomesAndLog};
-ghost use Rattle.trace.specs.Turns.{Turns, Scene};
+ghost use Rattle.trace.specs.Turns.{Turns, scene};
 ghost use Rattle.trace.specs.Stage.{Start};
 ghost use Rattle.trace.specs.Ends.{Ends, TellsFaults};
 ghost use Rattle.trace.specs.Seen.{AdvancesSeen, IsSeen, Writes};
@@ -39,33 +39,12 @@ fn turn<A: Allocator, S: Source, W: Sink, R: Staged>(
     requires few { number + 1 < 2 ^ 64 }
     requires keeps { R.keeps ≡ keeps_log show }
     ensures turns { Reads (S.stream reader.old) (S.stream reader.new) (λ xs ys. Turns show
-        (record {
-          left = left xs lines.old;
-          unread = xs;
-          stage = R.stage replayer.old;
-          written = W.contents writer.old;
-        })
-        (record {
-          left = left ys lines.new;
-          unread = ys;
-          stage = R.stage replayer.new;
-          written = W.contents writer.new;
-        })
-        number result) }
+        (scene (left xs lines.old) xs (R.stage replayer.old) (W.contents writer.old))
+        (scene (left ys lines.new) ys (R.stage replayer.new) (W.contents writer.new)) number result) }
     ensures seen { IfOk result (λ more. more ≡ true
         → Reads (S.stream reader.old) (S.stream reader.new) (λ xs ys. AdvancesSeen R.saw show replayer.old replayer.new
-        (record {
-          left = left xs lines.old;
-          unread = xs;
-          stage = R.stage replayer.old;
-          written = W.contents writer.old;
-        })
-        (record {
-          left = left ys lines.new;
-          unread = ys;
-          stage = R.stage replayer.new;
-          written = W.contents writer.new;
-        }))) }
+        (scene (left xs lines.old) xs (R.stage replayer.old) (W.contents writer.old))
+        (scene (left ys lines.new) ys (R.stage replayer.new) (W.contents writer.new)))) }
     ensures over { IfOk result (λ more. more ≡ false → replayer.new ≡ replayer.old) }
     ensures budget { IfOk result (λ more. more ≡ true
         → budget (S.reads reader.new) lines.new < budget (S.reads reader.old) lines.old) }

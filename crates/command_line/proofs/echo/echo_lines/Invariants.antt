@@ -3,6 +3,7 @@ use Rattle.trace_io.specs.Source.{Reads}
 use Rattle.trace_io.specs.Window.{left, budget}
 use Rattle.core_steps.specs.declared.setup.CallLimit.{CallLimit}
 use Rattle.trace.specs.Stage.{Start}
+use Rattle.trace.specs.Turns.{scene}
 use Rattle.command_line.proofs.EchoLemmas.{HasEchoed}
 use Rattle.command_line.proofs.echo.echo_lines.Given as goal
 
@@ -13,12 +14,7 @@ invariant-lines g l = record {
   kept : g.W.Sink.failed l.writer ≡ g.W.Sink.failed l.initial.writer;
   ran : (limit : CallLimit) → g.R.Staged.stage l.initial.replayer ≡ Start limit → Reads (g.S.Source.stream l.initial.reader) (g.S.Source.stream l.reader)
       (λ input unread. HasEchoed limit input (g.W.Sink.contents l.initial.writer)
-      (record {
-        left = left unread l.lines;
-        unread = unread;
-        stage = g.R.Staged.stage l.replayer;
-        written = g.W.Sink.contents l.writer;
-      }) l.number);
+      (scene (left unread l.lines) unread (g.R.Staged.stage l.replayer) (g.W.Sink.contents l.writer)) l.number);
 }
 
 abbrev pub decreases-lines : goal.decreases-lines

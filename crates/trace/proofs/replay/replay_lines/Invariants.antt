@@ -3,6 +3,7 @@ use Rattle.trace_io.specs.Source.{Reads}
 use Rattle.trace_io.specs.Window.{left, budget}
 use Rattle.core_steps.specs.declared.setup.CallLimit.{CallLimit}
 use Rattle.trace.specs.Stage.{Start}
+use Rattle.trace.specs.Turns.{scene}
 use Rattle.trace.proofs.RunLemmas.{HasRun}
 use Rattle.trace.proofs.Seeing.{HasSeen}
 use Rattle.trace.proofs.replay.replay_lines.Given as goal
@@ -14,20 +15,10 @@ invariant-lines g l = record {
   kept : g.W.Sink.failed l.writer ≡ g.W.Sink.failed l.initial.writer;
   ran : (limit : CallLimit) → g.R.Staged.stage l.initial.replayer ≡ Start limit → Reads (g.S.Source.stream l.initial.reader) (g.S.Source.stream l.reader)
       (λ input unread. HasRun limit l.fn.show input (g.W.Sink.contents l.initial.writer)
-      (record {
-        left = left unread l.lines;
-        unread = unread;
-        stage = g.R.Staged.stage l.replayer;
-        written = g.W.Sink.contents l.writer;
-      }) l.number);
+      (scene (left unread l.lines) unread (g.R.Staged.stage l.replayer) (g.W.Sink.contents l.writer)) l.number);
   seen : Reads (g.S.Source.stream l.initial.reader) (g.S.Source.stream l.reader)
       (λ input unread. HasSeen (g.R.Staged.saw l.initial.replayer l.replayer) l.fn.show input (g.W.Sink.contents l.initial.writer)
-      (record {
-        left = left unread l.lines;
-        unread = unread;
-        stage = g.R.Staged.stage l.replayer;
-        written = g.W.Sink.contents l.writer;
-      }));
+      (scene (left unread l.lines) unread (g.R.Staged.stage l.replayer) (g.W.Sink.contents l.writer)));
 }
 
 abbrev pub decreases-lines : goal.decreases-lines

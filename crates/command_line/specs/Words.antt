@@ -1,0 +1,124 @@
+-- What each word of the command line does: how it ends, what is read and written by then, and the status.
+use Rattle.std.specs.Prelude.{◌≡◌, ℕ, Bool, List, Option, Result}
+use Rattle.audit_text.specs.Ends.{AuditEnds, TellsAudit}
+use Rattle.command_line.specs.Echo.{EchoEnds}
+use Rattle.command_line.specs.Picture.{PictureEnds}
+use Rattle.command_line.specs.Status.{audit_status, certified_live_status, certified_status, import_status, live_status}
+use Rattle.command_line.specs.declared.command.Work.{Work}
+use Rattle.command_line.specs.declared.command.Work.TheVariants as For
+use Rattle.command_line.specs.declared.job.Shows.{Shows}
+use Rattle.command_line.specs.declared.picturing.Drawing.{Drawing}
+use Rattle.core_steps.specs.declared.setup.CallLimit.{CallLimit}
+use Rattle.import_lackey.specs.Traced.{TraceEnds}
+use Rattle.import_maps.specs.Mapped.{MapsEnds, TellsMaps}
+use Rattle.import_maps.specs.declared.mapped.Told.{Told}
+use Rattle.import_text.specs.declared.log.ImportFault.{ImportFault}
+use Rattle.import_text.specs.Ends.{TellsImport}
+use Rattle.live_script.specs.Texts.{EndsText, IsNotesText, IsVerdictText, TellsText}
+use Rattle.notes_text.specs.CertifyEnds.{Certifies}
+use Rattle.slot_lock.specs.Slots.{Slots}
+use Rattle.trace.specs.Ends.{Ends, TellsFaults}
+use Rattle.trace.specs.Shown.{limit_for}
+use Rattle.trace.specs.Status.{status_of}
+use Rattle.trace_io.specs.Source.{Reads, Stream}
+use Rattle.trace_io.specs.declared.source.Source.{Ghosts as SourceGhosts}
+use Rattle.trace_io.specs.declared.sink.Sink.{Ghosts as SinkGhosts}
+use Rattle.vm_base.specs.declared.page.PageRange.{PageRange}
+
+-- ---- what is read and written
+
+-- a reader's bytes before a word and after it, whether a read has failed, and how many there were
+pub record ReadFrom : Type 0 where
+  pub before : Stream
+  pub after : Stream
+  pub failed : Bool
+  pub reads : ℕ
+
+abbrev pub read_from : {S : Type 0} → SourceGhosts S → S → S → ReadFrom
+read_from source before after = record {
+  before = source.stream before;
+  after = source.stream after;
+  failed = source.failed after;
+  reads = source.reads after;
+}
+
+-- what a writer held before a word and after it, whether a write had failed before, whether one has, and whether all has gone out
+pub record WrittenTo : Type 0 where
+  pub before : Option (List ℕ)
+  pub after : Option (List ℕ)
+  pub had_failed : Bool
+  pub failed : Bool
+  pub is_flushed : Bool
+
+abbrev pub written_to : {W : Type 0} → SinkGhosts W → W → W → WrittenTo
+written_to sink before after = record {
+  before = sink.contents before;
+  after = sink.contents after;
+  had_failed = sink.failed before;
+  failed = sink.failed after;
+  is_flushed = sink.is_flushed after;
+}
+
+-- It ends in one way, which gives the status. What was read and written is as `Ended` says of that end, and what failed as `Tells` does.
+abbrev pub EndsInOneWay : {R : Type 0} → (R → ℕ) → (List ℕ → List ℕ → Option (List ℕ) → Option (List ℕ) → R → Type 0)
+    → (R → Bool → ℕ → Bool → Bool → Bool → Type 0) → ReadFrom → WrittenTo → ℕ → Type 0
+EndsInOneWay {R} status Ended Tells text out n = (r : R) × (n ≡ status r)
+    × Reads text.before text.after (λ input unread. Ended input unread out.before out.after r)
+    × Tells r text.failed text.reads out.had_failed out.failed out.is_flushed
+
+-- ---- each word
+
+-- a replay that shows this
+abbrev pub ReplaysTrace : Shows → ReadFrom → WrittenTo → ℕ → Type 0
+ReplaysTrace shows text out n = EndsInOneWay status_of (Ends {T = Unit} (limit_for shows.show shows.limit) shows.show) TellsFaults text out n
+
+-- a replay that shows each line beside its outcome
+abbrev pub EchoesTrace : CallLimit → ReadFrom → WrittenTo → ℕ → Type 0
+EchoesTrace limit text out n = EndsInOneWay status_of (λ input unread. EchoEnds {T = Unit} limit input) TellsFaults text out n
+
+-- the certificate of notes
+abbrev pub CertifiesNotes : Type 0 → (PageRange → ℕ → ℕ → Bool) → (Slots → ℕ → Type 0) → (Slots → Slots → ℕ → Type 0)
+    → ReadFrom → WrittenTo → ℕ → Type 0
+CertifiesNotes A parts CanFold Folds text out n = EndsInOneWay certified_status (Certifies A parts CanFold Folds) TellsFaults text out n
+
+-- a run of a script on threads, whose notes are written
+abbrev pub RunsScript : ReadFrom → WrittenTo → ℕ → Type 0
+RunsScript text out n = EndsInOneWay live_status (EndsText {T = Unit} (λ script done notes. IsNotesText script notes)) TellsText text out n
+
+-- the certificate of such a run
+abbrev pub CertifiesRun : Type 0 → (PageRange → ℕ → ℕ → Bool) → (Slots → ℕ → Type 0) → (Slots → Slots → ℕ → Type 0)
+    → ReadFrom → WrittenTo → ℕ → Type 0
+CertifiesRun A parts CanFold Folds text out n =
+    EndsInOneWay certified_live_status (EndsText (IsVerdictText A parts CanFold Folds)) TellsText text out n
+
+-- the trace of a log of strace, of the process of this thread or of the first line's, behind that of a list of mappings
+abbrev pub ImportsLog : Option ℕ → ReadFrom → ReadFrom → WrittenTo → ℕ → Type 0
+ImportsLog thread list text out n = (r : Result Told ImportFault) × (n ≡ import_status r)
+    × Reads list.before list.after (λ listed left.
+    Reads text.before text.after (λ input unread. MapsEnds listed thread input out.before out.after r))
+    × TellsMaps r list.failed list.reads text.failed text.reads out.had_failed out.failed out.is_flushed
+
+-- the trace of a log of lackey
+abbrev pub ImportsAccesses : ReadFrom → WrittenTo → ℕ → Type 0
+ImportsAccesses text out n = EndsInOneWay import_status (λ input unread. TraceEnds input) TellsImport text out n
+
+-- the judgement of replies, at any place or at the first ones
+abbrev pub AuditsReplies : Bool → ReadFrom → WrittenTo → ℕ → Type 0
+AuditsReplies any text out n = EndsInOneWay audit_status (λ input unread. AuditEnds any input) TellsAudit text out n
+
+-- a picture of a trace, of its steps or of lives
+abbrev pub PicturesTrace : Drawing → ReadFrom → WrittenTo → ℕ → Type 0
+PicturesTrace drawing text out n = EndsInOneWay status_of (PictureEnds {T = Unit} drawing) TellsFaults text out n
+
+-- what the words ask for: an import reads a list besides, the others none
+abbrev pub DoesWork : Type 0 → (PageRange → ℕ → ℕ → Bool) → (Slots → ℕ → Type 0) → (Slots → Slots → ℕ → Type 0)
+    → Work → ReadFrom → ReadFrom → WrittenTo → ℕ → Type 0
+DoesWork A parts CanFold Folds (For.Replay shows) list text out n = ReplaysTrace shows text out n
+DoesWork A parts CanFold Folds (For.Echo limit explains) list text out n = EchoesTrace limit text out n
+DoesWork A parts CanFold Folds For.Certify list text out n = CertifiesNotes A parts CanFold Folds text out n
+DoesWork A parts CanFold Folds For.Live list text out n = RunsScript text out n
+DoesWork A parts CanFold Folds For.CertifyLive list text out n = CertifiesRun A parts CanFold Folds text out n
+DoesWork A parts CanFold Folds (For.Import thread) list text out n = ImportsLog thread list text out n
+DoesWork A parts CanFold Folds For.ImportAccesses list text out n = ImportsAccesses text out n
+DoesWork A parts CanFold Folds (For.Audit any) list text out n = AuditsReplies any text out n
+DoesWork A parts CanFold Folds (For.Picture drawing) list text out n = PicturesTrace drawing text out n
