@@ -2,7 +2,7 @@
 //! flag. Few crates are below it, so that it is compiled soon.
 #![tactic(auto)]
 
-ghost use Rattle.std.specs.Prelude.{◌≡◌, ◌≤◌, Result};
+ghost use Rattle.std.specs.Prelude.{◌≡◌, ◌≤◌, Result, Some, codes, option_map};
 ghost use Rattle.core_steps.specs.declared.setup.CallLimit.TheVariants.{Usual};
 ghost use Rattle.trace.specs.Ends.{Ends, TellsFaults};
 ghost use Rattle.trace.specs.Status.{fault_status, status_of};
@@ -21,7 +21,10 @@ use trace_io::sink::{Noted, Sink};
 use trace_io::source::{Counted, Source};
 
 // What the word behind the program's name shows: the mappings at the end where it is `maps`, else the outcomes.
-fn shown_by(word: Option<&str>) -> Show {
+fn shown_by(word: Option<&str>) -> Show
+    ensures maps { option_map (λ w. w.now) word.entry ≡ Some (codes "maps") → result ≡ Show.Maps }
+    ensures others { (option_map (λ w. w.now) word.entry ≡ Some (codes "maps") → ⊥) → result ≡ Show.Outcomes }
+{
     match word {
         Some("maps") => Show::Maps,
         _ => Show::Outcomes,
@@ -70,14 +73,4 @@ fn main(rt: HostRuntime) -> ExitCode {
     let mut reader = Counted::new(rt.stdin());
     let mut out = Noted::new(buffer);
     ExitCode::from(run(alloc, &mut reader, &mut out, &mut errors, show))
-}
-
-// `maps` alone shows the mappings; the program's own run in the gate is of `run`.
-#[test]
-fn words_and_what_they_show(rt: HostRuntime) {
-    assert_eq!(rt; shown_by(Some("maps")), Show::Maps);
-    for word in ["run", "map", "maps ", "Maps", ""] {
-        assert_eq!(rt; shown_by(Some(word)), Show::Outcomes);
-    }
-    assert_eq!(rt; shown_by(None), Show::Outcomes);
 }
