@@ -1,5 +1,4 @@
 //! The log, replayed with the requests of its calls by the plain page map.
-use crate::machines::{Space, declared, machine_over, push_outcomes};
 use crate::random_tests::plain_map;
 use core_steps::Finished;
 use machine_model::Outcome;
@@ -7,6 +6,7 @@ use plain_map::PlainMap;
 use slot_lock::SlotList;
 use std::alloc::Global;
 use std::test::Fail;
+use trace_machines::machines::{Space, declared, machine_over, push_outcomes};
 use vm_base::{CoreId, Entry, NoMemory, Request};
 
 /// Sixteen calls of two cores, of which some begin while another waits, and one copy of a private page:

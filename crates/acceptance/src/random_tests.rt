@@ -1,10 +1,11 @@
 //! Random traces over both slot maps, event by event, and beside the plain page map.
-use crate::machines::{Over, declared, text_over};
-use crate::random::{Random, STEP_LINES, WHOLE_LINES, lines_of_tables, random_trace};
 use plain_map::{PlainFile, PlainMap};
 use std::alloc::Global;
 use std::test::Fail;
+use test_support::random::Random;
 use trace::shown::Show;
+use trace_machines::machines::{Over, declared, text_over};
+use trace_machines::random_traces::{STEP_LINES, WHOLE_LINES, lines_of_tables, random_trace};
 use trace_text::{Line, LineText, push_reply, read_line};
 use vm_base::NoMemory;
 

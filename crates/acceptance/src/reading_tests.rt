@@ -2,12 +2,12 @@
 ghost use Rattle.std.specs.Prelude.{◌<◌};
 ghost use Rattle.core_steps.specs.Machine.{state};
 
-use crate::machines::{Space, declared, machine_over, push_outcomes};
 use machine_model::Phase;
 use radix_range::RadixMap;
 use slot_lock::SlotMap;
 use std::alloc::{Allocator, Global};
 use std::test::Fail;
+use trace_machines::machines::{Space, declared, machine_over, push_outcomes};
 use trace_text::number_text;
 use vm_base::{CoreId, CoreSet, NoMemory};
 

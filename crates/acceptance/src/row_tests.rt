@@ -1,10 +1,10 @@
 //! The tables of `rows`, each over the slot maps that it holds of.
-use crate::machines::Over;
 use crate::rows;
-use crate::starved::Marks;
 use crate::table::{Compared, compare_all};
 use std::test::Fail;
 use trace::shown::Show;
+use trace_machines::machines::Over;
+use trace_machines::starved::Marks;
 
 // A name and a text that aren't empty are of a row that gave something else.
 #[test]

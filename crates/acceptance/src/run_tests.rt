@@ -1,5 +1,4 @@
 //! Whole lists of events, and why they may fail.
-use crate::machines::{declared, machine_over, push_outcomes};
 use backing::FileSpec;
 use core_steps::{
     CallLimit, Finished, Forgotten, Kept, Logged, Machine, Opening, RunFault, Setup, SetupFault,
@@ -10,6 +9,7 @@ use machine_model::{Event, Outcome};
 use slot_lock::SlotList;
 use std::alloc::{Allocator, Global};
 use std::test::Fail;
+use trace_machines::machines::{declared, machine_over, push_outcomes};
 use vm_base::{CoreId, Entry, Errno, Flags, Mode, NoMemory, Prot, Reply, Request};
 
 /// mmap 0x10000 of so many bytes, rw-, private, fixed, anonymous, and three steps of it.

@@ -1,9 +1,9 @@
 //! Tables of rows, as `rows` has them.
-use crate::in_one_run::text_in_one_run;
-use crate::machines::{Over, Told, text_over, told_over};
-use crate::starved::{Marks, text_in_a_full_heap, text_of_starved};
 use std::alloc::Global;
 use trace::shown::Show;
+use trace_machines::in_one_run::text_in_one_run;
+use trace_machines::machines::{Over, Told, text_over, told_over};
+use trace_machines::starved::{Marks, text_in_a_full_heap, text_of_starved};
 use trace_text::number::read_number;
 use vm_base::NoMemory;
 

@@ -1,6 +1,5 @@
 //! A seat alone: each reply of calls that look random is the plain page map's.
 use certifier::Certified;
-use live_lanes::asking::Random;
 use live_lanes::ending::certified;
 use live_lanes::lane::{Lane, lanes_of, seats_of};
 use live_lanes::mixing::any_call;
@@ -11,6 +10,7 @@ use plain_map::{PlainFile, PlainMap};
 use std::alloc::Global;
 use std::sync::Wait;
 use std::test::Fail;
+use test_support::random::Random;
 use vm_base::{CoreId, NoMemory, Reply, Request, pages, window};
 
 /// How often each kind of reply came, all of them the plain page map's.

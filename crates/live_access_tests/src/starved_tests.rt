@@ -2,10 +2,9 @@
 use linked_list_allocator::LocalHeap;
 use live_lanes::ending::certified;
 use live_lanes::gates::Mark;
-use live_lanes::heaps::{AMPLE, Piece, fill};
 use live_lanes::lane::{Lane, lanes_of, seats_of};
 use live_lanes::passing::Passing;
-use live_lanes::script::{request_of, setup_of};
+use live_lanes::script::{AMPLE, request_of, setup_of};
 use live_lanes::tables::push_lines;
 use live_space::fault::LiveFault;
 use live_space::gate::Point;
@@ -13,6 +12,7 @@ use live_space::space::Live;
 use std::alloc::Global;
 use std::sync::Wait;
 use std::test::Fail;
+use test_support::heaps::{Piece, fill};
 use vm_base::{NoMemory, Reply};
 
 /// What two cores do beside an access of the first core that is made while memory is full.

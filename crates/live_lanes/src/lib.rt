@@ -2,15 +2,14 @@
 //! space, `alone` a space with its one seat, and `script` reads what lines ask for. `tables` compares
 //! scripts with what they are to give, `holding` holds a call while another core makes its own (`gates`;
 //! `passing` has gates that see where calls come, and that hold one while another begins), and `threads`
-//! has threads of requests that look random (`asking`, `mixing`). `heaps` fills heaps. What was noted is
-//! certified beside the histories of the slots (`ending`).
+//! has threads of requests that look random (`asking`, `mixing`). What was noted is certified beside the
+//! histories of the slots (`ending`).
 #![tactic(auto)]
 
 pub mod alone;
 pub mod asking;
 pub mod ending;
 pub mod gates;
-pub mod heaps;
 pub mod holding;
 pub mod lane;
 pub mod mixing;

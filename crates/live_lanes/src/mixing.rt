@@ -1,6 +1,7 @@
 //! What threads ask for that use their memory: numbers that look random choose among loads, stores,
 //! fetches, mappings of files and changes of few pages.
-use crate::asking::{Ask, Random, change, mmap, next_ask, prot_of, wild};
+use crate::asking::{Ask, change, mmap, next_ask, prot_of, wild};
+use test_support::random::Random;
 use vm_base::{CoreId, Flags, Prot, Request};
 
 /// What threads are asked for.

@@ -1,5 +1,5 @@
 //! Threads of requests that look random, on the same pages.
-use crate::asking::{Ask, Random};
+use crate::asking::Ask;
 use crate::ending::certified;
 use crate::lane::{Lane, lanes_of, seats_of};
 use crate::mixing::{Mix, first_of, next_of};
@@ -11,6 +11,7 @@ use std::alloc::Global;
 use std::sync::Wait;
 use std::sync::atomic::{AtomicU64, Ordering};
 use std::thread::{self, Threads};
+use test_support::random::Random;
 use vm_base::{NoMemory, Reply};
 
 /// What the threads of a space are asked for.

@@ -3,14 +3,14 @@ use certifier::{Certified, CertifyFault};
 use linked_list_allocator::LocalHeap;
 use live_lanes::alone::Alone;
 use live_lanes::ending::certified_beside;
-use live_lanes::heaps::{AMPLE, fill};
-use live_lanes::script::{request_of, setup_of};
+use live_lanes::script::{AMPLE, request_of, setup_of};
 use live_space::fault::LiveFault;
 use live_tree::histories::Histories;
 use seats::Seat;
 use std::alloc::{Allocator, Global};
 use std::sync::Wait;
 use std::test::Fail;
+use test_support::heaps::fill;
 use vm_base::NoMemory;
 
 /// A space of one core and four frames.

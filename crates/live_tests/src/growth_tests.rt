@@ -3,12 +3,12 @@ use crate::closing_tests::{slots_at_end, with_a_page};
 use crate::starved_tests::Came;
 use core_steps::SetupFault;
 use linked_list_allocator::LocalHeap;
-use live_lanes::heaps::{AMPLE, Piece, fill};
-use live_lanes::script::setup_of;
+use live_lanes::script::{AMPLE, setup_of};
 use live_space::space::Live;
 use std::alloc::Global;
 use std::sync::Wait;
 use std::test::Fail;
+use test_support::heaps::{Piece, fill};
 use vm_base::NoMemory;
 
 /// Fills the heap but for so many of the least pieces.

@@ -2,12 +2,12 @@
 use backing::FileSpec;
 use core_steps::{Setup, SetupFault};
 use linked_list_allocator::LocalHeap;
-use live_lanes::heaps::fill;
 use live_space::fault::LiveFault;
 use live_space::gate::{Gate, Open, Point};
 use live_space::space::Live;
 use std::alloc::Global;
 use std::test::Fail;
+use test_support::heaps::fill;
 use vm_base::{CoreId, Mode, NoMemory};
 
 /// A setup without files.

@@ -4,9 +4,8 @@ ghost use Rattle.live_space.specs.Space.{IsOf};
 
 use linked_list_allocator::LocalHeap;
 use live_lanes::ending::certified;
-use live_lanes::heaps::{AMPLE, fill};
 use live_lanes::lane::{Lane, lanes_of, seats_of};
-use live_lanes::script::{request_of, setup_of};
+use live_lanes::script::{AMPLE, request_of, setup_of};
 use live_space::fault::LiveFault;
 use live_space::gate::Open;
 use live_space::space::Live;
@@ -14,6 +13,7 @@ use seats::Seat;
 use std::alloc::Global;
 use std::sync::Wait;
 use std::test::Fail;
+use test_support::heaps::fill;
 use vm_base::{NoMemory, Reply};
 
 /// What a call came to.

@@ -1,6 +1,6 @@
 //! Threads of changes that look random, on the same pages.
 use certifier::Certified;
-use live_lanes::asking::{Random, wild};
+use live_lanes::asking::wild;
 use live_lanes::ending::certified;
 use live_lanes::lane::{lanes_of, seats_of};
 use live_lanes::mixing::Mix;
@@ -11,6 +11,7 @@ use live_space::space::Live;
 use std::alloc::Global;
 use std::sync::Wait;
 use std::test::Fail;
+use test_support::random::Random;
 use vm_base::NoMemory;
 
 /// How many seeds each test has threads of; `bench/stress.sh` runs more.

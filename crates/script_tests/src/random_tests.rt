@@ -6,6 +6,7 @@ use std::alloc::Global;
 use std::sync::Wait;
 use std::test::Fail;
 use std::thread::Threads;
+use test_support::random::Random;
 use vm_base::NoMemory;
 
 /// How many scripts are run; `bench/scripts.sh` runs more.
@@ -45,29 +46,6 @@ const ASKED: &str = "\
  flush
  review
 ";
-
-/// Numbers that look random, the same from the same start (Marsaglia, Xorshift RNGs, 2003).
-#[derive(Clone, Copy)]
-struct Random {
-    state: u64,
-}
-
-impl Random {
-    fn new(start: u64) -> Random {
-        Random {
-            state: start.wrapping_mul(0x9e37_79b9_7f4a_7c15).wrapping_add(1),
-        }
-    }
-
-    fn next(&mut self) -> u64 {
-        let mut x = self.state;
-        x ^= x << 13;
-        x ^= x >> 7;
-        x ^= x << 17;
-        self.state = x;
-        x >> 32
-    }
-}
 
 fn asked_lines(alloc: Global) -> Result<Vec<&'static str>, NoMemory> {
     let mut lines = Vec::new(alloc);

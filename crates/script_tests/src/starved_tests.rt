@@ -9,35 +9,11 @@ use notes_text::Script;
 use std::alloc::Global;
 use std::sync::Wait;
 use std::test::Fail;
+use test_support::heaps::fill;
 use vm_base::NoMemory;
 
 /// Room for each run of these tests.
 const AMPLE: usize = 1_500_000;
-
-/// A piece of memory that is taken, so that nobody else has it.
-type Piece<'h> = Vec<u8, &'h LocalHeap>;
-
-/// Takes pieces of so many bytes, as many as there are.
-fn fill_by<'h>(
-    heap: &'h LocalHeap,
-    taken: &mut Vec<Piece<'h>>,
-    size: usize,
-) -> Result<(), NoMemory> {
-    for _piece in 0..AMPLE {
-        let Ok(piece) = Vec::with_capacity(heap, size) else {
-            return Ok(());
-        };
-        taken.push(piece)?;
-    }
-    Ok(())
-}
-
-/// Takes all memory that is free. The least pieces are the last, and are given back first.
-fn fill<'h>(heap: &'h LocalHeap, taken: &mut Vec<Piece<'h>>) -> Result<(), NoMemory> {
-    fill_by(heap, taken, 4096)?;
-    fill_by(heap, taken, 256)?;
-    fill_by(heap, taken, 16)
-}
 
 /// How often memory was refused, and when.
 #[derive(Clone, Copy, Debug, Default, PartialEq, Eq)]

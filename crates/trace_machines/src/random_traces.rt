@@ -3,6 +3,7 @@
 //! core's window, `L` for a length of some pages or parts of one, `O` for a page of a file, `V` for
 //! a number below four. Lines divided by `; ` come together.
 use std::alloc::Global;
+use test_support::random::Random;
 use trace_text::number_text;
 use vm_base::NoMemory;
 
@@ -105,31 +106,6 @@ fold A
 fold A
 fold W
 ";
-
-/// Numbers that look random, the same from the same start (Marsaglia, Xorshift RNGs, 2003).
-#[derive(Clone, Copy)]
-pub struct Random {
-    state: u64,
-}
-
-impl Random {
-    /// The numbers from a start on.
-    pub fn new(start: u64) -> Random {
-        Random {
-            state: start.wrapping_mul(0x9e37_79b9_7f4a_7c15).wrapping_add(1),
-        }
-    }
-
-    /// A number of 32 bits.
-    pub fn next(&mut self) -> u64 {
-        let mut x = self.state;
-        x ^= x << 13;
-        x ^= x >> 7;
-        x ^= x << 17;
-        self.state = x;
-        x >> 32
-    }
-}
 
 /// The lines of some tables.
 pub fn lines_of_tables<'a>(alloc: Global, tables: &[&'a str]) -> Result<Vec<&'a str>, NoMemory> {

@@ -1,15 +1,16 @@
 //! Scripts and notes that are read, certified and written where memory is refused: all of a heap is taken, and given back bit by
 //! bit until it goes through. Each refusal is told as want of memory, and then nothing was written.
-use crate::starved::{AMPLE, Piece, fill};
 use linked_list_allocator::LocalHeap;
 use machine_model::{Event, Outcome};
 use notes_text::{Script, certify_text, read_script, write_notes};
 use seats::Noted;
 use std::alloc::{Allocator, Global};
 use std::test::Fail;
+use test_support::heaps::{Piece, fill};
 use trace::fault::TraceFault;
 use trace_io::sink;
 use trace_io::source::Counted;
+use trace_machines::starved::AMPLE;
 use vm_base::{CoreId, NoMemory, Reply, Request, SegvCode};
 
 /// What is told of a refusal, with nothing before it.

@@ -1,14 +1,14 @@
 //! Steps of a machine over the tree, noted as seats note them.
 ghost use Rattle.slot_lock.specs.Slots.{IsNew};
 
-use crate::by_hand::{Moves, outcome_of};
-use crate::machines::{declared, machine_over};
-use crate::random::Random;
 use machine_model::{Event, Outcome};
 use radix_range::RadixMap;
 use seats::Noted;
 use slot_lock::SlotMap;
 use std::alloc::{Allocator, Global};
+use test_support::random::Random;
+use trace_machines::by_hand::{Moves, outcome_of};
+use trace_machines::machines::{declared, machine_over};
 use trace_text::read_line;
 use vm_base::NoMemory;
 

@@ -9,6 +9,7 @@ use machine_model::{Event, Outcome};
 use radix_range::RadixMap;
 use slot_lock::{SlotList, SlotMap};
 use std::alloc::{Allocator, Global};
+use test_support::heaps::{Piece, fill};
 use trace::outcome_text::write_outcome;
 use trace::shown::Show;
 use trace_text::{LineText, read_line};
@@ -22,31 +23,6 @@ pub const AMPLE: usize = 1_500_000;
 pub enum Marks {
     Told,
     Untold,
-}
-
-/// A piece of memory that is taken, so that nobody else has it.
-pub type Piece<'a> = Vec<u8, &'a LocalHeap>;
-
-/// Takes pieces of so many bytes, as many as there are.
-fn fill_by<'h>(
-    heap: &'h LocalHeap,
-    taken: &mut Vec<Piece<'h>>,
-    size: usize,
-) -> Result<(), NoMemory> {
-    for _piece in 0..AMPLE {
-        let Ok(piece) = Vec::with_capacity(heap, size) else {
-            return Ok(());
-        };
-        taken.push(piece)?;
-    }
-    Ok(())
-}
-
-/// Takes all memory that is free. The least pieces are the last, and are given back first.
-pub fn fill<'h>(heap: &'h LocalHeap, taken: &mut Vec<Piece<'h>>) -> Result<(), NoMemory> {
-    fill_by(heap, taken, 4096)?;
-    fill_by(heap, taken, 256)?;
-    fill_by(heap, taken, 16)
 }
 
 /// A machine in a heap that is full before each event.

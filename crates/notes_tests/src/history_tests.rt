@@ -3,7 +3,6 @@
 ghost use Rattle.std.specs.Prelude.{◌<◌, ◌^◌};
 
 use crate::noting::notes_of_lines;
-use crate::starved::{AMPLE, fill};
 use certifier::{Certified, CertifyFault, certify};
 use core_steps::Setup;
 use linked_list_allocator::LocalHeap;
@@ -16,6 +15,8 @@ use seats::Noted;
 use std::alloc::{Allocator, Global};
 use std::sync::Wait;
 use std::test::Fail;
+use test_support::heaps::fill;
+use trace_machines::starved::AMPLE;
 use vm_base::{Back, CoreId, Meta, NoMemory, Prot};
 
 /// A page is mapped, and unmapped again, each at once. The steps of the first call have the tickets 0

@@ -1,9 +1,5 @@
 //! Notes of steps, certified and refused.
-use crate::in_one_run::events_of;
-use crate::machines::{declared, machine_over};
 use crate::noting::{notes_of_lines, shuffle};
-use crate::random::{Random, STEP_LINES, WHOLE_LINES, lines_of_tables, random_trace};
-use crate::starved::{AMPLE, fill};
 use certifier::{Certified, CertifyFault, certify};
 use core_steps::{Setup, SetupFault};
 use linked_list_allocator::LocalHeap;
@@ -12,6 +8,12 @@ use radix_range::RadixMap;
 use seats::Noted;
 use std::alloc::Global;
 use std::test::Fail;
+use test_support::heaps::fill;
+use test_support::random::Random;
+use trace_machines::in_one_run::events_of;
+use trace_machines::machines::{declared, machine_over};
+use trace_machines::random_traces::{STEP_LINES, WHOLE_LINES, lines_of_tables, random_trace};
+use trace_machines::starved::AMPLE;
 use vm_base::{CoreId, NoMemory, Reply, Request, SegvCode};
 
 /// A load from page 0, which no mapping has, as one core takes its three steps, with these tickets.

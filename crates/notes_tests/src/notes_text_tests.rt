@@ -1,7 +1,5 @@
 //! Scripts and notes as text: what is read of scripts, what is written of notes, and that this is read back.
 use crate::noting::{notes_of_lines, shuffle};
-use crate::random::{Random, STEP_LINES, WHOLE_LINES, lines_of_tables, random_trace};
-use crate::starved::{AMPLE, fill};
 use linked_list_allocator::LocalHeap;
 use machine_model::{Blocker, Event, Outcome};
 use notes_text::collecting::collect;
@@ -10,9 +8,13 @@ use notes_text::{Script, certify_text, read_script, write_notes};
 use seats::Noted;
 use std::alloc::{Allocator, Global};
 use std::test::Fail;
+use test_support::heaps::fill;
+use test_support::random::Random;
 use trace::fault::TraceFault;
 use trace_io::sink;
 use trace_io::source::Counted;
+use trace_machines::random_traces::{STEP_LINES, WHOLE_LINES, lines_of_tables, random_trace};
+use trace_machines::starved::AMPLE;
 use vm_base::{CoreId, CoreSet, Errno, Flags, NoMemory, Prot, Reply, Request, SegvCode};
 
 fn script_read<A: Allocator + Clone + Drop>(alloc: A, text: &str) -> Result<Script<A>, TraceFault> {

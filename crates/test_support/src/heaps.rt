@@ -2,8 +2,8 @@
 use linked_list_allocator::LocalHeap;
 use vm_base::NoMemory;
 
-/// Room for each space of these tests.
-pub const AMPLE: usize = 4_000_000;
+/// More pieces than a test's heap has room for.
+const MANY: usize = 4_000_000;
 
 /// A piece of memory that is taken, so that nobody else has it.
 pub type Piece<'h> = Vec<u8, &'h LocalHeap>;
@@ -14,7 +14,7 @@ fn fill_by<'h>(
     taken: &mut Vec<Piece<'h>>,
     size: usize,
 ) -> Result<(), NoMemory> {
-    for _piece in 0..AMPLE {
+    for _piece in 0..MANY {
         let Ok(piece) = Vec::with_capacity(heap, size) else {
             return Ok(());
         };
