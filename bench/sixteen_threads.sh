@@ -9,8 +9,9 @@ cd "$(dirname "$0")/.."
 asks=${1:-10000}
 work=$(mktemp -d)
 trap 'rm -rf "$work"' EXIT
-needed=" $(sed -n 's/^live_access_tests: //p' crates.txt) live_access_tests "
-awk -F: -v needed="$needed" 'index(needed, " " $1 " ")' crates.txt > "$work/crates.txt"
+# The lines of the crate and of all below it: crates.txt names the lowest first.
+tac crates.txt | awk -F'[ :]+' 'BEGIN { needed["live_access_tests"] = 1 }
+    needed[$1] { for (at = 2; at <= NF; at++) needed[$at] = 1; print }' | tac > "$work/crates.txt"
 for crate in $(cut -d: -f1 "$work/crates.txt"); do
     tar cf - --exclude=out --exclude=must-fail "crates/$crate" | tar xf - -C "$work"
 done
