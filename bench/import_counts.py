@@ -1,10 +1,10 @@
 #!/usr/bin/env python3
-"""Counts, out of the logs and lists in crates/import_trial/data, what an import makes of each of their lines, by regular expressions and sets of
-pages, and prints it as that program does. It shares no code with it. Usage: bench/import_counts.py > crates/import_trial/stdout"""
+"""Counts, out of the logs and lists in crates/test_import/data, what an import makes of each of their lines, by regular expressions and sets of
+pages, and prints it as that program does. It shares no code with it. Usage: bench/import_counts.py > crates/test_import/stdout"""
 import collections
 import re
 
-DATA = "crates/import_trial/data/"
+DATA = "crates/test_import/data/"
 MIB = 1 << 20
 
 

@@ -87,7 +87,7 @@ int main(int count, char **words)
 C
 cc -O1 -w -o "$work/heap" "$work/heap.c"
 cc -O1 -w -o "$work/at_exec" "$work/at_exec.c"
-cc -O1 -w -nostdlib -static -fno-stack-protector -o "$work/touch" crates/import_trial/data/touch.c
+cc -O1 -w -nostdlib -static -fno-stack-protector -o "$work/touch" crates/test_import/data/touch.c
 status=0
 # The pages of the kernel's list and of the trace's end that differ: those that the trace names, or all but the kernel's own.
 differ() {

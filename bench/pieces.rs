@@ -64,6 +64,12 @@ impl Slots {
         Slots { by_start }
     }
 
+    /// Who holds the page.
+    fn owner(&self, page: u64) -> Option<u8> {
+        let (_, slot) = self.by_start.range(..=page).next_back()?;
+        slot.owner
+    }
+
     /// Locks the slot of the page if it lies from the page up to `end` and is free, and answers its end.
     fn lock(&mut self, core: u8, page: u64, end: u64) -> Option<u64> {
         let (start, slot) = self.by_start.range_mut(..=page).next_back()?;
@@ -94,7 +100,7 @@ fn slots(pages: u64, rounds: u64) -> Duration {
     for _ in 0..rounds {
         place = (place + 30_011) % pages;
         let page = 16 + 2 * place;
-        if map.lock(core, page, page + 1).is_some() && map.unlock(core, page).is_some() {
+        if map.owner(page).is_none() && map.lock(core, page, page + 1).is_some() && map.unlock(core, page).is_some() {
             locked += 1;
         }
     }

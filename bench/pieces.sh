@@ -11,15 +11,15 @@
 #   clear                                 table entries dropped
 #   byte, fill, copy                      frames: a byte set and one read, a frame filled, a frame copied
 #   count, flush                          Refcache: an object counted up and down; that, a flush and a review
-# SPEED_PROGRAM names a program `speed` that was built already, which is then measured as it is.
+# PARTS_PROGRAM names a program `bench_parts` that was built already, which is then measured as it is.
 set -eu
 cd "$(dirname "$0")/.."
 work=$(mktemp -d)
 trap 'rm -rf "$work"' EXIT
 rustc --edition 2021 -C opt-level=3 -o "$work/pieces" bench/pieces.rs
-program=${SPEED_PROGRAM:-crates/speed/out/speed}
-if [ -z "${SPEED_PROGRAM:-}" ]; then
-    (cd crates/speed && rt run) > "$work/log" 2>&1 || { cat "$work/log" >&2; exit 3; } # proves and builds the program first
+program=${PARTS_PROGRAM:-crates/bench_parts/out/bench_parts}
+if [ -z "${PARTS_PROGRAM:-}" ]; then
+    (cd crates/bench_parts && rt run) > "$work/log" 2>&1 || { cat "$work/log" >&2; exit 3; } # proves and builds the program first
 fi
 for part in ${@:-slots look tree scan edit room gaps hit oldest newest shared one_set miss thousand clear byte fill copy count flush}; do
     for _ in 1 2 3; do

@@ -14,41 +14,58 @@
 #              1.5 of the larger of one thread and the draws alone, and one thread at most 3 times the machine
 #   calls_four the same, where each stores a byte to each of 64 mapped pages, its first access, before it unmaps them
 #   hits       the same, where each loads a byte of a page of its own, which its TLB has; of these ratios none has an aim
+# LIVE_PROGRAM names a program `bench_live` that was built already, which is then measured as it is.
 set -eu
 cd "$(dirname "$0")/.."
-log=$(mktemp)
-times=$(mktemp -d)
-trap 'rm -rf "$log" "$times"' EXIT
-build() { (cd "crates/$1" && rt run) > "$log" 2>&1 || { cat "$log" >&2; exit 3; }; } # proves and builds the program
-program=crates/speed/out/speed
-calls=crates/live_speed/out/live_speed
+work=$(mktemp -d)
+trap 'rm -rf "$work"' EXIT
+program=${LIVE_PROGRAM:-crates/bench_live/out/bench_live}
+if [ -z "${LIVE_PROGRAM:-}" ]; then
+    (cd crates/bench_live && rt run) > "$work/log" 2>&1 || { cat "$work/log" >&2; exit 3; } # proves and builds the program first
+fi
 median() { printf '%s\n' "$@" | sort -n | sed -n 3p; }
-compare() { # a name, the word for one thread and that for four
-    build speed
+compare() { # a part, and how many rounds
     ones=() fours=()
     for _ in 1 2 3 4 5; do
-        ones+=("$("$program" "$2")")
-        fours+=("$("$program" "$3")")
+        ones+=("$("$program" "$1" 1 "$2")")
+        fours+=("$("$program" "$1" 4 "$2")")
         echo "$1 one thread ${ones[-1]} ns, slowest of four ${fours[-1]} ns"
     done
     awk -v name="$1" -v one="$(median "${ones[@]}")" -v four="$(median "${fours[@]}")" \
         'BEGIN { printf "%s medians %s ns and %s ns, ratio %.2f\n", name, one, four, four / one }'
 }
-processes() { # the slowest of four programs that each time one thread
-    for i in 1 2 3 4; do "$calls" shared "$1" 1 "$2" > "$times/$i" & done
-    wait
-    sort -n "$times"/[1-4] | tail -n 1
+script() { # of the work of a round, of how many pages, how many rounds, and how many cores: each from the 17th page of its window on
+    awk -v work="$1" -v pages="$2" -v rounds="$3" -v cores="$4" 'BEGIN {
+        frames = work == "maps" ? 1 : work == "hits" ? cores : cores * pages * rounds
+        print "vm", cores, frames, 1048576
+        for (core = 0; core < cores; core++) {
+            first = sprintf("%.0f", ((core + 1) * 134217728 + 17) * 4096)
+            map = "c" core "! mmap " first " " pages * 4096 " rw- pfa"
+            if (work == "hits") print map
+            for (round = 0; round < rounds; round++) {
+                if (work == "hits") { print "c" core "! load " first; continue }
+                print map
+                for (page = 0; page < pages && work == "stores"; page++) printf "c%d! store %.0f 7\n", core, first + page * 4096
+                print "c" core "! munmap " first " " pages * 4096
+            }
+        } }'
 }
-compare_calls() { # the work of a round, and of how many pages
-    build live_speed
+processes() { # the slowest of four programs that each do a script of one core, of so many rounds
+    for i in 1 2 3 4; do "$program" shared 1 "$1" < "$work/one" > "$work/time$i" & done
+    wait
+    sort -n "$work"/time[1-4] | tail -n 1
+}
+compare_calls() { # the work of a round, of how many pages, how many rounds, and how many steps a round makes
+    script "$1" "$2" "$3" 1 > "$work/one"
+    script "$1" "$2" "$3" 4 > "$work/four"
     ones=() fours=() aparts=() others=() draws=() machines=()
     for _ in 1 2 3 4 5; do
-        ones+=("$("$calls" shared "$1" 1 "$2")")
-        fours+=("$("$calls" shared "$1" 4 "$2")")
-        aparts+=("$("$calls" apart "$1" 4 "$2")")
-        others+=("$(processes "$1" "$2")")
-        draws+=("$("$calls" draws "$1" 4 "$2")")
-        machines+=("$("$calls" machine "$1" 1 "$2")")
+        ones+=("$("$program" shared 1 "$3" < "$work/one")")
+        fours+=("$("$program" shared 4 "$3" < "$work/four")")
+        aparts+=("$("$program" apart 4 "$3" < "$work/one")")
+        others+=("$(processes "$3")")
+        draws+=("$("$program" draws 4 $(($3 * $4)) | awk -v steps="$4" '{ print $1 * steps }')")
+        machines+=("$("$program" machine 1 "$3" < "$work/one")")
         echo "$1 of $2 pages: one thread ${ones[-1]} ns, four ${fours[-1]} ns, a space each ${aparts[-1]} ns, four processes ${others[-1]} ns," \
             "draws alone ${draws[-1]} ns, machine ${machines[-1]} ns"
     done
@@ -59,15 +76,18 @@ compare_calls() { # the work of a round, and of how many pages
             printf "a space each of one %.2f, four processes of one %.2f, ", apart / one, other / one
             printf "four of the larger of one and the draws %.2f, one of the machine %.2f\n", four / most, one / machine }'
 }
+# Steps of a round where each page is a slot of its own: of a change two for a page, and six more; of a page's first access eleven; of
+# another one four.
 for kind in ${@:-own tree tickets mutex calls_1 calls_64 calls_512 calls_four hits}; do
     case $kind in
-        tree) compare tree alone four ;;
-        tickets) compare tickets tickets tickets_four ;;
-        mutex) compare mutex mutex mutex_four ;;
-        own) compare own own own_four ;;
-        calls_1 | calls_64 | calls_512) compare_calls maps "${kind#calls_}" ;;
-        calls_four) compare_calls stores 64 ;;
-        hits) compare_calls hits 1 ;;
+        tree | tickets) compare "$kind" 5000000 ;;
+        mutex) compare mutex 1000000 ;;
+        own) compare own 20000000 ;;
+        calls_1) compare_calls maps 1 20000 16 ;;
+        calls_64) compare_calls maps 64 2000 268 ;;
+        calls_512) compare_calls maps 512 400 2060 ;;
+        calls_four) compare_calls stores 64 200 972 ;;
+        hits) compare_calls hits 1 200000 4 ;;
         *) echo "bench/threads.sh: no $kind" >&2; exit 2 ;;
     esac
 done

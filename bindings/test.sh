@@ -2,7 +2,7 @@
 # Compiles the header and the examples of bindings/ over libradixvm.a (`./radixvm --build-library`), the C side with the
 # sanitizers of addresses and of undefined behaviour, by gcc and by clang, and runs them: a page-table walker beside batches and beside a
 # machine that is kept, kept machines beside batches, logs beside what was told, a shadow checker with and without a bug, what is out of
-# range and memory that is refused, the worked rows of crates/acceptance, examples/, random traces and their logs beside the program where it
+# range and memory that is refused, the worked rows of crates/test_words, examples/, random traces and their logs beside the program where it
 # is built, and the Rust crate's tests and its walkers where there is cargo. SEEDS, 20 where it isn't given, is how many walks, and how many
 # random traces of each kind, are made.
 # Usage: bindings/test.sh [--skip-without-compiler] [SEEDS]

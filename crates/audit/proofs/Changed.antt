@@ -1,17 +1,9 @@
 -- The plain page map that is kept, once pages were changed
-use Rattle.std.proofs.Common.{◌≡◌, ℕ, ◌-◌, Bool, true, false, List, Option, Some, None, is_some, refl, ◌∙◌, ap}
+use Rattle.slot_lock.proofs.Words.{◌≡◌, ℕ, ◌-◌, Bool, true, false, List, Option, Some, None, is_some, refl, ◌∙◌, ap, fun_ext, Back, Anon, Shared, Private}
+use Rattle.slot_lock.proofs.Words.{Meta, PageInfo, PageRange, Mode, Prot, has, advance, advance_back, frame_of, info_with_prot, unused, Bytes, Entry, File}
+use Rattle.slot_lock.proofs.Words.{Plain, is_mapped, mode_of}
 use Rattle.std.specs.Prelude.{cond}
-use Rattle.std.proofs.Math.Path.{fun_ext}
-use Rattle.vm_base.specs.declared.info.Back.{Back}
-use Rattle.vm_base.specs.declared.info.Back.TheVariants.{Anon, Shared, Private}
-use Rattle.vm_base.specs.declared.info.Meta.{Meta}
-use Rattle.vm_base.specs.declared.info.PageInfo.{PageInfo}
-use Rattle.vm_base.specs.declared.page.PageRange.{PageRange}
-use Rattle.vm_base.specs.declared.rights.Mode.{Mode}
-use Rattle.vm_base.specs.declared.rights.Prot.{Prot}
-use Rattle.vm_base.specs.Functions.{has}
-use Rattle.vm_base.specs.Info.{advance, advance_back, frame_of, info_with_prot, unused}
-use Rattle.vm_base.specs.Plain.{Bytes, Entry, File, Plain, is_mapped, mode_of, nothing_mapped}
+use Rattle.vm_base.specs.Plain.{nothing_mapped}
 use Rattle.vm_base.specs.Apply.{first_own, new_entry, with_prot}
 use Rattle.slot_lock.specs.declared.plan.Change.{Change}
 use Rattle.slot_lock.specs.declared.plan.Change.TheVariants.{Put, Clear, Protect}

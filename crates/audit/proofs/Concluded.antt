@@ -1,20 +1,12 @@
 -- What the judge finds, by what was found in the slots and the bytes that are kept
-use Rattle.std.proofs.Common.{◌≡◌, ◌≢◌, ℕ, ◌<◌, Bool, true, false, List, Option, Some, None, Result, Ok, Err, is_some, refl, sym, ◌∙◌, ap, subst}
-use Rattle.std.specs.Prelude.{OnOk, IfOk, IfSome, if◌then◌else◌}
-use Rattle.vm_base.specs.declared.info.PageInfo.{PageInfo}
-use Rattle.vm_base.specs.declared.page.PageRange.{PageRange}
-use Rattle.vm_base.specs.declared.rights.Mode.{Mode}
-use Rattle.vm_base.specs.declared.requests.Request.{Request}
+use Rattle.slot_lock.proofs.Words.{◌≡◌, ◌≢◌, ℕ, ◌<◌, Bool, true, false, List, Option, Some, None, Result, Ok, Err, is_some, refl, sym, ◌∙◌, ap, subst, OnOk}
+use Rattle.slot_lock.proofs.Words.{IfSome, if◌then◌else◌, PageInfo, PageRange, Mode, Request, Reply, Mapped, Done, Byte, Refused, Segv, Bus, NoFrame}
+use Rattle.slot_lock.proofs.Words.{NoMemory, MapErr, pages_from, Access, frame_of, Bytes, Plain, bytes_of, is_mapped, mode_of, entry_reply, Applies}
+use Rattle.std.specs.Prelude.{IfOk}
 use Rattle.vm_base.specs.declared.replies.Errno.{Errno}
-use Rattle.vm_base.specs.declared.replies.Reply.{Reply}
-use Rattle.vm_base.specs.declared.replies.Reply.TheVariants.{Mapped, Done, Byte, Refused, Segv, Bus, NoFrame, NoMemory}
-use Rattle.vm_base.specs.declared.replies.SegvCode.TheVariants.{MapErr, AccErr}
-use Rattle.vm_base.specs.Pages.{pages_from}
-use Rattle.vm_base.specs.declared.rights.Access.{Access}
-use Rattle.vm_base.specs.Info.{frame_of}
+use Rattle.vm_base.specs.declared.replies.SegvCode.TheVariants.{AccErr}
 use Rattle.vm_base.specs.Rights.{is_allowed}
-use Rattle.vm_base.specs.Plain.{Bytes, Plain, bytes_of, is_mapped, mode_of}
-use Rattle.vm_base.specs.Apply.{Applies, bytes_reply, entry_reply, needs_copy}
+use Rattle.vm_base.specs.Apply.{bytes_reply, needs_copy}
 use Rattle.slot_lock.specs.declared.plan.Change.{Change}
 use Rattle.slot_lock.specs.declared.plan.Change.TheVariants.{Put}
 use Rattle.slot_lock.specs.declared.plan.Goal.TheVariants as To
@@ -42,6 +34,7 @@ use Rattle.audit.proofs.Changed.{has_modes, mapped_kept, modes_kept, plain_chang
 use Rattle.audit.proofs.Judged.{HasOneAnswer, judged_compared, judged_illegal, judged_legal}
 use Rattle.audit.proofs.Judged.{one_changed, one_refused, one_touched, place_answers, place_illegal}
 use Rattle.audit.proofs.Placed.{said_reply}
+use Rattle.vm_base.specs.Places.{IsPlace}
 
 -- the check over the files that are open is that over the plain map's
 pub checked_kept : (s : Slots) (o : List FileParts) (f : FrameParts) (c : ℕ) (request : Request) (r : Result Plan Reply)
@@ -72,7 +65,7 @@ acted : (s : Slots) (o : List FileParts) (f : FrameParts) (change : Change) (ran
 acted s o f change range shoot d same c request few is =
     one_changed (plain_kept s o f) (λ n. mode_of ((plain_kept s o f).file n)) c request change (answer_to (To.Change change) (range_of change))
     (left_by (plain_kept s o f) (To.Change change) (range_of change)) is
-    (subst (λ r. Applies (plain_kept s o f) c request (answer_to (To.Change change) r) (left_by (plain_kept s o f) (To.Change change) r)) same
+    (subst (λ r. Applies IsPlace (plain_kept s o f) c request (answer_to (To.Change change) r) (left_by (plain_kept s o f) (To.Change change) r)) same
     (plain (plain_kept s o f) (files_of o) s c request (To.Change change) (Act range shoot) few (shown_kept s o f (range_of change))
     (checked_files s o f c request (Ok (PlanOf.Change change)) is) tt tt d))
 
@@ -214,7 +207,7 @@ place_made any s t o f g place reply first said h info bytes c request few is =
 -- ---- what the arguments refuse
 
 pub refused_judged : (any : Bool) (s : Slots) (o : List FileParts) (f : FrameParts) (c : ℕ) (request : Request) (reply due : Reply) (verdict : Verdict)
-    → checked (λ n. mode_of (files_of o n)) c request ≡ Err due → Applies (plain_kept s o f) c request due (plain_kept s o f)
+    → checked (λ n. mode_of (files_of o n)) c request ≡ Err due → Applies IsPlace (plain_kept s o f) c request due (plain_kept s o f)
     → Compares reply due verdict → Judges (rule_of any) (plain_kept s o f) c request reply verdict (plain_kept s o f)
 refused_judged any s o f c request reply due verdict is applies compares =
     judged_compared any (plain_kept s o f) c request reply due verdict compares

@@ -1,17 +1,12 @@
 -- Slots that are held one after another, and let go so
-use Rattle.std.proofs.Common.{◌≡◌, ℕ, zero, suc, ◌-◌, ◌^◌, ◌<◌, ◌≤◌, ◌⊎◌, inl, inr, ⊎_elim, Bool, true, Option, Some, None}
-use Rattle.std.proofs.Common.{refl, sym, ◌∙◌, ap, subst, arith}
-use Rattle.std.specs.Prelude.{if◌then◌else◌}
-use Rattle.std.proofs.lemmas.Bool.{cases_lt}
-use Rattle.vm_base.specs.Functions.{has}
-use Rattle.vm_base.specs.Pages.{IsPage, IsPageRange}
-use Rattle.vm_base.proofs.Functions.{by_test, has_in, in_has}
+use Rattle.slot_lock.proofs.Words.{◌≡◌, ℕ, zero, suc, ◌-◌, ◌^◌, ◌<◌, ◌≤◌, ◌⊎◌, inl, inr, ⊎_elim, Bool, true, Option, Some, None, refl, sym, ◌∙◌, ap, subst}
+use Rattle.slot_lock.proofs.Words.{arith, if◌then◌else◌, cases_lt, has, IsPage, IsPageRange, by_test, has_in, in_has}
 use Rattle.slot_lock.specs.Edges.{edges_below}
 use Rattle.slot_lock.specs.Slots.{Slots, IsSlotBy, IsSlotMap, IsHeld, Locks, Unlocks, Splits, Divides, between, with_owner}
 use Rattle.slot_lock.specs.SlotRuns.{OneByOne}
 use Rattle.slot_lock.proofs.Divisions.{slot_by}
 use Rattle.slot_lock.proofs.EdgeCounts.{edges_below-Divides, edges_below-most}
-use Rattle.audit.specs.Keeping.{HeldFrom, NobodyHolds}
+use Rattle.audit.specs.Keeping.{HeldFrom}
 
 -- ---- divisions that are left
 
@@ -78,12 +73,6 @@ let_go_one s t cursor end b h l u = subst (λ x. HeldFrom x b end) (sym u.now) (
     by p (inr low) (inr above) (inl high) = absurd (omega (arith, above, high))
     by p (inr low) (inr above) (inr past) = outside s cursor b None p (inr above) ∙ h.others p (inr past)
 
-pub all_let_go : (s : Slots) (cursor end : ℕ) → HeldFrom s cursor end → end ≤ cursor → NobodyHolds s
-all_let_go s cursor end h l p = ⊎_elim
-    (λ (a : p < cursor). h.others p (inl a))
-    (λ (a : cursor ≤ p). h.others p (inr (omega (arith, a, l))))
-    (cases_lt p cursor)
-
 -- slots were let go one after another
 pub run_let_go : (s t : Slots) (cursor end n upto : ℕ) → HeldFrom s cursor end → cursor ≤ end
     → OneByOne (λ x y a b. Unlocks x y 0 a end b) s t cursor n upto
@@ -123,25 +112,6 @@ valid_held s m cursor end h l =
     (first.0, omega (arith, below, l))
 
 -- ---- holding
-
-pub none_held : (s : Slots) (first : ℕ) → NobodyHolds s → HeldFrom s first first
-none_held s first free = record {
-  held = λ p low high. absurd (omega (arith, low, high));
-  others = λ p out. free p;
-  cut = λ some. absurd (omega (arith, some));
-}
-
-pub held_split : (s t : Slots) (first cursor end : ℕ) → HeldFrom s first cursor → Splits s t cursor end → HeldFrom t first cursor
-held_split s t first cursor end h x =
-    let d = x.divides.2 in
-    record {
-      held = λ p low high. ap (λ f. f p) d.owners ∙ h.held p low high;
-      others = λ p out. ap (λ f. f p) d.owners ∙ h.others p out;
-      cut = λ some. (d.kept first (h.cut some).0, d.kept cursor (h.cut some).1);
-    }
-
-pub info_split : (s t : Slots) (cursor end : ℕ) → Splits s t cursor end → t.info ≡ s.info
-info_split s t cursor end x = (x.divides.2).info
 
 pub held_locked : (s t : Slots) (first cursor end b : ℕ) → HeldFrom s first cursor → first ≤ cursor → Locks s t 0 cursor end b → HeldFrom t first b
 held_locked s t first cursor end b h low x = subst (λ y. HeldFrom y first b) (sym x.now) (record {

@@ -1,33 +1,21 @@
 -- What is judged of a request, by what its plan is
-use Rattle.std.proofs.Common.{◌≡◌, ◌≢◌, ℕ, ◌<◌, ◌⊎◌, inl, inr, not, Bool, true, false, Option, Some, None, Result, Ok, Err, refl, sym, ◌∙◌, ap, subst}
-use Rattle.std.specs.Prelude.{if◌then◌else◌, cond}
-use Rattle.std.proofs.Math.Path.{fun_ext}
-use Rattle.vm_base.specs.declared.info.Back.{Back}
-use Rattle.vm_base.specs.declared.info.Meta.{Meta}
-use Rattle.vm_base.specs.declared.rights.Access.{Access}
+use Rattle.slot_lock.proofs.Words.{◌≡◌, ◌≢◌, ℕ, ◌<◌, ◌⊎◌, inl, inr, not, Bool, true, false, Option, Some, None, Result, Ok, Err, refl, sym, ◌∙◌, ap, subst}
+use Rattle.slot_lock.proofs.Words.{if◌then◌else◌, fun_ext, Back, Meta, Access, Mode, Prot, Flags, Request, Mmap, Munmap, Mprotect, Reply, Mapped, Done, Byte}
+use Rattle.slot_lock.proofs.Words.{Refused, Segv, Bus, NoFrame, NoMemory, MapErr, is_page, page_of, page_count, pages_from, pages_of, window_of, Bytes, Entry}
+use Rattle.slot_lock.proofs.Words.{File, Plain, bytes_of, is_mapped, mode_of, refusal, AppliesAfter, Applies, put, entry_reply, meta_of, Answers, put_same}
+use Rattle.std.specs.Prelude.{cond}
 use Rattle.vm_base.specs.declared.rights.Access.TheVariants as By
-use Rattle.vm_base.specs.declared.rights.Mode.{Mode}
-use Rattle.vm_base.specs.declared.rights.Prot.{Prot}
-use Rattle.vm_base.specs.declared.requests.Flags.{Flags}
-use Rattle.vm_base.specs.declared.requests.Request.{Request}
-use Rattle.vm_base.specs.declared.requests.Request.TheVariants.{Mmap, Munmap, Mprotect, Load, Store, Fetch}
-use Rattle.vm_base.specs.declared.replies.Reply.{Reply}
-use Rattle.vm_base.specs.declared.replies.Reply.TheVariants.{Mapped, Done, Byte, Refused, Segv, Bus, NoFrame, NoMemory}
-use Rattle.vm_base.specs.declared.replies.SegvCode.TheVariants.{MapErr, AccErr}
-use Rattle.vm_base.specs.Pages.{is_page, page_of, offset_of, page_count, pages_from, pages_of, window_of}
+use Rattle.vm_base.specs.declared.requests.Request.TheVariants.{Load, Store, Fetch}
+use Rattle.vm_base.specs.declared.replies.SegvCode.TheVariants.{AccErr}
+use Rattle.vm_base.specs.Pages.{offset_of}
 use Rattle.vm_base.specs.Places.{IsFirstPlace, IsPlace, PlaceRule}
-use Rattle.vm_base.specs.Plain.{Bytes, Entry, File, Plain, bytes_of, is_mapped, mode_of}
-use Rattle.vm_base.specs.Refusals.{refusal}
 use Rattle.vm_base.specs.Requests.{is_placed}
 use Rattle.vm_base.specs.Rights.{is_allowed}
-use Rattle.vm_base.specs.Apply.{Applies, AppliesAfter, AppliesBy, FirstApplies, Maps, MapsAt, NewMapping, access_reply, accessed, after_mapping}
-use Rattle.vm_base.specs.Functions.{put}
+use Rattle.vm_base.specs.Apply.{Maps, MapsAt, NewMapping, access_reply, accessed, after_mapping}
 use Rattle.vm_base.specs.Apply.{byte_reply, bytes_reply, needs_copy, copied, detached}
-use Rattle.vm_base.specs.Apply.{detached_entry, entry_reply, is_uncopied, meta_of, range_at, stored_entry}
-use Rattle.vm_base.specs.Answers.{FirstAnswers}
+use Rattle.vm_base.specs.Apply.{detached_entry, is_uncopied, range_at, stored_entry}
 use Rattle.vm_base.specs.Copies.{if_copied, or_else, page_copied, page_due, with_copy}
 use Rattle.vm_base.proofs.Due.{after, answered, detached_due, due}
-use Rattle.vm_base.proofs.Functions.{put_same}
 use Rattle.vm_base.proofs.OneAnswer.{one_answer}
 use Rattle.vm_base.proofs.Ready.{copy_due, store_at_once, uncopied}
 use Rattle.slot_lock.specs.declared.plan.Change.{Change}
@@ -40,14 +28,14 @@ use Rattle.vm_calls.specs.Checks.{HasModes, checked, place_of, plan_of, touch_of
 use Rattle.vm_calls.proofs.Passed.{passed, touch-of}
 use Rattle.audit.specs.declared.judging.Verdict.{Verdict}
 use Rattle.audit.specs.declared.judging.Verdict.TheVariants.{Legal, Illegal}
-use Rattle.audit.specs.Judging.{Answers, Compares, Judges, JudgesPlan, after_copy, copied_first, stored, touched_after}
+use Rattle.audit.specs.Judging.{Compares, Judges, JudgesPlan, after_copy, copied_first, stored, touched_after}
 use Rattle.audit.specs.Placing.{IsAllowed, IsFirst, place_said, reply_at, rule_of}
 use Rattle.audit.proofs.Placed.{all_placed, allowed_of_rule, reply_said, rule_of_allowed}
 
 -- ---- rules of places concern mappings without MAP_FIXED alone
 
 swap_named : (r q : PlaceRule) (t : Plain) (c : ℕ) (request : Request) (y : Reply) (u : Plain) → is_placed request ≡ false
-    → AppliesBy r t c request y u → AppliesBy q t c request y u
+    → Applies r t c request y u → Applies q t c request y u
 swap_named r q t c request y u named = go (refusal (λ n. mode_of (t.file n)) request) request named
   where
     maps : (b : Bool) (asked : NewMapping) → not b ≡ false → MapsAt r b t asked y u → MapsAt q b t asked y u
@@ -65,7 +53,7 @@ swap_named r q t c request y u named = go (refusal (λ n. mode_of (t.file n)) re
     go None (Fetch addr) e h = h
 
 swap_refused : (r q : PlaceRule) (t : Plain) (c : ℕ) (request : Request) (y answer : Reply) (u : Plain)
-    → refusal (λ n. mode_of (t.file n)) request ≡ Some answer → AppliesBy r t c request y u → AppliesBy q t c request y u
+    → refusal (λ n. mode_of (t.file n)) request ≡ Some answer → Applies r t c request y u → Applies q t c request y u
 swap_refused r q t c request y answer u e h =
     subst (λ o. AppliesAfter q o t c request y u) (sym e) (subst (λ o. AppliesAfter r o t c request y u) e h)
 
@@ -117,7 +105,7 @@ store_done t x addr is h = at (t.entry page) refl is
     at (Some en) eo is' = copy en (is_uncopied en.back en.own) (bytes_of t.file en.back en.own) refl refl eo is'
 
 -- a store has the reply that its page gives, once a copy is made where one is due
-store_one : (t : Plain) (c addr byte : ℕ) (y : Reply) (u : Plain) → FirstAnswers t c (Store addr byte) y u → y ≡ after_copy (access_reply t addr By.Store)
+store_one : (t : Plain) (c addr byte : ℕ) (y : Reply) (u : Plain) → Answers IsFirstPlace t c (Store addr byte) y u → y ≡ after_copy (access_reply t addr By.Store)
 store_one t c addr byte (Mapped at) u h = sym (ap after_copy h.0)
 store_one t c addr byte (Byte b) u h = sym (ap after_copy h.0)
 store_one t c addr byte (Refused e) u h = sym (ap after_copy h.0)
@@ -137,14 +125,14 @@ store_one t c addr byte Done u h = go (detached t (page_of addr)) refl h.0
 
 -- a request that is no store is answered in the map as it is
 still : (t : Plain) (request : Request) → page_due t request ≡ None → (rule : PlaceRule) (c : ℕ) (y : Reply) (u : Plain)
-    → Answers rule t c request y u → AppliesBy rule t c request y u
-still t request none rule c y u = subst (λ m. AppliesBy rule m c request y u) (uncopied t request y none)
+    → Answers rule t c request y u → Applies rule t c request y u
+still t request none rule c y u = subst (λ m. Applies rule m c request y u) (uncopied t request y none)
 
 still_back : (t : Plain) (request : Request) → page_due t request ≡ None → (rule : PlaceRule) (c : ℕ) (y : Reply) (u : Plain)
-    → AppliesBy rule t c request y u → Answers rule t c request y u
-still_back t request none rule c y u = subst (λ m. AppliesBy rule m c request y u) (sym (uncopied t request y none))
+    → Applies rule t c request y u → Answers rule t c request y u
+still_back t request none rule c y u = subst (λ m. Applies rule m c request y u) (sym (uncopied t request y none))
 
-pub one_first : (t : Plain) (c : ℕ) (request : Request) (y z : Reply) (u v : Plain) → FirstAnswers t c request y u → FirstAnswers t c request z v → y ≡ z
+pub one_first : (t : Plain) (c : ℕ) (request : Request) (y z : Reply) (u v : Plain) → Answers IsFirstPlace t c request y u → Answers IsFirstPlace t c request z v → y ≡ z
 one_first t c (Store addr byte) y z u v h k = store_one t c addr byte y u h ∙ sym (store_one t c addr byte z v k)
 one_first t c (Mmap addr len prot flags file off) y z u v h k =
     (one_answer t u v c (Mmap addr len prot flags file off) y z (still t (Mmap addr len prot flags file off) refl IsFirstPlace c y u h)
@@ -164,7 +152,7 @@ one_first t c (Fetch addr) y z u v h k =
 -- every rule gives the request the same answers
 pub record HasOneAnswer (t : Plain) (c : ℕ) (request : Request) (due : Reply) (u : Plain) : Type 0 where
   pub answers : (any : Bool) → Answers (rule_of any) t c request due u
-  pub others : (any : Bool) (y : Reply) (v : Plain) → Answers (rule_of any) t c request y v → FirstAnswers t c request y v
+  pub others : (any : Bool) (y : Reply) (v : Plain) → Answers (rule_of any) t c request y v → Answers IsFirstPlace t c request y v
 
 pub one_named : (t : Plain) (c : ℕ) (request : Request) (due : Reply) (u : Plain) (rule : PlaceRule) → is_placed request ≡ false
     → Answers rule t c request due u → HasOneAnswer t c request due u
@@ -211,7 +199,7 @@ refused None p reply is = inr is
 refused (Some r) p reply is = let same : r ≡ reply = cc in inl (ap Some same)
 
 pub one_refused : (t : Plain) (files : ℕ → Option File) (c : ℕ) (request : Request) (due : Reply) → HasModes t files
-    → checked (λ n. mode_of (files n)) c request ≡ Err due → Applies t c request due t → HasOneAnswer t c request due t
+    → checked (λ n. mode_of (files n)) c request ≡ Err due → Applies IsPlace t c request due t → HasOneAnswer t c request due t
 one_refused t files c (Mmap addr len prot flags file off) due modes is h =
     by (refused (refusal (λ n. mode_of (files n)) (Mmap addr len prot flags file off)) (plan_of c (Mmap addr len prot flags file off)) due is)
   where
@@ -239,7 +227,7 @@ one_refused t files c (Mprotect addr len prot) due modes is h =
 one_refused t files c (Load addr) due modes is h = one_named t c (Load addr) due t IsPlace refl (still_back t (Load addr) refl IsPlace c due t h)
 one_refused t files c (Fetch addr) due modes is h = one_named t c (Fetch addr) due t IsPlace refl (still_back t (Fetch addr) refl IsPlace c due t h)
 one_refused t files c (Store addr byte) due modes is h = one_named t c (Store addr byte) due t IsPlace refl
-    (subst (λ m. AppliesBy IsPlace m c (Store addr byte) due t)
+    (subst (λ m. Applies IsPlace m c (Store addr byte) due t)
     (sym (ap (λ y. with_copy t (page_copied t (Store addr byte) y)) (no_valid_page addr byte By.Store due is))) h)
 
 -- ---- changes
@@ -276,7 +264,7 @@ change_still t modes c request change is = go request (passed (refusal modes req
     go (Fetch addr) e = refl
 
 pub one_changed : (t : Plain) (modes : ℕ → Option Mode) (c : ℕ) (request : Request) (change : Change) (due : Reply) (u : Plain)
-    → checked modes c request ≡ Ok (PlanOf.Change change) → Applies t c request due u → HasOneAnswer t c request due u
+    → checked modes c request ≡ Ok (PlanOf.Change change) → Applies IsPlace t c request due u → HasOneAnswer t c request due u
 one_changed t modes c request change due u is h = one_named t c request due u IsPlace (change_named modes c request change is)
     (still_back t request (change_still t modes c request change is) IsPlace c due u h)
 
@@ -302,7 +290,7 @@ plain_access t addr byte a NoFrame e = refl
 plain_access t addr byte a NoMemory e = refl
 
 one_store : (t : Plain) (c addr byte : ℕ) (y : Reply) → y ≡ after_copy (access_reply t addr By.Store)
-    → FirstAnswers t c (Store addr byte) y (touched_after t (touch_of addr By.Store byte) y)
+    → Answers IsFirstPlace t c (Store addr byte) y (touched_after t (touch_of addr By.Store byte) y)
 one_store t c addr byte y is = go (access_reply t addr By.Store) refl
   where
     leaves : (z : Reply) → access_reply t addr By.Store ≡ Some z → touched_after t (touch_of addr By.Store byte) z ≡ accessed t addr byte z
@@ -315,20 +303,20 @@ one_store t c addr byte y is = go (access_reply t addr By.Store) refl
     leaves NoFrame e = refl
     leaves NoMemory e = refl
 
-    go : (o : Option Reply) → access_reply t addr By.Store ≡ o → FirstAnswers t c (Store addr byte) y (touched_after t (touch_of addr By.Store byte) y)
+    go : (o : Option Reply) → access_reply t addr By.Store ≡ o → Answers IsFirstPlace t c (Store addr byte) y (touched_after t (touch_of addr By.Store byte) y)
     go None e =
         let done : y ≡ Done = is ∙ ap after_copy e in
         let d = due t addr e in
         let map : with_copy t (page_copied t (Store addr byte) Done) ≡ after t addr d = copy_due t addr byte d in
         let first : copied_first t (page_of addr) ≡ after t addr d = ap (or_else t) (detached_due t addr d) in
-        subst (λ z. FirstAnswers t c (Store addr byte) z (touched_after t (touch_of addr By.Store byte) z)) (sym done)
-        (subst (λ m. FirstApplies m c (Store addr byte) Done (stored t (touch_of addr By.Store byte))) (sym map)
+        subst (λ z. Answers IsFirstPlace t c (Store addr byte) z (touched_after t (touch_of addr By.Store byte) z)) (sym done)
+        (subst (λ m. Applies IsFirstPlace m c (Store addr byte) Done (stored t (touch_of addr By.Store byte))) (sym map)
         (answered t addr d, ap (λ m. stored_entry m (page_of addr) (m.entry (page_of addr)) (offset_of addr) byte) first))
     go (Some z) e =
         let same : y ≡ z = is ∙ ap after_copy e in
         let reply : access_reply t addr By.Store ≡ Some y = e ∙ ap Some (sym same) in
         let map : with_copy t (page_copied t (Store addr byte) y) ≡ t = store_at_once t addr byte y reply in
-        subst (λ m. FirstApplies m c (Store addr byte) y (touched_after t (touch_of addr By.Store byte) y)) (sym map)
+        subst (λ m. Applies IsFirstPlace m c (Store addr byte) y (touched_after t (touch_of addr By.Store byte) y)) (sym map)
         (reply, leaves y reply)
 
 -- an access that is no store is done by no reply, and leaves the map
@@ -417,17 +405,17 @@ one_touched t modes c request touch y is reply = go request (passed (refusal mod
         let q = at addr 0 By.Load e in
         let r = read_reply t addr 0 By.Load y (λ d. absurd cc) q.0 q.2 in
         one_named t c (Load addr) y (touched_after t touch y) IsFirstPlace refl
-        (subst (λ x. FirstAnswers t c (Load addr) y (touched_after t x y)) q.1
+        (subst (λ x. Answers IsFirstPlace t c (Load addr) y (touched_after t x y)) q.1
         (still_back t (Load addr) refl IsFirstPlace c y (touched_after t (touch_of addr By.Load 0) y) r))
     go (Store addr byte) e =
         let q = at addr byte By.Store e in
         one_named t c (Store addr byte) y (touched_after t touch y) IsFirstPlace refl
-        (subst (λ x. FirstAnswers t c (Store addr byte) y (touched_after t x y)) q.1 (one_store t c addr byte y q.2))
+        (subst (λ x. Answers IsFirstPlace t c (Store addr byte) y (touched_after t x y)) q.1 (one_store t c addr byte y q.2))
     go (Fetch addr) e =
         let q = at addr 0 By.Fetch e in
         let r = read_reply t addr 0 By.Fetch y (λ d. absurd cc) q.0 q.2 in
         one_named t c (Fetch addr) y (touched_after t touch y) IsFirstPlace refl
-        (subst (λ x. FirstAnswers t c (Fetch addr) y (touched_after t x y)) q.1
+        (subst (λ x. Answers IsFirstPlace t c (Fetch addr) y (touched_after t x y)) q.1
         (still_back t (Fetch addr) refl IsFirstPlace c y (touched_after t (touch_of addr By.Fetch 0) y) r))
 
 -- ---- mappings without MAP_FIXED
@@ -441,8 +429,8 @@ record Asks (modes : ℕ → Option Mode) (c : ℕ) (request : Request) (place :
   due : (t : Plain) → page_due t request ≡ None
   to : (any : Bool) (t : Plain) (y : Reply) (u : Plain) → ◌≡◌ {A = ℕ → Option Mode} modes (λ n. mode_of (t.file n)) → (found : Option ℕ)
       → rule_of any (is_mapped t.entry) (window_of c) (page_of addr) (page_count len) found
-      → Maps t (range_at found (page_count len)) meta.back meta.prot y u → AppliesBy (rule_of any) t c request y u
-  from : (any : Bool) (t : Plain) (y : Reply) (u : Plain) → ◌≡◌ {A = ℕ → Option Mode} modes (λ n. mode_of (t.file n)) → AppliesBy (rule_of any) t c request y u
+      → Maps t (range_at found (page_count len)) meta.back meta.prot y u → Applies (rule_of any) t c request y u
+  from : (any : Bool) (t : Plain) (y : Reply) (u : Plain) → ◌≡◌ {A = ℕ → Option Mode} modes (λ n. mode_of (t.file n)) → Applies (rule_of any) t c request y u
       → (found : Option ℕ) × rule_of any (is_mapped t.entry) (window_of c) (page_of addr) (page_count len) found
       × Maps t (range_at found (page_count len)) meta.back meta.prot y u
 
@@ -557,7 +545,7 @@ maps_one : (t u v : Plain) (found : Option ℕ) (n : ℕ) (back : Back) (prot : 
 maps_one t u v None n back prot y h k = h.1 ∙ sym k.1
 maps_one t u v (Some s) n back prot y h k = h.1 ∙ sym k.1
 
-first_left : (t : Plain) (c : ℕ) (request : Request) (y : Reply) (u v : Plain) → FirstAnswers t c request y u → FirstAnswers t c request y v → u ≡ v
+first_left : (t : Plain) (c : ℕ) (request : Request) (y : Reply) (u v : Plain) → Answers IsFirstPlace t c request y u → Answers IsFirstPlace t c request y v → u ≡ v
 first_left t c request y u v h k = (one_answer (with_copy t (page_copied t request y)) u v c request y y h k).1
 
 named_left : (any : Bool) (t : Plain) (c : ℕ) (request : Request) (y : Reply) (u v : Plain) → is_placed request ≡ false

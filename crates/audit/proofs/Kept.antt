@@ -1,17 +1,11 @@
 -- Which frames pages, and pages of files, have, once some were given back or taken
-use Rattle.std.proofs.Common.{◌≡◌, ◌≢◌, ℕ, ◌+◌, ◌-◌, ◌<◌, ◌≤◌, ◌⊎◌, inl, inr, ⊎_elim, Bool, true, false, cond, List, [], ◌∷◌}
-use Rattle.std.proofs.Common.{Option, Some, None, refl, sym, ◌∙◌, ap, subst, arith}
-use Rattle.std.proofs.lemmas.Bool.{cases_lt}
+use Rattle.slot_lock.proofs.Words.{◌≡◌, ◌≢◌, ℕ, ◌+◌, ◌-◌, ◌<◌, ◌≤◌, ◌⊎◌, inl, inr, ⊎_elim, Bool, true, false, cond, List, [], ◌∷◌, Option, Some, None, refl}
+use Rattle.slot_lock.proofs.Words.{sym, ◌∙◌, ap, subst, arith, cases_lt, fun_ext, Meta, PageInfo, Prot, PageRange, put, has, advance, frame_of}
+use Rattle.slot_lock.proofs.Words.{info_with_prot, unused, by_test, eq_false, eq_true, has_in, in_has, put_other}
 use Rattle.std.specs.Prelude.{◌==◌, ◌||◌}
 use Rattle.std.specs.List.{list_any}
-use Rattle.std.proofs.Math.Path.{fun_ext}
-use Rattle.vm_base.specs.declared.info.Meta.{Meta}
-use Rattle.vm_base.specs.declared.info.PageInfo.{PageInfo}
-use Rattle.vm_base.specs.declared.rights.Prot.{Prot}
-use Rattle.vm_base.specs.declared.page.PageRange.{PageRange}
-use Rattle.vm_base.specs.Functions.{put, has}
-use Rattle.vm_base.specs.Info.{advance, frame_of, info_with_prot, info_without_frame, unused}
-use Rattle.vm_base.proofs.Functions.{by_test, eq_false, eq_true, has_in, in_has, put_other, over_all, across_all}
+use Rattle.vm_base.specs.Info.{info_without_frame}
+use Rattle.vm_base.proofs.Functions.{over_all, across_all}
 use Rattle.slot_lock.specs.declared.plan.Change.{Change}
 use Rattle.slot_lock.specs.declared.plan.Change.TheVariants.{Put, Clear, Protect}
 use Rattle.slot_lock.specs.Plan.{range_of}

@@ -1,19 +1,14 @@
 -- Places of mappings without MAP_FIXED
-use Rattle.std.proofs.Common.{◌≡◌, ℕ, ◌+◌, ◌*◌, ◌%◌, ◌^◌, ◌<◌, ◌≤◌, inl, inr, Bool, true, false, Option, Some, None, refl, sym, ◌∙◌, ap, subst, arith}
-use Rattle.std.specs.Prelude.{if◌then◌else◌, ◌==◌, IfSome, IfNone}
-use Rattle.vm_base.specs.declared.page.PageRange.{PageRange}
-use Rattle.vm_base.specs.declared.info.Meta.{Meta}
-use Rattle.vm_base.specs.declared.replies.Errno.TheVariants.{EINVAL, ENOMEM, EACCES, EBADF, EOVERFLOW}
-use Rattle.vm_base.specs.declared.replies.Reply.{Reply}
-use Rattle.vm_base.specs.declared.replies.Reply.TheVariants.{Mapped, Done, Byte, Refused, Segv, Bus, NoFrame, NoMemory}
-use Rattle.vm_base.proofs.Functions.{eq_true}
-use Rattle.vm_base.specs.Pages.{IsPageRange, are_pages, is_aligned, page_count, page_of, pages_from, window_of}
-use Rattle.vm_base.specs.Places.{IsFree, IsHint, IsLeastRoom, IsRoom}
+use Rattle.slot_lock.proofs.Words.{◌≡◌, ℕ, ◌+◌, ◌*◌, ◌%◌, ◌^◌, ◌<◌, ◌≤◌, inl, inr, Bool, true, false, Option, Some, None, refl, sym, ◌∙◌, ap, subst, arith}
+use Rattle.slot_lock.proofs.Words.{if◌then◌else◌, IfSome, PageRange, Meta, ENOMEM, EACCES, Reply, Mapped, Done, Byte, Refused, Segv, Bus, NoFrame, NoMemory}
+use Rattle.slot_lock.proofs.Words.{eq_true, are_pages, page_count, page_of, pages_from, window_of, IsFree, IsLeastRoom, IsRoom, is_mapped}
+use Rattle.std.specs.Prelude.{◌==◌, IfNone}
+use Rattle.vm_base.specs.declared.replies.Errno.TheVariants.{EINVAL, EBADF, EOVERFLOW}
+use Rattle.vm_base.specs.Pages.{is_aligned}
+use Rattle.vm_base.specs.Places.{IsHint}
 use Rattle.vm_base.specs.Places.IsFirstPlace.{at_hint, in_window}
 use Rattle.slot_lock.specs.declared.plan.Place.{Place}
-use Rattle.slot_lock.specs.Plan.{IsSoundHint, IsSoundPlace}
 use Rattle.slot_lock.specs.Slots.{Slots, IsFreeRun}
-use Rattle.vm_base.specs.Plain.{is_mapped}
 use Rattle.vm_calls.specs.Checks.{hint_at, place_of, placed_count}
 use Rattle.vm_calls.specs.Decisions.{entries}
 use Rattle.vm_calls.proofs.Rooms.{room-run, run-room}
@@ -33,10 +28,6 @@ some_room s n None found some none = some refl
 some_room s n (Some f) found some none = none f (run-room s all_pages n f found)
 
 -- ---- the first place
-
-pub hint_range : (place : Place) (range : PageRange) → IsSoundPlace place → place.hint ≡ Some range
-    → IsPageRange range × (range.end ≡ range.first + place.count)
-hint_range place range ok is = subst (λ (hint : Option PageRange). IsSoundHint hint place.count) is ok.hint
 
 -- there is one first place
 pub first_one : (m : ℕ → Bool) (place : Place) (a b : Option ℕ) → IsFirst m place a → IsFirst m place b → a ≡ b
@@ -65,31 +56,6 @@ first_one m place a b (inr h) (inr k) = least_one a b h.1 k.1
         let not_above : ¬ s < t = λ x. r.1 s x l.0 in
         let same : s ≡ t = omega (arith, not_below, not_above) in
         ap Some same
-
--- the pages of a place are valid
-room_range : (m : ℕ → Bool) (window : PageRange) (n s : ℕ) → 1 ≤ n → 1 ≤ window.first → window.end ≤ 2 ^ 35 → IsRoom m window n s
-    → IsPageRange (pages_from s n)
-room_range m window n s some low high room =
-    let a = room.0.low in
-    let b = room.0.high in
-    record { some = omega (arith, some); low = omega (arith, low, a); high = omega (arith, high, b) }
-
-pub first_range : (m : ℕ → Bool) (place : Place) (s : ℕ) → IsSoundPlace place → IsFirst m place (Some s) → IsPageRange (pages_from s place.count)
-first_range m place s ok (inl h) =
-    let z = hint_range place h.0 ok h.1 in
-    let at : Some s ≡ Some (h.0).first = h.3 in
-    let same : s ≡ (h.0).first = cc in
-    let size = z.1 in
-    let low = z.0.low in
-    let high = z.0.high in
-    let some = ok.some in
-    record { some = omega (arith, some); low = omega (arith, same, low); high = omega (arith, same, size, high) }
-first_range m place s ok (inr h) = room_range m place.window place.count s ok.some ok.window.low ok.window.high h.1.0
-
-pub allowed_range : (any : Bool) (m : ℕ → Bool) (place : Place) (s : ℕ) → IsSoundPlace place → IsAllowed any m place (Some s)
-    → IsPageRange (pages_from s place.count)
-allowed_range true m place s ok h = room_range m all_pages place.count s ok.some (omega arith) (omega arith) h
-allowed_range false m place s ok h = first_range m place s ok h
 
 -- ---- the rule of a request, and of its plan
 

@@ -1,12 +1,12 @@
 -- Calls one after another
-use Rattle.std.proofs.Common.{◌≡◌, ℕ, zero, suc, ◌+◌, ◌<◌, Bool, List, [], ◌∷◌, ◌++◌, Some, length, take, slice_get, arith, refl, sym, ◌∙◌, ap, subst}
+use Rattle.slot_lock.proofs.Words.{◌≡◌, ℕ, zero, suc, ◌+◌, ◌<◌, Bool, List, [], ◌∷◌, ◌++◌, Some, length, take, refl, sym, ◌∙◌, ap, subst, take_more, Plain}
+use Rattle.slot_lock.proofs.Words.{Answers}
+use Rattle.std.proofs.Common.{slice_get}
 use Rattle.std.specs.Prelude.{get_or}
-use Rattle.std.proofs.lemmas.List.{take_more}
 use Rattle.vm_base.specs.Places.{PlaceRule}
-use Rattle.vm_base.specs.Plain.{Plain}
 use Rattle.audit.specs.declared.auditor.Call.{Call}
 use Rattle.audit.specs.declared.auditor.Wrong.{Wrong}
-use Rattle.audit.specs.Judging.{Answers, AreReplies, IsFirstWrong}
+use Rattle.audit.specs.Judging.{AreReplies, IsFirstWrong}
 use Rattle.audit.specs.Placing.{rule_of}
 use Rattle.audit.proofs.Judged.{one_left}
 
@@ -44,8 +44,3 @@ wrong_none any t u v cs wrong w h =
     let f = front (rule_of any) t v cs wrong.at w.call w.is_call h in
     let same : f.0 ≡ u = one_map any t f.0 u (take wrong.at cs) f.1 w.before in
     w.none f.2.0 (subst (λ m. Answers (rule_of any) m w.call.core w.call.request w.call.reply f.2.0) same f.2.1)
-
-pub at_call : (cs : List Call) (at : ℕ) (c : Call) → at < length cs → c ≡ get_or cs at c → slice_get cs at ≡ Some c
-at_call [] at c l is = absurd (omega arith)
-at_call (d ∷ cs) zero c l is = ap Some (sym is)
-at_call (d ∷ cs) (suc at) c l is = at_call cs at c (omega arith) is

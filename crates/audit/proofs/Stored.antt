@@ -1,18 +1,11 @@
 -- The plain page map that is kept, once a byte was stored
-use Rattle.std.proofs.Common.{◌≡◌, ◌≢◌, ℕ, ◌<◌, ◌⊎◌, inl, inr, Bool, true, false, List, Option, Some, None, is_some, refl, sym, ◌∙◌, ap, subst}
-use Rattle.std.specs.Prelude.{cond, ◌==◌, if◌then◌else◌, nat_lt, IfSome}
-use Rattle.std.proofs.Math.Path.{fun_ext}
-use Rattle.vm_base.specs.declared.info.Back.{Back}
-use Rattle.vm_base.specs.declared.info.Back.TheVariants.{Anon, Shared, Private}
-use Rattle.vm_base.specs.declared.info.PageInfo.{PageInfo}
-use Rattle.vm_base.specs.declared.rights.Mode.{Mode}
-use Rattle.vm_base.specs.declared.rights.Prot.{Prot}
-use Rattle.vm_base.specs.Functions.{put}
-use Rattle.vm_base.specs.Info.{frame_of}
-use Rattle.vm_base.specs.Plain.{Bytes, Entry, File, Plain, bytes_in, bytes_of, file_bytes, zeros}
+use Rattle.slot_lock.proofs.Words.{◌≡◌, ◌≢◌, ℕ, ◌<◌, ◌⊎◌, inl, inr, Bool, true, false, List, Option, Some, None, is_some, refl, sym, ◌∙◌, ap, subst}
+use Rattle.slot_lock.proofs.Words.{if◌then◌else◌, IfSome, fun_ext, Back, Anon, Shared, Private, PageInfo, Mode, Prot, put, frame_of, Bytes, Entry, File}
+use Rattle.slot_lock.proofs.Words.{Plain, bytes_of, eq_true, eq_false, put_same, put_other}
+use Rattle.std.specs.Prelude.{cond, ◌==◌, nat_lt}
+use Rattle.vm_base.specs.Plain.{bytes_in, file_bytes, zeros}
 use Rattle.vm_base.specs.Apply.{copied, detached_entry, first_own, is_uncopied, stored_back, stored_entry, with_byte}
 use Rattle.vm_base.specs.Copies.{or_else}
-use Rattle.vm_base.proofs.Functions.{eq_true, eq_false, put_same, put_other}
 use Rattle.slot_lock.specs.declared.plan.Touch.{Touch}
 use Rattle.slot_lock.specs.Framed.{frames_in}
 use Rattle.slot_lock.specs.Slots.{Slots}

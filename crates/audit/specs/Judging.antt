@@ -4,10 +4,10 @@ use Rattle.vm_base.specs.declared.replies.Reply.{Reply}
 use Rattle.vm_base.specs.declared.replies.Reply.TheVariants.{Done}
 use Rattle.vm_base.specs.declared.requests.Request.{Request}
 use Rattle.vm_base.specs.Plain.{Plain, mode_of}
-use Rattle.vm_base.specs.Places.{PlaceRule}
-use Rattle.vm_base.specs.Apply.{AppliesBy, detached, stored_entry}
-use Rattle.vm_base.specs.Answers.{FirstAnswers}
-use Rattle.vm_base.specs.Copies.{page_copied, with_copy, or_else}
+use Rattle.vm_base.specs.Places.{PlaceRule, IsFirstPlace}
+use Rattle.vm_base.specs.Apply.{detached, stored_entry}
+use Rattle.vm_base.specs.Answers.{Answers}
+use Rattle.vm_base.specs.Copies.{or_else}
 use Rattle.slot_lock.specs.declared.plan.Touch.{Touch}
 use Rattle.slot_lock.specs.declared.plan.Plan.{Plan as PlanOf}
 use Rattle.vm_calls.specs.Checks.{checked}
@@ -17,19 +17,13 @@ use Rattle.audit.specs.declared.auditor.Wrong.{Wrong}
 use Rattle.audit.specs.declared.judging.Verdict.{Verdict}
 use Rattle.audit.specs.declared.judging.Verdict.TheVariants.{Legal, Illegal}
 
--- The core's request is answered y by the plain map t, and leaves u, where places go by the rule: after
--- the copy that is due before it, if one is.
-abbrev pub Answers : PlaceRule → Plain → ℕ → Request → Reply → Plain → Type 0
-Answers rule t core request y u =
-    AppliesBy rule (with_copy t (page_copied t request y)) core request y u
-
 -- A reply is legal where it is the plain map's, and then u is what it leaves. Else no plain map has that
 -- reply, the first one is told in its place, and u is the map as it was.
 abbrev pub Judges : PlaceRule → Plain → ℕ → Request → Reply → Verdict → Plain → Type 0
 Judges rule t core request y Legal u = Answers rule t core request y u
 Judges rule t core request y (Illegal first) u =
     ((v : Plain) → ¬ Answers rule t core request y v)
-    × ((v : Plain) × FirstAnswers t core request first v) × (u ≡ t)
+    × ((v : Plain) × Answers IsFirstPlace t core request first v) × (u ≡ t)
 
 -- The replies of the calls, one after another, are the plain map's, from t on, and leave u.
 abbrev pub AreReplies : PlaceRule → Plain → List Call → Plain → Type 0
@@ -45,7 +39,7 @@ pub record IsFirstWrong (rule : PlaceRule) (t : Plain) (calls : List Call) (wron
   pub is_call : slice_get calls wrong.at ≡ Some call
   pub before : AreReplies rule t (take wrong.at calls) u
   pub none : (v : Plain) → ¬ Answers rule u call.core call.request call.reply v
-  pub due : (v : Plain) × FirstAnswers u call.core call.request wrong.due v
+  pub due : (v : Plain) × Answers IsFirstPlace u call.core call.request wrong.due v
 
 -- the same of each request that makes this plan
 abbrev pub JudgesPlan : Bool → Plain → PlanOf → Reply → Verdict → Plain → Type 0

@@ -1,6 +1,6 @@
 //! What is judged of one reply.
 ghost use Rattle.std.specs.Prelude.{◌≡◌, ◌+◌, ◌↔◌, IsTrue, IfOk, OnErr, Bool};
-ghost use Rattle.slot_lock.specs.Plan.{IsSound, IsSoundChange, IsSoundPlace, IsSoundTouch};
+ghost use Rattle.slot_lock.specs.Plan.{IsSoundPlan, IsSoundChange, IsSoundPlace, IsSoundTouch};
 ghost use Rattle.slot_lock.specs.declared.plan.Plan.TheVariants as PlanOf;
 ghost use Rattle.slot_lock.specs.declared.plan.Goal.TheVariants as GoalOf;
 ghost use Rattle.vm_calls.specs.Plainly.{answer_to};
@@ -216,7 +216,7 @@ pub fn judge_plan<M: SlotMap, A: Allocator>(
     plan: Plan,
     reply: Reply,
 ) -> Result<Verdict, NoMemory>
-    requires sound { IsSound plan }
+    requires sound { IsSoundPlan plan }
     requires free { NobodyHolds (M.slots map.old) }
     requires kept { Keeps (M.slots map.old) (cached_in objects.old) frames.old }
     ensures judged { IfOk result (λ verdict. JudgesPlan any_place

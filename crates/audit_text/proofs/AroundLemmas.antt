@@ -7,9 +7,9 @@ use Rattle.vm_base.specs.declared.info.PageInfo.{PageInfo}
 use Rattle.slot_lock.specs.Slots.{Slots}
 use Rattle.frames.specs.Parts.{FrameParts, frame_bytes}
 use Rattle.backing.specs.Files.{FileParts}
-use Rattle.map_list.specs.Lines.{entry_meta, plain_metas}
-use Rattle.map_list.specs.Walked.{info_meta, slot_metas}
-use Rattle.map_list.specs.declared.lines.MapLine.{MapLine}
+use Rattle.slot_lock.specs.MapList.{entry_meta, plain_metas}
+use Rattle.slot_lock.specs.MapWalks.{info_meta, slot_metas}
+use Rattle.slot_lock.specs.declared.map_list.MapLine.{MapLine}
 use Rattle.audit.specs.Keeping.{entry_kept, plain_kept}
 use Rattle.audit_text.specs.Ends.{IsVerdict}
 use Rattle.audit_text.specs.Legal.{page_asked}

@@ -6,7 +6,7 @@ use Rattle.vm_base.specs.Plain.{Plain}
 use Rattle.vm_base.specs.declared.replies.Reply.{Reply}
 use Rattle.vm_base.specs.declared.requests.Request.{Request}
 use Rattle.audit.proofs.Sequences.{replies_push}
-use Rattle.audit.specs.Judging.{Answers, AreReplies, Judges}
+use Rattle.audit.specs.Judging.{AreReplies, Judges}
 use Rattle.audit.specs.Placing.{rule_of}
 use Rattle.audit.specs.declared.auditor.Call.{Call}
 use Rattle.audit.specs.declared.judging.Verdict.{Verdict}
@@ -16,6 +16,7 @@ use Rattle.audit_text.specs.Steps.{Hears, JudgesCall, Passes, with_answer}
 use Rattle.audit_text.specs.declared.hearing.Turn.{Turn}
 use Rattle.audit_text.specs.declared.hearing.Turn.TheVariants.{Legal, Bad, Illegal}
 use Rattle.audit_text.specs.declared.reading.Said.TheVariants as Of
+use Rattle.vm_base.specs.Answers.{Answers}
 
 none_more : {X : Type 0} (x : X) (n : ℕ) → replicate n x ++ x ∷ [] ≡ replicate (n + 1) x
 none_more x zero = refl

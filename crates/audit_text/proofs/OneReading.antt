@@ -10,50 +10,14 @@ use Rattle.trace_text.specs.declared.line.Line.{Line}
 use Rattle.trace_text.specs.declared.line.Line.TheVariants as Of
 use Rattle.trace_text.proofs.Choices.{bind_some}
 use Rattle.trace_text.proofs.LineLemmas.{read_is_said}
+use Rattle.trace_text.proofs.WordLemmas.{words_join}
 use Rattle.audit_text.specs.Grammar.{TellsEvent}
 use Rattle.audit_text.specs.Laws.{LinesSayOne}
 use Rattle.audit_text.specs.Reading.{declaration_of, declared_said, event_said}
 use Rattle.audit_text.specs.declared.reading.Said.{Said}
 use Rattle.audit_text.proofs.SaidLemmas.{comes_read, event_read, means_either}
 
--- ---- the words before a space
-
-begins_kept : (xs rest : List ℕ) → begins_word (xs ++ 32 ∷ rest) ≡ begins_word xs
-begins_kept [] rest = refl
-begins_kept (y ∷ ys) rest = refl
-
-onto_some : (y : ℕ) (ws : List Word) → (v : Word) × (vs : List Word) × (onto y ws ≡ v ∷ vs)
-onto_some y [] = (y ∷ [], [], refl)
-onto_some y (w ∷ ws) = (y ∷ w, ws, refl)
-
--- a byte of a word begins some word
-begun : (xs : List ℕ) → begins_word xs ≡ true → (v : Word) × (vs : List Word) × (words_of xs ≡ v ∷ vs)
-begun [] e = absurd (cc)
-begun (y ∷ ys) e = go (eqb y 32) (begins_word ys) e
-  where
-    go : (s b : Bool) → not s ≡ true
-        → (v : Word) × (vs : List Word) × (cond s (words_of ys) (cond b (onto y (words_of ys)) ((y ∷ []) ∷ words_of ys)) ≡ v ∷ vs)
-    go true b e = absurd (cc)
-    go false true e = onto_some y (words_of ys)
-    go false false e = (y ∷ [], words_of ys, refl)
-
--- a space parts words
-words_split : (front rest : List ℕ) → words_of (front ++ 32 ∷ rest) ≡ words_of front ++ words_of rest
-words_split [] rest = refl
-words_split (x ∷ xs) rest = go (eqb x 32) (begins_word xs) refl (words_split xs rest)
-  where
-    behind : List Word
-    behind = words_of (xs ++ 32 ∷ rest)
-
-    go : (s b : Bool) → begins_word xs ≡ b → behind ≡ words_of xs ++ words_of rest
-        → cond s behind (cond (begins_word (xs ++ 32 ∷ rest)) (onto x behind) ((x ∷ []) ∷ behind))
-        ≡ cond s (words_of xs) (cond b (onto x (words_of xs)) ((x ∷ []) ∷ words_of xs)) ++ words_of rest
-    go true b e more = more
-    go false true e more =
-        let (v, vs, is) = begun xs e in
-        ap (λ c. cond c (onto x behind) ((x ∷ []) ∷ behind)) (begins_kept xs rest ∙ e)
-        ∙ (ap (onto x) (more ∙ ap (λ l. l ++ words_of rest) is) ∙ ap (λ l. onto x l ++ words_of rest) (sym is))
-    go false false e more = ap (λ c. cond c (onto x behind) ((x ∷ []) ∷ behind)) (begins_kept xs rest ∙ e) ∙ ap (λ l. (x ∷ []) ∷ l) more
+-- ---- words
 
 -- the first word of a line whose first byte is a #
 comment_word : (xs : List ℕ) (w : Word) (more : List Word) → words_of (35 ∷ xs) ≡ w ∷ more → byte w ≡ 35
@@ -120,7 +84,7 @@ apart_at [] rest text line other said declared w more words e s read d = absurd 
 apart_at (x ∷ xs) rest text line other said declared w more words e s read d = go (eqb x 35) refl read
   where
     split : words_of (x ∷ (xs ++ 32 ∷ rest)) ≡ w ∷ (more ++ words_of rest)
-    split = words_split (x ∷ xs) rest ∙ ap (λ l. l ++ words_of rest) words
+    split = words_join (x ∷ xs) rest ∙ ap (λ l. l ++ words_of rest) words
 
     go : (b : Bool) → eqb x 35 ≡ b → cond b (Some Of.Blank) (line_of_words (words_of (x ∷ (xs ++ 32 ∷ rest)))) ≡ Some other → ⊥
     go true is k =

@@ -14,7 +14,8 @@ use Rattle.audit_text.specs.Legal.{Follows, IsLegal, IsPlace, IsWrong, first_map
 use Rattle.audit_text.specs.Steps.{EndsFront, HasEnded, Hears, IsAtLine, IsCall, IsFound, IsRefused, TurnsOut}
 use Rattle.audit_text.specs.declared.hearing.Turn.TheVariants.{Legal, Illegal}
 use Rattle.audit_text.specs.declared.input.AuditFault.{AuditFault}
-use Rattle.audit_text.specs.declared.input.AuditFault.TheVariants.{BadLine, TooLong, NoMemory}
+use Rattle.audit_text.specs.declared.input.AuditFault.TheVariants.{BadLine, TooLong, Io}
+use Rattle.trace_io.specs.declared.fault.IoFault.TheVariants.{NoMemory}
 use Rattle.audit_text.specs.declared.judging.Verdict.{Verdict}
 use Rattle.audit_text.specs.declared.judging.Verdict.TheVariants as Of
 use Rattle.audit_text.specs.declared.reading.Said.{Said}
@@ -60,9 +61,6 @@ pub ended_front : (lines rest more : List (List ℕ)) (n : ℕ) (d e : Declared)
 ended_front lines rest more n d e line said p is says (same, ended) =
     subst (λ (x : Declared). EndsFront lines x (Some said) (n + 1) more) (sym same) (at_line lines rest more n (Front d) line said p is says, ended)
 
-pub ended_last : (lines rest : List (List ℕ)) (n : ℕ) (d : Declared) → IsPlace lines n rest (Front d) → rest ≡ [] → EndsFront lines d None n []
-ended_last lines rest n d p e = subst (λ l. IsPlace lines n l (Front d)) e p
-
 -- ---- faults
 
 pub fault_here : (any : Bool) (lines rest more : List (List ℕ)) (n : ℕ) (s : Stage) (t : Plain) (line : List ℕ) (f : AuditFault)
@@ -89,7 +87,6 @@ fault_here any lines rest more n s t line (TooLong k) p h e (is, long) = record 
   replies = h;
   long = long;
 }
-fault_here any lines rest more n s t line NoMemory p h e says = tt
 fault_here any lines rest more n s t line f p h e says = absurd says
 
 pub bad_at : (any : Bool) (lines more : List (List ℕ)) (n : ℕ) (s : Stage) (t : Plain) (said : Said) → IsAtLine lines n said more s → Follows any s t
@@ -188,7 +185,7 @@ pub turn_fault : (any : Bool) (lines more : List (List ℕ)) (d : Declared) (h k
 turn_fault any lines more d h k t u said n (BadLine m) c turns =
     subst (λ i. IsAtFault any lines (BadLine i)) (sym turns.0)
     (bad_at any lines more n c.stage t said c.at c.follows (c.after ∙ ap (behind d) turns.1))
-turn_fault any lines more d h k t u said n NoMemory c turns = tt
+turn_fault any lines more d h k t u said n (Io NoMemory) c turns = tt
 turn_fault any lines more d h k t u said n f c turns = absurd turns
 
 -- ---- the same of a turn whose rule is known by an equation

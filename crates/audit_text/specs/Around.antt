@@ -1,8 +1,8 @@
 -- The mappings around a page.
 use Rattle.std.specs.Prelude.{◌≡◌, ℕ, ◌^◌, ◌≤◌, ◌⊎◌, List, length, Option}
 use Rattle.vm_base.specs.declared.info.Meta.{Meta}
-use Rattle.map_list.specs.Lines.{ListsLines}
-use Rattle.map_list.specs.declared.lines.MapLine.{MapLine}
+use Rattle.slot_lock.specs.MapList.{ListsLines}
+use Rattle.slot_lock.specs.declared.map_list.MapLine.{MapLine}
 
 -- These are all mappings from one page up to another, in order. The first of these pages isn't behind this one, unless it is
 -- page 1, and they are four mappings, or the last ones.

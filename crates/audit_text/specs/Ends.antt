@@ -1,16 +1,17 @@
 -- How an audit ends, and what it writes.
-use Rattle.std.specs.Prelude.{◌≡◌, ◌⊎◌, ℕ, ⊤, Bool, true, OnOk, List, [], ◌++◌, Option, Result, Ok, Err, codes, decimal}
+use Rattle.std.specs.Prelude.{◌≡◌, ℕ, ⊤, Bool, List, [], ◌++◌, Option, Result, Ok, Err, codes, decimal}
 use Rattle.std.specs.List.{flat_map}
 use Rattle.std.specs.Io.KnownBytes.{Keeps, Appends}
+use Rattle.trace_io.specs.Io.{ReadFrom, TellsSent, WrittenTo}
 use Rattle.trace_io.specs.Lines.{lines_of}
 use Rattle.trace_io.specs.Sink.{AppendsFront}
-use Rattle.trace_io.specs.Source.{HasStopped}
+use Rattle.trace_io.specs.declared.fault.IoFault.TheVariants.{ReadFailed, NoMemory, WriteFailed}
 use Rattle.trace_text.specs.Lists.{map_line}
 use Rattle.trace_text.specs.Printing.{text_of}
-use Rattle.map_list.specs.declared.lines.MapLine.{MapLine}
+use Rattle.slot_lock.specs.declared.map_list.MapLine.{MapLine}
 use Rattle.audit_text.specs.Legal.{IsBad, IsIllegal, IsLegal, IsOverlong, LacksSpace}
 use Rattle.audit_text.specs.declared.input.AuditFault.{AuditFault}
-use Rattle.audit_text.specs.declared.input.AuditFault.TheVariants.{BadLine, TooLong, ReadFailed, NoVmLine, NoMemory, WriteFailed}
+use Rattle.audit_text.specs.declared.input.AuditFault.TheVariants.{BadLine, TooLong, NoVmLine, Io}
 use Rattle.audit_text.specs.declared.judging.Verdict.{Verdict}
 use Rattle.audit_text.specs.declared.judging.Verdict.TheVariants.{Legal, Illegal}
 
@@ -25,9 +26,8 @@ abbrev pub IsAtFault : Bool → List (List ℕ) → AuditFault → Type 0
 IsAtFault any lines (BadLine number) = IsBad any lines number
 IsAtFault any lines (TooLong number) = IsOverlong any lines number
 IsAtFault any lines NoVmLine = LacksSpace lines
-IsAtFault any lines NoMemory = ⊤
-IsAtFault any lines ReadFailed = ⊥
-IsAtFault any lines WriteFailed = ⊥
+IsAtFault any lines (Io NoMemory) = ⊤
+IsAtFault any lines (Io _) = ⊥
 
 -- ---- what is written
 
@@ -59,18 +59,14 @@ pub record Breaks (any : Bool) (input : List ℕ) (old new : Option (List ℕ)) 
 
 -- after a fault nothing was written, but after a failed write
 abbrev pub Fails : Bool → List ℕ → Option (List ℕ) → Option (List ℕ) → AuditFault → Type 0
-Fails any input old new WriteFailed = Breaks any input old new
-Fails any input old new ReadFailed = Keeps old new
+Fails any input old new (Io WriteFailed) = Breaks any input old new
+Fails any input old new (Io ReadFailed) = Keeps old new
 Fails any input old new f = IsAtFault any (lines_of input) f × Keeps old new
 
 abbrev pub AuditEnds : Bool → List ℕ → Option (List ℕ) → Option (List ℕ) → Result Verdict AuditFault → Type 0
 AuditEnds any input old new (Ok verdict) = Judges any input old new verdict
 AuditEnds any input old new (Err f) = Fails any input old new f
 
--- `read failed` is told only of a read that failed or was one too many, and `write failed` only where a write or a flush failed; where
--- it isn't told, none failed; a verdict has gone out
-pub record TellsAudit {T : Type 0} (r : Result T AuditFault) (read_failed : Bool) (reads : ℕ) (before failed is_flushed : Bool) : Type 0 where
-  pub read : r ≡ Err ReadFailed → HasStopped read_failed reads
-  pub write : r ≡ Err WriteFailed → failed ≡ true
-  pub kept : (r ≡ Err WriteFailed) ⊎ (failed ≡ before)
-  pub out : OnOk r (is_flushed ≡ true)
+-- which failures of reading and writing are told; a verdict has gone out
+abbrev pub TellsAudit : {T : Type 0} → Result T AuditFault → ReadFrom → WrittenTo → Type 0
+TellsAudit r text sink = TellsSent Io r text sink

@@ -1,8 +1,8 @@
 -- What is wrong with a line, whatever stands before it.
-use Rattle.std.specs.Prelude.{◌≡◌, ℕ, ◌<◌, ⊤, List, length}
+use Rattle.std.specs.Prelude.{◌≡◌, ℕ, ◌<◌, List, length}
 use Rattle.audit_text.specs.Grammar.{Tells}
 use Rattle.audit_text.specs.declared.input.AuditFault.{AuditFault}
-use Rattle.audit_text.specs.declared.input.AuditFault.TheVariants.{BadLine, TooLong, ReadFailed, NoMemory}
+use Rattle.audit_text.specs.declared.input.AuditFault.TheVariants.{BadLine, TooLong}
 use Rattle.audit_text.specs.declared.reading.Said.{Said}
 
 -- the line, which has this number, can't be read
@@ -10,9 +10,3 @@ abbrev pub SaysNothing : List ℕ → ℕ → AuditFault → Type 0
 SaysNothing line number (BadLine n) = (n ≡ number) × ((said : Said) → Tells said line → ⊥)
 SaysNothing line number (TooLong n) = (n ≡ number) × (512 < length line)
 SaysNothing line number _ = ⊥
-
--- a fault of reading, and no other
-abbrev pub IsReadFault : AuditFault → Type 0
-IsReadFault ReadFailed = ⊤
-IsReadFault NoMemory = ⊤
-IsReadFault _ = ⊥

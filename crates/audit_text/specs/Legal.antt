@@ -4,18 +4,19 @@ use Rattle.std.specs.Prelude.{if◌then◌else◌}
 use Rattle.vm_base.specs.declared.requests.Request.{Request}
 use Rattle.vm_base.specs.declared.requests.Request.TheVariants.{Mmap, Munmap, Mprotect, Load, Store, Fetch}
 use Rattle.vm_base.specs.declared.replies.Reply.{Reply}
-use Rattle.vm_base.specs.Answers.{FirstAnswers}
+use Rattle.vm_base.specs.Answers.{Answers}
 use Rattle.vm_base.specs.Pages.{page_of}
 use Rattle.vm_base.specs.Plain.{Plain, nothing_mapped}
-use Rattle.map_list.specs.Lines.{plain_metas}
-use Rattle.map_list.specs.declared.lines.MapLine.{MapLine}
-use Rattle.audit.specs.Judging.{Answers, AreReplies}
+use Rattle.slot_lock.specs.MapList.{plain_metas}
+use Rattle.slot_lock.specs.declared.map_list.MapLine.{MapLine}
+use Rattle.audit.specs.Judging.{AreReplies}
 use Rattle.audit.specs.Placing.{rule_of}
 use Rattle.audit.specs.declared.auditor.Call.{Call}
 use Rattle.audit_text.specs.Around.{IsAround}
 use Rattle.audit_text.specs.Grammar.{Tells}
 use Rattle.audit_text.specs.Heard.{Declared, Heard, Stage, Front, Behind, Leads, call_told, nothing, stage_after, undeclared}
 use Rattle.audit_text.specs.declared.reading.Said.{Said}
+use Rattle.vm_base.specs.Places.{IsFirstPlace}
 
 abbrev pub declared_in : Stage → Declared
 declared_in (Front d) = d
@@ -81,7 +82,7 @@ pub record IsWrong (any : Bool) (lines : List (List ℕ)) (number : ℕ) (call :
   pub tells : Tells said line
   pub told : told_at stage said ≡ Some call
   pub none : (v : Plain) → ¬ Answers (rule_of any) plain call.core call.request call.reply v
-  pub other : (v : Plain) × FirstAnswers plain call.core call.request due v
+  pub other : (v : Plain) × Answers IsFirstPlace plain call.core call.request due v
 
 -- and these mappings are around its request
 pub record IsIllegal (any : Bool) (lines : List (List ℕ)) (number : ℕ) (call : Call) (due : Reply) (around : List MapLine)

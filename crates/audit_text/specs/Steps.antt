@@ -4,15 +4,15 @@ use Rattle.std.specs.Prelude.{if◌then◌else◌}
 use Rattle.slot_lock.specs.declared.slot_map.SlotMap.{Ghosts as MapGhosts}
 use Rattle.slot_lock.specs.declared.slot_map.SlotRead.{Ghosts as ReadGhosts}
 use Rattle.backing.specs.declared.file_spec.FileSpec.{FileSpec}
-use Rattle.vm_base.specs.Answers.{FirstAnswers}
+use Rattle.vm_base.specs.Answers.{Answers}
 use Rattle.vm_base.specs.Plain.{File, Plain, file_with}
-use Rattle.audit.specs.Judging.{Answers, AreReplies}
+use Rattle.audit.specs.Judging.{AreReplies}
 use Rattle.audit.specs.Placing.{rule_of}
 use Rattle.audit_text.specs.Grammar.{Tells}
 use Rattle.audit_text.specs.Heard.{Declared, Heard, Stage, Front, behind, call_told, heard_after, nothing, one_passed, stage_after}
 use Rattle.audit_text.specs.Legal.{Follows, IsLegal, IsPlace, IsWrong, declared_in, heard_in, page_asked, told_at}
 use Rattle.audit_text.specs.Around.{IsAround}
-use Rattle.map_list.specs.declared.lines.MapLine.{MapLine}
+use Rattle.slot_lock.specs.declared.map_list.MapLine.{MapLine}
 use Rattle.vm_base.specs.declared.info.Meta.{Meta}
 use Rattle.audit_text.specs.declared.declaring.Declaration.{Declaration}
 use Rattle.audit_text.specs.declared.declaring.Declares.{Declares}
@@ -22,10 +22,12 @@ use Rattle.audit_text.specs.declared.hearing.Hearing.{Hearing}
 use Rattle.audit_text.specs.declared.hearing.Turn.{Turn}
 use Rattle.audit_text.specs.declared.hearing.Turn.TheVariants.{Legal, Bad, Illegal}
 use Rattle.audit_text.specs.declared.input.AuditFault.{AuditFault}
-use Rattle.audit_text.specs.declared.input.AuditFault.TheVariants.{BadLine, NoMemory}
+use Rattle.audit_text.specs.declared.input.AuditFault.TheVariants.{BadLine, Io}
+use Rattle.trace_io.specs.declared.fault.IoFault.TheVariants.{NoMemory}
 use Rattle.audit_text.specs.declared.judging.Verdict.{Verdict}
 use Rattle.audit_text.specs.declared.judging.Verdict.TheVariants as Of
 use Rattle.audit_text.specs.declared.reading.Said.{Said}
+use Rattle.vm_base.specs.Places.{IsFirstPlace}
 
 -- ---- a declaration
 
@@ -57,7 +59,7 @@ pub record IsCounted {M A : Type 0} {map : MapGhosts M} {read : ReadGhosts M} (i
 -- no plain page map gives this reply
 abbrev pub IsRefused : Bool → Plain → Turn → Type 0
 IsRefused any t (Illegal call due) = ((v : Plain) → ¬ Answers (rule_of any) t call.core call.request call.reply v)
-    × ((v : Plain) × FirstAnswers t call.core call.request due v)
+    × ((v : Plain) × Answers IsFirstPlace t call.core call.request due v)
 IsRefused any t _ = ⊤
 
 abbrev pub Hears : Bool → Heard → Plain → Said → Turn → Heard → Plain → Type 0
@@ -115,7 +117,7 @@ TurnsOut any h t said line (Ok None) k u = Hears any h t said Legal k u
 TurnsOut any h t said line (Ok (Some (Of.Legal calls passed))) k u = ⊥
 TurnsOut any h t said line (Ok (Some (Of.Illegal n call due))) k u = (n ≡ line) × Hears any h t said (Illegal call due) k u
 TurnsOut any h t said line (Err (BadLine n)) k u = (n ≡ line) × (heard_after h said ≡ None)
-TurnsOut any h t said line (Err NoMemory) k u = ⊤
+TurnsOut any h t said line (Err (Io NoMemory)) k u = ⊤
 TurnsOut any h t said line (Err _) k u = ⊥
 
 -- the verdict, without the mappings around

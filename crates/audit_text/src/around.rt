@@ -1,12 +1,11 @@
 //! The mappings around a page.
 ghost use Rattle.std.specs.Prelude.{◌≡◌, ◌-◌, ◌≤◌, ◌⊎◌, ◌^◌, IfOk};
-ghost use Rattle.map_list.specs.Lines.{GoesOn};
-ghost use Rattle.map_list.specs.Walked.{slot_metas};
+ghost use Rattle.slot_lock.specs.MapList.{GoesOn};
+ghost use Rattle.slot_lock.specs.MapWalks.{slot_metas};
 ghost use Rattle.audit_text.specs.Around.{IsAround};
 ghost use Rattle.audit_text.specs.Legal.{page_asked};
 
-use map_list::{MapLine, next_line};
-use slot_lock::SlotMap;
+use slot_lock::{MapLine, SlotMap, next_line};
 use std::alloc::Allocator;
 use vm_base::{NoMemory, Request, page_of};
 
@@ -14,7 +13,7 @@ use vm_base::{NoMemory, Request, page_of};
 const SHOWN: usize = 4;
 
 /// The page of the request's address.
-pub fn page_asked(request: Request) -> u64
+pub(crate) fn page_asked(request: Request) -> u64
     ensures { result ≡ page_asked request }
 {
     match request {
@@ -48,7 +47,7 @@ fn start_before<M: SlotMap>(map: &M, page: u64) -> u64
 
 /// The mappings around a page, in order of their pages: the last one that ends at the page or before, and those
 /// behind it, four at most.
-pub fn mappings_around<M: SlotMap, A: Allocator>(
+pub(crate) fn mappings_around<M: SlotMap, A: Allocator>(
     map: &M,
     alloc: A,
     page: u64,

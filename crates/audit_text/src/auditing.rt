@@ -1,9 +1,10 @@
 //! A text is read whole, its replies are judged, and the verdict is written.
 ghost use Rattle.std.specs.Prelude.{◌≡◌, ◌⊎◌, ◌+◌, ◌<◌, ◌≤◌, ◌^◌, [], Bool, Err, IfErr, IfOk, OnOk, List, ℕ, Some, length, true};
 ghost use Rattle.trace_io.specs.Lines.{lines_of};
+ghost use Rattle.trace_io.specs.Io.{read_from, written_to};
 ghost use Rattle.trace_io.specs.Source.{Reads};
 ghost use Rattle.slot_lock.specs.Slots.{IsNew};
-ghost use Rattle.map_list.specs.Walked.{slot_metas};
+ghost use Rattle.slot_lock.specs.MapWalks.{slot_metas};
 ghost use Rattle.audit_text.specs.Ends.{AuditEnds, IsAtFault, IsVerdict, TellsAudit};
 ghost use Rattle.audit_text.specs.Legal.{IsPlace, LacksSpace};
 ghost use Rattle.audit_text.specs.Heard.{Front};
@@ -12,15 +13,15 @@ ghost use Rattle.audit_text.specs.Steps.{EndsFront, IsFound, ShowsAround, declar
 use crate::around::{mappings_around, page_asked};
 use crate::declaring::{Declaration, declare};
 use crate::hearing::Hearing;
-use crate::input::{AuditFault, read_text};
+use crate::input::AuditFault;
 use crate::judging::{Verdict, hear_lines};
 use crate::reading::Said;
 use crate::telling::verdict_text;
-use map_list::MapLine;
-use slot_lock::SlotMap;
+use slot_lock::{MapLine, SlotMap};
 use std::alloc::Allocator;
+use trace_io::IoFault;
 use trace_io::sink::{Sink, write_out};
-use trace_io::source::Source;
+use trace_io::source::{Source, read_all};
 
 /// A verdict, and the mappings around the request of the reply that is illegal.
 #[derive(Debug, Drop)]
@@ -36,14 +37,14 @@ fn around_verdict<M: SlotMap, A: Allocator>(
     verdict: &Verdict,
 ) -> Result<Vec<MapLine, A>, AuditFault>
     ensures ok { IfOk result (λ around. ShowsAround (slot_metas (M.slots map.now)) verdict.now around.items) }
-    ensures err { IfErr result (λ f. f ≡ AuditFault.NoMemory) }
+    ensures err { IfErr result (λ f. f ≡ AuditFault.Io IoFault.NoMemory) }
 {
     let Verdict::Illegal { call, .. } = verdict else {
         return Ok(Vec::new(alloc));
     };
     match mappings_around(map, alloc, page_asked(call.request)) {
         Ok(around) => Ok(around),
-        Err(_) => Err(AuditFault::NoMemory),
+        Err(_) => Err(AuditFault::Io(IoFault::NoMemory)),
     }
 }
 
@@ -70,13 +71,13 @@ fn judge_calls<M: SlotMap + Drop, A: Allocator + Clone + Drop>(
     }
     // (this never comes, since lines are numbered from 1)
     if number == 0 {
-        return Err(AuditFault::NoMemory);
+        return Err(AuditFault::Io(IoFault::NoMemory));
     }
     let Ok(for_around) = alloc.clone() else {
-        return Err(AuditFault::NoMemory);
+        return Err(AuditFault::Io(IoFault::NoMemory));
     };
     let Ok(mut hearing) = Hearing::new(alloc, map, declaration.files, any_place) else {
-        return Err(AuditFault::NoMemory);
+        return Err(AuditFault::Io(IoFault::NoMemory));
     };
     let verdict = hear_lines(&mut hearing, first, number, rest)?;
     let around = around_verdict(for_around, hearing.auditor.map(), &verdict)?;
@@ -138,7 +139,7 @@ pub fn judge_text<M: SlotMap + Drop, A: Allocator + Clone + Drop>(
     ensures err { IfErr result (λ f. IsAtFault any_place (lines_of text.now) f) }
 {
     let Ok(for_files) = alloc.clone() else {
-        return Err(AuditFault::NoMemory);
+        return Err(AuditFault::Io(IoFault::NoMemory));
     };
     // this says that lines are fewer than 2^64
     let _most = text.len();
@@ -158,7 +159,7 @@ pub fn judge_text<M: SlotMap + Drop, A: Allocator + Clone + Drop>(
 }
 
 // Judges a text, and writes the verdict.
-#[tactic(auto, using(crate::proofs::EndLemmas::judges_all, crate::proofs::EndLemmas::breaks_off, crate::proofs::EndLemmas::fails_so, crate::proofs::EndLemmas::keeps_same))]
+#[tactic(auto, using(crate::proofs::EndLemmas::judges_all, crate::proofs::EndLemmas::breaks_off, crate::proofs::EndLemmas::fails_so, trace_io::proofs::IoLemmas::keeps_same))]
 fn judge_out<M: SlotMap + Drop, A: Allocator + Clone + Drop, W: Sink>(
     alloc: A,
     map: M,
@@ -169,23 +170,23 @@ fn judge_out<M: SlotMap + Drop, A: Allocator + Clone + Drop, W: Sink>(
     requires new { IsNew (M.slots map) }
     ensures ends { AuditEnds any_place text.now (W.contents writer.old) (W.contents writer.new) result }
     ensures out { OnOk result (W.is_flushed writer.new ≡ true) }
-    ensures read { result ≡ Err AuditFault.ReadFailed → ⊥ }
-    ensures write { result ≡ Err AuditFault.WriteFailed → W.failed writer.new ≡ true }
-    ensures kept { (result ≡ Err AuditFault.WriteFailed) ⊎ (W.failed writer.new ≡ W.failed writer.old) }
+    ensures read { result ≡ Err (AuditFault.Io IoFault.ReadFailed) → ⊥ }
+    ensures write { result ≡ Err (AuditFault.Io IoFault.WriteFailed) → W.failed writer.new ≡ true }
+    ensures kept { (result ≡ Err (AuditFault.Io IoFault.WriteFailed)) ⊎ (W.failed writer.new ≡ W.failed writer.old) }
 {
     let Ok(for_judging) = alloc.clone() else {
-        return Err(AuditFault::NoMemory);
+        return Err(AuditFault::Io(IoFault::NoMemory));
     };
     let judged = match judge_text(for_judging, map, text, any_place) {
         Ok(judged) => judged,
         Err(fault) => return Err(fault),
     };
     let Ok(told) = verdict_text(alloc, &judged.verdict, judged.around.as_slice()) else {
-        return Err(AuditFault::NoMemory);
+        return Err(AuditFault::Io(IoFault::NoMemory));
     };
     match write_out(writer, told.as_slice()) {
         Ok(()) => Ok(judged.verdict),
-        Err(_) => Err(AuditFault::WriteFailed),
+        Err(_) => Err(AuditFault::Io(IoFault::WriteFailed)),
     }
 }
 
@@ -202,14 +203,14 @@ pub fn audit_text<M: SlotMap + Drop, A: Allocator + Clone + Drop, S: Source, W: 
     requires new { IsNew (M.slots map) }
     ensures ends { Reads (S.stream reader.old) (S.stream reader.new) (λ input unread.
         AuditEnds any_place input (W.contents writer.old) (W.contents writer.new) result) }
-    ensures told { TellsAudit result (S.failed reader.new) (S.reads reader.new)
-        (W.failed writer.old) (W.failed writer.new) (W.is_flushed writer.new) }
+    ensures told { TellsAudit result (read_from S.Source reader.old reader.new)
+        (written_to W.Sink writer.old writer.new) }
 {
     let Ok(for_text) = alloc.clone() else {
-        return Err(AuditFault::NoMemory);
+        return Err(AuditFault::Io(IoFault::NoMemory));
     };
-    match read_text(for_text, reader) {
+    match read_all(for_text, reader) {
         Ok(text) => judge_out(alloc, map, text.as_slice(), writer, any_place),
-        Err(fault) => Err(fault),
+        Err(fault) => Err(AuditFault::Io(fault)),
     }
 }

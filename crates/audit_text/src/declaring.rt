@@ -9,6 +9,7 @@ use crate::input::{AuditFault, said_at};
 use crate::reading::Said;
 use backing::FileSpec;
 use std::alloc::Allocator;
+use trace_io::IoFault;
 use trace_io::lines::front_line;
 use trace_text::file_line::file_bytes;
 use vm_base::limits::{FILE_BYTES, FILE_COUNT};
@@ -129,7 +130,7 @@ impl<A: Allocator + Clone> Declaration<A> {
 }
 
 /// Takes in the lines up to the first that is no part of a declaration.
-pub fn declare<'a, A: Allocator + Clone>(
+pub(crate) fn declare<'a, A: Allocator + Clone>(
     declaration: &mut Declaration<A>,
     alloc: &A,
     text: &'a [u8],
@@ -158,7 +159,7 @@ pub fn declare<'a, A: Allocator + Clone>(
                 number,
                 rest,
             }),
-            Err(_) => return Err(AuditFault::NoMemory),
+            Err(_) => return Err(AuditFault::Io(IoFault::NoMemory)),
         }
     }
     Ok(Behind {

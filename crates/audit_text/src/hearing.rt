@@ -196,7 +196,7 @@ impl<M: SlotMap + Drop, A: Allocator + Drop> Hearing<M, A> {
 
     /// Hears what a line says.
     #[tactic(auto, using(crate::proofs::HeardLemmas::still_hears, crate::proofs::HeardLemmas::passes_hears))]
-    pub fn hear(&mut self, said: Said) -> Result<Turn, NoMemory>
+    pub(crate) fn hear(&mut self, said: Said) -> Result<Turn, NoMemory>
         requires counted { IsCounted self.old }
         requires room { self.old.judged + self.old.passed + 1 < 2 ^ 64 }
         ensures hears { IfOk result (λ turn. Hears self.old.auditor.any_place (heard_of self.old) (plain_of self.old.auditor) said

@@ -12,6 +12,7 @@ use crate::reading::Said;
 use audit::Call;
 use slot_lock::SlotMap;
 use std::alloc::Allocator;
+use trace_io::IoFault;
 use trace_io::lines::front_line;
 use vm_base::Reply;
 
@@ -54,12 +55,12 @@ fn turn<M: SlotMap + Drop, A: Allocator + Drop>(
         Ok(Turn::Legal) => Ok(None),
         Ok(Turn::Bad) => Err(AuditFault::BadLine(line)),
         Ok(Turn::Illegal(call, due)) => Ok(Some(Verdict::Illegal { line, call, due })),
-        Err(_) => Err(AuditFault::NoMemory),
+        Err(_) => Err(AuditFault::Io(IoFault::NoMemory)),
     }
 }
 
 /// Hears what the line with this number says, and then the lines behind it.
-pub fn hear_lines<M: SlotMap + Drop, A: Allocator + Drop>(
+pub(crate) fn hear_lines<M: SlotMap + Drop, A: Allocator + Drop>(
     hearing: &mut Hearing<M, A>,
     first: Said,
     number: u64,

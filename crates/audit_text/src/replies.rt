@@ -61,7 +61,7 @@ fn is_written_so(reply: Reply, text: &[u8]) -> bool
 
 /// The reply that is written so; `None` where none is.
 #[tactic(auto, unfolding(crate::specs::Replies::reply_of))]
-pub fn read_reply(text: &[u8]) -> Option<Reply>
+pub(crate) fn read_reply(text: &[u8]) -> Option<Reply>
     ensures { result ≡ reply_of text.now }
 {
     let Some(reply) = read_value(text) else {
@@ -75,7 +75,7 @@ pub fn read_reply(text: &[u8]) -> Option<Reply>
 }
 
 /// Tells whether a call waits that came to this.
-pub fn is_wait(text: &[u8]) -> bool
+pub(crate) fn is_wait(text: &[u8]) -> bool
     ensures { result ≡ is_wait text.now }
 {
     match text {
@@ -85,7 +85,7 @@ pub fn is_wait(text: &[u8]) -> bool
 }
 
 /// Tells whether an event that is no call came to this: a step, or nothing.
-pub fn is_step(text: &[u8]) -> bool
+pub(crate) fn is_step(text: &[u8]) -> bool
     ensures { result ≡ is_step text.now }
 {
     text == b"step".as_slice() || text == b"idle".as_slice()

@@ -5,7 +5,7 @@ ghost use Rattle.trace_text.specs.Printing.{text_of};
 ghost use Rattle.audit_text.specs.Ends.{head_text, mapping_text, verdict_text};
 
 use crate::judging::Verdict;
-use map_list::MapLine;
+use slot_lock::MapLine;
 use std::alloc::{AllocError, Allocator};
 use trace_text::{LineText, push_number, push_reply, write_map_line};
 use vm_base::Reply;

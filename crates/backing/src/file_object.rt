@@ -1,4 +1,4 @@
-//! One open file.
+//! One open file: its mode, its own bytes, and the frame that caches each of its pages.
 ghost use Rattle.std.specs.Prelude.{◌≡◌, IfOk, None, replicate};
 
 use crate::cached_frame::CachedFrame;
@@ -12,7 +12,7 @@ const PAGE_BYTES: usize = 4096;
 
 /// An open file: for what, its own bytes, and of each of its pages the frame that caches it.
 #[derive(Drop)]
-pub struct FileObject<A: Allocator> {
+pub(crate) struct FileObject<A: Allocator> {
     mode: Mode,
     bytes: Vec<u8, A>,
     cached: Vec<CachedFrame, A>,
@@ -68,14 +68,14 @@ impl<A: Allocator> FileObject<A> {
     }
 
     /// Tells whether the file has the page.
-    pub fn has_page(&self, page: u64) -> bool
+    pub(crate) fn has_page(&self, page: u64) -> bool
         ensures { result ≡ nat_lt page (page_count (length self.now.bytes)) }
     {
         page < self.cached.len() as u64
     }
 
     /// The file's own bytes of a page that it has, without the zeros after its length.
-    pub fn first_part(&self, page: u64) -> &[u8]
+    pub(crate) fn first_part(&self, page: u64) -> &[u8]
         requires { page < page_count (length self.now.bytes) }
         ensures short { length result.now ≤ 4096 }
         ensures bytes { page_bytes result.now 0 ≡ page_bytes self.now.bytes page }

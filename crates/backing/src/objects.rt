@@ -1,4 +1,4 @@
-//! All open files.
+//! The face of the crate: all open files, by their numbers.
 ghost use Rattle.std.specs.Prelude.{◌≡◌, IfOk, map};
 ghost use Rattle.backing.specs.Given.{opened};
 

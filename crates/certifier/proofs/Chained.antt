@@ -1,9 +1,7 @@
 -- Slots that lie side by side are in order
-use Rattle.std.proofs.Common.{◌≡◌, ℕ, zero, suc, ◌+◌, ◌<◌, ◌≤◌, List, [], ◌∷◌, length, get_or, refl, arith}
-use Rattle.std.proofs.Props.{props}
+use Rattle.machine_laws.proofs.Words.{ℕ, zero, suc, ◌+◌, ◌<◌, ◌≤◌, List, [], ◌∷◌, length, get_or, arith, props, ∥∥₁_elim}
 use Rattle.live_levels.specs.declared.close.SlotHistory.{SlotHistory}
 use Rattle.live_levels.specs.Histories.{Chain}
-use Rattle.std.proofs.Math.Logic.{∥∥₁_elim}
 use Rattle.certifier.specs.Histories.{AreInOrder}
 
 module _ {A : Type 0} where
@@ -25,9 +23,3 @@ module _ {A : Type 0} where
 
   pub in_order : (first end : ℕ) (slots : List (SlotHistory A)) → ∥ Chain first end slots ∥₁ → AreInOrder slots
   in_order first end slots h j k d less lt = ∥∥₁_elim h (hlevel props) (λ chain. chained first end slots chain j k d less lt)
-
-  pub none_in_order : (slots : List (SlotHistory A)) → slots ≡ [] → AreInOrder slots
-  none_in_order slots e j k d less lt = absurd (let none = lengths slots e in omega (arith, none, lt))
-    where
-      lengths : (slots : List (SlotHistory A)) → slots ≡ [] → length slots ≡ 0
-      lengths slots e = rw e refl

@@ -1,20 +1,14 @@
 -- Changes of a slot up to a ticket, and what one look at it settles
-use Rattle.std.proofs.Common.{◌≡◌, ◌≢◌, ◌⊎◌, ⊎_elim, inl, inr, ℕ, zero, suc, ◌<◌, ◌≤◌, ◌+◌, ◌-◌, Bool, true, false, cond, List, [], ◌∷◌, ◌++◌, length}
-use Rattle.std.proofs.Common.{take, get_or, max, min, Option, refl, sym, ap, ◌∙◌, subst, arith}
-use Rattle.std.specs.Prelude.{nat_le}
-use Rattle.std.proofs.lemmas.Bool.{cases_lt}
-use Rattle.std.proofs.lemmas.Bool.Decides.{nat_tests}
-use Rattle.std.proofs.lemmas.List.{get_or_default, take_all}
-use Rattle.std.proofs.lemmas.List.Sums.{fold_more}
-use Rattle.vm_base.specs.declared.info.PageInfo.{PageInfo}
+use Rattle.machine_laws.proofs.Words.{◌≡◌, ◌≢◌, ◌⊎◌, ⊎_elim, inl, inr, ℕ, zero, suc, ◌<◌, ◌≤◌, ◌+◌, ◌-◌, true, false, List, [], ◌∷◌, length, take, get_or}
+use Rattle.machine_laws.proofs.Words.{Option, refl, sym, ap, ◌∙◌, subst, arith, nat_le, cases_lt, nat_tests, get_or_default, take_all, PageInfo}
+use Rattle.std.proofs.Common.{max, min}
 use Rattle.vm_base.specs.Info.{info_from}
-use Rattle.live_levels.specs.declared.act.Act.TheVariants.{Clear}
 use Rattle.live_levels.specs.declared.act.SlotChange.{SlotChange}
 use Rattle.live_levels.specs.declared.close.SlotHistory.{SlotHistory}
-use Rattle.live_levels.specs.Replay.{after, dated, replay}
+use Rattle.live_levels.specs.Replay.{dated, replay}
 use Rattle.certifier.specs.declared.looks.Look.{Look}
-use Rattle.certifier.specs.Histories.{AreDated, DiffersBelow, GoesAlong, HasBegun, HasContent, IsPageOf, Strays, ticket_at, up_to}
-use Rattle.certifier.specs.Looks.{AreApplied, IsLooked, IsSeen}
+use Rattle.certifier.specs.Histories.{AreDated, DiffersBelow, HasBegun, HasContent, IsPageOf, ticket_at, up_to}
+use Rattle.certifier.specs.Looks.{AreApplied, IsSeen}
 
 -- ---- changes up to a ticket
 
@@ -39,49 +33,6 @@ begun_of [] u h = tt
 begun_of (c ∷ cs) u h = ⊎_elim (λ (e : c ∷ cs ≡ []). absurd cc) (λ p. p.1) h
 
 -- ---- one change more
-
-pub replay_more : (changes : List SlotChange) (k : ℕ) (d : SlotChange) → k < length changes
-    → replay (take (k + 1) changes) ≡ after (replay (take k changes)) (get_or changes k d).act
-replay_more changes k d lt = fold_more (λ info change. after info change.act) Option.None changes k d lt
-
--- the change with the ticket of the bound
-pub one_applied : (n bound : ℕ) (changes : List SlotChange) (look new : Look) (d : SlotChange) → AreDated n changes → AreApplied bound changes look
-    → look.applied < length changes → (get_or changes look.applied d).ticket ≡ bound
-    → new.applied ≡ look.applied + 1 → new.content ≡ after look.content (get_or changes look.applied d).act → AreApplied (bound + 1) changes new
-one_applied n bound changes look new d dated h lt is count content =
-    let here : ticket_at changes look.applied ≡ bound = ap (λ (c : SlotChange). c.ticket) (get_or_default changes look.applied _ d lt) ∙ is in
-    record {
-      within = omega (arith, count, lt);
-      content = content ∙ ap (λ o. after o (get_or changes look.applied d).act) h.content ∙ sym (replay_more changes look.applied d lt)
-          ∙ ap (λ k. replay (take k changes)) (sym count);
-      before = λ k less. ⊎_elim
-          (λ (l : k < look.applied). let b = h.before k l in omega arith)
-          (λ (l : look.applied ≤ k). let same : k ≡ look.applied = omega (arith, count, less, l) in
-          subst (λ j. ticket_at changes j < bound + 1) (sym same) (omega (arith, here)))
-          (cases_lt k look.applied);
-      later = λ k from to. let r = dated.rise look.applied k (omega (arith, count, from)) to in omega (arith, r, here);
-    }
-
--- no change has the ticket of the bound
-pub none_applied : (n bound : ℕ) (changes : List SlotChange) (look : Look) (d : SlotChange) → AreDated n changes → AreApplied bound changes look
-    → (look.applied < length changes → (get_or changes look.applied d).ticket ≢ bound) → AreApplied (bound + 1) changes look
-none_applied n bound changes look d dated h other = record {
-  within = h.within;
-  content = h.content;
-  before = λ k less. let b = h.before k less in omega arith;
-  later = λ k from to.
-      let lt : look.applied < length changes = omega arith in
-      let here : ticket_at changes look.applied ≡ (get_or changes look.applied d).ticket =
-      ap (λ (c : SlotChange). c.ticket) (get_or_default changes look.applied _ d lt) in
-      let l = h.later look.applied (omega arith) lt in
-      let ne = other lt in
-      let above : bound < ticket_at changes look.applied = grind (arith, here, l, ne) in
-      ⊎_elim
-      (λ (m : look.applied < k). let r = dated.rise look.applied k m to in omega (arith, r, above))
-      (λ (m : k ≤ look.applied). let same : k ≡ look.applied = omega (arith, m, from) in
-      subst (λ j. bound + 1 ≤ ticket_at changes j) (sym same) (omega (arith, above)))
-      (cases_lt look.applied k);
-}
 
 -- where the next change comes at the earliest
 pub next_later : (n bound next t : ℕ) (changes : List SlotChange) (look : Look) (d : SlotChange) → AreDated n changes → AreApplied bound changes look
@@ -126,12 +77,6 @@ dated_more n at changes h below above = record {
         (λ (m : j < at - 1). let r = h.rise j (at - 1) m (omega (arith, l)) in omega (arith, r, a))
         (λ (m : at - 1 ≤ j). let e : j ≡ at - 1 = omega (arith, m, l) in subst (λ i. ticket_at changes i < ticket_at changes at) (sym e) a)
         (cases_lt j (at - 1))
-
-pub dated_all : (n at : ℕ) (changes : List SlotChange) → DatedBelow n at changes → length changes ≤ at → AreDated n changes
-dated_all n at changes h end = record {
-  rise = λ j k less to. h.rise j k less (omega (arith, end, to));
-  below = λ k to. h.below k (omega (arith, end, to));
-}
 
 -- ---- one look
 

@@ -1,14 +1,11 @@
 -- Looks at all slots
-use Rattle.std.proofs.Common.{◌≡◌, ◌≢◌, ◌⊎◌, ⊎_elim, inl, inr, ℕ, ◌<◌, ◌≤◌, ◌+◌, ◌-◌, ◌^◌, Bool, true, false, List, [], ◌∷◌, ◌++◌, length, get_or, set, Option}
-use Rattle.std.proofs.Common.{Some, None, refl, sym, ap, ◌∙◌, subst, arith, not, IsTrue, ◌↔◌, IfSome, IfNone}
-use Rattle.std.proofs.lemmas.Bool.{cases_lt, cases_eq}
-use Rattle.std.proofs.lemmas.List.{get_or_append_left, get_or_push, get_or-set_other, get_or-set_same, get_or_default, length-append, length-set}
-use Rattle.vm_base.specs.declared.info.PageInfo.{PageInfo}
-use Rattle.vm_base.specs.declared.page.PageRange.{PageRange}
-use Rattle.vm_base.specs.Functions.{has}
-use Rattle.vm_base.proofs.Functions.{has_in, in_has}
+use Rattle.machine_laws.proofs.Words.{◌≡◌, ◌≢◌, ◌⊎◌, ⊎_elim, inl, inr, ℕ, ◌<◌, ◌≤◌, ◌+◌, ◌-◌, ◌^◌, Bool, true, false, List, [], ◌∷◌, ◌++◌, length, get_or}
+use Rattle.machine_laws.proofs.Words.{set, Option, Some, None, refl, sym, ap, ◌∙◌, subst, arith, not, cases_lt, get_or-set_other, get_or-set_same}
+use Rattle.machine_laws.proofs.Words.{get_or_default, length-set, PageInfo, PageRange, has, has_in, in_has, some_has}
+use Rattle.std.proofs.Common.{IsTrue, ◌↔◌, IfSome, IfNone}
+use Rattle.std.proofs.lemmas.Bool.{cases_eq}
+use Rattle.std.proofs.lemmas.List.{get_or_append_left, get_or_push, length-append}
 use Rattle.live_levels.specs.declared.close.SlotHistory.{SlotHistory}
-use Rattle.machine_model.specs.Holding.{some_has}
 use Rattle.certifier.specs.declared.looks.Look.{Look}
 use Rattle.certifier.specs.Histories.{AllGoAlong, AreDated, AreInOrder, DiffersBelow, GoesAlong, HasBegun, HasContent}
 use Rattle.certifier.specs.Histories.{IsFirstAstray, IsFirstPageOf, IsPageOf, Strays}

@@ -1,19 +1,13 @@
 -- Runs that grow by the note with the next ticket
-use Rattle.std.proofs.Common.{◌≡◌, ◌≢◌, ℕ, ◌+◌, ◌<◌, ◌≤◌, Bool, true, false, List, [], ◌∷◌, ◌++◌, refl, sym, subst, ap, ◌∙◌}
-use Rattle.std.proofs.Common.{arith, length, get_or, map, filter, Some, None, Option}
+use Rattle.machine_laws.proofs.Words.{◌≡◌, ◌≢◌, ℕ, ◌+◌, ◌<◌, ◌≤◌, Bool, true, false, List, [], ◌∷◌, ◌++◌, refl, sym, subst, ap, ◌∙◌, arith, length, get_or}
+use Rattle.machine_laws.proofs.Words.{map, Some, None, Option, add-one, get_or_default, filter-append, Slots, Event, Outcome, World, new_world, Step, Run}
+use Rattle.machine_laws.proofs.Words.{PageRange}
+use Rattle.std.proofs.Common.{filter}
 use Rattle.std.specs.Prelude.{count_by}
-use Rattle.std.proofs.Math.Numerals.{add-one}
-use Rattle.std.proofs.lemmas.List.{map-append, get_or_default, length-append}
-use Rattle.std.proofs.lemmas.List.Elements.{filter-append}
+use Rattle.std.proofs.lemmas.List.{map-append, length-append}
 use Rattle.std.proofs.lemmas.List.Sums.{length-filter}
-use Rattle.slot_lock.specs.Slots.{Slots}
-use Rattle.machine_model.specs.declared.event.Event.{Event}
-use Rattle.machine_model.specs.declared.event.Outcome.{Outcome}
-use Rattle.machine_model.specs.World.{World, new_world}
-use Rattle.machine_model.specs.Step.{Step, Run}
 use Rattle.machine_sound.proofs.Kept.{run_more}
 use Rattle.core_steps.specs.declared.setup.Setup.{Setup}
-use Rattle.vm_base.specs.declared.page.PageRange.{PageRange}
 use Rattle.core_steps.specs.Dividing.{DividesAsMap}
 use Rattle.core_steps.specs.Moving.{JoinsAsMap}
 use Rattle.core_steps.specs.Running.{RunsAsMap}

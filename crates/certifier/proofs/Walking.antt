@@ -1,13 +1,8 @@
 -- A walk over the slots of the machine that have a slot's pages
-use Rattle.std.proofs.Common.{◌≡◌, ◌≢◌, ⊎_elim, ℕ, ◌<◌, ◌≤◌, ◌+◌, ◌-◌, ◌^◌, true, Option, refl, sym, ap, ◌∙◌, subst, arith}
-use Rattle.std.proofs.lemmas.Bool.{cases_lt}
-use Rattle.vm_base.specs.declared.info.PageInfo.{PageInfo}
-use Rattle.vm_base.specs.declared.page.PageRange.{PageRange}
-use Rattle.vm_base.specs.Functions.{has}
+use Rattle.machine_laws.proofs.Words.{◌≡◌, ◌≢◌, ⊎_elim, ℕ, ◌<◌, ◌≤◌, ◌+◌, ◌-◌, ◌^◌, true, Option, refl, sym, ap, ◌∙◌, subst, arith, cases_lt, PageInfo}
+use Rattle.machine_laws.proofs.Words.{PageRange, has, has_in, Slots, IsSlot, IsSlotMap}
 use Rattle.vm_base.specs.Info.{info_from}
-use Rattle.vm_base.proofs.Functions.{has_in}
-use Rattle.slot_lock.specs.ListLaws.{info_from_twice}
-use Rattle.slot_lock.specs.Slots.{Slots, IsSlot, IsSlotMap}
+use Rattle.slot_lock.proofs.ListLaws.{info_from_twice}
 use Rattle.slot_lock.proofs.SlotLaws.{info_on}
 use Rattle.slot_lock.proofs.Steps.{slot_by_edge}
 use Rattle.live_levels.specs.declared.close.SlotHistory.{SlotHistory}

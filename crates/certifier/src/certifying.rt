@@ -1,4 +1,4 @@
-//! Whether the notes of all seats are a run of the machine.
+//! The face of the crate: whether the notes of all seats are a run of the machine.
 ghost use Rattle.std.specs.Prelude.{◌≡◌, IfOk, IfErr, map, option_copied};
 ghost use Rattle.certifier.specs.Following.{IsCertified, Fails, slots_in};
 ghost use Rattle.certifier.specs.Histories.{AreInOrder};

@@ -1,4 +1,5 @@
-//! Notes in order of their tickets, given to a machine one after another.
+//! Notes in order of their tickets, given to a machine one after another, whose outcomes must be the
+//! noted ones.
 ghost use Rattle.std.specs.Prelude.{◌≡◌, ◌≢◌, ◌≤◌, ◌<◌, ℕ, true, false, IfOk, IfErr, None, Option, length, map, get_or};
 ghost use Rattle.vm_base.specs.declared.info.PageInfo.{PageInfo};
 ghost use Rattle.core_steps.specs.Machine.{state};
@@ -14,7 +15,7 @@ ghost use Rattle.certifier.specs.Standings.{AreStandings, is_once};
 use crate::looks::Look;
 use crate::order::{Standing, note_of};
 use crate::result::{Certified, CertifyFault};
-use crate::watch::{first_astray, first_looks, look_before};
+use crate::visits::{first_astray, first_looks, look_before};
 use core_steps::{Ledger, Machine, Opening, Setup};
 use live_levels::close::SlotHistory;
 use machine_model::Outcome;

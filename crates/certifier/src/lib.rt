@@ -6,7 +6,7 @@ pub mod following;
 pub mod looks;
 pub mod order;
 pub mod result;
-pub mod watch;
+pub mod visits;
 
 pub use certifying::certify;
 pub use result::{Certified, CertifyFault};

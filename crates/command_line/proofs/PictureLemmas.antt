@@ -1,21 +1,22 @@
 -- A picture of a trace, written and flushed
 use Rattle.std.proofs.Common.{◌≡◌, ℕ, ◌⊎◌, inl, inr, true, false, Bool, List, Option, None, Some, Result, Ok, Err}
-use Rattle.std.proofs.Common.{OnOk, IfOk, IfErr, refl, sym, ap, ◌∙◌, subst, length, take}
+use Rattle.std.proofs.Common.{OnOk, IfOk, IfErr, refl, sym, ap, ◌∙◌, subst}
 use Rattle.std.proofs.KnownBytes.{Appends-kept, Keeps-refl, Keeps-trans}
 use Rattle.std.specs.Io.KnownBytes.{Keeps, Appends}
+use Rattle.trace_io.proofs.IoLemmas.{front_kept, whole_front}
 use Rattle.trace_io.proofs.LineLemmas.{reads_map}
+use Rattle.trace_io.specs.Io.{ReadFrom, TellsIo, WrittenTo}
 use Rattle.trace_io.specs.Sink.{AppendsFront}
-use Rattle.trace_io.specs.Source.{HasStopped, Stream, Reads}
+use Rattle.trace_io.specs.Source.{Stream, Reads}
 use Rattle.core_steps.specs.declared.setup.CallLimit.TheVariants.{Usual}
 use Rattle.machine_model.specs.World.{World}
 use Rattle.machine_model.specs.declared.event.Event.{Event}
 use Rattle.machine_model.specs.declared.event.Outcome.{Outcome}
 use Rattle.trace.specs.declared.fault.TraceFault.{TraceFault}
-use Rattle.trace.specs.declared.fault.TraceFault.TheVariants.{NoMemory, ReadFailed, WriteFailed}
+use Rattle.trace.specs.declared.fault.TraceFault.TheVariants.{NoMemory, WriteFailed}
 use Rattle.trace.specs.declared.shown.Show.TheVariants.{Outcomes}
-use Rattle.trace.specs.Ends.{Ends, TellsFaults}
+use Rattle.trace.specs.Ends.{Ends, TellsFaults, fault_named}
 use Rattle.trace.specs.Seen.{IsSeen}
-use Rattle.trace.proofs.ShownLemmas.{whole_front}
 use Rattle.command_line.specs.declared.picturing.Drawing.{Drawing}
 use Rattle.command_line.specs.declared.picturing.Drawing.TheVariants.{Steps, Lives}
 use Rattle.command_line.specs.Picture.{Draws, Fails, PictureEnds, Records, TextEnds}
@@ -61,15 +62,12 @@ pub none_drawn : {S : Type 0} (s t : Stream) (after : After S) (one : S) (text :
 none_drawn s t after one text old f h = reads_map s t _ _ h (λ xs ys k why. inl (why, Keeps-refl old))
 
 -- a flush keeps what was written
-front_then : (a b c : Option (List ℕ)) (xs : List ℕ) → AppendsFront a b xs → Keeps b c → AppendsFront a c xs
-front_then a b c xs p k = (p.0, p.1, Appends-kept a b c (take p.0 xs) p.2 k)
-
 text_kept : {S T : Type 0} (after : After S) (one : S) (text : S → List ℕ) (input unread : List ℕ) (a b c : Option (List ℕ)) (ended : Result T TraceFault)
     → TextEnds after one text input unread a b ended → Keeps b c → TextEnds after one text input unread a c ended
 text_kept after one text input unread a b c (Ok x) (r, h, w) k = (r, h, Appends-kept a b c _ w k)
 text_kept after one text input unread a b c (Err f) (inl (why, kept)) k = inl (why, Keeps-trans a b c kept k)
 text_kept after one text input unread a b c (Err f) (inr (failed, inl kept)) k = inr (failed, inl (Keeps-trans a b c kept k))
-text_kept after one text input unread a b c (Err f) (inr (failed, inr (r, h, front))) k = inr (failed, inr (r, h, front_then a b c _ front k))
+text_kept after one text input unread a b c (Err f) (inr (failed, inr (r, h, front))) k = inr (failed, inr (r, h, front_kept a b c _ front k))
 
 pub picture_kept : {T : Type 0} (drawing : Drawing) (input unread : List ℕ) (a b c : Option (List ℕ)) (ended : Result T TraceFault)
     → PictureEnds drawing input unread a b ended → Keeps b c → PictureEnds drawing input unread a c ended
@@ -82,7 +80,7 @@ text_lost : {S T : Type 0} (after : After S) (one : S) (text : S → List ℕ) (
 text_lost after one text input unread a b c (Ok x) (r, h, w) k = inr (refl, inr (r, h, whole_front a c _ (Appends-kept a b c _ w k)))
 text_lost after one text input unread a b c (Err f) (inl (why, kept)) k = inr (refl, inl (Keeps-trans a b c kept k))
 text_lost after one text input unread a b c (Err f) (inr (failed, inl kept)) k = inr (refl, inl (Keeps-trans a b c kept k))
-text_lost after one text input unread a b c (Err f) (inr (failed, inr (r, h, front))) k = inr (refl, inr (r, h, front_then a b c _ front k))
+text_lost after one text input unread a b c (Err f) (inr (failed, inr (r, h, front))) k = inr (refl, inr (r, h, front_kept a b c _ front k))
 
 pub picture_lost : {T : Type 0} (drawing : Drawing) (input unread : List ℕ) (a b c : Option (List ℕ)) (ended : Result T TraceFault)
     → PictureEnds drawing input unread a b ended → Keeps b c → PictureEnds {T = T} drawing input unread a c (Err WriteFailed)
@@ -90,15 +88,15 @@ picture_lost (Steps steps) input unread a b c ended h k = text_lost _ _ _ input 
 picture_lost Lives input unread a b c ended h k = text_lost _ _ _ input unread a b c ended h k
 
 -- what is told after a flush
-pub told_kept : {T : Type 0} (r : Result T TraceFault) (stopped : Bool) (reads : ℕ) (a b c flushed : Bool) → (r ≡ Err ReadFailed → HasStopped stopped reads)
-    → (r ≡ Err WriteFailed → b ≡ true) → (r ≡ Err WriteFailed) ⊎ (b ≡ a) → c ≡ b → flushed ≡ true → TellsFaults r stopped reads a c flushed
-told_kept r stopped reads a b c flushed read write kept same out = record { read = read; write = λ w. same ∙ write w; out = go kept }
+pub told_kept : {T : Type 0} (r : Result T TraceFault) (text : ReadFrom) (old new : WrittenTo) → TellsIo fault_named r text old
+    → new.failed ≡ old.failed → new.had_failed ≡ old.had_failed → new.is_flushed ≡ true → TellsFaults r text new
+told_kept r text old new told same had out = record { read = told.read; write = λ w. same ∙ told.write w; out = go told.kept }
   where
-    go : (r ≡ Err WriteFailed) ⊎ (b ≡ a) → (r ≡ Err WriteFailed) ⊎ ((c ≡ a) × (flushed ≡ true))
+    go : (r ≡ Err WriteFailed) ⊎ (old.failed ≡ old.had_failed) → (r ≡ Err WriteFailed) ⊎ ((new.failed ≡ new.had_failed) × (new.is_flushed ≡ true))
     go (inl w) = inl w
-    go (inr k) = inr (same ∙ k, out)
+    go (inr k) = inr (same ∙ k ∙ sym had, out)
 
 -- and after one that failed
-pub told_lost : {T : Type 0} (r : Result T TraceFault) (stopped : Bool) (reads : ℕ) (a c flushed : Bool) → r ≡ Err WriteFailed → c ≡ true
-    → TellsFaults r stopped reads a c flushed
-told_lost r stopped reads a c flushed is failed = record { read = λ e. absurd (cc); write = λ w. failed; out = inl is }
+pub told_lost : {T : Type 0} (r : Result T TraceFault) (text : ReadFrom) (sink : WrittenTo) → r ≡ Err WriteFailed → sink.failed ≡ true
+    → TellsFaults r text sink
+told_lost r text sink is failed = record { read = λ e. absurd (cc); write = λ w. failed; out = inl is }

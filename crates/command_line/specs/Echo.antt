@@ -1,7 +1,7 @@
 -- A replay that shows each line beside what it gives, and how it ends
-use Rattle.std.specs.Prelude.{◌≡◌, ℕ, ◌+◌, ◌<◌, ◌≤◌, List, [], ◌∷◌, ◌++◌, Bool, true, false, Option, None, Some, Result, Ok, Err, codes, length}
-use Rattle.std.specs.Io.KnownBytes.{Keeps, Appends}
-use Rattle.trace_io.specs.Lines.{lines_of, IsUnbroken, IsFirstLine, IsTooLong}
+use Rattle.std.specs.Prelude.{◌≡◌, ℕ, ◌+◌, ◌<◌, ◌≤◌, List, [], ◌∷◌, ◌++◌, false, Option, None, Some, Result, Ok, Err, codes, length}
+use Rattle.std.specs.Io.KnownBytes.{Appends}
+use Rattle.trace_io.specs.Lines.{lines_of}
 use Rattle.trace_io.specs.Sink.{AppendsFront}
 use Rattle.trace_text.specs.Line.{line_of}
 use Rattle.trace_text.specs.declared.line.Line.{Line}
@@ -10,7 +10,6 @@ use Rattle.core_steps.specs.declared.setup.CallLimit.{CallLimit}
 use Rattle.trace.specs.declared.fault.TraceFault.{TraceFault}
 use Rattle.trace.specs.declared.fault.TraceFault.TheVariants.{TooLong, ReadFailed, NoMemory, WriteFailed}
 use Rattle.trace.specs.Stage.{Stage, Start, LineFails, LineWants, CanOpen, OpenFails, Acts}
-use Rattle.trace.specs.Turns.{Scene, IsOver}
 
 -- ---- what is shown
 
@@ -34,39 +33,6 @@ abbrev pub Echoes : Stage → List (List ℕ) → Stage → List ℕ → Type 0
 Echoes old [] new shown = (new ≡ old) × (shown ≡ [])
 Echoes old (l ∷ ls) new shown = (mid : Stage) × (text : List ℕ) × (rest : List ℕ) × (length l ≤ 256)
     × Acts old l mid text × Echoes mid ls new rest × (shown ≡ echo l text ++ rest)
-
--- ---- one turn
-
--- a line was taken and acted on, and this was shown
-pub record ShowsLine (old new : Scene) : Type 0 where
-  pub line : List ℕ
-  pub text : List ℕ
-  pub short : length line ≤ 256
-  pub unbroken : IsUnbroken line
-  pub takes : IsFirstLine old.left line new.left
-  pub acts : Acts old.stage line new.stage text
-  pub appends : Appends old.written new.written (echo line text)
-
--- line number + 1 was not acted on, for this fault, or not shown whole
-pub data Misses (old new : Scene) (number : ℕ) (f : TraceFault) : Type 0 where
-  unread : f ≡ ReadFailed → Keeps old.written new.written → Misses old new number f
-  unsent : f ≡ WriteFailed → Keeps old.written new.written → Misses old new number f
-  too_long : f ≡ TooLong (number + 1) → IsTooLong old.left → Keeps old.written new.written
-      → Misses old new number f
-  no_memory : f ≡ NoMemory → (line : List ℕ) → IsUnbroken line → IsFirstLine old.left line new.left
-      → LineWants false old.stage line → Keeps old.written new.written → Misses old new number f
-  refused : (line : List ℕ) → IsUnbroken line → IsFirstLine old.left line new.left
-      → LineFails old.stage (number + 1) line f → Keeps old.written new.written → Misses old new number f
-  unshown : f ≡ WriteFailed → (line text : List ℕ) → length line ≤ 256 → IsUnbroken line
-      → IsFirstLine old.left line new.left
-      → Acts old.stage line new.stage text → AppendsFront old.written new.written (echo line text)
-      → Misses old new number f
-
--- one line is echoed, or the text is over, or a fault ends it
-abbrev pub EchoTurns : Scene → Scene → ℕ → Result Bool TraceFault → Type 0
-EchoTurns old new number (Ok true) = ShowsLine old new
-EchoTurns old new number (Ok false) = IsOver old new
-EchoTurns old new number (Err f) = Misses old new number f
 
 -- ---- the end
 

@@ -4,7 +4,6 @@ use Rattle.audit_text.specs.declared.input.AuditFault.{AuditFault}
 use Rattle.audit_text.specs.declared.input.AuditFault.TheVariants as For
 use Rattle.audit_text.specs.declared.judging.Verdict.{Verdict}
 use Rattle.audit_text.specs.declared.judging.Verdict.TheVariants.{Legal, Illegal}
-use Rattle.import_text.specs.declared.log.ImportFault.{ImportFault}
 use Rattle.live_script.specs.declared.texts.TextFault.{TextFault}
 use Rattle.live_script.specs.declared.texts.TextFault.TheVariants.{Text, Live}
 use Rattle.command_line.specs.declared.command.WordsFault.{WordsFault}
@@ -12,6 +11,7 @@ use Rattle.command_line.specs.declared.command.WordsFault.TheVariants as OutOf
 use Rattle.command_line.specs.declared.command.WordsFault.TheVariants.{NotUtf8}
 use Rattle.trace.specs.Status.{fault_status}
 use Rattle.trace.specs.declared.fault.TraceFault.{TraceFault}
+use Rattle.trace_io.specs.declared.fault.IoFault.{IoFault}
 
 -- of notes: 0 where they are certified, 1 where they are refused
 abbrev pub certified_status : Result Bool TraceFault → ℕ
@@ -41,7 +41,7 @@ words_status NotUtf8 = 2
 words_status OutOf.NoMemory = 3
 
 -- of a log: 0 where its trace was written
-abbrev pub import_status : {T : Type 0} → Result T ImportFault → ℕ
+abbrev pub import_status : {T : Type 0} → Result T IoFault → ℕ
 import_status (Ok told) = 0
 import_status (Err f) = 3
 
@@ -50,9 +50,7 @@ abbrev pub audit_fault_status : AuditFault → ℕ
 audit_fault_status (For.BadLine number) = 2
 audit_fault_status (For.TooLong number) = 2
 audit_fault_status For.NoVmLine = 2
-audit_fault_status For.ReadFailed = 3
-audit_fault_status For.NoMemory = 3
-audit_fault_status For.WriteFailed = 3
+audit_fault_status (For.Io f) = 3
 
 abbrev pub audit_status : Result Verdict AuditFault → ℕ
 audit_status (Ok (Legal calls passed)) = 0

@@ -12,59 +12,23 @@ use Rattle.core_steps.specs.declared.setup.CallLimit.{CallLimit}
 use Rattle.import_lackey.specs.Traced.{TraceEnds}
 use Rattle.import_maps.specs.Mapped.{MapsEnds, TellsMaps}
 use Rattle.import_maps.specs.declared.mapped.Told.{Told}
-use Rattle.import_text.specs.declared.log.ImportFault.{ImportFault}
-use Rattle.import_text.specs.Ends.{TellsImport}
 use Rattle.live_script.specs.Texts.{EndsText, IsNotesText, IsVerdictText, TellsText}
 use Rattle.notes_text.specs.CertifyEnds.{Certifies}
 use Rattle.slot_lock.specs.Slots.{Slots}
 use Rattle.trace.specs.Ends.{Ends, TellsFaults}
 use Rattle.trace.specs.Shown.{limit_for}
 use Rattle.trace.specs.Status.{status_of}
-use Rattle.trace_io.specs.Source.{Reads, Stream}
-use Rattle.trace_io.specs.declared.source.Source.{Ghosts as SourceGhosts}
-use Rattle.trace_io.specs.declared.sink.Sink.{Ghosts as SinkGhosts}
+use Rattle.trace_io.specs.Io.{ReadFrom, TellsSent, WrittenTo}
+use Rattle.trace_io.specs.Source.{Reads}
+use Rattle.trace_io.specs.declared.fault.IoFault.{IoFault}
 use Rattle.vm_base.specs.declared.page.PageRange.{PageRange}
-
--- ---- what is read and written
-
--- a reader's bytes before a word and after it, whether a read has failed, and how many there were
-pub record ReadFrom : Type 0 where
-  pub before : Stream
-  pub after : Stream
-  pub failed : Bool
-  pub reads : ℕ
-
-abbrev pub read_from : {S : Type 0} → SourceGhosts S → S → S → ReadFrom
-read_from source before after = record {
-  before = source.stream before;
-  after = source.stream after;
-  failed = source.failed after;
-  reads = source.reads after;
-}
-
--- what a writer held before a word and after it, whether a write had failed before, whether one has, and whether all has gone out
-pub record WrittenTo : Type 0 where
-  pub before : Option (List ℕ)
-  pub after : Option (List ℕ)
-  pub had_failed : Bool
-  pub failed : Bool
-  pub is_flushed : Bool
-
-abbrev pub written_to : {W : Type 0} → SinkGhosts W → W → W → WrittenTo
-written_to sink before after = record {
-  before = sink.contents before;
-  after = sink.contents after;
-  had_failed = sink.failed before;
-  failed = sink.failed after;
-  is_flushed = sink.is_flushed after;
-}
 
 -- It ends in one way, which gives the status. What was read and written is as `Ended` says of that end, and what failed as `Tells` does.
 abbrev pub EndsInOneWay : {R : Type 0} → (R → ℕ) → (List ℕ → List ℕ → Option (List ℕ) → Option (List ℕ) → R → Type 0)
-    → (R → Bool → ℕ → Bool → Bool → Bool → Type 0) → ReadFrom → WrittenTo → ℕ → Type 0
+    → (R → ReadFrom → WrittenTo → Type 0) → ReadFrom → WrittenTo → ℕ → Type 0
 EndsInOneWay {R} status Ended Tells text out n = (r : R) × (n ≡ status r)
     × Reads text.before text.after (λ input unread. Ended input unread out.before out.after r)
-    × Tells r text.failed text.reads out.had_failed out.failed out.is_flushed
+    × Tells r text out
 
 -- ---- each word
 
@@ -93,14 +57,14 @@ CertifiesRun A parts CanFold Folds text out n =
 
 -- the trace of a log of strace, of the process of this thread or of the first line's, behind that of a list of mappings
 abbrev pub ImportsLog : Option ℕ → ReadFrom → ReadFrom → WrittenTo → ℕ → Type 0
-ImportsLog thread list text out n = (r : Result Told ImportFault) × (n ≡ import_status r)
+ImportsLog thread list text out n = (r : Result Told IoFault) × (n ≡ import_status r)
     × Reads list.before list.after (λ listed left.
     Reads text.before text.after (λ input unread. MapsEnds listed thread input out.before out.after r))
-    × TellsMaps r list.failed list.reads text.failed text.reads out.had_failed out.failed out.is_flushed
+    × TellsMaps r list text out
 
 -- the trace of a log of lackey
 abbrev pub ImportsAccesses : ReadFrom → WrittenTo → ℕ → Type 0
-ImportsAccesses text out n = EndsInOneWay import_status (λ input unread. TraceEnds input) TellsImport text out n
+ImportsAccesses text out n = EndsInOneWay import_status (λ input unread. TraceEnds input) (TellsSent (λ f. f)) text out n
 
 -- the judgement of replies, at any place or at the first ones
 abbrev pub AuditsReplies : Bool → ReadFrom → WrittenTo → ℕ → Type 0

@@ -1,12 +1,14 @@
 //! What the word `audit` does.
 ghost use Rattle.std.specs.Prelude.{◌≡◌, ◌≤◌};
 ghost use Rattle.command_line.specs.Status.{audit_fault_status};
-ghost use Rattle.command_line.specs.Words.{AuditsReplies, read_from, written_to};
+ghost use Rattle.command_line.specs.Words.{AuditsReplies};
+ghost use Rattle.trace_io.specs.Io.{read_from, written_to};
 
 use audit_text::{AuditFault, Verdict, audit_text};
 use radix_range::RadixMap;
 use std::alloc::Global;
 use std::io::Write;
+use trace_io::IoFault;
 use trace_io::sink::Sink;
 use trace_io::source::Source;
 
@@ -18,7 +20,7 @@ fn refuse<E: Write>(fault: AuditFault, errors: &mut E) -> u8
     let _ = writeln!(errors, "radixvm: {fault}");
     match fault {
         AuditFault::BadLine(_) | AuditFault::TooLong(_) | AuditFault::NoVmLine => 2,
-        AuditFault::ReadFailed | AuditFault::NoMemory | AuditFault::WriteFailed => 3,
+        AuditFault::Io(_) => 3,
     }
 }
 
@@ -36,7 +38,7 @@ pub fn audit<S: Source, W: Sink, E: Write>(
     ensures within { result ≤ 3 }
 {
     let Ok(map) = RadixMap::new(alloc) else {
-        return refuse(AuditFault::NoMemory, errors);
+        return refuse(AuditFault::Io(IoFault::NoMemory), errors);
     };
     match audit_text(alloc, map, reader, out, any_place) {
         Ok(Verdict::Legal { .. }) => 0,

@@ -1,6 +1,7 @@
 //! What the word `certify` does.
 ghost use Rattle.std.specs.Prelude.{◌≤◌};
-ghost use Rattle.command_line.specs.Words.{CertifiesNotes, read_from, written_to};
+ghost use Rattle.command_line.specs.Words.{CertifiesNotes};
+ghost use Rattle.trace_io.specs.Io.{read_from, written_to};
 
 use notes_text::certify_text;
 use radix_range::RadixMap;

@@ -3,10 +3,11 @@ ghost use Rattle.std.specs.Prelude.{◌≡◌, ◌≤◌, ℕ, Bool, IfOk, Optio
 ghost use Rattle.std.specs.Io.KnownBytes.{Appends};
 ghost use Rattle.command_line.specs.Help.{page_of};
 ghost use Rattle.command_line.specs.Status.{words_status};
-ghost use Rattle.command_line.specs.Words.{DoesWork, read_from, written_to};
+ghost use Rattle.command_line.specs.Words.{DoesWork};
 ghost use Rattle.command_line.specs.declared.help.Topic.{Topic};
 ghost use Rattle.command_line.specs.declared.job.Shows.{Shows};
 ghost use Rattle.core_steps.specs.declared.setup.CallLimit.{CallLimit};
+ghost use Rattle.trace_io.specs.Io.{read_from, written_to};
 
 use crate::auditing::audit;
 use crate::certifying::certify;

@@ -1,23 +1,21 @@
 //! A replay that shows each line beside what it gives.
-ghost use Rattle.std.specs.Prelude.{◌≡◌, ◌+◌, ◌<◌, ◌≤◌, ◌^◌, ◌⊎◌, ◌++◌, Err, IfOk, OnErr, OnOk, false, length, true};
-ghost use Rattle.std.specs.Io.KnownBytes.{Appends};
-ghost use Rattle.trace_io.specs.Sink.{AppendsFront};
-ghost use Rattle.trace_io.specs.Source.{HasStopped, Reads};
-ghost use Rattle.trace_io.specs.Window.{left, budget, opening};
+ghost use Rattle.std.specs.Prelude.{◌≡◌, ◌+◌, ◌≤◌, ◌++◌, false, length};
+ghost use Rattle.trace_io.specs.Io.{TellsIo, read_from, written_to};
+ghost use Rattle.trace_io.specs.Source.{Reads};
+ghost use Rattle.trace_io.specs.Window.{opening};
 ghost use Rattle.core_steps.specs.declared.setup.CallLimit.{CallLimit};
-ghost use Rattle.trace.specs.declared.fault.TraceFault.TheVariants as Of;
-ghost use Rattle.trace.specs.Ends.{TellsFaults};
+ghost use Rattle.trace.specs.Ends.{TellsFaults, fault_named};
 ghost use Rattle.trace.specs.Stage.{Start};
-ghost use Rattle.trace.specs.Turns.{scene};
-ghost use Rattle.command_line.specs.Echo.{EchoEnds, EchoTurns, echo};
+ghost use Rattle.command_line.specs.Echo.{EchoEnds, echo};
 
 use arrayvec::ArrayVec;
 use core_steps::{CallLimit, Forgotten};
 use std::alloc::Allocator;
 use trace::fault::TraceFault;
-use trace::replay::Replayed;
+use trace::replay::{Replayed, turn};
 use trace::replayer::{Replayer, Staged};
-use trace_io::lines::{Found, LineReader, NoLine};
+use trace::shown::Showing;
+use trace_io::lines::{LineReader, line_reader};
 use trace_io::sink::{Sink, WriteFailed, write_all};
 use trace_io::source::Source;
 use trace_text::{Line, LineText, read_line};
@@ -51,54 +49,21 @@ fn echo_of(line: &[u8], text: &LineText) -> EchoText
     }
 }
 
-// Writes what is shown of a line that gave this text.
-fn write_echo<W: Sink>(writer: &mut W, line: &[u8], text: &LineText) -> Result<(), WriteFailed>
-    requires { length line.now ≤ 256 }
-    ensures ok { OnOk result (Appends (W.contents writer.old) (W.contents writer.new) (echo line.now text.now.bytes)) }
-    ensures kept { OnOk result (W.failed writer.new ≡ W.failed writer.old) }
-    ensures front { OnErr result
-        (AppendsFront (W.contents writer.old) (W.contents writer.new) (echo line.now text.now.bytes)) }
-    ensures err { OnErr result (W.failed writer.new ≡ true) }
-{
-    let shown = echo_of(line, text);
-    write_all(writer, &shown)
-}
+// Shows each line beside what it gave.
+#[derive(Clone, Copy)]
+struct Echoing;
 
-// Acts on the next line and shows it, or answers false where there is none.
-fn turn<A: Allocator, S: Source, W: Sink, R: Staged>(
-    lines: &mut LineReader<A>,
-    reader: &mut S,
-    writer: &mut W,
-    replayer: &mut R,
-    number: u64,
-    text: &mut LineText,
-) -> Result<bool, TraceFault>
-    requires few { number + 1 < 2 ^ 64 }
-    requires keeps { R.keeps ≡ false }
-    ensures turns { Reads (S.stream reader.old) (S.stream reader.new) (λ xs ys. EchoTurns
-        (scene (left xs lines.old) xs (R.stage replayer.old) (W.contents writer.old))
-        (scene (left ys lines.new) ys (R.stage replayer.new) (W.contents writer.new)) number result) }
-    ensures budget { IfOk result (λ more. more ≡ true
-        → budget (S.reads reader.new) lines.new < budget (S.reads reader.old) lines.old) }
-    ensures read { result ≡ Err Of.ReadFailed → HasStopped (S.failed reader.new) (S.reads reader.new) }
-    ensures write { result ≡ Err Of.WriteFailed → W.failed writer.new ≡ true }
-    ensures kept { (result ≡ Err Of.WriteFailed) ⊎ (W.failed writer.new ≡ W.failed writer.old) }
-{
-    match lines.next_line(reader, writer) {
-        Err(NoLine::ReadFailed) => Err(TraceFault::ReadFailed),
-        Err(NoLine::WriteFailed) => Err(TraceFault::WriteFailed),
-        Ok(Found::End) => Ok(false),
-        Ok(Found::TooLong) => Err(TraceFault::TooLong(number + 1)),
-        Ok(Found::Line) => {
-            let line = lines.line();
-            if let Err(fault) = replayer.act(number + 1, line, text) {
-                return Err(fault);
-            }
-            if let Err(_) = write_echo(writer, line, text) {
-                return Err(TraceFault::WriteFailed);
-            }
-            Ok(true)
-        }
+impl Showing for Echoing {
+    ghost shown = { λ s line text. echo line text };
+
+    fn write_line<W: Sink>(
+        &self,
+        writer: &mut W,
+        line: &[u8],
+        text: &LineText,
+    ) -> Result<(), WriteFailed> {
+        let shown = echo_of(line, text);
+        write_all(writer, &shown)
     }
 }
 
@@ -115,13 +80,12 @@ fn echo_lines<A: Allocator, S: Source, W: Sink, R: Staged>(
     ensures ends { (limit : CallLimit) → R.stage replayer.old ≡ Start limit
         → Reads (S.stream reader.old) (S.stream reader.new) (λ input unread.
         EchoEnds limit input (W.contents writer.old) (W.contents writer.new) result) }
-    ensures read { result ≡ Err Of.ReadFailed → HasStopped (S.failed reader.new) (S.reads reader.new) }
-    ensures write { result ≡ Err Of.WriteFailed → W.failed writer.new ≡ true }
-    ensures kept { (result ≡ Err Of.WriteFailed) ⊎ (W.failed writer.new ≡ W.failed writer.old) }
+    ensures told { TellsIo fault_named result (read_from S.Source reader.old reader.new) (written_to W.Sink writer.old writer.new) }
 {
+    let show = Echoing;
     let mut number = 0u64;
     'lines: loop {
-        match turn(lines, reader, writer, replayer, number, text) {
+        match turn(lines, reader, writer, replayer, number, &show, text) {
             Ok(true) => number += 1,
             Ok(false) => return replayer.finish(),
             Err(fault) => return Err(fault),
@@ -138,17 +102,9 @@ fn echo_read<A: Allocator + Clone + Drop, S: Source, W: Sink>(
 ) -> Replayed<A>
     ensures ends { Reads (S.stream reader.old) (S.stream reader.new) (λ input unread.
         EchoEnds limit input (W.contents writer.old) (W.contents writer.new) result.ended) }
-    ensures read { result.ended ≡ Err Of.ReadFailed → HasStopped (S.failed reader.new) (S.reads reader.new) }
-    ensures write { result.ended ≡ Err Of.WriteFailed → W.failed writer.new ≡ true }
-    ensures kept { (result.ended ≡ Err Of.WriteFailed) ⊎ (W.failed writer.new ≡ W.failed writer.old) }
+    ensures told { TellsIo fault_named result.ended (read_from S.Source reader.old reader.new) (written_to W.Sink writer.old writer.new) }
 {
-    let Ok(for_lines) = alloc.clone() else {
-        return Replayed {
-            ended: Err(TraceFault::NoMemory),
-            lines: None,
-        };
-    };
-    let Ok(mut lines) = LineReader::new(for_lines) else {
+    let Some(mut lines) = line_reader(&alloc) else {
         return Replayed {
             ended: Err(TraceFault::NoMemory),
             lines: None,
@@ -174,8 +130,7 @@ pub fn replay_echoing<A: Allocator + Clone + Drop, S: Source, W: Sink>(
 ) -> Replayed<A>
     ensures ends { Reads (S.stream reader.old) (S.stream reader.new) (λ input unread.
         EchoEnds limit input (W.contents writer.old) (W.contents writer.new) result.ended) }
-    ensures told { TellsFaults result.ended (S.failed reader.new) (S.reads reader.new)
-        (W.failed writer.old) (W.failed writer.new) (W.is_flushed writer.new) }
+    ensures told { TellsFaults result.ended (read_from S.Source reader.old reader.new) (written_to W.Sink writer.old writer.new) }
 {
     let replayed = echo_read(alloc, reader, writer, limit);
     match writer.flush() {

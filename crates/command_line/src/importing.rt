@@ -2,15 +2,16 @@
 ghost use Rattle.std.specs.Prelude.{◌≡◌, ◌<◌, ◌≤◌, ◌^◌};
 ghost use Rattle.import_maps.specs.Entries.{total as entries_total};
 ghost use Rattle.import_text.specs.Counts.{total};
-ghost use Rattle.command_line.specs.Words.{ImportsAccesses, ImportsLog, read_from, written_to};
+ghost use Rattle.command_line.specs.Words.{ImportsAccesses, ImportsLog};
+ghost use Rattle.trace_io.specs.Io.{read_from, written_to};
 
 use import_lackey::traced::trace_log;
 use import_maps::entries::Entries;
 use import_maps::mapped::import_mapped;
 use import_text::counts::Counts;
-use import_text::log::ImportFault;
 use std::alloc::Global;
 use std::io::Write;
+use trace_io::IoFault;
 use trace_io::sink::Sink;
 use trace_io::source::Source;
 
@@ -103,7 +104,7 @@ fn tell_counts<E: Write>(counts: &Counts, errors: &mut E)
 }
 
 // Prints the fault as `radixvm: ` and its text, and answers the status.
-fn tell_fault<E: Write>(fault: ImportFault, errors: &mut E) -> u8
+fn tell_fault<E: Write>(fault: IoFault, errors: &mut E) -> u8
     ensures { result ≡ 3 }
 {
     let _ = writeln!(errors, "radixvm: {fault}");

@@ -1,7 +1,8 @@
 //! What the program does once its words are read.
 ghost use Rattle.std.specs.Prelude.{◌≡◌, ◌≤◌};
-ghost use Rattle.command_line.specs.Words.{EchoesTrace, ReplaysTrace, read_from, written_to};
+ghost use Rattle.command_line.specs.Words.{EchoesTrace, ReplaysTrace};
 ghost use Rattle.trace.specs.Status.{status_of};
+ghost use Rattle.trace_io.specs.Io.{read_from, written_to};
 
 use crate::echo::replay_echoing;
 use crate::explain::explain;

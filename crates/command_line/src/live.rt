@@ -1,7 +1,8 @@
 //! What the word `live` does: a script is run on threads.
 ghost use Rattle.std.specs.Prelude.{◌≡◌, ◌≤◌};
 ghost use Rattle.command_line.specs.Status.{script_status};
-ghost use Rattle.command_line.specs.Words.{CertifiesRun, RunsScript, read_from, written_to};
+ghost use Rattle.command_line.specs.Words.{CertifiesRun, RunsScript};
+ghost use Rattle.trace_io.specs.Io.{read_from, written_to};
 
 use live_script::Runner;
 use live_script::texts::{TextFault, certify_run, run_text};

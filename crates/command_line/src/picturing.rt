@@ -1,13 +1,15 @@
 //! What the word `picture` does.
-ghost use Rattle.std.specs.Prelude.{◌≡◌, ◌≢◌, ◌≤◌, ◌⊎◌, Err, IfErr, None, OnOk, false, true};
+ghost use Rattle.std.specs.Prelude.{◌≡◌, ◌≢◌, ◌≤◌, ◌⊎◌, Err, IfErr, None, OnOk, true};
 ghost use Rattle.std.specs.Io.KnownBytes.{Appends, Keeps};
 ghost use Rattle.command_line.specs.Picture.{PictureEnds, Records, TextEnds, lives_of, picture_of};
-ghost use Rattle.command_line.specs.Words.{PicturesTrace, read_from, written_to};
+ghost use Rattle.command_line.specs.Words.{PicturesTrace};
 ghost use Rattle.recorder.specs.Changes.{changes_recorded, nothing_changed};
 ghost use Rattle.recorder.specs.Looking.{recorded};
 ghost use Rattle.recorder.specs.Recording.{nothing_recorded};
+ghost use Rattle.trace.specs.Ends.{fault_named};
 ghost use Rattle.trace.specs.Status.{status_of};
 ghost use Rattle.trace.specs.declared.fault.TraceFault.TheVariants as Of;
+ghost use Rattle.trace_io.specs.Io.{TellsIo, read_from, written_to};
 ghost use Rattle.trace_io.specs.Sink.{AppendsFront};
 ghost use Rattle.trace_io.specs.Source.{HasStopped, Reads};
 
@@ -21,7 +23,7 @@ use std::io::Write;
 use trace::fault::TraceFault;
 use trace::replay::{Replayed, replay_watched};
 use trace::shown::Show;
-use trace_io::sink::{Sink, WriteFailed, write_all};
+use trace_io::sink::{Nowhere, Sink, write_all};
 use trace_io::source::Source;
 use watched::Watch;
 
@@ -43,30 +45,6 @@ pub enum Drawing {
     Lives,
 }
 
-// Where the lines' text goes, in whose place the picture is shown.
-#[derive(Drop)]
-struct Unshown {
-    is_flushed: bool,
-}
-
-impl Sink for Unshown {
-    ghost contents = { λ s. None };
-
-    ghost failed = { λ s. false };
-
-    ghost is_flushed = { λ s. s.is_flushed };
-
-    fn write(&mut self, bytes: &[u8]) -> Result<usize, WriteFailed> {
-        self.is_flushed = false;
-        Ok(bytes.len())
-    }
-
-    fn flush(&mut self) -> Result<(), WriteFailed> {
-        self.is_flushed = true;
-        Ok(())
-    }
-}
-
 // Replays the trace beside one who watches each step.
 fn record<S: Source, X: Watch + Drop>(
     alloc: Global,
@@ -78,7 +56,7 @@ fn record<S: Source, X: Watch + Drop>(
     ensures read { result ≡ Err Of.ReadFailed → HasStopped (S.failed reader.new) (S.reads reader.new) }
     ensures unwritten { result ≢ Err Of.WriteFailed }
 {
-    let mut unshown = Unshown { is_flushed: true };
+    let mut unshown = Nowhere::new();
     let beside = replay_watched(
         alloc,
         reader,
@@ -143,9 +121,7 @@ fn draw_steps<S: Source, W: Sink, E: Write>(
     ensures ends { Reads (S.stream reader.old) (S.stream reader.new) (λ input unread.
         TextEnds recorded (nothing_recorded steps.first steps.last) (picture_of steps.first steps.last)
         input unread (W.contents out.old) (W.contents out.new) result) }
-    ensures read { result ≡ Err Of.ReadFailed → HasStopped (S.failed reader.new) (S.reads reader.new) }
-    ensures write { result ≡ Err Of.WriteFailed → W.failed out.new ≡ true }
-    ensures kept { (result ≡ Err Of.WriteFailed) ⊎ (W.failed out.new ≡ W.failed out.old) }
+    ensures told { TellsIo fault_named result (read_from S.Source reader.old reader.new) (written_to W.Sink out.old out.new) }
 {
     let Ok(recorder) = Recorder::new(alloc, steps.first, steps.last) else {
         return Err(TraceFault::NoMemory);
@@ -193,9 +169,7 @@ fn draw_all_lives<S: Source, W: Sink>(
     ensures ends { Reads (S.stream reader.old) (S.stream reader.new) (λ input unread.
         TextEnds changes_recorded nothing_changed lives_of
         input unread (W.contents out.old) (W.contents out.new) result) }
-    ensures read { result ≡ Err Of.ReadFailed → HasStopped (S.failed reader.new) (S.reads reader.new) }
-    ensures write { result ≡ Err Of.WriteFailed → W.failed out.new ≡ true }
-    ensures kept { (result ≡ Err Of.WriteFailed) ⊎ (W.failed out.new ≡ W.failed out.old) }
+    ensures told { TellsIo fault_named result (read_from S.Source reader.old reader.new) (written_to W.Sink out.old out.new) }
 {
     let recorder = ChangeRecorder::new(alloc);
     match record(alloc, reader, recorder) {
@@ -214,9 +188,7 @@ fn draw_trace<S: Source, W: Sink, E: Write>(
 ) -> Result<(), TraceFault>
     ensures ends { Reads (S.stream reader.old) (S.stream reader.new) (λ input unread.
         PictureEnds drawing input unread (W.contents out.old) (W.contents out.new) result) }
-    ensures read { result ≡ Err Of.ReadFailed → HasStopped (S.failed reader.new) (S.reads reader.new) }
-    ensures write { result ≡ Err Of.WriteFailed → W.failed out.new ≡ true }
-    ensures kept { (result ≡ Err Of.WriteFailed) ⊎ (W.failed out.new ≡ W.failed out.old) }
+    ensures told { TellsIo fault_named result (read_from S.Source reader.old reader.new) (written_to W.Sink out.old out.new) }
 {
     match drawing {
         Drawing::Steps(steps) => draw_steps(alloc, reader, out, errors, steps),

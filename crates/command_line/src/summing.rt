@@ -21,7 +21,7 @@ fn tell_replies<E: Write>(replies: &Replies, errors: &mut E) {
 }
 
 /// Prints the numbers, each on a line, as `help outcomes` explains them.
-pub fn tell_summary<E: Write>(summary: &Summary, errors: &mut E) {
+pub(crate) fn tell_summary<E: Write>(summary: &Summary, errors: &mut E) {
     tell_replies(&summary.replies, errors);
     tell(errors, "faults", summary.faults);
     tell(errors, "fills", summary.fills);

@@ -1,23 +1,9 @@
 -- What steps keep: what the machine was made with, which calls were begun, unless one begins, where slots begin, unless some are joined, and what pages have
 -- that the step doesn't change. Events only rise.
-use Rattle.std.proofs.Common.{◌≡◌, ◌≢◌, ℕ, ◌≤◌, true, false, refl, sym, ap, ◌∙◌, subst, arith, Option}
-use Rattle.std.proofs.lemmas.Bool.Decides.{nat_tests}
-use Rattle.vm_base.specs.declared.info.PageInfo.{PageInfo}
-use Rattle.vm_base.specs.declared.page.PageRange.{PageRange}
-use Rattle.vm_base.specs.declared.requests.Request.{Request}
-use Rattle.vm_base.specs.Functions.{has, put}
-use Rattle.vm_base.proofs.Functions.{put_other}
-use Rattle.slot_lock.specs.declared.plan.Change.{Change}
-use Rattle.slot_lock.specs.declared.plan.Touch.{Touch}
+use Rattle.machine_laws.proofs.Words.{◌≡◌, ◌≢◌, ℕ, ◌≤◌, true, false, refl, sym, ap, ◌∙◌, subst, arith, Option, nat_tests, PageInfo, PageRange, Request, has}
+use Rattle.machine_laws.proofs.Words.{put, put_other, Change, Touch, Slots, Event, Call, Go, Outcome, Phase, page_of_touch, some_has, World, Step, with_event}
 use Rattle.slot_lock.specs.Changes.{changed}
-use Rattle.slot_lock.specs.Slots.{Slots}
-use Rattle.machine_model.specs.declared.event.Event.{Event}
-use Rattle.machine_model.specs.declared.event.Event.TheVariants.{Call, Go, Fold}
-use Rattle.machine_model.specs.declared.event.Outcome.{Outcome}
-use Rattle.machine_model.specs.declared.phase.Phase.{Phase}
-use Rattle.machine_model.specs.Holding.{page_of_touch, some_has}
-use Rattle.machine_model.specs.World.{World}
-use Rattle.machine_model.specs.Step.{Step, with_event}
+use Rattle.machine_model.specs.declared.event.Event.TheVariants.{Fold}
 use Rattle.machine_laws.proofs.Changed.{changed_edge, same_outside}
 use Rattle.machine_laws.proofs.Shapes.{Shape, rests, begins, ends, goes, aims, gives_up, works, joins, Comes, stopped, acts, comes}
 use Rattle.machine_laws.proofs.Shapes.{GoesBy, moves, divides, cuts, fits, owns, lets_go, answers, posts, commits, takes, zeroes, first_copies}

@@ -1,21 +1,14 @@
 -- Slots show what the pages of the plain page map are mapped to
-use Rattle.std.proofs.Common.{◌≡◌, ℕ, ◌-◌, ◌^◌, ⊎_elim, Option, None, Some, Result, Ok, Err, Vec, refl, sym, ap, ◌∙◌, subst, arith}
-use Rattle.std.proofs.Math.Logic.{∥∥₁_elim}
-use Rattle.std.proofs.Math.Path.{fun_ext}
-use Rattle.std.proofs.Props.{props}
-use Rattle.std.specs.Prelude.{IfOk, OnErr, IfSome, IfNone}
-use Rattle.vm_base.specs.declared.info.Back.{Back}
-use Rattle.vm_base.specs.declared.info.PageInfo.{PageInfo}
+use Rattle.machine_laws.proofs.Words.{◌≡◌, ℕ, ◌-◌, ◌^◌, ⊎_elim, Option, None, Some, Result, Ok, Err, refl, sym, ap, ◌∙◌, subst, arith, ∥∥₁_elim, fun_ext}
+use Rattle.machine_laws.proofs.Words.{props, IfOk, IfSome, IfNone, Back, PageInfo, Prot, IsPage, Plain, IsSlotMap, MapLine, IsMapList, plain_metas, World}
+use Rattle.machine_laws.proofs.Words.{Memory}
+use Rattle.std.proofs.Common.{Vec}
+use Rattle.std.specs.Prelude.{OnErr}
 use Rattle.vm_base.specs.declared.memory.NoMemory.{NoMemory}
-use Rattle.vm_base.specs.declared.rights.Prot.{Prot}
-use Rattle.vm_base.specs.Pages.{IsPage}
-use Rattle.vm_base.specs.Plain.{Entry, Plain}
-use Rattle.slot_lock.specs.Slots.{IsSlotMap}
-use Rattle.map_list.specs.declared.lines.MapLine.{MapLine}
+use Rattle.vm_base.specs.Plain.{Entry}
 use Rattle.vm_base.specs.Runs.{NoneIn}
-use Rattle.map_list.specs.Lines.{GoesOn, IsMapList, IsNextLine, entry_meta, plain_metas}
-use Rattle.map_list.specs.Walked.{info_meta, slot_metas}
-use Rattle.machine_model.specs.World.{World, Memory}
+use Rattle.slot_lock.specs.MapList.{GoesOn, IsNextLine, entry_meta}
+use Rattle.slot_lock.specs.MapWalks.{info_meta, slot_metas}
 use Rattle.machine_sound.specs.Invariant.{ShowsPage}
 use Rattle.machine_sound.specs.Sound.{IsReached}
 use Rattle.machine_sound.proofs.OneMap.{log_leads_to_one}

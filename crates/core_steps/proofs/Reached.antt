@@ -1,17 +1,9 @@
 -- What a machine knows of the state that it has: some run leads to it
-use Rattle.std.proofs.Common.{◌≡◌, ℕ, zero, suc, ◌<◌, ◌≤◌, ◌+◌, Bool, None, sym, subst, arith, Result, Ok, Err}
-use Rattle.std.proofs.Math.Numerals.{add-one}
-use Rattle.std.specs.Prelude.{IfOk, ◌≢◌}
-use Rattle.std.proofs.Math.Logic.{∥∥₁_map}
+use Rattle.machine_laws.proofs.Words.{◌≡◌, ℕ, zero, suc, ◌<◌, ◌≤◌, ◌+◌, Bool, None, sym, subst, arith, Result, Ok, Err, add-one, IfOk, ∥∥₁_map, Slots, IsNew}
+use Rattle.machine_laws.proofs.Words.{Event, Go, Outcome, Stepped, World, new_world, Step, StepsTo}
+use Rattle.std.specs.Prelude.{◌≢◌}
 use Rattle.vm_base.specs.declared.memory.NoMemory.{NoMemory}
-use Rattle.slot_lock.specs.Slots.{Slots, IsNew}
-use Rattle.machine_model.specs.declared.event.Event.{Event}
-use Rattle.machine_model.specs.declared.event.Event.TheVariants.{Go}
-use Rattle.machine_model.specs.declared.event.Outcome.{Outcome}
-use Rattle.machine_model.specs.declared.event.Outcome.TheVariants.{Stepped}
 use Rattle.core_steps.specs.declared.machine.Finished.TheVariants.{Last}
-use Rattle.machine_model.specs.World.{World, new_world}
-use Rattle.machine_model.specs.Step.{Step, StepsTo}
 use Rattle.machine_sound.specs.Invariant.{IsWellFormed}
 use Rattle.machine_sound.specs.Sound.{IsReached, IsSoundStep}
 use Rattle.machine_sound.proofs.Kept.{reached_fine, reached_opening, reached_sound, reached_step, steps_sound}

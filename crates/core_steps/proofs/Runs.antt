@@ -1,21 +1,13 @@
 -- Runs that grow by one event
-use Rattle.std.proofs.Common.{◌≡◌, ℕ, Bool, ◌+◌, ◌<◌, ◌≤◌, List, [], ◌∷◌, ◌++◌, refl, sym, subst, ap, ◌∙◌, take, length, get_or}
-use Rattle.std.proofs.lemmas.List.{take_more}
+use Rattle.machine_laws.proofs.Words.{◌≡◌, ℕ, Bool, ◌+◌, ◌<◌, ◌≤◌, List, [], ◌∷◌, ◌++◌, refl, sym, subst, ap, ◌∙◌, take, length, get_or, take_more, PageRange}
+use Rattle.machine_laws.proofs.Words.{Slots, IsNew, Event, Outcome, World, Made, new_world, Step, Run, nothing_mapped, Replays}
 use Rattle.std.proofs.lemmas.Option.{slice_get_read}
-use Rattle.vm_base.specs.declared.page.PageRange.{PageRange}
-use Rattle.slot_lock.specs.Slots.{Slots, IsNew}
-use Rattle.machine_model.specs.declared.event.Event.{Event}
-use Rattle.machine_model.specs.declared.event.Outcome.{Outcome}
-use Rattle.machine_model.specs.World.{World, Made, new_world}
-use Rattle.machine_model.specs.Step.{Step, Run}
 use Rattle.machine_laws.proofs.Bracketed.{bracketed}
 use Rattle.machine_sound.proofs.Kept.{run_more}
 use Rattle.core_steps.specs.Moving.{MayWant, JoinsAsMap}
 use Rattle.core_steps.specs.Dividing.{DividesAsMap}
 use Rattle.core_steps.specs.Running.{IsRefusedAt, LogsPlainly, RunsAsMap}
 use Rattle.core_steps.proofs.Keeping.{step_made}
-use Rattle.vm_base.specs.Plain.{nothing_mapped}
-use Rattle.vm_base.specs.Log.{Replays}
 use Rattle.machine_sound.specs.Sound.{IsReached}
 use Rattle.machine_sound.proofs.Kept.{reached_sound}
 

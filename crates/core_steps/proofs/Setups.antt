@@ -1,7 +1,6 @@
 -- What a setup without fault has, within its limit of calls
-use Rattle.std.proofs.Common.{◌≡◌, ℕ, ◌≤◌, ◌||◌, Bool, true, false, nat_lt, length, Option, None, Some, refl, arith}
-use Rattle.std.specs.Prelude.{if◌then◌else◌}
-use Rattle.std.proofs.lemmas.Bool.Decides.{nat_tests}
+use Rattle.machine_laws.proofs.Words.{◌≡◌, ℕ, ◌≤◌, Bool, true, false, length, Option, None, Some, refl, arith, if◌then◌else◌, nat_tests}
+use Rattle.std.proofs.Common.{◌||◌, nat_lt}
 use Rattle.core_steps.specs.declared.setup.CallLimit.{CallLimit}
 use Rattle.core_steps.specs.declared.setup.CallLimit.TheVariants.{Usual, Long}
 use Rattle.core_steps.specs.declared.setup.Setup.{Setup}

@@ -1,9 +1,9 @@
 -- The list of mappings of the plain page map to which a machine's log leads
 use Rattle.std.specs.Prelude.{◌≡◌, ℕ, ◌-◌, ◌^◌, ◌⊎◌, List}
 use Rattle.vm_base.specs.Plain.{Plain}
-use Rattle.map_list.specs.declared.lines.MapLine.{MapLine}
+use Rattle.slot_lock.specs.declared.map_list.MapLine.{MapLine}
 use Rattle.vm_base.specs.Runs.{NoneIn}
-use Rattle.map_list.specs.Lines.{GoesOn, IsMapList, IsNextLine, plain_metas}
+use Rattle.slot_lock.specs.MapList.{GoesOn, IsMapList, IsNextLine, plain_metas}
 use Rattle.machine_model.specs.World.{World}
 use Rattle.machine_sound.specs.Log.{LeadsTo}
 

@@ -14,7 +14,7 @@ use Rattle.slot_lock.specs.declared.plan.Plan.{Plan}
 use Rattle.slot_lock.specs.declared.plan.Plan.TheVariants as PlanOf
 use Rattle.slot_lock.specs.declared.plan.Change.{Change}
 use Rattle.slot_lock.specs.Changes.{IsMappedFor}
-use Rattle.slot_lock.specs.Plan.{IsSound, IsSoundChange, IsSoundGoal, IsSoundTouch, goal_range, range_of}
+use Rattle.slot_lock.specs.Plan.{IsSoundPlan, IsSoundChange, IsSoundGoal, IsSoundTouch, goal_range, range_of}
 use Rattle.slot_lock.specs.Slots.{Slots, Crosses, IsCrossed, IsHeld, IsSlotBy, OwnsAll}
 use Rattle.refcache.specs.Steps.{IsUnused}
 use Rattle.vm_calls.specs.Settling.{is_private_store}
@@ -194,7 +194,7 @@ pub record IsAt (w : World) (core : ℕ) (at : Phase) : Type 0 where
   pub well : ∥ IsWellFormed w ∥₁
   pub room : is_open at ≡ true → answer_count w.calls.log < w.made.calls
   pub goal : IfSome (goal_in at) IsSoundGoal
-  pub plan : IfSome (plan_in at) IsSound
+  pub plan : IfSome (plan_in at) IsSoundPlan
   pub page : IfSome (page_in at) (IsAloneAt w.slots core)
   pub taken : IfSome (taken_in at) (IsTaken w)
   pub counted : core < w.memory.counts.cores

@@ -1,4 +1,4 @@
-//! The machine as its users see it.
+//! The machine as its users see it: it is made, given events and calls, and asked what it has.
 ghost use Rattle.machine_sound.specs.Sound.{IsReached};
 ghost use Rattle.core_steps.specs.State.{world};
 
@@ -8,9 +8,8 @@ use crate::ledger::kept::Kept;
 use crate::ledger::{Ledger, Opening};
 use crate::setup::{CallLimit, Setup, SetupFault};
 use machine_model::{Event, Outcome, Phase};
-use map_list::{MapLine, all_lines, next_line};
 use mmu::{Cpu, Hardware};
-use slot_lock::SlotMap;
+use slot_lock::{MapLine, SlotMap, all_lines, next_line};
 use std::alloc::Allocator;
 use vm_base::{CoreId, CoreSet, Entry, NoMemory, PageInfo, PageRange, Request};
 

@@ -1,4 +1,4 @@
-//! A list of events on a new machine.
+//! A list of events, run on a new machine.
 ghost use Rattle.std.specs.Prelude.{◌≡◌, ◌≤◌, [], IfOk, IfErr, OnOk, length, vec_capacity};
 ghost use Rattle.slot_lock.specs.Slots.{IsNew};
 ghost use Rattle.machine_model.specs.World.{new_world};

@@ -1,4 +1,4 @@
-//! What a machine is made with.
+//! What a machine is made with, and the first fault of a setup that makes none.
 ghost use Rattle.std.specs.Prelude.{◌≡◌, Option};
 ghost use Rattle.core_steps.specs.Setups.{first_fault, first_fault_within, most_calls};
 

@@ -7,6 +7,7 @@ ghost use Rattle.core_steps.specs.declared.setup.CallLimit.TheVariants.{Usual};
 ghost use Rattle.trace.specs.Ends.{Ends, TellsFaults};
 ghost use Rattle.trace.specs.Status.{fault_status, status_of};
 ghost use Rattle.trace.specs.declared.fault.TraceFault.{TraceFault};
+ghost use Rattle.trace_io.specs.Io.{read_from, written_to};
 ghost use Rattle.trace_io.specs.Source.{Reads};
 
 use core_steps::CallLimit;
@@ -42,8 +43,7 @@ fn run<A: Allocator + Clone + Drop, S: Source, W: Sink, E: Write>(
     ensures ends { (r : Result Unit TraceFault) × (result ≡ status_of r)
         × Reads (S.stream reader.old) (S.stream reader.new)
         (λ input unread. Ends Usual show input unread (W.contents out.old) (W.contents out.new) r)
-        × TellsFaults r (S.failed reader.new) (S.reads reader.new)
-        (W.failed out.old) (W.failed out.new) (W.is_flushed out.new) }
+        × TellsFaults r (read_from S.Source reader.old reader.new) (written_to W.Sink out.old out.new) }
     ensures within { result ≤ 3 }
 {
     replay_telling(alloc, reader, out, show, CallLimit::Usual).tell(errors)

@@ -1,11 +1,11 @@
-//! Sets of numbers, kept as bits in words of 64.
+//! Sets of numbers, kept as bits in words of 64: what `free_set` is made of.
 ghost use Rattle.std.specs.Prelude.{◌≡◌, ◌≢◌, ℕ, ◌*◌, ◌/◌, ◌<◌, ◌≤◌, IfNone, IfSome, length};
 ghost use Rattle.std.specs.Prelude.{slice_index, true, false};
 ghost use Rattle.vm_base.specs.Functions.{put};
 ghost use Rattle.frames.specs.Bits.{bit_in};
 
 /// Tells whether the number is in the set.
-pub fn contains(words: &[u64], k: usize) -> bool
+pub(crate) fn contains(words: &[u64], k: usize) -> bool
     requires { k < length words.now * 64 }
     ensures { result ≡ bit_in words.now k }
 {
@@ -13,7 +13,7 @@ pub fn contains(words: &[u64], k: usize) -> bool
 }
 
 /// Puts a number into the set.
-pub fn insert(words: &mut [u64], k: usize)
+pub(crate) fn insert(words: &mut [u64], k: usize)
     requires { k < length words.old * 64 }
     ensures members { bit_in words.new ≡ put (bit_in words.old) k true }
     ensures others { (w : ℕ) → w ≢ k / 64 → slice_index words.new w ≡ slice_index words.old w }
@@ -22,7 +22,7 @@ pub fn insert(words: &mut [u64], k: usize)
 }
 
 /// Takes a number out of the set.
-pub fn remove(words: &mut [u64], k: usize)
+pub(crate) fn remove(words: &mut [u64], k: usize)
     requires { k < length words.old * 64 }
     ensures members { bit_in words.new ≡ put (bit_in words.old) k false }
     ensures others { (w : ℕ) → w ≢ k / 64 → slice_index words.new w ≡ slice_index words.old w }

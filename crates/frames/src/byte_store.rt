@@ -1,4 +1,4 @@
-//! The bytes of frames. A frame gets a page of memory when it is first written to.
+//! The bytes of all frames. A frame gets a page of memory when it is first written to.
 ghost use Rattle.std.specs.Prelude.{◌≡◌, ◌<◌, IfOk, None, get_or, length, replicate};
 
 use crate::page_bytes::{self, FRAME_SIZE, Page};
@@ -9,7 +9,7 @@ use std::marker::Model;
 /// are made, and none of it is touched but the pages of frames that were written to, which stand in
 /// the order of their first writes. A clause sees the bytes of each frame as `stored_bytes`.
 #[derive(Drop)]
-pub struct ByteStore<A: Allocator> {
+pub(crate) struct ByteStore<A: Allocator> {
     places: Vec<Option<u32>, A>,
     pages: Vec<Page, A>,
 }

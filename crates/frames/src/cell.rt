@@ -1,4 +1,4 @@
-//! One frame by itself.
+//! One frame by itself, its bytes and whether it is free: for who keeps each under a lock of its own.
 ghost use Rattle.std.specs.Prelude.{◌≡◌, IfOk};
 
 use crate::page_bytes::{self, Page};

@@ -1,4 +1,5 @@
-//! All frames of a machine.
+//! The face of the crate: all frames of a machine, their bytes (`byte_store`) and which are free
+//! (`free_set`).
 ghost use Rattle.std.specs.Prelude.{◌≡◌, ℕ, ◌<◌, ◌≤◌, IfNone, IfSome, IfOk, nat_lt, true, false};
 ghost use Rattle.vm_base.specs.Functions.{put};
 ghost use Rattle.vm_base.specs.Plain.{zeros};

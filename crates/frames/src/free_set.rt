@@ -1,4 +1,5 @@
-//! A set of numbers below a limit, which finds its least member by a look at few words.
+//! Which frames are free: a set of numbers below a limit, which finds its least member by a look at few
+//! words.
 ghost use Rattle.std.specs.Prelude.{◌≡◌, ℕ, ◌*◌, ◌<◌, ◌≤◌, length, IfNone, IfSome, IfOk, nat_lt, true};
 ghost use Rattle.std.specs.Prelude.{false};
 ghost use Rattle.vm_base.specs.Functions.{put};
@@ -14,7 +15,7 @@ const SUMMARY_WORDS: usize = 16;
 
 /// A set of numbers below a limit of at most 65,536. A summary has a bit for each word that isn't 0.
 #[derive(Drop)]
-pub struct FreeSet<A: Allocator> {
+pub(crate) struct FreeSet<A: Allocator> {
     words: Vec<u64, A>,
     summary: [u64; SUMMARY_WORDS],
     limit: u32,

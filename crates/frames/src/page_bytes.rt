@@ -1,4 +1,4 @@
-//! Pages of bytes.
+//! Pages of memory, and lists of them, in which `byte_store` and `cell` keep the bytes of frames.
 ghost use Rattle.std.specs.Prelude.{◌≡◌, ℕ, ◌+◌, ◌<◌, ◌≤◌, length, replicate, slice_index};
 ghost use Rattle.std.specs.Vec.{vec_len, vec_capacity};
 ghost use Rattle.vm_base.specs.Functions.{put};
@@ -8,7 +8,7 @@ ghost use Rattle.frames.specs.Pages.{all_pages};
 use std::alloc::Allocator;
 
 /// The bytes of a frame.
-pub const FRAME_SIZE: usize = 4096;
+pub(crate) const FRAME_SIZE: usize = 4096;
 
 /// The bytes of one frame.
 pub type Page = [u8; FRAME_SIZE];
@@ -60,7 +60,7 @@ pub fn page_of(from: &[u8]) -> Page
 }
 
 /// The page that has this byte at this offset, and else zeros.
-pub fn page_with(offset: usize, byte: u8) -> Page
+pub(crate) fn page_with(offset: usize, byte: u8) -> Page
     requires { offset < 4096 }
     ensures { page_bytes result 0 ≡ put zeros offset byte }
 {
@@ -79,7 +79,7 @@ pub fn byte<A: Allocator>(pages: &Vec<Page, A>, at: usize, offset: usize) -> u8
 }
 
 /// A page.
-pub fn page_at<A: Allocator>(pages: &Vec<Page, A>, at: usize) -> Page
+pub(crate) fn page_at<A: Allocator>(pages: &Vec<Page, A>, at: usize) -> Page
     requires { at < vec_len pages.now }
     ensures { page_bytes result 0 ≡ all_pages pages.now.items at }
 {
@@ -123,7 +123,7 @@ pub fn copy<A: Allocator>(pages: &mut Vec<Page, A>, from: usize, to: usize)
 }
 
 /// Puts a page at the end, where there is memory for it.
-pub fn push<A: Allocator>(pages: &mut Vec<Page, A>, page: Page)
+pub(crate) fn push<A: Allocator>(pages: &mut Vec<Page, A>, page: Page)
     requires { vec_len pages.old < vec_capacity pages.old }
     ensures bytes { all_pages pages.new.items ≡ put (all_pages pages.old.items) (vec_len pages.old)
         (page_bytes page 0) }

@@ -11,6 +11,9 @@ pub struct GhostList<T> {
     pub ghost items: { List T },
 }
 
+// It owns nothing.
+unsafe impl<T: Send> Send for GhostList<T> {}
+
 impl<T> Model for GhostList<T> {
     ghost also_owns = { λ _. ftrue };
 }

@@ -1,2 +1,1 @@
-mod TraceLemmas
 mod EndLemmas

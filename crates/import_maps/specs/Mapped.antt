@@ -1,10 +1,12 @@
 -- How an import of a log ends that begins where a list of mappings leaves off.
-use Rattle.std.specs.Prelude.{◌≡◌, ◌⊎◌, ℕ, Bool, true, List, Option, OnOk, Result, Ok, Err, length}
+use Rattle.std.specs.Prelude.{◌≡◌, ◌⊎◌, ℕ, true, List, Option, OnOk, Result, Ok, Err, length}
+use Rattle.trace_io.specs.Io.{ReadFrom, WrittenTo}
 use Rattle.trace_io.specs.Lines.{lines_of}
 use Rattle.trace_io.specs.Source.{HasStopped}
-use Rattle.import_text.specs.Ends.{ImportStops, ImportsAll}
-use Rattle.import_text.specs.declared.log.ImportFault.{ImportFault}
-use Rattle.import_text.specs.declared.log.ImportFault.TheVariants.{ReadFailed, WriteFailed}
+use Rattle.trace_io.specs.declared.fault.IoFault.{IoFault}
+use Rattle.trace_io.specs.declared.fault.IoFault.TheVariants.{ReadFailed, WriteFailed}
+use Rattle.import_text.specs.Ends.{MakesText, MakeStops, made_text}
+use Rattle.import_text.specs.Imported.{import_of}
 use Rattle.import_text.specs.Taking.{SoFar}
 use Rattle.import_maps.specs.Entries.{total}
 use Rattle.import_maps.specs.Starting.{start_of}
@@ -14,24 +16,23 @@ use Rattle.import_maps.specs.declared.mapped.Told.{Told}
 -- the trace of what is mapped at the start and of what is taken of the log was written; each line of the log is counted, and so many
 -- lines of the list became what they did
 pub record StartsAll (start : SoFar × Entries) (lines : ℕ) (thread : Option ℕ) (input : List ℕ) (old new : Option (List ℕ)) (told : Told) : Type 0 where
-  pub log : ImportsAll start.0 thread input old new told.counts
+  pub log : MakesText (made_text start.0 thread input) (import_of start.0 thread input).1 told.counts input old new
   pub entries : told.entries ≡ start.1
   pub all : total told.entries ≡ lines
 
 -- how an import ends that begins with what a list has told: all told, or stopped at a fault
-abbrev pub StartedEnds : SoFar × Entries → ℕ → Option ℕ → List ℕ → Option (List ℕ) → Option (List ℕ) → Result Told ImportFault → Type 0
+abbrev pub StartedEnds : SoFar × Entries → ℕ → Option ℕ → List ℕ → Option (List ℕ) → Option (List ℕ) → Result Told IoFault → Type 0
 StartedEnds start lines thread input old new (Ok told) = StartsAll start lines thread input old new told
-StartedEnds start lines thread input old new (Err f) = ImportStops start.0 thread input old new f
+StartedEnds start lines thread input old new (Err f) = MakeStops (made_text start.0 thread input) old new f
 
 -- behind what a list says, each of whose lines is counted
-abbrev pub MapsEnds : List ℕ → Option ℕ → List ℕ → Option (List ℕ) → Option (List ℕ) → Result Told ImportFault → Type 0
+abbrev pub MapsEnds : List ℕ → Option ℕ → List ℕ → Option (List ℕ) → Option (List ℕ) → Result Told IoFault → Type 0
 MapsEnds list thread input old new r = StartedEnds (start_of list) (length (lines_of list)) thread input old new r
 
 -- `read failed` is told only of a read of the list or of the log that failed or was one too many, and `write failed` only where a
 -- write or a flush failed; where it isn't told, none failed; where the trace was written, it has gone out
-pub record TellsMaps {T : Type 0} (r : Result T ImportFault) (list_failed : Bool) (list_reads : ℕ) (log_failed : Bool) (log_reads : ℕ)
-    (before failed is_flushed : Bool) : Type 0 where
-  pub read : r ≡ Err ReadFailed → HasStopped list_failed list_reads ⊎ HasStopped log_failed log_reads
-  pub write : r ≡ Err WriteFailed → failed ≡ true
-  pub kept : (r ≡ Err WriteFailed) ⊎ (failed ≡ before)
-  pub out : OnOk r (is_flushed ≡ true)
+pub record TellsMaps {T : Type 0} (r : Result T IoFault) (list log : ReadFrom) (sink : WrittenTo) : Type 0 where
+  pub read : r ≡ Err ReadFailed → HasStopped list.failed list.reads ⊎ HasStopped log.failed log.reads
+  pub write : r ≡ Err WriteFailed → sink.failed ≡ true
+  pub kept : (r ≡ Err WriteFailed) ⊎ (sink.failed ≡ sink.had_failed)
+  pub out : OnOk r (sink.is_flushed ≡ true)

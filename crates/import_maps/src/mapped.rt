@@ -1,8 +1,8 @@
 //! A list of mappings and a log are read whole, and their trace is written.
 ghost use Rattle.std.specs.Prelude.{◌≡◌, ◌<◌, ◌^◌, IfOk};
+ghost use Rattle.trace_io.specs.Io.{TellsSent, read_from, written_to};
 ghost use Rattle.trace_io.specs.Source.{Reads};
 ghost use Rattle.import_text.specs.Counts.{total};
-ghost use Rattle.import_text.specs.Ends.{TellsImport};
 ghost use Rattle.import_text.specs.Taking.{so_far};
 ghost use Rattle.import_maps.specs.Entries.{total as entries_total};
 ghost use Rattle.import_maps.specs.Mapped.{MapsEnds, StartedEnds, TellsMaps};
@@ -10,10 +10,11 @@ ghost use Rattle.import_maps.specs.Mapped.{MapsEnds, StartedEnds, TellsMaps};
 use crate::entries::Entries;
 use crate::starting::{Start, read_list};
 use import_text::counts::Counts;
-use import_text::log::{ImportFault, import_log, read_log};
+use import_text::log::import_log;
 use std::alloc::Global;
+use trace_io::IoFault;
 use trace_io::sink::Sink;
-use trace_io::source::Source;
+use trace_io::source::{Source, read_all};
 
 /// How many lines of a list and of a log became what.
 #[derive(Clone, Copy, Debug, PartialEq, Eq)]
@@ -31,14 +32,14 @@ fn import_after<S: Source, W: Sink>(
     log: &mut S,
     writer: &mut W,
     thread: Option<u64>,
-) -> Result<Told, ImportFault>
+) -> Result<Told, IoFault>
     ensures ends { Reads (S.stream log.old) (S.stream log.new) (λ input unread.
         StartedEnds (so_far start.now.taken, start.now.entries) (entries_total start.now.entries) thread input
         (W.contents writer.old) (W.contents writer.new) result) }
     ensures few { IfOk result (λ told. total told.counts < 2 ^ 64) }
     ensures entries { IfOk result (λ told. told.entries ≡ start.now.entries) }
-    ensures told { TellsImport result (S.failed log.new) (S.reads log.new)
-        (W.failed writer.old) (W.failed writer.new) (W.is_flushed writer.new) }
+    ensures told { TellsSent (λ f. f) result (read_from S.Source log.old log.new)
+        (written_to W.Sink writer.old writer.new) }
 {
     match import_log(alloc, &start.taken, log, writer, thread) {
         Ok(counts) => Ok(Told {
@@ -56,17 +57,17 @@ fn import_behind<S: Source, W: Sink>(
     log: &mut S,
     writer: &mut W,
     thread: Option<u64>,
-) -> Result<Told, ImportFault>
+) -> Result<Told, IoFault>
     ensures ends { Reads (S.stream log.old) (S.stream log.new) (λ input unread.
         MapsEnds list.now thread input (W.contents writer.old) (W.contents writer.new) result) }
     ensures few { IfOk result (λ told. total told.counts < 2 ^ 64) }
     ensures fewer { IfOk result (λ told. entries_total told.entries < 2 ^ 64) }
-    ensures told { TellsImport result (S.failed log.new) (S.reads log.new)
-        (W.failed writer.old) (W.failed writer.new) (W.is_flushed writer.new) }
+    ensures told { TellsSent (λ f. f) result (read_from S.Source log.old log.new)
+        (written_to W.Sink writer.old writer.new) }
 {
     match read_list(alloc, list) {
         Ok(start) => import_after(alloc, &start, log, writer, thread),
-        Err(_) => Err(ImportFault::NoMemory),
+        Err(_) => Err(IoFault::NoMemory),
     }
 }
 
@@ -79,16 +80,16 @@ pub fn import_mapped<L: Source, S: Source, W: Sink>(
     log: &mut S,
     writer: &mut W,
     thread: Option<u64>,
-) -> Result<Told, ImportFault>
+) -> Result<Told, IoFault>
     ensures ends { Reads (L.stream list.old) (L.stream list.new) (λ listed left.
         Reads (S.stream log.old) (S.stream log.new) (λ input unread.
         MapsEnds listed thread input (W.contents writer.old) (W.contents writer.new) result)) }
     ensures few { IfOk result (λ told. total told.counts < 2 ^ 64) }
     ensures fewer { IfOk result (λ told. entries_total told.entries < 2 ^ 64) }
-    ensures told { TellsMaps result (L.failed list.new) (L.reads list.new) (S.failed log.new) (S.reads log.new)
-        (W.failed writer.old) (W.failed writer.new) (W.is_flushed writer.new) }
+    ensures told { TellsMaps result (read_from L.Source list.old list.new)
+        (read_from S.Source log.old log.new) (written_to W.Sink writer.old writer.new) }
 {
-    match read_log(alloc, list) {
+    match read_all(alloc, list) {
         Ok(listed) => import_behind(alloc, listed.as_slice(), log, writer, thread),
         Err(fault) => Err(fault),
     }

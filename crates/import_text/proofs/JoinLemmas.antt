@@ -15,23 +15,6 @@ pub map-len : {X Y : Type 0} (f : X → Y) (xs : List X) → length (map f xs) �
 map-len f [] = refl
 map-len f (x ∷ xs) = let h = map-len f xs in omega (arith, h)
 
--- the line before says something else
-pub last_less : (thread : ℕ) (all : List Spoken) (n : ℕ) → 0 < n → eqb (speech_at all (n - 1)).0 thread ≡ false
-    → last_of thread all (n - 1) ≡ last_of thread all n
-last_less thread all zero p e = absurd (omega arith)
-last_less thread all (suc n) p e =
-    let s : suc n - 1 ≡ n = omega arith in
-    let e2 : eqb (speech_at all n).0 thread ≡ false = subst (λ k. eqb (speech_at all k).0 thread ≡ false) s e in
-    rw s (rw e2 refl)
-
-pub last_here : (thread : ℕ) (all : List Spoken) (n : ℕ) → 0 < n → eqb (speech_at all (n - 1)).0 thread ≡ true
-    → (speech_at all (n - 1)).1 ≡ last_of thread all n
-last_here thread all zero p e = absurd (omega arith)
-last_here thread all (suc n) p e =
-    let s : suc n - 1 ≡ n = omega arith in
-    let e2 : eqb (speech_at all n).0 thread ≡ true = subst (λ k. eqb (speech_at all k).0 thread ≡ true) s e in
-    rw s (rw e2 refl)
-
 -- this line says something else
 pub next_more : (thread : ℕ) (all : List Spoken) (n : ℕ) → n < length all → eqb (speech_at all n).0 thread ≡ false
     → next_of thread (drop (n + 1) all) ≡ next_of thread (drop n all)

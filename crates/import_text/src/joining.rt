@@ -107,7 +107,7 @@ fn put_returned(
 /// Makes the whole text of the call that acts at this line, and tells whether one does. A call that stands in two lines
 /// acts where it returns; `munmap` acts where it begins, since its pages are gone before it returns. What begins in a line
 /// that isn't there is its name.
-pub fn put_call<'a>(
+pub(crate) fn put_call<'a>(
     speeches: &[Speech<'a>],
     place: usize,
     text: &mut Vec<u8>,

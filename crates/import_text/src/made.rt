@@ -55,7 +55,7 @@ fn add_making(made: &mut Vec<Making>, making: Making) -> Result<(), AllocError>
 }
 
 /// All threads that the lines say were made, each once, in the order of the first lines that say so.
-pub fn read_makings<'a>(
+pub(crate) fn read_makings<'a>(
     alloc: Global,
     speeches: &[Speech<'a>],
     text: &mut Vec<u8>,
@@ -92,7 +92,7 @@ fn maker_of(made: &[Making], thread: u64) -> Option<Making>
 }
 
 /// The process of a thread: the number of its first thread, or 0 where no line says who made that.
-pub fn process_of(made: &[Making], thread: u64) -> u64
+pub(crate) fn process_of(made: &[Making], thread: u64) -> u64
     ensures { result ≡ process_of made.now thread }
 {
     let mut thread = thread;

@@ -377,7 +377,7 @@ fn read_file(text: &[u8]) -> Option<&[u8]>
 }
 
 /// The file that the text of an `mmap` names: its path, `<PATH>`, where strace shows it, else its descriptor.
-pub fn read_file_name(text: &[u8]) -> &[u8]
+pub(crate) fn read_file_name(text: &[u8]) -> &[u8]
     ensures { result.now ≡ file_named text.now }
 {
     match read_file(text) {

@@ -30,7 +30,7 @@ fn numbered(line: &[u8]) -> Option<(u64, &[u8])>
 }
 
 /// Which thread the line is about, and what it says of it.
-pub fn read_speech(line: &[u8]) -> Speech<'_>
+pub(crate) fn read_speech(line: &[u8]) -> Speech<'_>
     ensures { spoken result ≡ speech_of line.now }
 {
     match numbered(line) {
@@ -43,7 +43,7 @@ pub fn read_speech(line: &[u8]) -> Speech<'_>
 }
 
 /// What each line of the log says, in order.
-pub fn read_speeches<'a>(alloc: Global, log: &'a [u8]) -> Result<Vec<Speech<'a>>, AllocError>
+pub(crate) fn read_speeches<'a>(alloc: Global, log: &'a [u8]) -> Result<Vec<Speech<'a>>, AllocError>
     ensures { IfOk result (λ all. map spoken all.items ≡ map speech_of (lines_of log.now)) }
 {
     let mut all: Vec<Speech<'a>> = Vec::new(alloc);
@@ -70,7 +70,7 @@ pub fn begun(text: &[u8]) -> Option<&[u8]>
 
 /// The name of a call that returns, `<... NAME resumed>`, and what stands behind that.
 #[tactic(auto, unfolding(crate::specs::Speech::returned_of))]
-pub fn returned(text: &[u8]) -> Option<(&[u8], &[u8])>
+pub(crate) fn returned(text: &[u8]) -> Option<(&[u8], &[u8])>
     ensures { option_map (λ f. (f.0.now, f.1.now)) result ≡ returned_of text.now }
 {
     let (first, rest) = next_token(text)?;

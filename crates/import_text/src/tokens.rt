@@ -14,7 +14,7 @@ fn is_gap(byte: u8) -> bool
 }
 
 /// The bytes from the first token on, none where there is no token.
-pub fn without_gaps(bytes: &[u8]) -> &[u8]
+pub(crate) fn without_gaps(bytes: &[u8]) -> &[u8]
     ensures { result.now ≡ from_token bytes.now }
 {
     let mut count = 0;

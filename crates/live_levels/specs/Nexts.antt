@@ -2,7 +2,7 @@
 use Rattle.std.specs.Prelude.{◌≡◌, ◌≢◌, ◌⊎◌, ℕ, ◌+◌, ◌<◌, ◌≤◌, Option, Some, None}
 use Rattle.std.specs.Sync.Mutex.{mutex_guard_value}
 use Rattle.vm_base.specs.declared.page.PageRange.{PageRange}
-use Rattle.live_levels.specs.Parts.{Divides}
+use Rattle.live_levels.specs.Parts.{DividesView}
 use Rattle.live_levels.specs.Slots.{HasPage, SlotView}
 use Rattle.live_levels.specs.declared.ask.Asked.{Asked}
 use Rattle.live_levels.specs.declared.ask.Asked.TheVariants as AskedOf
@@ -21,7 +21,7 @@ abbrev pub IsForAnother : ℕ → Option ℕ → Type 0
 IsForAnother core owner = ¬ IsFreeFor core owner
 
 -- the slot begins at the cursor, ends by the end, and is no other core's
-pub record IsWhole (core cursor end : ℕ) (s : SlotView) : Type 0 where
+pub record IsLockable (core cursor end : ℕ) (s : SlotView) : Type 0 where
   pub begins : s.first ≡ cursor
   pub ends : cursor + s.count ≤ end
   pub free : IsFreeFor core s.owner
@@ -41,7 +41,7 @@ module _ {A : Type 0} where
   -- what a core that asks from the cursor on finds in a slot
   abbrev pub Asks : ℕ → ℕ → ℕ → SlotView → Asked A → Type 0
   Asks core cursor end s (AskedOf.Whole guard) =
-      (mutex_guard_value guard ≡ s) × IsWhole core cursor end s
+      (mutex_guard_value guard ≡ s) × IsLockable core cursor end s
   Asks core cursor end s (AskedOf.Owned guard) =
       (mutex_guard_value guard ≡ s) × IsOthers core cursor s
   Asks core cursor end s (AskedOf.Larger guard) =
@@ -56,8 +56,8 @@ module _ {S : Type 0} (stepped : S → ℕ → S → Type 0) (before now : S) wh
   -- a step was noted exactly where the slot was divided for the owner, under the ticket that is
   -- told, whether or not threads reach its parts
   abbrev pub Cuts : Option ℕ → SlotView → SlotCut → Type 0
-  Cuts owner s (Cut d) = stepped before d.divided.ticket now × Divides s owner d.divided
-  Cuts owner s (Unseen d) = stepped before d.ticket now × Divides s owner d
+  Cuts owner s (Cut d) = stepped before d.divided.ticket now × DividesView s owner d.divided
+  Cuts owner s (Unseen d) = stepped before d.ticket now × DividesView s owner d
   Cuts owner s NoMemory = now ≡ before
   Cuts owner s Lost = now ≡ before
 
@@ -70,7 +70,7 @@ module _ {A S : Type 0} (stepped : S → ℕ → S → Type 0) (before now : S) 
   -- a step was noted exactly where a slot was divided, whether or not threads reach its parts
   abbrev pub Answers : ℕ → ℕ → ℕ → Next A → Type 0
   Answers core cursor end (NextOf.Whole guard) =
-      (now ≡ before) × IsWhole core cursor end (mutex_guard_value guard)
+      (now ≡ before) × IsLockable core cursor end (mutex_guard_value guard)
   Answers core cursor end NextOf.Split = Noted stepped before now
   Answers core cursor end NextOf.Unseen = Noted stepped before now
   Answers core cursor end (NextOf.Owned guard) =

@@ -49,7 +49,7 @@ pub record AreUnused (first pages : ℕ) (slots : List SlotView) : Type 0 where
   pub each : (k : ℕ) (d : SlotView) → k < 512 → IsUnused (get_or slots k d)
 
 -- what was divided is the slot, and its parts are this owner's to lock first
-pub record Divides (s : SlotView) (chosen : Option ℕ) (d : Divided) : Type 0 where
+pub record DividesView (s : SlotView) (chosen : Option ℕ) (d : Divided) : Type 0 where
   pub first : d.first ≡ s.first
   pub content : d.content ≡ s.content
   pub owner : d.owner ≡ chosen

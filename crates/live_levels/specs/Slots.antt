@@ -30,7 +30,7 @@ slot_view first count owner content changes room = record {
 -- What holds of every slot whose lock is free: its content is the replay of its history; it has
 -- pages, whose file pages are numbers; and a page with a frame or a recorded core is a slot of its
 -- own
-pub record IsSlot (s : SlotView) : Type 0 where
+pub record IsSlotView (s : SlotView) : Type 0 where
   pub replays : s.content ≡ replay s.changes
   pub some : 1 ≤ s.count
   pub place : s.first + s.count ≤ 2 ^ 36

@@ -1,4 +1,5 @@
-//! One change of what a slot's pages have.
+//! One change of what a slot's pages have, and what they have after it: the entries of a slot's
+//! history.
 ghost use Rattle.std.specs.Prelude.{◌≡◌, ◌↔◌, ◌≤◌, ◌^◌, IsTrue};
 ghost use Rattle.live_levels.specs.Replay.{after};
 ghost use Rattle.live_levels.specs.Slots.{Suits};

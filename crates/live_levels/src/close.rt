@@ -1,4 +1,4 @@
-//! The histories of all slots, once no thread shares the tree.
+//! The history of each slot, as it is gathered at the end, once no thread shares the tree.
 ghost use Rattle.std.specs.Prelude.{◌≡◌, ℕ, ◌+◌, ◌^◌, [], IfSome, IfOk};
 ghost use Rattle.live_levels.specs.Histories.{Chain, Grew, Gathers};
 

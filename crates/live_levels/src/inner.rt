@@ -1,4 +1,4 @@
-//! A level above others.
+//! A level above others: 512 places, each a slot, or the level below once it is divided.
 ghost use Rattle.std.specs.Prelude.{◌≡◌, ℕ, ◌+◌, ◌-◌, ◌<◌, ◌≤◌, ◌^◌, IfSome, Some};
 ghost use Rattle.std.specs.Sync.Mutex.{mutex_guard_value};
 ghost use Rattle.live_levels.specs.Nexts.{Answers, Cuts, Folds};

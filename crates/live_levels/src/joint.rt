@@ -1,4 +1,4 @@
-//! Slots side by side that can be one.
+//! Slots side by side that can be one, as `fold` has found them so far.
 ghost use Rattle.std.specs.Prelude.{◌≡◌, ◌+◌, ◌-◌, ◌<◌, ◌≤◌, ◌^◌, false};
 ghost use Rattle.vm_base.specs.Info.{info_file_page, is_leaf};
 

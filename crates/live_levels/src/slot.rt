@@ -1,9 +1,9 @@
-//! What lies under a slot's lock.
+//! What lies under a slot's lock: its place, who is to lock it first, and the history of its changes.
 ghost use Rattle.std.specs.Prelude.{◌≡◌, ℕ, ◌+◌, ◌-◌, ◌<◌, ◌≤◌, ◌^◌, false, [], ◌∷◌, ◌++◌, None, IfOk};
 ghost use Rattle.std.specs.Prelude.{OnErr, OnOk};
 ghost use Rattle.vm_base.specs.Info.{info_file_page, is_leaf};
 ghost use Rattle.live_levels.specs.Replay.{replay, dated};
-ghost use Rattle.live_levels.specs.Slots.{SlotView, IsSlot, Suits, changed};
+ghost use Rattle.live_levels.specs.Slots.{SlotView, IsSlotView, Suits, changed};
 
 use crate::act::{Act, SlotChange, after};
 use std::alloc::{AllocError, Allocator};
@@ -27,14 +27,14 @@ pub struct SlotState<A: Allocator> {
 impl<A: Allocator> Model for SlotState<A> {
     ghost use Rattle.std.specs.Prelude.{◌≡◌, ◌-◌, vec_len, vec_capacity};
     ghost use Rattle.live_levels.specs.Replay.{history};
-    ghost use Rattle.live_levels.specs.Slots.{SlotView, slot_view, IsSlot};
+    ghost use Rattle.live_levels.specs.Slots.{SlotView, slot_view, IsSlotView};
 
     ghost Value = { SlotView };
 
     ghost view = { λ s. slot_view s.first s.count s.owner s.content (history s.begun s.later.items)
         (vec_capacity s.later - vec_len s.later) };
 
-    ghost invariant = { λ s. IsSlot (slot_view s.first s.count s.owner s.content
+    ghost invariant = { λ s. IsSlotView (slot_view s.first s.count s.owner s.content
         (history s.begun s.later.items) (vec_capacity s.later - vec_len s.later)) };
 }
 
@@ -97,7 +97,7 @@ impl<A: Allocator> SlotState<A> {
     }
 
     /// A copy of the changes, in their order.
-    pub fn history(&self, alloc: A) -> Result<Vec<SlotChange, A>, AllocError>
+    pub(crate) fn history(&self, alloc: A) -> Result<Vec<SlotChange, A>, AllocError>
         ensures { IfOk result (λ v. v.items ≡ self.now.changes) }
     {
         let mut all = Vec::new(alloc);

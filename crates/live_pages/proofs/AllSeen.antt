@@ -1,12 +1,9 @@
 -- What holds of each item that a loop has seen
-use Rattle.std.proofs.Common.{◌≡◌, ℕ, zero, suc, ◌+◌, ◌<◌, ◌≤◌, List, [], ◌∷◌, ◌++◌, length, take, get_or, subst, arith}
+use Rattle.std.proofs.Common.{◌≡◌, ℕ, ◌+◌, ◌<◌, ◌≤◌, List, [], ◌∷◌, length, take, get_or, subst}
 use Rattle.std.specs.Prelude.{All}
 use Rattle.std.proofs.lemmas.List.{take_all, take_more}
 use Rattle.std.proofs.lemmas.List.Elements.{All-append}
-
-all_of_one : {X : Type 0} (P : X → Type 0) (x : X) → P x → All P (x ∷ [])
-all_of_one P x h zero e l = h
-all_of_one P x h (suc k) e l = absurd (omega arith)
+use Rattle.live_tree.proofs.Pushed.{all_of_one}
 
 pub one_more_holds : {X : Type 0} (P : X → Type 0) (xs : List X) (at : ℕ) (x : X) → at < length xs → x ≡ get_or xs at x → All P (take at xs) → P x
     → All P (take (at + 1) xs)

@@ -1,4 +1,4 @@
-//! The last step of a call.
+//! The last step of a call: its answer is noted.
 ghost use Rattle.std.specs.Prelude.{◌<◌};
 ghost use Rattle.live_pages.specs.Ending.{Answers};
 

@@ -9,7 +9,7 @@ use frames::FrameCell;
 use std::alloc::Allocator;
 
 /// The frame gets zeros, and is counted once, for its page.
-pub fn begin_zeros<A: Allocator>(frame: &mut FrameState<A>)
+pub(crate) fn begin_zeros<A: Allocator>(frame: &mut FrameState<A>)
     ensures { Begins zeros 1 frame.old frame.new }
 {
     frame.cell.fill_zero();
@@ -17,7 +17,7 @@ pub fn begin_zeros<A: Allocator>(frame: &mut FrameState<A>)
 }
 
 /// The frame gets these bytes, and zeros after them, and is counted so often.
-pub fn begin_bytes<A: Allocator>(frame: &mut FrameState<A>, bytes: &[u8], count: u64)
+pub(crate) fn begin_bytes<A: Allocator>(frame: &mut FrameState<A>, bytes: &[u8], count: u64)
     requires short { length bytes.now ≤ 4096 }
     requires count { count ≤ 2 ^ 40 }
     ensures { Begins (page_bytes bytes.now 0) count frame.old frame.new }
@@ -27,7 +27,7 @@ pub fn begin_bytes<A: Allocator>(frame: &mut FrameState<A>, bytes: &[u8], count:
 }
 
 /// The frame gets the bytes of another one, and is counted once, for its page.
-pub fn begin_copy<A: Allocator>(frame: &mut FrameState<A>, from: &FrameCell<A>)
+pub(crate) fn begin_copy<A: Allocator>(frame: &mut FrameState<A>, from: &FrameCell<A>)
     ensures { Begins (cell_bytes from.now) 1 frame.old frame.new }
 {
     frame.cell.copy_from(from);

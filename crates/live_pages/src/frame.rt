@@ -1,4 +1,4 @@
-//! Frames that are taken for pages, and given back.
+//! How a step finds a free frame for a page and takes it, and gives it back.
 ghost use Rattle.std.specs.Prelude.{◌≡◌, ◌+◌, ◌<◌, ◌≤◌, ◌^◌, ℕ, All, IsTrue, IfNone, IfSome, None, false, true};
 ghost use Rattle.std.specs.Prelude.{length};
 ghost use Rattle.machine_model.specs.declared.event.Event.TheVariants.{GiveUp};

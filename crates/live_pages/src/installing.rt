@@ -1,4 +1,4 @@
-//! The entry of a page in a core's tables.
+//! The step that enters a page in a core's tables, and records the core on it.
 ghost use Rattle.std.specs.Prelude.{◌≡◌, true, false};
 ghost use Rattle.slot_lock.specs.Plan.{IsSoundTouch};
 ghost use Rattle.live_levels.specs.declared.act.Act.TheVariants.{Record};
@@ -7,10 +7,10 @@ ghost use Rattle.live_pages.specs.Steps.{Stays, StepsWith};
 
 use crate::pieces::Pieces;
 use crate::settling::place_of;
-use access_answers::prot_with;
 use live_levels::act::Act;
 use live_levels::level::Stepper;
 use live_tree::held::Held;
+use machine_model::answers::prot_with;
 use mmu::{Hardware, has_right};
 use seats::Seat;
 use slot_lock::Touch;

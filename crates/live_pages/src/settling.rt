@@ -7,9 +7,9 @@ ghost use Rattle.seats.specs.Notes.{CanNote};
 ghost use Rattle.live_pages.specs.Steps.{StepsOnce};
 
 use crate::pieces::Pieces;
-use access_answers::{back_of, is_past_end};
 use backing::CachedFrame;
 use live_levels::level::Stepper;
+use machine_model::answers::{back_of, is_past_end};
 use seats::Seat;
 use slot_lock::Touch;
 use std::alloc::Allocator;

@@ -206,7 +206,7 @@ fn take_of<R: Wait, A: Allocator + Clone>(
 /// The takes of a target, under its lock, until it has acknowledged the core's message. Each is a
 /// step of its own.
 #[tactic(auto, using(seats::proofs::Growing::grew_trans))]
-pub fn take_until_told<R: Wait, A: Allocator + Clone>(
+pub(crate) fn take_until_told<R: Wait, A: Allocator + Clone>(
     rt: &R,
     place: &CachePadded<Mutex<CoreState<A>>>,
     seat: &mut Seat<A>,

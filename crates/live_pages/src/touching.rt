@@ -9,9 +9,9 @@ ghost use Rattle.live_pages.specs.Steps.{Tries};
 
 use crate::answering::answer;
 use crate::pieces::Pieces;
-use access_answers::byte_reply;
 use frames::FrameCell;
 use live_levels::level::Stepper;
+use machine_model::answers::byte_reply;
 use mmu::{Hardware, Translated};
 use seats::Seat;
 use slot_lock::Touch;

@@ -1,5 +1,5 @@
 -- What is written of the text of a script
-use Rattle.std.specs.Prelude.{◌≡◌, ℕ, ◌⊎◌, Bool, true, List, ⊤, Option, Result, Ok, Err, OnOk}
+use Rattle.std.specs.Prelude.{◌≡◌, ℕ, ◌⊎◌, Bool, List, ⊤, Option, Result, Ok, Err}
 use Rattle.std.specs.Io.KnownBytes.{Keeps, Appends}
 use Rattle.vm_base.specs.declared.page.PageRange.{PageRange}
 use Rattle.slot_lock.specs.Slots.{Slots}
@@ -8,8 +8,9 @@ use Rattle.seats.specs.declared.noted.Noted.{Noted}
 use Rattle.certifier.specs.declared.result.CertifyFault.TheVariants as By
 use Rattle.live_space.specs.Space.{LiveView}
 use Rattle.trace_io.specs.Sink.{AppendsFront}
-use Rattle.trace_io.specs.Source.{HasStopped}
+use Rattle.trace_io.specs.Io.{ReadFrom, TellsSent, WrittenTo}
 use Rattle.trace.specs.Declarations.{Asked}
+use Rattle.trace.specs.Ends.{fault_named}
 use Rattle.trace.specs.declared.fault.TraceFault.{TraceFault}
 use Rattle.trace.specs.declared.fault.TraceFault.TheVariants as Of
 use Rattle.notes_text.specs.Ordered.{AreInOrder}
@@ -92,11 +93,6 @@ EndsText Gives input unread old new (Err f) =
     ((fault : TraceFault) × (f ≡ Text fault) × Unread input unread fault × Keeps old new)
     ⊎ ((script : Scripted) × ReadWhole input script × Ceases Gives script old new f)
 
--- `read failed` is told only of a read that failed or was one too many, and `write failed` only where a write or a flush
--- failed; where it isn't told, none failed, and where nothing is, all that was written has gone out.
-pub record TellsText {T : Type 0} (r : Result T TextFault) (read_failed : Bool) (reads : ℕ)
-    (before failed is_flushed : Bool) : Type 0 where
-  pub read : r ≡ Err (Text Of.ReadFailed) → HasStopped read_failed reads
-  pub write : r ≡ Err (Text Of.WriteFailed) → failed ≡ true
-  pub kept : (r ≡ Err (Text Of.WriteFailed)) ⊎ (failed ≡ before)
-  pub out : OnOk r (is_flushed ≡ true)
+-- which failures of reading and writing are told
+abbrev pub TellsText : {T : Type 0} → Result T TextFault → ReadFrom → WrittenTo → Type 0
+TellsText r text sink = TellsSent (λ f. Text (fault_named f)) r text sink

@@ -14,4 +14,4 @@ pub use certifying::certify_ran;
 pub use fault::RunFault;
 pub use ran::Ran;
 pub use runner::{InTurn, OnThreads, Runner};
-pub use running::{begin, finish_in_turn, run_in_turn, run_script};
+pub use running::{begin, finish_in_turn, finish_side_by_side, run_in_turn, run_script};

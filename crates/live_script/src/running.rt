@@ -107,8 +107,9 @@ fn first_fault<A: Allocator>(lanes: &[Lane<A>]) -> Option<LiveFault>
     None
 }
 
-// Does all that the script asks for in the space that was made for it, on threads.
-fn finish_side_by_side<R: Threads + Wait + Sync>(
+/// Does all that the script asks for in the space that `begin` made for it, each core on a thread of its own where one can
+/// be made, as `finish_in_turn` does it.
+pub fn finish_side_by_side<R: Threads + Wait + Sync>(
     rt: &R,
     script: &Script<Global>,
     mut ran: Ran<Global>,

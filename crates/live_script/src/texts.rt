@@ -1,8 +1,7 @@
 //! A script's text that is run, and what is written of it: the notes of its seats, or what certifying them comes to.
-ghost use Rattle.std.specs.Prelude.{◌≡◌, ◌⊎◌, Err, IfErr, IfOk, None, OnErr, OnOk, true};
-ghost use Rattle.std.specs.Io.KnownBytes.{Appends};
-ghost use Rattle.trace_io.specs.Sink.{AppendsFront};
-ghost use Rattle.trace_io.specs.Source.{HasStopped, Reads};
+ghost use Rattle.std.specs.Prelude.{◌≡◌, ◌⊎◌, Err, IfErr, IfOk, None, OnOk, true};
+ghost use Rattle.trace_io.specs.Io.{IsWritten, read_from, written_to};
+ghost use Rattle.trace_io.specs.Source.{Reads};
 ghost use Rattle.trace.specs.Declarations.{asked_fault};
 ghost use Rattle.notes_text.specs.Scripts.{ReadsScript, Unread, ReadWhole};
 ghost use Rattle.notes_text.specs.Verdicts.{verdict_text};
@@ -92,8 +91,7 @@ pub fn run_text<
 >(rt: &T, runner: &R, alloc: A, reader: &mut S, writer: &mut W) -> Result<(), TextFault>
     ensures ends { Reads (S.stream reader.old) (S.stream reader.new) (λ input unread. EndsText
         (λ script done text. IsNotesText script text) input unread (W.contents writer.old) (W.contents writer.new) result) }
-    ensures told { TellsText result (S.failed reader.new) (S.reads reader.new)
-        (W.failed writer.old) (W.failed writer.new) (W.is_flushed writer.new) }
+    ensures told { TellsText result (read_from S.Source reader.old reader.new) (written_to W.Sink writer.old writer.new) }
 {
     let Ok(for_script) = alloc.clone() else {
         return Err(TextFault::Text(TraceFault::NoMemory));
@@ -150,12 +148,8 @@ fn judge_run<A: Allocator + Clone + Drop, T: Threads + Wait + Sync, R: Runner<A>
 
 // Writes the line that tells the verdict, and hands it on.
 fn send_verdict<W: Sink>(writer: &mut W, verdict: Verdict) -> Result<(), WriteFailed>
-    ensures ok { OnOk result (Appends (W.contents writer.old) (W.contents writer.new) (verdict_text verdict)) }
+    ensures wrote { IsWritten result (written_to W.Sink writer.old writer.new) (verdict_text verdict) }
     ensures out { OnOk result (W.is_flushed writer.new ≡ true) }
-    ensures kept { OnOk result (W.failed writer.new ≡ W.failed writer.old) }
-    ensures front { OnErr result
-        (AppendsFront (W.contents writer.old) (W.contents writer.new) (verdict_text verdict)) }
-    ensures err { OnErr result (W.failed writer.new ≡ true) }
 {
     if let Err(failed) = write_verdict(writer, verdict) {
         return Err(failed);
@@ -203,8 +197,7 @@ pub fn certify_run<
         (λ script told text. IsVerdictText A ⟦<RadixMap<A> as SlotMap>⟧.parts ⟦<RadixMap<A> as SlotMap>⟧.can_fold
         ⟦<RadixMap<A> as SlotMap>⟧.folds script told text)
         input unread (W.contents writer.old) (W.contents writer.new) result) }
-    ensures told { TellsText result (S.failed reader.new) (S.reads reader.new)
-        (W.failed writer.old) (W.failed writer.new) (W.is_flushed writer.new) }
+    ensures told { TellsText result (read_from S.Source reader.old reader.new) (written_to W.Sink writer.old writer.new) }
 {
     let Ok(for_script) = alloc.clone() else {
         return Err(TextFault::Text(TraceFault::NoMemory));

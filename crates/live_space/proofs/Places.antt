@@ -1,6 +1,6 @@
 -- Placed mappings: where they go, and the slots that they cut or get room in
-use Rattle.std.proofs.Common.{◌≡◌, ℕ, zero, suc, ◌+◌, ◌<◌, ◌≤◌, List, [], ◌∷◌, ◌++◌, length, map, get_or, Option, Some}
-use Rattle.std.proofs.Common.{None, arith, sym, ap, ◌∙◌, subst, length-append}
+use Rattle.std.proofs.Common.{◌≡◌, ℕ, zero, suc, List, [], ◌∷◌, length, map, Option, Some}
+use Rattle.std.proofs.Common.{None, arith, sym, ap, ◌∙◌, subst}
 use Rattle.std.specs.Prelude.{All}
 use Rattle.std.proofs.lemmas.List.{length-map}
 use Rattle.vm_base.specs.declared.page.PageRange.{PageRange}
@@ -12,8 +12,7 @@ use Rattle.slot_lock.specs.declared.plan.Target.TheVariants.{Hint, Run, Window}
 use Rattle.slot_lock.specs.Plan.{target_range}
 use Rattle.slot_lock.specs.Slots.{Slots}
 use Rattle.live_levels.specs.Slots.{SlotView}
-use Rattle.live_tree.specs.Cutting.{CutsFirst}
-use Rattle.live_tree.specs.Held.{HeldView, AreAlike, CrossesNoEdge, without_room}
+use Rattle.live_tree.specs.Held.{AreAlike, CrossesNoEdge, without_room}
 use Rattle.vm_calls.specs.declared.decision.Decision.{Decision}
 use Rattle.vm_calls.specs.Decisions.{DecidesPlace, DecidesRun, act_at, entries}
 use Rattle.vm_calls.specs.Decisions.DecidesRun.{free, taken}
@@ -33,12 +32,6 @@ pub placed_inside : (s : Slots) (place : Place) (target : Target) (d : Decision)
 placed_inside s place (Hint range) d h = run_inside s range d h
 placed_inside s place (Run range) d h = run_inside s range d h
 placed_inside s place Window d h = subst (IsInside place.window) (sym h.2) (room_inside s place h.0 h.1)
-
--- a cut slot is replaced by 512
-pub cut_length : (core : ℕ) (range : PageRange) (h k : HeldView) → CutsFirst core range h k → length k.slots ≡ length h.slots + 511
-cut_length core range h k c = let before = ap length c.before in
-    let after = ap (λ (v : HeldView). length v.slots) c.after in
-    omega (arith, before, after, c.count, length-append c.left (c.slot ∷ c.right), length-append (c.left ++ c.parts) c.right, length-append c.left c.parts)
 
 bare_edges : (r : PageRange) (ss : List SlotView) → All (CrossesNoEdge r) ss → All (CrossesNoEdge r) (map without_room ss)
 bare_edges r [] h k d lt = absurd (omega arith)

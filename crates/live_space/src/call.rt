@@ -1,6 +1,6 @@
 //! A call of a core's thread, from its beginning to its answer.
 ghost use Rattle.std.specs.Prelude.{◌≡◌, ◌+◌, ◌≤◌, IfOk, IfErr, OnOk};
-ghost use Rattle.slot_lock.specs.Plan.{IsSound};
+ghost use Rattle.slot_lock.specs.Plan.{IsSoundPlan};
 ghost use Rattle.seats.specs.Growing.{OneCall};
 ghost use Rattle.live_pages.specs.Ending.{Ends};
 ghost use Rattle.live_space.specs.Calls.{IsIdle, LacksCall, MayBegin};
@@ -73,7 +73,7 @@ impl<A: Allocator + Clone> Live<A> {
     // The step of the check, whose arguments it let through, and what follows.
     #[tactic(auto, using(live_pages::proofs::Ending::ends_after, seats::proofs::Growing::grew_trans, seats::proofs::Growing::grew_steps, seats::proofs::Growing::grew_room))]
     fn go_on<R: Wait, G: Gate>(&self, rt: &R, seat: &mut Seat<A>, plan: Plan, gate: &G) -> Reply
-        requires sound { IsSound plan }
+        requires sound { IsSoundPlan plan }
         requires room { 2 ≤ seat.old.room }
         ensures { Ends seat.old result seat.new }
     {
@@ -88,7 +88,7 @@ impl<A: Allocator + Clone> Live<A> {
 
     // The steps of a call whose arguments are sound, up to its answer.
     fn follow<R: Wait, G: Gate>(&self, rt: &R, seat: &mut Seat<A>, plan: Plan, gate: &G) -> Reply
-        requires sound { IsSound plan }
+        requires sound { IsSoundPlan plan }
         requires room { 2 ≤ seat.old.room }
         ensures { Ends seat.old result seat.new }
     {

@@ -1,4 +1,4 @@
-//! What is decided of a change whose pages are held.
+//! What is decided of a change whose pages are held, and which frames they lose.
 ghost use Rattle.std.specs.Prelude.{◌≡◌, ◌+◌, ◌≤◌, ◌^◌, IfSome};
 ghost use Rattle.vm_base.specs.Pages.{IsPageRange};
 ghost use Rattle.slot_lock.specs.Plan.{IsSoundChange, IsSoundGoal, range_of};

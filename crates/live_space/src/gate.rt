@@ -1,4 +1,4 @@
-//! Where a test may hold a call.
+//! The points of a call at which a test may hold it.
 use std::sync::Wait;
 use vm_base::CoreId;
 

@@ -1,4 +1,4 @@
-//! Calls that are given up.
+//! The step that gives a call up for want of memory, and its answer.
 ghost use Rattle.std.specs.Prelude.{◌≡◌, ◌+◌, ◌<◌, ◌≤◌};
 ghost use Rattle.vm_base.specs.declared.replies.Reply.TheVariants.{NoMemory};
 ghost use Rattle.seats.specs.Growing.{Grew};

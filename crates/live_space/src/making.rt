@@ -1,7 +1,7 @@
-//! The making of a space.
+//! The making of a space: the word and the seats, the files and their pages, the frames and the cores.
 ghost use Rattle.std.specs.Prelude.{◌≡◌, ◌<◌, ◌≤◌, [], None, IfOk, IfErr, length, All};
 ghost use Rattle.std.specs.Arc.{arc_value};
-ghost use Rattle.tickets.specs.Tickets.{IsNew};
+ghost use Rattle.seats.specs.Tickets.{IsNew};
 ghost use Rattle.backing.specs.Files.{files_of};
 ghost use Rattle.backing.specs.Given.{given_files};
 ghost use Rattle.vm_base.specs.Pages.{page_count};
@@ -17,11 +17,10 @@ use live_pages::pieces::{CoreState, FrameState};
 use live_tree::tree::SharedTree;
 use mmu::Cpu;
 use refcache::{CoreCounts, Epochs, ObjectCount};
-use seats::Seat;
+use seats::{Seat, Ticketer, Tickets};
 use shootdown::Inbox;
 use std::alloc::Allocator;
 use std::sync::{Arc, Mutex};
-use tickets::{Ticketer, Tickets};
 use vm_base::page::PAGE_SIZE;
 use vm_base::{CoreId, NoMemory};
 

@@ -1,4 +1,4 @@
-//! The space that threads share.
+//! The space that threads share: what lies under its locks, and how it is lent to a step.
 ghost use Rattle.std.specs.Prelude.{◌≡◌, length};
 ghost use Rattle.live_space.specs.Space.{LiveView};
 
@@ -7,10 +7,10 @@ use crossbeam_utils::CachePadded;
 use live_pages::pieces::{CoreState, FrameState, Pieces};
 use live_tree::tree::SharedTree;
 use refcache::Epochs;
+use seats::Tickets;
 use std::alloc::Allocator;
 use std::marker::Model;
 use std::sync::{Arc, Mutex};
-use tickets::Tickets;
 
 /// One address space that threads share: the tree of slots, and what lies under the locks of file
 /// pages, cores, frames and the epoch. The bytes of its files never change. A clause sees the word

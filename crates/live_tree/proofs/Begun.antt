@@ -1,12 +1,9 @@
 -- Slots that were never used show nothing mapped and nothing held
-use Rattle.std.proofs.Common.{◌≡◌, ℕ, zero, suc, ◌+◌, ◌-◌, ◌<◌, nat_lt, Bool, true, false, cond, List, [], ◌∷◌, length, get_or, Option}
-use Rattle.std.proofs.Common.{None, refl, subst, sym, ap, ◌∙◌, arith}
+use Rattle.slot_lock.proofs.Words.{ℕ, zero, suc, ◌+◌, ◌-◌, ◌<◌, nat_lt, Bool, true, false, cond, List, [], ◌∷◌, length, get_or, refl, ap, arith, info_from}
 use Rattle.slot_lock.specs.Slots.{IsNew}
 use Rattle.live_levels.specs.Parts.{AreUnused, IsUnused}
-use Rattle.live_levels.specs.Slots.{SlotView, content_at}
-use Rattle.live_tree.specs.Guards.{no_slot}
+use Rattle.live_levels.specs.Slots.{SlotView}
 use Rattle.live_tree.specs.Shown.{slot_at, shown}
-use Rattle.vm_base.specs.Info.{info_from}
 
 slot_at_unused : (ss : List SlotView) → ((k : ℕ) (d : SlotView) → k < length ss → IsUnused (get_or ss k d)) → (p : ℕ) → IsUnused (slot_at ss p)
 slot_at_unused [] each p = record { owner = refl; content = refl; changes = refl }

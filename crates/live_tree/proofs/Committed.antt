@@ -1,10 +1,11 @@
 -- What a commit keeps of the held slots: their places
-use Rattle.std.proofs.Common.{◌≡◌, ℕ, ◌+◌, ◌<◌, Bool, true, false, List, [], ◌∷◌, map, cond, refl, ap, subst, sym}
+use Rattle.std.proofs.Common.{◌≡◌, ℕ, Bool, true, false, List, map, cond, refl}
 use Rattle.slot_lock.specs.declared.plan.Change.{Change}
 use Rattle.slot_lock.specs.Plan.{range_of}
 use Rattle.live_levels.specs.Slots.{SlotView, changed}
 use Rattle.live_levels.specs.Replay.{dated}
 use Rattle.live_tree.specs.Held.{SideBySide, committed, is_inside, act_on}
+use Rattle.live_tree.proofs.Pushed.{side_map}
 
 cond_first : (b : Bool) (s t : SlotView) → t.first ≡ s.first → (cond b t s).first ≡ s.first
 cond_first true s t h = h
@@ -22,6 +23,4 @@ committed_count ticket change s = cond_count (is_inside (range_of change) s) s (
 
 pub still_side_by_side : (ticket : ℕ) (change : Change) (first end : ℕ) (ss : List SlotView) → SideBySide first end ss
     → SideBySide first end (map (committed ticket change) ss)
-still_side_by_side ticket change first end [] h = h
-still_side_by_side ticket change first end (s ∷ ss) h = rw (committed_first ticket change s, committed_count ticket change s)
-    (h.0, still_side_by_side ticket change (first + s.count) end ss h.1)
+still_side_by_side ticket change = side_map (committed ticket change) (committed_first ticket change) (committed_count ticket change)

@@ -1,35 +1,18 @@
 -- Locked slots that come in the place of one
-use Rattle.std.proofs.Common.{◌≡◌, ℕ, zero, suc, ◌+◌, ◌<◌, ◌≤◌, List, [], ◌∷◌, ◌++◌, map, length, take, drop, get_or, Option, Some}
-use Rattle.std.proofs.Common.{refl, sym, ap, ◌∙◌, subst, arith}
-use Rattle.std.specs.Prelude.{All, IsSome}
-use Rattle.std.specs.List.{insert_slice, remove}
-use Rattle.std.specs.Sync.Mutex.{mutex_guard_value}
-use Rattle.std.specs.declared.sync.MutexGuard.{MutexGuard}
+use Rattle.slot_lock.proofs.Words.{◌≡◌, ℕ, suc, ◌+◌, ◌<◌, ◌≤◌, List, [], ◌∷◌, ◌++◌, map, length, take, drop, get_or, Option, Some, sym, ap, ◌∙◌, subst, arith}
+use Rattle.slot_lock.proofs.Words.{All, IsSome, remove, mutex_guard_value, MutexGuard, length-append, map-append, take_all, take_more, get_or-map, length-map}
+use Rattle.slot_lock.proofs.Words.{All-append, PageRange}
+use Rattle.std.specs.List.{insert_slice}
 use Rattle.std.proofs.Math.Seq.{drop-append-add, split_at, take-append_seam}
-use Rattle.std.proofs.lemmas.List.{append-nil, append_assoc, drop-drop, drop-map, length-append, length-take-le, map-append, take-map, take_all, take_more}
-use Rattle.std.proofs.lemmas.List.Elements.{All-append, All-drop, All-take}
-use Rattle.vm_base.specs.declared.page.PageRange.{PageRange}
+use Rattle.std.proofs.lemmas.List.{append_assoc, drop-drop, drop-map, length-take-le, take-map}
+use Rattle.std.proofs.lemmas.List.Elements.{All-drop, All-take}
 use Rattle.live_levels.specs.Slots.{SlotView}
 use Rattle.live_tree.specs.Cutting.{AddsSlots, CutsFirst, IsFirstCrossing, IsOwnedBy}
 use Rattle.live_tree.specs.Guards.{no_slot, slot_of}
 use Rattle.live_tree.specs.Held.{CrossesNoEdge, SideBySide}
-use Rattle.live_tree.proofs.Pushed.{all_more, map_more, side_by_side_more}
+use Rattle.live_tree.proofs.Pushed.{all_more, all_of_one, map_more, side_by_side_more}
 
 -- ---- one locked slot more
-
-pub adds_none : (core first : ℕ) (gs : List (Option (MutexGuard SlotView))) → AddsSlots core first first 0 gs gs
-adds_none core first gs = record {
-  more = [];
-  are = sym (append-nil gs);
-  count = refl;
-  some = λ k d lt. absurd (omega arith);
-  chain = refl;
-  owned = λ k d lt. absurd (omega arith);
-}
-
-all_of_one : {X : Type 0} (P : X → Type 0) (x : X) → P x → All P (x ∷ [])
-all_of_one P x h zero e l = h
-all_of_one P x h (suc k) e l = absurd (omega arith)
 
 pub adds_more : (core first next end n : ℕ) (gs hs hs' : List (Option (MutexGuard SlotView))) (g : MutexGuard SlotView)
     → AddsSlots core first next n gs hs → hs' ≡ hs ++ Some g ∷ []
@@ -47,15 +30,9 @@ adds_more core first next end n gs hs hs' g h is at ends own = record {
 
 -- ---- the first slot that crosses an edge
 
-length_map : (gs : List (Option (MutexGuard SlotView))) → length (map slot_of gs) ≡ length gs
-length_map [] = refl
-length_map (g ∷ gs) = ap suc (length_map gs)
-
 get_map : (gs : List (Option (MutexGuard SlotView))) (at : ℕ) (d : SlotView) (g : Option (MutexGuard SlotView)) → at < length gs
     → g ≡ get_or gs at g → get_or (map slot_of gs) at d ≡ slot_of g
-get_map [] at d g lt is = absurd (omega arith)
-get_map (x ∷ xs) zero d g lt is = ap slot_of (sym is)
-get_map (x ∷ xs) (suc at) d g lt is = get_map xs at d g (omega arith) is
+get_map gs at d g lt is = get_or-map slot_of gs at g d lt ∙ ap slot_of (sym is)
 
 -- ---- a fact of the first slots, and of one more
 
@@ -64,25 +41,16 @@ pub one_more_holds : (P : SlotView → Type 0) (gs : List (Option (MutexGuard Sl
 one_more_holds P gs at g lt is h one =
     let ss = map slot_of gs in
     let last : P (get_or ss at (slot_of g)) = rw (get_map gs at (slot_of g) g lt is) one in
-    rw (take_more ss at (slot_of g) (omega (arith, length_map gs, lt)))
+    rw (take_more ss at (slot_of g) (omega (arith, length-map gs slot_of, lt)))
     (All-append P (take at ss) (get_or ss at (slot_of g) ∷ []) h (all_of_one P (get_or ss at (slot_of g)) last))
 
 pub all_hold : (P : SlotView → Type 0) (gs : List (Option (MutexGuard SlotView))) (at : ℕ) → length gs ≤ at
     → All P (take at (map slot_of gs)) → All P (map slot_of gs)
-all_hold P gs at le h = subst (All P) (take_all at (map slot_of gs) (omega (arith, length_map gs, le))) h
+all_hold P gs at le h = subst (All P) (take_all at (map slot_of gs) (omega (arith, length-map gs slot_of, le))) h
 
 pub each_holds : (P : SlotView → Type 0) (gs : List (Option (MutexGuard SlotView))) (at : ℕ) (g : Option (MutexGuard SlotView)) → at < length gs
     → g ≡ get_or gs at g → All P (map slot_of gs) → P (slot_of g)
-each_holds P gs at g lt is all = subst P (get_map gs at (slot_of g) g lt is) (all at (slot_of g) (omega (arith, length_map gs, lt)))
-
-pub first_crossing : (range : PageRange) (gs : List (Option (MutexGuard SlotView))) (at : ℕ) (g : Option (MutexGuard SlotView))
-    → at < length gs → g ≡ get_or gs at g → All (CrossesNoEdge range) (take at (map slot_of gs))
-    → ¬ CrossesNoEdge range (slot_of g) → IsFirstCrossing range (map slot_of gs) at
-first_crossing range gs at g lt is h not = record {
-  within = omega (arith, length_map gs, lt);
-  before = h;
-  crosses = λ d. rw (get_map gs at d g lt is) not;
-}
+each_holds P gs at g lt is all = subst P (get_map gs at (slot_of g) g lt is) (all at (slot_of g) (omega (arith, length-map gs slot_of, lt)))
 
 -- where a slot crosses an edge, not all fit
 pub not_all_fit : (range : PageRange) (ss : List SlotView) (at : ℕ) → IsFirstCrossing range ss at → ¬ All (CrossesNoEdge range) ss
@@ -141,7 +109,7 @@ cuts_first core range first end gs hs more at s h here is count pages owned = le
       ∙ ap (λ l. record { first = first; end = end; slots = l }) (map_parts gs more at);
   fits = h.before;
   crosses = rw here (h.crosses no_slot);
-  count = length_map more ∙ count;
+  count = length-map more slot_of ∙ count;
   pages = pages;
   owned = owned;
 }
@@ -173,7 +141,7 @@ pub cut_done : (core : ℕ) (range : PageRange) (first end : ℕ) (gs hs ks : Li
     (record { first = first; end = end; slots = map slot_of ks }) × (All IsSome ks × SideBySide first end (map slot_of ks))
 cut_done core range first end gs hs ks at from until next n slot held crossing item begins ends added done placed =
     let s = mutex_guard_value slot in
-    let lt : at < length gs = omega (arith, length_map gs, crossing.within) in
+    let lt : at < length gs = omega (arith, length-map gs slot_of, crossing.within) in
     let here : s ≡ get_or (map slot_of gs) at no_slot = sym (get_map gs at no_slot (Some slot) lt item) in
     let count : length added.more ≡ 512 = added.count ∙ done.0 in
     let is = placed gs added.more added.are count in

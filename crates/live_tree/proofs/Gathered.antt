@@ -1,5 +1,5 @@
 -- Histories that were gathered into an empty list are a chain
-use Rattle.std.proofs.Common.{◌≡◌, ℕ, List, [], sym, subst}
+use Rattle.std.proofs.Common.{ℕ, List, [], sym, subst}
 use Rattle.live_levels.specs.Histories.{Chain, Grew}
 use Rattle.live_levels.specs.declared.close.SlotHistory.{SlotHistory}
 

@@ -1,18 +1,13 @@
 -- Slots that are added to a map one after another
-use Rattle.std.proofs.Common.{◌≡◌, ◌⊎◌, ⊎_elim, inl, inr, ℕ, zero, suc, ◌+◌, ◌-◌, ◌<◌, ◌≤◌, nat_lt, Bool, true, false, cond, List, [], ◌∷◌}
-use Rattle.std.proofs.Common.{◌++◌, map, length, take, drop, get_or, Option, Some, None, refl, sym, ap, ◌∙◌, subst, arith}
-use Rattle.std.specs.declared.sync.MutexGuard.{MutexGuard}
+use Rattle.slot_lock.proofs.Words.{◌≡◌, ◌⊎◌, ⊎_elim, inl, inr, ℕ, suc, ◌+◌, ◌-◌, ◌<◌, ◌≤◌, nat_lt, Bool, true, false, cond, List, [], ◌∷◌, ◌++◌, map, length}
+use Rattle.slot_lock.proofs.Words.{take, drop, get_or, Option, Some, refl, sym, ap, ◌∙◌, subst, arith, MutexGuard, cases_lt, nat_tests, map-append, take_all}
+use Rattle.slot_lock.proofs.Words.{take_more, has, info_from, in_has}
 use Rattle.std.proofs.Math.Seq.{split_at}
-use Rattle.std.proofs.lemmas.Bool.{cases_lt}
-use Rattle.std.proofs.lemmas.Bool.Decides.{nat_tests}
-use Rattle.std.proofs.lemmas.List.{map-append, take_all, take_more}
-use Rattle.vm_base.specs.Functions.{has}
-use Rattle.vm_base.specs.Info.{info_from}
 use Rattle.slot_lock.specs.Adding.{with_slot}
-use Rattle.slot_lock.specs.Slots.{IsNew, Slots, between}
+use Rattle.slot_lock.specs.Slots.{Slots, between}
 use Rattle.live_levels.specs.Slots.{SlotView, content_at}
 use Rattle.live_tree.specs.Guards.{slot_of}
-use Rattle.live_tree.specs.Held.{HeldView, SideBySide}
+use Rattle.live_tree.specs.Held.{SideBySide}
 use Rattle.live_tree.specs.Shown.{Lends, slot_at, shown}
 use Rattle.live_tree.proofs.Cuts.{side_split}
 use Rattle.live_tree.proofs.Pushed.{side_by_side_more}
@@ -54,17 +49,6 @@ slot_at_last first end (x ∷ xs) s p side low high =
     cond_false (nat_lt p (x.first + x.count)) x (slot_at (xs ++ s ∷ []) p) (grind (arith, nat_tests))
     ∙ slot_at_last (first + x.count) end xs s p side.1 low high
 
-pub lends_none : (core first : ℕ) (m : Slots) → IsNew m → Lends core (record { first = first; end = first; slots = [] }) m
-lends_none core first m h = record {
-  info = λ p low high. absurd (omega arith);
-  owner = λ p low high. absurd (omega arith);
-  unmapped = λ p o. h.unmapped p;
-  free = λ p o. h.free p;
-}
-
-in_has : (a b p : ℕ) → a ≤ p → p < b → has (between a b) p ≡ true
-in_has a b p h k = grind (arith, nat_tests)
-
 has_not : (a b p : ℕ) → (p < a) ⊎ (b ≤ p) → has (between a b) p ≡ false
 has_not a b p o = ⊎_elim (λ (h : p < a). grind (arith, nat_tests)) (λ (h : b ≤ p). grind (arith, nat_tests)) o
 
@@ -100,7 +84,7 @@ lends_more core first mid end ss s m n h side at ends is = record {
     info_here : (p : ℕ) → p < end → mid ≤ p → (with_slot m s.first (s.first + s.count) (Some core) s.content).info p ≡ (shown (ss ++ s ∷ [])).info p
     info_here p high le =
         cond_true (has (between s.first (s.first + s.count)) p) (info_from s.content (p - s.first)) (m.info p)
-        (in_has s.first (s.first + s.count) p (omega (arith, at, le)) (omega (arith, at, ends, high)))
+        (in_has (between s.first (s.first + s.count)) p (omega (arith, at, le)) (omega (arith, at, ends, high)))
         ∙ sym (ap (λ u. content_at u p) (slot_at_last first mid ss s p side le (omega (arith, at, ends, high))))
 
     owner_before : (p : ℕ) → first ≤ p → p < mid → (with_slot m s.first (s.first + s.count) (Some core) s.content).owner p ≡ Some core
@@ -111,16 +95,13 @@ lends_more core first mid end ss s m n h side at ends is = record {
     owner_here : (p : ℕ) → p < end → mid ≤ p → (with_slot m s.first (s.first + s.count) (Some core) s.content).owner p ≡ Some core
     owner_here p high le =
         cond_true (has (between s.first (s.first + s.count)) p) (Some core) (m.owner p)
-        (in_has s.first (s.first + s.count) p (omega (arith, at, le)) (omega (arith, at, ends, high)))
+        (in_has (between s.first (s.first + s.count)) p (omega (arith, at, le)) (omega (arith, at, ends, high)))
 
 -- the first i slots of the guards were added
 pub record LentSoFar (core first : ℕ) (gs : List (Option (MutexGuard SlotView))) (i : ℕ) (m : Slots) : Type 0 where
   pub end : ℕ
   pub side : SideBySide first end (map slot_of (take i gs))
   pub lends : Lends core (record { first = first; end = end; slots = map slot_of (take i gs) }) m
-
-pub lent_none : (core first : ℕ) (gs : List (Option (MutexGuard SlotView))) (m : Slots) → IsNew m → LentSoFar core first gs 0 m
-lent_none core first gs m new = record { end = first; side = refl; lends = lends_none core first m new }
 
 pub lent_more : (core first last : ℕ) (gs : List (Option (MutexGuard SlotView))) (i : ℕ) (g : Option (MutexGuard SlotView)) (m n : Slots)
     → SideBySide first last (map slot_of gs) → i < length gs → g ≡ get_or gs i g

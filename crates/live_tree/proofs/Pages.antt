@@ -1,28 +1,17 @@
 -- What a commit makes of each held page
-use Rattle.std.proofs.Common.{◌≡◌, ℕ, zero, suc, ◌+◌, ◌-◌, ◌<◌, ◌≤◌, leb, nat_lt, nat_le, ◌&&◌, ◌⊎◌, ⊎_elim, Bool, true, false, cond, List}
-use Rattle.std.proofs.Common.{[], ◌∷◌, ◌++◌, map, length, Option, Some, None, refl, sym, ap, ◌∙◌, subst, arith}
-use Rattle.std.specs.Prelude.{All}
-use Rattle.std.proofs.lemmas.Bool.Decides.{nat_tests}
-use Rattle.vm_base.specs.declared.page.PageRange.{PageRange}
-use Rattle.vm_base.specs.declared.info.PageInfo.{PageInfo}
-use Rattle.vm_base.specs.declared.rights.Prot.{Prot}
-use Rattle.vm_base.specs.Functions.{has}
-use Rattle.vm_base.specs.Info.{advance, info_from, info_with_prot, unused}
+use Rattle.slot_lock.proofs.Words.{◌≡◌, ℕ, zero, suc, ◌+◌, ◌-◌, ◌<◌, ◌≤◌, nat_lt, ◌⊎◌, ⊎_elim, Bool, true, false, cond, List, [], ◌∷◌, ◌++◌, map, Some, refl}
+use Rattle.slot_lock.proofs.Words.{sym, ap, ◌∙◌, arith, All, nat_tests, PageRange, has, advance, info_from, unused}
 use Rattle.slot_lock.specs.declared.plan.Change.{Change}
 use Rattle.slot_lock.specs.declared.plan.Change.TheVariants.{Put, Clear, Protect}
 use Rattle.slot_lock.specs.Plan.{range_of}
 use Rattle.slot_lock.specs.Changes.{changed}
-use Rattle.slot_lock.specs.ListLaws.{info_from_twice}
-use Rattle.live_levels.specs.Slots.{SlotView, content_at}
+use Rattle.slot_lock.proofs.ListLaws.{info_from_twice}
+use Rattle.slot_lock.proofs.Changes.{prot_from, page_now, changed_page}
+use Rattle.live_levels.specs.Slots.{SlotView, HasPage, content_at}
 use Rattle.live_levels.specs.Replay.{after, dated}
 use Rattle.live_tree.specs.Held.{SideBySide, CrossesNoEdge, committed, is_inside, act_on}
 use Rattle.live_tree.specs.Shown.{slot_at, shown}
 use Rattle.live_tree.proofs.Committed.{committed_first, committed_count}
-
--- the slot has the page
-pub record HasPage (s : SlotView) (p : ℕ) : Type 0 where
-  pub from : s.first ≤ p
-  pub until : p < s.first + s.count
 
 pub slot_at_has : (P : SlotView → Type 0) (first end : ℕ) (ss : List SlotView) (p : ℕ) → SideBySide first end ss → All P ss → first ≤ p
     → p < end → P (slot_at ss p) × HasPage (slot_at ss p) p
@@ -53,26 +42,8 @@ slot_at_committed ticket change first end (s ∷ ss) p side low high =
     both true h = refl
     both false h = h refl
 
--- what the change makes of a page of its range
-page_now : Change → ℕ → Option PageInfo → Option PageInfo
-page_now (Put range meta) p info = Some (unused (advance meta (p - range.first)))
-page_now (Clear range) p info = None
-page_now (Protect range prot) p info = info_with_prot prot info
-
-changed_page : (change : Change) (ss : List SlotView) (p : ℕ) → (changed (shown ss) change).info p ≡ cond (has (range_of change) p)
-    (page_now change p ((shown ss).info p)) ((shown ss).info p)
-unfolding page_now
-changed_page (Put range meta) ss p = refl
-changed_page (Clear range) ss p = refl
-changed_page (Protect range prot) ss p = refl
-
-prot_from : (prot : Prot) (o : Option PageInfo) (n : ℕ) → info_from (info_with_prot prot o) n ≡ info_with_prot prot (info_from o n)
-prot_from prot None n = refl
-prot_from prot (Some info) n = refl
-
 inside_page : (change : Change) (s : SlotView) (p : ℕ) → HasPage s p → (range_of change).first ≤ s.first
     → info_from (after s.content (act_on change s)) (p - s.first) ≡ page_now change p (content_at s p)
-unfolding page_now
 inside_page (Put range meta) s p here low =
     let n : s.first - range.first + (p - s.first) ≡ p - range.first = omega (arith, here.from) in
     info_from_twice (Some (unused meta)) (s.first - range.first) (p - s.first) ∙ ap (λ m. Some (unused (advance meta m))) n
@@ -118,4 +89,4 @@ pages_committed ticket change first end ss side edges p low high =
     ap (λ u. content_at u p) (slot_at_committed ticket change first end ss p side low high)
     ∙ (content_of ticket change s p (is_inside range s)
     ∙ (committed_page change s p found.1 (is_inside range s) refl
-    ∙ (ap (λ b. cond b (page_now change p (content_at s p)) (content_at s p)) (sym (inside_has range s p found.1 found.0)) ∙ sym (changed_page change ss p))))
+    ∙ (ap (λ b. cond b (page_now change p (content_at s p)) (content_at s p)) (sym (inside_has range s p found.1 found.0)) ∙ sym (changed_page change (shown ss) p))))

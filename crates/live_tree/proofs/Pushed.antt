@@ -1,8 +1,6 @@
 -- One held slot more, on the right
-use Rattle.std.proofs.Common.{◌≡◌, ℕ, zero, suc, ◌+◌, ◌<◌, List, [], ◌∷◌, ◌++◌, map, length, Option, Some, None, refl, sym, ap, subst, arith}
-use Rattle.std.specs.Prelude.{All, IsSome}
-use Rattle.std.specs.Sync.Mutex.{mutex_guard_value}
-use Rattle.std.specs.declared.sync.MutexGuard.{MutexGuard}
+use Rattle.slot_lock.proofs.Words.{◌≡◌, ℕ, zero, suc, ◌+◌, List, [], ◌∷◌, ◌++◌, map, Option, Some, refl, arith, All, IsSome, mutex_guard_value, MutexGuard}
+use Rattle.slot_lock.proofs.Words.{map-append, All-append}
 use Rattle.live_levels.specs.Slots.{SlotView}
 use Rattle.live_tree.specs.Guards.{slot_of}
 use Rattle.live_tree.specs.Held.{SideBySide}
@@ -14,14 +12,20 @@ side_by_side_more first end n (x ∷ xs) s h at is = (h.0, side_by_side_more (fi
 
 pub map_more : (gs : List (Option (MutexGuard SlotView))) (g : MutexGuard SlotView)
     → map slot_of (gs ++ Some g ∷ []) ≡ map slot_of gs ++ mutex_guard_value g ∷ []
-map_more [] g = refl
-map_more (x ∷ xs) g = ap (λ l. slot_of x ∷ l) (map_more xs g)
+map_more gs g = map-append slot_of gs (Some g ∷ [])
+
+pub all_of_one : {X : Type 0} (P : X → Type 0) (x : X) → P x → All P (x ∷ [])
+all_of_one P x h zero e l = h
+all_of_one P x h (suc k) e l = absurd (omega arith)
 
 pub all_more : (gs : List (Option (MutexGuard SlotView))) (g : MutexGuard SlotView) → All IsSome gs → All IsSome (gs ++ Some g ∷ [])
-all_more [] g h zero d lt = refl
-all_more [] g h (suc k) d lt = absurd (omega arith)
-all_more (x ∷ xs) g h zero d lt = h zero d (omega arith)
-all_more (x ∷ xs) g h (suc k) d lt = all_more xs g (λ j e l. h (suc j) e (omega arith)) k d (omega arith)
+all_more gs g h = All-append IsSome gs (Some g ∷ []) h (all_of_one IsSome (Some g) refl)
+
+-- slots that keep their places lie side by side
+pub side_map : (f : SlotView → SlotView) → ((s : SlotView) → (f s).first ≡ s.first) → ((s : SlotView) → (f s).count ≡ s.count)
+    → (first end : ℕ) (ss : List SlotView) → SideBySide first end ss → SideBySide first end (map f ss)
+side_map f same count first end [] h = h
+side_map f same count first end (s ∷ ss) h = rw (same s, count s) (h.0, side_map f same count (first + s.count) end ss h.1)
 
 pub pushed : (first end n : ℕ) (gs gs' : List (Option (MutexGuard SlotView))) (g : MutexGuard SlotView) → All IsSome gs → SideBySide first end (map slot_of gs)
     → gs' ≡ gs ++ Some g ∷ [] → (mutex_guard_value g).first ≡ end → n ≡ end + (mutex_guard_value g).count → All IsSome gs'

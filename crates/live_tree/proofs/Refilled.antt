@@ -1,10 +1,8 @@
 -- The guards of held slots, turned round
-use Rattle.std.proofs.Common.{◌≡◌, ℕ, zero, suc, ◌+◌, ◌<◌, List, [], ◌∷◌, ◌++◌, map, length, reverse, take, drop, Option, Some, None, refl}
-use Rattle.std.proofs.Common.{sym, ap, ◌∙◌, subst, arith}
-use Rattle.std.specs.Prelude.{All, IsSome}
+use Rattle.slot_lock.proofs.Words.{◌≡◌, List, [], ◌∷◌, ◌++◌, map, length, drop, Option, refl, sym, ap, ◌∙◌, arith, MutexGuard, map-append, take_all}
+use Rattle.std.proofs.Common.{reverse}
 use Rattle.std.specs.List.{refill}
-use Rattle.std.specs.declared.sync.MutexGuard.{MutexGuard}
-use Rattle.std.proofs.lemmas.List.{length-reverse, map-append, reverse-append, reverse-reverse, take-append-le, take_all}
+use Rattle.std.proofs.lemmas.List.{length-reverse, reverse-append, reverse-reverse, take-append-le}
 use Rattle.live_levels.specs.Slots.{SlotView}
 use Rattle.live_tree.specs.Guards.{slot_of}
 

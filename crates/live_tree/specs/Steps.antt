@@ -1,15 +1,15 @@
 -- What a step towards holding pages comes to
 use Rattle.std.specs.Prelude.{◌≡◌, ◌≢◌, ℕ, ◌≤◌}
 use Rattle.live_levels.specs.Slots.{SlotView}
-use Rattle.live_levels.specs.Nexts.{Noted, IsWhole}
+use Rattle.live_levels.specs.Nexts.{Noted, IsLockable}
 use Rattle.live_tree.specs.Held.{HeldView, with_slot}
 use Rattle.live_tree.specs.declared.held.Got.{Got}
 use Rattle.live_tree.specs.declared.held.Got.TheVariants.{Locked, Split, Unseen, Owned, NoMemory, Lost}
 
 -- one slot more is held, which begins where the others end, and has room for so many changes
-pub record Locks (core end room : ℕ) (h k : HeldView) : Type 0 where
+pub record LocksOne (core end room : ℕ) (h k : HeldView) : Type 0 where
   pub slot : SlotView
-  pub whole : IsWhole core h.end end slot
+  pub whole : IsLockable core h.end end slot
   pub has_room : room ≤ slot.room
   pub now : k ≡ with_slot h slot
 
@@ -17,7 +17,7 @@ pub record Locks (core end room : ℕ) (h k : HeldView) : Type 0 where
 -- parts; and the held slots stay but for one that was locked
 module _ {S : Type 0} (stepped : S → ℕ → S → Type 0) (before now : S) (h k : HeldView) where
   abbrev pub Acquires : ℕ → ℕ → ℕ → Got → Type 0
-  Acquires core end room Locked = Noted stepped before now × Locks core end room h k
+  Acquires core end room Locked = Noted stepped before now × LocksOne core end room h k
   Acquires core end room Split = Noted stepped before now × (k ≡ h)
   Acquires core end room Unseen = Noted stepped before now × (k ≡ h)
   Acquires core end room (Owned other) = (now ≡ before) × (k ≡ h) × (other ≢ core)

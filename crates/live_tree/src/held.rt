@@ -1,4 +1,5 @@
-//! The slots that a call holds.
+//! The slots that a call holds: how it comes to hold them, and the commit of its change. What else is
+//! done with them stands in held/.
 ghost use Rattle.std.specs.Prelude.{◌≡◌, ℕ, ◌+◌, ◌-◌, ◌<◌, ◌≤◌, ◌^◌, true, [], ◌∷◌, ◌++◌, length, map};
 ghost use Rattle.std.specs.Prelude.{All, OnOk, OnErr, IsSome, None};
 ghost use Rattle.std.specs.Sync.Mutex.{mutex_guard_value};

@@ -1,4 +1,4 @@
-//! Held slots that are let go.
+//! Held slots that are let go, from left to right.
 ghost use Rattle.std.specs.Prelude.{◌≡◌, ◌<◌, length, map, drop, All, IsSome, None};
 ghost use Rattle.live_tree.specs.Guards.{slot_of};
 ghost use Rattle.live_tree.specs.Letting.{letting_view, freed_first};

@@ -1,41 +1,19 @@
 -- What a mapping without MAP_FIXED asks for, and what its change leaves
-use Rattle.std.proofs.Common.{◌≡◌, ℕ, ◌+◌, ◌*◌, ◌/◌, ◌==◌, Bool, true, false, cond, refl, sym, ap, subst, arith, Some, None, Option, Ok, Err, ◌∙◌}
-use Rattle.std.specs.Prelude.{if◌then◌else◌}
-use Rattle.std.proofs.lemmas.Bool.Decides.{nat_tests}
-use Rattle.vm_base.specs.declared.page.PageRange.{PageRange}
-use Rattle.vm_base.specs.declared.replies.Reply.TheVariants.{Segv}
-use Rattle.vm_base.specs.declared.replies.SegvCode.TheVariants.{MapErr}
-use Rattle.vm_base.specs.declared.requests.Flags.{Flags}
-use Rattle.vm_base.specs.declared.requests.Request.{Request}
-use Rattle.vm_base.specs.declared.requests.Request.TheVariants.{Mmap, Munmap, Mprotect, Load, Store, Fetch}
-use Rattle.vm_base.specs.declared.rights.Access.{Access}
+use Rattle.machine_laws.proofs.Words.{◌≡◌, ℕ, ◌+◌, ◌*◌, ◌/◌, ◌==◌, Bool, true, false, cond, refl, sym, ap, subst, arith, Some, None, Option, Ok, Err, ◌∙◌}
+use Rattle.machine_laws.proofs.Words.{if◌then◌else◌, nat_tests, PageRange, Segv, MapErr, Flags, Request, Mmap, Load, Store, Fetch, Access}
+use Rattle.machine_laws.proofs.Words.{Mode, Prot, meta_of, has, IsPageRange, is_page, page_count, page_of, pages_from, pages_of, Plain, refusal, Change, Put}
+use Rattle.machine_laws.proofs.Words.{Goal, Place, Target, Hint, Window, IsSoundGoal, IsSoundPlace, IsTarget, goal_plan, range_of, Slots, Act, checked}
+use Rattle.machine_laws.proofs.Words.{place_of, plan_of, touch_of, touched, DecidesPlace, passed, Made, is_access}
 use Rattle.vm_base.specs.declared.rights.Access.TheVariants as By
-use Rattle.vm_base.specs.declared.rights.Mode.{Mode}
-use Rattle.vm_base.specs.declared.rights.Prot.{Prot}
-use Rattle.vm_base.specs.Apply.{meta_of}
-use Rattle.vm_base.specs.Functions.{has}
-use Rattle.vm_base.specs.Pages.{IsPageRange, is_page, page_count, page_of, pages_from, pages_of}
-use Rattle.vm_base.specs.Plain.{Plain}
-use Rattle.vm_base.specs.Refusals.{refusal}
-use Rattle.slot_lock.specs.declared.plan.Change.{Change}
-use Rattle.slot_lock.specs.declared.plan.Change.TheVariants.{Put}
-use Rattle.slot_lock.specs.declared.plan.Goal.{Goal}
 use Rattle.slot_lock.specs.declared.plan.Goal.TheVariants as To
-use Rattle.slot_lock.specs.declared.plan.Place.{Place}
 use Rattle.slot_lock.specs.declared.plan.Plan.TheVariants as PlanOf
-use Rattle.slot_lock.specs.declared.plan.Target.{Target}
-use Rattle.slot_lock.specs.declared.plan.Target.TheVariants.{Hint, Run, Window}
-use Rattle.slot_lock.specs.Plan.{IsSoundGoal, IsSoundHint, IsSoundPlace, IsTarget, goal_plan, range_of}
-use Rattle.slot_lock.specs.Slots.{Slots}
-use Rattle.vm_calls.specs.declared.decision.Decision.TheVariants.{Act}
-use Rattle.vm_calls.specs.Checks.{checked, place_of, placed_count, plan_of, touch_of, touched}
-use Rattle.vm_calls.specs.Decisions.{DecidesPlace, DecidesWindow}
-use Rattle.vm_calls.proofs.Passed.{passed}
+use Rattle.slot_lock.specs.declared.plan.Target.TheVariants.{Run}
+use Rattle.slot_lock.specs.Plan.{IsSoundHint}
+use Rattle.vm_calls.specs.Checks.{placed_count}
+use Rattle.vm_calls.specs.Decisions.{DecidesWindow}
 use Rattle.vm_calls.proofs.Plainly.{counted}
-use Rattle.machine_model.specs.World.{Made}
 use Rattle.machine_laws.specs.Orderly.{IsChosen, IsChangeOf}
 use Rattle.machine_laws.proofs.Deciding.{acts_valid, run_own}
-use Rattle.vm_base.specs.Requests.{is_access}
 use Rattle.machine_alone.proofs.Using.{DropsAll, change_drops, either_plan, no_change}
 
 -- ---- the request
@@ -70,11 +48,10 @@ place_planned c (Mmap addr len prot flags file off) place e = go flags.fixed ref
     go false i k =
         let same : place_of c addr len (meta_of prot flags file off) ≡ place = cc in
         record { addr = addr; len = len; prot = prot; flags = flags; file = file; off = off; asks = refl; unfixed = i; placed = sym same }
-place_planned c (Munmap addr len) place e = absurd cc
-place_planned c (Mprotect addr len prot) place e = absurd cc
 place_planned c (Load addr) place e = absurd (no_touch addr 0 By.Load place e)
 place_planned c (Store addr byte) place e = absurd (no_touch addr byte By.Store place e)
 place_planned c (Fetch addr) place e = absurd (no_touch addr 0 By.Fetch place e)
+place_planned c _ place e = absurd cc
 
 pub place_asked : (modes : ℕ → Option Mode) (c : ℕ) (request : Request) (place : Place) → checked modes c request ≡ Ok (PlanOf.Place place)
     → IsPlaceOf c request place
@@ -167,12 +144,10 @@ change_no_access : (modes : ℕ → Option Mode) (c : ℕ) (request : Request) (
 change_no_access modes c request change e = go request (passed (refusal modes request) (plan_of c request) (PlanOf.Change change) e).1
   where
     go : (r : Request) → plan_of c r ≡ Ok (PlanOf.Change change) → is_access r ≡ false
-    go (Mmap addr len prot flags file off) e = refl
-    go (Munmap addr len) e = refl
-    go (Mprotect addr len prot) e = refl
     go (Load addr) e = absurd (no_change c (Load addr) addr 0 By.Load change e)
     go (Store addr byte) e = absurd (no_change c (Store addr byte) addr byte By.Store change e)
     go (Fetch addr) e = absurd (no_change c (Fetch addr) addr 0 By.Fetch change e)
+    go _ e = refl
 
 -- nor what a goal leads to
 pub goal_no_access : (modes : ℕ → Option Mode) (c : ℕ) (request : Request) (goal : Goal) (change : Change)

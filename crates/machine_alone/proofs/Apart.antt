@@ -1,18 +1,10 @@
 -- Calls on disjoint pages don't wait for slots of each other.
-use Rattle.std.proofs.Common.{◌≡◌, ℕ, true, subst, arith, Option}
-use Rattle.vm_base.proofs.Functions.{has_in, in_has}
-use Rattle.slot_lock.specs.Slots.{Slots, between}
-use Rattle.slot_lock.specs.Plan.{goal_range, target_range}
+use Rattle.machine_laws.proofs.Words.{◌≡◌, ℕ, true, subst, arith, Option, has_in, in_has, Slots, between, goal_range, target_range, Go, Outcome, Wait, Phase}
+use Rattle.machine_laws.proofs.Words.{Lock}
+use Rattle.machine_laws.proofs.Words.{holds, some_has, World, Made, Step}
 use Rattle.machine_model.specs.declared.event.Blocker.TheVariants as WaitsFor
-use Rattle.machine_model.specs.declared.event.Event.TheVariants.{Go}
-use Rattle.machine_model.specs.declared.event.Outcome.{Outcome}
-use Rattle.machine_model.specs.declared.event.Outcome.TheVariants.{Wait}
-use Rattle.machine_model.specs.declared.phase.Phase.{Phase}
-use Rattle.machine_model.specs.declared.phase.Phase.TheVariants.{Free, Check, Lock, Guess, Find, Back as Leaving, Cut, Decide, Post, Acks, Unlock, Answer}
-use Rattle.machine_model.specs.declared.phase.Phase.TheVariants.{Try, Settle, Want, Fill, CopyPost, CopyAcks, Install, Release}
-use Rattle.machine_model.specs.Holding.{holds, range_in, some_has}
-use Rattle.machine_model.specs.World.{World, Made}
-use Rattle.machine_model.specs.Step.{Step}
+use Rattle.machine_model.specs.declared.phase.Phase.TheVariants.{Back as Leaving}
+use Rattle.machine_model.specs.Holding.{range_in}
 use Rattle.machine_laws.specs.Orderly.{IsReady}
 use Rattle.machine_sound.specs.Sound.{IsBlocked, IsReached}
 use Rattle.machine_sound.proofs.Kept.{reached_fine, steps_sound}
@@ -25,29 +17,12 @@ footprint_has made s cached (Lock goal cursor) p r h =
     let low = has_in (between (goal_range goal).first cursor) p h in
     let high = r.1 in
     in_has (goal_range goal) p low.0 (let b = low.1 in omega (arith, high, b))
-footprint_has made s cached Free p r h = h
-footprint_has made s cached (Check request) p r h = h
 footprint_has made s cached (Leaving place target held) p r h =
     let rest = r.1 in
     let low = has_in held p h in
     in_has (target_range place target) p (let a = low.0 in let b = rest.low in omega (arith, a, b))
     (let a = low.1 in let b = rest.same_end in omega (arith, a, b))
-footprint_has made s cached (Guess place) p r h = h
-footprint_has made s cached (Find place target) p r h = h
-footprint_has made s cached (Cut place target range) p r h = h
-footprint_has made s cached (Decide change) p r h = h
-footprint_has made s cached (Post change shoot) p r h = h
-footprint_has made s cached (Acks goal change) p r h = h
-footprint_has made s cached (Unlock held reply) p r h = h
-footprint_has made s cached (Answer reply) p r h = h
-footprint_has made s cached (Try touch) p r h = h
-footprint_has made s cached (Settle touch) p r h = h
-footprint_has made s cached (Want touch old) p r h = h
-footprint_has made s cached (CopyPost touch frame) p r h = h
-footprint_has made s cached (CopyAcks touch frame) p r h = h
-footprint_has made s cached (Fill touch frame) p r h = h
-footprint_has made s cached (Install touch) p r h = h
-footprint_has made s cached (Release touch) p r h = h
+footprint_has made s cached _ p r h = h
 
 no_wait : (w v : World) (c d : ℕ) (o : Outcome) → IsReached w → AreApart w c d → Step w (Go c) o v → o ≡ Wait (WaitsFor.Slot d) → ⊥
 no_wait w v c d o reached apart step e =

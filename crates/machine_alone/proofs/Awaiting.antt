@@ -1,35 +1,16 @@
 -- What a call that waits will be answered: the plain page map says it before
-use Rattle.std.proofs.Common.{◌≡◌, ℕ, suc, ◌+◌, ◌<◌, Bool, true, false, arith, refl, sym, ap, subst, Some, None, Option, ◌∙◌}
-use Rattle.std.specs.Prelude.{is_some, if◌then◌else◌}
-use Rattle.vm_base.specs.declared.info.Back.{Back}
-use Rattle.vm_base.specs.declared.info.Back.TheVariants.{Anon, Shared, Private}
-use Rattle.vm_base.specs.declared.info.PageInfo.{PageInfo}
-use Rattle.vm_base.specs.declared.page.PageRange.{PageRange}
-use Rattle.vm_base.specs.declared.replies.Reply.{Reply}
+use Rattle.machine_laws.proofs.Words.{◌≡◌, ℕ, suc, ◌+◌, ◌<◌, Bool, true, false, arith, refl, sym, ap, subst, Some, None, Option, ◌∙◌, is_some, if◌then◌else◌}
+use Rattle.machine_laws.proofs.Words.{Back, Anon, PageInfo, PageRange, Reply, Request, Access, byte_reply, detached, entry_reply}
+use Rattle.machine_laws.proofs.Words.{is_uncopied, frame_of, page_of, Bytes, File, Plain, mode_of, is_allowed, put_same, Change, Goal, Touch, range_of}
+use Rattle.machine_laws.proofs.Words.{touch_of, Acks, CopyAcks, reply_to, back_of, page_of_touch, taken_in, World, nth, CanAccess, Stands, page_copied}
+use Rattle.machine_laws.proofs.Words.{with_copy, is_access, Users, Same, users_after, with_user, without, IsPlace}
 use Rattle.vm_base.specs.declared.replies.Reply.TheVariants as ReplyOf
 use Rattle.vm_base.specs.declared.replies.SegvCode.TheVariants.{AccErr}
-use Rattle.vm_base.specs.declared.requests.Request.{Request}
 use Rattle.vm_base.specs.declared.requests.Request.TheVariants as RequestOf
-use Rattle.vm_base.specs.declared.rights.Access.{Access}
 use Rattle.vm_base.specs.declared.rights.Access.TheVariants.{Store}
-use Rattle.vm_base.specs.Apply.{byte_reply, bytes_reply, detached, entry_reply, is_uncopied}
-use Rattle.vm_base.specs.Info.{frame_of}
-use Rattle.vm_base.specs.Pages.{page_of}
-use Rattle.vm_base.specs.Plain.{Bytes, Entry, File, Plain, mode_of}
-use Rattle.vm_base.specs.Rights.{is_allowed}
-use Rattle.vm_base.proofs.Functions.{put_same}
-use Rattle.slot_lock.specs.declared.plan.Change.{Change}
-use Rattle.slot_lock.specs.declared.plan.Goal.{Goal}
-use Rattle.slot_lock.specs.declared.plan.Touch.{Touch}
-use Rattle.slot_lock.specs.Plan.{range_of}
-use Rattle.vm_calls.specs.Checks.{touch_of}
+use Rattle.vm_base.specs.Apply.{bytes_reply}
+use Rattle.vm_base.specs.Plain.{Entry}
 use Rattle.vm_calls.specs.Plainly.{touched_by}
-use Rattle.machine_model.specs.declared.phase.Phase.TheVariants.{Acks, CopyAcks}
-use Rattle.machine_model.specs.Changes.{reply_to}
-use Rattle.machine_model.specs.Files.{back_of}
-use Rattle.machine_model.specs.Holding.{page_of_touch, taken_in}
-use Rattle.machine_model.specs.World.{World}
-use Rattle.vm_base.specs.Log.{nth, CanAccess, Stands}
 use Rattle.machine_laws.specs.Orderly.{IsUsable}
 use Rattle.machine_laws.proofs.Going.{call_sound, has_core}
 use Rattle.machine_laws.proofs.Moves.{IsCallOf, call_at}
@@ -39,10 +20,8 @@ use Rattle.machine_sound.proofs.Pages.{framed}
 use Rattle.machine_sound.proofs.Replies.{acted, led_goes, made_of, touched_stands}
 use Rattle.machine_sound.proofs.Stores.{with_own}
 use Rattle.machine_alone.specs.Alone.{users_dropped}
-use Rattle.vm_base.specs.Copies.{or_else, page_copied, page_due, with_copy}
+use Rattle.vm_base.specs.Copies.{or_else, page_due}
 use Rattle.machine_alone.specs.Taken.{frames_for, taken_below}
-use Rattle.vm_base.specs.Requests.{is_access}
-use Rattle.vm_base.specs.Users.{Users, Same, users_after, with_user, without}
 use Rattle.machine_alone.proofs.Aiming.{goal_drops, goal_no_access}
 use Rattle.machine_alone.proofs.Rows.{HasTaken}
 use Rattle.machine_alone.proofs.Taking.{its_access, one_taken_of}
@@ -53,7 +32,7 @@ use Rattle.machine_alone.proofs.Using.{IsTouchOf, loads, stores, fetches, as_ask
 pub record WillAnswer (t : Plain) (c : ℕ) (request : Request) (range : PageRange) : Type 0 where
   pub reply : Reply
   pub after : Plain
-  pub stands : Stands (with_copy t (page_copied t request reply)) c request reply after
+  pub stands : Stands IsPlace (with_copy t (page_copied t request reply)) c request reply after
   pub drops : (u : Users) → Same (users_after t c request reply u) (users_dropped c request range u)
 
 -- ---- a change
@@ -70,7 +49,7 @@ change_answers w t c request goal change f from number p =
     let inside : c < w.made.cores = has_core w c f.order (λ k. let a = sym p ∙ k in cc) in
     let same : call.asked.request ≡ request = same_request w c call.asked.request request call.asked.number number in
     let after : Plain = made_of f.plain change in
-    let stands : Stands f.plain c call.asked.request (reply_to change) after =
+    let stands : Stands IsPlace f.plain c call.asked.request (reply_to change) after =
     acted w f.plain c call.asked.request goal change f.good
     (record {
       few = let few = f.order.few in omega (arith, inside, few);
@@ -88,8 +67,8 @@ change_answers w t c request goal change f from number p =
       record {
         reply = reply_to change;
         after = after;
-        stands = subst (λ m. Stands m c request (reply_to change) after) (from ∙ ap (with_copy t) (sym none))
-            (subst (λ r. Stands f.plain c r (reply_to change) after) same stands);
+        stands = subst (λ m. Stands IsPlace m c request (reply_to change) after) (from ∙ ap (with_copy t) (sym none))
+            (subst (λ r. Stands IsPlace f.plain c r (reply_to change) after) same stands);
         drops = λ u q d.
             subst (λ r. users_after t c r (reply_to change) u q d ≡ without (range_of change) u q d) same (drops.1 u q d)
             ∙ no_store (is_access request) (with_user (range_of change).first c (without (range_of change) u)) (without (range_of change) u) access q d;
@@ -101,8 +80,7 @@ change_answers w t c request goal change f from number p =
 
 owned : (back : Back) (x : Bytes) → is_uncopied back (Some x) ≡ false
 owned Anon x = refl
-owned (Shared n k) x = refl
-owned (Private n k) x = refl
+owned _ x = refl
 
 -- once the page has its copy a store to it is done
 copy_reply : (t : Plain) (page i : ℕ) (entry : Entry) (x : Bytes) → is_allowed entry.prot Store ≡ true
@@ -135,8 +113,8 @@ pub copy_answers : (w : World) (t : Plain) (c : ℕ) (request : Request) (touch 
 copy_answers w t c request touch frame f from number p = record {
   reply = ReplyOf.Done;
   after = after;
-  stands = subst (λ m. Stands m c request ReplyOf.Done after) (sym (ap (with_copy t) copied ∙ ap (or_else t) due))
-      (subst (λ r. Stands u c r ReplyOf.Done after) same
+  stands = subst (λ m. Stands IsPlace m c request ReplyOf.Done after) (sym (ap (with_copy t) copied ∙ ap (or_else t) due))
+      (subst (λ r. Stands IsPlace u c r ReplyOf.Done after) same
       (touched_stands w u after c call.asked.request touch ReplyOf.Done tt call.asked.passed (
         subst (λ a. entry_reply u.file (u.entry touch.page) a touch.offset ≡ Some ReplyOf.Done) (sym store)
             (copy_reply f.plain touch.page touch.offset z.entry x allowed),

@@ -1,43 +1,18 @@
 -- What happens beside a call that waits, or where no core has a call
-use Rattle.std.proofs.Common.{◌≡◌, ◌≢◌, ℕ, ◌<◌, ◌≤◌, ◌==◌, ◌⊎◌, Bool, true, false, cond, inl, inr, refl, sym}
-use Rattle.std.proofs.Common.{ap, subst, arith, None, Some, Option, List, [], ◌∷◌, ◌∙◌}
-use Rattle.std.specs.Prelude.{if◌then◌else◌, is_some, nat_lt, pred}
-use Rattle.std.proofs.lemmas.Bool.Decides.{nat_tests}
-use Rattle.vm_base.specs.declared.info.PageInfo.{PageInfo}
-use Rattle.vm_base.specs.declared.page.PageRange.{PageRange}
-use Rattle.vm_base.specs.Functions.{put}
-use Rattle.vm_base.specs.Info.{is_recorded}
-use Rattle.vm_base.proofs.Functions.{eq_true, eq_false, put_both}
-use Rattle.mmu.specs.Tlb.{tlb_at}
+use Rattle.machine_laws.proofs.Words.{◌≡◌, ◌≢◌, ℕ, ◌<◌, ◌≤◌, ◌==◌, ◌⊎◌, Bool, true, false, cond, inl, inr, refl, sym, ap, subst, arith, None, Some, Option}
+use Rattle.machine_laws.proofs.Words.{List, [], ◌∷◌, ◌∙◌, if◌then◌else◌, is_some, nat_lt, pred, nat_tests, PageInfo, PageRange, put, is_recorded, eq_true}
+use Rattle.machine_laws.proofs.Words.{eq_false, put_both, tlb_at, Counts, Message, Took, asked, message_of, remaining, Change, Goal, Touch, Event, Call, Go}
+use Rattle.machine_laws.proofs.Words.{Whole, Flush, GiveUp, Outcome, Stepped, Idle, Full, Phase, Free, Acks, CopyAcks, TakesThisFrame, Becomes, Idles}
+use Rattle.machine_laws.proofs.Words.{ReportsFlush, ReportsReview, core_of, GivesUp, awaits_in, can_give_up, GuessesThisRun, TakesWindow, TakesMessage}
+use Rattle.machine_laws.proofs.Words.{after_eviction, after_walk, can_walk, tables_cleared, tlb_invalidated, with_hardware, with_inbox, World, Hardware, Acts}
+use Rattle.machine_laws.proofs.Words.{Goes, is_here, with_event, event_limit, Step}
 use Rattle.refcache.specs.declared.reports.Flush.TheVariants as FlushOf
 use Rattle.refcache.specs.declared.reports.Flush.{Flush as FlushReport}
 use Rattle.refcache.specs.declared.reports.Review.{Review as ReviewReport}
 use Rattle.refcache.specs.declared.reports.Review.TheVariants as ReviewOf
-use Rattle.refcache.specs.Counts.{Counts}
-use Rattle.shootdown.specs.declared.message.Message.{Message}
-use Rattle.shootdown.specs.declared.message.Took.{Took}
 use Rattle.shootdown.specs.declared.message.Took.TheVariants as TookOf
-use Rattle.shootdown.specs.Messages.{asked, message_of, remaining}
-use Rattle.slot_lock.specs.declared.plan.Change.{Change}
-use Rattle.slot_lock.specs.declared.plan.Goal.{Goal}
-use Rattle.slot_lock.specs.declared.plan.Touch.{Touch}
-use Rattle.machine_model.specs.declared.event.Event.{Event}
-use Rattle.machine_model.specs.declared.event.Event.TheVariants.{Call, Go, Frame, Guess, Whole, Take, Walk, Evict, Flush, Review, Fold, GiveUp}
-use Rattle.machine_model.specs.declared.event.Outcome.{Outcome}
-use Rattle.machine_model.specs.declared.event.Outcome.TheVariants.{Stepped, Idle, Full}
-use Rattle.machine_model.specs.declared.phase.Phase.{Phase}
-use Rattle.machine_model.specs.declared.phase.Phase.TheVariants.{Free, Acks, CopyAcks}
-use Rattle.machine_model.specs.Accesses.{TakesThisFrame}
-use Rattle.machine_model.specs.Actions.{Becomes, Idles}
-use Rattle.machine_model.specs.Counting.{ReportsFlush, ReportsReview}
-use Rattle.machine_model.specs.Events.{core_of}
-use Rattle.machine_model.specs.GivingUp.{GivesUp}
-use Rattle.machine_model.specs.Holding.{awaits_in, can_give_up}
-use Rattle.machine_model.specs.Placing.{GuessesThisRun, TakesWindow}
-use Rattle.machine_model.specs.Translating.{TakesMessage, after_eviction, after_walk, can_walk, tables_cleared, tlb_invalidated, with_hardware, with_inbox}
-use Rattle.machine_model.specs.World.{World, Hardware}
-use Rattle.machine_model.specs.Step.{Acts, Goes, is_here, with_event, event_limit, Step}
-use Rattle.machine_coherence.specs.Coherent.{AreAsked}
+use Rattle.machine_model.specs.declared.event.Event.TheVariants.{Frame, Guess, Take, Walk, Evict, Review, Fold}
+use Rattle.machine_invariants.specs.Coherent.{AreAsked}
 use Rattle.machine_sound.proofs.Kept.{reached_fine}
 use Rattle.machine_alone.specs.Taken.{frames_taken}
 use Rattle.machine_alone.proofs.Taking.{one_given}
@@ -196,16 +171,13 @@ taken w v core r c o (TookOf.Invalidate range) e h = stepped w v core r c o (tlb
 flushed : (w v : World) (o : Outcome) (report : FlushReport) (counts : Counts) → ReportsFlush (with_event w) report counts o v
     → IsBesideCalls w v × (((o ≡ Stepped) ⊎ (o ≡ Idle)) × KeepsTakes w v)
 flushed w v o FlushOf.Idle counts h = either w v o (with_event w) (inr h) (idles w v)
-flushed w v o (FlushOf.Evicted f) counts h = either w v o _ (inl h) (λ e. by_hardware w _ v refl refl refl refl (least (frames_taken w)) e)
-flushed w v o FlushOf.Flushed counts h = either w v o _ (inl h) (λ e. by_hardware w _ v refl refl refl refl (least (frames_taken w)) e)
-flushed w v o FlushOf.EpochEnded counts h = either w v o _ (inl h) (λ e. by_hardware w _ v refl refl refl refl (least (frames_taken w)) e)
+flushed w v o _ counts h = either w v o _ (inl h) (λ e. by_hardware w _ v refl refl refl refl (least (frames_taken w)) e)
 
 reviewed : (w v : World) (o : Outcome) (report : ReviewReport) (counts : Counts) → ReportsReview (with_event w) report counts o v
     → IsBesideCalls w v × (((o ≡ Stepped) ⊎ (o ≡ Idle)) × KeepsTakes w v)
 reviewed w v o ReviewOf.Idle counts h = let k = idles w v h.1 in (k.0, (inr h.0, k.1))
-reviewed w v o (ReviewOf.Dropped f) counts h = either w v o _ (inl h) (λ e. by_hardware w _ v refl refl refl refl (least (frames_taken w)) e)
-reviewed w v o (ReviewOf.Requeued f) counts h = either w v o _ (inl h) (λ e. by_hardware w _ v refl refl refl refl (least (frames_taken w)) e)
 reviewed w v o (ReviewOf.Freed f) counts h = either w v o _ (inl h) (λ e. by_hardware w _ v refl refl refl refl (one_given w.memory.is_free f w.made.frames) e)
+reviewed w v o _ counts h = either w v o _ (inl h) (λ e. by_hardware w _ v refl refl refl refl (least (frames_taken w)) e)
 
 -- a store that awaits some core can't be given up
 not_given_up : (w v : World) (core : ℕ) (r : IsResting w core) (c : ℕ) (touch : Touch) (frame : ℕ) (o : Outcome) → w.calls.phase c ≡ CopyAcks touch frame
@@ -266,17 +238,13 @@ acted w v core (Fold p) o r b (inr h) =
 absent : (w v : World) (e : Event) (o : Outcome) → IsBeside w e → is_here w.made (core_of e) ≡ false → Idles (with_event w) o v
     → IsBesideCalls w v × ComesBeside w e o v
 absent w v (Call c request) o b i h = absurd b
-absent w v (Go c) o b i h = let k = idles w v h.1 in (k.0, (h.0, k.1))
-absent w v (Frame c f) o b i h = let k = idles w v h.1 in (k.0, (h.0, k.1))
-absent w v (Guess c page) o b i h = let k = idles w v h.1 in (k.0, (h.0, k.1))
-absent w v (Whole c) o b i h = let k = idles w v h.1 in (k.0, (h.0, k.1))
-absent w v (GiveUp c) o b i h = let k = idles w v h.1 in (k.0, (h.0, k.1))
 absent w v (Take c) o b i h = let k = idles w v h.1 in (k.0, inr (h.0, inr i, k.1))
 absent w v (Walk c p) o b i h = let k = idles w v h.1 in (k.0, (inr h.0, k.1))
 absent w v (Evict c p) o b i h = let k = idles w v h.1 in (k.0, (inr h.0, k.1))
 absent w v (Flush c) o b i h = let k = idles w v h.1 in (k.0, (inr h.0, k.1))
 absent w v (Review c) o b i h = let k = idles w v h.1 in (k.0, (inr h.0, k.1))
 absent w v (Fold p) o b i h = let k = idles w v h.1 in (k.0, (inr h.0, k.1))
+absent w v _ o b i h = let k = idles w v h.1 in (k.0, (h.0, k.1))
 
 pub rests_beside : (w v : World) (core : ℕ) (e : Event) (o : Outcome) → IsResting w core → IsBeside w e → w.calls.events < event_limit → Step w e o v
     → IsBesideCalls w v × ComesBeside w e o v

@@ -1,32 +1,13 @@
 -- A call that waits, and beside which no other call runs, is answered once nobody is awaited.
-use Rattle.std.proofs.Common.{◌≡◌, ◌≢◌, ℕ, zero, suc, ◌+◌, ◌≤◌, ◌<◌, ◌^◌, ◌⊎◌, Bool, true, false, inl, inr}
-use Rattle.std.proofs.Common.{refl, sym, ap, subst, arith, Some, None, Option, ◌∙◌}
-use Rattle.std.specs.Prelude.{if◌then◌else◌}
-use Rattle.std.proofs.Math.Path.{fun_ext}
-use Rattle.vm_base.specs.declared.page.PageRange.{PageRange}
-use Rattle.vm_base.specs.declared.replies.Reply.{Reply}
+use Rattle.machine_laws.proofs.Words.{◌≡◌, ◌≢◌, ℕ, zero, suc, ◌+◌, ◌≤◌, ◌<◌, ◌^◌, ◌⊎◌, Bool, true, false, inl, inr, refl, sym, ap, subst, arith, Some, None}
+use Rattle.machine_laws.proofs.Words.{Option, ◌∙◌, if◌then◌else◌, fun_ext, PageRange, Reply, Request, put, Plain, put_all, put_other, put_same, awaited}
+use Rattle.machine_laws.proofs.Words.{Touch, goal_range, Go, Outcome, Stepped, Wait, Answered, Phase, Free, Check, Lock, Guess, Find, Cut, Decide, Post, Acks}
+use Rattle.machine_laws.proofs.Words.{Unlock, Answer, Try, Settle, Want, Fill, CopyPost, CopyAcks, Install, Release, NoneFree, let_go, to, Awaits}
+use Rattle.machine_laws.proofs.Words.{AwaitsNobody, awaits_in, taken_in, held_after, World, Made, with_event, event_limit, Step, StepsTo, Stands, page_copied}
+use Rattle.machine_laws.proofs.Words.{with_copy, is_access, IsPlace}
 use Rattle.vm_base.specs.declared.replies.Reply.TheVariants as ReplyOf
-use Rattle.vm_base.specs.declared.requests.Request.{Request}
-use Rattle.vm_base.specs.Functions.{put}
-use Rattle.vm_base.specs.Plain.{Plain}
-use Rattle.vm_base.proofs.Functions.{put_all, put_other, put_same}
-use Rattle.shootdown.specs.Inboxes.{awaited}
-use Rattle.slot_lock.specs.declared.plan.Touch.{Touch}
-use Rattle.slot_lock.specs.Plan.{goal_range}
 use Rattle.machine_model.specs.declared.event.Blocker.TheVariants as WaitsFor
-use Rattle.machine_model.specs.declared.event.Event.TheVariants.{Go}
-use Rattle.machine_model.specs.declared.event.Outcome.{Outcome}
-use Rattle.machine_model.specs.declared.event.Outcome.TheVariants.{Stepped, Wait, Answered}
-use Rattle.machine_model.specs.declared.phase.Phase.{Phase}
-use Rattle.machine_model.specs.declared.phase.Phase.TheVariants.{Free, Check, Lock, Guess, Find, Back as Leaving, Cut, Decide, Post, Acks, Unlock, Answer}
-use Rattle.machine_model.specs.declared.phase.Phase.TheVariants.{Try, Settle, Want, Fill, CopyPost, CopyAcks, Install, Release}
-use Rattle.machine_model.specs.Accesses.{NoneFree}
-use Rattle.machine_model.specs.Actions.{let_go, to}
-use Rattle.machine_model.specs.Changes.{Awaits, AwaitsNobody}
-use Rattle.machine_model.specs.Holding.{awaits_in, taken_in}
-use Rattle.machine_model.specs.Locks.{held_after}
-use Rattle.machine_model.specs.World.{World, Made}
-use Rattle.machine_model.specs.Step.{with_event, event_limit, Step, StepsTo}
+use Rattle.machine_model.specs.declared.phase.Phase.TheVariants.{Back as Leaving}
 use Rattle.machine_laws.proofs.Deciding.{goal_valid}
 use Rattle.machine_laws.proofs.Going.{call_sound, has_core}
 use Rattle.machine_laws.proofs.Effects.{status}
@@ -35,13 +16,10 @@ use Rattle.machine_laws.proofs.Shapes.{Moves, locks, tries, hints, seeks, guesse
 use Rattle.machine_laws.proofs.Shapes.{refuses, no_place, declines, fails, no_frame, LetsGo, unlocks, returns, releases, GoesBy, moves}
 use Rattle.machine_laws.proofs.Shapes.{divides, cuts, fits, owns, lets_go, answers, posts, commits, takes, zeroes, first_copies, caches}
 use Rattle.machine_laws.proofs.Shapes.{shares, posts_copy, copies, installs, accesses, faults, comes}
-use Rattle.vm_base.specs.Log.{Stands}
 use Rattle.machine_sound.specs.Invariant.{IsWellFormed}
 use Rattle.machine_sound.proofs.Kept.{reached_fine, reached_step}
 use Rattle.machine_alone.specs.Alone.{IsAnsweredAtLast, IsWaiting, IsServedAtLast, IsAwaitingStill, takes_left}
-use Rattle.vm_base.specs.Copies.{page_copied, with_copy}
 use Rattle.machine_alone.specs.Taken.{frames_for, frames_taken, taken_below}
-use Rattle.vm_base.specs.Requests.{is_access}
 use Rattle.machine_alone.specs.Users.{recorded}
 use Rattle.machine_alone.proofs.Awaiting.{change_answers, copy_frames}
 use Rattle.machine_alone.proofs.First.{copy_first, named_first}
@@ -194,7 +172,7 @@ wait_ends w c v range a (faults touch e i h) = absurd (other_phase w c (Try touc
 record IsAtLast (w : World) (t : Plain) (c : ℕ) (request : Request) : Type 0 where
   free : ℕ → Bool
   serving : IsServing free w t c request w
-  framed : (reply : Reply) → IsDueReply free reply → (m u : Plain) → Stands m c request reply u → reply ≢ ReplyOf.NoFrame
+  framed : (reply : Reply) → IsDueReply free reply → (m u : Plain) → Stands IsPlace m c request reply u → reply ≢ ReplyOf.NoFrame
   frames : (now : ℕ → Bool) → TakesOne free now request → taken_below now w.made.frames ≤ frames_taken w
 
 serving_at : (free : ℕ → Bool) (w : World) (t : Plain) (c : ℕ) (request : Request) (k : IsWaiting w t c request) (old : Phase) → w.calls.phase c ≡ old
@@ -235,7 +213,7 @@ at_last w t c request k = go (waits_at (w.calls.phase c) k.range k.at_wait)
         record {
           free = w.memory.is_free;
           serving = serving_at w.memory.is_free w t c request k (Acks goal change) p refl refl tt (refl, λ q d. refl) (inl refl);
-          framed = λ reply due m u stands e. let z = no_frame_access m u c request (subst (λ r. Stands m c request r u) e stands) in cc;
+          framed = λ reply due m u stands e. let z = no_frame_access m u c request (subst (λ r. Stands IsPlace m c request r u) e stands) in cc;
           frames = λ now h. let a = taken_most w.memory.is_free now request w.made.frames h in omega (arith, a, none);
         }
     go (for_copy touch frame p i) =
@@ -326,13 +304,7 @@ few w t c request k = go (waits_at (w.calls.phase c) k.range k.at_wait)
 -- a reply that isn't "no frame" is due whatever frames are free
 due_any : (free now : ℕ → Bool) (reply : Reply) → IsDueReply free reply → reply ≢ ReplyOf.NoFrame → IsDueReply now reply
 due_any free now ReplyOf.NoFrame h ne = absurd (ne refl)
-due_any free now ReplyOf.NoMemory h ne = h
-due_any free now (ReplyOf.Mapped at) h ne = h
-due_any free now ReplyOf.Done h ne = h
-due_any free now (ReplyOf.Byte byte) h ne = h
-due_any free now (ReplyOf.Refused errno) h ne = h
-due_any free now (ReplyOf.Segv code) h ne = h
-due_any free now ReplyOf.Bus h ne = h
+due_any free now _ h ne = h
 
 answered_at_last : (w : World) (t : Plain) (c : ℕ) (request : Request) → IsWaiting w t c request
     → (l : IsAtLast w t c request) (x v : World) (o : Outcome) (reply : Reply)

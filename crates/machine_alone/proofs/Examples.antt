@@ -1,31 +1,16 @@
 -- On a new machine every store is answered SIGSEGV, and a mapping goes to its first place, whatever steps the call takes: the law says so
 -- without looking at them. And what a copy changes.
-use Rattle.std.proofs.Common.{◌⊎◌, inl, inr, ◌≡◌, ◌≢◌, ℕ, ◌<◌, arith, Bool, true, false, refl, subst, Some, None}
-use Rattle.vm_base.specs.declared.replies.Reply.{Reply}
-use Rattle.vm_base.specs.declared.replies.Reply.TheVariants.{Mapped, Done, Byte, Refused, Segv, Bus, NoFrame, NoMemory}
-use Rattle.vm_base.specs.declared.replies.SegvCode.TheVariants.{MapErr}
-use Rattle.vm_base.specs.declared.info.Back.TheVariants.{Private}
-use Rattle.vm_base.specs.declared.requests.Request.{Request}
-use Rattle.vm_base.specs.declared.requests.Request.TheVariants.{Mmap, Load, Store}
-use Rattle.vm_base.specs.Apply.{FirstApplies}
+use Rattle.machine_laws.proofs.Words.{◌⊎◌, inl, inr, ◌≡◌, ◌≢◌, ℕ, ◌<◌, arith, Bool, true, false, refl, subst, Some, None, Reply, Mapped, Done, Byte, Refused}
+use Rattle.machine_laws.proofs.Words.{Segv, Bus, NoFrame, NoMemory, MapErr, Private, Request, Mmap, Load, Store, Applies, Stands, RepliesBy, put, Plain}
+use Rattle.machine_laws.proofs.Words.{nothing_mapped, zeros, Slots, IsNew, Call, Go, Outcome, Stepped, Answered, World, Made, new_world, Step, StepsTo}
+use Rattle.machine_laws.proofs.Words.{event_limit, page_copied, with_copy, users_after, IsPlace, IsFirstPlace}
 use Rattle.vm_base.specs.Places.IsFirstPlace.{at_hint, in_window}
 use Rattle.vm_base.proofs.OneAnswer.{one_answer}
-use Rattle.vm_base.specs.Log.{FirstReplies, Stands}
 use Rattle.vm_base.specs.declared.rights.Mode.TheVariants.{R}
-use Rattle.vm_base.specs.Functions.{put}
-use Rattle.vm_base.specs.Plain.{Plain, nothing_mapped, zeros}
-use Rattle.slot_lock.specs.Slots.{Slots, IsNew}
-use Rattle.machine_model.specs.declared.event.Event.TheVariants.{Call, Go}
-use Rattle.machine_model.specs.declared.event.Outcome.{Outcome}
-use Rattle.machine_model.specs.declared.event.Outcome.TheVariants.{Stepped, Answered}
 use Rattle.vm_base.specs.declared.log.Entry.TheVariants.{Answer}
-use Rattle.machine_model.specs.World.{World, Made, new_world}
-use Rattle.machine_model.specs.Step.{Step, StepsTo, event_limit}
 use Rattle.machine_sound.specs.Sound.{IsDue}
 use Rattle.machine_sound.proofs.Kept.{reached_opening}
 use Rattle.machine_alone.specs.Alone.{IsAwaiting}
-use Rattle.vm_base.specs.Copies.{page_copied, with_copy}
-use Rattle.vm_base.specs.Users.{users_after}
 use Rattle.machine_alone.proofs.Serving.{served_alone}
 
 abbrev made : Made
@@ -34,7 +19,7 @@ made = record { cores = 2; frames = 4; calls = 8; file = λ n. None }
 abbrev nothing : Plain
 nothing = nothing_mapped (λ n. None)
 
-faults : (is_free : ℕ → Bool) (u : Plain) (y : Reply) → Stands (with_copy nothing (page_copied nothing (Store 65540 41) y)) 0 (Store 65540 41) y u
+faults : (is_free : ℕ → Bool) (u : Plain) (y : Reply) → Stands IsPlace (with_copy nothing (page_copied nothing (Store 65540 41) y)) 0 (Store 65540 41) y u
     → IsDue (Go 0) is_free (Answer 0 0 0 y) → y ≡ Segv MapErr
 faults is_free u (Mapped a) h d = let e = h.0 in cc
 faults is_free u Done h d = let e = h.0 in cc
@@ -63,11 +48,11 @@ asked addr = Mmap addr 4096 (record { read = true; write = true; exec = false })
     (record { private = true; shared = false; fixed = false; anon = true }) 0 0
 
 -- a free hint is the first place
-at_its_hint : (t : Plain) × FirstApplies nothing 0 (asked 65536) (Mapped 65536) t
+at_its_hint : (t : Plain) × Applies IsFirstPlace nothing 0 (asked 65536) (Mapped 65536) t
 at_its_hint = (_, (Some 16, at_hint (refl, λ p h. refl) refl, (refl, refl)))
 
 -- and without one, as page 0 is never valid, it is the first page of the core's window
-in_its_window : (t : Plain) × FirstApplies nothing 0 (asked 0) (Mapped 549755813888) t
+in_its_window : (t : Plain) × Applies IsFirstPlace nothing 0 (asked 0) (Mapped 549755813888) t
 in_its_window = (
   _,
   (
@@ -79,8 +64,8 @@ in_its_window = (
 )
 
 -- on a new machine it is answered so, whatever steps its call takes
-first_is : (addr at : ℕ) (is_free : ℕ → Bool) (t u : Plain) (y : Reply) → FirstApplies nothing 0 (asked addr) (Mapped at) t
-    → FirstReplies nothing 0 (asked addr) y u → IsDue (Go 0) is_free (Answer 0 0 0 y) → y ≡ Mapped at
+first_is : (addr at : ℕ) (is_free : ℕ → Bool) (t u : Plain) (y : Reply) → Applies IsFirstPlace nothing 0 (asked addr) (Mapped at) t
+    → RepliesBy IsFirstPlace nothing 0 (asked addr) y u → IsDue (Go 0) is_free (Answer 0 0 0 y) → y ≡ Mapped at
 first_is addr at is_free t u (Mapped a) k h d = (one_answer nothing u t 0 (asked addr) (Mapped a) (Mapped at) h k).0
 first_is addr at is_free t u Done k h d = (one_answer nothing u t 0 (asked addr) Done (Mapped at) h k).0
 first_is addr at is_free t u (Byte b) k h d = (one_answer nothing u t 0 (asked addr) (Byte b) (Mapped at) h k).0
@@ -90,7 +75,7 @@ first_is addr at is_free t u Bus k h d = (one_answer nothing u t 0 (asked addr) 
 first_is addr at is_free t u NoFrame k h d = absurd h.0
 first_is addr at is_free t u NoMemory k h d = absurd cc
 
-maps_first : (addr at : ℕ) (slots : Slots) → IsNew slots → (t : Plain) → FirstApplies nothing 0 (asked addr) (Mapped at) t
+maps_first : (addr at : ℕ) (slots : Slots) → IsNew slots → (t : Plain) → Applies IsFirstPlace nothing 0 (asked addr) (Mapped at) t
     → (begun x v : World) (n : ℕ) (o : Outcome) → Step (new_world made slots) (Call 0 (asked addr)) Stepped begun
     → StepsTo begun 0 n x → Step x (Go 0) o v → o ≢ Stepped → x.calls.events < event_limit → o ≡ Answered (Mapped at)
 maps_first addr at slots new t first begun x v n o call steps step not below =

@@ -1,26 +1,15 @@
 -- The first place of a mapping, and the first answers
-use Rattle.std.proofs.Common.{◌≡◌, ℕ, ◌*◌, ◌<◌, ◌⊎◌, not, Bool, true, false, inl, inr, refl, sym, ap, subst, arith, Some, None, Option, ◌∙◌}
-use Rattle.std.specs.Prelude.{if◌then◌else◌}
-use Rattle.vm_base.specs.declared.info.Back.{Back}
-use Rattle.vm_base.specs.declared.page.PageRange.{PageRange}
-use Rattle.vm_base.specs.declared.replies.Errno.TheVariants.{ENOMEM}
-use Rattle.vm_base.specs.declared.replies.Reply.{Reply}
-use Rattle.vm_base.specs.declared.replies.Reply.TheVariants.{Mapped, Done, Byte, Refused, Segv, Bus, NoFrame, NoMemory}
-use Rattle.vm_base.specs.declared.requests.Request.{Request}
-use Rattle.vm_base.specs.declared.requests.Request.TheVariants.{Mmap, Munmap, Mprotect, Load, Store, Fetch}
-use Rattle.vm_base.specs.declared.rights.Prot.{Prot}
-use Rattle.vm_base.specs.Apply.{Applies, AppliesAfter, FirstApplies, NewMapping, Maps, MapsAt, back_at, meta_of, range_at}
-use Rattle.vm_base.specs.Pages.{are_pages, page_count, page_of, pages_from, window_of}
-use Rattle.vm_base.specs.Places.{IsFirstPlace, IsFree, IsHint, IsLeastRoom, IsPlace}
+use Rattle.machine_laws.proofs.Words.{◌≡◌, ℕ, ◌*◌, ◌<◌, ◌⊎◌, not, Bool, true, false, inl, inr, refl, sym, ap, subst, arith, Some, None, Option, ◌∙◌}
+use Rattle.machine_laws.proofs.Words.{if◌then◌else◌, Back, PageRange, ENOMEM, Reply, Mapped, Done, Byte, Refused, Segv, Bus, NoFrame, NoMemory, Request, Mmap}
+use Rattle.machine_laws.proofs.Words.{Munmap, Mprotect, Load, Store, Fetch, Prot, meta_of, range_at, Applies, are_pages, page_count, page_of, pages_from}
+use Rattle.machine_laws.proofs.Words.{IsFirstPlace, IsFree, IsLeastRoom, IsPlace, Plain, is_mapped, mode_of, refusal, Place, Stands, RepliesBy, page_copied}
+use Rattle.machine_laws.proofs.Words.{with_copy, is_placed}
+use Rattle.vm_base.specs.Apply.{AppliesAfter, NewMapping, Maps, MapsAt, back_at}
+use Rattle.vm_base.specs.Pages.{window_of}
+use Rattle.vm_base.specs.Places.{IsHint}
 use Rattle.vm_base.specs.Places.IsFirstPlace.{at_hint, in_window}
-use Rattle.vm_base.specs.Plain.{Plain, is_mapped, mode_of}
-use Rattle.vm_base.specs.Refusals.{refusal}
-use Rattle.slot_lock.specs.declared.plan.Place.{Place}
 use Rattle.vm_calls.specs.Checks.{hint_at, placed_count}
 use Rattle.vm_calls.proofs.Plainly.{counted, few-found, hint-is, none-found, valid-few}
-use Rattle.vm_base.specs.Log.{Stands, FirstReplies}
-use Rattle.vm_base.specs.Copies.{page_copied, with_copy}
-use Rattle.vm_base.specs.Requests.{is_placed}
 use Rattle.machine_alone.proofs.Aiming.{IsPlaceOf}
 
 -- ---- the first place
@@ -87,9 +76,8 @@ reply_at (Some first) = Mapped (first * 4096)
 
 reply_one : (a b : Option ℕ) → reply_at a ≡ reply_at b → a ≡ b
 reply_one None None e = refl
-reply_one None (Some s) e = absurd cc
-reply_one (Some s) None e = absurd cc
 reply_one (Some s) (Some r) e = let same : s * 4096 ≡ r * 4096 = cc in let z : s ≡ r = omega (arith, same) in ap Some z
+reply_one _ _ e = absurd cc
 
 maps_reply : (t u : Plain) (found : Option ℕ) (n : ℕ) (back : Back) (prot : Prot) (y : Reply) → Maps t (range_at found n) back prot y u
     → y ≡ reply_at found
@@ -98,14 +86,14 @@ maps_reply t u (Some s) n back prot y h = h.0
 
 -- this reply of the map is the first
 abbrev pub IsFirstReply : Plain → ℕ → Request → Reply → Type 0
-IsFirstReply t c request reply = (u : Plain) → Applies t c request reply u → FirstApplies t c request reply u
+IsFirstReply t c request reply = (u : Plain) → Applies IsPlace t c request reply u → Applies IsFirstPlace t c request reply u
 
 pub placed_first : (t : Plain) (c : ℕ) (request : Request) (place : Place) (found : Option ℕ) (reply : Reply)
     (k : IsPlaceOf c request place) → c < 64
     → IsFirst (is_mapped t.entry) place found → reply ≡ reply_at found → IsFirstReply t c request reply
 placed_first t c request place found reply k few first e u h =
-    subst (λ r. FirstApplies t c r reply u) (sym k.asks)
-    (go (refusal (λ n. mode_of (t.file n)) (Mmap k.addr k.len k.prot k.flags k.file k.off)) (subst (λ r. Applies t c r reply u) k.asks h))
+    subst (λ r. Applies IsFirstPlace t c r reply u) (sym k.asks)
+    (go (refusal (λ n. mode_of (t.file n)) (Mmap k.addr k.len k.prot k.flags k.file k.off)) (subst (λ r. Applies IsPlace t c r reply u) k.asks h))
   where
     back : Back
     back = back_at k.flags k.file k.off
@@ -138,14 +126,9 @@ named_first t c request reply named u = go (refusal (λ n. mode_of (t.file n)) r
 
     go : (o : Option Reply) (r : Request) → is_placed r ≡ false → AppliesAfter IsPlace o t c r reply u
         → AppliesAfter IsFirstPlace o t c r reply u
-    go (Some y) r e h = h
     go None (Mmap addr len prot flags file off) e h =
         maps flags.fixed (record { core = c; addr = addr; len = len; meta = meta_of prot flags file off }) e h
-    go None (Munmap addr len) e h = h
-    go None (Mprotect addr len prot) e h = h
-    go None (Load addr) e h = h
-    go None (Store addr byte) e h = h
-    go None (Fetch addr) e h = h
+    go _ _ e h = h
 
 -- nor has one that its arguments refuse
 pub refused_first : (t : Plain) (c : ℕ) (request : Request) (reply answer : Reply) → refusal (λ n. mode_of (t.file n)) request ≡ Some answer
@@ -157,15 +140,10 @@ refused_first t c request reply answer e u h =
 
 stands_first : (t : Plain) (c : ℕ) (request : Request) (reply : Reply) (u : Plain)
     → IsFirstReply (with_copy t (page_copied t request reply)) c request reply
-    → Stands (with_copy t (page_copied t request reply)) c request reply u → FirstReplies t c request reply u
-stands_first t c request (Mapped at) u f h = f u h
-stands_first t c request Done u f h = f u h
-stands_first t c request (Byte byte) u f h = f u h
-stands_first t c request (Refused errno) u f h = f u h
-stands_first t c request (Segv code) u f h = f u h
-stands_first t c request Bus u f h = f u h
+    → Stands IsPlace (with_copy t (page_copied t request reply)) c request reply u → RepliesBy IsFirstPlace t c request reply u
 stands_first t c request NoFrame u f h = h
 stands_first t c request NoMemory u f h = h
+stands_first t c request _ u f h = f u h
 
 -- a mapping copies no page
 placed_uncopied : (t : Plain) (request : Request) (reply : Reply) → is_placed request ≡ true → page_copied t request reply ≡ None
@@ -185,10 +163,10 @@ placed_uncopied t (Fetch addr) reply e = absurd cc
 
 -- of the map in which the page has got its copy
 pub copy_first : (t : Plain) (c : ℕ) (request : Request) (reply : Reply) (u : Plain) → IsFirstReply t c request reply
-    → Stands (with_copy t (page_copied t request reply)) c request reply u → FirstReplies t c request reply u
+    → Stands IsPlace (with_copy t (page_copied t request reply)) c request reply u → RepliesBy IsFirstPlace t c request reply u
 copy_first t c request reply u f h = go (is_placed request) refl
   where
-    go : (b : Bool) → is_placed request ≡ b → FirstReplies t c request reply u
+    go : (b : Bool) → is_placed request ≡ b → RepliesBy IsFirstPlace t c request reply u
     go false e = stands_first t c request reply u (named_first _ c request reply e) h
     go true e =
         let same : with_copy t (page_copied t request reply) ≡ t = ap (with_copy t) (placed_uncopied t request reply e) in

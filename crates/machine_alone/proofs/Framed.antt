@@ -1,21 +1,7 @@
 -- A page that some core uses has a frame.
-use Rattle.std.proofs.Common.{◌≡◌, ℕ, true, refl, sym, ap, subst, Some, None, Option, List, [], ◌∷◌, ◌∙◌}
-use Rattle.std.specs.Prelude.{is_some}
-use Rattle.vm_base.specs.declared.info.PageInfo.{PageInfo}
-use Rattle.vm_base.specs.declared.rights.Access.{Access}
-use Rattle.vm_base.specs.declared.rights.Prot.{Prot}
-use Rattle.vm_base.specs.Functions.{put}
-use Rattle.vm_base.specs.Info.{frame_of, is_recorded, info_with_frame, info_with_prot, info_with_core}
-use Rattle.vm_base.specs.Plain.{File}
-use Rattle.vm_base.proofs.CoreSets.{members-empty}
-use Rattle.vm_base.proofs.Functions.{put_all}
-use Rattle.slot_lock.specs.Slots.{Slots}
-use Rattle.machine_model.specs.declared.event.Event.{Event}
-use Rattle.machine_model.specs.declared.event.Outcome.{Outcome}
-use Rattle.machine_model.specs.declared.phase.Phase.TheVariants.{Install}
-use Rattle.vm_base.specs.Info.{info_with_copy}
-use Rattle.machine_model.specs.World.{World, new_world}
-use Rattle.machine_model.specs.Step.{Run, with_event}
+use Rattle.machine_laws.proofs.Words.{◌≡◌, ℕ, true, refl, sym, ap, subst, Some, None, Option, List, [], ◌∷◌, ◌∙◌, is_some, PageInfo, Access, Prot, put}
+use Rattle.machine_laws.proofs.Words.{frame_of, is_recorded, info_with_frame, info_with_prot, info_with_core, File, members-empty, put_all, Slots, Event}
+use Rattle.machine_laws.proofs.Words.{Outcome, Install, info_with_copy, World, new_world, Run, with_event}
 use Rattle.machine_laws.specs.Orderly.{IsUsable}
 use Rattle.machine_laws.proofs.Changed.{changed_all}
 use Rattle.machine_laws.proofs.Moves.{IsCallOf, call_at}

@@ -1,27 +1,15 @@
 -- The entries that a call has made in the log: that of its copy, if its page has got one, and that of its reply
-use Rattle.std.proofs.Common.{◌≡◌, ℕ, refl, sym, ap, subst, Some, None, Option, ◌∙◌, List, [], ◌∷◌, ◌++◌}
-use Rattle.vm_base.specs.declared.page.PageRange.{PageRange}
-use Rattle.vm_base.specs.declared.replies.Reply.{Reply}
-use Rattle.vm_base.specs.declared.requests.Request.{Request}
-use Rattle.vm_base.specs.Apply.{detached}
-use Rattle.vm_base.specs.Plain.{Plain}
-use Rattle.vm_base.proofs.Functions.{put_same}
-use Rattle.vm_base.specs.declared.log.Entry.{Entry}
+use Rattle.machine_laws.proofs.Words.{◌≡◌, ℕ, refl, sym, ap, subst, Some, None, Option, ◌∙◌, List, [], ◌∷◌, ◌++◌, PageRange, Reply, Request, detached, Plain}
+use Rattle.machine_laws.proofs.Words.{put_same, Entry, Phase, Lock, Cut, Post, Acks, Try, Want, Fill, CopyPost, CopyAcks, Install, Release, taken_for, to}
+use Rattle.machine_laws.proofs.Words.{let_go, with_entry, answer_entry, held_after, locked_to, World, EntryLeads, Replays, with_copy, Users}
 use Rattle.vm_base.specs.declared.log.Entry.TheVariants as EntryOf
-use Rattle.machine_model.specs.declared.phase.Phase.{Phase}
-use Rattle.machine_model.specs.declared.phase.Phase.TheVariants.{Lock, Back as Leaving, Cut, Post, Acks, Try, Want, Fill, CopyPost, CopyAcks, Install, Release}
-use Rattle.machine_model.specs.Accesses.{taken_for}
-use Rattle.machine_model.specs.Actions.{to, let_go, with_entry, answer_entry}
-use Rattle.machine_model.specs.Locks.{held_after, locked_to}
-use Rattle.machine_model.specs.World.{World}
+use Rattle.machine_model.specs.declared.phase.Phase.TheVariants.{Back as Leaving}
 use Rattle.machine_laws.proofs.Effects.{Status, Closed, Asked, Told, status, told_in, moves_quiet, replies_quiet, locked_quiet, back_quiet, taken_asked}
 use Rattle.machine_laws.proofs.Shapes.{LetsGo, unlocks, returns, releases, GoesBy, moves, divides, cuts, fits, owns, lets_go, answers, posts, commits}
 use Rattle.machine_laws.proofs.Shapes.{takes, zeroes, first_copies, caches, shares, posts_copy, copies, installs, accesses, faults}
-use Rattle.vm_base.specs.Log.{EntryLeads, Replays}
 use Rattle.machine_sound.proofs.OneMap.{log_leads_to_one}
 use Rattle.machine_alone.specs.Alone.{IsCopied, IsNoted}
-use Rattle.vm_base.specs.Copies.{or_else, with_copy}
-use Rattle.vm_base.specs.Users.{Users}
+use Rattle.vm_base.specs.Copies.{or_else}
 use Rattle.machine_alone.proofs.Used.{IsFrom, IsUsed, copy_after, used_at}
 
 -- the log is that of the beginning, with the copy that the call has made, and with its reply once it has one

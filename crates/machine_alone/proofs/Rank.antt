@@ -1,29 +1,17 @@
 -- How many plain steps a call can still take where no other call runs
-use Rattle.std.proofs.Common.{◌≡◌, ℕ, zero, suc, ◌≤◌, ◌<◌, ◌+◌, ◌-◌, ◌^◌, Bool, if◌then◌else◌, ◌==◌, refl, ap, arith, Some, None, Option}
-use Rattle.std.specs.Prelude.{is_some, nat_le}
-use Rattle.vm_base.specs.declared.page.PageRange.{PageRange}
-use Rattle.vm_base.specs.declared.replies.Reply.{Reply}
-use Rattle.vm_base.proofs.Functions.{by_test}
-use Rattle.slot_lock.specs.declared.plan.Touch.{Touch}
+use Rattle.machine_laws.proofs.Words.{◌≡◌, ℕ, zero, suc, ◌≤◌, ◌<◌, ◌+◌, ◌-◌, ◌^◌, Bool, ◌==◌, refl, ap, arith, Some, None, Option, is_some, nat_le, PageRange}
+use Rattle.machine_laws.proofs.Words.{Reply, by_test, Touch, range_of, target_range, goal_range, IsSoundPlace, Place, Target, Hint, Window, Slots, Divides}
+use Rattle.machine_laws.proofs.Words.{between, Goal, Phase, Free, Check, Lock, Guess, Find, Cut, Decide, Post, Acks, Unlock, Answer, Try, Settle, Want, Fill}
+use Rattle.machine_laws.proofs.Words.{CopyPost, CopyAcks, Install, Release, let_go, translated_by, frame_reached, Hardware, back_to, guess_of, trying}
+use Rattle.machine_laws.proofs.Words.{IsPageRange, all_locked, locked_to, held_after}
+use Rattle.std.proofs.Common.{if◌then◌else◌}
 use Rattle.slot_lock.specs.Edges.{edges_below}
-use Rattle.slot_lock.specs.Plan.{range_of, target_range, goal_range, IsSoundPlace}
-use Rattle.slot_lock.specs.declared.plan.Place.{Place}
-use Rattle.slot_lock.specs.declared.plan.Target.{Target}
-use Rattle.slot_lock.specs.declared.plan.Target.TheVariants.{Hint, Run, Window}
-use Rattle.slot_lock.specs.Slots.{Slots, Divides, between}
+use Rattle.slot_lock.specs.declared.plan.Target.TheVariants.{Run}
 use Rattle.slot_lock.proofs.EdgeCounts.{edges_below-Divides, edges_below-most}
-use Rattle.slot_lock.specs.declared.plan.Goal.{Goal}
 use Rattle.slot_lock.specs.declared.plan.Goal.TheVariants as To
-use Rattle.machine_model.specs.declared.phase.Phase.{Phase}
-use Rattle.machine_model.specs.declared.phase.Phase.TheVariants.{Free, Check, Lock, Guess, Find, Back as Leaving, Cut, Decide, Post, Acks, Unlock, Answer}
-use Rattle.machine_model.specs.declared.phase.Phase.TheVariants.{Try, Settle, Want, Fill, CopyPost, CopyAcks, Install, Release}
-use Rattle.machine_model.specs.Actions.{let_go}
-use Rattle.machine_model.specs.Translating.{translated_by, frame_reached}
-use Rattle.machine_model.specs.World.{Hardware}
-use Rattle.machine_model.specs.Placing.{back_to, elsewhere, guess_of, trying}
+use Rattle.machine_model.specs.declared.phase.Phase.TheVariants.{Back as Leaving}
+use Rattle.machine_model.specs.Placing.{elsewhere}
 use Rattle.machine_laws.specs.Orderly.{IsPassed}
-use Rattle.vm_base.specs.Pages.{IsPageRange}
-use Rattle.machine_model.specs.Locks.{all_locked, locked_to, held_after}
 
 -- ---- divisions that are left
 
@@ -83,8 +71,7 @@ guess_rank place = place.count + (place.count + (window_rank place + 3))
 -- once it has let its target go
 abbrev pub elsewhere_rank : Place → Target → ℕ
 elsewhere_rank place (Hint range) = guess_rank place
-elsewhere_rank place (Run range) = window_rank place
-elsewhere_rank place Window = window_rank place
+elsewhere_rank place _ = window_rank place
 
 -- with all pages of its target held
 abbrev pub found_rank : Place → Target → ℕ
@@ -128,8 +115,7 @@ rank_of s reach phase = rank (missing s) reach phase
 
 all_rank : (m : ℕ) (reach : Touch → Option ℕ) (goal : Goal) → rank m reach (all_locked goal) ≤ m + locked_rank goal
 all_rank m reach (To.Place place target) = omega arith
-all_rank m reach (To.Change change) = omega arith
-all_rank m reach (To.Access touch) = omega arith
+all_rank m reach _ = omega arith
 
 pub lock_less : (m : ℕ) (reach old : Touch → Option ℕ) (goal : Goal) (cursor b : ℕ) → cursor < b → b ≤ (goal_range goal).end
     → rank m reach (locked_to goal b) < rank m old (Lock goal cursor)
@@ -149,8 +135,7 @@ unlock_less m n reach old held reply b l e =
 elsewhere_least : (m : ℕ) (reach : Touch → Option ℕ) (place : Place) (target : Target)
     → rank m reach (elsewhere place target) ≤ m + elsewhere_rank place target
 elsewhere_least m reach place (Hint range) = omega arith
-elsewhere_least m reach place (Run range) = omega arith
-elsewhere_least m reach place Window = omega arith
+elsewhere_least m reach place _ = omega arith
 
 -- a mapping that lets pages go still has some, or looks elsewhere
 pub back_all : (P : Phase → Type 0) (place : Place) (target : Target) (o : Option PageRange) → P (Guess place) → P (trying place Window)
@@ -172,16 +157,14 @@ back_less m reach old place target held b l e =
 -- it lets a hint or a run go before it looks elsewhere
 pub turn_less : (m : ℕ) (reach old : Touch → Option ℕ) (place : Place) (target : Target) → IsPassed target
     → rank m reach (Leaving place target (target_range place target)) < rank m old (Find place target)
-turn_less m reach old place (Hint range) k = omega arith
-turn_less m reach old place (Run range) k = omega arith
 turn_less m reach old place Window k = absurd k
+turn_less m reach old place _ k = omega arith
 
 -- it cuts the slots of its target, or is refused
 pub find_more : (m : ℕ) (reach : Touch → Option ℕ) (place : Place) (target : Target)
     → m + (size (target_range place target) + 3) < rank m reach (Find place target)
 find_more m reach place (Hint range) = omega arith
-find_more m reach place (Run range) = omega arith
-find_more m reach place Window = omega arith
+find_more m reach place _ = omega arith
 
 -- it locks the run that it guesses, or its window
 pub guess_less : (m : ℕ) (reach old : Touch → Option ℕ) (place : Place) (found : Option ℕ)

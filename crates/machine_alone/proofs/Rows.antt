@@ -1,58 +1,26 @@
 -- What a step of a call does beside which no other call runs: after it fewer are left, and "no frame" isn't its reply where one was free.
-use Rattle.std.proofs.Common.{◌≡◌, ℕ, ◌≤◌, ◌<◌, ◌+◌, ◌^◌, ◌⊎◌, Bool, true, false, cond, refl, sym, subst, ap, arith, Some, None, Option, Ok, ◌∙◌, inl, inr}
-use Rattle.std.specs.Prelude.{is_some, nat_le, ◌&&◌, if◌then◌else◌}
-use Rattle.vm_base.specs.declared.info.Back.{Back}
-use Rattle.vm_base.specs.declared.info.Back.TheVariants.{Anon, Shared, Private}
-use Rattle.vm_base.specs.declared.info.PageInfo.{PageInfo}
-use Rattle.vm_base.specs.declared.page.PageRange.{PageRange}
-use Rattle.vm_base.specs.declared.replies.Reply.{Reply}
-use Rattle.vm_base.specs.declared.rights.Access.{Access}
-use Rattle.vm_base.specs.declared.rights.Prot.{Prot}
-use Rattle.vm_base.specs.Rights.{is_allowed}
-use Rattle.mmu.specs.declared.entry.Translation.{Translation}
-use Rattle.mmu.specs.declared.translated.Translated.{Translated}
+use Rattle.machine_laws.proofs.Words.{◌≡◌, ℕ, ◌≤◌, ◌<◌, ◌+◌, ◌^◌, ◌⊎◌, Bool, true, false, cond, refl, sym, subst, ap, arith, Some, None, Option, Ok, ◌∙◌, inl}
+use Rattle.machine_laws.proofs.Words.{inr, is_some, nat_le, ◌&&◌, if◌then◌else◌, Back, Private, PageInfo, PageRange, Reply, Access, Prot}
+use Rattle.machine_laws.proofs.Words.{is_allowed, Translation, Translated, permits, translation_of, translated, tlb_at, put, File, mode_of}
+use Rattle.machine_laws.proofs.Words.{put_same, Touch, target_range, goal_range, goal_plan, HasTarget, IsSoundGoal, Put, Place, Hint, Window, Request}
+use Rattle.machine_laws.proofs.Words.{back_to, guess_of, trying, Slots, is_private_store, Settled, AccErr, Go, Goal, Phase, Check}
+use Rattle.machine_laws.proofs.Words.{Lock, Guess, Find, Cut, Decide, Post, Acks, Unlock, Answer, Try, Settle, Want, Fill, CopyPost, CopyAcks, Install}
+use Rattle.machine_laws.proofs.Words.{Release, NoneFree, found_at, after_frame, after_install, reply_of, memory_after, info_with_core, is_private}
+use Rattle.machine_laws.proofs.Words.{prot_installed, prot_shown, shows_some, after_zeros, after_first_copy, after_caching, after_sharing, after_copy_post}
+use Rattle.machine_laws.proofs.Words.{after_copy, to, let_go, after_reply, with_entry, detach_entry, checked_by, slots_after, after_post, reply_to}
+use Rattle.machine_laws.proofs.Words.{with_counts, frame_reached, after_translating, entry_for, entry_of_page, locking, all_locked, locked_to, held_after}
+use Rattle.machine_laws.proofs.Words.{World, Hardware, Memory, sound_pages}
 use Rattle.mmu.specs.declared.translated.Translated.TheVariants.{Hit, Fill as ByTables, Fault}
-use Rattle.mmu.specs.Entry.{permits, translation_of}
-use Rattle.mmu.specs.Tables.{translated}
-use Rattle.mmu.specs.Tlb.{tlb_at}
 use Rattle.vm_base.specs.declared.rights.Access.TheVariants.{Load, Store, Fetch}
-use Rattle.vm_base.specs.Apply.{byte_reply}
-use Rattle.vm_base.specs.Functions.{put}
-use Rattle.vm_base.specs.Plain.{File, mode_of}
-use Rattle.vm_base.proofs.Functions.{put_same}
-use Rattle.slot_lock.specs.declared.plan.Touch.{Touch}
-use Rattle.slot_lock.specs.Plan.{target_range, goal_range, goal_plan, HasTarget, IsSoundGoal}
-use Rattle.slot_lock.specs.declared.plan.Change.TheVariants.{Put}
-use Rattle.slot_lock.specs.declared.plan.Place.{Place}
-use Rattle.slot_lock.specs.declared.plan.Target.TheVariants.{Hint, Window}
-use Rattle.vm_base.specs.declared.requests.Request.{Request}
-use Rattle.machine_model.specs.Placing.{back_to, guess_of, trying}
 use Rattle.machine_laws.proofs.Going.{call_sound, has_core, passed_on}
 use Rattle.machine_laws.proofs.Deciding.{goal_valid}
-use Rattle.slot_lock.specs.Slots.{Slots}
-use Rattle.vm_calls.specs.Settling.{is_private_store}
-use Rattle.vm_calls.specs.declared.fault.Settled.{Settled}
-use Rattle.vm_calls.specs.declared.fault.Settled.TheVariants.{MapErr, AccErr, Bus, Has, Copies, Cached, Wants}
-use Rattle.machine_model.specs.declared.event.Event.TheVariants.{Go}
+use Rattle.vm_calls.specs.declared.fault.Settled.TheVariants.{MapErr, Bus}
 use Rattle.vm_base.specs.declared.log.Entry.TheVariants as EntryOf
-use Rattle.slot_lock.specs.declared.plan.Goal.{Goal}
 use Rattle.slot_lock.specs.declared.plan.Goal.TheVariants as To
-use Rattle.machine_model.specs.declared.phase.Phase.{Phase}
-use Rattle.machine_model.specs.declared.phase.Phase.TheVariants.{Check, Lock, Guess, Find, Back as Leaving, Cut, Decide, Post, Acks, Unlock, Answer}
-use Rattle.machine_model.specs.declared.phase.Phase.TheVariants.{Try, Settle, Want, Fill, CopyPost, CopyAcks, Install, Release}
-use Rattle.machine_model.specs.Accesses.{NoneFree, found_at, after_frame, after_install, reply_of, memory_after}
-use Rattle.vm_base.specs.Info.{info_with_core}
-use Rattle.machine_model.specs.Files.{is_private, prot_installed, prot_shown, shows_some}
-use Rattle.machine_model.specs.Filling.{after_zeros, after_first_copy, after_caching, after_sharing, after_copy_post, after_copy}
-use Rattle.machine_model.specs.Actions.{to, let_go, after_reply, with_entry, detach_entry}
-use Rattle.machine_model.specs.Changes.{checked_by, slots_after, after_post, reply_to}
-use Rattle.machine_model.specs.Counting.{with_counts}
-use Rattle.machine_model.specs.Translating.{frame_reached, after_translating, entry_for, entry_of_page}
-use Rattle.machine_model.specs.Locks.{locking, all_locked, locked_to, held_after}
-use Rattle.machine_model.specs.World.{World, Hardware, Memory}
-use Rattle.machine_coherence.specs.Coherent.{IsBacked, IsSoundEntry}
+use Rattle.machine_model.specs.declared.phase.Phase.TheVariants.{Back as Leaving}
+use Rattle.machine_invariants.specs.Coherent.{IsBacked, IsSoundEntry}
 use Rattle.machine_laws.specs.Orderly.{IsUsable}
-use Rattle.machine_laws.proofs.Deciding.{change_sound, sound_range}
+use Rattle.machine_laws.proofs.Deciding.{change_sound}
 use Rattle.machine_laws.proofs.Moves.{IsCallOf, call_at}
 use Rattle.machine_laws.proofs.Shapes.{IsFault, Moves, locks, tries, hints, seeks, guesses, turns, chooses, acts, finds, lacks, shows}
 use Rattle.machine_laws.proofs.Shapes.{Replies, refuses, no_place, declines, fails, no_frame, LetsGo, unlocks, returns, releases, GoesBy}
@@ -60,6 +28,7 @@ use Rattle.machine_laws.proofs.Shapes.{moves, divides, cuts, fits, owns, lets_go
 use Rattle.machine_laws.proofs.Shapes.{caches, shares, posts_copy, copies, installs, accesses, faults}
 use Rattle.machine_sound.specs.Sound.{IsDue}
 use Rattle.machine_sound.specs.Invariant.{IsWellFormed}
+use Rattle.machine_sound.proofs.Accesses.{byte_is_reply}
 use Rattle.machine_sound.proofs.Reaching.{at_page}
 use Rattle.machine_sound.proofs.Replies.{IsReply, due_so, refused, reply_is}
 use Rattle.machine_alone.proofs.Rank.{missing, missing_same, missing_less, missing_most, reach_of, hits, rank, rank_of, lock_less}
@@ -137,7 +106,7 @@ place_sound w c request place goal f e passed aim =
 moves_near : (first : ℕ → Bool) (w : World) (c : ℕ) (new : Phase) (v : World) → IsWellFormed w → IsSureOf first c w → Moves w c new → v ≡ to c new w
     → Nears first w c v
 moves_near first w c new v f sure (locks request change e n passed) h =
-    let range = sound_range change (change_sound (λ k. mode_of (w.made.file k)) c request change passed) in
+    let range = sound_pages change (change_sound (λ k. mode_of (w.made.file k)) c request change passed) in
     let high = range.high in
     let most = missing_most w.slots in
     nears first w c (Check request) (locking (To.Change change)) w.slots w.hardware w.memory v e (rw (h, n) refl)
@@ -191,10 +160,7 @@ fault_is_reply : (s : Settled) (reply : Reply) → IsFault s reply → IsReply r
 fault_is_reply MapErr reply h = subst IsReply (sym h) tt
 fault_is_reply AccErr reply h = subst IsReply (sym h) tt
 fault_is_reply Bus reply h = subst IsReply (sym h) tt
-fault_is_reply (Has f) reply h = absurd h
-fault_is_reply (Copies f) reply h = absurd h
-fault_is_reply (Cached f) reply h = absurd h
-fault_is_reply Wants reply h = absurd h
+fault_is_reply _ reply h = absurd h
 
 -- a reply in phase old, after which these slots, this hardware and this memory are there
 tells_near : (first : ℕ → Bool) (w : World) (c : ℕ) (old : Phase) (held : Option PageRange) (reply : Reply) (t : Slots) (h : Hardware) (m : Memory) (v : World)
@@ -275,11 +241,6 @@ lets_go_near first w c held b t new v sure (releases touch e at n) l m same h =
 
 -- ---- frames
 
-byte_is_reply : (access : Access) (byte : ℕ) → IsReply (byte_reply access byte)
-byte_is_reply Load byte = tt
-byte_is_reply Store byte = tt
-byte_is_reply Fetch byte = tt
-
 -- an access that the page allows is permitted by the page's translation, unless it is a store to a private page that shows its file's
 permitted : (shown : Bool) (prot : Prot) (f : ℕ) (access : Access) → is_allowed prot access ≡ true → (access ≡ Store → shown ≡ false)
     → permits (translation_of f (prot_shown shown prot)) access ≡ true
@@ -290,9 +251,8 @@ permitted false prot f Fetch h own = h
 
 -- what a store doesn't find
 stored_to : (back : Back) (b : Bool) (access : Access) → (is_private_store back access && b) ≡ false → access ≡ Store → (is_private back && b) ≡ false
-stored_to Anon b access h e = refl
-stored_to (Shared n k) b access h e = refl
 stored_to (Private n k) b access h e = subst (λ a. (is_private_store (Private n k) a && b) ≡ false) e h
+stored_to _ b access h e = refl
 
 -- where the tables have the page, and the TLB has nothing else of it, the access reaches its frame
 reaches_own : (h : Hardware) (c : ℕ) (touch : Touch) (t : Translation) → h.table c touch.page ≡ Some t

@@ -1,49 +1,16 @@
 -- A lone mapping that leaves its place open goes to the first place: nothing changes between its guess and its decision.
-use Rattle.std.proofs.Common.{◌≡◌, ℕ, ◌<◌, not, Bool, true, false, cond, inl, inr, refl, sym, ap, subst, Some, None, Option, Ok, Err, ◌∙◌}
-use Rattle.std.specs.Prelude.{is_some, nat_le}
-use Rattle.std.proofs.Math.Path.{fun_ext}
-use Rattle.vm_base.specs.declared.info.PageInfo.{PageInfo}
-use Rattle.vm_base.specs.declared.page.PageRange.{PageRange}
-use Rattle.vm_base.specs.declared.replies.Errno.{Errno}
-use Rattle.vm_base.specs.declared.replies.Reply.{Reply}
-use Rattle.vm_base.specs.declared.replies.Reply.TheVariants.{Refused}
-use Rattle.vm_base.specs.declared.requests.Request.{Request}
-use Rattle.vm_base.specs.declared.requests.Request.TheVariants.{Mmap, Munmap, Mprotect, Load, Store, Fetch}
-use Rattle.vm_base.specs.declared.rights.Mode.{Mode}
-use Rattle.vm_base.specs.Places.{IsFree, IsLeastRoom}
-use Rattle.vm_base.specs.Pages.{pages_from}
-use Rattle.vm_base.specs.Plain.{Entry, Plain, is_mapped, mode_of}
-use Rattle.vm_base.specs.Refusals.{refusal}
-use Rattle.vm_base.proofs.Functions.{put_same}
-use Rattle.slot_lock.specs.declared.plan.Change.{Change}
-use Rattle.slot_lock.specs.declared.plan.Change.TheVariants.{Put}
-use Rattle.slot_lock.specs.declared.plan.Goal.{Goal}
+use Rattle.machine_laws.proofs.Words.{◌≡◌, ℕ, ◌<◌, not, Bool, true, false, cond, inl, inr, refl, sym, ap, subst, Some, None, Option, Ok, Err, ◌∙◌, is_some}
+use Rattle.machine_laws.proofs.Words.{nat_le, fun_ext, PageInfo, PageRange, Errno, Reply, Refused, Request, Mmap, Mode}
+use Rattle.machine_laws.proofs.Words.{IsFree, IsLeastRoom, pages_from, Plain, is_mapped, mode_of, refusal, put_same, Change, Put, Goal, Place, Plan, Target}
+use Rattle.machine_laws.proofs.Words.{Hint, Window, Touch, IsTarget, goal_range, range_of, Slots, Act, Again, Refuse, plan_of, unless_refused, DecidesPlace}
+use Rattle.machine_laws.proofs.Words.{entries, entry_of, free, taken, passed, Stepped, Phase, Check, Lock, Guess, Find, Cut, Decide, Acks, Unlock, Answer}
+use Rattle.machine_laws.proofs.Words.{Try, Settle, Want, CopyAcks, Install, reply_of, taken_for, let_go, to, after_plan, checked_by, reply_to, all_locked}
+use Rattle.machine_laws.proofs.Words.{held_after, locked_to, locking, guess_of, placing, Goes, Memory, World, nth, is_placed, Users}
+use Rattle.vm_base.specs.Plain.{Entry}
 use Rattle.slot_lock.specs.declared.plan.Goal.TheVariants as To
-use Rattle.slot_lock.specs.declared.plan.Place.{Place}
-use Rattle.slot_lock.specs.declared.plan.Plan.{Plan}
 use Rattle.slot_lock.specs.declared.plan.Plan.TheVariants as PlanOf
-use Rattle.slot_lock.specs.declared.plan.Target.{Target}
-use Rattle.slot_lock.specs.declared.plan.Target.TheVariants.{Hint, Run, Window}
-use Rattle.slot_lock.specs.declared.plan.Touch.{Touch}
-use Rattle.slot_lock.specs.Plan.{IsTarget, goal_range, range_of}
-use Rattle.slot_lock.specs.Slots.{Slots}
-use Rattle.vm_calls.specs.declared.decision.Decision.TheVariants.{Act, Again, Refuse}
-use Rattle.vm_calls.specs.Checks.{plan_of, unless_refused}
-use Rattle.vm_calls.specs.Decisions.{DecidesPlace, entries, entry_of}
-use Rattle.vm_calls.specs.Decisions.DecidesRun.{free, taken}
-use Rattle.vm_calls.proofs.Passed.{passed}
-use Rattle.machine_model.specs.declared.event.Outcome.TheVariants.{Stepped}
-use Rattle.machine_model.specs.declared.phase.Phase.{Phase}
-use Rattle.machine_model.specs.declared.phase.Phase.TheVariants.{Check, Lock, Guess, Find, Back as Leaving, Cut, Decide, Acks, Unlock}
-use Rattle.machine_model.specs.declared.phase.Phase.TheVariants.{Answer, Try, Settle, Want, CopyAcks, Install}
-use Rattle.machine_model.specs.Accesses.{reply_of, taken_for}
-use Rattle.machine_model.specs.Actions.{let_go, to}
-use Rattle.machine_model.specs.Changes.{after_plan, checked_by, reply_to}
-use Rattle.machine_model.specs.Locks.{all_locked, held_after, locked_to, locking}
-use Rattle.machine_model.specs.Placing.{guess_of, placing}
-use Rattle.machine_model.specs.Step.{Goes}
-use Rattle.machine_model.specs.World.{Memory, World}
-use Rattle.vm_base.specs.Log.{nth}
+use Rattle.slot_lock.specs.declared.plan.Target.TheVariants.{Run}
+use Rattle.machine_model.specs.declared.phase.Phase.TheVariants.{Back as Leaving}
 use Rattle.machine_laws.specs.Orderly.{Serves}
 use Rattle.machine_laws.proofs.Effects.{Asked, status}
 use Rattle.machine_laws.proofs.Moves.{IsCallOf, call_at}
@@ -52,8 +19,6 @@ use Rattle.machine_laws.proofs.Shapes.{declines, fails, no_frame, LetsGo, unlock
 use Rattle.machine_laws.proofs.Shapes.{answers, posts, commits, takes, zeroes, first_copies, caches, shares, posts_copy, copies, installs, accesses, faults}
 use Rattle.machine_sound.specs.Invariant.{IsWellFormed, ShowsPlain, ShowsPage}
 use Rattle.machine_sound.proofs.Replies.{has_modes}
-use Rattle.vm_base.specs.Requests.{is_placed}
-use Rattle.vm_base.specs.Users.{Users}
 use Rattle.machine_alone.proofs.Aiming.{IsPlaceOf, place_asked}
 use Rattle.machine_alone.proofs.First.{IsFirst, IsFirstReply, IsHintTaken, named_first, placed_first, refused_first, reply_at}
 use Rattle.machine_alone.proofs.Rank.{back_all}
@@ -95,10 +60,9 @@ IsSeeking t c request w = Seeks t c request (w.calls.phase c)
 -- ---- the plain page map that the slots show
 
 mapped_same : (m : Memory) (o : Option PageInfo) (z : Option Entry) → ShowsPage m o z → is_some (entry_of o) ≡ is_some z
-mapped_same m None None h = refl
-mapped_same m (Some info) (Some page) h = refl
 mapped_same m None (Some page) h = absurd h
 mapped_same m (Some info) None h = absurd h
+mapped_same m _ _ h = refl
 
 -- the same pages are mapped
 shown_mapped : (w : World) (t : Plain) → ShowsPlain w t → is_mapped (entries w.slots) ≡ is_mapped t.entry
@@ -126,11 +90,7 @@ change_planned c (Mmap addr len prot flags file off) change e = go flags.fixed _
     go : (b : Bool) (x : Plan) (place : Place) → either_plan b x (PlanOf.Place place) ≡ Ok (PlanOf.Change change) → not b ≡ false
     go true x place e = refl
     go false x place e = absurd cc
-change_planned c (Munmap addr len) change e = refl
-change_planned c (Mprotect addr len prot) change e = refl
-change_planned c (Load addr) change e = refl
-change_planned c (Store addr byte) change e = refl
-change_planned c (Fetch addr) change e = refl
+change_planned c _ change e = refl
 
 -- a call that makes a change of its request's own
 pub change_is_named : (w : World) (c : ℕ) (change : Change) (request : Request) → nth w.calls.requests (w.calls.number c) ≡ Some request
@@ -155,11 +115,7 @@ unplanned c (Mmap addr len prot flags file off) reply e = absurd (go flags.fixed
     go : (b : Bool) (x y : Plan) → either_plan b x y ≡ Err reply → ⊥
     go true x y e = cc
     go false x y e = cc
-unplanned c (Munmap addr len) reply e = refl
-unplanned c (Mprotect addr len prot) reply e = refl
-unplanned c (Load addr) reply e = refl
-unplanned c (Store addr byte) reply e = refl
-unplanned c (Fetch addr) reply e = refl
+unplanned c _ reply e = refl
 
 check_first : (w : World) (t : Plain) (c : ℕ) (request : Request) (reply : Reply) → ShowsPlain w t → checked_by w.made c request ≡ Err reply
     → IsFirstReply t c request reply
@@ -357,10 +313,6 @@ lets_go_seek t c request w held b new k (releases touch e i n) = subst (Seeks t 
 taken_seek : (t : Plain) (c : ℕ) (request : Request) (touch : Touch) (old : Option ℕ) (x : ℕ) → Seeks t c request (taken_for touch old x)
 taken_seek t c request touch None x = tt
 taken_seek t c request touch (Some g) x = tt
-
--- what the call goes on to, whatever else changes
-at_phase : (c : ℕ) (new : Phase) (x v : World) → v ≡ to c new x → v.calls.phase c ≡ new
-at_phase c new x v h = ap (λ (v : World). v.calls.phase c) h ∙ put_same x.calls.phase c new
 
 -- ---- every plain step
 

@@ -1,35 +1,14 @@
 -- A call that no other call runs beside serves its request until it hands out the reply.
-use Rattle.std.proofs.Common.{◌≡◌, ◌≢◌, ℕ, zero, suc, ◌≤◌, ◌<◌, ◌+◌, ◌==◌, ◌^◌, Bool, true, false, cond, refl, sym}
-use Rattle.std.proofs.Common.{subst, ap, arith, inl, inr, Some, None, Option, ◌∙◌, List, length}
-use Rattle.std.specs.Prelude.{nat_lt, if◌then◌else◌}
-use Rattle.std.proofs.lemmas.Bool.Decides.{nat_tests}
-use Rattle.vm_base.specs.declared.page.PageRange.{PageRange}
-use Rattle.vm_base.specs.declared.replies.Reply.{Reply}
-use Rattle.vm_base.specs.declared.requests.Request.{Request}
-use Rattle.vm_base.specs.Plain.{Plain, nothing_mapped}
-use Rattle.vm_base.proofs.Functions.{eq_true, eq_false, put_all, put_same, put_other}
+use Rattle.machine_laws.proofs.Words.{◌≡◌, ◌≢◌, ℕ, zero, suc, ◌≤◌, ◌<◌, ◌+◌, ◌==◌, ◌^◌, Bool, true, false, cond, refl, sym, subst, ap, arith, inl, inr, Some}
+use Rattle.machine_laws.proofs.Words.{None, Option, ◌∙◌, List, length, nat_lt, if◌then◌else◌, nat_tests, PageRange, Reply, Request, Plain, nothing_mapped}
+use Rattle.machine_laws.proofs.Words.{eq_true, eq_false, put_all, put_same, put_other, Event, Call, Go, Outcome, Stepped, Idle, Wait, Answered, Full, Entry}
+use Rattle.machine_laws.proofs.Words.{Phase, Free, Check, Acks, Answer}
+use Rattle.machine_laws.proofs.Words.{CopyAcks, World, Made, Change, Goal, Touch, range_of, IsUser, awaits_in, holds, to, Awaits, Acts}
+use Rattle.machine_laws.proofs.Words.{Goes, after_call, with_event, event_limit, Step, StepsTo, nth, Replays, Stands, RepliesBy, page_copied, with_copy}
+use Rattle.machine_laws.proofs.Words.{Users, Same, is_placed, IsPlace, IsFirstPlace}
 use Rattle.machine_model.specs.declared.event.Blocker.TheVariants as WaitsFor
-use Rattle.machine_model.specs.declared.event.Event.{Event}
-use Rattle.machine_model.specs.declared.event.Event.TheVariants.{Call, Go}
-use Rattle.machine_model.specs.declared.event.Outcome.{Outcome}
-use Rattle.machine_model.specs.declared.event.Outcome.TheVariants.{Stepped, Idle, Wait, Answered, Full}
-use Rattle.vm_base.specs.declared.log.Entry.{Entry}
 use Rattle.vm_base.specs.declared.log.Entry.TheVariants as EntryOf
-use Rattle.machine_model.specs.declared.phase.Phase.{Phase}
-use Rattle.machine_model.specs.declared.phase.Phase.TheVariants.{Free, Check, Lock, Guess, Find, Back as Leaving, Cut, Decide, Post, Acks, Unlock, Answer}
-use Rattle.machine_model.specs.declared.phase.Phase.TheVariants.{Try, Settle, Want, Fill, CopyPost, CopyAcks, Install, Release}
-use Rattle.machine_model.specs.World.{World, Made}
-use Rattle.slot_lock.specs.declared.plan.Change.{Change}
-use Rattle.slot_lock.specs.declared.plan.Goal.{Goal}
 use Rattle.slot_lock.specs.declared.plan.Goal.TheVariants as To
-use Rattle.slot_lock.specs.declared.plan.Touch.{Touch}
-use Rattle.slot_lock.specs.Plan.{range_of}
-use Rattle.slot_lock.specs.Slots.{IsUser}
-use Rattle.machine_model.specs.Holding.{awaits_in, holds}
-use Rattle.machine_model.specs.Actions.{to}
-use Rattle.machine_model.specs.Changes.{Awaits}
-use Rattle.machine_model.specs.Step.{Acts, Goes, after_call, with_event, event_limit, Step, StepsTo}
-use Rattle.vm_base.specs.Log.{nth, Replays, Stands, FirstReplies}
 use Rattle.machine_laws.proofs.Effects.{Closed, Asked, Told, status, SameCalls, Effect, keeps, tells, detaches, opens, closes, effect_of}
 use Rattle.machine_laws.proofs.Numbered.{at_new}
 use Rattle.machine_laws.proofs.Shapes.{Rests, absent, busy, full, free as callless, cannot, waits, awaits, GoesBy, Works, clears, invalidates}
@@ -44,11 +23,8 @@ use Rattle.machine_sound.proofs.OneMap.{log_leads_to_one}
 use Rattle.machine_sound.proofs.Kept.{reached_fine, reached_step}
 use Rattle.machine_alone.specs.Alone.{IsCalm, IsNoted, IsServed, IsServedAlone, IsAwaiting, KeepsOthers}
 use Rattle.machine_sound.specs.Log.{LeadsTo}
-use Rattle.vm_base.specs.Copies.{page_copied, with_copy}
 use Rattle.machine_alone.specs.Users.{recorded}
-use Rattle.vm_base.specs.Users.{Users, Same}
 use Rattle.machine_alone.specs.Taken.{frames_for, frames_taken, taken_below}
-use Rattle.vm_base.specs.Requests.{is_placed}
 use Rattle.machine_alone.proofs.First.{IsFirstReply, copy_first, named_first}
 use Rattle.machine_alone.proofs.Seeking.{IsSeeking, Seeks, change_is_named, seeks_on, touch_is_named}
 use Rattle.machine_alone.proofs.Awaiting.{WillAnswer, change_answers, copy_answers, change_frames, copy_frames}
@@ -155,25 +131,7 @@ shape_at x c o v below (happens n shape) = shape
 
 closed_free : (phase : Phase) → status phase ≡ Closed → phase ≡ Free
 closed_free Free e = refl
-closed_free (Check request) e = absurd cc
-closed_free (Lock goal cursor) e = absurd cc
-closed_free (Guess place) e = absurd cc
-closed_free (Find place target) e = absurd cc
-closed_free (Leaving place target held) e = absurd cc
-closed_free (Cut place target range) e = absurd cc
-closed_free (Decide change) e = absurd cc
-closed_free (Post change shoot) e = absurd cc
-closed_free (Acks goal change) e = absurd cc
-closed_free (Unlock held reply) e = absurd cc
-closed_free (Answer reply) e = absurd cc
-closed_free (Try touch) e = absurd cc
-closed_free (Settle touch) e = absurd cc
-closed_free (Want touch old) e = absurd cc
-closed_free (CopyPost touch frame) e = absurd cc
-closed_free (CopyAcks touch frame) e = absurd cc
-closed_free (Fill touch frame) e = absurd cc
-closed_free (Install touch) e = absurd cc
-closed_free (Release touch) e = absurd cc
+closed_free _ e = absurd cc
 
 serves_on : (free : ℕ → Bool) (w : World) (t : Plain) (c : ℕ) (request : Request) (copy : Option ℕ) (x v : World) → IsServing free w t c request x
     → Step x (Go c) Stepped v → Effect (with_event x) (Go c) Stepped v → v.made ≡ x.made → IsSureOf free c v → IsStorableOf c v → IsStoreFor request copy
@@ -222,8 +180,7 @@ goes_of x c v s = go (nat_lt x.calls.events event_limit) (nat_lt c x.made.cores)
     go : (a b : Bool) → cond a (cond b (Acts (with_event x) (Go c) Stepped v) ((Stepped ≡ Idle) × (v ≡ with_event x))) ((Stepped ≡ Full) × (v ≡ x))
         → Goes (with_event x) c (x.calls.phase c) Stepped v
     go true true k = k
-    go true false k = absurd (let e = k.0 in cc)
-    go false b k = absurd (let e = k.0 in cc)
+    go _ _ k = absurd (let e = k.0 in cc)
 
 -- while the call has no reply, the map in which it goes on is that of its beginning, but for its copy
 goes_from : (free : ℕ → Bool) (w : World) (t : Plain) (c : ℕ) (request : Request) (x : World) (h : IsServing free w t c request x) (f : IsWellFormed x)
@@ -334,7 +291,7 @@ starts w t c request m reached leads calm s =
 the_reply : (free : ℕ → Bool) (w : World) (t : Plain) (c : ℕ) (request : Request) (x : World) (reply : Reply) (h : IsServing free w t c request x)
     (after : Plain)
     → Replays x.calls.requests (nothing_mapped x.made.file) x.calls.log after → IsNoted w.calls.log h.copy (x.calls.number c) c reply x.calls.log
-    → Stands (with_copy t h.copy) c request reply after
+    → Stands IsPlace (with_copy t h.copy) c request reply after
 the_reply free w t c request x reply h after led noted =
     let last = last_entry x.calls.requests noted.0 (nothing_mapped x.made.file) after (EntryOf.Answer noted.2.0 (x.calls.number c) c reply)
     (subst (λ log. Replays x.calls.requests (nothing_mapped x.made.file) log after) noted.2.1 led) in
@@ -342,13 +299,13 @@ the_reply free w t c request x reply h after led noted =
     from_log x.calls.requests w.calls.log noted.0 (nothing_mapped x.made.file) t last.0 (x.calls.number c) h.copy noted.1 h.first last.1 in
     let number : Some last.2.0 ≡ Some request = sym last.2.1 ∙ h.number in
     let same : last.2.0 ≡ request = cc in
-    subst (λ r. Stands (with_copy t h.copy) c r reply after) same
-    (subst (λ m. Stands m c last.2.0 reply after) (is_with_copy t h.copy last.0 from) last.2.2)
+    subst (λ r. Stands IsPlace (with_copy t h.copy) c r reply after) same
+    (subst (λ m. Stands IsPlace m c last.2.0 reply after) (is_with_copy t h.copy last.0 from) last.2.2)
 
 pub returned : (free : ℕ → Bool) (w : World) (t : Plain) (c : ℕ) (request : Request) (x v : World) (o : Outcome) (reply : Reply)
     → IsServing free w t c request x
     → Step x (Go c) o v → x.calls.phase c ≡ Answer reply → o ≡ Answered reply → v ≡ to c Free (with_event x)
-    → (IsDueReply free reply → (m u : Plain) → Stands m c request reply u → IsDueReply w.memory.is_free reply)
+    → (IsDueReply free reply → (m u : Plain) → Stands IsPlace m c request reply u → IsDueReply w.memory.is_free reply)
     → taken_below x.memory.is_free w.made.frames ≤ frames_taken w + frames_for request
     → IsServed w t c request o v
 returned free w t c request x v o reply h s at answered e due most =
@@ -369,7 +326,7 @@ returned free w t c request x v o reply h s at answered e due most =
       reached = reached;
       after = after.plain;
       leads = after.log;
-      stands = subst (λ o. Stands (with_copy t o) c request reply after.plain) (sym used.0) its;
+      stands = subst (λ o. Stands IsPlace (with_copy t o) c request reply after.plain) (sym used.0) its;
       noted = subst (λ (v : World). IsNoted w.calls.log (page_copied t request reply) (v.calls.number c) c reply v.calls.log) (sym e)
           (subst (λ o. IsNoted w.calls.log o (x.calls.number c) c reply x.calls.log) (sym used.0) noted);
       due = λ step call. due_now c step call;
@@ -542,7 +499,7 @@ seeking_along w t c request m h k (suc n) x s =
 
 -- its reply is the first
 first_reply : (w : World) (t : Plain) (c : ℕ) (request : Request) (o : Outcome) (x v : World) (reply : Reply)
-    (k : IsServed w t c request o v) → o ≡ Answered reply → x.calls.phase c ≡ Answer reply → IsSeeking t c request x → FirstReplies t c request k.reply k.after
+    (k : IsServed w t c request o v) → o ≡ Answered reply → x.calls.phase c ≡ Answer reply → IsSeeking t c request x → RepliesBy IsFirstPlace t c request k.reply k.after
 first_reply w t c request o x v reply k answered at seeking =
     let both : Answered k.reply ≡ Answered reply = sym k.answered ∙ answered in
     let same : reply ≡ k.reply = cc in

@@ -1,33 +1,12 @@
 -- Before its entry is installed, a page that is to be stored to doesn't show its file's page as a private one: a copy was made, if one was due.
-use Rattle.std.proofs.Common.{◌≡◌, ◌≢◌, ℕ, Bool, true, false, cond, refl, sym, ap, subst, Some, None, Option, ◌∙◌, ◌&&◌}
-use Rattle.std.specs.Prelude.{nat_le, if◌then◌else◌}
-use Rattle.vm_base.specs.declared.info.Back.{Back}
-use Rattle.vm_base.specs.declared.info.Back.TheVariants.{Anon, Shared, Private}
-use Rattle.vm_base.specs.declared.info.PageInfo.{PageInfo}
-use Rattle.vm_base.specs.declared.page.PageRange.{PageRange}
-use Rattle.vm_base.specs.declared.replies.Reply.{Reply}
-use Rattle.vm_base.specs.declared.rights.Access.{Access}
-use Rattle.vm_base.specs.Apply.{is_anonymous}
-use Rattle.vm_base.specs.Info.{frame_of, info_with_frame, info_with_copy}
-use Rattle.vm_base.specs.Rights.{is_allowed}
-use Rattle.vm_base.proofs.Functions.{put_same}
-use Rattle.slot_lock.specs.declared.plan.Touch.{Touch}
-use Rattle.vm_calls.specs.declared.fault.Settled.{Settled}
-use Rattle.vm_calls.specs.declared.fault.Settled.TheVariants.{MapErr, AccErr, Bus, Has, Copies, Cached, Wants}
-use Rattle.vm_calls.specs.Settling.{is_private_store, settled, source}
-use Rattle.slot_lock.specs.Plan.{goal_range}
-use Rattle.machine_model.specs.declared.event.Outcome.TheVariants.{Stepped}
-use Rattle.slot_lock.specs.declared.plan.Goal.{Goal}
+use Rattle.machine_laws.proofs.Words.{◌≡◌, ◌≢◌, ℕ, Bool, true, false, cond, refl, sym, ap, subst, Some, None, Option, ◌∙◌, nat_le, if◌then◌else◌, Back, Anon}
+use Rattle.machine_laws.proofs.Words.{Shared, Private, PageInfo, PageRange, Reply, Access, is_anonymous, frame_of, info_with_frame, info_with_copy}
+use Rattle.machine_laws.proofs.Words.{is_allowed, put_same, Touch, Settled, AccErr, Has, Copies, is_private_store, settled, source, goal_range}
+use Rattle.machine_laws.proofs.Words.{Stepped, Goal, Phase, Lock, Acks, Unlock, CopyAcks, Install, after_finding, found_at, is_past_end, taken_for, to}
+use Rattle.machine_laws.proofs.Words.{let_go, back_of, file_frame, shows_some, taken_in, all_locked, held_after, locked_to, World, Goes}
+use Rattle.std.proofs.Common.{◌&&◌}
+use Rattle.vm_calls.specs.declared.fault.Settled.TheVariants.{Bus}
 use Rattle.slot_lock.specs.declared.plan.Goal.TheVariants as To
-use Rattle.machine_model.specs.declared.phase.Phase.{Phase}
-use Rattle.machine_model.specs.declared.phase.Phase.TheVariants.{Lock, Acks, Unlock, CopyAcks, Install}
-use Rattle.machine_model.specs.Accesses.{after_finding, found_at, is_past_end, taken_for}
-use Rattle.machine_model.specs.Actions.{to, let_go}
-use Rattle.machine_model.specs.Files.{back_of, file_frame, shows_some}
-use Rattle.machine_model.specs.Holding.{taken_in}
-use Rattle.machine_model.specs.Locks.{all_locked, held_after, locked_to}
-use Rattle.machine_model.specs.World.{World}
-use Rattle.machine_model.specs.Step.{Goes}
 use Rattle.machine_laws.proofs.Shapes.{Moves, locks, tries, hints, seeks, guesses, turns, chooses, acts, finds, lacks, shows, LetsGo, unlocks}
 use Rattle.machine_laws.proofs.Shapes.{returns, releases, GoesBy, moves, divides, cuts, fits, owns, lets_go, answers, posts, commits, takes, zeroes}
 use Rattle.machine_laws.proofs.Shapes.{first_copies, caches, shares, posts_copy, copies, installs, accesses, faults}
@@ -80,13 +59,8 @@ went c new old x v h e = sym (put_same x.calls.phase c new) ∙ (sym (ap (λ (v 
 -- a page that can be installed at once has its frame
 found_has : (w : World) (c : ℕ) (touch : Touch) (s : Settled) (v : World) → v ≡ after_finding c touch s w → v.calls.phase c ≡ Install touch
     → (f : ℕ) × (s ≡ Has f)
-found_has w c touch MapErr v h e = absurd (let k = went c _ (Install touch) _ v h e in cc)
-found_has w c touch AccErr v h e = absurd (let k = went c _ (Install touch) _ v h e in cc)
-found_has w c touch Bus v h e = absurd (let k = went c _ (Install touch) _ v h e in cc)
 found_has w c touch (Has f) v h e = (f, refl)
-found_has w c touch (Copies f) v h e = absurd (let k = went c _ (Install touch) _ v h e in cc)
-found_has w c touch (Cached f) v h e = absurd (let k = went c _ (Install touch) _ v h e in cc)
-found_has w c touch Wants v h e = absurd (let k = went c _ (Install touch) _ v h e in cc)
+found_has w c touch _ v h e = absurd (let k = went c _ (Install touch) _ v h e in cc)
 
 -- ---- a page with a new frame
 

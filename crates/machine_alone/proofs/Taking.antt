@@ -1,29 +1,15 @@
 -- How many frames are taken after a step: an access takes one, and nothing else takes any.
-use Rattle.std.proofs.Common.{◌≡◌, ℕ, zero, suc, ◌+◌, ◌≤◌, ◌<◌, ◌==◌, ◌⊎◌, Bool, true, false, cond, inl, inr}
-use Rattle.std.proofs.Common.{refl, sym, ap, subst, arith, Some, None, Option, ◌∙◌}
-use Rattle.std.proofs.Math.Path.{fun_ext}
-use Rattle.std.specs.Prelude.{if◌then◌else◌}
-use Rattle.std.proofs.lemmas.Bool.Decides.{nat_tests}
-use Rattle.vm_base.specs.declared.requests.Request.{Request}
-use Rattle.vm_base.specs.declared.requests.Request.TheVariants.{Mmap, Munmap, Mprotect, Load, Store, Fetch}
-use Rattle.vm_base.specs.Functions.{put}
-use Rattle.vm_base.specs.Plain.{Plain}
+use Rattle.machine_laws.proofs.Words.{◌≡◌, ℕ, zero, suc, ◌+◌, ◌≤◌, ◌<◌, ◌==◌, ◌⊎◌, Bool, true, false, cond, inl, inr, refl, sym, ap, subst, arith, Some, None}
+use Rattle.machine_laws.proofs.Words.{Option, ◌∙◌, fun_ext, if◌then◌else◌, nat_tests, Request, Load, Store, Fetch, put, Plain, Stands}
+use Rattle.machine_laws.proofs.Words.{nth, eq_true, eq_false, put_all, put_other, Touch, Want, Fill, NoneFree, given_back, World, is_access, IsPlace}
 use Rattle.vm_base.specs.declared.replies.Reply.TheVariants as ReplyOf
-use Rattle.vm_base.specs.Log.{Stands, nth}
-use Rattle.vm_base.proofs.Functions.{eq_true, eq_false, put_all, put_other}
 use Rattle.slot_lock.specs.declared.plan.Plan.TheVariants as PlanOf
-use Rattle.slot_lock.specs.declared.plan.Touch.{Touch}
-use Rattle.machine_model.specs.declared.phase.Phase.TheVariants.{Want, Fill}
-use Rattle.machine_model.specs.Accesses.{NoneFree}
-use Rattle.machine_model.specs.GivingUp.{given_back}
-use Rattle.machine_model.specs.World.{World}
 use Rattle.machine_laws.specs.Orderly.{Serves}
 use Rattle.machine_laws.proofs.Moves.{IsCallOf, call_at}
 use Rattle.machine_laws.proofs.Shapes.{GoesBy, moves, divides, cuts, fits, owns, lets_go, answers, posts, commits, takes, zeroes}
 use Rattle.machine_laws.proofs.Shapes.{first_copies, caches, shares, posts_copy, copies, installs, accesses, faults}
 use Rattle.machine_sound.specs.Invariant.{IsWellFormed}
 use Rattle.machine_alone.specs.Taken.{one_if_taken, taken_below, frames_for}
-use Rattle.vm_base.specs.Requests.{is_access}
 use Rattle.machine_alone.proofs.Rows.{HasTaken, IsSureOf, sure_at}
 use Rattle.machine_alone.proofs.Using.{IsTouchOf, loads, stores, fetches}
 use Rattle.machine_alone.proofs.Used.{its_touch}
@@ -179,10 +165,8 @@ taken_on first c request w v f number sure k (accesses touch x e i h) = free_sam
 taken_on first c request w v f number sure k (faults touch e i h) = free_same first request v _ (ap (λ (v : World). v.memory.is_free) h) k
 
 -- an access alone may be answered "no frame"
-pub no_frame_access : (t u : Plain) (core : ℕ) (request : Request) → Stands t core request ReplyOf.NoFrame u → is_access request ≡ true
-no_frame_access t u core (Mmap addr len prot flags file off) h = absurd h.0
-no_frame_access t u core (Munmap addr len) h = absurd h.0
-no_frame_access t u core (Mprotect addr len prot) h = absurd h.0
+pub no_frame_access : (t u : Plain) (core : ℕ) (request : Request) → Stands IsPlace t core request ReplyOf.NoFrame u → is_access request ≡ true
 no_frame_access t u core (Load addr) h = refl
 no_frame_access t u core (Store addr byte) h = refl
 no_frame_access t u core (Fetch addr) h = refl
+no_frame_access t u core _ h = absurd h.0

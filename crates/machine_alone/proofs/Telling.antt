@@ -1,48 +1,22 @@
 -- Which cores a lone call waits for: the others that are recorded on the pages that it changes or copies
-use Rattle.std.proofs.Common.{◌≡◌, ◌≢◌, ℕ, ◌<◌, Bool, true, false, refl, sym, ap, subst, arith, Some, None, Option, List, [], ◌∷◌, ◌++◌, ◌∙◌}
-use Rattle.std.specs.Prelude.{◌↔◌, ◌==◌, is_some, if◌then◌else◌}
-use Rattle.std.proofs.lemmas.Bool.Decides.{nat_tests}
-use Rattle.vm_base.specs.declared.info.PageInfo.{PageInfo}
-use Rattle.vm_base.specs.declared.page.PageRange.{PageRange}
-use Rattle.vm_base.specs.declared.replies.Reply.{Reply}
-use Rattle.vm_base.specs.Cores.{members}
-use Rattle.vm_base.specs.Info.{is_recorded, recorded_cores}
-use Rattle.vm_base.proofs.CoreSets.{members-empty}
-use Rattle.vm_base.specs.Functions.{put}
-use Rattle.vm_base.proofs.Functions.{has_in, put_all, put_same, put_other, eq_true, eq_false}
-use Rattle.slot_lock.specs.declared.plan.Change.{Change}
-use Rattle.slot_lock.specs.declared.plan.Change.TheVariants.{Put}
-use Rattle.slot_lock.specs.declared.plan.Place.{Place}
-use Rattle.slot_lock.specs.declared.plan.Target.{Target}
-use Rattle.slot_lock.specs.declared.plan.Touch.{Touch}
-use Rattle.slot_lock.specs.Plan.{range_of, goal_range}
-use Rattle.slot_lock.specs.Slots.{Slots, IsUser}
-use Rattle.vm_calls.specs.Decisions.{entry_of}
-use Rattle.shootdown.specs.declared.message.Message.{Message}
-use Rattle.shootdown.specs.Inboxes.{awaited}
-use Rattle.shootdown.specs.Messages.{message_of, posted}
-use Rattle.machine_model.specs.declared.phase.Phase.{Phase}
-use Rattle.machine_model.specs.declared.phase.Phase.TheVariants.{Free, Check, Lock, Guess, Find, Back as Leaving, Cut, Decide, Post, Acks, Unlock, Answer}
-use Rattle.machine_model.specs.declared.phase.Phase.TheVariants.{Try, Settle, Want, Fill, CopyPost, CopyAcks, Install, Release}
-use Rattle.slot_lock.specs.declared.plan.Goal.{Goal}
+use Rattle.machine_laws.proofs.Words.{◌≡◌, ◌≢◌, ℕ, ◌<◌, Bool, true, false, refl, sym, ap, subst, arith, Some, None, Option, List, [], ◌∷◌, ◌++◌, ◌∙◌, ◌↔◌}
+use Rattle.machine_laws.proofs.Words.{is_some, if◌then◌else◌, nat_tests, PageInfo, PageRange, Reply, members, is_recorded, members-empty, put, has_in}
+use Rattle.machine_laws.proofs.Words.{put_all, put_same, put_other, eq_true, eq_false, Change, Put, Place, Target, Touch, range_of, goal_range, Slots, IsUser}
+use Rattle.machine_laws.proofs.Words.{entry_of, Message, awaited, message_of, posted, Phase, Free, Cut, Post, Acks}
+use Rattle.machine_laws.proofs.Words.{CopyAcks, Install, Release, Goal, taken_for, after_frame, after_install}
+use Rattle.machine_laws.proofs.Words.{reply_of, memory_after, to, let_go, after_reply, with_entry, detach_entry, after_zeros, after_first_copy, after_caching}
+use Rattle.machine_laws.proofs.Words.{after_sharing, after_copy, slots_after, reply_to, with_counts, awaits_in, page_of_touch, locking, locked_to, after_cuts}
+use Rattle.machine_laws.proofs.Words.{inboxes_after, after_shot, after_translating, with_hardware, World, Hardware}
+use Rattle.std.specs.Prelude.{◌==◌}
+use Rattle.vm_base.specs.Info.{recorded_cores}
 use Rattle.slot_lock.specs.declared.plan.Goal.TheVariants as To
-use Rattle.machine_model.specs.Accesses.{taken_for, after_frame, after_install, reply_of, memory_after}
-use Rattle.machine_model.specs.Actions.{to, let_go, after_reply, with_entry, detach_entry}
-use Rattle.machine_model.specs.Filling.{after_zeros, after_first_copy, after_caching, after_sharing, after_copy}
-use Rattle.machine_model.specs.Changes.{slots_after, reply_to}
-use Rattle.machine_model.specs.Counting.{with_counts}
-use Rattle.machine_model.specs.Holding.{awaits_in, page_of_touch}
-use Rattle.machine_model.specs.Locks.{locking, locked_to}
-use Rattle.machine_model.specs.Placing.{after_cuts}
 use Rattle.machine_laws.proofs.Deciding.{place_free}
-use Rattle.machine_model.specs.Translating.{inboxes_after, after_shot, after_translating, with_hardware}
-use Rattle.machine_model.specs.World.{World, Hardware}
 use Rattle.machine_laws.proofs.Moves.{IsCallOf, call_at, page_is}
 use Rattle.machine_laws.proofs.Shapes.{GoesBy, moves, divides, cuts, fits, owns, lets_go, answers, posts, commits, takes, zeroes}
 use Rattle.machine_laws.proofs.Shapes.{first_copies, caches, shares, posts_copy, copies, installs, accesses, faults}
 use Rattle.machine_laws.proofs.Effects.{moves_quiet, locked_quiet, let_go_still, lets_go_still, taken_asked}
-use Rattle.machine_coherence.specs.Coherent.{AreAsked}
-use Rattle.machine_coherence.proofs.Steps.{users}
+use Rattle.machine_invariants.specs.Coherent.{AreAsked}
+use Rattle.machine_invariants.proofs.CoherenceSteps.{users}
 use Rattle.machine_sound.specs.Invariant.{IsWellFormed}
 use Rattle.machine_alone.specs.Alone.{takes_left}
 
@@ -66,24 +40,7 @@ pub data Waits (phase : Phase) (range : PageRange) : Type 0 where
 pub waits_at : (phase : Phase) (range : PageRange) → awaits_in phase ≡ Some range → Waits phase range
 waits_at (Acks goal change) range e = for_change goal change refl cc
 waits_at (CopyAcks touch frame) range e = for_copy touch frame refl cc
-waits_at Free range e = absurd cc
-waits_at (Check request) range e = absurd cc
-waits_at (Lock goal cursor) range e = absurd cc
-waits_at (Guess place) range e = absurd cc
-waits_at (Find place target) range e = absurd cc
-waits_at (Leaving place target held) range e = absurd cc
-waits_at (Cut place target chosen) range e = absurd cc
-waits_at (Decide change) range e = absurd cc
-waits_at (Post change shoot) range e = absurd cc
-waits_at (Unlock held reply) range e = absurd cc
-waits_at (Answer reply) range e = absurd cc
-waits_at (Try touch) range e = absurd cc
-waits_at (Settle touch) range e = absurd cc
-waits_at (Want touch old) range e = absurd cc
-waits_at (Fill touch frame) range e = absurd cc
-waits_at (CopyPost touch frame) range e = absurd cc
-waits_at (Install touch) range e = absurd cc
-waits_at (Release touch) range e = absurd cc
+waits_at _ range e = absurd cc
 
 -- ---- messages
 

@@ -1,45 +1,22 @@
 -- Who uses the pages after each step of a call that runs alone: as before, until the call's answer changes it
-use Rattle.std.proofs.Common.{◌≡◌, ◌≢◌, ℕ, ◌⊎◌, Bool, true, false, cond, inl, inr, refl, sym, ap, subst, Some, None, Option, ◌∙◌}
-use Rattle.std.specs.Prelude.{◌&&◌, is_some, nat_le}
-use Rattle.vm_base.specs.declared.info.PageInfo.{PageInfo}
-use Rattle.vm_base.specs.declared.page.PageRange.{PageRange}
-use Rattle.vm_base.specs.declared.replies.Reply.{Reply}
-use Rattle.vm_base.specs.declared.requests.Request.{Request}
-use Rattle.vm_base.specs.declared.rights.Access.{Access}
+use Rattle.machine_laws.proofs.Words.{◌≡◌, ◌≢◌, ℕ, ◌⊎◌, Bool, true, false, cond, inl, inr, refl, sym, ap, subst, Some, None, Option, ◌∙◌, ◌&&◌, is_some}
+use Rattle.machine_laws.proofs.Words.{nat_le, PageInfo, PageRange, Reply, Request, Access, detached, is_uncopied, has, put, frame_of, info_with_frame}
+use Rattle.machine_laws.proofs.Words.{is_recorded, info_with_copy, File, Plain, mode_of, put_all, put_both, put_same, Translation, translated, tlb_at, Change}
+use Rattle.machine_laws.proofs.Words.{Put, Touch, range_of, goal_range, Slots, with_info, Settled, AccErr, Goal, Phase, Check}
+use Rattle.machine_laws.proofs.Words.{Lock, Guess, Find, Cut, Decide, Post, Acks, Unlock, Answer, Try, Settle, Want, Fill, CopyPost, CopyAcks, Install}
+use Rattle.machine_laws.proofs.Words.{Release, found_at, taken_for, after_frame, after_install, reply_of, memory_after, to, let_go, after_reply, with_entry}
+use Rattle.machine_laws.proofs.Words.{detach_entry, back_of, is_private, shows_file, after_zeros, after_first_copy, after_caching, after_sharing}
+use Rattle.machine_laws.proofs.Words.{after_copy_post, after_copy, AwaitsNobody, slots_after, after_post, reply_to, with_counts, page_of_touch, locking}
+use Rattle.machine_laws.proofs.Words.{all_locked, locked_to, held_after, frame_reached, translated_by, after_translating, with_hardware, World, Hardware, nth}
+use Rattle.machine_laws.proofs.Words.{page_copied, Users, Same, users_after, with_user, without}
 use Rattle.vm_base.specs.declared.rights.Access.TheVariants.{Store}
-use Rattle.vm_base.specs.Apply.{copied, detached, detached_entry, is_uncopied}
-use Rattle.vm_base.specs.Functions.{has, put}
-use Rattle.vm_base.specs.Info.{frame_of, info_with_frame, is_recorded, info_with_copy}
-use Rattle.vm_base.specs.Plain.{File, Plain, bytes_of, mode_of}
-use Rattle.vm_base.proofs.Functions.{put_all, put_both, put_same}
-use Rattle.mmu.specs.declared.entry.Translation.{Translation}
-use Rattle.mmu.specs.Tables.{translated}
-use Rattle.mmu.specs.Tlb.{tlb_at}
-use Rattle.slot_lock.specs.declared.plan.Change.{Change}
-use Rattle.slot_lock.specs.declared.plan.Change.TheVariants.{Put}
+use Rattle.vm_base.specs.Apply.{copied, detached_entry}
+use Rattle.vm_base.specs.Plain.{bytes_of}
 use Rattle.slot_lock.specs.declared.plan.Plan.TheVariants as PlanOf
-use Rattle.slot_lock.specs.declared.plan.Touch.{Touch}
-use Rattle.slot_lock.specs.Plan.{range_of, goal_range}
-use Rattle.slot_lock.specs.Slots.{Slots, with_info}
-use Rattle.vm_calls.specs.declared.fault.Settled.{Settled}
-use Rattle.vm_calls.specs.declared.fault.Settled.TheVariants.{MapErr, AccErr, Bus, Has, Copies, Cached, Wants}
-use Rattle.slot_lock.specs.declared.plan.Goal.{Goal}
+use Rattle.vm_calls.specs.declared.fault.Settled.TheVariants.{MapErr, Bus}
 use Rattle.slot_lock.specs.declared.plan.Goal.TheVariants as To
-use Rattle.machine_model.specs.declared.phase.Phase.{Phase}
-use Rattle.machine_model.specs.declared.phase.Phase.TheVariants.{Check, Lock, Guess, Find, Back as Leaving, Cut, Decide, Post, Acks, Unlock, Answer}
-use Rattle.machine_model.specs.declared.phase.Phase.TheVariants.{Try, Settle, Want, Fill, CopyPost, CopyAcks, Install, Release}
-use Rattle.machine_model.specs.Accesses.{found_at, taken_for, after_frame, after_install, reply_of, memory_after}
-use Rattle.machine_model.specs.Actions.{to, let_go, after_reply, with_entry, detach_entry}
-use Rattle.machine_model.specs.Files.{back_of, is_private, shows_file}
-use Rattle.machine_model.specs.Filling.{after_zeros, after_first_copy, after_caching, after_sharing, after_copy_post, after_copy}
-use Rattle.machine_model.specs.Changes.{AwaitsNobody, slots_after, after_post, reply_to}
-use Rattle.machine_model.specs.Counting.{with_counts}
-use Rattle.machine_model.specs.Holding.{page_of_touch}
-use Rattle.machine_model.specs.Locks.{locking, all_locked, locked_to, held_after}
-use Rattle.machine_model.specs.Translating.{frame_reached, translated_by, after_translating, with_hardware}
-use Rattle.machine_model.specs.World.{World, Hardware}
-use Rattle.machine_coherence.specs.Coherent.{IsCoherent, IsSoundEntry}
-use Rattle.vm_base.specs.Log.{nth}
+use Rattle.machine_model.specs.declared.phase.Phase.TheVariants.{Back as Leaving}
+use Rattle.machine_invariants.specs.Coherent.{IsCoherent, IsSoundEntry}
 use Rattle.machine_laws.specs.Orderly.{IsUsable, Serves}
 use Rattle.machine_laws.proofs.Going.{call_sound, has_core}
 use Rattle.machine_laws.proofs.Moves.{IsCallOf, call_at}
@@ -52,9 +29,8 @@ use Rattle.machine_sound.specs.Invariant.{IsWellFormed}
 use Rattle.machine_sound.proofs.Fills.{private_only}
 use Rattle.machine_sound.proofs.Pages.{IsFramed, framed, is_copied}
 use Rattle.machine_sound.proofs.Reaching.{ReachesFrame, at_page, reaches}
-use Rattle.vm_base.specs.Copies.{page_copied}
 use Rattle.machine_alone.specs.Users.{recorded}
-use Rattle.vm_base.specs.Users.{Users, Same, users_after, users_left, with_user, without}
+use Rattle.vm_base.specs.Users.{users_left}
 use Rattle.machine_alone.proofs.Aiming.{goal_drops}
 use Rattle.machine_alone.proofs.Framed.{AreFramed}
 use Rattle.machine_alone.proofs.Rank.{back_all, reach_of, hits}
@@ -192,10 +168,7 @@ fault_keeps : (t : Plain) (c : ℕ) (request : Request) (s : Settled) (reply : R
 fault_keeps t c request MapErr reply h = subst (Keeps t c request) (sym h) (refl, λ u p d. refl)
 fault_keeps t c request AccErr reply h = subst (Keeps t c request) (sym h) (refl, λ u p d. refl)
 fault_keeps t c request Bus reply h = subst (Keeps t c request) (sym h) (refl, λ u p d. refl)
-fault_keeps t c request (Has f) reply h = absurd h
-fault_keeps t c request (Copies f) reply h = absurd h
-fault_keeps t c request (Cached f) reply h = absurd h
-fault_keeps t c request Wants reply h = absurd h
+fault_keeps t c request _ reply h = absurd h
 
 pub same_request : (w : World) (c : ℕ) (r request : Request) → nth w.calls.requests (w.calls.number c) ≡ Some r
     → nth w.calls.requests (w.calls.number c) ≡ Some request
@@ -256,29 +229,13 @@ its_touch w c touch request number z =
 -- the page that has got a copy is that of the store
 pub asks_on : (request : Request) (copy : Option ℕ) (w : World) (c : ℕ) (v : World) → IsWellFormed w → nth w.calls.requests (w.calls.number c) ≡ Some request
     → IsStoreFor request copy → (g : GoesBy w c v) → IsStoreFor request (copy_after g copy)
-asks_on request copy w c v f number a (moves new m h) = a
-asks_on request copy w c v f number a (divides goal cursor t e s h) = a
-asks_on request copy w c v f number a (cuts place target range t e s h) = a
-asks_on request copy w c v f number a (fits place target range e i h) = a
-asks_on request copy w c v f number a (owns goal cursor b t e l h) = a
-asks_on request copy w c v f number a (lets_go held b t new l u h) = a
-asks_on request copy w c v f number a (answers held reply r h) = a
-asks_on request copy w c v f number a (posts change shoot e h) = a
-asks_on request copy w c v f number a (commits goal change counts e n l h) = a
-asks_on request copy w c v f number a (takes touch old x e l h) = a
-asks_on request copy w c v f number a (zeroes touch x counts e b t h) = a
 asks_on request copy w c v f number a (first_copies touch x counts e b t h) =
     let k : IsCallOf w c (Fill touch (Some x)) = call_at w c (Fill touch (Some x)) e f.order in
     store_asked request touch (its_touch w c touch request number k.asked) (private_only (back_of (w.slots.info touch.page)) touch.access b).0
-asks_on request copy w c v f number a (caches touch x counts e s n t h) = a
-asks_on request copy w c v f number a (shares touch own x counts e s n t h) = a
-asks_on request copy w c v f number a (posts_copy touch x e h) = a
 asks_on request copy w c v f number a (copies touch x g counts e n j t h) =
     let k : IsCallOf w c (CopyAcks touch x) = call_at w c (CopyAcks touch x) e f.order in
     store_asked request touch (its_touch w c touch request number k.asked) (private_only (back_of (w.slots.info touch.page)) touch.access k.ready.2.store).0
-asks_on request copy w c v f number a (installs touch e h) = a
-asks_on request copy w c v f number a (accesses touch x e i h) = a
-asks_on request copy w c v f number a (faults touch e i h) = a
+asks_on request copy w c v f number a _ = a
 
 -- ---- an access
 

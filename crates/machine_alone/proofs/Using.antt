@@ -1,46 +1,26 @@
 -- Who uses the pages while one call runs alone
-use Rattle.std.proofs.Common.{◌≡◌, ℕ, ◌/◌, ◌%◌, ◌*◌, ◌+◌, ◌-◌, ◌^◌, ◌==◌, Bool, true, false, cond, not, ◌&&◌, ◌||◌, refl}
-use Rattle.std.proofs.Common.{sym, ap, subst, arith, Some, None, Option, Result, Ok, Err, ◌∙◌}
-use Rattle.std.specs.Prelude.{if◌then◌else◌, is_some, nat_lt, ◌≢◌}
-use Rattle.std.proofs.lemmas.Bool.Decides.{nat_tests}
-use Rattle.vm_base.specs.declared.info.PageInfo.{PageInfo}
-use Rattle.vm_base.specs.declared.replies.Errno.{Errno}
-use Rattle.vm_base.specs.declared.replies.Errno.TheVariants.{EINVAL, ENOMEM, EACCES, EBADF, EOVERFLOW}
-use Rattle.vm_base.specs.declared.requests.Flags.{Flags}
-use Rattle.vm_base.specs.declared.replies.Reply.{Reply}
+use Rattle.machine_laws.proofs.Words.{◌≡◌, ℕ, ◌/◌, ◌%◌, ◌*◌, ◌+◌, ◌-◌, ◌^◌, ◌==◌, Bool, true, false, cond, not, refl, sym, ap, subst, arith, Some, None}
+use Rattle.machine_laws.proofs.Words.{Option, Result, Ok, Err, ◌∙◌, if◌then◌else◌, is_some, nat_lt, nat_tests, PageInfo, Errno, EINVAL, ENOMEM, EACCES, EBADF}
+use Rattle.machine_laws.proofs.Words.{EOVERFLOW, Flags, Reply, Request, Mmap, Munmap, Mprotect, Load, Store, Fetch, Access, Mode, Prot, byte_reply, detached}
+use Rattle.machine_laws.proofs.Words.{meta_of, Plain, has, put, advance, is_recorded, info_with_frame, info_with_prot, unused, are_pages, is_page, page_of}
+use Rattle.machine_laws.proofs.Words.{pages_from, pages_of, refusal, members-empty, eq_true, has_in, in_has, put_all, put_both, Change, Put, Clear, Protect}
+use Rattle.machine_laws.proofs.Words.{Plan, Touch, range_of, Slots, with_info, checked, place_of, plan_of, unless_refused, touched, touch_of, passed}
+use Rattle.machine_laws.proofs.Words.{info_with_core, info_with_copy, reply_to, slots_after, page_copied, Users, Same, users_after, with_user, without}
+use Rattle.std.proofs.Common.{◌&&◌, ◌||◌}
+use Rattle.std.specs.Prelude.{◌≢◌}
 use Rattle.vm_base.specs.declared.replies.Reply.TheVariants as ReplyOf
 use Rattle.vm_base.specs.declared.replies.SegvCode.TheVariants as SegvOf
-use Rattle.vm_base.specs.declared.requests.Request.{Request}
-use Rattle.vm_base.specs.declared.requests.Request.TheVariants.{Mmap, Munmap, Mprotect, Load, Store, Fetch}
-use Rattle.vm_base.specs.declared.rights.Access.{Access}
 use Rattle.vm_base.specs.declared.rights.Access.TheVariants as By
-use Rattle.vm_base.specs.declared.rights.Mode.{Mode}
-use Rattle.vm_base.specs.declared.rights.Prot.{Prot}
-use Rattle.vm_base.specs.Apply.{byte_reply, detached, meta_of}
-use Rattle.vm_base.specs.Plain.{Plain}
 use Rattle.vm_base.specs.Rights.{can_read, can_write}
-use Rattle.vm_base.specs.Functions.{has, put}
-use Rattle.vm_base.specs.Info.{advance, is_recorded, info_with_frame, info_with_prot, unused}
-use Rattle.vm_base.specs.Pages.{are_pages, is_aligned, is_page, page_of, pages_from, pages_of}
-use Rattle.vm_base.specs.Refusals.{answer, refusal, is_one_kind, mmap_refusal, file_refusal}
-use Rattle.vm_base.proofs.CoreSets.{members-empty}
-use Rattle.vm_base.proofs.Functions.{eq_true, has_in, in_has, put_all, put_both}
-use Rattle.slot_lock.specs.declared.plan.Change.{Change}
-use Rattle.slot_lock.specs.declared.plan.Change.TheVariants.{Put, Clear, Protect}
-use Rattle.slot_lock.specs.declared.plan.Plan.{Plan}
+use Rattle.vm_base.specs.Pages.{is_aligned}
+use Rattle.vm_base.specs.Refusals.{answer, is_one_kind, mmap_refusal, file_refusal}
 use Rattle.slot_lock.specs.declared.plan.Plan.TheVariants as PlanOf
-use Rattle.slot_lock.specs.declared.plan.Touch.{Touch}
-use Rattle.slot_lock.specs.Plan.{range_of}
-use Rattle.slot_lock.specs.Slots.{Slots, with_info}
-use Rattle.vm_calls.specs.Checks.{checked, place_of, plan_of, unless_refused, touched, touch_of}
-use Rattle.vm_calls.proofs.Passed.{passed, touch-of}
-use Rattle.vm_base.specs.Info.{info_with_core, info_with_copy}
-use Rattle.machine_model.specs.Changes.{reply_to, slots_after}
+use Rattle.vm_calls.proofs.Passed.{touch-of}
 use Rattle.machine_laws.proofs.Owned.{members_with}
 use Rattle.machine_laws.specs.Brackets.{IsStoreTo}
-use Rattle.vm_base.specs.Copies.{if_copied, page_copied}
+use Rattle.vm_base.specs.Copies.{if_copied}
 use Rattle.machine_alone.specs.Users.{recorded}
-use Rattle.vm_base.specs.Users.{Users, Same, users_after, users_left, with_user, without}
+use Rattle.vm_base.specs.Users.{users_left}
 
 -- ---- a reply that refuses changes no user
 
@@ -122,11 +102,10 @@ plan_keeps t core (Mmap addr len prot flags file off) reply e = go flags.fixed _
     go : (b : Bool) (x y : Plan) → either_plan b x y ≡ Err reply → Keeps t core (Mmap addr len prot flags file off) reply
     go true x y e = absurd cc
     go false x y e = absurd cc
-plan_keeps t core (Munmap addr len) reply e = absurd cc
-plan_keeps t core (Mprotect addr len prot) reply e = absurd cc
 plan_keeps t core (Load addr) reply e = segv_keeps t core (Load addr) addr 0 By.Load reply e
 plan_keeps t core (Store addr byte) reply e = segv_keeps t core (Store addr byte) addr byte By.Store reply e
 plan_keeps t core (Fetch addr) reply e = segv_keeps t core (Fetch addr) addr 0 By.Fetch reply e
+plan_keeps t core _ reply e = absurd cc
 
 -- a request that its arguments refuse
 pub refused_keeps : (modes : ℕ → Option Mode) (t : Plain) (core : ℕ) (request : Request) (reply : Reply) → checked modes core request ≡ Err reply
@@ -162,8 +141,7 @@ fixed_aligned modes addr len prot flags file off is h =
 
     both : (x y : Bool) → x ≡ true → (x && not y) ≡ false → y ≡ true
     both true true e n = refl
-    both true false e n = absurd cc
-    both false y e n = absurd cc
+    both _ _ e n = absurd cc
 
 pub no_change : (core : ℕ) (request : Request) (addr byte : ℕ) (access : Access) (change : Change) → touched addr access byte ≡ Ok (PlanOf.Change change) → ⊥
 no_change core request addr byte access change = go (is_page (page_of addr))
@@ -225,11 +203,10 @@ touch_asked modes core request touch e = go request (passed (refusal modes reque
 
     go : (r : Request) → plan_of core r ≡ Ok (PlanOf.Touch touch) → IsTouchOf r touch
     go (Mmap addr len prot flags file off) e = absurd (no_touch flags.fixed _ _ e (λ i. cc) (λ i. cc))
-    go (Munmap addr len) e = absurd cc
-    go (Mprotect addr len prot) e = absurd cc
     go (Load addr) e = loads addr refl (its addr 0 By.Load e)
     go (Store addr byte) e = stores addr byte refl (its addr byte By.Store e)
     go (Fetch addr) e = fetches addr refl (its addr 0 By.Fetch e)
+    go _ e = absurd cc
 
 pub as_asked : (P : Request → Touch → Type 0) (request r : Request) (touch x : Touch) → request ≡ r → touch ≡ x → P r x → P request touch
 as_asked P request r touch x e i h = subst (λ q. P q touch) (sym e) (subst (P r) (sym i) h)

@@ -9,9 +9,9 @@ use Rattle.vm_base.specs.Cores.{members}
 use Rattle.vm_base.specs.Functions.{put}
 use Rattle.slot_lock.specs.Slots.{IsUser}
 use Rattle.shootdown.specs.declared.message.Message.{Message}
-use Rattle.vm_base.specs.Log.{nth, FirstReplies, Stands}
+use Rattle.vm_base.specs.Log.{nth, RepliesBy}
 use Rattle.machine_model.specs.Holding.{awaits_in, can_give_up}
-use Rattle.vm_base.specs.Copies.{page_copied, with_copy}
+use Rattle.vm_base.specs.Copies.{page_copied}
 use Rattle.vm_base.specs.Requests.{is_placed, is_access}
 use Rattle.machine_alone.specs.Taken.{frames_for, frames_taken}
 use Rattle.machine_alone.specs.Users.{recorded}
@@ -30,6 +30,7 @@ use Rattle.machine_model.specs.World.{World}
 use Rattle.machine_model.specs.Step.{Step, StepsTo, with_event, event_limit}
 use Rattle.machine_sound.specs.Log.{LeadsTo}
 use Rattle.machine_sound.specs.Sound.{IsDue, IsReached}
+use Rattle.vm_base.specs.Places.{IsPlace, IsFirstPlace}
 
 -- no core has a call
 abbrev pub IsCalm : World → Type 0
@@ -80,7 +81,7 @@ pub record IsServed (w : World) (t : Plain) (core : ℕ) (request : Request) (ou
   pub reached : IsReached v
   pub after : Plain
   pub leads : LeadsTo v after
-  pub stands : Stands (with_copy t (page_copied t request reply)) core request reply after
+  pub stands : RepliesBy IsPlace t core request reply after
   pub noted : IsNoted w.calls.log (page_copied t request reply) (v.calls.number core) core reply
       v.calls.log
   pub due : (step call : ℕ) → IsDue (Go core) w.memory.is_free (Answer step call core reply)
@@ -117,8 +118,8 @@ pub record IsAwaiting (w x : World) (t : Plain) (core : ℕ) (request : Request)
   pub frames : frames_taken x ≡ frames_taken w + frames_for request
   pub reply : Reply
   pub after : Plain
-  pub stands : Stands (with_copy t (page_copied t request reply)) core request reply after
-  pub first : FirstReplies t core request reply after
+  pub stands : RepliesBy IsPlace t core request reply after
+  pub first : RepliesBy IsFirstPlace t core request reply after
   pub named : is_placed request ≡ false
   pub drops : (u : Users)
       → Same (users_after t core request reply u) (users_dropped core request waiting.range u)
@@ -133,7 +134,7 @@ pub record IsServedAlone (w : World) (t : Plain) (core : ℕ) (request : Request
       → Step x (Go core) outcome v → outcome ≢ Stepped → x.calls.events < event_limit
       → ((k : IsServed w t core request outcome v)
       × KeepsOthers t (recorded w.slots) core request k.reply
-      × FirstReplies t core request k.reply k.after)
+      × RepliesBy IsFirstPlace t core request k.reply k.after)
       ⊎ IsAwaiting w x t core request outcome v
 
 -- in each state that a machine reaches, with up to 64 cores
@@ -157,7 +158,7 @@ pub record IsAwaitingStill (w : World) (outcome : Outcome) (v : World) : Type 0 
 pub record IsAnsweredAtLast (w : World) (t : Plain) (core : ℕ) (request : Request)
     (outcome : Outcome) (v : World) : Type 0 where
   pub served : IsServed w t core request outcome v
-  pub first : is_placed request ≡ false → FirstReplies t core request served.reply served.after
+  pub first : is_placed request ≡ false → RepliesBy IsFirstPlace t core request served.reply served.after
   pub framed : served.reply ≢ NoFrame
   pub frames : frames_taken v ≤ frames_taken w
   pub nobody : (d : ℕ) → takes_left (w.hardware.inbox d) ≡ 0

@@ -1,12 +1,8 @@
 -- What a call serves, where requests come
-use Rattle.std.proofs.Common.{ℕ, Some, None, Option, List, [], ◌∷◌, ◌++◌}
-use Rattle.vm_base.specs.declared.requests.Request.{Request}
-use Rattle.slot_lock.specs.declared.plan.Plan.{Plan}
-use Rattle.machine_model.specs.declared.phase.Phase.{Phase}
-use Rattle.machine_model.specs.declared.phase.Phase.TheVariants.{Free, Check, Lock, Guess, Find, Back, Cut, Decide, Post, Acks, Unlock, Answer, Try}
-use Rattle.machine_model.specs.declared.phase.Phase.TheVariants.{Settle, Want, Fill, CopyPost, CopyAcks, Install, Release}
+use Rattle.machine_laws.proofs.Words.{ℕ, Some, None, Option, List, [], ◌∷◌, ◌++◌, Request, Plan, Phase, Check, Lock, Guess, Find, Cut, Decide, Post}
+use Rattle.machine_laws.proofs.Words.{Acks, Try, Settle, Want, Fill, CopyPost, CopyAcks, Install, Release, Made}
+use Rattle.machine_model.specs.declared.phase.Phase.TheVariants.{Back}
 use Rattle.machine_model.specs.Holding.{plan_in}
-use Rattle.machine_model.specs.World.{Made}
 use Rattle.machine_laws.specs.Orderly.{IsAsked, ServesSome}
 use Rattle.machine_laws.proofs.Numbered.{at_old}
 
@@ -17,7 +13,6 @@ serves_more made rs r c n (Some plan) h = record { request = h.request; number =
 
 -- one request more changes nothing for the calls begun before
 pub asked_more : (made : Made) (rs : List Request) (r : Request) (c n : ℕ) (phase : Phase) → IsAsked made rs c n phase → IsAsked made (rs ++ r ∷ []) c n phase
-asked_more made rs r c n Free h = h
 asked_more made rs r c n (Check request) h = at_old rs r n request h
 asked_more made rs r c n (Lock goal cursor) h = serves_more made rs r c n (plan_in (Lock goal cursor)) h
 asked_more made rs r c n (Guess place) h = serves_more made rs r c n (plan_in (Guess place)) h
@@ -27,8 +22,6 @@ asked_more made rs r c n (Cut place target range) h = serves_more made rs r c n 
 asked_more made rs r c n (Decide change) h = serves_more made rs r c n (plan_in (Decide change)) h
 asked_more made rs r c n (Post change shoot) h = serves_more made rs r c n (plan_in (Post change shoot)) h
 asked_more made rs r c n (Acks goal change) h = serves_more made rs r c n (plan_in (Acks goal change)) h
-asked_more made rs r c n (Unlock held reply) h = h
-asked_more made rs r c n (Answer reply) h = h
 asked_more made rs r c n (Try touch) h = serves_more made rs r c n (plan_in (Try touch)) h
 asked_more made rs r c n (Settle touch) h = serves_more made rs r c n (plan_in (Settle touch)) h
 asked_more made rs r c n (Want touch old) h = serves_more made rs r c n (plan_in (Want touch old)) h
@@ -37,3 +30,4 @@ asked_more made rs r c n (CopyAcks touch f) h = serves_more made rs r c n (plan_
 asked_more made rs r c n (Fill touch frame) h = serves_more made rs r c n (plan_in (Fill touch frame)) h
 asked_more made rs r c n (Install touch) h = serves_more made rs r c n (plan_in (Install touch)) h
 asked_more made rs r c n (Release touch) h = serves_more made rs r c n (plan_in (Release touch)) h
+asked_more made rs r c n _ h = h

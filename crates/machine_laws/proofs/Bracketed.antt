@@ -1,25 +1,10 @@
 -- Each reply stands once in the log, between its call and its answer: what holds before each event of a run, from its start.
-use Rattle.std.proofs.Common.{◌≡◌, ◌≢◌, ℕ, zero, suc, ◌+◌, ◌<◌, ◌≤◌, Bool, true, false, refl, sym, subst, ap, arith, Some}
-use Rattle.std.proofs.Common.{List, [], ◌∷◌, ◌++◌, ◌⊎◌, ◌∙◌, inl, inr, length, take, slice_get}
-use Rattle.std.specs.Prelude.{nat_lt}
-use Rattle.vm_base.specs.declared.replies.Reply.{Reply}
-use Rattle.vm_base.specs.declared.requests.Request.{Request}
-use Rattle.vm_base.specs.Functions.{put}
-use Rattle.vm_base.proofs.Functions.{put_all, put_both}
-use Rattle.slot_lock.specs.Slots.{Slots, IsNew}
-use Rattle.machine_model.specs.declared.event.Event.{Event}
-use Rattle.machine_model.specs.declared.event.Event.TheVariants.{Call}
-use Rattle.machine_model.specs.declared.event.Outcome.{Outcome}
-use Rattle.machine_model.specs.declared.event.Outcome.TheVariants.{Answered}
-use Rattle.vm_base.specs.declared.log.Entry.{Entry}
-use Rattle.vm_base.specs.declared.log.Entry.TheVariants.{Answer, Detach}
-use Rattle.machine_model.specs.declared.phase.Phase.TheVariants.{Free, Check}
-use Rattle.machine_model.specs.Actions.{to}
-use Rattle.machine_model.specs.Events.{core_of}
-use Rattle.machine_model.specs.World.{World, Made, new_world}
-use Rattle.machine_model.specs.Step.{after_call, with_event, event_limit, Step, Run}
+use Rattle.machine_laws.proofs.Words.{◌≡◌, ◌≢◌, ℕ, zero, suc, ◌+◌, ◌<◌, ◌≤◌, Bool, true, false, refl, sym, subst, ap, arith, Some, List, [], ◌∷◌, ◌++◌, ◌⊎◌}
+use Rattle.machine_laws.proofs.Words.{◌∙◌, inl, inr, length, take, slice_get, nat_lt, Reply, Request, put, put_all, put_both, Slots, IsNew, Event, Call}
+use Rattle.machine_laws.proofs.Words.{Outcome, Answered, Entry, Detach, Free, Check, to, core_of, World, Made, new_world, after_call, with_event, event_limit}
+use Rattle.machine_laws.proofs.Words.{Step, Run, nth}
+use Rattle.vm_base.specs.declared.log.Entry.TheVariants.{Answer}
 use Rattle.machine_laws.specs.Brackets.{Begun, begun_by, calls_from, calls_of, requests_of, IsLatest, step_of}
-use Rattle.vm_base.specs.Log.{nth}
 use Rattle.machine_laws.specs.Brackets.{IsAnswer, IsDetach, IsStoreTo, IsAnsweredBefore, AllRunsBracketed}
 use Rattle.machine_laws.specs.Orderly.{IsOrderly}
 use Rattle.machine_laws.proofs.Kept.{kept}
@@ -489,9 +474,8 @@ grows_at w e o v g (acts i shape) = grows_by (with_event w) e o v (effect_of (wi
 
 grown : (w : World) (es : List Event) (os : List Outcome) (v : World) → IsOrderly w → Run w es os v → Grows w v
 grown w [] [] v g r = λ i x a. ap (λ v. slice_get v.calls.log i) r ∙ a
-grown w [] (o ∷ os) v g r = absurd r
-grown w (e ∷ es) [] v g r = absurd r
 grown w (e ∷ es) (o ∷ os) v g r = λ i x a. grown r.0 es os v (kept w r.0 e o g r.1) r.2 i x (grows_at w e o r.0 g (comes w e o r.0 r.1) i x a)
+grown w _ _ v g r = absurd r
 
 -- ---- an event of a run
 

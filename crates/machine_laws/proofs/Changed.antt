@@ -1,29 +1,17 @@
 -- What a change makes of the slots
-use Rattle.std.proofs.Common.{◌≡◌, ℕ, true, false, refl, ap, Some, None, Option}
+use Rattle.machine_laws.proofs.Words.{◌≡◌, ℕ, true, false, refl, ap, Some, None, Option, Meta, PageInfo, PageRange, Prot, has, advance, unused}
+use Rattle.machine_laws.proofs.Words.{info_with_prot, over_all, Change, Put, Clear, Protect, range_of, Slots, slots_after}
 use Rattle.std.specs.Prelude.{◌-◌, cond}
-use Rattle.vm_base.specs.declared.info.Meta.{Meta}
-use Rattle.vm_base.specs.declared.info.PageInfo.{PageInfo}
-use Rattle.vm_base.specs.declared.page.PageRange.{PageRange}
-use Rattle.vm_base.specs.declared.rights.Prot.{Prot}
-use Rattle.vm_base.specs.Functions.{has}
-use Rattle.vm_base.specs.Info.{advance, unused, info_with_prot}
-use Rattle.vm_base.proofs.Functions.{across_all, over_all}
-use Rattle.slot_lock.specs.declared.plan.Change.{Change}
-use Rattle.slot_lock.specs.declared.plan.Change.TheVariants.{Put, Clear, Protect}
-use Rattle.slot_lock.specs.Plan.{range_of}
-use Rattle.slot_lock.specs.Slots.{Slots}
-use Rattle.machine_model.specs.Changes.{slots_after}
+use Rattle.vm_base.proofs.Functions.{across_all}
 
 -- owners and edges stay
 pub changed_owner : (s : Slots) (change : Change) → (slots_after change s).owner ≡ s.owner
 changed_owner s (Put range meta) = refl
-changed_owner s (Clear range) = refl
-changed_owner s (Protect range prot) = refl
+changed_owner s _ = refl
 
 pub changed_edge : (s : Slots) (change : Change) → (slots_after change s).edge ≡ s.edge
 changed_edge s (Put range meta) = refl
-changed_edge s (Clear range) = refl
-changed_edge s (Protect range prot) = refl
+changed_edge s _ = refl
 
 pub same_outside : (s : Slots) (change : Change) (p : ℕ) → has (range_of change) p ≡ false → (slots_after change s).info p ≡ s.info p
 same_outside s (Put range meta) p e = ap (λ b. cond b (Some (unused (advance meta (p - range.first)))) (s.info p)) e

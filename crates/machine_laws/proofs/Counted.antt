@@ -1,15 +1,10 @@
 -- The machine's memory stays its own: free frames, and what Refcache counts
-use Rattle.std.proofs.Common.{◌≡◌, ℕ, zero, suc, ◌<◌, Bool, true, sym, subst, ◌∙◌, Some, None, Option}
-use Rattle.vm_base.specs.Functions.{put}
-use Rattle.vm_base.specs.Plain.{Bytes}
-use Rattle.vm_base.proofs.Functions.{put_all}
+use Rattle.machine_laws.proofs.Words.{◌≡◌, ℕ, zero, suc, ◌<◌, Bool, true, sym, subst, ◌∙◌, Some, None, Option, put, Bytes, put_all, Counts, Dec, Reviewing}
+use Rattle.machine_laws.proofs.Words.{Takes, CountStep, steps_reach, reached_is_orderly, CountsOne, Made, Memory}
 use Rattle.refcache.specs.declared.reports.Review.TheVariants as review
-use Rattle.refcache.specs.Counts.{Counts}
 use Rattle.refcache.specs.Laws.{IsSameSize}
-use Rattle.refcache.specs.Steps.{Dec, Reviewing, Takes, CountStep}
-use Rattle.refcache.proofs.Reached.{steps_reach, same_size, reached_is_orderly}
-use Rattle.machine_model.specs.Counting.{CountsOne, CountsDown}
-use Rattle.machine_model.specs.World.{Made, Memory}
+use Rattle.refcache.proofs.Reached.{same_size}
+use Rattle.machine_model.specs.Counting.{CountsDown}
 use Rattle.machine_laws.specs.Orderly.{IsMemory}
 
 -- other frames are free

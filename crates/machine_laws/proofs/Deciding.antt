@@ -1,37 +1,15 @@
 -- What the check of the arguments and the decision say of plans, on whichever core: vm_calls says it of cores below 64
-use Rattle.std.proofs.Common.{◌≡◌, ℕ, ◌+◌, ◌<◌, ◌≤◌, Bool, true, false, sym, subst, arith, Some, None, Option, Result, Ok}
-use Rattle.std.specs.Prelude.{if◌then◌else◌}
-use Rattle.vm_base.specs.declared.info.Meta.{Meta}
-use Rattle.vm_base.specs.declared.page.PageRange.{PageRange}
-use Rattle.vm_base.specs.declared.replies.Reply.{Reply}
-use Rattle.vm_base.specs.declared.requests.Request.{Request}
-use Rattle.vm_base.specs.declared.requests.Request.TheVariants.{Mmap, Munmap, Mprotect, Load, Store, Fetch}
-use Rattle.vm_base.specs.declared.rights.Mode.{Mode}
-use Rattle.vm_base.specs.Apply.{meta_of}
-use Rattle.vm_base.specs.Functions.{has}
-use Rattle.vm_base.specs.Pages.{IsPageRange, pages_from, pages_of}
-use Rattle.vm_base.specs.Places.{IsFree}
-use Rattle.vm_base.specs.Plain.{File, is_mapped}
-use Rattle.vm_base.specs.Refusals.{refusal}
-use Rattle.vm_base.proofs.Functions.{has_in, in_has}
-use Rattle.slot_lock.specs.declared.plan.Change.{Change}
-use Rattle.slot_lock.specs.declared.plan.Change.TheVariants.{Put, Clear, Protect}
-use Rattle.slot_lock.specs.declared.plan.Place.{Place}
-use Rattle.slot_lock.specs.declared.plan.Plan.{Plan}
+use Rattle.machine_laws.proofs.Words.{◌≡◌, ℕ, ◌+◌, ◌<◌, ◌≤◌, Bool, true, false, sym, subst, arith, Some, None, Option, Result, Ok, if◌then◌else◌, Meta}
+use Rattle.machine_laws.proofs.Words.{PageRange, Reply, Request, Mmap, Mode, meta_of, has, IsPageRange, pages_from}
+use Rattle.machine_laws.proofs.Words.{pages_of, IsFree, File, is_mapped, refusal, has_in, in_has, Change, Put, Protect, Place, Plan, Touch, Goal}
+use Rattle.machine_laws.proofs.Words.{Target, Hint, Window, range_of, goal_range, goal_plan, HasTarget, IsSoundTouch, IsSoundGoal, Slots, Decision, Act}
+use Rattle.machine_laws.proofs.Words.{Again, checked, plan_of, unless_refused, place_of, Decides, DecidesPlace, entries, free, taken, no_page, no_write}
 use Rattle.slot_lock.specs.declared.plan.Plan.TheVariants as PlanOf
-use Rattle.slot_lock.specs.declared.plan.Touch.{Touch}
-use Rattle.slot_lock.specs.declared.plan.Goal.{Goal}
 use Rattle.slot_lock.specs.declared.plan.Goal.TheVariants as To
-use Rattle.slot_lock.specs.declared.plan.Target.{Target}
-use Rattle.slot_lock.specs.declared.plan.Target.TheVariants.{Hint, Run, Window}
-use Rattle.slot_lock.specs.Plan.{range_of, goal_range, goal_plan, HasTarget, IsSoundChange, IsSoundTouch, IsSoundGoal}
-use Rattle.slot_lock.specs.Slots.{Slots}
-use Rattle.vm_calls.specs.declared.decision.Decision.{Decision}
-use Rattle.vm_calls.specs.declared.decision.Decision.TheVariants.{Act, Again}
-use Rattle.vm_calls.specs.Checks.{checked, plan_of, unless_refused, place_of}
-use Rattle.vm_calls.specs.Decisions.{Decides, DecidesPlace, DecidesRun, DecidesWindow, entries}
-use Rattle.vm_calls.specs.Decisions.DecidesRun.{free, taken}
-use Rattle.vm_calls.specs.Decisions.DecidesProtect.{no_page, no_write, acts}
+use Rattle.slot_lock.specs.declared.plan.Target.TheVariants.{Run}
+use Rattle.slot_lock.specs.Plan.{IsSoundChange}
+use Rattle.vm_calls.specs.Decisions.{DecidesRun, DecidesWindow}
+use Rattle.vm_calls.specs.Decisions.DecidesProtect.{acts}
 use Rattle.vm_calls.proofs.Alike.{decision_alike}
 use Rattle.vm_calls.proofs.Passed.{checked_is_sound}
 use Rattle.vm_calls.proofs.Targets.{goal-pages, place-act}
@@ -53,11 +31,7 @@ same_plan : (core : ℕ) (request : Request) (plan : Plan) → IsUnplaced plan �
 same_plan core (Mmap addr len prot flags file off) plan u h =
     let meta : Meta = meta_of prot flags file off in
     same_fixed flags.fixed (PlanOf.Change (Put (pages_of addr len) meta)) plan (place_of core addr len meta) (place_of 0 addr len meta) u h
-same_plan core (Munmap addr len) plan u h = h
-same_plan core (Mprotect addr len prot) plan u h = h
-same_plan core (Load addr) plan u h = h
-same_plan core (Store addr byte) plan u h = h
-same_plan core (Fetch addr) plan u h = h
+same_plan core _ plan u h = h
 
 unrefused : (o : Option Reply) (p q : Result Plan Reply) (plan : Plan) → unless_refused o p ≡ Ok plan → (p ≡ Ok plan → q ≡ Ok plan)
     → unless_refused o q ≡ Ok plan
@@ -77,11 +51,6 @@ pub touch_sound : (modes : ℕ → Option Mode) (core : ℕ) (request : Request)
     → checked modes core request ≡ Ok (PlanOf.Touch touch) → IsSoundTouch touch
 touch_sound modes core request touch h = checked_is_sound modes 0 request (PlanOf.Touch touch) (omega arith)
     (at_first modes core request (PlanOf.Touch touch) tt h)
-
-pub sound_range : (change : Change) → IsSoundChange change → IsPageRange (range_of change)
-sound_range (Put range meta) h = h.pages
-sound_range (Clear range) h = h
-sound_range (Protect range prot) h = h
 
 -- ---- goals
 
@@ -104,11 +73,10 @@ decides_kept files s t goal d same h = decision_alike files s t goal d (λ p i. 
 -- a change acts on its own range
 pub acts_own : (files : ℕ → Option File) (s : Slots) (change : Change) (changes : PageRange) (shoot : ℕ)
     → Decides files s (To.Change change) (Act changes shoot) → changes ≡ range_of change
-acts_own files s (Put range meta) changes shoot h = h.0
-acts_own files s (Clear range) changes shoot h = h.0
 acts_own files s (Protect range prot) changes shoot (no_page a e) = absurd cc
 acts_own files s (Protect range prot) changes shoot (no_write a w r e) = absurd cc
 acts_own files s (Protect range prot) changes shoot (acts a r k) = k.0
+acts_own files s _ changes shoot h = h.0
 
 -- a mapping goes to the whole of its hint or run
 pub run_own : (s : Slots) (run range : PageRange) (shoot : ℕ) → DecidesRun s run (Act range shoot) → range ≡ run

@@ -1,61 +1,22 @@
 -- What a step does to the calls and the log: it keeps them, logs the reply of a call, begins a call or ends one.
-use Rattle.std.proofs.Common.{◌≡◌, ℕ, Bool, true, false, cond, refl, sym, ap, subst, Some, None, Option, Result, Ok, Err, [], ◌∷◌, ◌++◌, ◌∙◌}
-use Rattle.std.specs.Prelude.{nat_le, if◌then◌else◌}
-use Rattle.vm_base.specs.declared.info.Back.{Back}
-use Rattle.vm_base.specs.declared.info.Back.TheVariants.{Anon, Shared, Private}
-use Rattle.vm_base.specs.declared.page.PageRange.{PageRange}
-use Rattle.vm_base.specs.declared.rights.Access.{Access}
+use Rattle.machine_laws.proofs.Words.{◌≡◌, ℕ, Bool, true, false, cond, refl, sym, ap, subst, Some, None, Option, Result, Ok, Err, [], ◌∷◌, ◌++◌, ◌∙◌, nat_le}
+use Rattle.machine_laws.proofs.Words.{if◌then◌else◌, Back, Private, PageRange, Access, Plan, Touch, is_private_store, Reply, NoMemory, Goal}
+use Rattle.machine_laws.proofs.Words.{Target, Hint, Window, goal_range, Request, put, put_all, put_both, Slots, Event, Call, Go, Outcome, Stepped, Answered}
+use Rattle.machine_laws.proofs.Words.{Phase, Free, Lock, Unlock, Answer, Fill, Install, Release, memory_after, reply_of, after_frame, taken_for}
+use Rattle.machine_laws.proofs.Words.{after_install, back_of, after_zeros, after_first_copy, after_caching, after_sharing, after_copy_post, after_copy, to}
+use Rattle.machine_laws.proofs.Words.{with_entry, after_reply, let_go, answer_entry, detach_entry, slots_after, after_post, reply_to, with_counts, given_back}
+use Rattle.machine_laws.proofs.Words.{awaits_in, can_give_up, still_held, taken_in, locking, locked_to, all_locked, held_after, trying, back_to}
+use Rattle.machine_laws.proofs.Words.{after_translating, World, Hardware, Memory, after_call, MapErr, Mode, meta_of, is_page, page_of, pages_of, mode_of}
+use Rattle.machine_laws.proofs.Words.{refusal, Change, Put, Place, checked, plan_of, unless_refused, touch_of, place_of, nth}
 use Rattle.vm_base.specs.declared.rights.Access.TheVariants.{Load, Store, Fetch}
-use Rattle.slot_lock.specs.declared.plan.Plan.{Plan}
 use Rattle.slot_lock.specs.declared.plan.Plan.TheVariants as PlanOf
-use Rattle.slot_lock.specs.declared.plan.Touch.{Touch}
-use Rattle.vm_calls.specs.Settling.{is_private_store}
-use Rattle.vm_base.specs.declared.replies.Reply.{Reply}
-use Rattle.vm_base.specs.declared.replies.Reply.TheVariants.{NoMemory}
-use Rattle.slot_lock.specs.declared.plan.Goal.{Goal}
 use Rattle.slot_lock.specs.declared.plan.Goal.TheVariants as To
-use Rattle.slot_lock.specs.declared.plan.Target.{Target}
-use Rattle.slot_lock.specs.declared.plan.Target.TheVariants.{Hint, Run, Window}
-use Rattle.slot_lock.specs.Plan.{goal_range}
-use Rattle.vm_base.specs.declared.requests.Request.{Request}
-use Rattle.vm_base.specs.Functions.{put}
-use Rattle.vm_base.proofs.Functions.{put_all, put_both}
-use Rattle.slot_lock.specs.Slots.{Slots}
-use Rattle.machine_model.specs.declared.event.Event.{Event}
+use Rattle.slot_lock.specs.declared.plan.Target.TheVariants.{Run}
 use Rattle.machine_model.specs.declared.event.Event.TheVariants as EventOf
-use Rattle.machine_model.specs.declared.event.Event.TheVariants.{Call, Go}
-use Rattle.machine_model.specs.declared.event.Outcome.{Outcome}
-use Rattle.machine_model.specs.declared.event.Outcome.TheVariants.{Stepped, Answered}
-use Rattle.machine_model.specs.declared.phase.Phase.{Phase}
-use Rattle.machine_model.specs.declared.phase.Phase.TheVariants.{Free, Lock, Unlock, Answer, Fill, Install, Release}
 use Rattle.machine_model.specs.declared.phase.Phase.TheVariants as At
-use Rattle.machine_model.specs.Accesses.{memory_after, reply_of, after_frame, taken_for, after_install}
-use Rattle.machine_model.specs.Files.{back_of}
-use Rattle.machine_model.specs.Filling.{after_zeros, after_first_copy, after_caching, after_sharing, after_copy_post, after_copy}
-use Rattle.machine_model.specs.Actions.{to, with_entry, after_reply, let_go, answer_entry, detach_entry}
-use Rattle.machine_model.specs.Changes.{slots_after, after_post, reply_to}
-use Rattle.machine_model.specs.Counting.{with_counts}
-use Rattle.machine_model.specs.GivingUp.{given_back}
-use Rattle.machine_model.specs.Holding.{awaits_in, can_give_up, still_held, taken_in}
-use Rattle.machine_model.specs.Locks.{locking, locked_to, all_locked, held_after}
-use Rattle.machine_model.specs.Placing.{trying, back_to}
-use Rattle.machine_model.specs.Translating.{after_translating}
-use Rattle.machine_model.specs.World.{World, Hardware, Memory}
-use Rattle.machine_model.specs.Step.{after_call}
-use Rattle.vm_base.specs.declared.replies.SegvCode.TheVariants.{MapErr}
 use Rattle.vm_base.specs.declared.replies.Reply.TheVariants as ReplyOf
 use Rattle.vm_base.specs.declared.requests.Request.TheVariants as RequestOf
-use Rattle.vm_base.specs.declared.rights.Mode.{Mode}
-use Rattle.vm_base.specs.Apply.{meta_of}
-use Rattle.vm_base.specs.Pages.{is_page, page_of, pages_of}
-use Rattle.vm_base.specs.Plain.{mode_of}
-use Rattle.vm_base.specs.Refusals.{refusal}
-use Rattle.slot_lock.specs.declared.plan.Change.{Change}
-use Rattle.slot_lock.specs.declared.plan.Change.TheVariants.{Put}
-use Rattle.slot_lock.specs.declared.plan.Place.{Place}
-use Rattle.vm_calls.specs.Checks.{checked, plan_of, unless_refused, touch_of, place_of}
 use Rattle.machine_laws.specs.Brackets.{IsStoreTo}
-use Rattle.vm_base.specs.Log.{nth}
 use Rattle.machine_laws.specs.Orderly.{IsOrderly, Serves}
 use Rattle.machine_laws.proofs.Moves.{IsCallOf, call_at}
 use Rattle.machine_laws.proofs.Shapes.{IsInner, rests_inner, Moves, locks, tries, hints, seeks, guesses, turns, chooses, acts, finds, lacks, shows, Replies}
@@ -193,8 +154,6 @@ store_of core (RequestOf.Fetch addr) touch h a = absurd (go (is_page (page_of ad
         → ⊥
     go true e = let same : touch_of addr Fetch 0 ≡ touch = cc in let other = ap (λ t. t.access) same in cc (other, a)
     go false e = cc
-store_of core (RequestOf.Munmap addr len) touch h a = absurd cc
-store_of core (RequestOf.Mprotect addr len prot) touch h a = absurd cc
 store_of core (RequestOf.Mmap addr len prot flags file off) touch h a =
     absurd (go flags.fixed (Put (pages_of addr len) (meta_of prot flags file off)) (place_of core addr len (meta_of prot flags file off)) h)
   where
@@ -202,6 +161,7 @@ store_of core (RequestOf.Mmap addr len prot flags file off) touch h a =
         → ◌≡◌ {A = Result Plan Reply} (if b then Ok (PlanOf.Change change) else Ok (PlanOf.Place place)) (Ok (PlanOf.Touch touch)) → ⊥
     go true change place e = cc
     go false change place e = cc
+store_of core _ touch h a = absurd cc
 
 store_asked : (modes : ℕ → Option Mode) (core : ℕ) (request : Request) (touch : Touch) → checked modes core request ≡ Ok (PlanOf.Touch touch)
     → touch.access ≡ Store → IsStoreTo request touch.page
@@ -279,10 +239,7 @@ with_reply w e c held reply t h m v i was k =
 -- only a store gives a private page a copy
 stores : (back : Back) (access : Access) → is_private_store back access ≡ true → access ≡ Store
 stores (Private n k) Store h = refl
-stores (Private n k) Load h = absurd cc
-stores (Private n k) Fetch h = absurd cc
-stores (Shared n k) access h = absurd cc
-stores Anon access h = absurd cc
+stores _ _ h = absurd cc
 
 lets_go_same : (old : Phase) (held : PageRange) (b : ℕ) (new : Phase) → LetsGo old held b new → status new ≡ status old
 lets_go_same old held b new (unlocks reply e n) = ap status n ∙ told_in (held_after held b) reply ∙ sym (ap status e)
@@ -344,26 +301,11 @@ work_effect w e c v i (frees j f counts k h) = beside w e w.slots w.hardware v.m
 
 -- a call that may be given up has no reply yet
 given_up_asked : (phase : Phase) → can_give_up phase ≡ true → status phase ≡ Asked
-given_up_asked (At.Check r) h = refl
-given_up_asked (At.Lock goal cursor) h = refl
-given_up_asked (At.Guess place) h = refl
-given_up_asked (At.Find place target) h = refl
-given_up_asked (At.Back place target held) h = refl
-given_up_asked (At.Cut place target range) h = refl
-given_up_asked (At.Decide change) h = refl
-given_up_asked (At.Post change shoot) h = refl
-given_up_asked (At.Try touch) h = refl
-given_up_asked (At.Settle touch) h = refl
-given_up_asked (At.Want touch old) h = refl
-given_up_asked (At.CopyPost touch f) h = refl
-given_up_asked (At.CopyAcks touch f) h = refl
-given_up_asked (At.Fill touch f) h = refl
-given_up_asked (At.Install touch) h = refl
-given_up_asked (At.Release touch) h = refl
 given_up_asked At.Free h = absurd cc
 given_up_asked (At.Acks goal change) h = absurd cc
 given_up_asked (At.Unlock held reply) h = absurd cc
 given_up_asked (At.Answer reply) h = absurd cc
+given_up_asked _ h = refl
 
 pub effect_of : (w : World) (e : Event) (o : Outcome) (v : World) → IsOrderly w → Shape w e o v → Effect w e o v
 effect_of w e o v g (rests r h) =

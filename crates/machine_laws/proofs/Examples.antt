@@ -1,18 +1,7 @@
 -- A worked run, by computation, and logs that no run can leave.
-use Rattle.std.proofs.Common.{◌≡◌, ℕ, zero, suc, ◌<◌, ◌∙◌, true, ap, sym, arith, refl, None, Some, List, [], ◌∷◌, slice_get}
-use Rattle.vm_base.specs.declared.replies.Errno.TheVariants.{EINVAL}
-use Rattle.vm_base.specs.declared.replies.Reply.{Reply}
-use Rattle.vm_base.specs.declared.replies.Reply.TheVariants.{Refused}
-use Rattle.vm_base.specs.declared.requests.Request.{Request}
-use Rattle.vm_base.specs.declared.requests.Request.TheVariants.{Munmap}
-use Rattle.slot_lock.specs.Slots.{Slots, IsNew}
-use Rattle.machine_model.specs.declared.event.Event.{Event}
-use Rattle.machine_model.specs.declared.event.Event.TheVariants.{Call, Go}
-use Rattle.machine_model.specs.declared.event.Outcome.{Outcome}
-use Rattle.machine_model.specs.declared.event.Outcome.TheVariants.{Stepped, Idle, Answered}
+use Rattle.machine_laws.proofs.Words.{◌≡◌, ℕ, zero, suc, ◌<◌, ◌∙◌, true, ap, sym, arith, refl, None, Some, List, [], ◌∷◌, slice_get, EINVAL, Reply, Refused}
+use Rattle.machine_laws.proofs.Words.{Request, Munmap, Slots, IsNew, Event, Call, Go, Outcome, Stepped, Idle, Answered, World, Made, new_world, Run}
 use Rattle.vm_base.specs.declared.log.Entry.TheVariants.{Answer}
-use Rattle.machine_model.specs.World.{World, Made, new_world}
-use Rattle.machine_model.specs.Step.{Run}
 use Rattle.machine_laws.specs.Brackets.{IsBracketed, calls_of}
 use Rattle.machine_laws.proofs.Bracketed.{bracketed}
 

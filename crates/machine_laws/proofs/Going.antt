@@ -1,36 +1,16 @@
 -- A call that goes on and changes nothing else leaves an orderly state.
-use Rattle.std.proofs.Common.{◌≡◌, ◌≢◌, ℕ, ◌<◌, ◌≤◌, ⊎_elim, true, false, refl, sym, ap, subst, arith, Some, None, ◌∙◌}
-use Rattle.std.proofs.lemmas.Bool.{cases_lt}
-use Rattle.std.proofs.lemmas.Bool.Decides.{nat_tests}
-use Rattle.vm_base.specs.declared.page.PageRange.{PageRange}
-use Rattle.vm_base.specs.Functions.{has}
-use Rattle.vm_base.specs.Pages.{IsPageRange}
-use Rattle.vm_base.specs.Plain.{mode_of, is_mapped}
-use Rattle.slot_lock.specs.declared.plan.Change.{Change}
+use Rattle.machine_laws.proofs.Words.{◌≡◌, ◌≢◌, ℕ, ◌<◌, ◌≤◌, ⊎_elim, true, false, refl, sym, ap, subst, arith, Some, None, ◌∙◌, cases_lt, nat_tests}
+use Rattle.machine_laws.proofs.Words.{PageRange, has, IsPageRange, mode_of, is_mapped, Change, Touch, Put, Goal, Place, Target, Hint, Window, range_of}
+use Rattle.machine_laws.proofs.Words.{target_range, goal_range, goal_plan, IsTarget, HasTarget, IsSoundTouch, IsSoundGoal, Slots, between, Act, Again}
+use Rattle.machine_laws.proofs.Words.{Decides, DecidesPlace, entries, Phase, Free, Check, Guess, Find, Cut, Decide, Post, Acks, Try, Settle, Want, Fill}
+use Rattle.machine_laws.proofs.Words.{Install, after_frame, to, after_post, page_of_touch, range_held, awaits_in, holds, some_has, taken_in, is_open, locking}
+use Rattle.machine_laws.proofs.Words.{trying, guess_of, after_cuts, World, sound_pages}
 use Rattle.slot_lock.specs.declared.plan.Plan.TheVariants as PlanOf
-use Rattle.slot_lock.specs.declared.plan.Touch.{Touch}
-use Rattle.slot_lock.specs.declared.plan.Change.TheVariants.{Put}
-use Rattle.slot_lock.specs.declared.plan.Goal.{Goal}
 use Rattle.slot_lock.specs.declared.plan.Goal.TheVariants as To
-use Rattle.slot_lock.specs.declared.plan.Place.{Place}
-use Rattle.slot_lock.specs.declared.plan.Target.{Target}
-use Rattle.slot_lock.specs.declared.plan.Target.TheVariants.{Hint, Run, Window}
-use Rattle.slot_lock.specs.Plan.{range_of, target_range, goal_range, goal_plan, IsTarget, HasTarget, IsSoundTouch, IsSoundGoal}
-use Rattle.slot_lock.specs.Slots.{IsCut, Slots, between}
-use Rattle.vm_calls.specs.declared.decision.Decision.TheVariants.{Act, Again}
-use Rattle.vm_calls.specs.Decisions.{Decides, DecidesPlace, entries}
-use Rattle.machine_model.specs.declared.phase.Phase.{Phase}
-use Rattle.machine_model.specs.declared.phase.Phase.TheVariants.{Free, Check, Guess, Find, Back as Leaving, Cut, Decide, Post}
-use Rattle.machine_model.specs.declared.phase.Phase.TheVariants.{Acks, Try, Settle, Want, Fill, Install}
-use Rattle.machine_model.specs.Accesses.{after_frame}
-use Rattle.machine_model.specs.Actions.{to}
-use Rattle.machine_model.specs.Changes.{after_post}
-use Rattle.machine_model.specs.Holding.{page_of_touch, range_held, awaits_in, holds, some_has, taken_in, is_open}
-use Rattle.machine_model.specs.Locks.{locking}
-use Rattle.machine_model.specs.Placing.{trying, guess_of, after_cuts}
-use Rattle.machine_model.specs.World.{World}
+use Rattle.slot_lock.specs.Slots.{IsCut}
+use Rattle.machine_model.specs.declared.phase.Phase.TheVariants.{Back as Leaving}
 use Rattle.machine_laws.specs.Orderly.{IsOrderly, IsAsked, Serves, IsCutFor, IsReady, IsPassed, IsRest}
-use Rattle.machine_laws.proofs.Deciding.{change_sound, touch_sound, sound_range, goal_sound, goal_valid, acts_own, acts_valid, window_stays}
+use Rattle.machine_laws.proofs.Deciding.{change_sound, touch_sound, goal_sound, goal_valid, acts_own, acts_valid, window_stays}
 use Rattle.machine_laws.proofs.Moves.{IsCallOf, call_at, untouched, goes_on, same_pages}
 use Rattle.machine_laws.proofs.Shapes.{Moves, locks, tries, hints, seeks, guesses, turns, chooses, acts, finds, lacks, shows, guess_is_target}
 
@@ -98,9 +78,8 @@ aims_kept w c place target g lt e i = places w c (Guess place) place target e g 
 
 -- only a hint or a run is passed
 pub passed_on : (s : Slots) (place : Place) (target : Target) → DecidesPlace s place target Again → IsPassed target
-passed_on s place (Hint range) d = tt
-passed_on s place (Run range) d = tt
 passed_on s place Window d = window_stays s place d
+passed_on s place _ d = tt
 
 whole_rest : (target : PageRange) → IsPageRange target → IsRest target target
 whole_rest target range = record { pages = range; low = omega arith; same_end = refl }
@@ -110,7 +89,7 @@ moves_kept w c new g lt (locks request change e n passed) =
     subst (λ x. IsOrderly (to c x w)) (sym n)
     (starts w c (Check request) (To.Change change) e g lt refl refl
     (record { request = request; number = (call_at w c (Check request) e g).asked; passed = passed })
-    tt (sound_range change (change_sound (λ k. mode_of (w.made.file k)) c request change passed)))
+    tt (sound_pages change (change_sound (λ k. mode_of (w.made.file k)) c request change passed)))
 moves_kept w c new g lt (tries request touch e n passed) =
     subst (λ x. IsOrderly (to c x w)) (sym n)
     (steps w c (Check request) (Try touch) e g lt refl refl tt

@@ -1,42 +1,22 @@
 -- Every step from an orderly state leaves an orderly one.
-use Rattle.std.proofs.Common.{◌≡◌, ◌≢◌, ℕ, suc, ◌≤◌, ◌<◌, ◌+◌, Bool, true, false, cond, refl, sym, ap, subst, arith, Some}
-use Rattle.std.proofs.Common.{None, Option, List, [], ◌∷◌, ◌++◌, ◌∙◌, length, length-append, ◌==◌}
+use Rattle.machine_laws.proofs.Words.{◌≡◌, ◌≢◌, ℕ, suc, ◌≤◌, ◌<◌, ◌+◌, Bool, true, false, cond, refl, sym, ap, subst, arith, Some, None, Option, List, []}
+use Rattle.machine_laws.proofs.Words.{◌∷◌, ◌++◌, ◌∙◌, length, length-append, ◌==◌, nat_tests, PageRange, Reply, NoMemory, Request, has, IsPageRange, mode_of}
+use Rattle.machine_laws.proofs.Words.{put_all, put_both, in_has, Change, Touch, Goal, range_of, target_range, goal_range, IsSoundGoal, Slots, between, Event}
+use Rattle.machine_laws.proofs.Words.{Outcome, Phase, Free, Check, Lock, Guess, Find, Cut, Decide, Post, Acks, Answer, Try, Settle, Want, Fill}
+use Rattle.machine_laws.proofs.Words.{CopyPost, CopyAcks, Install, Release, after_access, memory_after, reply_of, after_reply, let_go, Counts, Flushing}
+use Rattle.machine_laws.proofs.Words.{Reviewing, slots_after, after_commit, reply_to, CountsLost, frame_lost, with_counts, with_free, given_back}
+use Rattle.machine_laws.proofs.Words.{after_give_up, page_of_touch, range_held, awaits_in, holds, some_has, taken_in, is_open, can_give_up, still_held, World}
+use Rattle.machine_laws.proofs.Words.{Memory, after_call, with_event, Step, sound_pages}
 use Rattle.std.specs.Prelude.{◌-◌}
-use Rattle.std.proofs.lemmas.Bool.Decides.{nat_tests}
-use Rattle.vm_base.specs.declared.page.PageRange.{PageRange}
-use Rattle.vm_base.specs.declared.replies.Reply.{Reply}
-use Rattle.vm_base.specs.declared.replies.Reply.TheVariants.{NoMemory}
-use Rattle.vm_base.specs.declared.requests.Request.{Request}
-use Rattle.vm_base.specs.Functions.{has}
-use Rattle.vm_base.specs.Pages.{IsPageRange}
-use Rattle.vm_base.specs.Plain.{mode_of}
-use Rattle.vm_base.proofs.Functions.{put_all, put_both, in_has}
-use Rattle.slot_lock.specs.declared.plan.Change.{Change}
 use Rattle.slot_lock.specs.declared.plan.Plan.TheVariants as PlanOf
-use Rattle.slot_lock.specs.declared.plan.Touch.{Touch}
-use Rattle.slot_lock.specs.declared.plan.Goal.{Goal}
-use Rattle.slot_lock.specs.Plan.{range_of, target_range, goal_range, IsSoundGoal}
-use Rattle.slot_lock.specs.Slots.{Slots, Joins, between}
-use Rattle.machine_model.specs.declared.event.Event.{Event}
-use Rattle.machine_model.specs.declared.event.Outcome.{Outcome}
-use Rattle.machine_model.specs.declared.phase.Phase.{Phase}
-use Rattle.machine_model.specs.declared.phase.Phase.TheVariants.{Free, Check, Lock, Guess, Find, Back as Leaving, Cut, Decide, Post, Acks, Unlock, Answer}
-use Rattle.machine_model.specs.declared.phase.Phase.TheVariants.{Try, Settle, Want, Fill, CopyPost, CopyAcks, Install, Release}
-use Rattle.machine_model.specs.Accesses.{after_access, memory_after, reply_of}
-use Rattle.machine_model.specs.Actions.{after_reply, let_go}
-use Rattle.refcache.specs.Counts.{Counts}
-use Rattle.refcache.specs.Steps.{Flushing, Reviewing}
-use Rattle.machine_model.specs.Changes.{slots_after, after_commit, reply_to, CountsLost}
-use Rattle.machine_model.specs.Counting.{frame_lost, with_counts, with_free}
-use Rattle.machine_model.specs.GivingUp.{given_back, after_give_up}
-use Rattle.machine_model.specs.Holding.{page_of_touch, range_held, awaits_in, holds, some_has, taken_in, is_open, can_give_up, still_held, if_some_page}
-use Rattle.machine_model.specs.World.{World, Memory}
-use Rattle.machine_model.specs.Step.{after_call, with_event, Step}
+use Rattle.slot_lock.specs.Slots.{Joins}
+use Rattle.machine_model.specs.declared.phase.Phase.TheVariants.{Back as Leaving}
+use Rattle.machine_model.specs.Holding.{if_some_page}
 use Rattle.machine_laws.specs.Orderly.{IsOrderly, IsAsked, Serves, IsCutFor, IsReady, BelongsTo, IsMemory}
 use Rattle.machine_laws.proofs.Asked.{asked_more}
 use Rattle.machine_laws.proofs.Counted.{frees, written, counted, counts_down, freed}
 use Rattle.machine_laws.proofs.Changed.{changed_owner, changed_edge, same_outside}
-use Rattle.machine_laws.proofs.Deciding.{change_sound, touch_sound, sound_range, goal_valid, acts_in, acts_valid}
+use Rattle.machine_laws.proofs.Deciding.{change_sound, touch_sound, goal_valid, acts_in, acts_valid}
 use Rattle.machine_laws.proofs.Moves.{IsCallOf, call_at, Touches, untouched, KeepsCached, tells, none_taken, asked_gone}
 use Rattle.machine_laws.proofs.Moves.{held_gone, out_gone, IsHeldRange, ready_gone, awaits_held}
 use Rattle.machine_laws.proofs.Numbered.{at_new}
@@ -79,7 +59,7 @@ reply_ends w c held reply g lt (declines change errno e h r d) =
       opened = refl;
       same = λ p. refl;
       cut = λ edge k. k;
-      valid = sound_range change (change_sound (λ k. mode_of (w.made.file k)) c k.asked.request change k.asked.passed);
+      valid = sound_pages change (change_sound (λ k. mode_of (w.made.file k)) c k.asked.request change k.asked.passed);
     }))
 reply_ends w c held reply g lt (fails touch e h f) =
     let k : IsCallOf w c (Settle touch) = call_at w c (Settle touch) e g in
@@ -191,7 +171,7 @@ whole_ends phase r opened held range =
 change_ends : (w : World) (c : ℕ) (phase : Phase) (change : Change) → is_open phase ≡ true → range_held phase ≡ Some (range_of change)
     → Serves w.made w.calls.requests c (w.calls.number c) (PlanOf.Change change) → Ends phase (still_held phase)
 change_ends w c phase change opened held s =
-    whole_ends phase (range_of change) opened held (sound_range change (change_sound (λ k. mode_of (w.made.file k)) c s.request change s.passed))
+    whole_ends phase (range_of change) opened held (sound_pages change (change_sound (λ k. mode_of (w.made.file k)) c s.request change s.passed))
 
 page_ends : (w : World) (c : ℕ) (phase : Phase) (touch : Touch) → is_open phase ≡ true → range_held phase ≡ Some (page_of_touch touch)
     → Serves w.made w.calls.requests c (w.calls.number c) (PlanOf.Touch touch) → Ends phase (still_held phase)
@@ -252,10 +232,7 @@ gives_up_ends w c (CopyAcks touch f) g lt e can = page_ends w c (CopyAcks touch 
 gives_up_ends w c (Fill touch frame) g lt e can = page_ends w c (Fill touch frame) touch refl refl (call_at w c (Fill touch frame) e g).asked
 gives_up_ends w c (Install touch) g lt e can = page_ends w c (Install touch) touch refl refl (call_at w c (Install touch) e g).asked
 gives_up_ends w c (Release touch) g lt e can = page_ends w c (Release touch) touch refl refl (call_at w c (Release touch) e g).asked
-gives_up_ends w c Free g lt e can = absurd cc
-gives_up_ends w c (Acks goal change) g lt e can = absurd cc
-gives_up_ends w c (Unlock held reply) g lt e can = absurd cc
-gives_up_ends w c (Answer reply) g lt e can = absurd cc
+gives_up_ends w c _ g lt e can = absurd cc
 
 gives_up_kept : (w : World) (c : ℕ) → IsOrderly w → c < w.made.cores → can_give_up (w.calls.phase c) ≡ true
     → IsOrderly (after_give_up c (w.calls.phase c) w)

@@ -1,3 +1,4 @@
+pub mod Words
 pub mod Numbered
 pub mod OpenCalls
 pub mod Deciding

@@ -1,29 +1,14 @@
 -- A call that locks a slot, or lets one go, leaves an orderly state.
-use Rattle.std.proofs.Common.{◌≡◌, ℕ, ◌≤◌, ◌<◌, ◌+◌, Bool, true, false, refl, sym, ap, subst, arith, Some, None, Option, ◌∙◌, ⊎_elim, ◌==◌}
-use Rattle.std.specs.Prelude.{nat_le}
-use Rattle.std.proofs.lemmas.Bool.{cases_lt}
-use Rattle.std.proofs.lemmas.Bool.Decides.{nat_tests}
-use Rattle.vm_base.specs.declared.page.PageRange.{PageRange}
-use Rattle.vm_base.specs.declared.replies.Reply.{Reply}
-use Rattle.vm_base.specs.Functions.{has}
-use Rattle.vm_base.specs.Pages.{IsPageRange}
-use Rattle.vm_base.proofs.Functions.{by_test, has_in, eq_false}
+use Rattle.machine_laws.proofs.Words.{◌≡◌, ℕ, ◌≤◌, ◌<◌, ◌+◌, Bool, true, false, refl, sym, ap, subst, arith, Some, None, Option, ◌∙◌, ⊎_elim, ◌==◌, nat_le}
+use Rattle.machine_laws.proofs.Words.{cases_lt, nat_tests, PageRange, Reply, has, IsPageRange, by_test, has_in, eq_false, Touch, Goal, Place, Target, Hint}
+use Rattle.machine_laws.proofs.Words.{Window, target_range, goal_range, HasTarget, Slots, Locks, Unlocks, between, with_owner, Phase, Lock, Guess, Unlock}
+use Rattle.machine_laws.proofs.Words.{Answer, Try, Release, to, let_go, range_held, awaits_in, holds, some_has, taken_in, is_open, locked_to, all_locked}
+use Rattle.machine_laws.proofs.Words.{held_after, back_to, World, Made}
 use Rattle.slot_lock.specs.declared.plan.Plan.TheVariants as PlanOf
-use Rattle.slot_lock.specs.declared.plan.Touch.{Touch}
-use Rattle.slot_lock.specs.declared.plan.Goal.{Goal}
 use Rattle.slot_lock.specs.declared.plan.Goal.TheVariants as To
-use Rattle.slot_lock.specs.declared.plan.Place.{Place}
-use Rattle.slot_lock.specs.declared.plan.Target.{Target}
-use Rattle.slot_lock.specs.declared.plan.Target.TheVariants.{Hint, Run, Window}
-use Rattle.slot_lock.specs.Plan.{target_range, goal_range, HasTarget}
-use Rattle.slot_lock.specs.Slots.{Slots, Locks, Unlocks, between, with_owner}
-use Rattle.machine_model.specs.declared.phase.Phase.{Phase}
-use Rattle.machine_model.specs.declared.phase.Phase.TheVariants.{Lock, Guess, Back as Leaving, Unlock, Answer, Try, Release}
-use Rattle.machine_model.specs.Actions.{to, let_go}
-use Rattle.machine_model.specs.Holding.{range_held, awaits_in, holds, some_has, taken_in, is_open}
-use Rattle.machine_model.specs.Locks.{locked_to, all_locked, held_after}
-use Rattle.machine_model.specs.Placing.{elsewhere, back_to}
-use Rattle.machine_model.specs.World.{World, Made}
+use Rattle.slot_lock.specs.declared.plan.Target.TheVariants.{Run}
+use Rattle.machine_model.specs.declared.phase.Phase.TheVariants.{Back as Leaving}
+use Rattle.machine_model.specs.Placing.{elsewhere}
 use Rattle.machine_laws.specs.Orderly.{IsOrderly, IsAsked, Serves, IsCutFor, IsReady, IsPassed, IsRest}
 use Rattle.machine_laws.proofs.Moves.{IsCallOf, call_at, goes_on, none_taken, asked_gone}
 use Rattle.machine_laws.proofs.Shapes.{LetsGo, unlocks, returns, releases}
@@ -53,34 +38,28 @@ whole r b e = rw e refl
 -- the phase after a goal's last slot was locked
 locked_range : (goal : Goal) → range_held (all_locked goal) ≡ Some (goal_range goal)
 locked_range (To.Place place target) = refl
-locked_range (To.Change change) = refl
-locked_range (To.Access touch) = refl
+locked_range _ = refl
 
 locked_open : (goal : Goal) → is_open (all_locked goal) ≡ true
 locked_open (To.Place place target) = refl
-locked_open (To.Change change) = refl
-locked_open (To.Access touch) = refl
+locked_open _ = refl
 
 locked_asked : (w : World) (c : ℕ) (goal : Goal) (cursor : ℕ) → IsAsked w.made w.calls.requests c (w.calls.number c) (Lock goal cursor)
     → IsAsked w.made w.calls.requests c (w.calls.number c) (all_locked goal)
 locked_asked w c (To.Place place target) cursor h = h
-locked_asked w c (To.Change change) cursor h = h
-locked_asked w c (To.Access touch) cursor h = h
+locked_asked w c _ cursor h = h
 
 locked_ready : (w : World) (goal : Goal) → HasTarget goal → IsReady w.made w.slots w.memory.cached (all_locked goal)
 locked_ready w (To.Place place target) h = h
-locked_ready w (To.Change change) h = tt
-locked_ready w (To.Access touch) h = tt
+locked_ready w _ h = tt
 
 locked_out : (edge : ℕ → Bool) (goal : Goal) → IsCutFor edge (awaits_in (all_locked goal))
 locked_out edge (To.Place place target) = tt
-locked_out edge (To.Change change) = tt
-locked_out edge (To.Access touch) = tt
+locked_out edge _ = tt
 
 locked_taken : (goal : Goal) (f : ℕ) → taken_in (all_locked goal) ≡ Some f → ⊥
 locked_taken (To.Place place target) f h = cc
-locked_taken (To.Change change) f h = cc
-locked_taken (To.Access touch) f h = cc
+locked_taken _ f h = cc
 
 -- the slot from the cursor up to b is core c's, which holds the pages up to b in the new phase
 owned_to : (w : World) (c : ℕ) (goal : Goal) (cursor b : ℕ) (t : Slots) (new : Phase) → w.calls.phase c ≡ Lock goal cursor → IsOrderly w → c < w.made.cores

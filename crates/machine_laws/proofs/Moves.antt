@@ -1,32 +1,11 @@
 -- What holds of one call, and that the order stays where one call moves on
-use Rattle.std.proofs.Common.{◌≡◌, ◌≢◌, ℕ, ◌≤◌, ◌<◌, ◌+◌, Bool, true, cond, refl, sym, ap, subst, arith, Some, None, Option, List, ◌∙◌, [], ◌∷◌, ◌++◌}
-use Rattle.vm_base.specs.declared.info.Back.{Back}
-use Rattle.vm_base.specs.declared.info.Back.TheVariants.{Anon, Shared, Private}
-use Rattle.vm_base.specs.declared.info.PageInfo.{PageInfo}
-use Rattle.vm_base.specs.declared.page.PageRange.{PageRange}
-use Rattle.vm_base.specs.declared.rights.Access.{Access}
-use Rattle.vm_calls.specs.declared.decision.Decision.TheVariants.{Act}
-use Rattle.vm_calls.specs.Settling.{is_cached}
-use Rattle.vm_base.specs.declared.replies.Reply.{Reply}
-use Rattle.vm_base.specs.declared.requests.Request.{Request}
-use Rattle.vm_base.specs.Functions.{put, has}
-use Rattle.vm_base.specs.Pages.{IsPageRange}
-use Rattle.vm_base.specs.Plain.{File}
-use Rattle.vm_base.proofs.Functions.{put_all, in_has}
-use Rattle.slot_lock.specs.declared.plan.Goal.{Goal}
+use Rattle.machine_laws.proofs.Words.{◌≡◌, ◌≢◌, ℕ, ◌≤◌, ◌<◌, ◌+◌, Bool, true, cond, refl, sym, ap, subst, arith, Some, None, Option, List, ◌∙◌, [], ◌∷◌, ◌++◌}
+use Rattle.machine_laws.proofs.Words.{Back, Anon, Shared, Private, PageInfo, PageRange, Access, Act, is_cached, Reply, Request, put, has, IsPageRange, File}
+use Rattle.machine_laws.proofs.Words.{put_all, in_has, Goal, Touch, range_of, goal_range, Slots, Entry, Phase, Free, Cut}
+use Rattle.machine_laws.proofs.Words.{Post, Acks, Want, Fill, CopyPost, CopyAcks, Install, World, Made, Memory, Detach}
+use Rattle.machine_laws.proofs.Words.{let_go, back_of, file_frame, shows_file, holds, some_has, range_held, awaits_in, taken_in, is_open, page_of_touch}
 use Rattle.slot_lock.specs.declared.plan.Goal.TheVariants as To
-use Rattle.slot_lock.specs.declared.plan.Touch.{Touch}
-use Rattle.slot_lock.specs.Plan.{range_of, goal_range}
-use Rattle.slot_lock.specs.Slots.{Slots}
-use Rattle.vm_base.specs.declared.log.Entry.{Entry}
-use Rattle.machine_model.specs.declared.phase.Phase.{Phase}
-use Rattle.machine_model.specs.declared.phase.Phase.TheVariants.{Free, Check, Lock, Guess, Find, Back as Leaving, Cut, Decide, Post, Acks, Unlock, Answer}
-use Rattle.machine_model.specs.declared.phase.Phase.TheVariants.{Try, Settle, Want, Fill, CopyPost, CopyAcks, Install, Release}
-use Rattle.machine_model.specs.World.{World, Made, Memory}
-use Rattle.vm_base.specs.declared.log.Entry.TheVariants.{Answer as Told, Detach}
-use Rattle.machine_model.specs.Actions.{let_go}
-use Rattle.machine_model.specs.Files.{back_of, file_frame, shows_file}
-use Rattle.machine_model.specs.Holding.{holds, some_has, range_held, awaits_in, taken_in, is_open, page_of_touch}
+use Rattle.vm_base.specs.declared.log.Entry.TheVariants.{Answer as Told}
 use Rattle.machine_laws.specs.Orderly.{Order, IsOrderly, IsAsked, IsCutFor, IsReady, IsUsable, IsCopyDue, IsWanted}
 use Rattle.machine_laws.specs.Orderly.{IsFillable, IsChosen, BelongsTo, IsMemory, answer_count}
 use Rattle.machine_laws.proofs.Deciding.{decides_kept, acts_in}
@@ -123,22 +102,7 @@ ready_cached made s cached now keeps (Want touch old) h = (h.0, wanted_kept cach
 ready_cached made s cached now keeps (Fill touch frame) h = (h.0, fillable_kept cached now keeps (s.info touch.page) touch.access frame h.1)
 ready_cached made s cached now keeps (CopyPost touch frame) h = (h.0, h.1, copy_kept cached now keeps (s.info touch.page) touch.access h.0 h.2)
 ready_cached made s cached now keeps (CopyAcks touch frame) h = (h.0, h.1, copy_kept cached now keeps (s.info touch.page) touch.access h.0 h.2)
-ready_cached made s cached now keeps Free h = h
-ready_cached made s cached now keeps (Check request) h = h
-ready_cached made s cached now keeps (Lock goal cursor) h = h
-ready_cached made s cached now keeps (Guess place) h = h
-ready_cached made s cached now keeps (Find place target) h = h
-ready_cached made s cached now keeps (Leaving place target held) h = h
-ready_cached made s cached now keeps (Cut place target range) h = h
-ready_cached made s cached now keeps (Decide change) h = h
-ready_cached made s cached now keeps (Post change shoot) h = h
-ready_cached made s cached now keeps (Acks goal change) h = h
-ready_cached made s cached now keeps (Unlock held reply) h = h
-ready_cached made s cached now keeps (Answer reply) h = h
-ready_cached made s cached now keeps (Try touch) h = h
-ready_cached made s cached now keeps (Settle touch) h = h
-ready_cached made s cached now keeps (Install touch) h = h
-ready_cached made s cached now keeps (Release touch) h = h
+ready_cached made s cached now keeps _ h = h
 
 chosen_kept : (made : Made) (s t : Slots) (goal : Goal) (range : PageRange) → ((p : ℕ) → has (goal_range goal) p ≡ true → t.info p ≡ s.info p)
     → IsChosen made s goal range → IsChosen made t goal range
@@ -159,18 +123,7 @@ ready_kept made s t cached (CopyPost touch frame) same h =
 ready_kept made s t cached (CopyAcks touch frame) same h =
     copying_kept made cached touch (s.info touch.page) (t.info touch.page) (same touch.page (page_is touch)) h
 ready_kept made s t cached (Install touch) same h = (h.0, usable_kept made.file s t touch (Some h.0) same h.1)
-ready_kept made s t cached Free same h = h
-ready_kept made s t cached (Check request) same h = h
-ready_kept made s t cached (Lock goal cursor) same h = h
-ready_kept made s t cached (Guess place) same h = h
-ready_kept made s t cached (Find place target) same h = h
-ready_kept made s t cached (Leaving place target held) same h = h
-ready_kept made s t cached (Decide change) same h = h
-ready_kept made s t cached (Unlock held reply) same h = h
-ready_kept made s t cached (Answer reply) same h = h
-ready_kept made s t cached (Try touch) same h = h
-ready_kept made s t cached (Settle touch) same h = h
-ready_kept made s t cached (Release touch) same h = h
+ready_kept made s t cached _ same h = h
 
 -- what changes once other cores have acknowledged is held
 pub awaits_held : (made : Made) (s : Slots) (cached : ℕ → ℕ → Option ℕ) (phase : Phase) (p : ℕ) → IsReady made s cached phase
@@ -178,24 +131,7 @@ pub awaits_held : (made : Made) (s : Slots) (cached : ℕ → ℕ → Option ℕ
     → holds phase p ≡ true
 awaits_held made s cached (Acks goal change) p r h = acts_in made.file s goal (range_of change) r.2.0 p r.2.1 h
 awaits_held made s cached (CopyAcks touch frame) p r h = h
-awaits_held made s cached Free p r h = absurd cc
-awaits_held made s cached (Check request) p r h = absurd cc
-awaits_held made s cached (Lock goal cursor) p r h = absurd cc
-awaits_held made s cached (Guess place) p r h = absurd cc
-awaits_held made s cached (Find place target) p r h = absurd cc
-awaits_held made s cached (Leaving place target held) p r h = absurd cc
-awaits_held made s cached (Cut place target range) p r h = absurd cc
-awaits_held made s cached (Decide change) p r h = absurd cc
-awaits_held made s cached (Post change shoot) p r h = absurd cc
-awaits_held made s cached (Unlock held reply) p r h = absurd cc
-awaits_held made s cached (Answer reply) p r h = absurd cc
-awaits_held made s cached (Try touch) p r h = absurd cc
-awaits_held made s cached (Settle touch) p r h = absurd cc
-awaits_held made s cached (Want touch old) p r h = absurd cc
-awaits_held made s cached (Fill touch frame) p r h = absurd cc
-awaits_held made s cached (CopyPost touch frame) p r h = absurd cc
-awaits_held made s cached (Install touch) p r h = absurd cc
-awaits_held made s cached (Release touch) p r h = absurd cc
+awaits_held made s cached _ p r h = absurd cc
 
 other_call : (made : Made) (s t : Slots) (cached now : ℕ → ℕ → Option ℕ) (requests : List Request) (c d call : ℕ) (phase : Phase) → d ≢ c
     → Touches s t c → KeepsCached cached now → IsCall made s cached requests d call phase → IsCall made t now requests d call phase

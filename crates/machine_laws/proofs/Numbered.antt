@@ -1,6 +1,5 @@
 -- Places of a list to which one element came
-use Rattle.std.proofs.Common.{◌≡◌, ℕ, zero, suc, ◌<◌, refl, ap, arith, Some, List, [], ◌∷◌, ◌++◌, ◌⊎◌, inl, inr, length, slice_get}
-use Rattle.vm_base.specs.Log.{nth}
+use Rattle.machine_laws.proofs.Words.{◌≡◌, ℕ, zero, suc, ◌<◌, refl, ap, arith, Some, List, [], ◌∷◌, ◌++◌, ◌⊎◌, inl, inr, length, slice_get, nth}
 
 pub get_old : {A : Type 0} (xs : List A) (y : A) (i : ℕ) (x : A) → slice_get xs i ≡ Some x → slice_get (xs ++ y ∷ []) i ≡ Some x
 get_old [] y i x h = absurd cc

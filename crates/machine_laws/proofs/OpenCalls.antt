@@ -1,12 +1,6 @@
 -- How many calls have no reply yet, where one call moves on
-use Rattle.std.proofs.Common.{◌≡◌, ◌≢◌, ℕ, suc, zero, ◌<◌, ◌+◌, Bool, true, false, ◌==◌, refl, ap, arith, ◌∙◌}
-use Rattle.std.specs.Prelude.{if◌then◌else◌}
-use Rattle.std.proofs.lemmas.Bool.Decides.{nat_tests}
-use Rattle.vm_base.specs.Functions.{put}
-use Rattle.vm_base.proofs.Functions.{put_same, put_other}
-use Rattle.machine_model.specs.declared.phase.Phase.{Phase}
-use Rattle.machine_model.specs.declared.phase.Phase.TheVariants.{Free}
-use Rattle.machine_model.specs.Holding.{is_open}
+use Rattle.machine_laws.proofs.Words.{◌≡◌, ◌≢◌, ℕ, suc, zero, ◌<◌, ◌+◌, Bool, true, false, ◌==◌, refl, ap, arith, ◌∙◌, if◌then◌else◌, nat_tests, put}
+use Rattle.machine_laws.proofs.Words.{put_same, put_other, Phase, Free, is_open}
 use Rattle.machine_laws.specs.Orderly.{open_calls}
 
 -- 1 if the call has no reply yet

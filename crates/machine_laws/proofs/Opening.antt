@@ -1,10 +1,6 @@
 -- A machine over new slots begins orderly.
-use Rattle.std.proofs.Common.{◌≤◌, refl, subst, sym, arith}
-use Rattle.std.proofs.lemmas.Bool.Decides.{nat_tests}
-use Rattle.slot_lock.specs.Slots.{Slots, IsNew}
-use Rattle.refcache.specs.Counts.{no_counts}
+use Rattle.machine_laws.proofs.Words.{◌≤◌, refl, subst, sym, arith, nat_tests, Slots, IsNew, no_counts, Made, new_world}
 use Rattle.refcache.proofs.Sound.{reached_open}
-use Rattle.machine_model.specs.World.{Made, new_world}
 use Rattle.machine_laws.specs.Orderly.{IsOrderly, BelongsTo}
 use Rattle.machine_laws.proofs.OpenCalls.{open_none}
 use Rattle.machine_laws.proofs.Owned.{unmapped_belongs}

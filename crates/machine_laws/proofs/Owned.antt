@@ -1,23 +1,11 @@
 -- What pages have stays the machine's: valid pages, its frames and its cores
-use Rattle.std.proofs.Common.{◌≡◌, ℕ, ◌<◌, Bool, true, false, ◌||◌, ◌==◌, refl, sym, ap, subst, Some, None, Option, ◌∙◌, arith}
+use Rattle.machine_laws.proofs.Words.{◌≡◌, ℕ, ◌<◌, Bool, true, false, ◌==◌, refl, sym, ap, subst, Some, None, Option, ◌∙◌, arith, fun_ext, Meta, PageInfo}
+use Rattle.machine_laws.proofs.Words.{PageRange, Prot, members, with_member, put, has, unused, info_with_frame, info_with_prot, info_with_core}
+use Rattle.machine_laws.proofs.Words.{info_with_copy, IsPage, IsPageRange, members-empty, put_all, has_in, Change, range_of, Slots, slots_after, Made}
+use Rattle.std.proofs.Common.{◌||◌}
 use Rattle.std.proofs.lemmas.Nat.Bits.{bit_at-pow_same, bit_at-pow_other}
-use Rattle.std.proofs.Math.Path.{fun_ext}
 use Rattle.std.specs.Prelude.{◌^◌}
-use Rattle.vm_base.specs.declared.info.Meta.{Meta}
-use Rattle.vm_base.specs.declared.info.PageInfo.{PageInfo}
-use Rattle.vm_base.specs.declared.page.PageRange.{PageRange}
-use Rattle.vm_base.specs.declared.rights.Prot.{Prot}
-use Rattle.vm_base.specs.Cores.{members, with_member}
-use Rattle.vm_base.specs.Functions.{put, has}
-use Rattle.vm_base.specs.Info.{unused, info_with_frame, info_with_prot, info_with_core, info_with_copy}
-use Rattle.vm_base.specs.Pages.{IsPage, IsPageRange}
-use Rattle.vm_base.proofs.CoreSets.{members-or, members-empty}
-use Rattle.vm_base.proofs.Functions.{put_all, has_in}
-use Rattle.slot_lock.specs.declared.plan.Change.{Change}
-use Rattle.slot_lock.specs.Plan.{range_of}
-use Rattle.slot_lock.specs.Slots.{Slots}
-use Rattle.machine_model.specs.Changes.{slots_after}
-use Rattle.machine_model.specs.World.{Made}
+use Rattle.vm_base.proofs.CoreSets.{members-or}
 use Rattle.machine_laws.specs.Orderly.{BelongsTo}
 use Rattle.machine_laws.proofs.Changed.{changed_all}
 

@@ -1,27 +1,11 @@
 -- A call whose page gets its frame and its translation leaves an orderly state.
-use Rattle.std.proofs.Common.{◌≡◌, ℕ, ◌<◌, true, false, refl, sym, ap, subst, Some, None, Option, ◌∙◌}
-use Rattle.vm_base.specs.declared.info.Back.{Back}
-use Rattle.vm_base.specs.declared.info.Back.TheVariants.{Anon, Shared, Private}
-use Rattle.vm_base.specs.declared.info.PageInfo.{PageInfo}
-use Rattle.vm_base.specs.declared.rights.Access.{Access}
-use Rattle.vm_base.specs.Functions.{put}
-use Rattle.vm_base.specs.Info.{info_with_frame, info_with_core, info_with_copy}
-use Rattle.vm_base.specs.Plain.{Bytes}
-use Rattle.vm_base.proofs.Functions.{put_all, put_same, put_other}
+use Rattle.machine_laws.proofs.Words.{◌≡◌, ℕ, ◌<◌, true, false, refl, sym, ap, subst, Some, None, Option, ◌∙◌, Back, Anon, Shared, Private, PageInfo, Access}
+use Rattle.machine_laws.proofs.Words.{put, info_with_frame, info_with_core, info_with_copy, Bytes, put_all, put_same, put_other, Touch, Slots, with_info}
+use Rattle.machine_laws.proofs.Words.{Phase, Want, Fill, CopyPost, CopyAcks, Install, Release, after_frame, taken_for, after_install, back_of, file_frame}
+use Rattle.machine_laws.proofs.Words.{with_cached, after_zeros, after_first_copy, after_caching, after_sharing, after_copy_post, after_copy, CountsCopy, to}
+use Rattle.machine_laws.proofs.Words.{with_entry, detach_entry, Counts, Takes, Begin, Inc, Dec, given_back, page_of_touch, range_held, awaits_in, some_has}
+use Rattle.machine_laws.proofs.Words.{taken_in, is_open, World, Made, Memory}
 use Rattle.slot_lock.specs.declared.plan.Plan.TheVariants as PlanOf
-use Rattle.slot_lock.specs.declared.plan.Touch.{Touch}
-use Rattle.slot_lock.specs.Slots.{Slots, with_info}
-use Rattle.machine_model.specs.declared.phase.Phase.{Phase}
-use Rattle.machine_model.specs.declared.phase.Phase.TheVariants.{Want, Fill, CopyPost, CopyAcks, Install, Release}
-use Rattle.machine_model.specs.Accesses.{after_frame, taken_for, after_install}
-use Rattle.machine_model.specs.Files.{back_of, file_frame, with_cached}
-use Rattle.machine_model.specs.Filling.{after_zeros, after_first_copy, after_caching, after_sharing, after_copy_post, after_copy, CountsCopy}
-use Rattle.machine_model.specs.Actions.{to, with_entry, detach_entry}
-use Rattle.refcache.specs.Counts.{Counts}
-use Rattle.refcache.specs.Steps.{Takes, Begin, Inc, Dec}
-use Rattle.machine_model.specs.GivingUp.{given_back}
-use Rattle.machine_model.specs.Holding.{page_of_touch, range_held, awaits_in, some_has, taken_in, is_open}
-use Rattle.machine_model.specs.World.{World, Made, Memory}
 use Rattle.machine_laws.specs.Orderly.{IsOrderly, IsAsked, Serves, IsCutFor, IsReady, IsUsable, BelongsTo, IsMemory}
 use Rattle.machine_laws.proofs.Counted.{frees, written, cached_more, counted}
 use Rattle.machine_laws.proofs.Moves.{IsCall, IsCallOf, call_at, Touches, untouched, KeepsCached, page_is, goes_on, copies_on, same_pages, same_range}

@@ -1,88 +1,51 @@
 -- What a step is: it changes nothing, begins a call, ends one, or is one of a few things that a call in some phase does. Every
 -- statement on steps is shown shape by shape, so that no row of the machine is taken apart twice.
-use Rattle.std.proofs.Common.{◌≡◌, ◌≢◌, ℕ, sym, ap, subst, ◌∙◌, ◌+◌, ◌<◌, ◌≤◌, inl, inr, Bool, true, false, cond}
-use Rattle.std.proofs.Common.{refl, arith, Some, None, Option, Result, Ok, Err, [], length}
-use Rattle.std.specs.Prelude.{nat_lt, nat_le, ◌&&◌, ◌||◌, is_some, if◌then◌else◌}
-use Rattle.std.proofs.lemmas.Bool.Decides.{nat_tests}
-use Rattle.vm_base.specs.declared.info.Back.{Back}
-use Rattle.vm_base.specs.declared.info.Back.TheVariants.{Anon, Shared, Private}
-use Rattle.vm_base.specs.declared.info.PageInfo.{PageInfo}
-use Rattle.vm_base.specs.declared.page.PageRange.{PageRange}
-use Rattle.vm_base.specs.declared.rights.Access.{Access}
-use Rattle.vm_base.specs.declared.rights.Access.TheVariants.{Load, Store, Fetch}
-use Rattle.vm_base.specs.Apply.{is_anonymous}
-use Rattle.vm_base.specs.Info.{frame_of}
-use Rattle.vm_base.specs.declared.replies.Errno.{Errno}
+use Rattle.machine_laws.proofs.Words.{◌≡◌, ◌≢◌, ℕ, sym, ap, subst, ◌∙◌, ◌+◌, ◌<◌, ◌≤◌, inl, inr, Bool, true, false, cond, refl, arith, Some, None, Option}
+use Rattle.machine_laws.proofs.Words.{Result, Ok, Err, [], length, nat_lt, nat_le, ◌&&◌, ◌||◌, is_some, if◌then◌else◌, nat_tests, Back, Anon, Shared, Private}
+use Rattle.machine_laws.proofs.Words.{PageInfo, PageRange, Access, is_anonymous, frame_of, Errno, Reply, Request, File, IsPage, pages_from, IsLeastRoom}
+use Rattle.machine_laws.proofs.Words.{is_mapped, is_allowed, tlb_at, Counts, Takes, Begin, Inc, Flushing, Reviewing, Took, asked, remaining, Change}
+use Rattle.machine_laws.proofs.Words.{Clear, Protect, Goal, Place, Plan, Target, Hint, Window, Touch, Locked, Held, range_of, target_range, goal_range}
+use Rattle.machine_laws.proofs.Words.{IsTarget, Slots, Locks, Unlocks, IsSlotMap, Decision, Refuse, Act, Again, Settled, AccErr, Has, Copies, Cached, Wants}
+use Rattle.machine_laws.proofs.Words.{Decides, entries, no_page, no_write, settled, source, is_cached, is_private_store, Event, Call, Go, Outcome, Stepped}
+use Rattle.machine_laws.proofs.Words.{Idle, Answered, Full, Wait, Phase, Free, Check, Lock, Guess, Find, Cut, Decide, Post, Acks, Unlock, Answer, Try, Settle}
+use Rattle.machine_laws.proofs.Words.{Want, Fill, CopyPost, CopyAcks, Install, Release, found_at, is_past_end, after_finding, NoneFree, TakesThisFrame}
+use Rattle.machine_laws.proofs.Words.{after_frame, after_install, after_access, back_of, file_frame, FillsFromFile, FillsBacked, after_zeros}
+use Rattle.machine_laws.proofs.Words.{after_first_copy, after_caching, after_sharing, after_copy_post, after_copy, CountsCopy, Idles, Becomes, to}
+use Rattle.machine_laws.proofs.Words.{after_reply, let_go, checked_by, after_plan, after_post, after_commit, CountsLost, AwaitsNobody, Awaits, with_counts}
+use Rattle.machine_laws.proofs.Words.{with_free, ReportsFlush, ReportsReview, GivesUp, after_give_up, core_of, page_of_touch, awaits_in, can_give_up, locking}
+use Rattle.machine_laws.proofs.Words.{locked_to, held_after, placing, trying, guess_of, GuessesThisRun, TakesWindow, back_to, after_cuts, translated_by}
+use Rattle.machine_laws.proofs.Words.{frame_reached, after_translating, with_hardware, with_inbox, tables_cleared, tlb_invalidated, TakesMessage, can_walk}
+use Rattle.machine_laws.proofs.Words.{after_walk, after_eviction, World, Hardware, after_call, Begins, Goes, Acts, is_here, with_event, event_limit, Step}
+use Rattle.vm_base.specs.declared.rights.Access.TheVariants.{Store}
 use Rattle.vm_base.specs.declared.replies.SegvCode.TheVariants as Code
-use Rattle.vm_base.specs.declared.replies.Reply.{Reply}
 use Rattle.vm_base.specs.declared.replies.Reply.TheVariants as ReplyOf
-use Rattle.vm_base.specs.declared.requests.Request.{Request}
-use Rattle.vm_base.specs.Plain.{File}
-use Rattle.vm_base.specs.Pages.{IsPage, pages_from}
-use Rattle.vm_base.specs.Places.{IsLeastRoom}
 use Rattle.vm_base.specs.Runs.{LiesIn}
-use Rattle.vm_base.specs.Plain.{is_mapped}
-use Rattle.vm_base.specs.Rights.{is_allowed}
-use Rattle.mmu.specs.Tlb.{tlb_at}
 use Rattle.refcache.specs.declared.reports.Flush.{Flush}
 use Rattle.refcache.specs.declared.reports.Flush.TheVariants as flush
 use Rattle.refcache.specs.declared.reports.Review.{Review}
 use Rattle.refcache.specs.declared.reports.Review.TheVariants as review
-use Rattle.refcache.specs.Counts.{Counts}
-use Rattle.refcache.specs.Steps.{Takes, Begin, Inc, Flushing, Reviewing}
-use Rattle.shootdown.specs.declared.message.Took.{Took}
 use Rattle.shootdown.specs.declared.message.Took.TheVariants as took
-use Rattle.shootdown.specs.Messages.{asked, remaining}
-use Rattle.slot_lock.specs.declared.plan.Change.{Change}
-use Rattle.slot_lock.specs.declared.plan.Change.TheVariants.{Put, Clear, Protect}
-use Rattle.slot_lock.specs.declared.plan.Goal.{Goal}
 use Rattle.slot_lock.specs.declared.plan.Goal.TheVariants as To
-use Rattle.slot_lock.specs.declared.plan.Place.{Place}
-use Rattle.slot_lock.specs.declared.plan.Plan.{Plan}
 use Rattle.slot_lock.specs.declared.plan.Plan.TheVariants as PlanOf
-use Rattle.slot_lock.specs.declared.plan.Target.{Target}
-use Rattle.slot_lock.specs.declared.plan.Target.TheVariants.{Hint, Run, Window}
-use Rattle.slot_lock.specs.declared.plan.Touch.{Touch}
+use Rattle.slot_lock.specs.declared.plan.Target.TheVariants.{Run}
 use Rattle.slot_lock.specs.declared.slot_map.Fit.{Fit}
 use Rattle.slot_lock.specs.declared.slot_map.Fit.TheVariants as fit
 use Rattle.slot_lock.specs.declared.slot_map.Got.{Got}
-use Rattle.slot_lock.specs.declared.slot_map.Got.TheVariants.{Split, Locked, Held}
-use Rattle.slot_lock.specs.Plan.{range_of, target_range, goal_range, IsRunOf, IsTarget}
-use Rattle.slot_lock.specs.Slots.{Slots, Steps, Splits, Locks, Unlocks, Joins, IsSlotMap, Cuts, IsCut, CutSteps}
-use Rattle.vm_calls.specs.declared.decision.Decision.{Decision}
-use Rattle.vm_calls.specs.declared.decision.Decision.TheVariants.{Refuse, Act, Again}
-use Rattle.vm_calls.specs.declared.fault.Settled.{Settled}
-use Rattle.vm_calls.specs.declared.fault.Settled.TheVariants.{MapErr, AccErr, Bus, Has, Copies, Cached, Wants}
-use Rattle.vm_calls.specs.Decisions.{Decides, entries}
-use Rattle.vm_calls.specs.Decisions.DecidesProtect.{no_page, no_write, acts as protects}
-use Rattle.vm_calls.specs.Settling.{settled, source, is_cached, is_private_store}
+use Rattle.slot_lock.specs.declared.slot_map.Got.TheVariants.{Split}
+use Rattle.slot_lock.specs.Plan.{IsRunOf}
+use Rattle.slot_lock.specs.Slots.{Steps, Splits, Joins, Cuts, IsCut, CutSteps}
+use Rattle.vm_calls.specs.declared.fault.Settled.TheVariants.{MapErr, Bus}
+use Rattle.vm_calls.specs.Decisions.DecidesProtect.{acts as protects}
 use Rattle.machine_model.specs.declared.event.Blocker.TheVariants as WaitsFor
-use Rattle.machine_model.specs.declared.event.Event.{Event}
 use Rattle.machine_model.specs.declared.event.Event.TheVariants as EventOf
-use Rattle.machine_model.specs.declared.event.Event.TheVariants.{Call, Go}
-use Rattle.machine_model.specs.declared.event.Outcome.{Outcome}
-use Rattle.machine_model.specs.declared.event.Outcome.TheVariants.{Stepped, Idle, Answered, Full, Wait}
-use Rattle.machine_model.specs.declared.phase.Phase.{Phase}
-use Rattle.machine_model.specs.declared.phase.Phase.TheVariants.{Free, Check, Lock, Guess, Find, Back as Leaving, Cut, Decide, Post, Acks, Unlock, Answer}
-use Rattle.machine_model.specs.declared.phase.Phase.TheVariants.{Try, Settle, Want, Fill, CopyPost, CopyAcks, Install, Release}
-use Rattle.machine_model.specs.Accesses.{after_translation, found_at, is_past_end, after_finding, NoneFree, TakesFrame}
-use Rattle.machine_model.specs.Accesses.{TakesThisFrame, after_frame, after_install, after_access}
-use Rattle.machine_model.specs.Files.{back_of, file_frame}
-use Rattle.machine_model.specs.Filling.{FillsFromFile, FillsBacked, after_zeros, after_first_copy, after_caching}
-use Rattle.machine_model.specs.Filling.{after_sharing, after_copy_post, after_copy, CountsCopy, CopiesNext}
-use Rattle.machine_model.specs.Actions.{Idles, Becomes, to, after_reply, let_go}
-use Rattle.machine_model.specs.Changes.{checked_by, after_plan, after_decision, after_post, after_commit, CountsLost, AwaitsNobody, Awaits, CommitsNext}
-use Rattle.machine_model.specs.Counting.{with_counts, with_free, ReportsFlush, ReportsReview}
-use Rattle.machine_model.specs.GivingUp.{GivesUp, after_give_up}
-use Rattle.machine_model.specs.Events.{core_of}
-use Rattle.machine_model.specs.Holding.{page_of_touch, awaits_in, can_give_up}
-use Rattle.machine_model.specs.Locks.{locking, locked_to, held_after, LocksTo, FoldsAt}
-use Rattle.machine_model.specs.Placing.{placing, trying, guess_of, GuessesNext, GuessesThisRun, TakesWindow}
-use Rattle.machine_model.specs.Placing.{after_guess, after_finding_place, back_to, after_cuts, CutsTo}
-use Rattle.machine_model.specs.Translating.{translated_by, frame_reached, after_translating, with_hardware, with_inbox, tables_cleared}
-use Rattle.machine_model.specs.Translating.{tlb_invalidated, TakesMessage, can_walk, after_walk, Walks, after_eviction, Evicts}
-use Rattle.machine_model.specs.World.{World, Hardware}
-use Rattle.machine_model.specs.Step.{after_call, Begins, Goes, Acts, is_here, with_event, event_limit, Step}
+use Rattle.machine_model.specs.declared.phase.Phase.TheVariants.{Back as Leaving}
+use Rattle.machine_model.specs.Accesses.{after_translation, TakesFrame}
+use Rattle.machine_model.specs.Filling.{CopiesNext}
+use Rattle.machine_model.specs.Changes.{after_decision, CommitsNext}
+use Rattle.machine_model.specs.Locks.{LocksTo, FoldsAt}
+use Rattle.machine_model.specs.Placing.{GuessesNext}
+use Rattle.machine_model.specs.Placing.{after_guess, after_finding_place, CutsTo}
+use Rattle.machine_model.specs.Translating.{Walks, Evicts}
 use Rattle.machine_laws.specs.Brackets.{begun_by}
 use Rattle.machine_laws.specs.Orderly.{IsUsable, IsCopyDue, IsWanted, IsFillable}
 
@@ -271,31 +234,11 @@ aimed c place e target at_window = tt
 
 inner_full : (e : Event) → IsInner e Full
 inner_full (Call c request) = ((λ n. refl), refl)
-inner_full (Go c) = ((λ n. refl), refl)
-inner_full (EventOf.Frame c f) = ((λ n. refl), refl)
-inner_full (EventOf.Guess c p) = ((λ n. refl), refl)
-inner_full (EventOf.Whole c) = ((λ n. refl), refl)
-inner_full (EventOf.Take c) = ((λ n. refl), refl)
-inner_full (EventOf.Walk c p) = ((λ n. refl), refl)
-inner_full (EventOf.Evict c p) = ((λ n. refl), refl)
-inner_full (EventOf.Flush c) = ((λ n. refl), refl)
-inner_full (EventOf.Review c) = ((λ n. refl), refl)
-inner_full (EventOf.Fold p) = ((λ n. refl), refl)
-inner_full (EventOf.GiveUp c) = ((λ n. refl), refl)
+inner_full _ = ((λ n. refl), refl)
 
 inner_idle : (e : Event) → IsInner e Idle
 inner_idle (Call c request) = ((λ n. refl), refl)
-inner_idle (Go c) = ((λ n. refl), refl)
-inner_idle (EventOf.Frame c f) = ((λ n. refl), refl)
-inner_idle (EventOf.Guess c p) = ((λ n. refl), refl)
-inner_idle (EventOf.Whole c) = ((λ n. refl), refl)
-inner_idle (EventOf.Take c) = ((λ n. refl), refl)
-inner_idle (EventOf.Walk c p) = ((λ n. refl), refl)
-inner_idle (EventOf.Evict c p) = ((λ n. refl), refl)
-inner_idle (EventOf.Flush c) = ((λ n. refl), refl)
-inner_idle (EventOf.Review c) = ((λ n. refl), refl)
-inner_idle (EventOf.Fold p) = ((λ n. refl), refl)
-inner_idle (EventOf.GiveUp c) = ((λ n. refl), refl)
+inner_idle _ = ((λ n. refl), refl)
 
 -- an event that changes nothing neither begins a call nor ends one
 pub rests_inner : (w : World) (e : Event) (o : Outcome) → Rests w e o → IsInner e o
@@ -318,25 +261,7 @@ call_shape w c request Free o v lt e h = go (nat_lt (length w.calls.requests) w.
         × (v ≡ w)) → Shape w (Call c request) o v
     go true i k = begins c request refl k.0 lt e (below _ _ i) k.1
     go false i k = rests (full c request refl i k.0) k.1
-call_shape w c request (Check r) o v lt e h = rests (busy c request refl (λ f. let a = sym e ∙ f in cc) h.0) h.1
-call_shape w c request (Lock goal cursor) o v lt e h = rests (busy c request refl (λ f. let a = sym e ∙ f in cc) h.0) h.1
-call_shape w c request (Guess place) o v lt e h = rests (busy c request refl (λ f. let a = sym e ∙ f in cc) h.0) h.1
-call_shape w c request (Find place target) o v lt e h = rests (busy c request refl (λ f. let a = sym e ∙ f in cc) h.0) h.1
-call_shape w c request (Leaving place target held) o v lt e h = rests (busy c request refl (λ f. let a = sym e ∙ f in cc) h.0) h.1
-call_shape w c request (Cut place target range) o v lt e h = rests (busy c request refl (λ f. let a = sym e ∙ f in cc) h.0) h.1
-call_shape w c request (Decide change) o v lt e h = rests (busy c request refl (λ f. let a = sym e ∙ f in cc) h.0) h.1
-call_shape w c request (Post change shoot) o v lt e h = rests (busy c request refl (λ f. let a = sym e ∙ f in cc) h.0) h.1
-call_shape w c request (Acks goal change) o v lt e h = rests (busy c request refl (λ f. let a = sym e ∙ f in cc) h.0) h.1
-call_shape w c request (Unlock held reply) o v lt e h = rests (busy c request refl (λ f. let a = sym e ∙ f in cc) h.0) h.1
-call_shape w c request (Answer reply) o v lt e h = rests (busy c request refl (λ f. let a = sym e ∙ f in cc) h.0) h.1
-call_shape w c request (Try touch) o v lt e h = rests (busy c request refl (λ f. let a = sym e ∙ f in cc) h.0) h.1
-call_shape w c request (Settle touch) o v lt e h = rests (busy c request refl (λ f. let a = sym e ∙ f in cc) h.0) h.1
-call_shape w c request (Want touch old) o v lt e h = rests (busy c request refl (λ f. let a = sym e ∙ f in cc) h.0) h.1
-call_shape w c request (CopyPost touch f) o v lt e h = rests (busy c request refl (λ f. let a = sym e ∙ f in cc) h.0) h.1
-call_shape w c request (CopyAcks touch f) o v lt e h = rests (busy c request refl (λ f. let a = sym e ∙ f in cc) h.0) h.1
-call_shape w c request (Fill touch f) o v lt e h = rests (busy c request refl (λ f. let a = sym e ∙ f in cc) h.0) h.1
-call_shape w c request (Install touch) o v lt e h = rests (busy c request refl (λ f. let a = sym e ∙ f in cc) h.0) h.1
-call_shape w c request (Release touch) o v lt e h = rests (busy c request refl (λ f. let a = sym e ∙ f in cc) h.0) h.1
+call_shape w c request _ o v lt e h = rests (busy c request refl (λ f. let a = sym e ∙ f in cc) h.0) h.1
 
 -- a step of core c's call that is plain
 step : (w : World) (c : ℕ) (o : Outcome) (v : World) → c < w.made.cores → o ≡ Stepped → GoesBy w c v → Shape w (Go c) o v
@@ -395,11 +320,10 @@ cut_shape w c place target range fit.Fits t o v lt e s h =
 
 -- a change whose range is given never looks elsewhere
 no_again : (files : ℕ → Option File) (s : Slots) (change : Change) → Decides files s (To.Change change) Again → ⊥
-no_again files s (Put range meta) h = h
-no_again files s (Clear range) h = h
 no_again files s (Protect range prot) (no_page a e) = cc
 no_again files s (Protect range prot) (no_write a k r e) = cc
 no_again files s (Protect range prot) (protects a r k) = k
+no_again files s _ h = h
 
 decide_shape : (w : World) (c : ℕ) (change : Change) (d : Decision) (v : World) → w.calls.phase c ≡ Decide change
     → Decides w.made.file w.slots (To.Change change) d
@@ -431,16 +355,14 @@ found_source file cached info access (Some f) shown u e = go (is_private_store i
     go : (a b : Bool) → is_private_store info.meta.back access ≡ a → is_cached shown f ≡ b
         → Finds file cached (Some info) access (if a && b then Copies f else Has f)
     go true true i j = (u, record { store = i; shown = ap (λ o. is_cached o f) e ∙ j })
-    go true false i j = u
-    go false b i j = u
+    go _ _ i j = u
 found_source file cached info access None None u e = u
 found_source file cached info access None (Some g) u e = go (is_private_store info.meta.back access) (is_anonymous info.meta.back) refl
   where
     go : (a b : Bool) → is_private_store info.meta.back access ≡ a
         → Finds file cached (Some info) access (if a || b then Wants else Cached g)
-    go true b i = u
-    go false true i = u
     go false false i = (u, (i, (g, e)))
+    go _ _ i = u
 
 found : (file : ℕ → Option File) (cached : ℕ → ℕ → Option ℕ) (info : Option PageInfo) (access : Access)
     → Finds file cached info access (settled info access (is_past_end file info) (file_frame cached (back_of info)))
@@ -450,9 +372,8 @@ found file cached (Some info) access = go (is_allowed info.meta.prot access) (is
     go : (a b : Bool) → is_allowed info.meta.prot access ≡ a → is_past_end file (Some info) ≡ b
         → Finds file cached (Some info) access
         (if a then (if b then Bus else source info.meta.back info.frame access (file_frame cached info.meta.back)) else AccErr)
-    go true true i j = tt
     go true false i j = found_source file cached info access info.frame (file_frame cached info.meta.back) (i, j, refl) refl
-    go false b i j = tt
+    go _ _ i j = tt
 
 settle_shape : (w : World) (c : ℕ) (touch : Touch) (s : Settled) (v : World) → w.calls.phase c ≡ Settle touch → found_at w touch ≡ s
     → Finds w.made.file w.memory.cached (w.slots.info touch.page) touch.access s → v ≡ after_finding c touch s w → GoesBy w c v
@@ -489,9 +410,7 @@ fill_shape w c touch own (Shared n k) access o v lt e b a h =
 fill_shape w c touch (Some f) (Private n k) Store o v lt e b a h =
     step w c o v lt h.2.0 (first_copies touch f h.0 e (rw (b, a) refl) h.1 h.2.1)
 fill_shape w c touch None (Private n k) Store o v lt e b a h = absurd h
-fill_shape w c touch own (Private n k) Load o v lt e b a h =
-    from_file w c touch own (w.memory.cached n k) o v lt e (record { of_file = rw b refl; no_copy = rw (b, a) refl }) (rw b refl) h
-fill_shape w c touch own (Private n k) Fetch o v lt e b a h =
+fill_shape w c touch own (Private n k) _ o v lt e b a h =
     from_file w c touch own (w.memory.cached n k) o v lt e (record { of_file = rw b refl; no_copy = rw (b, a) refl }) (rw b refl) h
 
 copy_shape : (w : World) (c : ℕ) (touch : Touch) (f : ℕ) (o : Outcome) (v : World) → c < w.made.cores
@@ -545,25 +464,7 @@ frame_shape w c f (Want touch old) o v lt e h = go (w.memory.is_free f) refl h
     go : (b : Bool) → w.memory.is_free f ≡ b → cond b (Becomes (after_frame c touch old f w) o v) (Idles w o v) → Shape w (EventOf.Frame c f) o v
     go true i k = goes c (picking f) k.0 lt (takes touch old f e i k.1)
     go false i k = idles w (EventOf.Frame c f) o v (λ d x. cc) (λ d r x. cc) k
-frame_shape w c f Free o v lt e h = idles w (EventOf.Frame c f) o v (λ d x. cc) (λ d r x. cc) h
-frame_shape w c f (Check r) o v lt e h = idles w (EventOf.Frame c f) o v (λ d x. cc) (λ d r x. cc) h
-frame_shape w c f (Lock goal cursor) o v lt e h = idles w (EventOf.Frame c f) o v (λ d x. cc) (λ d r x. cc) h
-frame_shape w c f (Guess place) o v lt e h = idles w (EventOf.Frame c f) o v (λ d x. cc) (λ d r x. cc) h
-frame_shape w c f (Find place target) o v lt e h = idles w (EventOf.Frame c f) o v (λ d x. cc) (λ d r x. cc) h
-frame_shape w c f (Leaving place target held) o v lt e h = idles w (EventOf.Frame c f) o v (λ d x. cc) (λ d r x. cc) h
-frame_shape w c f (Cut place target range) o v lt e h = idles w (EventOf.Frame c f) o v (λ d x. cc) (λ d r x. cc) h
-frame_shape w c f (Decide change) o v lt e h = idles w (EventOf.Frame c f) o v (λ d x. cc) (λ d r x. cc) h
-frame_shape w c f (Post change shoot) o v lt e h = idles w (EventOf.Frame c f) o v (λ d x. cc) (λ d r x. cc) h
-frame_shape w c f (Acks goal change) o v lt e h = idles w (EventOf.Frame c f) o v (λ d x. cc) (λ d r x. cc) h
-frame_shape w c f (Unlock held reply) o v lt e h = idles w (EventOf.Frame c f) o v (λ d x. cc) (λ d r x. cc) h
-frame_shape w c f (Answer reply) o v lt e h = idles w (EventOf.Frame c f) o v (λ d x. cc) (λ d r x. cc) h
-frame_shape w c f (Try touch) o v lt e h = idles w (EventOf.Frame c f) o v (λ d x. cc) (λ d r x. cc) h
-frame_shape w c f (Settle touch) o v lt e h = idles w (EventOf.Frame c f) o v (λ d x. cc) (λ d r x. cc) h
-frame_shape w c f (Fill touch g) o v lt e h = idles w (EventOf.Frame c f) o v (λ d x. cc) (λ d r x. cc) h
-frame_shape w c f (CopyPost touch g) o v lt e h = idles w (EventOf.Frame c f) o v (λ d x. cc) (λ d r x. cc) h
-frame_shape w c f (CopyAcks touch g) o v lt e h = idles w (EventOf.Frame c f) o v (λ d x. cc) (λ d r x. cc) h
-frame_shape w c f (Install touch) o v lt e h = idles w (EventOf.Frame c f) o v (λ d x. cc) (λ d r x. cc) h
-frame_shape w c f (Release touch) o v lt e h = idles w (EventOf.Frame c f) o v (λ d x. cc) (λ d r x. cc) h
+frame_shape w c f _ o v lt e h = idles w (EventOf.Frame c f) o v (λ d x. cc) (λ d r x. cc) h
 
 -- a run that a placed mapping is to guess, where it looks for a place
 run_shape : (w : World) (c first : ℕ) (phase : Phase) (o : Outcome) (v : World) → c < w.made.cores → w.calls.phase c ≡ phase
@@ -579,48 +480,12 @@ run_shape w c first (Guess place) o v lt e h = go (nat_le place.window.first fir
         (at_run first (run_of place.window place.count first (record { low = upto _ _ i; high = upto _ _ j }))) k.0 lt e k.1
     go true false i j k = idles w (EventOf.Guess c first) o v (λ d x. cc) (λ d r x. cc) k
     go false b i j k = idles w (EventOf.Guess c first) o v (λ d x. cc) (λ d r x. cc) k
-run_shape w c first Free o v lt e h = idles w (EventOf.Guess c first) o v (λ d x. cc) (λ d r x. cc) h
-run_shape w c first (Check r) o v lt e h = idles w (EventOf.Guess c first) o v (λ d x. cc) (λ d r x. cc) h
-run_shape w c first (Lock goal cursor) o v lt e h = idles w (EventOf.Guess c first) o v (λ d x. cc) (λ d r x. cc) h
-run_shape w c first (Find place target) o v lt e h = idles w (EventOf.Guess c first) o v (λ d x. cc) (λ d r x. cc) h
-run_shape w c first (Leaving place target held) o v lt e h = idles w (EventOf.Guess c first) o v (λ d x. cc) (λ d r x. cc) h
-run_shape w c first (Cut place target range) o v lt e h = idles w (EventOf.Guess c first) o v (λ d x. cc) (λ d r x. cc) h
-run_shape w c first (Decide change) o v lt e h = idles w (EventOf.Guess c first) o v (λ d x. cc) (λ d r x. cc) h
-run_shape w c first (Post change shoot) o v lt e h = idles w (EventOf.Guess c first) o v (λ d x. cc) (λ d r x. cc) h
-run_shape w c first (Acks goal change) o v lt e h = idles w (EventOf.Guess c first) o v (λ d x. cc) (λ d r x. cc) h
-run_shape w c first (Unlock held reply) o v lt e h = idles w (EventOf.Guess c first) o v (λ d x. cc) (λ d r x. cc) h
-run_shape w c first (Answer reply) o v lt e h = idles w (EventOf.Guess c first) o v (λ d x. cc) (λ d r x. cc) h
-run_shape w c first (Try touch) o v lt e h = idles w (EventOf.Guess c first) o v (λ d x. cc) (λ d r x. cc) h
-run_shape w c first (Settle touch) o v lt e h = idles w (EventOf.Guess c first) o v (λ d x. cc) (λ d r x. cc) h
-run_shape w c first (Want touch old) o v lt e h = idles w (EventOf.Guess c first) o v (λ d x. cc) (λ d r x. cc) h
-run_shape w c first (Fill touch g) o v lt e h = idles w (EventOf.Guess c first) o v (λ d x. cc) (λ d r x. cc) h
-run_shape w c first (CopyPost touch g) o v lt e h = idles w (EventOf.Guess c first) o v (λ d x. cc) (λ d r x. cc) h
-run_shape w c first (CopyAcks touch g) o v lt e h = idles w (EventOf.Guess c first) o v (λ d x. cc) (λ d r x. cc) h
-run_shape w c first (Install touch) o v lt e h = idles w (EventOf.Guess c first) o v (λ d x. cc) (λ d r x. cc) h
-run_shape w c first (Release touch) o v lt e h = idles w (EventOf.Guess c first) o v (λ d x. cc) (λ d r x. cc) h
+run_shape w c first _ o v lt e h = idles w (EventOf.Guess c first) o v (λ d x. cc) (λ d r x. cc) h
 
 window_shape : (w : World) (c : ℕ) (phase : Phase) (o : Outcome) (v : World) → c < w.made.cores → w.calls.phase c ≡ phase
     → TakesWindow w c phase o v → Shape w (EventOf.Whole c) o v
 window_shape w c (Guess place) o v lt e h = aims c place Window at_window h.0 lt e h.1
-window_shape w c Free o v lt e h = idles w (EventOf.Whole c) o v (λ d x. cc) (λ d r x. cc) h
-window_shape w c (Check r) o v lt e h = idles w (EventOf.Whole c) o v (λ d x. cc) (λ d r x. cc) h
-window_shape w c (Lock goal cursor) o v lt e h = idles w (EventOf.Whole c) o v (λ d x. cc) (λ d r x. cc) h
-window_shape w c (Find place target) o v lt e h = idles w (EventOf.Whole c) o v (λ d x. cc) (λ d r x. cc) h
-window_shape w c (Leaving place target held) o v lt e h = idles w (EventOf.Whole c) o v (λ d x. cc) (λ d r x. cc) h
-window_shape w c (Cut place target range) o v lt e h = idles w (EventOf.Whole c) o v (λ d x. cc) (λ d r x. cc) h
-window_shape w c (Decide change) o v lt e h = idles w (EventOf.Whole c) o v (λ d x. cc) (λ d r x. cc) h
-window_shape w c (Post change shoot) o v lt e h = idles w (EventOf.Whole c) o v (λ d x. cc) (λ d r x. cc) h
-window_shape w c (Acks goal change) o v lt e h = idles w (EventOf.Whole c) o v (λ d x. cc) (λ d r x. cc) h
-window_shape w c (Unlock held reply) o v lt e h = idles w (EventOf.Whole c) o v (λ d x. cc) (λ d r x. cc) h
-window_shape w c (Answer reply) o v lt e h = idles w (EventOf.Whole c) o v (λ d x. cc) (λ d r x. cc) h
-window_shape w c (Try touch) o v lt e h = idles w (EventOf.Whole c) o v (λ d x. cc) (λ d r x. cc) h
-window_shape w c (Settle touch) o v lt e h = idles w (EventOf.Whole c) o v (λ d x. cc) (λ d r x. cc) h
-window_shape w c (Want touch old) o v lt e h = idles w (EventOf.Whole c) o v (λ d x. cc) (λ d r x. cc) h
-window_shape w c (Fill touch g) o v lt e h = idles w (EventOf.Whole c) o v (λ d x. cc) (λ d r x. cc) h
-window_shape w c (CopyPost touch g) o v lt e h = idles w (EventOf.Whole c) o v (λ d x. cc) (λ d r x. cc) h
-window_shape w c (CopyAcks touch g) o v lt e h = idles w (EventOf.Whole c) o v (λ d x. cc) (λ d r x. cc) h
-window_shape w c (Install touch) o v lt e h = idles w (EventOf.Whole c) o v (λ d x. cc) (λ d r x. cc) h
-window_shape w c (Release touch) o v lt e h = idles w (EventOf.Whole c) o v (λ d x. cc) (λ d r x. cc) h
+window_shape w c _ o v lt e h = idles w (EventOf.Whole c) o v (λ d x. cc) (λ d r x. cc) h
 
 take_shape : (w : World) (c : ℕ) (t : Took) (o : Outcome) (v : World) → c < w.made.cores → asked (w.hardware.inbox c) ≡ t
     → TakesMessage w c t o v → Shape w (EventOf.Take c) o v
@@ -675,27 +540,9 @@ can_give_up_shape w c phase o v lt e u h = go (can_give_up phase) refl h
 
 give_up_shape : (w : World) (c : ℕ) (phase : Phase) (o : Outcome) (v : World) → c < w.made.cores → w.calls.phase c ≡ phase
     → GivesUp w c phase o v → Shape w (EventOf.GiveUp c) o v
-give_up_shape w c Free o v lt e h = can_give_up_shape w c Free o v lt e tt h
-give_up_shape w c (Check request) o v lt e h = can_give_up_shape w c (Check request) o v lt e tt h
-give_up_shape w c (Lock goal cursor) o v lt e h = can_give_up_shape w c (Lock goal cursor) o v lt e tt h
-give_up_shape w c (Guess place) o v lt e h = can_give_up_shape w c (Guess place) o v lt e tt h
-give_up_shape w c (Find place target) o v lt e h = can_give_up_shape w c (Find place target) o v lt e tt h
-give_up_shape w c (Leaving place target held) o v lt e h = can_give_up_shape w c (Leaving place target held) o v lt e tt h
-give_up_shape w c (Cut place target range) o v lt e h = can_give_up_shape w c (Cut place target range) o v lt e tt h
-give_up_shape w c (Decide change) o v lt e h = can_give_up_shape w c (Decide change) o v lt e tt h
-give_up_shape w c (Post change shoot) o v lt e h = can_give_up_shape w c (Post change shoot) o v lt e tt h
-give_up_shape w c (Acks goal change) o v lt e h = can_give_up_shape w c (Acks goal change) o v lt e tt h
-give_up_shape w c (Unlock held reply) o v lt e h = can_give_up_shape w c (Unlock held reply) o v lt e tt h
-give_up_shape w c (Answer reply) o v lt e h = can_give_up_shape w c (Answer reply) o v lt e tt h
-give_up_shape w c (Try touch) o v lt e h = can_give_up_shape w c (Try touch) o v lt e tt h
-give_up_shape w c (Settle touch) o v lt e h = can_give_up_shape w c (Settle touch) o v lt e tt h
-give_up_shape w c (Want touch old) o v lt e h = can_give_up_shape w c (Want touch old) o v lt e tt h
-give_up_shape w c (Fill touch own) o v lt e h = can_give_up_shape w c (Fill touch own) o v lt e tt h
-give_up_shape w c (CopyPost touch f) o v lt e h = can_give_up_shape w c (CopyPost touch f) o v lt e tt h
-give_up_shape w c (Install touch) o v lt e h = can_give_up_shape w c (Install touch) o v lt e tt h
-give_up_shape w c (Release touch) o v lt e h = can_give_up_shape w c (Release touch) o v lt e tt h
 give_up_shape w c (CopyAcks touch f) o v lt e (inl h) = can_give_up_shape w c (CopyAcks touch f) o v lt e h.0 h.1
 give_up_shape w c (CopyAcks touch f) o v lt e (inr h) = idles w (EventOf.GiveUp c) o v (λ d x. cc) (λ d r x. cc) h.1
+give_up_shape w c phase o v lt e h = can_give_up_shape w c phase o v lt e tt h
 
 -- ---- every event
 

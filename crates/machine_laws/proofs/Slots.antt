@@ -1,12 +1,6 @@
 -- Owners and mappings that a step of a call changes, and what pages have
-use Rattle.std.proofs.Common.{◌≡◌, ◌≢◌, ℕ, ◌<◌, Bool, true, false, refl, sym, ap, subst, Some, None, Option, ◌∙◌}
-use Rattle.vm_base.specs.declared.info.PageInfo.{PageInfo}
-use Rattle.vm_base.specs.Functions.{over}
-use Rattle.vm_base.proofs.Functions.{over_all}
-use Rattle.slot_lock.specs.Slots.{Slots, Divides}
-use Rattle.machine_model.specs.declared.phase.Phase.{Phase}
-use Rattle.machine_model.specs.Holding.{holds, range_held, awaits_in, taken_in}
-use Rattle.machine_model.specs.World.{World}
+use Rattle.machine_laws.proofs.Words.{◌≡◌, ◌≢◌, ℕ, ◌<◌, Bool, true, false, refl, sym, ap, subst, Some, None, Option, ◌∙◌, PageInfo, over, over_all, Slots}
+use Rattle.machine_laws.proofs.Words.{Divides, Phase, holds, range_held, awaits_in, taken_in, World}
 use Rattle.machine_laws.specs.Orderly.{IsOrderly, IsAsked, IsCutFor, IsReady, BelongsTo}
 use Rattle.machine_laws.proofs.Moves.{IsCall, IsCallOf, Touches, cut_kept, ready_kept}
 

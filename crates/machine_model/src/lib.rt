@@ -1,6 +1,8 @@
-//! The abstract machine: its state, its events, and what each event does to it.
+//! The abstract machine: its state, its events, and what each event does to it. `answers` has what
+//! the machine and the threads both answer.
 #![tactic(auto)]
 
+pub mod answers;
 pub mod event;
 pub mod phase;
 

@@ -1,36 +1,19 @@
 -- The steps of a load, a store or a fetch that read and write memory, take frames and fill pages
-use Rattle.std.proofs.Common.{◌≡◌, ℕ, Bool, true, false, refl, sym, ap, subst, Some, None, Option, ◌∙◌}
-use Rattle.std.specs.Prelude.{◌&&◌, ◌||◌, if◌then◌else◌}
-use Rattle.vm_base.specs.declared.info.Back.{Back}
-use Rattle.vm_base.specs.declared.info.PageInfo.{PageInfo}
-use Rattle.vm_base.specs.declared.page.PageRange.{PageRange}
-use Rattle.vm_base.specs.declared.replies.Reply.{Reply}
-use Rattle.vm_base.specs.declared.replies.Reply.TheVariants.{NoFrame}
-use Rattle.vm_base.specs.declared.rights.Access.{Access}
-use Rattle.vm_base.specs.declared.rights.Access.TheVariants.{Load, Store, Fetch}
-use Rattle.vm_base.specs.Functions.{put}
-use Rattle.vm_base.specs.Info.{frame_of, info_with_core}
-use Rattle.vm_base.specs.Plain.{File, Entry, Plain}
-use Rattle.vm_base.specs.Rights.{is_allowed}
-use Rattle.vm_base.specs.Apply.{byte_reply, entry_reply, is_anonymous}
-use Rattle.vm_base.proofs.Functions.{put_all}
-use Rattle.slot_lock.specs.declared.plan.Touch.{Touch}
-use Rattle.slot_lock.specs.Slots.{with_info}
-use Rattle.vm_calls.specs.declared.fault.Settled.{Settled}
-use Rattle.vm_calls.specs.declared.fault.Settled.TheVariants.{MapErr as NoMapping, AccErr as Forbidden, Bus as PastEnd, Has, Copies, Cached, Wants}
+use Rattle.machine_laws.proofs.Words.{◌≡◌, ℕ, Bool, true, false, refl, sym, ap, subst, Some, None, Option, ◌∙◌, ◌&&◌, ◌||◌, if◌then◌else◌, Back, PageInfo}
+use Rattle.machine_laws.proofs.Words.{PageRange, Reply, NoFrame, Access, put, frame_of, info_with_core, File, Plain, is_allowed, byte_reply, entry_reply}
+use Rattle.machine_laws.proofs.Words.{is_anonymous, put_all, Touch, with_info, Settled, Has, Copies, Cached, Wants, settled, source, is_cached}
+use Rattle.machine_laws.proofs.Words.{is_private_store, Event, Try, Settle, Want, Release, memory_after, reply_of, after_access, found_at, is_past_end}
+use Rattle.machine_laws.proofs.Words.{NoneFree, after_install, back_of, file_frame, shows_file, is_private, after_reply, translated_by, frame_reached}
+use Rattle.machine_laws.proofs.Words.{after_translating, with_hardware, World, Memory}
+use Rattle.vm_base.specs.declared.rights.Access.TheVariants.{Load, Store}
+use Rattle.vm_base.specs.Plain.{Entry}
+use Rattle.vm_calls.specs.declared.fault.Settled.TheVariants.{MapErr as NoMapping, AccErr as Forbidden, Bus as PastEnd}
 use Rattle.vm_calls.specs.Plainly.{touched_by}
-use Rattle.vm_calls.specs.Settling.{settled, source, is_cached, is_private_store}
-use Rattle.machine_model.specs.declared.event.Event.{Event}
-use Rattle.machine_model.specs.declared.phase.Phase.TheVariants.{Try, Settle, Want, Release}
-use Rattle.machine_model.specs.Accesses.{bytes_after, memory_after, reply_of, after_access, found_at, is_past_end, NoneFree, after_install}
-use Rattle.machine_model.specs.Files.{back_of, file_frame, shows_file, is_private}
-use Rattle.machine_model.specs.Actions.{after_reply}
-use Rattle.machine_model.specs.Translating.{translated_by, frame_reached, after_translating, with_hardware}
-use Rattle.machine_model.specs.World.{World, Memory}
-use Rattle.machine_counting.specs.Counted.{IsCountedState}
+use Rattle.machine_model.specs.Accesses.{bytes_after}
+use Rattle.machine_invariants.specs.Counted.{IsCountedState}
 use Rattle.machine_laws.proofs.Moves.{IsCallOf, call_at}
 use Rattle.machine_laws.proofs.Shapes.{IsFault}
-use Rattle.machine_counting.proofs.Kept.{same_with_core}
+use Rattle.machine_invariants.proofs.CountsKept.{same_with_core}
 use Rattle.machine_sound.specs.Invariant.{IsWellFormed, ShowsPlain, Shows, ShowsPage, own_frame}
 use Rattle.machine_sound.proofs.Moves.{Leaves, shows_less, goes_on, tells, answers}
 use Rattle.machine_sound.proofs.Reaching.{ReachesFrame, reaches}
@@ -40,18 +23,16 @@ use Rattle.machine_sound.proofs.Replies.{IsReply, due_so, touched_stands, no_fra
 
 -- ---- Try
 
-byte_is_reply : (access : Access) (byte : ℕ) → IsReply (byte_reply access byte)
+pub byte_is_reply : (access : Access) (byte : ℕ) → IsReply (byte_reply access byte)
 byte_is_reply Load byte = tt
-byte_is_reply Store byte = tt
-byte_is_reply Fetch byte = tt
+byte_is_reply _ byte = tt
 
 access_shows : (w : World) (t : Plain) (touch : Touch) (f byte : ℕ) (access : Access) (k : IsFramed w t touch.page f) → ShowsPlain w t → IsCountedState w
     → (access ≡ Store → (is_private k.info.meta.back && shows_file w.memory.cached k.info.meta.back f) ≡ false)
     → Shows w.made.file w.slots.info (record w.memory { bytes = bytes_after access f touch.offset touch.byte w.memory.bytes })
     (touched_by t touch (byte_reply access byte))
-access_shows w t touch f byte Load k g n writes = g
-access_shows w t touch f byte Fetch k g n writes = g
 access_shows w t touch f byte Store k g n writes = stored_shows w t touch.page f touch.offset touch.byte k g n (writes refl)
+access_shows w t touch f byte _ k g n writes = g
 
 pub access_made : (w : World) (event : Event) (c : ℕ) (touch : Touch) (f : ℕ) → w.calls.phase c ≡ Try touch
     → frame_reached (translated_by w.hardware c touch) ≡ Some f → IsWellFormed w
@@ -101,10 +82,7 @@ no_fault : (s : Settled) (reply : Reply) → Faultless s → IsFault s reply →
 no_fault NoMapping reply n f = n
 no_fault Forbidden reply n f = n
 no_fault PastEnd reply n f = n
-no_fault (Has g) reply n f = f
-no_fault (Copies g) reply n f = f
-no_fault (Cached g) reply n f = f
-no_fault Wants reply n f = f
+no_fault _ reply n f = f
 
 -- the fault is the plain page map's answer
 fault_reply : (w : World) (t : Plain) (touch : Touch) (reply : Reply) → ShowsPlain w t → IsFault (found_at w touch) reply
@@ -166,9 +144,7 @@ recorded_whole file c (Some info) = refl
 
 recorded_shown : (m : Memory) (c : ℕ) (o : Option PageInfo) (z : Option Entry) → ShowsPage m o z → ShowsPage m (info_with_core c o) z
 recorded_shown m c None None s = s
-recorded_shown m c None (Some entry) s = s
-recorded_shown m c (Some info) None s = s
-recorded_shown m c (Some info) (Some entry) s = s
+recorded_shown m c _ _ s = s
 
 pub core_installed : (w : World) (event : Event) (c : ℕ) (touch : Touch) → IsWellFormed w → Leaves w event (after_install c touch w)
 core_installed w event c touch f =

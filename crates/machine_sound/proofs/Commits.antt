@@ -1,27 +1,14 @@
 -- The change that a call makes of its pages is the plain page map's.
-use Rattle.std.proofs.Common.{◌≡◌, ℕ, ◌<◌, Bool, true, false, cond, refl, sym, subst, Some, None, Option, ◌∙◌}
+use Rattle.machine_laws.proofs.Words.{◌≡◌, ℕ, ◌<◌, Bool, true, false, cond, refl, sym, subst, Some, None, Option, ◌∙◌, PageInfo, Prot, has, advance, unused}
+use Rattle.machine_laws.proofs.Words.{frame_of, info_with_prot, File, Plain, Change, Put, Clear, Protect, Goal, goal_range, Slots, Event, Acks, Counts}
+use Rattle.machine_laws.proofs.Words.{with_counts, slots_after, reply_to, after_commit, is_past_end, World, Memory}
 use Rattle.std.specs.Prelude.{◌-◌}
-use Rattle.vm_base.specs.declared.info.PageInfo.{PageInfo}
-use Rattle.vm_base.specs.declared.rights.Prot.{Prot}
-use Rattle.vm_base.specs.Functions.{has}
-use Rattle.vm_base.specs.Info.{advance, advance_back, unused, frame_of, info_with_prot}
-use Rattle.vm_base.specs.Plain.{File, Entry, Plain}
+use Rattle.vm_base.specs.Info.{advance_back}
+use Rattle.vm_base.specs.Plain.{Entry}
 use Rattle.vm_base.specs.Apply.{new_entry, with_prot}
-use Rattle.slot_lock.specs.declared.plan.Change.{Change}
-use Rattle.slot_lock.specs.declared.plan.Change.TheVariants.{Put, Clear, Protect}
-use Rattle.slot_lock.specs.declared.plan.Goal.{Goal}
-use Rattle.slot_lock.specs.Plan.{goal_range}
-use Rattle.slot_lock.specs.Slots.{Slots}
-use Rattle.machine_model.specs.declared.event.Event.{Event}
-use Rattle.machine_model.specs.declared.phase.Phase.TheVariants.{Acks}
-use Rattle.refcache.specs.Counts.{Counts}
-use Rattle.machine_model.specs.Counting.{with_counts}
-use Rattle.machine_model.specs.Changes.{slots_after, reply_to, after_commit}
-use Rattle.machine_model.specs.Accesses.{is_past_end}
-use Rattle.machine_model.specs.World.{World, Memory}
 use Rattle.machine_laws.proofs.Changed.{changed_all}
 use Rattle.machine_laws.proofs.Moves.{IsCallOf, call_at}
-use Rattle.machine_counting.proofs.Kept.{same_with_prot}
+use Rattle.machine_invariants.proofs.CountsKept.{same_with_prot}
 use Rattle.machine_sound.specs.Invariant.{IsWellFormed, ShowsPage, ShowsFile, own_frame}
 use Rattle.machine_sound.proofs.Moves.{Leaves, shows_less, with_counts_shown, tells}
 use Rattle.machine_sound.proofs.Replies.{reply_is, due_so, made_of, acted, led_goes}
@@ -35,8 +22,7 @@ both_tests P false x y a d h k = k refl
 protected_shown : (m : Memory) (prot : Prot) (o : Option PageInfo) (z : Option Entry) → ShowsPage m o z → ShowsPage m (info_with_prot prot o) (with_prot prot z)
 protected_shown m prot None None h = tt
 protected_shown m prot (Some info) (Some page) h = (h.0, refl, h.2)
-protected_shown m prot None (Some page) h = absurd h
-protected_shown m prot (Some info) None h = absurd h
+protected_shown m prot _ _ h = absurd h
 
 pages_changed : (m : Memory) (s : Slots) (t : Plain) (change : Change) → ((p : ℕ) → ShowsPage m (s.info p) (t.entry p))
     → (p : ℕ) → ShowsPage m ((slots_after change s).info p) ((made_of t change).entry p)
@@ -50,8 +36,7 @@ pages_changed m s t (Protect range prot) h p =
 
 files_changed : (t : Plain) (change : Change) → (made_of t change).file ≡ t.file
 files_changed t (Put range meta) = refl
-files_changed t (Clear range) = refl
-files_changed t (Protect range prot) = refl
+files_changed t _ = refl
 
 protected_own : (cached : ℕ → ℕ → Option ℕ) (prot : Prot) (o : Option PageInfo) → own_frame cached (info_with_prot prot o) ≡ own_frame cached o
 protected_own cached prot None = refl

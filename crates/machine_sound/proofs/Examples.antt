@@ -1,18 +1,10 @@
 -- Logs that are legal, and entries that aren't, by computation
-use Rattle.std.proofs.Common.{◌≡◌, ℕ, arith, Bool, true, false, refl, subst, Some, None, Option, List, [], ◌∷◌}
-use Rattle.vm_base.specs.declared.replies.Errno.TheVariants.{EINVAL, ENOMEM}
-use Rattle.vm_base.specs.declared.replies.Reply.TheVariants.{Mapped, Done, Byte, Refused, NoFrame}
-use Rattle.vm_base.specs.declared.requests.Flags.{Flags}
-use Rattle.vm_base.specs.declared.requests.Request.{Request}
-use Rattle.vm_base.specs.declared.requests.Request.TheVariants.{Mmap, Munmap, Load, Store}
-use Rattle.vm_base.specs.declared.rights.Prot.{Prot}
-use Rattle.vm_base.specs.declared.info.Back.TheVariants.{Anon}
-use Rattle.vm_base.specs.Apply.{Maps, range_at}
+use Rattle.machine_laws.proofs.Words.{◌≡◌, ℕ, arith, Bool, true, false, refl, subst, Some, None, Option, List, [], ◌∷◌, EINVAL, ENOMEM, Mapped, Done, Byte}
+use Rattle.machine_laws.proofs.Words.{Refused, NoFrame, Flags, Request, Mmap, Munmap, Load, Store, Prot, Anon, range_at, Plain, nothing_mapped, Entry, Stands}
+use Rattle.machine_laws.proofs.Words.{Replays, IsPlace}
+use Rattle.vm_base.specs.Apply.{Maps}
 use Rattle.vm_base.specs.Places.IsPlace.{at_hint, in_window, nowhere}
-use Rattle.vm_base.specs.Plain.{Plain, nothing_mapped}
-use Rattle.vm_base.specs.declared.log.Entry.{Entry}
 use Rattle.vm_base.specs.declared.log.Entry.TheVariants.{Answer}
-use Rattle.vm_base.specs.Log.{Stands, Replays}
 
 abbrev pub read_write : Prot
 read_write = record { read = true; write = true; exec = false }
@@ -56,11 +48,11 @@ legal = (
 )
 
 -- the same mapping may as well be anywhere in its core's window
-elsewhere : (t : Plain) × Stands nothing 0 (Mmap 65536 4096 read_write (anonymous false) 0 0) (Mapped 549755813888) t
+elsewhere : (t : Plain) × Stands IsPlace nothing 0 (Mmap 65536 4096 read_write (anonymous false) 0 0) (Mapped 549755813888) t
 elsewhere = (_, (Some 134217728, in_window 134217728 (record { low = omega arith; high = omega arith }, λ p h. refl) refl, (refl, refl)))
 
 -- but it isn't refused while there is room
-no_refusal : (t : Plain) → Stands nothing 0 (Mmap 65536 4096 read_write (anonymous false) 0 0) (Refused ENOMEM) t → ⊥
+no_refusal : (t : Plain) → Stands IsPlace nothing 0 (Mmap 65536 4096 read_write (anonymous false) 0 0) (Refused ENOMEM) t → ⊥
 no_refusal t h = elim h.1 [
   | at_hint a e ↦ placed _ e
   | in_window s a e ↦ placed s e
@@ -71,14 +63,14 @@ no_refusal t h = elim h.1 [
     placed s e = let z = subst (λ (o : Option ℕ). Maps nothing (range_at o 1) Anon read_write (Refused ENOMEM) t) e h.2 in let same = z.0 in cc
 
 -- after them no other byte is loaded
-other_byte : (u : Plain) → Stands legal.0 0 (Load 65540) (Byte 7) u → ⊥
+other_byte : (u : Plain) → Stands IsPlace legal.0 0 (Load 65540) (Byte 7) u → ⊥
 unfolding legal
 other_byte u h = let e : Some (Byte 41) ≡ Some (Byte 7) = h.0 in cc
 
 -- a store that found no frame doesn't stand where nothing is mapped
-no_frame : (u : Plain) → Stands nothing 0 (Store 65540 41) NoFrame u → ⊥
+no_frame : (u : Plain) → Stands IsPlace nothing 0 (Store 65540 41) NoFrame u → ⊥
 no_frame u h = h.0
 
 -- a length of 0 is refused, whatever is mapped
-no_length : (t : Plain) → Stands t 0 (Munmap 65536 0) (Refused EINVAL) t
+no_length : (t : Plain) → Stands IsPlace t 0 (Munmap 65536 0) (Refused EINVAL) t
 no_length t = (refl, refl)

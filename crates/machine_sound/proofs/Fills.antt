@@ -1,33 +1,17 @@
 -- A page gets a frame: of its own, the one that caches its file page, or a copy of that one
-use Rattle.std.proofs.Common.{◌≡◌, ◌≢◌, ℕ, Bool, true, false, cond, arith, refl, sym, ap, subst, Some, None, Option, ◌∙◌}
-use Rattle.std.proofs.lemmas.Int.{ints}
-use Rattle.std.specs.Prelude.{if◌then◌else◌}
-use Rattle.vm_base.specs.declared.info.Back.{Back}
-use Rattle.vm_base.specs.declared.info.Back.TheVariants.{Anon, Shared, Private}
-use Rattle.vm_base.specs.declared.info.PageInfo.{PageInfo}
-use Rattle.vm_base.specs.declared.rights.Access.{Access}
-use Rattle.vm_base.specs.declared.rights.Access.TheVariants.{Load, Store, Fetch}
-use Rattle.vm_base.specs.Functions.{put}
-use Rattle.vm_base.specs.Info.{frame_of, info_with_frame, info_with_copy}
-use Rattle.vm_base.specs.Plain.{Bytes, File, Entry, Plain, bytes_of, back_bytes, bytes_in, zeros}
-use Rattle.vm_base.specs.Apply.{first_own, is_anonymous, is_uncopied, copied, detached, detached_entry}
-use Rattle.vm_base.proofs.Functions.{put_all, put_same, put_other}
-use Rattle.slot_lock.specs.declared.plan.Touch.{Touch}
-use Rattle.vm_calls.specs.Settling.{is_cached, is_private_store}
-use Rattle.refcache.specs.Counts.{Counts}
-use Rattle.machine_model.specs.declared.event.Event.{Event}
-use Rattle.machine_model.specs.declared.phase.Phase.TheVariants.{Fill, CopyAcks, Install}
-use Rattle.machine_model.specs.Accesses.{is_past_end}
-use Rattle.machine_model.specs.Files.{back_of, file_frame, shows_file, with_cached, page_now, bytes_shown}
-use Rattle.machine_model.specs.Filling.{after_zeros, after_first_copy, after_caching, after_sharing, after_copy}
-use Rattle.machine_model.specs.Holding.{taken_in}
-use Rattle.machine_model.specs.World.{World, Memory}
+use Rattle.machine_laws.proofs.Words.{◌≡◌, ◌≢◌, ℕ, Bool, true, false, cond, arith, refl, sym, ap, subst, Some, None, Option, ◌∙◌, ints, if◌then◌else◌, Back}
+use Rattle.machine_laws.proofs.Words.{Anon, Shared, Private, PageInfo, Access, put, frame_of, info_with_frame, info_with_copy, Bytes, File, Plain, bytes_in}
+use Rattle.machine_laws.proofs.Words.{zeros, is_anonymous, is_uncopied, detached, put_all, put_same, put_other, Touch, is_cached, is_private_store, Counts}
+use Rattle.machine_laws.proofs.Words.{Event, Fill, CopyAcks, Install, is_past_end, back_of, file_frame, shows_file, with_cached, page_now, bytes_shown}
+use Rattle.machine_laws.proofs.Words.{after_zeros, after_first_copy, after_caching, after_sharing, after_copy, taken_in, World, Memory, CanAccess}
+use Rattle.vm_base.specs.declared.rights.Access.TheVariants.{Store}
+use Rattle.vm_base.specs.Plain.{Entry, bytes_of, back_bytes}
+use Rattle.vm_base.specs.Apply.{first_own, copied, detached_entry}
 use Rattle.machine_laws.specs.Orderly.{IsUsable}
 use Rattle.machine_laws.proofs.Moves.{IsCallOf, call_at}
 use Rattle.machine_laws.proofs.Shapes.{IsShowing}
-use Rattle.machine_coherence.proofs.Steps.{same_shown}
-use Rattle.machine_counting.proofs.Kept.{unused_no_page, cached_positive}
-use Rattle.vm_base.specs.Log.{CanAccess}
+use Rattle.machine_invariants.proofs.CoherenceSteps.{same_shown}
+use Rattle.machine_invariants.proofs.CountsKept.{unused_no_page, cached_positive}
 use Rattle.machine_sound.specs.Invariant.{IsWellFormed, ShowsPlain, Shows, ShowsPage, ShowsFile, Owns, MayOwn, own_frame, own_frame_of}
 use Rattle.machine_sound.proofs.Moves.{Leaves, goes_on, copies_on, with_counts_shown}
 use Rattle.machine_sound.proofs.Pages.{with_bytes, IsFramed, framed, can_access, page_kept, file_kept, own_is_frame, own_none, shown_now, is_it}
@@ -123,12 +107,10 @@ no_frame_yet file access (Some info) u = u.2
 -- an anonymous page without frame has zero bytes, as its frame does now
 zeros_shown : (m : Memory) (f : ℕ) (o : Option PageInfo) (z : Option Entry) → back_of o ≡ Anon → frame_of o ≡ None → ShowsPage m o z
     → ShowsPage (with_bytes m f zeros) (info_with_frame f o) z
-zeros_shown m f None None a none s = s
-zeros_shown m f None (Some entry) a none s = s
-zeros_shown m f (Some info) None a none s = s
 zeros_shown m f (Some info) (Some entry) a none s =
     let own : entry.own ≡ Some zeros = subst (λ x. Owns m Anon x entry.own) none (subst (λ x. Owns m x info.frame entry.own) a s.2) in
     (s.0, s.1, subst (λ back. Owns (with_bytes m f zeros) back (Some f) entry.own) (sym a) (tt, own ∙ ap Some (sym (put_same m.bytes f zeros))))
+zeros_shown m f _ _ a none s = s
 
 pub page_zeroed : (w : World) (event : Event) (c : ℕ) (touch : Touch) (f : ℕ) (counts : Counts) → w.calls.phase c ≡ Fill touch (Some f)
     → back_of (w.slots.info touch.page) ≡ Anon → IsWellFormed w → Leaves w event (after_zeros c touch f counts w)
@@ -189,10 +171,7 @@ pub private_only : (back : Back) (access : Access) → is_private_store back acc
     → (access ≡ Store) × (is_uncopied back None ≡ true) × MayOwn back × (back ≢ Anon)
     × (first_own back ≡ None)
 private_only (Private n k) Store h = (refl, refl, tt, λ e. cc, refl)
-private_only (Private n k) Load h = absurd cc
-private_only (Private n k) Fetch h = absurd cc
-private_only (Shared n k) access h = absurd cc
-private_only Anon access h = absurd cc
+private_only _ _ h = absurd cc
 
 -- a page without a frame
 first_uncopied : (w : World) (t : Plain) (page : ℕ) (access : Access) → ShowsPlain w t → IsUsable w.made.file (w.slots.info page) access None
@@ -319,13 +298,11 @@ file_shown m f (Some info) (Some entry) of_file none h before s = (
   where
     bare : (back : Back) → is_anonymous back ≡ false → first_own back ≡ None
     bare Anon i = absurd cc
-    bare (Shared n k) i = refl
-    bare (Private n k) i = refl
+    bare _ i = refl
 
 not_anon : (back : Back) → is_anonymous back ≡ false → back ≢ Anon
 not_anon Anon h e = cc
-not_anon (Shared n k) h e = cc
-not_anon (Private n k) h e = cc
+not_anon _ h e = cc
 
 framed_own_none : (cached : ℕ → ℕ → Option ℕ) (f : ℕ) (o : Option PageInfo) → shows_file cached (back_of o) f ≡ true
     → own_frame cached (info_with_frame f o) ≡ None
@@ -393,9 +370,6 @@ page_shared w event c touch own g counts e shows at well =
 file_cached : (w : World) (f m k : ℕ) (first now : Option File) (n : ℕ) → ((l : ℕ) → w.memory.cached n l ≢ Some f) → w.memory.cached m k ≡ None
     → ShowsFile w.memory.bytes (w.memory.cached n) first now → (x : Bytes) → (n ≡ m → x ≡ page_now w.memory first m k)
     → ShowsFile (put w.memory.bytes f x) (put w.memory.cached m (put (w.memory.cached m) k (Some f)) n) first now
-file_cached w f m k None None n free none h x is = h
-file_cached w f m k None (Some b) n free none h x is = h
-file_cached w f m k (Some a) None n free none h x is = h
 file_cached w f m k (Some a) (Some b) n free none h x is = (h.0, h.1, λ l. at l)
   where
     kept : (o : Option ℕ) (y : Bytes) → o ≢ Some f → bytes_in w.memory.bytes y o ≡ bytes_in (put w.memory.bytes f x) y o
@@ -413,6 +387,7 @@ file_cached w f m k (Some a) (Some b) n free none h x is = (h.0, h.1, λ l. at l
         ∙ (sym (is e) ∙ sym (put_same w.memory.bytes f x)))
         (λ i ne. subst (λ j. b.bytes i ≡ bytes_in (put w.memory.bytes f x) (a.bytes i) (w.memory.cached j i)) e (old i)) l)
         (λ j ne e. subst (λ j. b.bytes l ≡ bytes_in (put w.memory.bytes f x) (a.bytes l) (w.memory.cached j l)) e (old l)) n refl
+file_cached w f m k _ _ n free none h x is = h
 
 files_cached : (w : World) (t : Plain) (f : ℕ) (back : Back) → ((n k : ℕ) → w.memory.cached n k ≢ Some f) → file_frame w.memory.cached back ≡ None
     → ((n : ℕ) → ShowsFile w.memory.bytes (w.memory.cached n) (w.made.file n) (t.file n)) → back ≢ Anon
@@ -428,9 +403,6 @@ files_cached w t f (Private m k) free none files of_file n =
 -- a page that doesn't have the frame shows what it did
 page_uncached : (m : Memory) (back : Back) (f : ℕ) (x : Bytes) (o : Option PageInfo) (z : Option Entry) → file_frame m.cached back ≡ None → frame_of o ≢ Some f
     → ShowsPage (with_bytes m f x) o z → ShowsPage (record (with_bytes m f x) { cached = with_cached m.cached back f }) o z
-page_uncached m back f x None None none ne h = h
-page_uncached m back f x None (Some entry) none ne h = h
-page_uncached m back f x (Some info) None none ne h = h
 page_uncached m back f x (Some info) (Some entry) none ne h = (h.0, h.1, go info.frame refl h.2)
   where
     go : (o : Option ℕ) → info.frame ≡ o → Owns (with_bytes m f x) info.meta.back o entry.own
@@ -439,6 +411,7 @@ page_uncached m back f x (Some info) (Some entry) none ne h = (h.0, h.1, go info
     go (Some g) e s =
         subst (λ b. cond b (entry.own ≡ None) (MayOwn info.meta.back × (entry.own ≡ Some (put m.bytes f x g))))
         (sym (same_shown m.cached back info.meta.back f g none (λ i. ne (e ∙ ap Some i)))) s
+page_uncached m back f x _ _ none ne h = h
 
 own_uncached : (cached : ℕ → ℕ → Option ℕ) (back : Back) (f : ℕ) (o : Option PageInfo) → file_frame cached back ≡ None → frame_of o ≢ Some f
     → own_frame (with_cached cached back f) o ≡ own_frame cached o

@@ -1,20 +1,9 @@
 -- Which steps make a frame free, and what a call that waits waits for
-use Rattle.std.proofs.Common.{◌≡◌, ℕ, Bool, true, false, cond, refl, sym, ap, subst, Some, None, Option, ◌∙◌}
-use Rattle.vm_base.specs.Functions.{put}
-use Rattle.vm_base.proofs.Functions.{put_all, in_has}
+use Rattle.machine_laws.proofs.Words.{◌≡◌, ℕ, Bool, true, false, cond, refl, sym, ap, subst, Some, None, Option, ◌∙◌, put, put_all, in_has, Event, GiveUp}
+use Rattle.machine_laws.proofs.Words.{Outcome, Stepped, Idle, Full, Wait, Answered, Goal, goal_range, Lock, core_of, given_back, after_give_up, some_has}
+use Rattle.machine_laws.proofs.Words.{taken_in, with_event, Step, World}
 use Rattle.machine_model.specs.declared.event.Blocker.TheVariants as WaitsFor
-use Rattle.machine_model.specs.declared.event.Event.{Event}
-use Rattle.machine_model.specs.declared.event.Event.TheVariants.{GiveUp}
-use Rattle.machine_model.specs.declared.event.Outcome.{Outcome}
-use Rattle.machine_model.specs.declared.event.Outcome.TheVariants.{Stepped, Idle, Full, Wait, Answered}
-use Rattle.slot_lock.specs.declared.plan.Goal.{Goal}
-use Rattle.slot_lock.specs.Plan.{goal_range}
-use Rattle.machine_model.specs.declared.phase.Phase.TheVariants.{Lock}
-use Rattle.machine_model.specs.Events.{core_of}
-use Rattle.machine_model.specs.GivingUp.{given_back, after_give_up}
-use Rattle.machine_model.specs.Holding.{range_in, some_has, taken_in}
-use Rattle.machine_model.specs.Step.{with_event, Step}
-use Rattle.machine_model.specs.World.{World}
+use Rattle.machine_model.specs.Holding.{range_in}
 use Rattle.machine_laws.specs.Orderly.{IsOrderly}
 use Rattle.machine_laws.proofs.Moves.{IsCallOf, call_at}
 use Rattle.machine_laws.proofs.Shapes.{GoesBy, moves, divides, cuts, fits, owns, lets_go, answers, posts, commits, takes, zeroes, first_copies, caches}
@@ -148,10 +137,7 @@ blocked w v e o g s = go (comes w e o v s)
     uncounted : (o : Outcome) → IsBlocked (with_event w) e o → IsBlocked w e o
     uncounted (Wait (WaitsFor.Slot by)) h = h
     uncounted (Wait (WaitsFor.Acks set)) h = h
-    uncounted Stepped h = tt
-    uncounted Idle h = tt
-    uncounted Full h = tt
-    uncounted (Answered reply) h = tt
+    uncounted _ h = tt
 
     go : Comes w e o v → IsBlocked w e o
     go (stopped n i h) = unblocked w e o Full (at_limit _ _ _ n s).0 tt

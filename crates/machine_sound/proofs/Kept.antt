@@ -1,44 +1,23 @@
 -- Each step from a well state leaves a well one, and so each reached state is well.
-use Rattle.std.proofs.Common.{◌≡◌, ℕ, ◌<◌, ◌≤◌, arith, true, refl, sym, ap, subst, Some, Option, List, [], ◌∷◌, ◌++◌, inl}
-use Rattle.vm_base.specs.declared.page.PageRange.{PageRange}
-use Rattle.vm_base.specs.declared.replies.Reply.{Reply}
-use Rattle.vm_base.specs.declared.replies.Reply.TheVariants.{Refused, NoMemory}
-use Rattle.vm_base.specs.declared.requests.Request.{Request}
-use Rattle.vm_base.specs.Plain.{nothing_mapped}
-use Rattle.slot_lock.specs.Slots.{Slots, IsNew}
-use Rattle.machine_model.specs.declared.event.Event.{Event}
-use Rattle.machine_model.specs.declared.event.Event.TheVariants.{GiveUp}
-use Rattle.machine_model.specs.declared.event.Outcome.{Outcome}
-use Rattle.slot_lock.specs.declared.plan.Change.TheVariants.{Put}
+use Rattle.machine_laws.proofs.Words.{◌≡◌, ℕ, ◌<◌, ◌≤◌, arith, true, refl, sym, ap, subst, Some, Option, List, [], ◌∷◌, ◌++◌, inl, PageRange, Reply, Refused}
+use Rattle.machine_laws.proofs.Words.{NoMemory, Request, nothing_mapped, Slots, IsNew, Event, GiveUp, Outcome, Put, Phase, Free, Check, Find}
+use Rattle.machine_laws.proofs.Words.{Decide, Acks, Unlock, Answer, CopyAcks, after_reply}
+use Rattle.machine_laws.proofs.Words.{after_frame, taken_for, after_copy_post, after_post, with_counts, with_free, after_give_up, given_back, taken_in}
+use Rattle.machine_laws.proofs.Words.{still_held, can_give_up, locking, locked_to, trying, after_translating, World, Made, new_world, after_call, with_event}
+use Rattle.machine_laws.proofs.Words.{Step, Run, nth}
 use Rattle.slot_lock.specs.declared.plan.Goal.TheVariants as To
-use Rattle.machine_model.specs.declared.phase.Phase.{Phase}
-use Rattle.machine_model.specs.declared.phase.Phase.TheVariants.{Free, Check, Lock, Guess, Find, Back as Leaving, Cut, Decide, Post, Acks, Unlock, Answer}
-use Rattle.machine_model.specs.declared.phase.Phase.TheVariants.{Try, Settle, Want, Fill, CopyPost, CopyAcks, Install, Release}
-use Rattle.machine_model.specs.Actions.{after_reply}
-use Rattle.machine_model.specs.Accesses.{after_frame, taken_for}
-use Rattle.machine_model.specs.Filling.{after_copy_post}
-use Rattle.machine_model.specs.Changes.{after_post}
-use Rattle.machine_model.specs.Counting.{with_counts, with_free}
-use Rattle.machine_model.specs.GivingUp.{after_give_up, given_back}
-use Rattle.machine_model.specs.Holding.{taken_in, still_held, can_give_up}
-use Rattle.machine_model.specs.Locks.{locking, locked_to}
-use Rattle.machine_model.specs.Placing.{trying}
-use Rattle.machine_model.specs.Translating.{after_translating}
-use Rattle.machine_model.specs.World.{World, Made, new_world}
-use Rattle.machine_model.specs.Step.{after_call, with_event, Step, Run}
 use Rattle.machine_laws.proofs.Kept.{kept as order_kept}
 use Rattle.machine_laws.proofs.Moves.{IsCallOf, call_at}
-use Rattle.vm_base.specs.Log.{nth}
 use Rattle.machine_laws.specs.Orderly.{IsAsked}
 use Rattle.machine_laws.proofs.Shapes.{Replies, refuses, no_place, declines, fails, no_frame, GoesBy, moves, divides, cuts, fits, owns, lets_go}
 use Rattle.machine_laws.proofs.Shapes.{answers, posts, commits, takes, zeroes, first_copies, caches, shares, posts_copy, copies, installs, accesses}
 use Rattle.machine_laws.proofs.Shapes.{faults, Works, clears, invalidates, walks, evicts, flushes, reviews, frees, Shape, rests, begins, ends, goes}
 use Rattle.machine_laws.proofs.Shapes.{aims, gives_up, works, joins, Comes, stopped, acts as happens, comes}
-use Rattle.machine_coherence.proofs.Kept.{kept as translations_kept}
-use Rattle.machine_counting.proofs.Kept.{kept as counts_kept}
+use Rattle.machine_invariants.proofs.CoherenceKept.{coherence_kept}
+use Rattle.machine_invariants.proofs.CountsKept.{counted_kept}
 use Rattle.machine_sound.specs.Sound.{IsReached, IsSoundState, IsSoundStep, Notes, SoundRun}
 use Rattle.machine_sound.specs.Invariant.{IsWellFormed}
-use Rattle.machine_counting.proofs.Kept.{unused_no_page}
+use Rattle.machine_invariants.proofs.CountsKept.{unused_no_page}
 use Rattle.machine_sound.proofs.Accesses.{access_made, fault_told, no_frame_told, core_installed}
 use Rattle.machine_sound.proofs.Fills.{page_zeroed, page_first_copied, page_cached, page_shared, page_copied}
 use Rattle.machine_sound.proofs.Commits.{change_committed}
@@ -138,25 +117,11 @@ begun w event c request f = record {
 its_request : (made : Made) (requests : List Request) (c call : ℕ) (phase : Phase) → can_give_up phase ≡ true → IsAsked made requests c call phase
     → (request : Request) × (nth requests call ≡ Some request)
 its_request made requests c call (Check request) can h = (request, h)
-its_request made requests c call (Lock goal cursor) can h = (h.request, h.number)
-its_request made requests c call (Guess place) can h = (h.request, h.number)
-its_request made requests c call (Find place target) can h = (h.request, h.number)
-its_request made requests c call (Leaving place target held) can h = (h.request, h.number)
-its_request made requests c call (Cut place target range) can h = (h.request, h.number)
-its_request made requests c call (Decide change) can h = (h.request, h.number)
-its_request made requests c call (Post change shoot) can h = (h.request, h.number)
-its_request made requests c call (Try touch) can h = (h.request, h.number)
-its_request made requests c call (Settle touch) can h = (h.request, h.number)
-its_request made requests c call (Want touch old) can h = (h.request, h.number)
-its_request made requests c call (CopyPost touch frame) can h = (h.request, h.number)
-its_request made requests c call (CopyAcks touch frame) can h = (h.request, h.number)
-its_request made requests c call (Fill touch frame) can h = (h.request, h.number)
-its_request made requests c call (Install touch) can h = (h.request, h.number)
-its_request made requests c call (Release touch) can h = (h.request, h.number)
 its_request made requests c call Free can h = absurd cc
 its_request made requests c call (Acks goal change) can h = absurd cc
 its_request made requests c call (Unlock held reply) can h = absurd cc
 its_request made requests c call (Answer reply) can h = absurd cc
+its_request made requests c call _ can h = (h.request, h.number)
 
 given_up : (w : World) (c : ℕ) → IsWellFormed w → can_give_up (w.calls.phase c) ≡ true → Leaves w (GiveUp c) (after_give_up c (w.calls.phase c) w)
 given_up w c f can =
@@ -188,8 +153,8 @@ fine_step w v e o f s = go (comes w e o v s)
     whole l = (
       record {
         order = order_kept w v e o f.order s;
-        coherent = translations_kept w v e o f.order (λ c x p mine. unused_no_page w f.order f.counted x p (f.counted.taken c x mine)) f.coherent s;
-        counted = counts_kept w v e o f.order f.counted s;
+        coherent = coherence_kept w v e o f.order (λ c x p mine. unused_no_page w f.order f.counted x p (f.counted.taken c x mine)) f.coherent s;
+        counted = counted_kept w v e o f.order f.counted s;
         plain = l.plain;
         log = l.log;
         good = l.good;
@@ -220,8 +185,7 @@ sound_step w v e o f s = record {
 fine_run : (w : World) (es : List Event) (os : List Outcome) (v : World) → IsWellFormed w → Run w es os v → IsWellFormed v
 fine_run w [] [] v f r = subst IsWellFormed (sym r) f
 fine_run w (e ∷ es) (o ∷ os) v f r = fine_run r.0 es os v (fine_step w r.0 e o f r.1).0 r.2
-fine_run w [] (o ∷ os) v f r = absurd r
-fine_run w (e ∷ es) [] v f r = absurd r
+fine_run w _ _ v f r = absurd r
 
 pub reached_fine : (w : World) → IsReached w → IsWellFormed w
 reached_fine w h = fine_run (new_world h.made h.slots) h.events h.outcomes w (fine_opening h.made h.slots h.few h.new) h.run
@@ -236,9 +200,8 @@ steps_sound w v e o h s = sound_step w v e o (reached_fine w h) s
 pub run_more : (es : List Event) (os : List Outcome) (w m v : World) (e : Event) (o : Outcome) → Run w es os m → Step m e o v
     → Run w (es ++ e ∷ []) (os ++ o ∷ []) v
 run_more [] [] w m v e o r s = (v, subst (λ w. Step w e o v) r s, refl)
-run_more [] (p ∷ os) w m v e o r s = absurd r
-run_more (d ∷ es) [] w m v e o r s = absurd r
 run_more (d ∷ es) (p ∷ os) w m v e o r s = (r.0, r.1, run_more es os r.0 m v e o r.2 s)
+run_more _ _ w m v e o r s = absurd r
 
 -- what a step from a reached state leaves is reached
 pub reached_step : (w v : World) (e : Event) (o : Outcome) → IsReached w → Step w e o v → IsReached v

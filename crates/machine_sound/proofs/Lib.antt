@@ -9,7 +9,7 @@ mod Resting
 mod Commits
 pub mod Stores
 pub mod Fills
-mod Accesses
+pub mod Accesses
 pub mod Opening
 pub mod Sound
 pub mod Kept

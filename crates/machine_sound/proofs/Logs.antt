@@ -1,11 +1,7 @@
 -- Requests are looked up by number, and logs grow at their end.
-use Rattle.std.proofs.Common.{refl, subst, List, [], ◌∷◌, ◌++◌}
-use Rattle.vm_base.specs.declared.requests.Request.{Request}
-use Rattle.vm_base.specs.Plain.{Plain}
-use Rattle.vm_base.specs.declared.log.Entry.{Entry}
-use Rattle.vm_base.specs.declared.log.Entry.TheVariants.{Answer, Detach}
+use Rattle.machine_laws.proofs.Words.{refl, subst, List, [], ◌∷◌, ◌++◌, Request, Plain, Entry, Detach, EntryLeads, Replays}
+use Rattle.vm_base.specs.declared.log.Entry.TheVariants.{Answer}
 use Rattle.machine_laws.proofs.Numbered.{at_old}
-use Rattle.vm_base.specs.Log.{EntryLeads, Replays}
 
 goes_on_more : (rs : List Request) (r : Request) (t : Plain) (e : Entry) (u : Plain) → EntryLeads rs t e u → EntryLeads (rs ++ r ∷ []) t e u
 goes_on_more rs r t (Answer step call core reply) u h = (h.0, at_old rs r call h.0 h.1, h.2)

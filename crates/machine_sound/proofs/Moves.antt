@@ -1,22 +1,8 @@
 -- What a step leaves: a call goes on, or has its reply
-use Rattle.std.proofs.Common.{◌≡◌, ℕ, Bool, false, inl, inr, refl, sym, subst, Some, Option}
-use Rattle.vm_base.specs.declared.info.PageInfo.{PageInfo}
-use Rattle.vm_base.specs.declared.page.PageRange.{PageRange}
-use Rattle.vm_base.specs.declared.replies.Reply.{Reply}
-use Rattle.vm_base.specs.declared.requests.Request.{Request}
-use Rattle.vm_base.specs.Info.{frame_of}
-use Rattle.vm_base.specs.Plain.{Bytes, File, Plain, nothing_mapped}
-use Rattle.slot_lock.specs.Slots.{Slots}
-use Rattle.refcache.specs.Counts.{Counts}
-use Rattle.machine_model.specs.declared.event.Event.{Event}
-use Rattle.vm_base.specs.declared.log.Entry.{Entry}
-use Rattle.machine_model.specs.declared.phase.Phase.{Phase}
-use Rattle.machine_model.specs.Accesses.{is_past_end}
-use Rattle.machine_model.specs.Actions.{to, with_entry, after_reply, answer_entry, detach_entry}
-use Rattle.machine_model.specs.World.{World, Hardware, Memory}
-use Rattle.vm_base.specs.Log.{nth, CanAccess, Replays, Stands}
+use Rattle.machine_laws.proofs.Words.{◌≡◌, ℕ, Bool, false, inl, inr, refl, sym, subst, Some, Option, PageInfo, PageRange, Reply, Request, frame_of, Bytes}
+use Rattle.machine_laws.proofs.Words.{File, Plain, nothing_mapped, Slots, Counts, Event, Entry, Phase, is_past_end, to, with_entry, after_reply, answer_entry}
+use Rattle.machine_laws.proofs.Words.{detach_entry, World, Hardware, Memory, nth, CanAccess, Replays, Stands, detached, IsPlace}
 use Rattle.vm_base.specs.declared.rights.Access.TheVariants.{Store}
-use Rattle.vm_base.specs.Apply.{detached}
 use Rattle.machine_sound.specs.Sound.{IsDue, Notes}
 use Rattle.machine_sound.specs.Invariant.{IsWellFormed, Shows, ShowsPlain, ShowsPage, ShowsFile, own_frame}
 use Rattle.machine_sound.proofs.Logs.{replays_more}
@@ -90,7 +76,7 @@ copies_on w event c page phase s h m f u can is good =
 -- ---- the call of core c has its reply
 
 pub tells : (w : World) (event : Event) (c : ℕ) (held : Option PageRange) (reply : Reply) (s : Slots) (h : Hardware) (m : Memory) (f : IsWellFormed w)
-    (u : Plain) (request : Request) → nth w.calls.requests (w.calls.number c) ≡ Some request → Stands f.plain c request reply u
+    (u : Plain) (request : Request) → nth w.calls.requests (w.calls.number c) ≡ Some request → Stands IsPlace f.plain c request reply u
     → IsDue event w.memory.is_free (answer_entry w c reply) → Shows w.made.file s.info m u
     → Leaves w event (after_reply c held reply (record w { slots = s; hardware = h; memory = m }))
 tells w event c held reply s h m f u request number stands due good =
@@ -104,7 +90,7 @@ tells w event c held reply s h m f u request number stands due good =
 
 -- and nothing else changes
 pub answers : (w : World) (event : Event) (c : ℕ) (held : Option PageRange) (reply : Reply) (f : IsWellFormed w) (request : Request)
-    → nth w.calls.requests (w.calls.number c) ≡ Some request → Stands f.plain c request reply f.plain → IsDue event w.memory.is_free (answer_entry w c reply)
+    → nth w.calls.requests (w.calls.number c) ≡ Some request → Stands IsPlace f.plain c request reply f.plain → IsDue event w.memory.is_free (answer_entry w c reply)
     → Leaves w event (after_reply c held reply w)
 answers w event c held reply f request number stands due =
     tells w event c held reply w.slots w.hardware w.memory f f.plain request number stands due f.good

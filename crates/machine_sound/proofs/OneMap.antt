@@ -1,22 +1,11 @@
 -- A log leads to one plain page map.
-use Rattle.std.proofs.Common.{◌≡◌, ℕ, Bool, true, false, sym, ap, subst, arith, Option, None, Some, List, [], ◌∷◌, ◌∙◌}
+use Rattle.machine_laws.proofs.Words.{◌≡◌, ℕ, Bool, true, false, sym, ap, subst, arith, Option, None, Some, List, [], ◌∷◌, ◌∙◌, Back, PageRange, Prot, Mmap}
+use Rattle.machine_laws.proofs.Words.{Mprotect, page_count, pages_from, Reply, Mapped, Done, Byte, Refused, Segv, Bus, NoFrame, NoMemory, Request}
+use Rattle.machine_laws.proofs.Words.{Plain, mode_of, refusal, IsPlace, range_at, meta_of, Applies, Entry, Detach, Stands, EntryLeads, Replays}
 use Rattle.std.specs.Prelude.{◌*◌}
-use Rattle.vm_base.specs.declared.info.Back.{Back}
-use Rattle.vm_base.specs.declared.page.PageRange.{PageRange}
-use Rattle.vm_base.specs.declared.rights.Prot.{Prot}
-use Rattle.vm_base.specs.declared.requests.Request.TheVariants.{Mmap, Munmap, Mprotect, Load as LoadOf, Store as StoreOf, Fetch as FetchOf}
-use Rattle.vm_base.specs.Pages.{page_count, pages_from}
-use Rattle.vm_base.specs.declared.replies.Reply.{Reply}
-use Rattle.vm_base.specs.declared.replies.Reply.TheVariants.{Mapped, Done, Byte, Refused, Segv, Bus, NoFrame, NoMemory}
-use Rattle.vm_base.specs.declared.requests.Request.{Request}
-use Rattle.vm_base.specs.Plain.{Plain, mode_of}
-use Rattle.vm_base.specs.Refusals.{refusal}
-use Rattle.vm_base.specs.Places.{IsPlace}
-use Rattle.vm_base.specs.Apply.{Applies, AppliesAfter, NewMapping, Performs, Maps, MapsAt, Protects, after_mapping, range_at, meta_of}
+use Rattle.vm_base.specs.Apply.{AppliesAfter, NewMapping, Performs, Maps, MapsAt, Protects, after_mapping}
 use Rattle.vm_base.specs.Apply.Protects.{no_page, no_write, done}
-use Rattle.vm_base.specs.declared.log.Entry.{Entry}
-use Rattle.vm_base.specs.declared.log.Entry.TheVariants.{Answer, Detach}
-use Rattle.vm_base.specs.Log.{Stands, EntryLeads, Replays}
+use Rattle.vm_base.specs.declared.log.Entry.TheVariants.{Answer}
 
 -- ---- answers: the reply says what is left, also where a mapping may have more than one place
 
@@ -58,13 +47,10 @@ protects_one t u v r prot y h k = elim h [
 performs_one : (t u v : Plain) (core : ℕ) (request : Request) (y : Reply) → Performs IsPlace t core request y u → Performs IsPlace t core request y v → u ≡ v
 performs_one t u v core (Mmap addr len prot flags file off) y h k =
     maps_at_one flags.fixed t u v (record { core = core; addr = addr; len = len; meta = meta_of prot flags file off }) y h k
-performs_one t u v core (Munmap addr len) y h k = h.1 ∙ sym k.1
 performs_one t u v core (Mprotect addr len prot) y h k = protects_one t u v _ prot y h k
-performs_one t u v core (LoadOf addr) y h k = h.1 ∙ sym k.1
-performs_one t u v core (StoreOf addr byte) y h k = h.1 ∙ sym k.1
-performs_one t u v core (FetchOf addr) y h k = h.1 ∙ sym k.1
+performs_one t u v core _ y h k = h.1 ∙ sym k.1
 
-leaves_one : (t u v : Plain) (core : ℕ) (request : Request) (y : Reply) → Applies t core request y u → Applies t core request y v → u ≡ v
+leaves_one : (t u v : Plain) (core : ℕ) (request : Request) (y : Reply) → Applies IsPlace t core request y u → Applies IsPlace t core request y v → u ≡ v
 leaves_one t u v core request y h k = go (refusal (λ n. mode_of (t.file n)) request) h k
   where
     go : (o : Option Reply) → AppliesAfter IsPlace o t core request y u → AppliesAfter IsPlace o t core request y v → u ≡ v
@@ -73,7 +59,7 @@ leaves_one t u v core request y h k = go (refusal (λ n. mode_of (t.file n)) req
 
 -- ---- entries
 
-stands_one : (t u v : Plain) (core : ℕ) (request : Request) (y : Reply) → Stands t core request y u → Stands t core request y v → u ≡ v
+stands_one : (t u v : Plain) (core : ℕ) (request : Request) (y : Reply) → Stands IsPlace t core request y u → Stands IsPlace t core request y v → u ≡ v
 stands_one t u v core request (Mapped a) h k = leaves_one t u v core request (Mapped a) h k
 stands_one t u v core request Done h k = leaves_one t u v core request Done h k
 stands_one t u v core request (Byte b) h k = leaves_one t u v core request (Byte b) h k
@@ -86,7 +72,7 @@ stands_one t u v core request NoMemory h k = h ∙ sym k
 entry_one : (rs : List Request) (t u v : Plain) (e : Entry) → EntryLeads rs t e u → EntryLeads rs t e v → u ≡ v
 entry_one rs t u v (Answer step call core reply) h k =
     let same : h.0 ≡ k.0 = let a : Some h.0 ≡ Some k.0 = sym h.1 ∙ k.1 in cc in
-    stands_one t u v core k.0 reply (subst (λ r. Stands t core r reply u) same h.2) k.2
+    stands_one t u v core k.0 reply (subst (λ r. Stands IsPlace t core r reply u) same h.2) k.2
 entry_one rs t u v (Detach step call page) h k = let same : Some u ≡ Some v = sym h.1 ∙ k.1 in cc
 
 pub log_leads_to_one : (requests : List Request) (log : List Entry) (t u v : Plain) → Replays requests t log u → Replays requests t log v → u ≡ v

@@ -1,12 +1,10 @@
 -- A machine over new slots begins well.
-use Rattle.std.proofs.Common.{◌≡◌, ℕ, ◌≤◌, refl, sym, subst, ap, Some, None, Option}
-use Rattle.vm_base.specs.Info.{frame_of}
-use Rattle.vm_base.specs.Plain.{File, zeros, nothing_mapped}
-use Rattle.slot_lock.specs.Slots.{Slots, IsNew}
-use Rattle.machine_model.specs.World.{Made, new_memory, new_world}
+use Rattle.machine_laws.proofs.Words.{◌≡◌, ℕ, ◌≤◌, refl, sym, subst, ap, Some, None, Option, frame_of, File, zeros, nothing_mapped, Slots, IsNew, Made}
+use Rattle.machine_laws.proofs.Words.{new_world}
+use Rattle.machine_model.specs.World.{new_memory}
 use Rattle.machine_laws.proofs.Opening.{opening_is_orderly}
-use Rattle.machine_coherence.proofs.Kept.{opening as opening_is_coherent}
-use Rattle.machine_counting.proofs.Kept.{opening_is_counted}
+use Rattle.machine_invariants.proofs.CoherenceKept.{opening as opening_is_coherent}
+use Rattle.machine_invariants.proofs.CountsKept.{opening_is_counted}
 use Rattle.machine_sound.specs.Invariant.{IsWellFormed, ShowsPage, ShowsFile}
 
 shows_itself : (o : Option File) → ShowsFile (λ f. zeros) (λ k. None) o o

@@ -1,28 +1,15 @@
 -- Pages with a frame and without, and what the plain page map answers there
-use Rattle.std.proofs.Common.{◌≡◌, ◌≢◌, ℕ, Bool, true, false, cond, refl, sym, ap, subst, Some, None, Option, ◌∙◌}
-use Rattle.std.specs.Prelude.{◌&&◌, not, nat_lt, is_some, if◌then◌else◌}
-use Rattle.vm_base.specs.declared.info.Back.{Back}
-use Rattle.vm_base.specs.declared.info.Back.TheVariants.{Anon, Shared, Private}
-use Rattle.vm_base.specs.declared.info.PageInfo.{PageInfo}
-use Rattle.vm_base.specs.declared.replies.Reply.{Reply}
-use Rattle.vm_base.specs.declared.replies.Reply.TheVariants.{Segv, Bus}
-use Rattle.vm_base.specs.declared.replies.SegvCode.TheVariants.{MapErr, AccErr}
-use Rattle.vm_base.specs.declared.rights.Access.{Access}
-use Rattle.vm_base.specs.declared.rights.Access.TheVariants.{Load, Store, Fetch}
-use Rattle.vm_base.specs.Functions.{put}
-use Rattle.vm_base.specs.Info.{frame_of}
-use Rattle.vm_base.specs.Plain.{Bytes, File, Entry, Plain, bytes_of, back_bytes, bytes_in, file_bytes}
-use Rattle.vm_base.specs.Rights.{is_allowed}
-use Rattle.vm_base.specs.Apply.{bytes_reply, needs_copy, is_uncopied, byte_reply, entry_reply, first_own}
-use Rattle.vm_base.proofs.Functions.{put_other, eq_true}
-use Rattle.vm_calls.specs.Settling.{is_cached}
-use Rattle.machine_model.specs.Accesses.{is_past_end, lies_past_end}
-use Rattle.machine_model.specs.Files.{shows_file, is_private, page_now, bytes_shown}
-use Rattle.machine_model.specs.World.{World, Memory}
+use Rattle.machine_laws.proofs.Words.{◌≡◌, ◌≢◌, ℕ, Bool, true, false, cond, refl, sym, ap, subst, Some, None, Option, ◌∙◌, ◌&&◌, nat_lt, is_some}
+use Rattle.machine_laws.proofs.Words.{if◌then◌else◌, Back, Anon, Shared, Private, PageInfo, Reply, Segv, Bus, MapErr, Access, put, frame_of, Bytes, File}
+use Rattle.machine_laws.proofs.Words.{Plain, bytes_in, is_allowed, is_uncopied, byte_reply, entry_reply, put_other, eq_true, is_cached, is_past_end}
+use Rattle.machine_laws.proofs.Words.{shows_file, is_private, page_now, bytes_shown, World, Memory, Translation, permits, CanAccess}
+use Rattle.std.specs.Prelude.{not}
+use Rattle.vm_base.specs.declared.replies.SegvCode.TheVariants.{AccErr}
+use Rattle.vm_base.specs.declared.rights.Access.TheVariants.{Store}
+use Rattle.vm_base.specs.Plain.{Entry, bytes_of, back_bytes, file_bytes}
+use Rattle.vm_base.specs.Apply.{bytes_reply, needs_copy, first_own}
+use Rattle.machine_model.specs.Accesses.{lies_past_end}
 use Rattle.machine_laws.specs.Orderly.{IsUsable}
-use Rattle.mmu.specs.declared.entry.Translation.{Translation}
-use Rattle.mmu.specs.Entry.{permits}
-use Rattle.vm_base.specs.Log.{CanAccess}
 use Rattle.machine_sound.specs.Translations.{Agrees, AgreesWith, HasBytes}
 use Rattle.machine_sound.specs.Invariant.{ShowsPlain, ShowsPage, ShowsFile, Owns, MayOwn, own_frame, own_frame_of}
 
@@ -135,13 +122,12 @@ framed w t p f g h = go (w.slots.info p) (t.entry p) refl refl (g.pages p) (g.wh
 uncopied : (cached : ℕ → ℕ → Option ℕ) (back : Back) (f : ℕ) (own : Option Bytes) (x : Bytes)
     → (is_private back && shows_file cached back f) ≡ false
     → cond (shows_file cached back f) (own ≡ None) (MayOwn back × (own ≡ Some x)) → is_uncopied back own ≡ false
-uncopied cached Anon f own x h s = refl
-uncopied cached (Shared n k) f own x h s = refl
 uncopied cached (Private n k) f own x h s = go (shows_file cached (Private n k) f) h s
   where
     go : (b : Bool) → b ≡ false → cond b (own ≡ None) (Unit {0} × (own ≡ Some x)) → is_uncopied (Private n k) own ≡ false
     go true h s = absurd cc
     go false h s = ap (is_uncopied (Private n k)) s.1
+uncopied cached _ f own x h s = refl
 
 pub is_copied : (w : World) (t : Plain) (p f : ℕ) (k : IsFramed w t p f)
     → (is_private k.info.meta.back && shows_file w.memory.cached k.info.meta.back f) ≡ false → is_uncopied k.entry.back k.entry.own ≡ false
@@ -154,9 +140,8 @@ abbrev pub answer_of : (ℕ → Option File) → Access → ℕ → Bool → Bac
 answer_of files access i allowed back own = cond allowed (bytes_reply (needs_copy access back own) (bytes_of files back own) access i) (Some (Segv AccErr))
 
 no_copy : (access : Access) (back : Back) (own : Option Bytes) → (access ≡ Store → is_uncopied back own ≡ false) → needs_copy access back own ≡ false
-no_copy Load back own h = refl
 no_copy Store back own h = h refl
-no_copy Fetch back own h = refl
+no_copy _ back own h = refl
 
 pub framed_reply : (w : World) (t : Plain) (p f : ℕ) (access : Access) (i : ℕ) (k : IsFramed w t p f) → is_allowed k.info.meta.prot access ≡ true
     → (access ≡ Store → (is_private k.info.meta.back && shows_file w.memory.cached k.info.meta.back f) ≡ false)
@@ -273,10 +258,8 @@ owns_kept m f x back (Some g) own ne h = go (shows_file m.cached back g) ne h
 
 pub page_kept : (m : Memory) (f : ℕ) (x : Bytes) (o : Option PageInfo) (z : Option Entry)
     → own_frame m.cached o ≢ Some f → ShowsPage m o z → ShowsPage (with_bytes m f x) o z
-page_kept m f x None None ne h = h
 page_kept m f x (Some info) (Some entry) ne h = (h.0, h.1, owns_kept m f x info.meta.back info.frame entry.own ne h.2)
-page_kept m f x None (Some entry) ne h = h
-page_kept m f x (Some info) None ne h = h
+page_kept m f x _ _ ne h = h
 
 bytes_kept : (bytes : ℕ → Bytes) (f : ℕ) (x first : Bytes) (o : Option ℕ) → o ≢ Some f → bytes_in bytes first o ≡ bytes_in (put bytes f x) first o
 bytes_kept bytes f x first None ne = refl
@@ -284,10 +267,8 @@ bytes_kept bytes f x first (Some g) ne = sym (put_other bytes f x g (λ e. ne (a
 
 pub file_kept : (bytes : ℕ → Bytes) (f : ℕ) (x : Bytes) (cached : ℕ → Option ℕ) (o z : Option File)
     → ((k : ℕ) → cached k ≢ Some f) → ShowsFile bytes cached o z → ShowsFile (put bytes f x) cached o z
-file_kept bytes f x cached None None ne h = h
 file_kept bytes f x cached (Some a) (Some b) ne h = (h.0, h.1, λ k. h.2 k ∙ bytes_kept bytes f x (a.bytes k) (cached k) (ne k))
-file_kept bytes f x cached None (Some b) ne h = h
-file_kept bytes f x cached (Some a) None ne h = h
+file_kept bytes f x cached _ _ ne h = h
 
 -- a page's own frame is its frame
 own_of : (cached : ℕ → ℕ → Option ℕ) (back : Back) (frame : Option ℕ) (f : ℕ) → own_frame_of cached back frame ≡ Some f → frame ≡ Some f

@@ -1,20 +1,9 @@
 -- A worked run of a mapping whose place is left open, by computation: its hint's page is locked and free, and so it goes there.
-use Rattle.std.proofs.Common.{◌≡◌, arith, inl, refl, ap, false, None, Some, cond, List, [], ◌∷◌}
-use Rattle.vm_base.specs.declared.replies.Reply.TheVariants.{Mapped}
-use Rattle.vm_base.specs.declared.requests.Request.TheVariants.{Mmap}
+use Rattle.machine_laws.proofs.Words.{◌≡◌, arith, inl, refl, ap, false, None, Some, cond, List, [], ◌∷◌, Mapped, Mmap, Locked, between, Act, free, Event}
+use Rattle.machine_laws.proofs.Words.{Call, Go, Outcome, Stepped, Answered, World, new_world, Run}
 use Rattle.slot_lock.specs.declared.slot_map.Fit.TheVariants as fit
-use Rattle.slot_lock.specs.declared.slot_map.Got.TheVariants.{Locked}
-use Rattle.slot_lock.specs.Slots.{between}
-use Rattle.vm_calls.specs.declared.decision.Decision.TheVariants.{Act}
-use Rattle.vm_calls.specs.Decisions.DecidesRun.{free}
 use Rattle.machine_model.specs.Counting.{CountsDown}
-use Rattle.machine_model.specs.declared.event.Event.{Event}
-use Rattle.machine_model.specs.declared.event.Event.TheVariants.{Call, Go}
-use Rattle.machine_model.specs.declared.event.Outcome.{Outcome}
-use Rattle.machine_model.specs.declared.event.Outcome.TheVariants.{Stepped, Answered}
 use Rattle.vm_base.specs.declared.log.Entry.TheVariants.{Answer}
-use Rattle.machine_model.specs.World.{World, new_world}
-use Rattle.machine_model.specs.Step.{Run}
 use Rattle.machine_sound.specs.Sound.{SoundRun}
 use Rattle.machine_sound.proofs.Examples.{read_write, anonymous}
 use Rattle.machine_sound.proofs.Kept.{runs_sound}

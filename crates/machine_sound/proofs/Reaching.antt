@@ -1,24 +1,13 @@
 -- A translation leads an access to its page's frame, where the page's protection allows the access.
-use Rattle.std.proofs.Common.{◌≡◌, ℕ, zero, suc, Bool, true, false, refl, sym, ap, subst, arith, Some, None, Option, List, [], ◌∷◌, ◌∙◌}
-use Rattle.std.specs.Prelude.{◌==◌, ◌&&◌, if◌then◌else◌, slice_get}
-use Rattle.std.proofs.lemmas.Bool.Decides.{nat_tests}
-use Rattle.vm_base.specs.declared.info.PageInfo.{PageInfo}
-use Rattle.vm_base.specs.declared.rights.Access.{Access}
+use Rattle.machine_laws.proofs.Words.{◌≡◌, ℕ, zero, suc, Bool, true, false, refl, sym, ap, subst, arith, Some, None, Option, List, [], ◌∷◌, ◌∙◌, ◌&&◌}
+use Rattle.machine_laws.proofs.Words.{if◌then◌else◌, nat_tests, PageInfo, Access, Prot, is_allowed, Touch, Translation, TlbEntry, permits, has_right}
+use Rattle.machine_laws.proofs.Words.{translation_of, translated, tlb_at, Phase, is_private, prot_shown, prot_installed, shows_file, shows_some}
+use Rattle.machine_laws.proofs.Words.{translated_by, frame_reached, entry_for, Hardware}
+use Rattle.std.specs.Prelude.{◌==◌, slice_get}
 use Rattle.vm_base.specs.declared.rights.Access.TheVariants.{Load, Store, Fetch}
-use Rattle.vm_base.specs.declared.rights.Prot.{Prot}
-use Rattle.vm_base.specs.Rights.{is_allowed}
-use Rattle.slot_lock.specs.declared.plan.Touch.{Touch}
-use Rattle.mmu.specs.declared.entry.Translation.{Translation}
-use Rattle.mmu.specs.declared.tlb.TlbEntry.{TlbEntry}
 use Rattle.mmu.specs.declared.translated.Translated.TheVariants as By
-use Rattle.mmu.specs.Entry.{permits, has_right, translation_of}
-use Rattle.mmu.specs.Tables.{translated, hit, fill}
-use Rattle.mmu.specs.Tlb.{tlb_at}
-use Rattle.machine_model.specs.declared.phase.Phase.{Phase}
-use Rattle.machine_model.specs.Files.{is_private, prot_shown, prot_installed, shows_file, shows_some}
-use Rattle.machine_model.specs.Translating.{translated_by, frame_reached, entry_for}
-use Rattle.machine_model.specs.World.{Hardware}
-use Rattle.machine_coherence.specs.Coherent.{Every, IsBacked, IsCoherent, IsSoundEntry}
+use Rattle.mmu.specs.Tables.{hit, fill}
+use Rattle.machine_invariants.specs.Coherent.{Every, IsBacked, IsCoherent, IsSoundEntry}
 
 -- ---- a translation that a page backs
 

@@ -1,49 +1,26 @@
 -- Replies that the plain page map gives, as entries of a log
-use Rattle.std.proofs.Common.{◌≡◌, ℕ, ◌<◌, Bool, true, false, cond, refl, sym, ap, subst, Some, None, Option, Result, Ok, Err}
-use Rattle.std.specs.Prelude.{◌&&◌, ◌==◌, not, if◌then◌else◌}
-use Rattle.vm_base.specs.declared.info.PageInfo.{PageInfo}
-use Rattle.vm_base.specs.declared.page.PageRange.{PageRange}
-use Rattle.vm_base.specs.declared.replies.Errno.{Errno}
-use Rattle.vm_base.specs.declared.replies.Errno.TheVariants.{EINVAL, ENOMEM, EACCES, EBADF, EOVERFLOW}
-use Rattle.vm_base.specs.declared.replies.SegvCode.TheVariants.{MapErr}
-use Rattle.vm_base.specs.declared.replies.Reply.{Reply}
-use Rattle.vm_base.specs.declared.replies.Reply.TheVariants.{Mapped, Done, Byte, Refused, Segv, Bus, NoFrame, NoMemory}
-use Rattle.vm_base.specs.declared.requests.Flags.{Flags}
-use Rattle.vm_base.specs.declared.requests.Request.{Request}
-use Rattle.vm_base.specs.declared.requests.Request.TheVariants.{Mmap, Munmap, Mprotect, Load, Store, Fetch}
-use Rattle.vm_base.specs.declared.rights.Access.{Access}
+use Rattle.machine_laws.proofs.Words.{◌≡◌, ℕ, ◌<◌, Bool, true, false, cond, refl, sym, ap, subst, Some, None, Option, Result, Ok, Err, ◌&&◌, if◌then◌else◌}
+use Rattle.machine_laws.proofs.Words.{PageInfo, PageRange, Errno, EINVAL, ENOMEM, EACCES, EBADF, EOVERFLOW, MapErr, Reply, Done, Refused, Segv}
+use Rattle.machine_laws.proofs.Words.{NoFrame, NoMemory, Flags, Request, Mmap, Munmap, Mprotect, Load, Store, Fetch, Access, Mode, Prot, is_page}
+use Rattle.machine_laws.proofs.Words.{page_of, pages_of, are_pages, Bytes, File, Plain, mode_of, refusal, meta_of, Applies, by_test, Goal, Change, Put}
+use Rattle.machine_laws.proofs.Words.{Place, Plan, Touch, range_of, goal_range, goal_plan, HasTarget, Decision, Refuse, Act, plan_of, unless_refused}
+use Rattle.machine_laws.proofs.Words.{touched, touch_of, place_of, Decides, passed, Event, checked_by, reply_to, World, Memory, Stands, CanAccess, IsPlace}
+use Rattle.std.specs.Prelude.{◌==◌, not}
 use Rattle.vm_base.specs.declared.rights.Access.TheVariants as By
-use Rattle.vm_base.specs.declared.rights.Mode.{Mode}
-use Rattle.vm_base.specs.declared.rights.Prot.{Prot}
-use Rattle.vm_base.specs.Pages.{is_page, page_of, pages_of, is_aligned, are_pages}
-use Rattle.vm_base.specs.Plain.{Bytes, File, Entry, Plain, mode_of}
-use Rattle.vm_base.specs.Refusals.{refusal, file_refusal, is_one_kind}
-use Rattle.vm_base.specs.Apply.{Applies, meta_of}
-use Rattle.vm_base.proofs.Functions.{by_test}
-use Rattle.slot_lock.specs.declared.plan.Goal.{Goal}
+use Rattle.vm_base.specs.Pages.{is_aligned}
+use Rattle.vm_base.specs.Plain.{Entry}
+use Rattle.vm_base.specs.Refusals.{file_refusal, is_one_kind}
 use Rattle.slot_lock.specs.declared.plan.Goal.TheVariants as To
-use Rattle.slot_lock.specs.declared.plan.Change.{Change}
-use Rattle.slot_lock.specs.declared.plan.Change.TheVariants.{Put, Clear, Protect}
-use Rattle.slot_lock.specs.declared.plan.Place.{Place}
-use Rattle.slot_lock.specs.declared.plan.Plan.{Plan}
 use Rattle.slot_lock.specs.declared.plan.Plan.TheVariants as PlanOf
-use Rattle.slot_lock.specs.declared.plan.Touch.{Touch}
-use Rattle.slot_lock.specs.Plan.{range_of, goal_range, goal_plan, HasTarget}
-use Rattle.vm_calls.specs.declared.decision.Decision.{Decision}
-use Rattle.vm_calls.specs.declared.decision.Decision.TheVariants.{Refuse, Act}
-use Rattle.vm_calls.specs.Checks.{plan_of, unless_refused, touched, touch_of, place_of, HasModes}
-use Rattle.vm_calls.specs.Decisions.{Decides, IsNoAccess}
+use Rattle.vm_calls.specs.Checks.{HasModes}
+use Rattle.vm_calls.specs.Decisions.{IsNoAccess}
 use Rattle.vm_calls.specs.Plainly.{IsShown, IsPlain, EntryAnswers, answer_to, left_by}
 use Rattle.vm_calls.specs.Plainly as plainly
 use Rattle.vm_calls.proofs.Accesses.{access_answered, refusal_answered}
-use Rattle.vm_calls.proofs.Passed.{passed, touch-of}
+use Rattle.vm_calls.proofs.Passed.{touch-of}
 use Rattle.vm_calls.proofs.Plainly.{plain}
-use Rattle.machine_model.specs.declared.event.Event.{Event}
 use Rattle.vm_base.specs.declared.log.Entry.TheVariants as EntryOf
-use Rattle.machine_model.specs.Changes.{checked_by, reply_to}
-use Rattle.machine_model.specs.World.{World, Memory}
 use Rattle.machine_laws.specs.Orderly.{IsChosen, IsChangeOf}
-use Rattle.vm_base.specs.Log.{Stands, CanAccess}
 use Rattle.machine_sound.specs.Sound.{IsDue}
 use Rattle.machine_sound.specs.Invariant.{ShowsPlain, ShowsPage, ShowsFile}
 
@@ -52,8 +29,7 @@ use Rattle.machine_sound.specs.Invariant.{ShowsPlain, ShowsPage, ShowsFile}
 mode_same : (bytes : ℕ → Bytes) (cached : ℕ → Option ℕ) (first now : Option File) → ShowsFile bytes cached first now → mode_of now ≡ mode_of first
 mode_same bytes cached None None h = refl
 mode_same bytes cached (Some f) (Some g) h = ap Some (sym h.0)
-mode_same bytes cached None (Some g) h = absurd h
-mode_same bytes cached (Some f) None h = absurd h
+mode_same bytes cached _ _ h = absurd h
 
 pub has_modes : (w : World) (t : Plain) → ShowsPlain w t → HasModes t w.made.file
 has_modes w t g n = mode_same w.memory.bytes (w.memory.cached n) (w.made.file n) (t.file n) (g.files n)
@@ -61,8 +37,7 @@ has_modes w t g n = mode_same w.memory.bytes (w.memory.cached n) (w.made.file n)
 page_shown : (m : Memory) (o : Option PageInfo) (z : Option Entry) → ShowsPage m o z → plainly.ShowsPage z o
 page_shown m None None h = tt
 page_shown m (Some info) (Some page) h = (sym h.0, sym h.1)
-page_shown m None (Some page) h = absurd h
-page_shown m (Some info) None h = absurd h
+page_shown m _ _ h = absurd h
 
 is_shown : (w : World) (t : Plain) (r : PageRange) → ShowsPlain w t → IsShown t w.made.file w.slots r
 is_shown w t r g = record { pages = λ p i. page_shown w.memory (w.slots.info p) (t.entry p) (g.pages p); modes = has_modes w t g }
@@ -75,26 +50,16 @@ IsReply NoMemory = ⊥
 IsReply _ = Unit {0}
 
 -- the plain page map answers so
-stands_so : (t u : Plain) (c : ℕ) (request : Request) (y : Reply) → IsReply y → Applies t c request y u → Stands t c request y u
-stands_so t u c request (Mapped a) i h = h
-stands_so t u c request Done i h = h
-stands_so t u c request (Byte b) i h = h
-stands_so t u c request (Refused e) i h = h
-stands_so t u c request (Segv s) i h = h
-stands_so t u c request Bus i h = h
+stands_so : (t u : Plain) (c : ℕ) (request : Request) (y : Reply) → IsReply y → Applies IsPlace t c request y u → Stands IsPlace t c request y u
 stands_so t u c request NoFrame i h = absurd i
 stands_so t u c request NoMemory i h = absurd i
+stands_so t u c request _ i h = h
 
 -- such an entry may be made at any step
 pub due_so : (event : Event) (is_free : ℕ → Bool) (step call core : ℕ) (y : Reply) → IsReply y → IsDue event is_free (EntryOf.Answer step call core y)
-due_so event is_free step call core (Mapped a) i = tt
-due_so event is_free step call core Done i = tt
-due_so event is_free step call core (Byte b) i = tt
-due_so event is_free step call core (Refused e) i = tt
-due_so event is_free step call core (Segv s) i = tt
-due_so event is_free step call core Bus i = tt
 due_so event is_free step call core NoFrame i = absurd i
 due_so event is_free step call core NoMemory i = absurd i
+due_so event is_free step call core _ i = tt
 
 -- ---- Check: refusals
 
@@ -148,7 +113,7 @@ unplanned core (Fetch addr) reply h = missed addr 0 By.Fetch reply h
 
 -- what the check answers at once
 pub refused : (w : World) (t : Plain) (c : ℕ) (request : Request) (reply : Reply) → ShowsPlain w t → checked_by w.made c request ≡ Err reply
-    → IsReply reply × Stands t c request reply t
+    → IsReply reply × Stands IsPlace t c request reply t
 refused w t c request reply g h = (is_reply, stands_so t t c request reply is_reply (refusal_answered t w.made.file c request reply (has_modes w t g) h))
   where
     go : (o : Option Reply) → refusal (λ k. mode_of (w.made.file k)) request ≡ o → unless_refused o (plan_of c request) ≡ Err reply → IsReply reply
@@ -179,13 +144,12 @@ decided_plain w t c request goal d g k h =
 
 -- a refusal of the decision: of a placed mapping, where its whole window is held and has no room
 pub declined : (w : World) (t : Plain) (c : ℕ) (request : Request) (goal : Goal) (errno : Errno) → ShowsPlain w t → Knows w c request goal
-    → Decides w.made.file w.slots goal (Refuse errno) → Stands t c request (Refused errno) t
+    → Decides w.made.file w.slots goal (Refuse errno) → Stands IsPlace t c request (Refused errno) t
 declined w t c request goal errno g k h = decided_plain w t c request goal (Refuse errno) g k h
 
 pub reply_is : (change : Change) → IsReply (reply_to change)
 reply_is (Put range meta) = tt
-reply_is (Clear range) = tt
-reply_is (Protect range prot) = tt
+reply_is _ = tt
 
 -- the plain page map after the change
 abbrev pub made_of : Plain → Change → Plain
@@ -193,23 +157,22 @@ made_of t change = left_by t (To.Change change) (range_of change)
 
 -- the change to which a goal leads is the one that its decision answers
 led_to : (t : Plain) (c : ℕ) (request : Request) (goal : Goal) (change : Change) → IsChangeOf goal change
-    → Applies t c request (answer_to goal (range_of change)) (left_by t goal (range_of change))
-    → Applies t c request (reply_to change) (made_of t change)
+    → Applies IsPlace t c request (answer_to goal (range_of change)) (left_by t goal (range_of change))
+    → Applies IsPlace t c request (reply_to change) (made_of t change)
 led_to t c request (To.Place place target) change e h =
-    subst (λ (x : Change). Applies t c request (reply_to x) (made_of t x)) (sym e) h
+    subst (λ (x : Change). Applies IsPlace t c request (reply_to x) (made_of t x)) (sym e) h
 led_to t c request (To.Change planned) change e h =
-    subst (λ (x : Change). Applies t c request (answer_to (To.Change x) (range_of change)) (left_by t (To.Change x) (range_of change))) (sym e) h
+    subst (λ (x : Change). Applies IsPlace t c request (answer_to (To.Change x) (range_of change)) (left_by t (To.Change x) (range_of change))) (sym e) h
 led_to t c request (To.Access touch) change e h = absurd e
 
 -- a goal that leads to a change is no access
 pub led_goes : (goal : Goal) (change : Change) → IsChangeOf goal change → IsNoAccess goal
-led_goes (To.Place place target) change e = tt
-led_goes (To.Change planned) change e = tt
 led_goes (To.Access touch) change e = absurd e
+led_goes _ change e = tt
 
 -- a change that is made
 pub acted : (w : World) (t : Plain) (c : ℕ) (request : Request) (goal : Goal) (change : Change) → ShowsPlain w t → Knows w c request goal
-    → IsChangeOf goal change → IsChosen w.made w.slots goal (range_of change) → Stands t c request (reply_to change) (made_of t change)
+    → IsChangeOf goal change → IsChosen w.made w.slots goal (range_of change) → Stands IsPlace t c request (reply_to change) (made_of t change)
 acted w t c request goal change g k e h =
     stands_so t (made_of t change) c request (reply_to change) (reply_is change)
     (led_to t c request goal change e (decided_plain w t c request goal (Act (range_of change) h.0) g k h.1))
@@ -219,13 +182,13 @@ acted w t c request goal change g k e h =
 -- what the entry of its page answers
 pub touched_stands : (w : World) (t u : Plain) (c : ℕ) (request : Request) (touch : Touch) (y : Reply) → IsReply y
     → checked_by w.made c request ≡ Ok (PlanOf.Touch touch)
-    → EntryAnswers t touch y u → Stands t c request y u
+    → EntryAnswers t touch y u → Stands IsPlace t c request y u
 touched_stands w t u c request touch y i h a =
     stands_so t u c request y i ((access_answered t (λ n. mode_of (w.made.file n)) c request touch h y u).1 a)
 
 -- a page that an access reaches
 pub no_frame_stands : (w : World) (t : Plain) (c : ℕ) (request : Request) (touch : Touch) → checked_by w.made c request ≡ Ok (PlanOf.Touch touch)
-    → CanAccess t.file (t.entry touch.page) touch.access → Stands t c request NoFrame t
+    → CanAccess t.file (t.entry touch.page) touch.access → Stands IsPlace t c request NoFrame t
 no_frame_stands w t c request touch h k = go request (passed (refusal (λ k. mode_of (w.made.file k)) request) (plan_of c request) (PlanOf.Touch touch) h).1
   where
     its : (addr byte : ℕ) (access : Access) → touched addr access byte ≡ Ok (PlanOf.Touch touch) → CanAccess t.file (t.entry (page_of addr)) access
@@ -234,7 +197,7 @@ no_frame_stands w t c request touch h k = go request (passed (refusal (λ k. mod
         let at : touch ≡ touch_of addr access byte = cc in
         subst (λ (x : Touch). CanAccess t.file (t.entry x.page) x.access) at k
 
-    go : (r : Request) → plan_of c r ≡ Ok (PlanOf.Touch touch) → Stands t c r NoFrame t
+    go : (r : Request) → plan_of c r ≡ Ok (PlanOf.Touch touch) → Stands IsPlace t c r NoFrame t
     go (Load addr) e = (its addr 0 By.Load e, refl)
     go (Store addr byte) e = (its addr byte By.Store e, refl)
     go (Fetch addr) e = (its addr 0 By.Fetch e, refl)

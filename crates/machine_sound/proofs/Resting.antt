@@ -1,42 +1,22 @@
 -- Why a step was idle or full, and what such a step leaves
-use Rattle.std.proofs.Common.{◌≡◌, ◌≢◌, ℕ, ◌≤◌, inl, inr, Bool, true, false, cond, refl, sym, ap, ◌∙◌, arith, Some, None, Option, List, [], ◌∷◌}
-use Rattle.std.proofs.Common.{length}
-use Rattle.std.specs.Prelude.{nat_lt, ◌&&◌, is_some, if◌then◌else◌}
-use Rattle.std.proofs.lemmas.Bool.Decides.{nat_tests}
-use Rattle.vm_base.specs.declared.requests.Request.{Request}
-use Rattle.mmu.specs.declared.entry.Translation.{Translation}
-use Rattle.mmu.specs.Tlb.{tlb_at}
+use Rattle.machine_laws.proofs.Words.{◌≡◌, ◌≢◌, ℕ, ◌≤◌, inl, inr, Bool, true, false, cond, refl, sym, ap, ◌∙◌, arith, Some, None, Option, List, [], ◌∷◌}
+use Rattle.machine_laws.proofs.Words.{length, nat_lt, ◌&&◌, is_some, if◌then◌else◌, nat_tests, Request, Translation, tlb_at, Counts, Flushing, Reviewing}
+use Rattle.machine_laws.proofs.Words.{Takes, Message, Took, asked, Event, Call, Go, Whole, Flush, GiveUp, Outcome, Stepped, Idle, Full, Wait, Answered, Phase}
+use Rattle.machine_laws.proofs.Words.{Free, Want, CopyAcks}
+use Rattle.machine_laws.proofs.Words.{TakesThisFrame, after_frame, Idles, Becomes, Awaits, ReportsFlush, ReportsReview, core_of, GivesUp}
+use Rattle.machine_laws.proofs.Words.{after_give_up, can_give_up, GuessesThisRun, TakesWindow, pages_from, Acts, Begins, Step, after_call, event_limit}
+use Rattle.machine_laws.proofs.Words.{is_here, with_event, TakesMessage, can_walk, after_walk, after_eviction, with_hardware, World}
 use Rattle.refcache.specs.declared.reports.Flush.{Flush as FlushReport}
 use Rattle.refcache.specs.declared.reports.Flush.TheVariants as flush
 use Rattle.refcache.specs.declared.reports.Review.{Review as ReviewReport}
 use Rattle.refcache.specs.declared.reports.Review.TheVariants as review
-use Rattle.refcache.specs.Counts.{Counts}
-use Rattle.refcache.specs.Steps.{Flushing, Reviewing, Takes}
-use Rattle.shootdown.specs.declared.message.Message.{Message}
-use Rattle.shootdown.specs.declared.message.Took.{Took}
 use Rattle.shootdown.specs.declared.message.Took.TheVariants as took
-use Rattle.shootdown.specs.Messages.{asked}
-use Rattle.machine_model.specs.declared.event.Event.{Event}
-use Rattle.machine_model.specs.declared.event.Event.TheVariants.{Call, Go, Frame, Guess, Whole, Take, Walk, Evict, Flush, Review, Fold, GiveUp}
-use Rattle.machine_model.specs.declared.event.Outcome.{Outcome}
-use Rattle.machine_model.specs.declared.event.Outcome.TheVariants.{Stepped, Idle, Full, Wait, Answered}
-use Rattle.machine_model.specs.declared.phase.Phase.{Phase}
-use Rattle.machine_model.specs.declared.phase.Phase.TheVariants.{Free, Check, Lock, Guess as Guessing, Find, Back as Leaving, Cut, Decide, Post, Acks}
-use Rattle.machine_model.specs.declared.phase.Phase.TheVariants.{Unlock, Answer, Try, Settle, Want, Fill, CopyPost, CopyAcks, Install, Release}
-use Rattle.machine_model.specs.Accesses.{TakesThisFrame, after_frame}
-use Rattle.machine_model.specs.Actions.{Idles, Becomes}
-use Rattle.machine_model.specs.Changes.{Awaits}
-use Rattle.machine_model.specs.Counting.{ReportsFlush, ReportsReview}
-use Rattle.machine_model.specs.Events.{core_of}
-use Rattle.machine_model.specs.GivingUp.{GivesUp, GivesUpCopy, after_give_up}
-use Rattle.machine_model.specs.Holding.{can_give_up}
+use Rattle.machine_model.specs.declared.event.Event.TheVariants.{Frame, Guess, Take, Walk, Evict, Review, Fold}
+use Rattle.machine_model.specs.declared.phase.Phase.TheVariants.{Guess as Guessing}
+use Rattle.machine_model.specs.GivingUp.{GivesUpCopy}
 use Rattle.vm_base.specs.Runs.{lies_in}
-use Rattle.machine_model.specs.Placing.{GuessesThisRun, TakesWindow, after_guess}
+use Rattle.machine_model.specs.Placing.{after_guess}
 use Rattle.slot_lock.specs.declared.plan.Target.TheVariants.{Run}
-use Rattle.vm_base.specs.Pages.{pages_from}
-use Rattle.machine_model.specs.Step.{Acts, Begins, Step, after_call, event_limit, is_here, with_event}
-use Rattle.machine_model.specs.Translating.{TakesMessage, can_walk, after_walk, after_eviction, with_hardware}
-use Rattle.machine_model.specs.World.{World}
 use Rattle.machine_laws.proofs.Shapes.{Rests, absent, busy, full, free, cannot, waits, awaits, Shape, rests, begins, ends, goes, aims, gives_up, works, joins}
 use Rattle.machine_laws.proofs.Shapes.{Comes, stopped, acts, comes}
 use Rattle.machine_sound.specs.Possible.{CannotGiveUp, IsFull, IsIdle, IsImpossible, IsPastCalls, OnFull, OnIdle, can_guess, looks_for_place, wants_frame}
@@ -79,76 +59,21 @@ untrue true new w v h = absurd (let i = h.0 in cc)
 untrue false new w v h = refl
 
 frame_idle : (w : World) (c f : ℕ) (phase : Phase) (v : World) → TakesThisFrame w c phase f Idle v → (wants_frame phase && w.memory.is_free f) ≡ false
-frame_idle w c f Free v h = refl
-frame_idle w c f (Check r) v h = refl
-frame_idle w c f (Lock goal cursor) v h = refl
-frame_idle w c f (Guessing place) v h = refl
-frame_idle w c f (Find place target) v h = refl
-frame_idle w c f (Leaving place target held) v h = refl
-frame_idle w c f (Cut place target range) v h = refl
-frame_idle w c f (Decide change) v h = refl
-frame_idle w c f (Post change shoot) v h = refl
-frame_idle w c f (Acks goal change) v h = refl
-frame_idle w c f (Unlock held reply) v h = refl
-frame_idle w c f (Answer reply) v h = refl
-frame_idle w c f (Try touch) v h = refl
-frame_idle w c f (Settle touch) v h = refl
 frame_idle w c f (Want touch old) v h = untrue (w.memory.is_free f) (after_frame c touch old f w) w v h
-frame_idle w c f (Fill touch g) v h = refl
-frame_idle w c f (CopyPost touch g) v h = refl
-frame_idle w c f (CopyAcks touch g) v h = refl
-frame_idle w c f (Install touch) v h = refl
-frame_idle w c f (Release touch) v h = refl
+frame_idle w c f _ v h = refl
 
 guess_idle : (w : World) (c first : ℕ) (phase : Phase) (v : World) → GuessesThisRun w c phase first Idle v → can_guess phase first ≡ false
-guess_idle w c first Free v h = refl
-guess_idle w c first (Check r) v h = refl
-guess_idle w c first (Lock goal cursor) v h = refl
 guess_idle w c first (Guessing place) v h = untrue (lies_in place.window place.count first) (after_guess c place (Run (pages_from first place.count)) w) w v h
-guess_idle w c first (Find place target) v h = refl
-guess_idle w c first (Leaving place target held) v h = refl
-guess_idle w c first (Cut place target range) v h = refl
-guess_idle w c first (Decide change) v h = refl
-guess_idle w c first (Post change shoot) v h = refl
-guess_idle w c first (Acks goal change) v h = refl
-guess_idle w c first (Unlock held reply) v h = refl
-guess_idle w c first (Answer reply) v h = refl
-guess_idle w c first (Try touch) v h = refl
-guess_idle w c first (Settle touch) v h = refl
-guess_idle w c first (Want touch old) v h = refl
-guess_idle w c first (Fill touch g) v h = refl
-guess_idle w c first (CopyPost touch g) v h = refl
-guess_idle w c first (CopyAcks touch g) v h = refl
-guess_idle w c first (Install touch) v h = refl
-guess_idle w c first (Release touch) v h = refl
+guess_idle w c first _ v h = refl
 
 window_idle : (w : World) (c : ℕ) (phase : Phase) (v : World) → TakesWindow w c phase Idle v → looks_for_place phase ≡ false
-window_idle w c Free v h = refl
-window_idle w c (Check r) v h = refl
-window_idle w c (Lock goal cursor) v h = refl
 window_idle w c (Guessing place) v h = absurd (let i = h.0 in cc)
-window_idle w c (Find place target) v h = refl
-window_idle w c (Leaving place target held) v h = refl
-window_idle w c (Cut place target range) v h = refl
-window_idle w c (Decide change) v h = refl
-window_idle w c (Post change shoot) v h = refl
-window_idle w c (Acks goal change) v h = refl
-window_idle w c (Unlock held reply) v h = refl
-window_idle w c (Answer reply) v h = refl
-window_idle w c (Try touch) v h = refl
-window_idle w c (Settle touch) v h = refl
-window_idle w c (Want touch old) v h = refl
-window_idle w c (Fill touch g) v h = refl
-window_idle w c (CopyPost touch g) v h = refl
-window_idle w c (CopyAcks touch g) v h = refl
-window_idle w c (Install touch) v h = refl
-window_idle w c (Release touch) v h = refl
+window_idle w c _ v h = refl
 
 -- an inbox with a message asks for something
 take_idle : (w : World) (c : ℕ) (t : Took) (v : World) → TakesMessage w c t Idle v → t ≡ took.Idle
-take_idle w c (took.Clear range) v h = absurd (let i = h.0 in cc)
-take_idle w c (took.Invalidate range) v h = absurd (let i = h.0 in cc)
 take_idle w c took.Idle v h = refl
+take_idle w c _ v h = absurd (let i = h.0 in cc)
 
 asks : (ms : List Message) → asked ms ≡ took.Idle → ms ≡ []
 asks [] h = refl
@@ -164,17 +89,13 @@ absent_entry (Some e) h = absurd cc
 
 flush_idle : (w : World) (c : ℕ) (report : FlushReport) (counts : Counts) (v : World) → Takes w.memory.counts (Flushing c report) counts
     → ReportsFlush w report counts Idle v → Takes w.memory.counts (Flushing c flush.Idle) w.memory.counts
-flush_idle w c (flush.Evicted p) counts v t h = absurd (let i = h.0 in cc)
-flush_idle w c flush.Flushed counts v t h = absurd (let i = h.0 in cc)
-flush_idle w c flush.EpochEnded counts v t h = absurd (let i = h.0 in cc)
 flush_idle w c flush.Idle counts v t h = (t.0, (t.1.0, t.1.1, refl))
+flush_idle w c _ counts v t h = absurd (let i = h.0 in cc)
 
 review_idle : (w : World) (c : ℕ) (report : ReviewReport) (counts : Counts) (v : World) → Takes w.memory.counts (Reviewing c report) counts
     → ReportsReview w report counts Idle v → Takes w.memory.counts (Reviewing c review.Idle) w.memory.counts
-review_idle w c (review.Freed f) counts v t h = absurd (let i = h.0 in cc)
-review_idle w c (review.Requeued p) counts v t h = absurd (let i = h.0 in cc)
-review_idle w c (review.Dropped p) counts v t h = absurd (let i = h.0 in cc)
 review_idle w c review.Idle counts v t h = (t.0, (t.1.0, refl))
+review_idle w c _ counts v t h = absurd (let i = h.0 in cc)
 
 -- a copy for which other cores are awaited
 copy_idle : (w : World) (c : ℕ) (phase : Phase) (v : World) → GivesUpCopy w c phase Idle v → (set : ℕ) × Awaits w.hardware c set
@@ -183,25 +104,8 @@ copy_idle w c phase v (inr h) = h.0
 
 give_up_idle : (w : World) (c : ℕ) (phase : Phase) (v : World) → GivesUp w c phase Idle v → CannotGiveUp w.hardware c phase
 give_up_idle w c Free v h = untrue (can_give_up Free) (after_give_up c Free w) w v h
-give_up_idle w c (Check r) v h = untrue (can_give_up (Check r)) (after_give_up c (Check r) w) w v h
-give_up_idle w c (Lock goal cursor) v h = untrue (can_give_up (Lock goal cursor)) (after_give_up c (Lock goal cursor) w) w v h
-give_up_idle w c (Guessing place) v h = untrue (can_give_up (Guessing place)) (after_give_up c (Guessing place) w) w v h
-give_up_idle w c (Find place target) v h = untrue (can_give_up (Find place target)) (after_give_up c (Find place target) w) w v h
-give_up_idle w c (Leaving place target held) v h = untrue (can_give_up (Leaving place target held)) (after_give_up c (Leaving place target held) w) w v h
-give_up_idle w c (Cut place target range) v h = untrue (can_give_up (Cut place target range)) (after_give_up c (Cut place target range) w) w v h
-give_up_idle w c (Decide change) v h = untrue (can_give_up (Decide change)) (after_give_up c (Decide change) w) w v h
-give_up_idle w c (Post change shoot) v h = untrue (can_give_up (Post change shoot)) (after_give_up c (Post change shoot) w) w v h
-give_up_idle w c (Acks goal change) v h = untrue (can_give_up (Acks goal change)) (after_give_up c (Acks goal change) w) w v h
-give_up_idle w c (Unlock held reply) v h = untrue (can_give_up (Unlock held reply)) (after_give_up c (Unlock held reply) w) w v h
-give_up_idle w c (Answer reply) v h = untrue (can_give_up (Answer reply)) (after_give_up c (Answer reply) w) w v h
-give_up_idle w c (Try touch) v h = untrue (can_give_up (Try touch)) (after_give_up c (Try touch) w) w v h
-give_up_idle w c (Settle touch) v h = untrue (can_give_up (Settle touch)) (after_give_up c (Settle touch) w) w v h
-give_up_idle w c (Want touch old) v h = untrue (can_give_up (Want touch old)) (after_give_up c (Want touch old) w) w v h
-give_up_idle w c (Fill touch g) v h = untrue (can_give_up (Fill touch g)) (after_give_up c (Fill touch g) w) w v h
-give_up_idle w c (CopyPost touch g) v h = untrue (can_give_up (CopyPost touch g)) (after_give_up c (CopyPost touch g) w) w v h
 give_up_idle w c (CopyAcks touch g) v h = copy_idle w c (CopyAcks touch g) v h
-give_up_idle w c (Install touch) v h = untrue (can_give_up (Install touch)) (after_give_up c (Install touch) w) w v h
-give_up_idle w c (Release touch) v h = untrue (can_give_up (Release touch)) (after_give_up c (Release touch) w) w v h
+give_up_idle w c phase v h = untrue (can_give_up phase) (after_give_up c phase w) w v h
 
 -- each event, where the machine has its core
 act_idle : (w : World) (e : Event) (v : World) → is_here w.made (core_of e) ≡ true → Shape (with_event w) e Idle v → Acts (with_event w) e Idle v
@@ -273,39 +177,11 @@ call_full w c request Free v h = (refl, go (nat_lt (length w.calls.requests) w.m
         → w.made.calls ≤ length w.calls.requests
     go true i k = absurd (let f = k.0 in cc)
     go false i k = over (length w.calls.requests) w.made.calls i
-call_full w c request (Check r) v h = absurd (let i = h.0 in cc)
-call_full w c request (Lock goal cursor) v h = absurd (let i = h.0 in cc)
-call_full w c request (Guessing place) v h = absurd (let i = h.0 in cc)
-call_full w c request (Find place target) v h = absurd (let i = h.0 in cc)
-call_full w c request (Leaving place target held) v h = absurd (let i = h.0 in cc)
-call_full w c request (Cut place target range) v h = absurd (let i = h.0 in cc)
-call_full w c request (Decide change) v h = absurd (let i = h.0 in cc)
-call_full w c request (Post change shoot) v h = absurd (let i = h.0 in cc)
-call_full w c request (Acks goal change) v h = absurd (let i = h.0 in cc)
-call_full w c request (Unlock held reply) v h = absurd (let i = h.0 in cc)
-call_full w c request (Answer reply) v h = absurd (let i = h.0 in cc)
-call_full w c request (Try touch) v h = absurd (let i = h.0 in cc)
-call_full w c request (Settle touch) v h = absurd (let i = h.0 in cc)
-call_full w c request (Want touch old) v h = absurd (let i = h.0 in cc)
-call_full w c request (Fill touch g) v h = absurd (let i = h.0 in cc)
-call_full w c request (CopyPost touch g) v h = absurd (let i = h.0 in cc)
-call_full w c request (CopyAcks touch g) v h = absurd (let i = h.0 in cc)
-call_full w c request (Install touch) v h = absurd (let i = h.0 in cc)
-call_full w c request (Release touch) v h = absurd (let i = h.0 in cc)
+call_full w c request _ v h = absurd (let i = h.0 in cc)
 
 act_full : (w : World) (e : Event) (v : World) → (c : ℕ) × (request : Request) × (e ≡ Call c request) → Acts (with_event w) e Full v → IsPastCalls w e
 act_full w (Call c request) v called h = call_full (with_event w) c request (w.calls.phase c) v h
-act_full w (Go d) v called h = absurd (let i = called.2 in cc)
-act_full w (Frame d f) v called h = absurd (let i = called.2 in cc)
-act_full w (Guess d p) v called h = absurd (let i = called.2 in cc)
-act_full w (Whole d) v called h = absurd (let i = called.2 in cc)
-act_full w (Take d) v called h = absurd (let i = called.2 in cc)
-act_full w (Walk d p) v called h = absurd (let i = called.2 in cc)
-act_full w (Evict d p) v called h = absurd (let i = called.2 in cc)
-act_full w (Flush d) v called h = absurd (let i = called.2 in cc)
-act_full w (Review d) v called h = absurd (let i = called.2 in cc)
-act_full w (Fold p) v called h = absurd (let i = called.2 in cc)
-act_full w (GiveUp d) v called h = absurd (let i = called.2 in cc)
+act_full w _ v called h = absurd (let i = called.2 in cc)
 
 full_why : (w : World) (e : Event) (v : World) → Step w e Full v → IsFull w e
 full_why w e v s = go (nat_lt w.calls.events event_limit) refl s
@@ -324,11 +200,9 @@ full_why w e v s = go (nat_lt w.calls.events event_limit) refl s
 -- ---- what they leave
 
 abbrev rests_in : Outcome → Bool
-rests_in (Wait blocker) = true
-rests_in Idle = true
-rests_in Full = true
 rests_in Stepped = false
 rests_in (Answered reply) = false
+rests_in _ = true
 
 still : (w : World) (e : Event) (o : Outcome) (v : World) → rests_in o ≡ true → Shape w e o v → v ≡ w
 still w e o v i (rests r h) = h
@@ -351,21 +225,14 @@ left w e o v i s = go (comes w e o v s)
 
 pub idle_step : (w : World) (e : Event) (o : Outcome) (v : World) → Step w e o v → OnIdle o (IsIdle w e)
 idle_step w e Idle v s = idle_why w e v s
-idle_step w e Stepped v s = tt
-idle_step w e (Wait blocker) v s = tt
-idle_step w e (Answered reply) v s = tt
-idle_step w e Full v s = tt
+idle_step w e _ v s = tt
 
 pub full_step : (w : World) (e : Event) (o : Outcome) (v : World) → Step w e o v → OnFull o (IsFull w e)
 full_step w e Full v s = full_why w e v s
-full_step w e Stepped v s = tt
-full_step w e (Wait blocker) v s = tt
-full_step w e (Answered reply) v s = tt
-full_step w e Idle v s = tt
+full_step w e _ v s = tt
 
 pub stays_step : (w : World) (e : Event) (o : Outcome) (v : World) → Step w e o v → Stays w o v
 stays_step w e (Wait blocker) v s = left w e (Wait blocker) v refl s
 stays_step w e Idle v s = left w e Idle v refl s
 stays_step w e Full v s = left w e Full v refl s
-stays_step w e Stepped v s = tt
-stays_step w e (Answered reply) v s = tt
+stays_step w e _ v s = tt

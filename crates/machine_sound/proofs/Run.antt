@@ -1,30 +1,11 @@
 -- A worked run of two cores, by computation: one maps a page, and the other stores a byte in it, for which it has to wait.
-use Rattle.std.proofs.Common.{◌≡◌, ℕ, ◌+◌, ◌++◌, Bool, true, false, cond, inl, inr, refl, ap, arith, Some, None, List, [], ◌∷◌}
-use Rattle.std.specs.Prelude.{is_some}
-use Rattle.vm_base.specs.declared.page.PageRange.{PageRange}
-use Rattle.vm_base.specs.declared.replies.Reply.TheVariants.{Mapped, Done}
-use Rattle.vm_base.specs.declared.requests.Request.TheVariants.{Mmap, Store}
-use Rattle.vm_base.specs.Functions.{has, put}
+use Rattle.machine_laws.proofs.Words.{◌≡◌, ℕ, ◌+◌, ◌++◌, Bool, true, false, cond, inl, inr, refl, ap, arith, Some, None, List, [], ◌∷◌, is_some, PageRange}
+use Rattle.machine_laws.proofs.Words.{Mapped, Done, Mmap, Store, has, put, message_of, posted, in_has, put_all, pages_of, awaited, inboxes_after, Slots}
+use Rattle.machine_laws.proofs.Words.{IsSlot, IsNew, Locks, Unlocks, between, with_owner, Locked, Held, Event, Call, Go, Outcome, Stepped, Wait, Answered}
+use Rattle.machine_laws.proofs.Words.{Slot, World, Made, new_world, Run, members, members-empty, Act}
 use Rattle.machine_model.specs.Counting.{CountsDown}
 use Rattle.refcache.proofs.Reached.{unused_at_first}
-use Rattle.shootdown.specs.Messages.{message_of, posted}
-use Rattle.vm_base.proofs.Functions.{in_has, put_all}
-use Rattle.vm_base.specs.Pages.{pages_of}
-use Rattle.shootdown.specs.Inboxes.{awaited}
-use Rattle.machine_model.specs.Translating.{inboxes_after}
-use Rattle.slot_lock.specs.Slots.{Slots, IsSlot, IsNew, Locks, Unlocks, between, with_owner}
-use Rattle.slot_lock.specs.declared.slot_map.Got.TheVariants.{Locked, Held}
-use Rattle.machine_model.specs.declared.event.Event.{Event}
-use Rattle.machine_model.specs.declared.event.Event.TheVariants.{Call, Go}
-use Rattle.machine_model.specs.declared.event.Outcome.{Outcome}
-use Rattle.machine_model.specs.declared.event.Outcome.TheVariants.{Stepped, Wait, Answered}
-use Rattle.machine_model.specs.declared.event.Blocker.TheVariants.{Slot}
 use Rattle.vm_base.specs.declared.log.Entry.TheVariants.{Answer}
-use Rattle.machine_model.specs.World.{World, Made, new_world}
-use Rattle.machine_model.specs.Step.{Run}
-use Rattle.vm_base.specs.Cores.{members}
-use Rattle.vm_base.proofs.CoreSets.{members-empty}
-use Rattle.vm_calls.specs.declared.decision.Decision.TheVariants.{Act}
 use Rattle.machine_sound.specs.Sound.{SoundRun}
 use Rattle.machine_sound.proofs.Examples.{read_write, anonymous}
 use Rattle.machine_sound.proofs.Kept.{runs_sound}

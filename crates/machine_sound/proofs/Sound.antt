@@ -1,15 +1,9 @@
 -- What the invariant gives: a sound state
-use Rattle.std.proofs.Common.{◌≡◌, ◌≢◌, ℕ, suc, pos, arith, Bool, true, false, refl, ap, subst, Some, None, Option, ◌∙◌}
-use Rattle.vm_base.specs.declared.info.PageInfo.{PageInfo}
-use Rattle.vm_base.specs.Info.{frame_of}
-use Rattle.vm_base.specs.Rights.{is_allowed}
-use Rattle.mmu.specs.declared.entry.Translation.{Translation}
-use Rattle.machine_model.specs.World.{World}
-use Rattle.machine_coherence.specs.Coherent.{IsBacked, IsSoundEntry}
-use Rattle.std.proofs.lemmas.Int.{ints}
-use Rattle.refcache.specs.Counts.{true_count}
-use Rattle.machine_counting.specs.Counted.{FilePage, one_if, users_of}
-use Rattle.machine_counting.proofs.Kept.{unused_no_page, cached_positive}
+use Rattle.machine_laws.proofs.Words.{◌≡◌, ◌≢◌, ℕ, suc, pos, arith, Bool, true, false, refl, ap, subst, Some, None, Option, ◌∙◌, PageInfo, frame_of}
+use Rattle.machine_laws.proofs.Words.{is_allowed, Translation, World, ints, true_count}
+use Rattle.machine_invariants.specs.Coherent.{IsBacked, IsSoundEntry}
+use Rattle.machine_invariants.specs.Counted.{FilePage, one_if, users_of}
+use Rattle.machine_invariants.proofs.CountsKept.{unused_no_page, cached_positive}
 use Rattle.machine_sound.specs.Translations.{Translates, Agrees}
 use Rattle.machine_sound.specs.Translations.Translates.{by_table, by_tlb}
 use Rattle.machine_sound.specs.Translations.IsNamed.{by_slot, by_file, by_translation, by_call}

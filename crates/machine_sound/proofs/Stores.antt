@@ -1,15 +1,9 @@
 -- A store to a page with a frame: its own bytes change, or those of its file's page
-use Rattle.std.proofs.Common.{◌≡◌, ◌≢◌, ℕ, Bool, true, false, cond, refl, sym, ap, subst, Some, None, Option, ◌∙◌}
-use Rattle.std.specs.Prelude.{◌&&◌}
-use Rattle.vm_base.specs.declared.info.Back.{Back}
-use Rattle.vm_base.specs.declared.info.Back.TheVariants.{Anon, Shared, Private}
-use Rattle.vm_base.specs.Functions.{put}
-use Rattle.vm_base.specs.Plain.{Bytes, File, Entry, Plain, bytes_in}
+use Rattle.machine_laws.proofs.Words.{◌≡◌, ◌≢◌, ℕ, Bool, true, false, cond, refl, sym, ap, subst, Some, None, Option, ◌∙◌, ◌&&◌, Back, Anon, Shared, Private}
+use Rattle.machine_laws.proofs.Words.{put, Bytes, File, Plain, bytes_in, put_all, put_same, put_other, shows_file, is_private, World, Memory}
+use Rattle.vm_base.specs.Plain.{Entry}
 use Rattle.vm_base.specs.Apply.{stored_entry, stored_own, stored_back, with_byte}
-use Rattle.vm_base.proofs.Functions.{put_all, put_same, put_other}
-use Rattle.machine_model.specs.Files.{shows_file, is_private}
-use Rattle.machine_model.specs.World.{World, Memory}
-use Rattle.machine_counting.specs.Counted.{FilePage, IsCountedState}
+use Rattle.machine_invariants.specs.Counted.{FilePage, IsCountedState}
 use Rattle.machine_sound.specs.Invariant.{ShowsPlain, Shows, ShowsPage, ShowsFile, Owns, MayOwn, own_frame, own_frame_of}
 use Rattle.machine_sound.proofs.Pages.{with_bytes, IsFramed, page_kept, file_kept, own_is_frame, own_so, is_it}
 use Rattle.machine_sound.proofs.Moves.{shows_less}
@@ -57,8 +51,6 @@ file_written : (m : Memory) (n k f i byte : ℕ) (first now : Option File) → m
     → ((l : ℕ) → l ≢ k → m.cached n l ≢ Some f) → ShowsFile m.bytes (m.cached n) first now
     → ShowsFile (put m.bytes f (put (m.bytes f) i byte)) (m.cached n) first (with_byte now k i byte)
 file_written m n k f i byte None None at others h = h
-file_written m n k f i byte None (Some b) at others h = absurd h
-file_written m n k f i byte (Some a) None at others h = absurd h
 file_written m n k f i byte (Some a) (Some b) at others h = (h.0, h.1, bytes)
   where
     x : Bytes
@@ -76,6 +68,7 @@ file_written m n k f i byte (Some a) (Some b) at others h = (h.0, h.1, bytes)
     bytes = put_all (λ l y. y ≡ bytes_in (put m.bytes f x) (a.bytes l) (m.cached n l)) b.bytes k (put (b.bytes k) i byte)
         (ap (λ y. put y i byte) same ∙ (sym (put_same m.bytes f x) ∙ sym (ap (bytes_in (put m.bytes f x) (a.bytes k)) at)))
         (λ l ne. h.2 l ∙ kept (m.cached n l) (a.bytes l) (others l ne))
+file_written m n k f i byte _ _ at others h = absurd h
 
 -- the file page that a frame caches is the only one
 only_one : (w : World) → IsCountedState w → (n k m l f : ℕ) → w.memory.cached n k ≡ Some f → w.memory.cached m l ≡ Some f → (n ≡ m) × (k ≡ l)

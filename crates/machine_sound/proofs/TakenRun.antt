@@ -1,23 +1,11 @@
 -- A worked run in which a mapping's hint is taken by another core after its check: it looks elsewhere, and goes to a run of its window.
-use Rattle.std.proofs.Common.{◌≡◌, ℕ, Bool, true, false, arith, inl, refl, ap, None, Some, cond, List, [], ◌∷◌}
-use Rattle.vm_base.specs.declared.replies.Reply.TheVariants.{Mapped}
-use Rattle.vm_base.specs.declared.requests.Request.TheVariants.{Mmap}
-use Rattle.vm_base.specs.Functions.{has}
-use Rattle.vm_base.specs.Pages.{pages_of, pages_from}
-use Rattle.vm_base.proofs.Functions.{has_in}
+use Rattle.machine_laws.proofs.Words.{◌≡◌, ℕ, Bool, true, false, arith, inl, refl, ap, None, Some, cond, List, [], ◌∷◌, Mapped, Mmap, has, pages_of}
+use Rattle.machine_laws.proofs.Words.{pages_from, has_in, Locked, between, Act, Again, free, taken, Event, Call, Go, Outcome, Stepped, Answered, World}
+use Rattle.machine_laws.proofs.Words.{new_world, Run}
 use Rattle.slot_lock.specs.declared.slot_map.Fit.TheVariants as fit
-use Rattle.slot_lock.specs.declared.slot_map.Got.TheVariants.{Locked}
-use Rattle.slot_lock.specs.Slots.{between}
-use Rattle.vm_calls.specs.declared.decision.Decision.TheVariants.{Act, Again}
-use Rattle.vm_calls.specs.Decisions.DecidesRun.{free, taken}
 use Rattle.machine_model.specs.Counting.{CountsDown}
-use Rattle.machine_model.specs.declared.event.Event.{Event}
-use Rattle.machine_model.specs.declared.event.Event.TheVariants.{Call, Go, Guess}
-use Rattle.machine_model.specs.declared.event.Outcome.{Outcome}
-use Rattle.machine_model.specs.declared.event.Outcome.TheVariants.{Stepped, Answered}
+use Rattle.machine_model.specs.declared.event.Event.TheVariants.{Guess}
 use Rattle.vm_base.specs.declared.log.Entry.TheVariants.{Answer}
-use Rattle.machine_model.specs.World.{World, new_world}
-use Rattle.machine_model.specs.Step.{Run}
 use Rattle.machine_sound.specs.Sound.{SoundRun}
 use Rattle.machine_sound.proofs.Examples.{read_write, anonymous}
 use Rattle.machine_sound.proofs.Kept.{runs_sound}

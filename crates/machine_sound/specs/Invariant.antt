@@ -15,8 +15,8 @@ use Rattle.machine_model.specs.Accesses.{is_past_end}
 use Rattle.machine_model.specs.Files.{shows_file}
 use Rattle.machine_model.specs.World.{World, Made, Hardware, Memory}
 use Rattle.machine_laws.specs.Orderly.{Order}
-use Rattle.machine_coherence.specs.Coherent.{IsCoherent}
-use Rattle.machine_counting.specs.Counted.{IsCounted}
+use Rattle.machine_invariants.specs.Coherent.{IsCoherent}
+use Rattle.machine_invariants.specs.Counted.{IsCounted}
 use Rattle.vm_base.specs.Log.{Replays}
 
 -- ---- frames

@@ -24,9 +24,9 @@ use Rattle.machine_model.specs.Changes.{Awaits}
 use Rattle.machine_model.specs.Holding.{range_in, some_has, taken_in}
 use Rattle.machine_model.specs.Step.{Step, Run, event_limit, with_event}
 use Rattle.machine_laws.specs.Brackets.{step_of}
-use Rattle.machine_coherence.specs.Coherent.{Mirrors, IsCoherentState}
+use Rattle.machine_invariants.specs.Coherent.{Mirrors, IsCoherentState}
 use Rattle.machine_laws.specs.Orderly.{IsOrderly}
-use Rattle.machine_counting.specs.Counted.{users_of, IsCountedState}
+use Rattle.machine_invariants.specs.Counted.{users_of, IsCountedState}
 use Rattle.machine_sound.specs.Log.{LeadsTo}
 use Rattle.machine_sound.specs.Possible.{IsFull, IsIdle, OnFull, OnIdle}
 use Rattle.machine_sound.specs.Translations.{Translates, Agrees, IsNamed}

@@ -59,10 +59,6 @@ distinct_end (y ∷ ys) x h n =
     let flipped : (x.page == y.page) ≡ false = grind (arith, nat_tests) in
     distinct_more y (ys ++ x ∷ []) (absent_end ys x y.page (apart_head y ys h).0 flipped) (distinct_end ys x (apart_head y ys h).1 (parts y ys x.page n).1)
 
-pub distinct_drop : (es : List TlbEntry) → are_distinct es ≡ true → are_distinct (drop 1 es) ≡ true
-distinct_drop [] h = refl
-distinct_drop (x ∷ xs) h = (apart_head x xs h).1
-
 pub distinct_without : (s : ℕ → Bool) (es : List TlbEntry) → are_distinct es ≡ true → are_distinct (tlb_without s es) ≡ true
 distinct_without s [] h = refl
 distinct_without s (x ∷ xs) h = go (distinct_without s xs (apart_head x xs h).1) (s x.page)

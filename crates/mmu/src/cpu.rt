@@ -1,4 +1,5 @@
-//! What one core translates addresses by: tables of its own, and a TLB.
+//! The face of the crate: what one core translates addresses by, tables of its own (`level`) and a TLB
+//! (`tlb`).
 ghost use Rattle.std.specs.Prelude.{◌≡◌, ◌&&◌, ℕ, [], None, Some, Bool, true, false, is_some, not, length, ◌≤◌};
 ghost use Rattle.std.specs.Prelude.{IfOk, OnOk, OnErr, List, Option, if◌then◌else◌};
 ghost use Rattle.vm_base.specs.Functions.{put, over, has};

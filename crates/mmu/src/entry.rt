@@ -32,7 +32,7 @@ impl Translation {
     }
 
     /// Tells whether the translation permits the access.
-    pub fn permits(self, access: Access) -> bool
+    pub(crate) fn permits(self, access: Access) -> bool
         ensures { result ≡ permits self access }
     {
         match access {
@@ -55,7 +55,7 @@ impl Translation {
 }
 
 /// What the 64 bits of a last-level entry say; nothing where P (bit 0) is 0.
-pub fn decode(word: u64) -> Option<Translation>
+pub(crate) fn decode(word: u64) -> Option<Translation>
     ensures { result ≡ decode word }
 {
     if word % 2 == 0 {

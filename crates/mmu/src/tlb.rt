@@ -1,4 +1,4 @@
-//! The translations that a core holds, the oldest filled first.
+//! The TLB: the at most 64 translations that a core holds, the oldest filled first.
 ghost use Rattle.std.specs.Prelude.{◌≡◌, ◌==◌, ◌+◌, ◌<◌, ◌≤◌, [], ◌∷◌, ◌++◌, true, None, IfSome};
 ghost use Rattle.std.specs.Prelude.{length, drop, slice_index, slice_set, if◌then◌else◌, ℕ};
 ghost use Rattle.vm_base.specs.Functions.{has};
@@ -237,7 +237,7 @@ impl Tlb {
     }
 
     /// Drops the translation of the page.
-    pub fn drop_page(&mut self, page: u64)
+    pub(crate) fn drop_page(&mut self, page: u64)
         ensures { entries_of self.new.places self.new.fills.items
             ≡ tlb_without (is_at page) (entries_of self.old.places self.old.fills.items) }
     {

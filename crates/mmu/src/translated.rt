@@ -1,4 +1,4 @@
-//! What an access came to.
+//! What the translation of an access came to.
 
 /// How an access was translated, with the frame.
 #[derive(Clone, Copy, Debug, PartialEq, Eq)]

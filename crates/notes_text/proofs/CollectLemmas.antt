@@ -1,17 +1,17 @@
 -- Whole texts, a line at a time.
-use Rattle.std.proofs.Common.{◌≡◌, ◌≢◌, true, false, cond, OnOk, IfErr, IfOk, ℕ, ◌+◌, ◌<◌, ◌≤◌, Bool, List, [], ◌∷◌, ◌++◌, Option}
-use Rattle.std.proofs.Common.{Some, None, Result, Ok, Err, length, take, ◌⊎◌, inl, inr}
-use Rattle.std.proofs.Common.{arith, refl, sym, ap, ◌∙◌, subst, append_assoc, append-nil, length-append}
-use Rattle.std.proofs.lemmas.Bool.Decides.{nat_tests}
-use Rattle.std.specs.Prelude.{is_ok, is_err, ◌==◌, IsSomeAnd}
-use Rattle.trace_io.specs.Lines.{lines_of, IsUnbroken, IsFirstLine}
+use Rattle.machine_laws.proofs.Words.{◌≡◌, ◌≢◌, true, false, cond, OnOk, ℕ, ◌+◌, ◌<◌, ◌≤◌, Bool, List, [], ◌∷◌, ◌++◌, Option, Some, None, Result, Ok, Err}
+use Rattle.machine_laws.proofs.Words.{length, take, ◌⊎◌, inl, inr, arith, refl, sym, ap, ◌∙◌, subst, append_assoc, append-nil, length-append, nat_tests}
+use Rattle.machine_laws.proofs.Words.{IsSomeAnd, Mode}
+use Rattle.std.proofs.Common.{IfErr, IfOk}
+use Rattle.std.specs.Prelude.{is_ok, is_err, ◌==◌}
+use Rattle.trace_io.specs.Lines.{lines_of, IsUnbroken, TakesLine}
 use Rattle.trace_text.specs.Words.{Word}
 use Rattle.trace.specs.declared.fault.TraceFault.{TraceFault}
 use Rattle.trace.specs.declared.fault.TraceFault.TheVariants.{BadLine, TooLong, ReadFailed, NoVmLine, NoMemory, Setup, WriteFailed}
 use Rattle.trace.specs.Declarations.{Asked, asked_fault}
 use Rattle.trace.specs.Ends.{AreRead}
-use Rattle.trace.proofs.RunLemmas.{lines-first, long_first, IsTaken, taken_more, next_line, known_read}
-use Rattle.vm_base.specs.declared.rights.Mode.{Mode}
+use Rattle.trace.proofs.TurnLemmas.{is_own}
+use Rattle.trace.proofs.RunLemmas.{lines-first, long_first, HasTaken, none_taken, line_taken, all_taken, taken_more, known_read}
 use Rattle.trace_text.specs.Words.{words_of}
 use Rattle.trace_text.specs.Line.{are_printable, line_of}
 use Rattle.trace_text.specs.declared.line.Line.TheVariants.{Blank, Space, File}
@@ -28,73 +28,47 @@ takes-snoc : {T : Type 0} (k : Bool) (N : ℕ → T → List Word → Type 0) (s
 takes-snoc k N s m n [] l r p t = (n, p, subst (λ x. Takes k N x l n) r t, refl)
 takes-snoc k N s m n (x ∷ xs) l r p t = (r.0, r.1, r.2, takes-snoc k N r.0 m n xs l r.3 p t)
 
--- the lines so far were taken, and what is left has the others
+-- the lines so far were taken
 pub record HasCollected {T : Type 0} (k : Bool) (N : ℕ → T → List Word → Type 0) (input : List ℕ) (now : Scene T) (number : ℕ) : Type 0 where
-  pub done : List (List ℕ)
-  pub whole : List ℕ
-  pub rest : List ℕ
-  pub taken : IsTaken input whole rest done
-  pub left : now.left ≡ rest
-  pub lines : lines_of input ≡ done ++ lines_of rest
-  pub takes : TakesAll k N nothing done now.collected
-  pub count : number ≡ length done
+  pub at : HasTaken input now.left number
+  pub takes : TakesAll k N nothing at.done now.collected
 
 -- nothing has been read yet
 pub collected_none : {T : Type 0} (k : Bool) (N : ℕ → T → List Word → Type 0) (input : List ℕ) (now : Scene T) → now.left ≡ input
     → now.collected ≡ nothing → HasCollected k N input now 0
-collected_none k N input now e s = record {
-  done = [];
-  whole = [];
-  rest = input;
-  taken = record { bytes = refl; lines = refl; joins = inr (λ zs. refl) };
-  left = e;
-  lines = refl;
-  takes = s;
-  count = refl;
-}
+unfolding none_taken
+collected_none k N input now e s = record { at = none_taken input now.left e; takes = s }
 
 pub collected_more : {T : Type 0} (k : Bool) (N : ℕ → T → List Word → Type 0) (input : List ℕ) (now next : Scene T) (number : ℕ)
     → HasCollected k N input now number → Advances k N now next → HasCollected k N input next (number + 1)
-collected_more k N input now next number h a =
-    let ys = next.left in
-    let first : IsFirstLine h.rest a.line ys = subst (λ x. IsFirstLine x a.line ys) h.left a.first in
-    let (whole, taken) = taken_more input h.whole h.rest a.line ys h.done h.taken a.unbroken first in
-    record {
-      done = h.done ++ a.line ∷ [];
-      whole = whole;
-      rest = ys;
-      taken = taken;
-      left = refl;
-      lines = next_line input a.line h.rest ys h.done h.lines a.unbroken first ∙ sym (append_assoc h.done (a.line ∷ []) (lines_of ys));
-      takes = takes-snoc k N nothing now.collected next.collected h.done a.line h.takes a.short a.takes;
-      count = let c = h.count in omega (arith, length-append h.done (a.line ∷ []));
-    }
+unfolding line_taken
+collected_more k N input now next number h a = record {
+  at = line_taken input now.left a.line next.left number h.at a.next.unbroken a.next.first;
+  takes = takes-snoc k N nothing now.collected next.collected h.at.done a.line h.takes a.next.short a.takes;
+}
 
 -- what was taken so far
 front_of : {T : Type 0} (k : Bool) (N : ℕ → T → List Word → Type 0) (input : List ℕ) (now : Scene T) (number : ℕ) → HasCollected k N input now number
     → Front k N input
-front_of k N input now number h = record { done = h.done; more = lines_of h.rest; collected = now.collected; lines = h.lines; takes = h.takes }
+front_of k N input now number h =
+    record { done = h.at.done; more = lines_of now.left; collected = now.collected; lines = h.at.lines; takes = h.takes }
 
 pub collected_fails : {T : Type 0} (k : Bool) (N : ℕ → T → List Word → Type 0) (input : List ℕ) (now next : Scene T) (number : ℕ) (f : TraceFault)
     → HasCollected k N input now number → Fails k N now next number f → Stops k N input next.unread f
 unfolding front_of
 collected_fails k N input now next number f h (read_fails e held u l m) =
-    let (r, same) = known_read input h.whole h.rest held h.done next.left next.unread h.taken (m ∙ h.left) l.0 l.1 in
+    let (r, same) = known_read input h.at.whole now.left held h.at.done next.left next.unread h.at.taken m l.0 l.1 in
     reading e (front_of k N input now number h) r (subst IsUnbroken (sym same) u)
 collected_fails k N input now next number f h (too_long e b) =
-    let l = long_first 256 h.rest (subst (λ x. 256 < length x) h.left b.0) (subst (λ x. IsUnbroken (take 257 x)) h.left b.1) in
-    overlong (front_of k N input now number h) l.line l.others l.lines l.long (e ∙ ap (λ n. TooLong (n + 1)) h.count)
-collected_fails k N input now next number f h (no_memory e line held short u t l w) =
-    let ys = next.left in
-    let first : IsFirstLine h.rest line ys = subst (λ x. IsFirstLine x line ys) h.left t in
-    let (whole, taken) = taken_more input h.whole h.rest line ys h.done h.taken u first in
-    let (r, same) = known_read input whole ys held (h.done ++ line ∷ []) next.left next.unread taken refl l.0 l.1 in
-    wanting e (front_of k N input now number h) line (lines_of ys) (lines-first h.rest line ys u first) r w
-collected_fails k N input now next number f h (refused line short u t b) =
-    let ys = next.left in
-    let first : IsFirstLine h.rest line ys = subst (λ x. IsFirstLine x line ys) h.left t in
-    refusing (front_of k N input now number h) line (lines_of ys) (lines-first h.rest line ys u first) short
-    (subst (λ n. Refuses k N now.collected (n + 1) line f) h.count b)
+    let l = long_first 256 now.left b.0 b.1 in
+    overlong (front_of k N input now number h) l.line l.others l.lines l.long (e ∙ ap (λ n. TooLong (n + 1)) h.at.count)
+collected_fails k N input now next number f h (no_memory e line held t l w) =
+    let (whole, taken) = taken_more input h.at.whole now.left line next.left h.at.done h.at.taken t.unbroken t.first in
+    let (r, same) = known_read input whole next.left held (h.at.done ++ line ∷ []) next.left next.unread taken refl l.0 l.1 in
+    wanting e (front_of k N input now number h) line (lines_of next.left) (lines-first now.left line next.left t.unbroken t.first) r w
+collected_fails k N input now next number f h (refused line t b) =
+    refusing (front_of k N input now number h) line (lines_of next.left) (lines-first now.left line next.left t.unbroken t.first) t.short
+    (subst (λ n. Refuses k N now.collected (n + 1) line f) h.at.count b)
 
 rebuilt : {T : Type 0} (c : Collected T) (asked : Asked) → c.asked ≡ Some asked → c ≡ record { asked = Some asked; items = c.items }
 rebuilt c asked e = ap (λ o. record { asked = o; items = c.items }) e
@@ -104,17 +78,15 @@ pub collected_ends : {T : Type 0} (k : Bool) (N : ℕ → T → List Word → Ty
     → HasCollected k N input now number → IsOver now next → next.collected.asked ≡ Some asked → asked_fault asked ≡ None
     → Collects k N input asked next.collected.items
 collected_ends k N input now next number asked h v a sound =
-    let none = ap lines_of (sym h.left ∙ v.ended) in
     let all : TakesAll k N nothing (lines_of input) now.collected =
-    subst (λ ls. TakesAll k N nothing ls now.collected) (sym (h.lines ∙ ap (λ l. h.done ++ l) none ∙ append-nil h.done)) h.takes in
+    subst (λ ls. TakesAll k N nothing ls now.collected) (sym (all_taken input now.left number h.at v.ended)) h.takes in
     record { takes = subst (TakesAll k N nothing (lines_of input)) (sym v.collected ∙ rebuilt next.collected asked a) all; sound = sound }
 
 pub collected_stops : {T : Type 0} (k : Bool) (N : ℕ → T → List Word → Type 0) (input : List ℕ) (now next : Scene T) (number : ℕ) (f : TraceFault)
     → HasCollected k N input now number → IsOver now next → CannotMake next.collected.asked f → Stops k N input next.unread f
 unfolding front_of
 collected_stops k N input now next number f h v c =
-    let none = ap lines_of (sym h.left ∙ v.ended) in
-    unopened (front_of k N input now number h) none (subst (λ (x : Collected _). CannotMake x.asked f) v.collected c)
+    unopened (front_of k N input now number h) (ap lines_of v.ended) (subst (λ (x : Collected _). CannotMake x.asked f) v.collected c)
 
 -- ---- a line
 
@@ -157,32 +129,22 @@ pushed (Err e) xs ys x h n = absurd (cc)
 -- ---- a turn
 
 pub line_refused : {T : Type 0} (k : Bool) (N : ℕ → T → List Word → Type 0) (old new : Scene T) (n : ℕ) (line held seen : List ℕ) (f : TraceFault)
-    → length line ≤ 256 → IsUnbroken line → IsFirstLine old.left line new.left → IsHeld held new → seen ≡ line
+    → TakesLine old.left line new.left → IsHeld held new → seen ≡ line
     → ((f ≡ NoMemory) × Wants k N old.collected seen) ⊎ Refuses k N old.collected (n + 1) seen f → Fails k N old new n f
-line_refused k N old new n line held seen f short unbroken first holds same (inl e) =
-    no_memory e.0 line held short unbroken first holds (subst (Wants k N old.collected) same e.1)
-line_refused k N old new n line held seen f short unbroken first holds same (inr h) =
-    refused line short unbroken first (subst (λ l. Refuses k N old.collected (n + 1) l f) same h)
+line_refused k N old new n line held seen f next holds same (inl e) =
+    no_memory e.0 line held next holds (subst (Wants k N old.collected) same e.1)
+line_refused k N old new n line held seen f next holds same (inr h) =
+    refused line next (subst (λ l. Refuses k N old.collected (n + 1) l f) same h)
 
-pub line_advances : {T : Type 0} (k : Bool) (N : ℕ → T → List Word → Type 0) (old new : Scene T) (line seen : List ℕ) → length line ≤ 256
-    → IsUnbroken line → IsFirstLine old.left line new.left → seen ≡ line → Takes k N old.collected seen new.collected → Advances k N old new
-line_advances k N old new line seen short unbroken first same takes = record {
+pub line_advances : {T : Type 0} (k : Bool) (N : ℕ → T → List Word → Type 0) (old new : Scene T) (line seen : List ℕ)
+    → TakesLine old.left line new.left → seen ≡ line → Takes k N old.collected seen new.collected → Advances k N old new
+line_advances k N old new line seen next same takes = record {
   line = line;
-  short = short;
-  unbroken = unbroken;
-  first = first;
+  next = next;
   takes = subst (λ l. Takes k N old.collected l new.collected) same takes;
 }
 
--- a fault of the reader's own
-is_own : TraceFault → Bool
-is_own (BadLine n) = true
-is_own (TooLong n) = true
-is_own ReadFailed = false
-is_own NoVmLine = true
-is_own NoMemory = true
-is_own (Setup s) = true
-is_own WriteFailed = false
+-- ---- whose fault a fault is
 
 own_late : (o : Option SetupFault) (n : ℕ) → is_own (late o n) ≡ true
 unfolding is_own
@@ -218,10 +180,6 @@ end_not_read (Some a) (Err f) h e =
 pub on_ok_then : {U E : Type 0} (r : Result U E) (X Y : Type 0) → OnOk r X → (X → Y) → IfOk r (λ d. Y)
 on_ok_then (Ok u) X Y h f = f h
 on_ok_then (Err e) X Y h f = tt
-
-pub if_err_then : {U E : Type 0} (r : Result U E) (P Q : E → Type 0) → IfErr r P → ((e : E) → P e → Q e) → IfErr r Q
-if_err_then (Ok u) P Q h f = tt
-if_err_then (Err e) P Q h f = f e h
 
 pub some_asked : (o : Option Asked) → IsSomeAnd o (λ asked. asked_fault asked ≡ None) → (asked : Asked) × (o ≡ Some asked) × (asked_fault asked ≡ None)
 some_asked None h = absurd h

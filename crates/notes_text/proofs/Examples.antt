@@ -1,7 +1,5 @@
 -- A note that is written, and what its text doesn't say.
-use Rattle.std.proofs.Common.{◌≡◌, List, [], ◌∷◌, arith, refl}
-use Rattle.machine_model.specs.declared.event.Event.TheVariants.{Flush}
-use Rattle.machine_model.specs.declared.event.Outcome.TheVariants.{Idle}
+use Rattle.machine_laws.proofs.Words.{◌≡◌, List, [], ◌∷◌, arith, refl, Flush, Idle}
 use Rattle.seats.specs.Notes.{noted}
 use Rattle.seats.specs.declared.noted.Noted.{Noted}
 use Rattle.trace.specs.Declarations.{Asked, asks_for}

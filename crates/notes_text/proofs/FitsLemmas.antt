@@ -1,24 +1,13 @@
 -- What lines name and declare fits.
-use Rattle.std.proofs.Common.{◌≡◌, ◌≢◌, ◌⊎◌, inl, inr, ℕ, zero, suc, ◌+◌, ◌^◌, ◌<◌, ◌≤◌, Bool, true, false, cond, eqb, ltb}
-use Rattle.std.proofs.Common.{List, [], ◌∷◌, ◌++◌, Option, Some, None, length}
-use Rattle.std.proofs.Common.{arith, refl, sym, ap, ◌∙◌, subst, length-append}
-use Rattle.std.specs.Prelude.{nat_lt, ◌||◌}
+use Rattle.machine_laws.proofs.Words.{◌≡◌, ◌≢◌, ◌⊎◌, inl, inr, ℕ, zero, suc, ◌+◌, ◌^◌, ◌<◌, ◌≤◌, Bool, true, false, cond, eqb, ltb, List, [], ◌∷◌, ◌++◌}
+use Rattle.machine_laws.proofs.Words.{Option, Some, None, length, arith, refl, sym, ap, ◌∙◌, subst, length-append, nat_lt, ◌||◌, or_right, nat_tests, members}
+use Rattle.machine_laws.proofs.Words.{with_member, Mode, Request, Mmap, Munmap, Mprotect, Load, Store, Fetch, Reply, Mapped, Byte, Event, Slot, Outcome}
+use Rattle.machine_laws.proofs.Words.{Stepped, Wait, Idle, Answered, Full}
 use Rattle.std.specs.List.{AllByRecursion}
-use Rattle.std.proofs.lemmas.Bool.{or_right}
-use Rattle.std.proofs.lemmas.Bool.Decides.{nat_tests}
 use Rattle.std.proofs.lemmas.Nat.{or_lt, pow_below, pow_pos}
 use Rattle.std.proofs.lemmas.Nat.Bits.{bit_at-zero}
-use Rattle.vm_base.specs.Cores.{members, with_member}
-use Rattle.vm_base.specs.declared.rights.Mode.{Mode}
-use Rattle.vm_base.specs.declared.requests.Request.{Request}
-use Rattle.vm_base.specs.declared.requests.Request.TheVariants.{Mmap, Munmap, Mprotect, Load, Store, Fetch}
-use Rattle.vm_base.specs.declared.replies.Reply.{Reply}
-use Rattle.vm_base.specs.declared.replies.Reply.TheVariants.{Mapped, Byte}
-use Rattle.machine_model.specs.declared.event.Event.{Event}
 use Rattle.machine_model.specs.declared.event.Event.TheVariants as Ev
-use Rattle.machine_model.specs.declared.event.Blocker.TheVariants.{Slot, Acks}
-use Rattle.machine_model.specs.declared.event.Outcome.{Outcome}
-use Rattle.machine_model.specs.declared.event.Outcome.TheVariants.{Stepped, Wait, Idle, Answered, Full}
+use Rattle.machine_model.specs.declared.event.Blocker.TheVariants.{Acks}
 use Rattle.seats.specs.declared.noted.Noted.{Noted}
 use Rattle.trace_io.specs.Lines.{lines_of}
 use Rattle.trace_text.specs.Words.{Word, words_of}

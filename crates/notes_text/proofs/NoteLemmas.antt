@@ -1,17 +1,9 @@
 -- Notes and their grammar.
-use Rattle.std.proofs.Common.{◌≡◌, ◌≢◌, ℕ, suc, ◌<◌, Bool, true, false, not, eqb, List, [], ◌∷◌, ◌++◌, Option, Some, None}
-use Rattle.std.proofs.Common.{codes, decimal, map, arith, refl, sym, ap, ◌∙◌, subst}
-use Rattle.std.specs.Prelude.{IfSome, IfNone}
+use Rattle.machine_laws.proofs.Words.{◌≡◌, ◌≢◌, ℕ, suc, ◌<◌, Bool, true, false, not, eqb, List, [], ◌∷◌, ◌++◌, Option, Some, None, codes, decimal, map, arith}
+use Rattle.machine_laws.proofs.Words.{refl, sym, ap, ◌∙◌, subst, IfSome, IfNone, nat_tests, EINVAL, MapErr, Reply, Mapped, Byte, Refused, Segv, Event, Slot}
+use Rattle.machine_laws.proofs.Words.{Outcome, Stepped, Wait, Idle, Answered, Full}
 use Rattle.std.specs.List.{list_all}
-use Rattle.std.proofs.lemmas.Bool.Decides.{nat_tests}
-use Rattle.vm_base.specs.declared.replies.Errno.TheVariants.{EINVAL}
-use Rattle.vm_base.specs.declared.replies.SegvCode.TheVariants.{MapErr}
-use Rattle.vm_base.specs.declared.replies.Reply.{Reply}
-use Rattle.vm_base.specs.declared.replies.Reply.TheVariants.{Mapped, Byte, Refused, Segv}
-use Rattle.machine_model.specs.declared.event.Event.{Event}
-use Rattle.machine_model.specs.declared.event.Blocker.TheVariants.{Slot, Acks}
-use Rattle.machine_model.specs.declared.event.Outcome.{Outcome}
-use Rattle.machine_model.specs.declared.event.Outcome.TheVariants.{Stepped, Wait, Idle, Answered, Full}
+use Rattle.machine_model.specs.declared.event.Blocker.TheVariants.{Acks}
 use Rattle.seats.specs.declared.noted.Noted.{Noted}
 use Rattle.seats.specs.Notes.{noted}
 use Rattle.trace_text.specs.Words.{Word, words_of, begins_word}

@@ -1,23 +1,19 @@
 -- Outcomes and their grammar.
-use Rattle.std.proofs.Common.{◌≡◌, ◌⊎◌, inl, inr, ℕ, suc, ◌<◌, ◌≤◌, ◌^◌, true, false, cond, List, [], ◌∷◌, ◌++◌, Option, Some, None, is_some, length}
-use Rattle.std.proofs.Common.{codes, decimal, map, arith, refl, sym, ap, ◌∙◌, subst}
-use Rattle.std.proofs.lemmas.Bool.Decides.{nat_tests}
-use Rattle.std.specs.Prelude.{nat_lt, option_map}
-use Rattle.vm_base.specs.Cores.{with_member}
-use Rattle.vm_base.specs.declared.replies.Errno.TheVariants.{EINVAL, ENOMEM, EACCES, EBADF, EOVERFLOW}
-use Rattle.vm_base.specs.declared.replies.SegvCode.TheVariants.{MapErr, AccErr}
-use Rattle.vm_base.specs.declared.replies.Reply.{Reply}
-use Rattle.vm_base.specs.declared.replies.Reply.TheVariants.{Mapped, Done, Byte, Refused, Segv, Bus, NoFrame, NoMemory}
-use Rattle.machine_model.specs.declared.event.Blocker.TheVariants.{Slot, Acks}
-use Rattle.machine_model.specs.declared.event.Outcome.{Outcome}
-use Rattle.machine_model.specs.declared.event.Outcome.TheVariants.{Stepped, Wait, Idle, Answered, Full}
+use Rattle.machine_laws.proofs.Words.{◌≡◌, ◌⊎◌, inl, inr, ℕ, suc, ◌<◌, ◌≤◌, ◌^◌, true, false, cond, List, [], ◌∷◌, ◌++◌, Option, Some, None, length, codes}
+use Rattle.machine_laws.proofs.Words.{decimal, map, arith, refl, sym, ap, ◌∙◌, subst, nat_tests, nat_lt, with_member, EINVAL, ENOMEM, EACCES, EBADF}
+use Rattle.machine_laws.proofs.Words.{EOVERFLOW, MapErr, Reply, Mapped, Done, Byte, Refused, Segv, Bus, NoFrame, NoMemory, Slot, Outcome, Stepped, Wait, Idle}
+use Rattle.machine_laws.proofs.Words.{Answered, Full}
+use Rattle.std.proofs.Common.{is_some}
+use Rattle.std.specs.Prelude.{option_map}
+use Rattle.vm_base.specs.declared.replies.SegvCode.TheVariants.{AccErr}
+use Rattle.machine_model.specs.declared.event.Blocker.TheVariants.{Acks}
 use Rattle.trace_text.specs.Words.{Word, front_word}
 use Rattle.trace_text.specs.Number.{number_of}
 use Rattle.trace_text.specs.Request.{◌>>=◌, ended}
 use Rattle.trace_text.specs.Line.{core_number}
 use Rattle.trace_text.specs.Spelling.{SpellsIn}
 use Rattle.trace_text.proofs.Choices.{bind_some, by_name, by_word, ended_some, front_some, chosen}
-use Rattle.trace_text.proofs.CoreLemmas.{core_all, core_only}
+use Rattle.trace_text.proofs.CoreLemmas.{names_core, core_only}
 use Rattle.trace_text.specs.Values.{is_hexadecimal, value_of}
 use Rattle.trace_text.proofs.SpellingLemmas.{number_only}
 use Rattle.trace_text.proofs.ValueLemmas.{decimal_value, hexadecimal_value, not_hexadecimal}
@@ -26,13 +22,10 @@ use Rattle.notes_text.specs.Grammar.{NamesReply, NamesOutcome, NamesAcks, Ascend
 
 -- ---- what is named is read
 
-is_core : (core : ℕ) → core < 64 → core_number (decimal core) ≡ Some core
-is_core core h = core_all (codes "c" ++ decimal core) core (h, refl)
-
 cores_all : (least set : ℕ) (cores : List ℕ) → Ascend least cores → cores_from least set (map decimal cores) ≡ Some (with_cores set cores)
 cores_all least set [] a = refl
 cores_all least set (c ∷ cs) (low, small, more) =
-    let k : core_number (decimal c) ≡ Some c = is_core c small in
+    let k : core_number (decimal c) ≡ Some c = names_core c small in
     let test : nat_lt c least ≡ false = grind (arith, nat_tests) in
     rw (k, test) (cores_all (suc c) (with_member set c) cs more)
 
@@ -52,7 +45,7 @@ reply_all r words e = rw e refl
 pub outcome_all : (o : Outcome) (words : List Word) → NamesOutcome o words → outcome_of words ≡ Some o
 unfolding outcome_of wait_of slot_of value_of
 outcome_all Stepped words e = rw e refl
-outcome_all (Wait (Slot core)) words (h, e) = let k : core_number (decimal core) ≡ Some core = is_core core h in rw (e, k) refl
+outcome_all (Wait (Slot core)) words (h, e) = let k : core_number (decimal core) ≡ Some core = names_core core h in rw (e, k) refl
 outcome_all (Wait (Acks set)) words (first, others, e, a, s) =
     let all : cores_from 0 0 (map decimal (first ∷ others)) ≡ Some (with_cores 0 (first ∷ others)) = cores_all 0 0 (first ∷ others) a in
     ap outcome_of e ∙ ap (λ o. o >>= λ set. Some (Wait (Acks set))) (all ∙ ap (λ n. Some n) (sym s))
@@ -221,17 +214,6 @@ acks_low words rest least set w ws core b same is some low =
     ∙ ap (λ b. cond b None (cores_from (suc core) (with_member set core) ws)) test in
     acks_begun words b ∙ ap (λ o. o >>= λ set. Some (Wait (Acks set))) all
 
--- one core more
-pub acks_more : (words rest : List Word) (least set : ℕ) (w : Word) (ws : List Word) (core next more : ℕ)
-    → cores_from 0 0 words ≡ cores_from least set rest → Some (w, ws) ≡ front_word rest → core_number w ≡ Some core → least ≤ core
-    → next ≡ suc core → more ≡ with_member set core → cores_from 0 0 words ≡ cores_from next more ws
-acks_more words rest least set w ws core next more same is some high n m =
-    let test : nat_lt core least ≡ false = grind (arith, nat_tests) in
-    same ∙ ap (cores_from least set) (front_some rest (w, ws) (sym is))
-    ∙ ap (λ o. o >>= λ core. cond (nat_lt core least) None (cores_from (suc core) (with_member set core) ws)) some
-    ∙ ap (λ b. cond b None (cores_from (suc core) (with_member set core) ws)) test
-    ∙ ap (λ l. cores_from l (with_member set core) ws) (sym n) ∙ ap (λ s. cores_from next s ws) (sym m)
-
 -- no word more
 pub acks_done : (words rest : List Word) (least set : ℕ) → is_some (front_word words) ≡ true
     → cores_from 0 0 words ≡ cores_from least set rest → None ≡ front_word rest → acks_of words ≡ Some (Wait (Acks set))
@@ -242,10 +224,6 @@ acks_done words rest least set b same is =
     nothing_left : (ws : List Word) → None ≡ front_word ws → ws ≡ []
     nothing_left [] e = refl
     nothing_left (w ∷ ws) e = absurd (cc)
-
--- a word fewer is left
-pub fewer_words : (rest : List Word) (w : Word) (ws : List Word) → Some (w, ws) ≡ front_word rest → length rest ≡ suc (length ws)
-fewer_words rest w ws e = ap (λ (l : List Word). length l) (front_some rest (w, ws) (sym e))
 
 pub no_words : (rest : List Word) → None ≡ front_word rest → length rest ≡ 0
 no_words [] e = refl

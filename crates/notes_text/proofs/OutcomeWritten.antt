@@ -1,17 +1,11 @@
 -- The text of an outcome names it.
-use Rattle.std.proofs.Common.{◌≡◌, ◌≢◌, inl, inr, ℕ, zero, suc, ◌+◌, ◌-◌, ◌^◌, ◌<◌, ◌≤◌, Bool, true, false, cond, eqb}
-use Rattle.std.proofs.Common.{ltb, ◌&&◌, ◌||◌, List, [], ◌∷◌, ◌++◌, subst}
-use Rattle.std.proofs.Common.{codes, decimal, map, arith, refl, sym, ap, ◌∙◌}
-use Rattle.std.proofs.lemmas.Bool.{cases_lt, cases_eq, or_right}
-use Rattle.std.proofs.lemmas.Bool.Decides.{nat_tests}
+use Rattle.machine_laws.proofs.Words.{◌≡◌, ◌≢◌, inl, inr, ℕ, zero, suc, ◌+◌, ◌-◌, ◌^◌, ◌<◌, ◌≤◌, Bool, true, false, cond, eqb, ltb, List, [], ◌∷◌, ◌++◌}
+use Rattle.machine_laws.proofs.Words.{subst, codes, decimal, map, arith, refl, sym, ap, ◌∙◌, cases_lt, or_right, nat_tests, filter, range_with_len, members}
+use Rattle.machine_laws.proofs.Words.{with_member, EINVAL, MapErr, Reply, Mapped, Byte, Refused, Segv}
+use Rattle.std.proofs.Common.{◌&&◌, ◌||◌}
+use Rattle.std.proofs.lemmas.Bool.{cases_eq}
 use Rattle.std.proofs.lemmas.Nat.Bits.{bit_at-zero, bit_at-pow_same, bit_at-pow_other, bit_at_above}
-use Rattle.std.specs.Prelude.{filter, flat_map}
-use Rattle.std.specs.List.{range_with_len}
-use Rattle.vm_base.specs.Cores.{members, with_member}
-use Rattle.vm_base.specs.declared.replies.Errno.TheVariants.{EINVAL}
-use Rattle.vm_base.specs.declared.replies.SegvCode.TheVariants.{MapErr}
-use Rattle.vm_base.specs.declared.replies.Reply.{Reply}
-use Rattle.vm_base.specs.declared.replies.Reply.TheVariants.{Mapped, Byte, Refused, Segv}
+use Rattle.std.specs.Prelude.{flat_map}
 use Rattle.vm_base.proofs.CoreSets.{members-or, members-same}
 use Rattle.trace_text.specs.Words.{words_of}
 use Rattle.trace_text.specs.Printing.{hexadecimal, text_of, core_text, cores_text}

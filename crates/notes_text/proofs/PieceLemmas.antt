@@ -1,39 +1,16 @@
 -- What is written piece by piece.
-use Rattle.std.proofs.Common.{◌≡◌, inl, inr, ℕ, suc, ◌+◌, ◌<◌, ◌≤◌, List, [], ◌∷◌, ◌++◌, Option, ◌⊎◌, length, take, drop, get_or}
-use Rattle.std.proofs.Common.{arith, refl, sym, ap, ◌∙◌, subst, append-nil, append_assoc, length-append}
-use Rattle.std.proofs.lemmas.Grind.{common_steps, flat_map-append}
-use Rattle.std.proofs.lemmas.List.{take_more, take-append-drop}
-use Rattle.std.proofs.KnownBytes.{Appends-kept, Appends-nil, Appends-trans}
-use Rattle.std.specs.List.{flat_map}
-use Rattle.std.specs.Io.KnownBytes.{Appends, Keeps}
+use Rattle.machine_laws.proofs.Words.{◌≡◌, inl, inr, ℕ, suc, ◌+◌, ◌<◌, ◌≤◌, List, [], ◌∷◌, ◌++◌, Option, ◌⊎◌, length, take, drop, get_or, arith, refl, sym}
+use Rattle.machine_laws.proofs.Words.{ap, ◌∙◌, subst, append-nil, append_assoc, length-append, common_steps, flat_map-append, take_more, Appends-nil}
+use Rattle.machine_laws.proofs.Words.{Appends-trans, flat_map, Appends, Keeps}
+use Rattle.std.proofs.lemmas.List.{take-append-drop}
 use Rattle.trace_io.specs.Sink.{AppendsFront}
-use Rattle.trace.proofs.ShownLemmas.{front_more, whole_front}
+use Rattle.trace_io.proofs.IoLemmas.{front_longer, front_more, keeps_same}
 use Rattle.trace.specs.declared.declaration.FileLine.{FileLine}
 use Rattle.trace.specs.Declarations.{Asked}
 use Rattle.trace.specs.declared.fault.TraceFault.TheVariants.{NoMemory, WriteFailed}
 use Rattle.seats.specs.declared.noted.Noted.{Noted}
 use Rattle.notes_text.specs.Ordered.{AreInOrder}
 use Rattle.notes_text.specs.Written.{file_text, files_text, notes_text}
-use Rattle.notes_text.proofs.VerdictLemmas.{front_longer, keeps_same}
-
--- ---- a piece for each of a list
-
-each_more : {X : Type 0} (text : X → List ℕ) (xs : List X) (n : ℕ) (x : X) → n < length xs → x ≡ get_or xs n x
-    → flat_map text (take (n + 1) xs) ≡ flat_map text (take n xs) ++ text x
-each_more text xs n x h is =
-    ap (flat_map text) (take_more xs n x h ∙ ap (λ y. take n xs ++ y ∷ []) (sym is))
-    ∙ flat_map-append text (take n xs) (x ∷ []) ∙ ap (λ t. flat_map text (take n xs) ++ t) (append-nil (text x))
-
-pub each_wrote : {X : Type 0} (text : X → List ℕ) (a b c : Option (List ℕ)) (xs : List X) (n : ℕ) (x : X) → n < length xs → x ≡ get_or xs n x
-    → Appends a b (flat_map text (take n xs)) → Appends b c (text x) → Appends a c (flat_map text (take (n + 1) xs))
-each_wrote text a b c xs n x h is p q = subst (Appends a c) (sym (each_more text xs n x h is)) (Appends-trans a b c _ _ p q)
-
-pub each_front : {X : Type 0} (text : X → List ℕ) (a b c : Option (List ℕ)) (xs : List X) (n : ℕ) (x : X) → n < length xs → x ≡ get_or xs n x
-    → Appends a b (flat_map text (take n xs)) → AppendsFront b c (text x) → AppendsFront a c (flat_map text xs)
-each_front text a b c xs n x h is p q =
-    let front : AppendsFront a c (flat_map text (take (n + 1) xs)) = subst (AppendsFront a c) (sym (each_more text xs n x h is)) (front_more a b c _ _ p q) in
-    let whole = sym (flat_map-append text (take (n + 1) xs) (drop (n + 1) xs)) ∙ ap (flat_map text) (take-append-drop (n + 1) xs) in
-    subst (AppendsFront a c) whole (front_longer a c _ (flat_map text (drop (n + 1) xs)) front)
 
 -- ---- the lines of files
 
@@ -81,7 +58,3 @@ wrote_front asked d notes order slice a b e f o p =
 
 pub wrote_none : {X : Type 0} (a : Option (List ℕ)) → ((NoMemory ≡ NoMemory) × Keeps a a) ⊎ X
 wrote_none a = inl (refl, keeps_same a)
-
--- a flush that fails
-pub lost : (a b c : Option (List ℕ)) (xs : List ℕ) → Appends a b xs → Keeps b c → AppendsFront a c xs
-lost a b c xs p k = whole_front a c xs (Appends-kept _ _ _ _ p k)

@@ -1,11 +1,8 @@
 -- What is written has no bytes but printable ones.
-use Rattle.std.proofs.Common.{◌≡◌, ℕ, zero, suc, ◌+◌, ◌^◌, ◌<◌, ◌≤◌, Bool, true, false, cond, List, [], ◌∷◌}
-use Rattle.std.proofs.Common.{decimal, arith, refl, sym, ap, ◌∙◌, subst}
+use Rattle.machine_laws.proofs.Words.{◌≡◌, ℕ, zero, suc, ◌+◌, ◌^◌, ◌<◌, ◌≤◌, Bool, true, false, cond, List, [], ◌∷◌, decimal, arith, refl, sym, ap, ◌∙◌}
+use Rattle.machine_laws.proofs.Words.{subst, nat_le, ◌&&◌, filter, range_with_len, members, Reply}
 use Rattle.std.proofs.lemmas.Bool.{and_parts}
-use Rattle.std.specs.Prelude.{nat_le, ◌&&◌, filter, flat_map}
-use Rattle.std.specs.List.{range_with_len}
-use Rattle.vm_base.specs.Cores.{members}
-use Rattle.vm_base.specs.declared.replies.Reply.{Reply}
+use Rattle.std.specs.Prelude.{flat_map}
 use Rattle.trace_io.specs.Lines.{IsUnbroken}
 use Rattle.trace_text.specs.Line.{are_printable}
 use Rattle.trace_text.specs.Printing.{core_text, cores_text, text_of}

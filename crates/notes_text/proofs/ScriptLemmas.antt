@@ -1,13 +1,12 @@
 -- Lines of scripts and their grammar.
-use Rattle.std.proofs.Common.{◌≡◌, ℕ, ◌<◌, inl, inr, Bool, true, false, cond, List, [], Option, Some, None, refl, sym, ap, ◌∙◌, subst, arith, ltb}
-use Rattle.std.proofs.lemmas.Bool.Decides.{nat_tests}
-use Rattle.std.specs.Prelude.{IfSome, IfNone, IfOk, IfErr, IsSomeAnd, Result, Ok, Err}
+use Rattle.machine_laws.proofs.Words.{◌≡◌, ℕ, ◌<◌, inl, inr, Bool, true, false, cond, List, [], Option, Some, None, refl, sym, ap, ◌∙◌, subst, arith, ltb}
+use Rattle.machine_laws.proofs.Words.{nat_tests, IfSome, IfNone, IfOk, IfErr, IsSomeAnd, Request}
+use Rattle.std.specs.Prelude.{Result, Ok, Err}
 use Rattle.trace.specs.Declarations.{Asked, asked_fault}
 use Rattle.trace.specs.declared.fault.TraceFault.{TraceFault}
 use Rattle.trace.specs.declared.fault.TraceFault.TheVariants.{NoMemory}
 use Rattle.notes_text.specs.Collected.{Collected}
 use Rattle.notes_text.specs.Ends.{Collects}
-use Rattle.vm_base.specs.declared.requests.Request.{Request}
 use Rattle.trace_text.specs.Words.{Word}
 use Rattle.trace_text.specs.Request.{◌>>=◌}
 use Rattle.trace_text.specs.Line.{line_of_words}
@@ -101,7 +100,3 @@ found_script input unread collected (Ok script) p h n = record {
   tasks = h.1;
 }
 found_script input unread collected (Err f) p h n = wanting n p.0 collected.items p.2
-
--- what holds of what was asked for holds of the declaration
-pub sound_parts : (o asked : Option Asked) (a : Asked) → o ≡ asked → o ≡ Some a → IsSomeAnd asked (λ a. asked_fault a ≡ None) → asked_fault a ≡ None
-sound_parts o asked a e i h = subst (λ o. IsSomeAnd o (λ a. asked_fault a ≡ None)) (sym e ∙ i) h

@@ -1,26 +1,13 @@
 -- The lines of notes are short enough to be read.
-use Rattle.std.proofs.Common.{◌≡◌, ℕ, zero, suc, ◌+◌, ◌*◌, ◌^◌, ◌<◌, ◌≤◌, Bool, true, false, cond, eqb, List, [], ◌∷◌, ◌++◌, length}
-use Rattle.std.proofs.Common.{codes, decimal, map, arith, refl, sym, subst, length-append}
-use Rattle.std.specs.Prelude.{filter, flat_map}
+use Rattle.machine_laws.proofs.Words.{◌≡◌, ℕ, zero, suc, ◌+◌, ◌*◌, ◌^◌, ◌<◌, ◌≤◌, Bool, true, false, cond, eqb, List, [], ◌∷◌, ◌++◌, length, codes, decimal}
+use Rattle.machine_laws.proofs.Words.{map, arith, refl, sym, subst, length-append, filter, range_with_len, length-decimal-le, length-map, members, Flags}
+use Rattle.machine_laws.proofs.Words.{Request, Mmap, Munmap, Mprotect, Load, Store, Fetch, Prot, EINVAL, MapErr, Reply, Mapped, Byte, Refused, Segv, Event}
+use Rattle.machine_laws.proofs.Words.{Slot, Outcome, Stepped, Wait, Idle, Answered, Full}
+use Rattle.std.specs.Prelude.{flat_map}
 use Rattle.std.specs.Fmt.{digit_glyph}
 use Rattle.std.specs.Int.Digits.{digits_of}
-use Rattle.std.specs.List.{range_with_len}
-use Rattle.std.proofs.lemmas.Fmt.{length-decimal-le}
-use Rattle.std.proofs.lemmas.List.{length-map}
-use Rattle.vm_base.specs.Cores.{members}
-use Rattle.vm_base.specs.declared.requests.Flags.{Flags}
-use Rattle.vm_base.specs.declared.requests.Request.{Request}
-use Rattle.vm_base.specs.declared.requests.Request.TheVariants.{Mmap, Munmap, Mprotect, Load, Store, Fetch}
-use Rattle.vm_base.specs.declared.rights.Prot.{Prot}
-use Rattle.vm_base.specs.declared.replies.Errno.TheVariants.{EINVAL}
-use Rattle.vm_base.specs.declared.replies.SegvCode.TheVariants.{MapErr}
-use Rattle.vm_base.specs.declared.replies.Reply.{Reply}
-use Rattle.vm_base.specs.declared.replies.Reply.TheVariants.{Mapped, Byte, Refused, Segv}
-use Rattle.machine_model.specs.declared.event.Event.{Event}
 use Rattle.machine_model.specs.declared.event.Event.TheVariants as Ev
-use Rattle.machine_model.specs.declared.event.Blocker.TheVariants.{Slot, Acks}
-use Rattle.machine_model.specs.declared.event.Outcome.{Outcome}
-use Rattle.machine_model.specs.declared.event.Outcome.TheVariants.{Stepped, Wait, Idle, Answered, Full}
+use Rattle.machine_model.specs.declared.event.Blocker.TheVariants.{Acks}
 use Rattle.seats.specs.declared.noted.Noted.{Noted}
 use Rattle.trace.specs.OutcomeText.{outcome_text}
 use Rattle.trace_text.specs.Printing.{address_of, core_text, cores_text, text_of}

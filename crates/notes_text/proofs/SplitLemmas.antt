@@ -1,7 +1,6 @@
 -- Words on both sides of a sign.
-use Rattle.std.proofs.Common.{◌≡◌, ◌≢◌, ℕ, ◌+◌, Bool, true, false, not, eqb, List, [], ◌∷◌, ◌++◌, codes, arith, refl, sym, ap, ◌∙◌}
+use Rattle.machine_laws.proofs.Words.{◌≡◌, ◌≢◌, ℕ, ◌+◌, Bool, true, false, not, eqb, List, [], ◌∷◌, ◌++◌, codes, arith, refl, sym, ap, ◌∙◌, nat_tests}
 use Rattle.std.proofs.lemmas.Bool.{not-true}
-use Rattle.std.proofs.lemmas.Bool.Decides.{nat_tests}
 use Rattle.trace_io.specs.Lines.{onto}
 use Rattle.trace_text.specs.Words.{Word, words_of, begins_word}
 use Rattle.trace_text.proofs.WordLemmas.{at_end, at_more, at_space, begun}

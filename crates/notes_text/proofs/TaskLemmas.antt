@@ -1,18 +1,12 @@
 -- The tasks of each core.
-use Rattle.std.proofs.Common.{◌≡◌, ℕ, zero, suc, ◌+◌, ◌<◌, ◌≤◌, Bool, true, false, cond, eqb, List, [], ◌∷◌, ◌++◌, length}
-use Rattle.std.proofs.Common.{take, map, get_or, arith, refl, sym, ap, ◌∙◌}
-use Rattle.std.proofs.lemmas.Grind.{common_steps}
-use Rattle.std.proofs.lemmas.List.{take_more, map-append}
-use Rattle.std.proofs.lemmas.List.Elements.{filter-append}
-use Rattle.std.specs.Prelude.{filter, ◌==◌}
-use Rattle.std.specs.List.{range_with_len}
+use Rattle.machine_laws.proofs.Words.{◌≡◌, ℕ, zero, suc, ◌+◌, ◌<◌, ◌≤◌, Bool, true, false, cond, eqb, List, [], ◌∷◌, ◌++◌, length, take, map, get_or, arith}
+use Rattle.machine_laws.proofs.Words.{refl, sym, ap, ◌∙◌, common_steps, take_more, filter-append, filter, range_with_len}
+use Rattle.std.proofs.lemmas.List.{map-append}
+use Rattle.std.specs.Prelude.{◌==◌}
+use Rattle.trace.proofs.TextLemmas.{range_more}
 use Rattle.notes_text.specs.declared.script.Task.{Task}
 use Rattle.notes_text.specs.declared.script.ScriptLine.{ScriptLine}
 use Rattle.notes_text.specs.Scripts.{tasks_of, all_tasks}
-
-range_more : (a n j : ℕ) → a + n ≡ j → range_with_len a (suc n) ≡ range_with_len a n ++ j ∷ []
-range_more a zero j e = let same : a ≡ j = omega arith in ap (λ x. x ∷ []) same
-range_more a (suc n) j e = ap (λ l. a ∷ l) (range_more (a + 1) n j (omega arith))
 
 pub cores_more : (n : ℕ) (lines : List ScriptLine) → all_tasks (n + 1) lines ≡ all_tasks n lines ++ tasks_of n lines ∷ []
 cores_more n lines =

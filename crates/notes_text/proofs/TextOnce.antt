@@ -1,8 +1,6 @@
 -- A text says one declaration and one list of items, and what says them is refused at no line.
-use Rattle.std.proofs.Common.{◌≡◌, ◌⊎◌, inl, inr, ℕ, Bool, true, List, [], ◌∷◌, ◌++◌, Option, Some, None}
-use Rattle.std.proofs.Common.{arith, sym, ap, ◌∙◌, subst}
+use Rattle.machine_laws.proofs.Words.{◌≡◌, ◌⊎◌, inl, inr, ℕ, Bool, true, List, [], ◌∷◌, ◌++◌, Option, Some, None, arith, sym, ap, ◌∙◌, subst, Mode}
 use Rattle.seats.specs.declared.noted.Noted.{Noted}
-use Rattle.vm_base.specs.declared.rights.Mode.{Mode}
 use Rattle.trace_io.specs.Lines.{lines_of}
 use Rattle.trace_text.specs.Words.{Word, words_of}
 use Rattle.trace_text.specs.Line.{line_of}

@@ -1,17 +1,10 @@
 -- What is written of a verdict, and what a verdict says.
-use Rattle.std.proofs.Common.{◌≡◌, inl, inr, true, ℕ, ◌≤◌, Bool, List, [], ◌∷◌, ◌++◌, Option, Some, None, Result, Ok, Err}
-use Rattle.std.proofs.Common.{OnOk, OnErr, IfOk, IfErr, length, take, map}
-use Rattle.std.proofs.Common.{arith, refl, sym, ap, ◌∙◌, subst, append-nil, length-append, option_map}
-use Rattle.std.proofs.lemmas.List.{take-append-le}
-use Rattle.std.proofs.KnownBytes.{Appends-trans, Appends-kept}
-use Rattle.std.specs.Prelude.{IsSomeAnd}
-use Rattle.std.specs.Io.KnownBytes.{Keeps, Appends}
+use Rattle.machine_laws.proofs.Words.{◌≡◌, inl, inr, true, ℕ, Bool, List, [], ◌∷◌, ◌++◌, Option, Some, None, Result, Ok, Err, refl, sym, ap, ◌∙◌, subst}
+use Rattle.machine_laws.proofs.Words.{append-nil, option_map, Appends-kept, IsSomeAnd, Keeps, Appends, PageRange, Slots, Outcome}
+use Rattle.std.proofs.Common.{IfOk, IfErr}
+use Rattle.std.proofs.KnownBytes.{Keeps-trans}
 use Rattle.trace_io.specs.Sink.{AppendsFront}
-use Rattle.trace_io.specs.Source.{Stream, Reads}
-use Rattle.trace.proofs.ShownLemmas.{front_more, whole_front}
-use Rattle.vm_base.specs.declared.page.PageRange.{PageRange}
-use Rattle.slot_lock.specs.Slots.{Slots}
-use Rattle.machine_model.specs.declared.event.Outcome.{Outcome}
+use Rattle.trace_io.proofs.IoLemmas.{front_kept, whole_front}
 use Rattle.core_steps.specs.declared.setup.Setup.{Setup}
 use Rattle.core_steps.specs.Setups.{made_of}
 use Rattle.seats.specs.declared.noted.Noted.{Noted}
@@ -29,22 +22,6 @@ use Rattle.notes_text.specs.declared.verdict.Verdict.{Verdict}
 use Rattle.notes_text.specs.declared.verdict.Verdict.TheVariants.{Certified, Ticket, Differs}
 use Rattle.notes_text.proofs.CollectLemmas.{stops_own}
 
--- ---- two texts, one behind the other
-
-pub front_longer : (a b : Option (List ℕ)) (xs ys : List ℕ) → AppendsFront a b xs → AppendsFront a b (xs ++ ys)
-front_longer a b xs ys (n, h, p) =
-    (n, omega (arith, h, length-append xs ys), subst (Appends a b) (sym (take-append-le n xs ys h)) p)
-
-pub both_ok : {U E : Type 0} (r : Result U E) (a b c : Option (List ℕ)) (xs ys : List ℕ) → Appends a b xs → OnOk r (Appends b c ys)
-    → OnOk r (Appends a c (xs ++ ys))
-both_ok (Ok u) a b c xs ys p q = Appends-trans _ _ _ _ _ p q
-both_ok (Err e) a b c xs ys p q = tt
-
-pub both_front : {U E : Type 0} (r : Result U E) (a b c : Option (List ℕ)) (xs ys : List ℕ) → Appends a b xs → OnErr r (AppendsFront b c ys)
-    → OnErr r (AppendsFront a c (xs ++ ys))
-both_front (Ok u) a b c xs ys p q = tt
-both_front (Err e) a b c xs ys p q = front_more a b c xs ys p q
-
 -- ---- what certifying says
 
 one_seat : (notes : List Noted) → all_notes (notes ∷ []) ≡ notes
@@ -56,9 +33,6 @@ pub judged_certified : {A : Type 0} (parts : PageRange → ℕ → ℕ → Bool)
 judged_certified {A} parts CanFold Folds asked notes setup calls m h =
     (record { setup = setup; made = m }, subst (λ l. IsCertified parts CanFold Folds setup l [] calls) (one_seat notes) h)
 
-pub judged_ticket : (notes : List Noted) (t : ℕ) → IsFirstAmiss (all_notes (notes ∷ [])) t → IsFirstAmiss notes t
-judged_ticket notes t h = subst (λ l. IsFirstAmiss l t) (one_seat notes) h
-
 pub judged_differs : {A : Type 0} (parts : PageRange → ℕ → ℕ → Bool) (CanFold : Slots → ℕ → Type 0) (Folds : Slots → Slots → ℕ → Type 0)
     (asked : Asked) (notes : List Noted) (setup : Setup A) (t : ℕ) (noted expected : Outcome) → made_of setup ≡ made_by asked
     → AreNumbered (all_notes (notes ∷ [])) → DiffersAt parts CanFold Folds setup (all_notes (notes ∷ [])) t noted expected
@@ -69,19 +43,7 @@ judged_differs {A} parts CanFold Folds asked notes setup t noted expected m n h 
   subst (λ l. DiffersAt parts CanFold Folds setup l t noted expected) (one_seat notes) h,
 )
 
--- ---- texts
-
-pub keeps_same : (o : Option (List ℕ)) → Keeps o o
-keeps_same None = tt
-keeps_same (Some x) = refl
-
--- what holds of all that may come holds of something
-pub reads_any : (a b : Stream) (P : List ℕ → List ℕ → Type 0) → Reads a b P → (xs : List ℕ) × (ys : List ℕ) × P xs ys
-reads_any a b P r = go b.coming (λ later k. (r.bytes ++ later, later, r.holds later k))
-  where
-    go : {Q : Type 0} (o : Option (List ℕ)) → ((later : List ℕ) → Keeps o (Some later) → Q) → Q
-    go None f = f [] tt
-    go (Some x) f = f x refl
+-- ---- faults
 
 pub unjudged_own : {X : Type 0} (input unread : List ℕ) (f : TraceFault) → Unjudged input unread f → f ≡ WriteFailed → X
 unjudged_own input unread f (unread_text s) w = stops_own _ _ input unread f s w
@@ -95,32 +57,23 @@ sound_asked g o x asked e i h = subst (λ a. IsSomeAnd a (λ a. asked_fault a �
 
 -- ---- a flush
 
-keeps_then : (a b c : Option (List ℕ)) → Keeps a b → Keeps b c → Keeps a c
-keeps_then None b c k l = tt
-keeps_then (Some x) None c k l = absurd k
-keeps_then (Some x) (Some y) None k l = absurd l
-keeps_then (Some x) (Some y) (Some z) k l = l ∙ k
-
-front_kept : (a b c : Option (List ℕ)) (xs : List ℕ) → AppendsFront a b xs → Keeps b c → AppendsFront a c xs
-front_kept a b c xs (n, h, p) k = (n, h, Appends-kept _ _ _ _ p k)
-
 pub certifies_kept : (A : Type 0) (parts : PageRange → ℕ → ℕ → Bool) (CanFold : Slots → ℕ → Type 0) (Folds : Slots → Slots → ℕ → Type 0)
     (input unread : List ℕ) (a b c : Option (List ℕ)) (r : Result Bool TraceFault) → Certifies A parts CanFold Folds input unread a b r → Keeps b c
     → Certifies A parts CanFold Folds input unread a c r
 certifies_kept A parts CanFold Folds input unread a b c (Ok told) h k =
     record { verdict = h.verdict; judged = h.judged; says = h.says; appends = Appends-kept _ _ _ _ h.appends k }
-certifies_kept A parts CanFold Folds input unread a b c (Err f) (inl h) k = inl (h.0, keeps_then a b c h.1 k)
+certifies_kept A parts CanFold Folds input unread a b c (Err f) (inl h) k = inl (h.0, Keeps-trans a b c h.1 k)
 certifies_kept A parts CanFold Folds input unread a b c (Err f) (inr (e, inl (v, j, p))) k = inr (e, inl (v, j, front_kept a b c _ p k))
-certifies_kept A parts CanFold Folds input unread a b c (Err f) (inr (e, inr p)) k = inr (e, inr (keeps_then a b c p k))
+certifies_kept A parts CanFold Folds input unread a b c (Err f) (inr (e, inr p)) k = inr (e, inr (Keeps-trans a b c p k))
 
 pub certifies_lost : (A : Type 0) (parts : PageRange → ℕ → ℕ → Bool) (CanFold : Slots → ℕ → Type 0) (Folds : Slots → Slots → ℕ → Type 0)
     (input unread : List ℕ) (a b c : Option (List ℕ)) (r : Result Bool TraceFault) → Certifies A parts CanFold Folds input unread a b r → Keeps b c
     → Certifies A parts CanFold Folds input unread a c (Err WriteFailed)
 certifies_lost A parts CanFold Folds input unread a b c (Ok told) h k =
     inr (refl, inl (h.verdict, h.judged, whole_front a c _ (Appends-kept _ _ _ _ h.appends k)))
-certifies_lost A parts CanFold Folds input unread a b c (Err f) (inl h) k = inr (refl, inr (keeps_then a b c h.1 k))
+certifies_lost A parts CanFold Folds input unread a b c (Err f) (inl h) k = inr (refl, inr (Keeps-trans a b c h.1 k))
 certifies_lost A parts CanFold Folds input unread a b c (Err f) (inr (e, inl (v, j, p))) k = inr (refl, inl (v, j, front_kept a b c _ p k))
-certifies_lost A parts CanFold Folds input unread a b c (Err f) (inr (e, inr p)) k = inr (refl, inr (keeps_then a b c p k))
+certifies_lost A parts CanFold Folds input unread a b c (Err f) (inr (e, inr p)) k = inr (refl, inr (Keeps-trans a b c p k))
 
 -- ---- the verdict of a text
 

@@ -1,11 +1,7 @@
 -- What is written says what it was written of.
-use Rattle.std.proofs.Common.{◌≡◌, inl, inr, ℕ, ◌+◌, ◌^◌, ◌<◌, Bool, true, false, List, [], ◌∷◌, ◌++◌, length}
-use Rattle.std.proofs.Common.{decimal, arith, refl, ap, ◌∙◌, append-nil}
+use Rattle.machine_laws.proofs.Words.{◌≡◌, inl, inr, ℕ, ◌+◌, ◌^◌, ◌<◌, Bool, true, false, List, [], ◌∷◌, ◌++◌, length, decimal, arith, refl, ap, ◌∙◌}
+use Rattle.machine_laws.proofs.Words.{append-nil, Prot, Flags, Request, Mmap, Munmap, Mprotect, Load, Store, Fetch}
 use Rattle.std.specs.List.{list_all}
-use Rattle.vm_base.specs.declared.rights.Prot.{Prot}
-use Rattle.vm_base.specs.declared.requests.Flags.{Flags}
-use Rattle.vm_base.specs.declared.requests.Request.{Request}
-use Rattle.vm_base.specs.declared.requests.Request.TheVariants.{Mmap, Munmap, Mprotect, Load, Store, Fetch}
 use Rattle.trace_text.specs.Words.{Word, words_of}
 use Rattle.trace_text.specs.Printing.{address_of}
 use Rattle.trace_text.specs.Spelling.{SpellsNumber, SpellsFlags, rights_text}

@@ -1,6 +1,6 @@
 -- What one turn of collecting does, and how it can fail.
 use Rattle.std.specs.Prelude.{◌≡◌, ℕ, ◌+◌, ◌≤◌, List, [], ◌++◌, Bool, true, false, Result, Ok, Err, length}
-use Rattle.trace_io.specs.Lines.{IsUnbroken, IsFirstLine, IsTooLong}
+use Rattle.trace_io.specs.Lines.{IsUnbroken, TakesLine, IsTooLong}
 use Rattle.trace_text.specs.Words.{Word}
 use Rattle.trace.specs.declared.fault.TraceFault.{TraceFault}
 use Rattle.trace.specs.declared.fault.TraceFault.TheVariants.{TooLong, ReadFailed, NoMemory}
@@ -16,9 +16,7 @@ pub record Scene (T : Type 0) : Type 0 where
 pub record Advances {T : Type 0} (needs_calls : Bool) (Names : ℕ → T → List Word → Type 0) (old new : Scene T)
     : Type 0 where
   pub line : List ℕ
-  pub short : length line ≤ 256
-  pub unbroken : IsUnbroken line
-  pub first : IsFirstLine old.left line new.left
+  pub next : TakesLine old.left line new.left
   pub takes : Takes needs_calls Names old.collected line new.collected
 
 -- nothing was left
@@ -36,9 +34,9 @@ pub data Fails {T : Type 0} (needs_calls : Bool) (Names : ℕ → T → List Wor
   read_fails : f ≡ ReadFailed → (held : List ℕ) → IsUnbroken held → IsHeld held new → new.left ≡ old.left
       → Fails needs_calls Names old new number f
   too_long : f ≡ TooLong (number + 1) → IsTooLong old.left → Fails needs_calls Names old new number f
-  no_memory : f ≡ NoMemory → (line held : List ℕ) → length line ≤ 256 → IsUnbroken line → IsFirstLine old.left line new.left
-      → IsHeld held new → Wants needs_calls Names old.collected line → Fails needs_calls Names old new number f
-  refused : (line : List ℕ) → length line ≤ 256 → IsUnbroken line → IsFirstLine old.left line new.left
+  no_memory : f ≡ NoMemory → (line held : List ℕ) → TakesLine old.left line new.left → IsHeld held new
+      → Wants needs_calls Names old.collected line → Fails needs_calls Names old new number f
+  refused : (line : List ℕ) → TakesLine old.left line new.left
       → Refuses needs_calls Names old.collected (number + 1) line f → Fails needs_calls Names old new number f
 
 -- one line is taken in, or the text is over, or a fault ends it

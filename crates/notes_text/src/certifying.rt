@@ -1,5 +1,6 @@
 //! Whether the notes of a text are a run of the machine.
 ghost use Rattle.std.specs.Prelude.{◌≡◌, ◌⊎◌, Err, IfErr, IfOk, IsSomeAnd, None, option_copied, true};
+ghost use Rattle.trace_io.specs.Io.{read_from, written_to};
 ghost use Rattle.trace_io.specs.Source.{HasStopped, Reads};
 ghost use Rattle.trace.specs.Declarations.{Asked, asked_fault};
 ghost use Rattle.trace.specs.Ends.{TellsFaults};
@@ -145,8 +146,7 @@ pub fn certify_text<A: Allocator + Clone + Drop, S: Source, W: Sink>(
     ensures ends { Reads (S.stream reader.old) (S.stream reader.new) (λ input unread.
         Certifies A ⟦<RadixMap<A> as SlotMap>⟧.parts ⟦<RadixMap<A> as SlotMap>⟧.can_fold
         ⟦<RadixMap<A> as SlotMap>⟧.folds input unread (W.contents writer.old) (W.contents writer.new) result) }
-    ensures told { TellsFaults result (S.failed reader.new) (S.reads reader.new)
-        (W.failed writer.old) (W.failed writer.new) (W.is_flushed writer.new) }
+    ensures told { TellsFaults result (read_from S.Source reader.old reader.new) (written_to W.Sink writer.old writer.new) }
 {
     let done = certify_lines(alloc, reader, writer);
     match writer.flush() {

@@ -1,5 +1,5 @@
 //! The lines of a text, taken in one by one until it ends.
-ghost use Rattle.std.specs.Prelude.{◌≡◌, ◌+◌, ◌^◌, ◌<◌, Err, Some, None, IfErr, IfOk, OnOk, IsSomeAnd, true, false};
+ghost use Rattle.std.specs.Prelude.{◌≡◌, ◌+◌, ◌^◌, ◌<◌, Err, Some, None, IfErr, IfOk, OnOk, IsSomeAnd, true};
 ghost use Rattle.trace_io.specs.Source.{HasStopped, Reads};
 ghost use Rattle.trace_io.specs.Window.{left, budget, opening};
 ghost use Rattle.trace.specs.Declarations.{Asked, asked_fault};
@@ -11,33 +11,9 @@ ghost use Rattle.notes_text.specs.Turns.{Turns, Scene};
 use crate::collector::{Collector, LineOf};
 use std::alloc::Allocator;
 use trace::fault::TraceFault;
-use trace_io::lines::{Found, LineReader, NoLine};
-use trace_io::sink::{Sink, WriteFailed};
+use trace_io::lines::{Found, LineReader, NoLine, line_reader};
+use trace_io::sink::Nowhere;
 use trace_io::source::Source;
-
-/// What is written to while a text is read that gives nothing: nobody writes to it, and its flush does nothing.
-#[derive(Drop)]
-struct Nowhere {
-    is_flushed: bool,
-}
-
-impl Sink for Nowhere {
-    ghost contents = { λ s. None };
-
-    ghost failed = { λ s. false };
-
-    ghost is_flushed = { λ s. s.is_flushed };
-
-    fn write(&mut self, bytes: &[u8]) -> Result<usize, WriteFailed> {
-        self.is_flushed = false;
-        Ok(bytes.len())
-    }
-
-    fn flush(&mut self) -> Result<(), WriteFailed> {
-        self.is_flushed = true;
-        Ok(())
-    }
-}
 
 // Takes in the next line, or answers false where there is none.
 fn turn<T: LineOf + Drop, A: Allocator, S: Source>(
@@ -87,7 +63,7 @@ fn collect_lines<T: LineOf + Drop, A: Allocator, S: Source>(
     ensures read { result ≡ Err ReadFailed → HasStopped (S.failed reader.new) (S.reads reader.new) }
 {
     let mut number = 0u64;
-    let mut nowhere = Nowhere { is_flushed: true };
+    let mut nowhere = Nowhere::new();
     'lines: loop {
         match turn(lines, reader, &mut nowhere, collector, number) {
             Ok(true) => number += 1,
@@ -111,10 +87,7 @@ pub fn collect<T: LineOf + Drop, A: Allocator + Clone, S: Source>(
         Stops T.needs_calls T.names input unread f)) }
     ensures read { result ≡ Err ReadFailed → HasStopped (S.failed reader.new) (S.reads reader.new) }
 {
-    let Ok(for_lines) = alloc.clone() else {
-        return Err(TraceFault::NoMemory);
-    };
-    let Ok(mut lines) = LineReader::new(for_lines) else {
+    let Some(mut lines) = line_reader(&alloc) else {
         return Err(TraceFault::NoMemory);
     };
     let mut collector = Collector::new(alloc);

@@ -1,7 +1,6 @@
 //! What certifying a text of notes comes to, and the line that tells it.
-ghost use Rattle.std.specs.Prelude.{◌≡◌, ◌++◌, ◌≤◌, OnErr, OnOk, true, codes, decimal, length};
-ghost use Rattle.std.specs.Io.KnownBytes.{Appends};
-ghost use Rattle.trace_io.specs.Sink.{AppendsFront};
+ghost use Rattle.std.specs.Prelude.{◌≡◌, ◌++◌, ◌≤◌, codes, decimal, length};
+ghost use Rattle.trace_io.specs.Io.{IsWritten, written_to};
 ghost use Rattle.trace.specs.OutcomeText.{outcome_text};
 ghost use Rattle.notes_text.specs.Verdicts.{differs_head, differs_text, is_certified, unended, verdict_text};
 
@@ -29,17 +28,12 @@ pub enum Verdict {
 }
 
 // Writes two texts, one behind the other.
-#[tactic(auto, using(crate::proofs::VerdictLemmas::both_ok, crate::proofs::VerdictLemmas::both_front, crate::proofs::VerdictLemmas::front_longer))]
 pub(crate) fn write_both<W: Sink>(
     writer: &mut W,
     first: &[u8],
     second: &[u8],
 ) -> Result<(), WriteFailed>
-    ensures ok { OnOk result (Appends (W.contents writer.old) (W.contents writer.new) (first.now ++ second.now)) }
-    ensures kept { OnOk result (W.failed writer.new ≡ W.failed writer.old) }
-    ensures front { OnErr result
-        (AppendsFront (W.contents writer.old) (W.contents writer.new) (first.now ++ second.now)) }
-    ensures err { OnErr result (W.failed writer.new ≡ true) }
+    ensures { IsWritten result (written_to W.Sink writer.old writer.new) (first.now ++ second.now) }
 {
     if let Err(failed) = write_all(writer, first) {
         return Err(failed);
@@ -59,12 +53,8 @@ fn write_differs_head(text: &mut LineText, ticket: u64)
 
 // Writes the words before the outcome that was noted, and that outcome without its newline.
 fn write_noted<W: Sink>(writer: &mut W, ticket: u64, noted: Outcome) -> Result<(), WriteFailed>
-    ensures ok { OnOk result (Appends (W.contents writer.old) (W.contents writer.new)
-        (differs_head ticket ++ unended (outcome_text noted))) }
-    ensures kept { OnOk result (W.failed writer.new ≡ W.failed writer.old) }
-    ensures front { OnErr result (AppendsFront (W.contents writer.old) (W.contents writer.new)
-        (differs_head ticket ++ unended (outcome_text noted))) }
-    ensures err { OnErr result (W.failed writer.new ≡ true) }
+    ensures { IsWritten result (written_to W.Sink writer.old writer.new)
+        (differs_head ticket ++ unended (outcome_text noted)) }
 {
     let mut head = LineText::new();
     write_differs_head(&mut head, ticket);
@@ -77,12 +67,7 @@ fn write_noted<W: Sink>(writer: &mut W, ticket: u64, noted: Outcome) -> Result<(
 
 // Writes the words before the expected outcome, and that outcome.
 fn write_expected<W: Sink>(writer: &mut W, expected: Outcome) -> Result<(), WriteFailed>
-    ensures ok { OnOk result (Appends (W.contents writer.old) (W.contents writer.new)
-        (codes ", expected " ++ outcome_text expected)) }
-    ensures kept { OnOk result (W.failed writer.new ≡ W.failed writer.old) }
-    ensures front { OnErr result (AppendsFront (W.contents writer.old) (W.contents writer.new)
-        (codes ", expected " ++ outcome_text expected)) }
-    ensures err { OnErr result (W.failed writer.new ≡ true) }
+    ensures { IsWritten result (written_to W.Sink writer.old writer.new) (codes ", expected " ++ outcome_text expected) }
 {
     let mut text = LineText::new();
     write_outcome(&mut text, expected);
@@ -90,19 +75,13 @@ fn write_expected<W: Sink>(writer: &mut W, expected: Outcome) -> Result<(), Writ
 }
 
 // Writes the line of an outcome that differs.
-#[tactic(auto, using(crate::proofs::VerdictLemmas::both_ok, crate::proofs::VerdictLemmas::both_front, crate::proofs::VerdictLemmas::front_longer))]
 fn write_differs<W: Sink>(
     writer: &mut W,
     ticket: u64,
     noted: Outcome,
     expected: Outcome,
 ) -> Result<(), WriteFailed>
-    ensures ok { OnOk result (Appends (W.contents writer.old) (W.contents writer.new)
-        (differs_text ticket noted expected)) }
-    ensures kept { OnOk result (W.failed writer.new ≡ W.failed writer.old) }
-    ensures front { OnErr result (AppendsFront (W.contents writer.old) (W.contents writer.new)
-        (differs_text ticket noted expected)) }
-    ensures err { OnErr result (W.failed writer.new ≡ true) }
+    ensures { IsWritten result (written_to W.Sink writer.old writer.new) (differs_text ticket noted expected) }
 {
     if let Err(failed) = write_noted(writer, ticket, noted) {
         return Err(failed);
@@ -124,11 +103,7 @@ fn write_count(text: &mut LineText, words: &str, number: u64)
 /// Writes the line that tells the verdict: `certified CALLS`, `refused C1 TICKET`,
 /// `refused C2 TICKET: noted OUTCOME, expected OUTCOME`, or `refused C5 PAGE`. At an `Err` a front of it was written.
 pub fn write_verdict<W: Sink>(writer: &mut W, verdict: Verdict) -> Result<(), WriteFailed>
-    ensures ok { OnOk result (Appends (W.contents writer.old) (W.contents writer.new) (verdict_text verdict)) }
-    ensures kept { OnOk result (W.failed writer.new ≡ W.failed writer.old) }
-    ensures front { OnErr result
-        (AppendsFront (W.contents writer.old) (W.contents writer.new) (verdict_text verdict)) }
-    ensures err { OnErr result (W.failed writer.new ≡ true) }
+    ensures { IsWritten result (written_to W.Sink writer.old writer.new) (verdict_text verdict) }
 {
     let mut text = LineText::new();
     match verdict {

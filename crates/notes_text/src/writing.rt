@@ -1,8 +1,7 @@
 //! Notes as text: what is declared, and a line of each note, in order of tickets.
-ghost use Rattle.std.specs.Prelude.{◌≡◌, ◌+◌, ◌≤◌, ◌⊎◌, ◌∷◌, ◌++◌, [], Err, OnErr, OnOk, decimal, length, map, true};
-ghost use Rattle.std.specs.Io.KnownBytes.{Appends};
+ghost use Rattle.std.specs.Prelude.{◌≡◌, ◌+◌, ◌≤◌, ◌⊎◌, ◌∷◌, ◌++◌, [], Err, OnOk, decimal, length, map, true};
 ghost use Rattle.std.specs.List.{flat_map};
-ghost use Rattle.trace_io.specs.Sink.{AppendsFront};
+ghost use Rattle.trace_io.specs.Io.{IsWritten, written_to};
 ghost use Rattle.trace_text.specs.Spelling.{mode_text};
 ghost use Rattle.certifier.specs.Order.{all_notes};
 ghost use Rattle.notes_text.specs.Written.{declared_text, file_text, files_text, note_head, note_text, notes_text, space_text, spaced};
@@ -79,12 +78,8 @@ fn put_head(text: &mut LineText, note: &Noted)
 }
 
 // Writes the line of a note.
-#[tactic(auto, using(crate::proofs::VerdictLemmas::both_ok, crate::proofs::VerdictLemmas::both_front, crate::proofs::VerdictLemmas::front_longer))]
 fn write_note<W: Sink>(writer: &mut W, note: &Noted) -> Result<(), WriteFailed>
-    ensures ok { OnOk result (Appends (W.contents writer.old) (W.contents writer.new) (note_text note.now)) }
-    ensures kept { OnOk result (W.failed writer.new ≡ W.failed writer.old) }
-    ensures front { OnErr result (AppendsFront (W.contents writer.old) (W.contents writer.new) (note_text note.now)) }
-    ensures err { OnErr result (W.failed writer.new ≡ true) }
+    ensures { IsWritten result (written_to W.Sink writer.old writer.new) (note_text note.now) }
 {
     let mut head = LineText::new();
     put_head(&mut head, note);
@@ -99,10 +94,7 @@ fn write_note<W: Sink>(writer: &mut W, note: &Noted) -> Result<(), WriteFailed>
 
 // Writes a line of each note.
 fn write_each<W: Sink>(writer: &mut W, notes: &[Noted]) -> Result<(), WriteFailed>
-    ensures ok { OnOk result (Appends (W.contents writer.old) (W.contents writer.new) (flat_map note_text notes.now)) }
-    ensures kept { OnOk result (W.failed writer.new ≡ W.failed writer.old) }
-    ensures front { OnErr result (AppendsFront (W.contents writer.old) (W.contents writer.new) (flat_map note_text notes.now)) }
-    ensures err { OnErr result (W.failed writer.new ≡ true) }
+    ensures { IsWritten result (written_to W.Sink writer.old writer.new) (flat_map note_text notes.now) }
 {
     let mut at = 0;
     'notes: while at < notes.len() {
@@ -117,10 +109,7 @@ fn write_each<W: Sink>(writer: &mut W, notes: &[Noted]) -> Result<(), WriteFaile
 
 // Writes a line of each file.
 fn write_files<W: Sink>(writer: &mut W, files: &[FileLine]) -> Result<(), WriteFailed>
-    ensures ok { OnOk result (Appends (W.contents writer.old) (W.contents writer.new) (files_text 0 files.now)) }
-    ensures kept { OnOk result (W.failed writer.new ≡ W.failed writer.old) }
-    ensures front { OnErr result (AppendsFront (W.contents writer.old) (W.contents writer.new) (files_text 0 files.now)) }
-    ensures err { OnErr result (W.failed writer.new ≡ true) }
+    ensures { IsWritten result (written_to W.Sink writer.old writer.new) (files_text 0 files.now) }
 {
     let mut text = LineText::new();
     let mut at = 0;
@@ -136,12 +125,8 @@ fn write_files<W: Sink>(writer: &mut W, files: &[FileLine]) -> Result<(), WriteF
 }
 
 // Writes the lines of what is declared.
-#[tactic(auto, using(crate::proofs::VerdictLemmas::both_ok, crate::proofs::VerdictLemmas::both_front, crate::proofs::VerdictLemmas::front_longer))]
 fn write_declaration<W: Sink>(writer: &mut W, declaration: &Declaration) -> Result<(), WriteFailed>
-    ensures ok { OnOk result (Appends (W.contents writer.old) (W.contents writer.new) (declared_text declaration.now)) }
-    ensures kept { OnOk result (W.failed writer.new ≡ W.failed writer.old) }
-    ensures front { OnErr result (AppendsFront (W.contents writer.old) (W.contents writer.new) (declared_text declaration.now)) }
-    ensures err { OnErr result (W.failed writer.new ≡ true) }
+    ensures { IsWritten result (written_to W.Sink writer.old writer.new) (declared_text declaration.now) }
 {
     let mut text = LineText::new();
     put_space(&mut text, declaration);
@@ -152,16 +137,12 @@ fn write_declaration<W: Sink>(writer: &mut W, declaration: &Declaration) -> Resu
 }
 
 // Writes what is declared and the notes.
-#[tactic(auto, using(crate::proofs::VerdictLemmas::both_ok, crate::proofs::VerdictLemmas::both_front, crate::proofs::VerdictLemmas::front_longer))]
 fn write_lines<W: Sink>(
     writer: &mut W,
     declaration: &Declaration,
     notes: &[Noted],
 ) -> Result<(), WriteFailed>
-    ensures ok { OnOk result (Appends (W.contents writer.old) (W.contents writer.new) (notes_text declaration.now notes.now)) }
-    ensures kept { OnOk result (W.failed writer.new ≡ W.failed writer.old) }
-    ensures front { OnErr result (AppendsFront (W.contents writer.old) (W.contents writer.new) (notes_text declaration.now notes.now)) }
-    ensures err { OnErr result (W.failed writer.new ≡ true) }
+    ensures { IsWritten result (written_to W.Sink writer.old writer.new) (notes_text declaration.now notes.now) }
 {
     if let Err(failed) = write_declaration(writer, declaration) {
         return Err(failed);
@@ -170,17 +151,13 @@ fn write_lines<W: Sink>(
 }
 
 // The same, and a flush.
-#[tactic(auto, using(crate::proofs::PieceLemmas::lost))]
 fn write_out<W: Sink>(
     writer: &mut W,
     declaration: &Declaration,
     notes: &[Noted],
 ) -> Result<(), WriteFailed>
-    ensures ok { OnOk result (Appends (W.contents writer.old) (W.contents writer.new) (notes_text declaration.now notes.now)) }
+    ensures wrote { IsWritten result (written_to W.Sink writer.old writer.new) (notes_text declaration.now notes.now) }
     ensures out { OnOk result (W.is_flushed writer.new ≡ true) }
-    ensures kept { OnOk result (W.failed writer.new ≡ W.failed writer.old) }
-    ensures front { OnErr result (AppendsFront (W.contents writer.old) (W.contents writer.new) (notes_text declaration.now notes.now)) }
-    ensures err { OnErr result (W.failed writer.new ≡ true) }
 {
     if let Err(failed) = write_lines(writer, declaration, notes) {
         return Err(failed);

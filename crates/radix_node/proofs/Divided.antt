@@ -1,37 +1,17 @@
 -- A slot as 512 slots
-use Rattle.std.proofs.Common.{Box, ◌≡◌, ◌≢◌, ℕ, ◌+◌, ◌-◌, ◌*◌, ◌/◌, ◌^◌, ◌<◌, ◌≤◌, ◌⊎◌, ⊎_elim, Bool, true, false, List, [], ◌∷◌, ◌++◌}
-use Rattle.std.proofs.Common.{length, map, get_or, Option, Some, None, refl, sym, ap, ◌∙◌, subst, arith}
-use Rattle.std.specs.Prelude.{All}
+use Rattle.slot_lock.proofs.Words.{◌≡◌, ℕ, ◌+◌, ◌*◌, ◌^◌, ◌<◌, ◌≤◌, false, List, [], ◌∷◌, ◌++◌, length, map, get_or, refl, sym, ap, ◌∙◌, subst, arith}
+use Rattle.slot_lock.proofs.Words.{mul-le-mul_right, length-map, get_or-map, info_file_page, is_leaf}
 use Rattle.std.specs.List.{range_with_len}
-use Rattle.std.proofs.Math.Nat.{mul-le-mul_right}
-use Rattle.std.proofs.Math.ListN.{set, length-set}
-use Rattle.std.proofs.lemmas.List.{length-map, get_or-map}
-use Rattle.std.proofs.lemmas.List.FromFn.{get_or-map-range_with_len, length-map-range_with_len, map-range_with_len_more}
-use Rattle.vm_base.specs.declared.info.PageInfo.{PageInfo}
-use Rattle.vm_base.specs.declared.info.Back.{Back}
-use Rattle.vm_base.specs.declared.info.Back.TheVariants.{Anon, Shared, Private}
-use Rattle.vm_base.specs.Info.{advance_back, file_page, info_from, info_file_page, is_leaf}
+use Rattle.std.proofs.lemmas.List.FromFn.{get_or-map-range_with_len, map-range_with_len_more}
 use Rattle.radix_node.specs.declared.node.Slot.{Slot}
 use Rattle.radix_node.specs.declared.node.Slot.TheVariants.{Own as OwnSlot, Child}
 use Rattle.radix_node.specs.declared.state.SlotState.{SlotState}
 use Rattle.radix_node.specs.State.{State, state_of, state_from}
-use Rattle.radix_node.specs.Run.{Run, width_of, carried, divided, IsSound}
-use Rattle.radix_node.specs.Node.{Part, Own, Below, flatten, owns, owns_divided, IsPart}
+use Rattle.radix_node.specs.Run.{Run, width_of, divided, FitsWidth}
+use Rattle.radix_node.specs.Node.{Part, Own, flatten, owns, owns_divided, IsSoundPart}
 use Rattle.radix_node.specs.Slots.{part_of, parts_of, IsLower, IsNode}
-use Rattle.radix_node.proofs.Flat.{width_pos}
-
-back_fits : (b : Back) (n m : ℕ) → file_page b ≤ m → file_page (advance_back b n) ≤ m + n
-back_fits Anon n m h = omega arith
-back_fits (Shared f k) n m h = omega arith
-back_fits (Private f k) n m h = omega arith
-
-pub info_fits : (o : Option PageInfo) (n : ℕ) → info_file_page (info_from o n) ≤ info_file_page o + n
-info_fits None n = omega arith
-info_fits (Some info) n = back_fits info.meta.back n (file_page info.meta.back) (omega arith)
-
-pub is_leaf-from : (o : Option PageInfo) (n : ℕ) → is_leaf (info_from o n) ≡ is_leaf o
-is_leaf-from None n = refl
-is_leaf-from (Some info) n = refl
+use Rattle.slot_lock.proofs.Facts.{two}
+use Rattle.slot_lock.proofs.ListLaws.{is_leaf-info_from, file_page_on}
 
 -- the k-th of 512 slots ends by the end of the last
 pub part_ends : (w k : ℕ) → k < 512 → k * w + w ≤ 512 * w
@@ -63,18 +43,12 @@ carries-more w n m s ss ts x h e is next = rw (e, next) (record {
     parts_more [] = refl
     parts_more (y ∷ ys) = ap (λ (l : List Part). part_of y ∷ l) (parts_more ys)
 
-pub carries-none : {A : Type 0} (w : ℕ) (s : State) → Carries {A = A} w 0 s []
-carries-none w s = record { count = refl; parts = refl }
-
 -- each part of what 512 slots carry on
-pub carried_sound : (w k : ℕ) (s : State) → CanDivide w s → k < 512 → IsSound w (state_from s (k * w))
+pub carried_sound : (w k : ℕ) (s : State) → CanDivide w s → k < 512 → FitsWidth w (state_from s (k * w))
 carried_sound w k s h l = record {
-  fits = omega (arith, info_fits s.info (k * w), part_ends w k l, h.fits);
-  alone = λ leaf. absurd (two _ h.no_leaf (sym (is_leaf-from s.info (k * w)) ∙ leaf));
+  fits = omega (arith, file_page_on s.info (k * w), part_ends w k l, h.fits);
+  alone = λ leaf. absurd (two _ h.no_leaf (sym (is_leaf-info_from s.info (k * w)) ∙ leaf));
 }
-  where
-    two : (b : Bool) → b ≡ false → b ≡ true → ⊥
-    two b e f = cc
 
 all_own : {A : Type 0} (level : ℕ) (ss : List (Slot A)) (q : ℕ → State) (ks : List ℕ) → parts_of ss ≡ map (λ k. Own (q k)) ks
     → (k : ℕ) (d : Slot A) → k < length ss → IsLower level (get_or ss k d)
@@ -101,7 +75,7 @@ carries-IsNode level n s ss low h full c = record {
   full = c.count ∙ full;
   lower = all_own level ss (λ k. state_from s (k * width_of level)) (range_with_len 0 n) c.parts;
   fit = λ k d l.
-      subst (IsPart level)
+      subst (IsSoundPart level)
       (sym (ap (λ xs. get_or xs k d) c.parts ∙ get_or-map-range_with_len (λ k. Own (state_from s (k * width_of level))) 0 n k k d
       (inside k l) (omega arith))) (carried_sound (width_of level) k s h (omega (arith, inside k l, full)));
 }

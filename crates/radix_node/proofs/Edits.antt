@@ -1,12 +1,8 @@
 -- A change of a range of a node's pages
-use Rattle.std.proofs.Common.{Box, ◌≡◌, ◌≢◌, ℕ, ◌+◌, ◌-◌, ◌*◌, ◌^◌, ◌<◌, ◌≤◌, ◌||◌, ◌⊎◌, inl, inr, ⊎_elim, Bool, true, false, Option, Some}
-use Rattle.std.proofs.Common.{None, is_some, List, length, get_or, min, max, refl, sym, ap, ◌∙◌, subst, arith}
-use Rattle.std.proofs.lemmas.Bool.{cases_lt, cases_eq}
-use Rattle.std.proofs.Math.ListN.{set, length-set}
-use Rattle.std.proofs.lemmas.List.{get_or-set_same, get_or-set_other}
-use Rattle.vm_base.specs.declared.info.PageInfo.{PageInfo}
-use Rattle.vm_base.specs.declared.rights.Prot.{Prot}
-use Rattle.vm_base.specs.Info.{info_from, info_file_page, info_with_prot, is_leaf}
+use Rattle.slot_lock.proofs.Words.{Box, ◌≡◌, ◌≢◌, ℕ, ◌+◌, ◌-◌, ◌*◌, ◌<◌, ◌≤◌, ◌⊎◌, inl, inr, ⊎_elim, None, List, get_or, refl, sym, ap, ◌∙◌, subst, arith}
+use Rattle.slot_lock.proofs.Words.{cases_lt, get_or-set_same, length-map, All-get_or}
+use Rattle.std.proofs.Math.ListN.{set}
+use Rattle.std.proofs.lemmas.List.{get_or-set_other}
 use Rattle.radix_node.specs.declared.edit.Edit.{Edit}
 use Rattle.radix_node.specs.declared.edit.Edit.TheVariants.{Put, Protect}
 use Rattle.radix_node.specs.declared.node.Node.{Node}
@@ -14,38 +10,24 @@ use Rattle.radix_node.specs.declared.node.Slot.{Slot}
 use Rattle.radix_node.specs.declared.node.Slot.TheVariants.{Own as OwnSlot, Child}
 use Rattle.radix_node.specs.declared.state.SlotState.{SlotState}
 use Rattle.radix_node.specs.State.{State, state_of}
-use Rattle.radix_node.specs.Run.{Run, Cell, total, cell_at, width_of, IsSound, IsWhole}
-use Rattle.std.proofs.lemmas.List.{length-map}
-use Rattle.std.proofs.lemmas.List.Elements.{All-get_or}
-use Rattle.radix_node.specs.Node.{Parts, IsPart as IsPartIn, runs, flatten}
+use Rattle.radix_node.specs.Run.{Run, Cell, cell_at, width_of, FitsWidth, IsWhole}
+use Rattle.radix_node.specs.Node.{Parts, IsSoundPart, runs, flatten}
 use Rattle.radix_node.specs.Slots.{part_of, parts_of, IsNode}
 use Rattle.radix_node.specs.Edit.{CanEdit, edited, edited_cell}
 use Rattle.radix_node.proofs.Runs.{cell_at-past}
-use Rattle.radix_node.proofs.Flat.{width_pos, place_index, part_at, cell_at-part, IsPlace, whole-node, is_node-set, child_node, child_level, width-below}
-use Rattle.radix_node.proofs.Divided.{info_fits, is_leaf-from, part_ends}
+use Rattle.radix_node.proofs.Flat.{width_pos, place_index, part_at, cell_at-part, IsPlace, whole-node, is_node-set, child_node}
+use Rattle.radix_node.proofs.Divided.{part_ends}
 use Rattle.radix_node.proofs.Walks.{IsOf, IsPart, own_page, child_page}
+use Rattle.slot_lock.proofs.ListLaws.{file_page_on, is_leaf-info_from}
+use Rattle.slot_lock.proofs.Changes.{prot_fits, prot_leaf}
 
 -- ---- what a changed slot can have
 
-prot_fits : (prot : Prot) (o : Option PageInfo)
-    → info_file_page (info_with_prot prot o) ≡ info_file_page o
-prot_fits prot None = refl
-prot_fits prot (Some info) = refl
-
-some_frame : (a b : Bool) → a || false ≡ true → a || b ≡ true
-some_frame true b h = refl
-some_frame false b h = cc
-
-prot_leaf : (prot : Prot) (o : Option PageInfo) → is_leaf (info_with_prot prot o) ≡ true
-    → is_leaf o ≡ true
-prot_leaf prot None h = h
-prot_leaf prot (Some info) h = some_frame (is_some info.frame) _ h
-
 pub edited_sound : (edit : Edit) (n by width : ℕ) (s : State) → CanEdit edit n → by + width ≤ n
-    → 0 < width → IsSound width s → IsSound width (edited edit by s)
+    → 0 < width → FitsWidth width s → FitsWidth width (edited edit by s)
 edited_sound (Put info) n by width s can l pos h = record {
-  fits = omega (arith, info_fits info by, can.fits);
-  alone = λ leaf. let one = can.alone (sym (is_leaf-from info by) ∙ leaf) in omega arith;
+  fits = omega (arith, file_page_on info by, can.fits);
+  alone = λ leaf. let one = can.alone (sym (is_leaf-info_from info by) ∙ leaf) in omega arith;
 }
 edited_sound (Protect prot) n by width s can l pos h = record {
   fits = rw (prot_fits prot s.info) h.fits;
@@ -179,11 +161,11 @@ own_node {level = level} {i = i} {ss = ss} d s t first end by past edit n l is w
     (whole-node level ss n).cells (i * width_of level)
     (let q = part_ends (width_of level) i l in omega arith) in
     let sound =
-    subst (λ (c : Cell). IsSound c.width c.state)
+    subst (λ (c : Cell). FitsWidth c.width c.state)
     (own_page d s n l is (i * width_of level) (record { low = omega arith; high = omega arith }))
     c.sound in
     is_node-set level i ss (OwnSlot t) n tt
-    (subst (IsSound (width_of level)) (sym is_t)
+    (subst (FitsWidth (width_of level)) (sym is_t)
     (edited_sound edit (by + (end - first)) past (width_of level) (state_of s) can
     (omega (arith, w.low, w.high)) pos sound))
 
@@ -244,8 +226,8 @@ child_whole : {A : Type 0} {level i : ℕ} {ss : List (Slot A)} (d : Slot A) (b 
     → IsWhole (level - 1) (width_of level) (runs b.value)
 child_whole {level = level} {i = i} {ss = ss} d b n l is =
     let len = length-map ss part_of in
-    subst (IsPartIn level) (part_at d (Child b) n l is)
-    (All-get_or (IsPartIn level) (parts_of ss) i (part_of d) (let full = n.full in omega arith)
+    subst (IsSoundPart level) (part_at d (Child b) n l is)
+    (All-get_or (IsSoundPart level) (parts_of ss) i (part_of d) (let full = n.full in omega arith)
     n.fit)
 
 pub child_begins : {A : Type 0} {level i : ℕ} {ss : List (Slot A)} (d : Slot A) (b : Box (Node A) A) (v : Parts) (old : List Run)

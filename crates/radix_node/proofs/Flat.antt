@@ -1,24 +1,25 @@
 -- A node's slots, one after another
-use Rattle.std.proofs.Common.{Box, suc, zero, ◌≡◌, ◌≢◌, ◌⊎◌, ⊎_elim, ℕ, ◌+◌, ◌-◌, ◌*◌, ◌/◌, ◌^◌, ◌<◌, ◌≤◌, true, List, [], ◌∷◌, ◌++◌}
-use Rattle.std.proofs.Common.{length, map, get_or, refl, sym, ap, ◌∙◌, subst, arith}
-use Rattle.std.specs.Prelude.{All}
+use Rattle.slot_lock.proofs.Words.{Box, suc, zero, ◌≡◌, ℕ, ◌+◌, ◌-◌, ◌*◌, ◌/◌, ◌^◌, ◌<◌, ◌≤◌, List, [], ◌∷◌, ◌++◌, length, get_or, refl, sym, ap, ◌∙◌, subst}
+use Rattle.slot_lock.proofs.Words.{arith, All, get_or-map, length-map, map-set, set-get_or, All-get_or, All-set}
 use Rattle.std.proofs.Math.ListN.{set, length-set}
-use Rattle.std.proofs.Math.Nat.{div-mul-le_self, lt-div-mul-add, div-lt_iff_lt-mul, mul_assoc, mul-le-mul_right}
+use Rattle.std.proofs.Math.Nat.{div-mul-le_self, lt-div-mul-add, div-lt_iff_lt-mul, mul_assoc}
 use Rattle.std.proofs.lemmas.Nat.{pow_pos, pow-add, div-mul-add}
-use Rattle.std.proofs.lemmas.List.{get_or-map, length-map, map-set, set-get_or}
 use Rattle.std.proofs.Math.Seq.{map-set_same}
-use Rattle.std.proofs.lemmas.List.Elements.{All-head, All-tail, All-get_or, All-set}
+use Rattle.std.proofs.lemmas.List.Elements.{All-head, All-tail}
 use Rattle.radix_node.specs.declared.node.Node.{Node}
 use Rattle.radix_node.specs.declared.node.Slot.{Slot}
 use Rattle.radix_node.specs.declared.node.Slot.TheVariants.{Own as OwnSlot, Child}
 use Rattle.radix_node.specs.declared.state.SlotState.{SlotState}
-use Rattle.radix_node.specs.State.{State, state_of}
-use Rattle.radix_node.specs.Run.{Run, Cell, total, cell_at, with_run, in_state, width_of, level_of, IsSound, IsCell, IsWhole}
-use Rattle.radix_node.specs.Node.{Part, Own, Below, Parts, runs_of, flatten, runs, IsPart}
+use Rattle.radix_node.specs.State.{state_of}
+use Rattle.radix_node.specs.Run.{Run, Cell, total, cell_at, with_run, in_state, width_of, level_of, FitsWidth, IsCell, IsWhole}
+use Rattle.radix_node.specs.Node.{Part, Own, Below, Parts, runs_of, flatten, runs, IsSoundPart}
 use Rattle.radix_node.specs.Slots.{part_of, parts_of, IsLower, IsNode}
 use Rattle.radix_node.proofs.Runs.{total-append, cell_at-here, cell_at-left, cell_at-right, with_run-left, with_run-right, with_run-one}
 
 -- ---- widths
+
+pub spread : (a b n : ℕ) → (a + b) * n ≡ a * n + b * n
+spread a b n = omega arith
 
 pub width-suc : (k : ℕ) → width_of (k + 1) ≡ 512 * width_of k
 width-suc k =
@@ -42,11 +43,11 @@ width-times k n h =
 abbrev pub IsWide : ℕ → Part → Type 0
 IsWide w x = total (runs_of w x) ≡ w
 
-pub wide-part : (level : ℕ) (x : Part) → IsPart level x → IsWide (width_of level) x
+pub wide-part : (level : ℕ) (x : Part) → IsSoundPart level x → IsWide (width_of level) x
 wide-part level (Own s) h = omega arith
 wide-part level (Below rs) h = h.pages_are
 
-pub wide : (level : ℕ) (xs : List Part) → All (IsPart level) xs → All (IsWide (width_of level)) xs
+pub wide : (level : ℕ) (xs : List Part) → All (IsSoundPart level) xs → All (IsWide (width_of level)) xs
 wide level xs h = λ k d l. wide-part level (get_or xs k d) (h k d l)
 
 pub total-flatten : (w : ℕ) (xs : List Part) → All (IsWide w) xs → total (flatten w xs) ≡ length xs * w
@@ -102,7 +103,7 @@ level_is (suc (suc (suc zero))) h = refl
 level_is (suc (suc (suc (suc l)))) h = absurd (omega arith)
 
 pub cell_is : (level page l before : ℕ) (c : Cell) → level ≤ 3 → l ≤ level → c.width ≡ width_of l → page ≡ before * c.width + c.offset
-    → c.offset < c.width → IsSound c.width c.state → IsCell level page c
+    → c.offset < c.width → FitsWidth c.width c.state → IsCell level page c
 cell_is level page l before c most low width place within sound =
     let is : level_of c.width ≡ l = ap level_of width ∙ level_is l (omega arith) in
     let count : page / c.width ≡ before = ap (λ n. n / c.width) place ∙ div-mul-add before c.width c.offset within in
@@ -114,7 +115,7 @@ cell_is level page l before c most low width place within sound =
       sound = sound;
     }
 
-cell_of-part : (level i page rest : ℕ) (x : Part) → level ≤ 3 → IsPart level x → page ≡ i * width_of level + rest → rest < width_of level
+cell_of-part : (level i page rest : ℕ) (x : Part) → level ≤ 3 → IsSoundPart level x → page ≡ i * width_of level + rest → rest < width_of level
     → IsCell level page (cell_at (runs_of (width_of level) x) rest)
 cell_of-part level i page rest (Own s) most h e l =
     subst (IsCell level page) (sym (cell_at-here (record { width = width_of level; state = s }) [] rest l))
@@ -129,11 +130,8 @@ cell_of-part level i page rest (Below rs) most h e l =
     let both : (i * m + before) * (cell_at rs rest).width ≡ i * m * (cell_at rs rest).width + before * (cell_at rs rest).width = spread
     (i * m) before (cell_at rs rest).width in
     cell_is level page own (i * m + before) (cell_at rs rest) most (omega (arith, c.low)) c.width_is (omega (arith, c.place)) c.within c.sound
-  where
-    spread : (a b n : ℕ) → (a + b) * n ≡ a * n + b * n
-    spread a b n = omega arith
 
-pub whole-parts : (level : ℕ) (xs : List Part) → level ≤ 3 → All (IsPart level) xs → length xs ≡ 512
+pub whole-parts : (level : ℕ) (xs : List Part) → level ≤ 3 → All (IsSoundPart level) xs → length xs ≡ 512
     → IsWhole level (512 * width_of level) (flatten (width_of level) xs)
 whole-parts level xs most h n = record {
   pages_are = total-flatten (width_of level) xs (wide level xs h) ∙ ap (λ k. k * width_of level) n;
@@ -184,16 +182,16 @@ level_below {level = level} {i = i} {ss = ss} d b n l is = subst (IsLower level)
 
 -- a node stays one where a slot is written
 pub is_node-set : {A : Type 0} (level i : ℕ) (ss : List (Slot A)) (s : Slot A) → IsNode level ss → IsLower level s
-    → IsPart level (part_of s) → IsNode level (set ss i s)
+    → IsSoundPart level (part_of s) → IsNode level (set ss i s)
 is_node-set level i ss s n l p = record {
   low = n.low;
   full = length-set ss i s ∙ n.full;
   lower = All-set (IsLower level) ss i s l n.lower;
-  fit = subst (All (IsPart level)) (sym (map-set part_of ss i s)) (All-set (IsPart level) (parts_of ss) i (part_of s) p n.fit);
+  fit = subst (All (IsSoundPart level)) (sym (map-set part_of ss i s)) (All-set (IsSoundPart level) (parts_of ss) i (part_of s) p n.fit);
 }
 
 -- a whole child is a part of the level above
-pub child_part : (level low : ℕ) (rs : List Run) → low + 1 ≡ level → IsWhole low (512 * width_of low) rs → IsPart level (Below rs)
+pub child_part : (level low : ℕ) (rs : List Run) → low + 1 ≡ level → IsWhole low (512 * width_of low) rs → IsSoundPart level (Below rs)
 child_part level low rs e h =
     let below : low ≡ level - 1 = omega arith in
     subst (λ n. IsWhole (level - 1) n rs) (width-below low level e) (subst (λ n. IsWhole n (512 * width_of low) rs) below h)

@@ -1,24 +1,23 @@
 -- Slots that become a node, and nodes that become a slot
-use Rattle.std.proofs.Common.{Box, zero, suc, ◌≡◌, ◌≢◌, ℕ, ◌+◌, ◌-◌, ◌*◌, ◌/◌, ◌^◌, ◌<◌, ◌≤◌, ◌⊎◌, ⊎_elim, lit<, true, false, Bool, List}
-use Rattle.std.proofs.Common.{[], ◌∷◌, ◌++◌, length, map, get_or, Option, Some, None, refl, sym, ap, ◌∙◌, subst, arith}
-use Rattle.std.specs.Prelude.{All, slice_get, slice_set, Result, Ok, Err, OnOk, OnErr}
-use Rattle.std.proofs.Math.Nat.{mul-div_cancel, mul_assoc, mul-le-mul_right}
-use Rattle.std.proofs.lemmas.Bool.{cases_lt}
+use Rattle.slot_lock.proofs.Words.{Box, zero, suc, ◌≡◌, ℕ, ◌+◌, ◌-◌, ◌*◌, ◌/◌, ◌^◌, ◌<◌, ◌≤◌, ⊎_elim, true, false, Bool, List, [], length, get_or, Some, refl}
+use Rattle.slot_lock.proofs.Words.{sym, ap, ◌∙◌, subst, arith, All, mul-le-mul_right, cases_lt, length-map, map-set, set-get_or, get_or-set_same, All-set}
+use Rattle.slot_lock.proofs.Words.{is_leaf}
+use Rattle.std.proofs.Common.{lit<}
+use Rattle.std.specs.Prelude.{slice_get}
+use Rattle.std.proofs.Math.Nat.{mul-div_cancel, mul_assoc}
 use Rattle.std.proofs.Math.ListN.{set, length-set}
-use Rattle.std.proofs.lemmas.List.{length-map, map-set, set-set, set-get_or, get_or-set_same}
-use Rattle.std.proofs.lemmas.List.Elements.{All-set}
+use Rattle.std.proofs.lemmas.List.{set-set}
 use Rattle.std.proofs.lemmas.Option.{slice_get-get_or}
-use Rattle.vm_base.specs.Info.{info_file_page, is_leaf}
 use Rattle.radix_node.specs.declared.node.Node.{Node}
 use Rattle.radix_node.specs.declared.node.Slot.{Slot}
 use Rattle.radix_node.specs.declared.node.Slot.TheVariants.{Own as OwnSlot, Child}
 use Rattle.radix_node.specs.declared.state.SlotState.{SlotState}
 use Rattle.radix_node.specs.State.{State, state_of, state_from, IsPlain}
-use Rattle.radix_node.specs.Run.{Run, Cell, cell_at, with_run, in_parts, width_of, divided, CanJoin, IsCarried, IsSound, IsWhole, Folds}
-use Rattle.radix_node.specs.Node.{Part, Own, Below, Parts, runs, runs_of, flatten, node_of, owns_divided, IsOwn, CanFold, FoldsSlot, Expands}
-use Rattle.radix_node.specs.Slots.{part_of, parts_of, IsLower, IsNode}
+use Rattle.radix_node.specs.Run.{Run, Cell, cell_at, with_run, in_parts, width_of, divided, CanFoldRuns, IsCarried, FitsWidth, IsWhole, FoldsRuns}
+use Rattle.radix_node.specs.Node.{Part, Own, Below, Parts, runs, runs_of, flatten, node_of, owns_divided, IsOwn, CanFoldSlot, FoldsSlot, Expands}
+use Rattle.radix_node.specs.Slots.{part_of, parts_of, IsNode}
 use Rattle.radix_node.proofs.Runs.{cell_at-here, cell_later, with_run-one}
-use Rattle.radix_node.proofs.Flat.{IsPlace, IsWide, wide, width_pos, width-below, width-times, place_index, cell_at-Own, with_run-flatten}
+use Rattle.radix_node.proofs.Flat.{IsPlace, IsWide, wide, width_pos, width-below, width-times, place_index, cell_at-Own, with_run-flatten, spread}
 use Rattle.radix_node.proofs.Flat.{cell_at-flatten, part_at, is_node-set, child_part, child_level, child_pages, level_below, runs-set}
 use Rattle.radix_node.proofs.Flat.{cell_at-Child}
 use Rattle.radix_node.proofs.Divided.{CanDivide, runs-divided, part_ends}
@@ -108,14 +107,6 @@ pub large_level : (level : ℕ) → 1 < width_of level → 0 < level
 large_level zero h = absurd (omega (arith, ap (λ n. 2 ^ n) (let e : 9 * 0 ≡ 0 = omega arith in e)))
 large_level (suc k) h = omega arith
 
-pub ok_along : {X E : Type 0} {P Q : Type 0} (r : Result X E) → (P → Q) → OnOk r P → OnOk r Q
-ok_along (Ok x) f h = f h
-ok_along (Err e) f h = h
-
-pub err_along : {X E : Type 0} {P Q : Type 0} (r : Result X E) → (P → Q) → OnErr r P → OnErr r Q
-err_along (Ok x) f h = h
-err_along (Err e) f h = f h
-
 -- ---- folds
 
 some_below : (rs qs : List Run) → Some (Below rs) ≡ Some (Below qs) → rs ≡ qs
@@ -126,14 +117,14 @@ own_below s rs e = cc
 
 pub own_no_fold : {A : Type 0} (level i : ℕ) (ss : List (Slot A)) (d : Slot A) (s : SlotState) (v : Parts) → IsNode level ss → i < 512
     → OwnSlot s ≡ get_or ss i d → record { level = level; parts = parts_of ss } ≡ v
-    → (t : State) → CanFold v i t → ⊥
+    → (t : State) → CanFoldSlot v i t → ⊥
 own_no_fold level i ss d s v n l is o t can =
     own_below (state_of s) can.below (sym (slot_part level i ss d (OwnSlot s) n l is) ∙ ap (λ (v : Parts). slice_get v.parts i) o ∙ can.child)
 
 -- what a node that can be folded says
 pub child_carried : {A : Type 0} (level i : ℕ) (ss : List (Slot A)) (d : Slot A) (b : Box (Node A) A) (u v : Parts) → IsNode level ss
     → i < 512 → Child b ≡ get_or ss i d → record { level = level; parts = parts_of ss } ≡ v → u ≡ b.value
-    → (t : State) → CanFold v i t → IsCarried (width_of u.level) t (runs u)
+    → (t : State) → CanFoldSlot v i t → IsCarried (width_of u.level) t (runs u)
 child_carried level i ss d b u v n l is o same t can =
     let lower : u.level + 1 ≡ level = child_level d b u n l is same in
     let lev : level ≡ v.level = ap (λ (v : Parts). v.level) o in
@@ -143,10 +134,10 @@ child_carried level i ss d b u v n l is o same t can =
     subst (IsCarried (width_of u.level) t) below (subst (λ k. IsCarried (width_of k) t can.below) at can.carried)
 
 pub fold_node : {A : Type 0} (level i : ℕ) (ss : List (Slot A)) (d : Slot A) (b : Box (Node A) A) (u : Parts) (s : SlotState)
-    → IsNode level ss → i < 512 → Child b ≡ get_or ss i d → u ≡ b.value → IsSound (512 * width_of u.level) (state_of s)
+    → IsNode level ss → i < 512 → Child b ≡ get_or ss i d → u ≡ b.value → FitsWidth (512 * width_of u.level) (state_of s)
     → IsNode level (set ss i (OwnSlot s))
 fold_node level i ss d b u s n l is same h =
-    is_node-set level i ss (OwnSlot s) n tt (subst (λ w. IsSound w (state_of s)) (child_pages d b u n l is same) h)
+    is_node-set level i ss (OwnSlot s) n tt (subst (λ w. FitsWidth w (state_of s)) (child_pages d b u n l is same) h)
 
 pub folds_slot : {A : Type 0} (level i : ℕ) (ss : List (Slot A)) (d : Slot A) (b : Box (Node A) A) (u v : Parts) (s : SlotState)
     → IsNode level ss → i < 512 → Child b ≡ get_or ss i d → record { level = level; parts = parts_of ss } ≡ v → u ≡ b.value
@@ -171,7 +162,7 @@ some_part x y e = cc
 
 pub runs-FoldsSlot : {A : Type 0} (level page i rest : ℕ) (ss : List (Slot A)) (d : Slot A) (b : Box (Node A) A) (old new : Parts)
     → IsNode level ss → IsPlace level page i rest → Child b ≡ get_or ss i d
-    → old ≡ record { level = level; parts = parts_of ss } → FoldsSlot old new i → Folds (flatten (width_of level) (parts_of ss)) (runs new) page
+    → old ≡ record { level = level; parts = parts_of ss } → FoldsSlot old new i → FoldsRuns (flatten (width_of level) (parts_of ss)) (runs new) page
 runs-FoldsSlot level page i rest ss d b old new n at is o h =
     let w : ℕ = width_of level in
     let ps : List Part = parts_of ss in
@@ -209,7 +200,7 @@ runs-FoldsSlot level page i rest ss d b old new n at is o h =
 -- a fold below is one of the node
 pub folds-Child : {A : Type 0} (level page i rest : ℕ) (ss : List (Slot A)) (d : Slot A) (b c : Box (Node A) A) (v : Parts)
     → IsNode level ss → IsPlace level page i rest → Child b ≡ get_or ss i d → v ≡ b.value
-    → IsNode level (set ss i (Child c)) → Folds (runs v) (runs c.value) rest → Folds (flatten (width_of level) (parts_of ss))
+    → IsNode level (set ss i (Child c)) → FoldsRuns (runs v) (runs c.value) rest → FoldsRuns (flatten (width_of level) (parts_of ss))
     (flatten (width_of level) (parts_of (set ss i (Child c)))) page
 folds-Child level page i rest ss d b c v n at is same m h =
     let w : ℕ = width_of level in
@@ -226,7 +217,7 @@ folds-Child level page i rest ss d b c v n at is same m h =
 -- ---- where no node can be folded
 
 -- each slot of such a lower node has its width
-pub join_width : (level page : ℕ) (rs : List Run) (can : CanJoin level rs page) → (cell_at rs page).width ≡ width_of can.own_level
+pub join_width : (level page : ℕ) (rs : List Run) (can : CanFoldRuns level rs page) → (cell_at rs page).width ≡ width_of can.own_level
 join_width level page rs can =
     let w : ℕ = width_of can.own_level in
     let base : ℕ = can.before * width_of (can.own_level + 1) in
@@ -242,9 +233,9 @@ join_width level page rs can =
 -- a slot of the node has more pages than a lower node's slots
 pub own_no_join : {A : Type 0} {level page i rest : ℕ} {ss : List (Slot A)} (d : Slot A) (s : SlotState) (v : Parts) → IsNode level ss
     → IsPlace level page i rest → OwnSlot s ≡ get_or ss i d → record { level = level; parts = parts_of ss } ≡ v
-    → ¬ CanJoin v.level (runs v) page
+    → ¬ CanFoldRuns v.level (runs v) page
 own_no_join {level = level} {page = page} {ss = ss} d s v n at is o can =
-    let here : CanJoin level (flatten (width_of level) (parts_of ss)) page = subst (λ (v : Parts). CanJoin v.level (runs v) page) (sym o) can in
+    let here : CanFoldRuns level (flatten (width_of level) (parts_of ss)) page = subst (λ (v : Parts). CanFoldRuns v.level (runs v) page) (sym o) can in
     let w = join_width level page _ here in
     let own = ap (λ (c : Cell). c.width) (cell_at-Own d s n at is) in
     let l = narrower here.own_level level (let q = here.low in omega arith) in
@@ -263,9 +254,9 @@ same_block a b w p la ua lb ub = ⊎_elim
 pub child_can_fold : {A : Type 0} {level page i rest : ℕ} {ss : List (Slot A)} (d : Slot A) (b : Box (Node A) A) (u v : Parts)
     → IsNode level ss → IsPlace level page i rest → Child b ≡ get_or ss i d → record { level = level; parts = parts_of ss } ≡ v
     → u ≡ b.value
-    → width_of u.level ≤ (cell_at (runs u) rest).width → CanJoin v.level (runs v) page → (s : State) × CanFold v i s
+    → width_of u.level ≤ (cell_at (runs u) rest).width → CanFoldRuns v.level (runs v) page → (s : State) × CanFoldSlot v i s
 child_can_fold {level = level} {page = page} {i = i} {rest = rest} {ss = ss} d b u v n at is o same wide can =
-    let here : CanJoin level (flatten (width_of level) (parts_of ss)) page = subst (λ (v : Parts). CanJoin v.level (runs v) page) (sym o) can in
+    let here : CanFoldRuns level (flatten (width_of level) (parts_of ss)) page = subst (λ (v : Parts). CanFoldRuns v.level (runs v) page) (sym o) can in
     let lower : u.level + 1 ≡ level = child_level d b u n at.slot_in is same in
     let width = sym (join_width level page _ here) ∙ ap (λ (c : Cell). c.width) (cell_at-Child d b n at is)
     ∙ ap (λ v. (cell_at (runs v) rest).width) (sym same) in
@@ -304,9 +295,9 @@ child_can_fold {level = level} {page = page} {i = i} {rest = rest} {ss = ss} d b
 pub below_can_join : {A : Type 0} {level page i rest : ℕ} {ss : List (Slot A)} (d : Slot A) (b : Box (Node A) A) (u v : Parts)
     → IsNode level ss → IsPlace level page i rest → Child b ≡ get_or ss i d → record { level = level; parts = parts_of ss } ≡ v
     → u ≡ b.value
-    → (cell_at (runs u) rest).width < width_of u.level → CanJoin v.level (runs v) page → CanJoin u.level (runs u) rest
+    → (cell_at (runs u) rest).width < width_of u.level → CanFoldRuns v.level (runs v) page → CanFoldRuns u.level (runs u) rest
 below_can_join {level = level} {page = page} {i = i} {rest = rest} {ss = ss} d b u v n at is o same thin can =
-    let here : CanJoin level (flatten (width_of level) (parts_of ss)) page = subst (λ (v : Parts). CanJoin v.level (runs v) page) (sym o) can in
+    let here : CanFoldRuns level (flatten (width_of level) (parts_of ss)) page = subst (λ (v : Parts). CanFoldRuns v.level (runs v) page) (sym o) can in
     let lower : u.level + 1 ≡ level = child_level d b u n at.slot_in is same in
     let width = sym (join_width level page _ here) ∙ ap (λ (c : Cell). c.width) (cell_at-Child d b n at is)
     ∙ ap (λ v. (cell_at (runs v) rest).width) (sym same) in
@@ -352,6 +343,3 @@ below_can_join {level = level} {page = page} {i = i} {rest = rest} {ss = ss} d b
           } in
           ap (λ v. cell_at (runs v) ((here.before - i * m) * U + k * w)) same ∙ sym (cell_at-Child d b n p is) ∙ here.slots k l;
     }
-  where
-    spread : (a b n : ℕ) → (a + b) * n ≡ a * n + b * n
-    spread a b n = omega arith

@@ -1,43 +1,29 @@
 -- 512 slots as one
-use Rattle.std.proofs.Common.{Box, inl, inr, ◌≡◌, ◌≢◌, ℕ, ◌+◌, ◌-◌, ◌*◌, ◌/◌, ◌^◌, ◌<◌, ◌≤◌, Bool, true, false, List, [], ◌∷◌, ◌++◌, length}
-use Rattle.std.proofs.Common.{map, get_or, Option, Some, None, refl, sym, ap, ◌∙◌, subst, arith}
-use Rattle.std.specs.Prelude.{All}
+use Rattle.slot_lock.proofs.Words.{Box, ◌≡◌, ℕ, ◌+◌, ◌-◌, ◌*◌, ◌^◌, ◌<◌, ◌≤◌, List, [], length, zero, suc, get_or, refl, sym, ap, ◌∙◌, subst, arith, All}
+use Rattle.slot_lock.proofs.Words.{mul-le-mul_right, length-map, get_or-map, info_file_page}
 use Rattle.std.specs.List.{range_with_len}
-use Rattle.std.proofs.Math.Nat.{mul-le-mul_right}
 use Rattle.std.proofs.lemmas.Nat.{pow_pos}
-use Rattle.std.proofs.lemmas.Bool.{cases_eq}
-use Rattle.std.proofs.lemmas.List.{length-map, get_or-map, ext_get_or, get_or_default}
+use Rattle.std.proofs.lemmas.List.{ext_get_or}
 use Rattle.std.proofs.lemmas.List.Elements.{All-map}
 use Rattle.std.proofs.lemmas.List.FromFn.{get_or-map-range_with_len, length-map-range_with_len}
-use Rattle.vm_base.specs.declared.info.PageInfo.{PageInfo}
-use Rattle.vm_base.specs.declared.info.Back.{Back}
-use Rattle.vm_base.specs.declared.info.Back.TheVariants.{Anon, Shared, Private}
-use Rattle.vm_base.specs.Info.{advance_back, file_page, info_from, info_file_page, is_leaf}
 use Rattle.radix_node.specs.declared.node.Node.{Node}
 use Rattle.radix_node.specs.declared.node.Slot.{Slot}
 use Rattle.radix_node.specs.declared.node.Slot.TheVariants.{Own as OwnSlot, Child}
 use Rattle.radix_node.specs.declared.state.SlotState.{SlotState}
 use Rattle.radix_node.specs.State.{State, state_of, state_from, IsPlain}
-use Rattle.radix_node.specs.Run.{Run, Cell, total, cell_at, width_of, level_of, carried, divided, IsCarried, IsSound, IsWhole, IsCell}
-use Rattle.radix_node.specs.Node.{Part, Own, Below, runs, runs_of, flatten, owns, owns_divided, IsPart}
+use Rattle.radix_node.specs.Run.{Run, Cell, total, cell_at, width_of, level_of, divided, IsCarried, FitsWidth}
+use Rattle.radix_node.specs.Node.{Part, Own, Below, runs, runs_of, flatten, owns, owns_divided, IsSoundPart}
 use Rattle.radix_node.specs.Slots.{part_of, parts_of, IsLower, IsNode}
 use Rattle.radix_node.proofs.Runs.{cell_at-here}
 use Rattle.radix_node.proofs.Flat.{IsWide, total-flatten, cell_at-flatten, cell_at-part, IsPlace, part_at, width_pos, width-times, width-below}
 use Rattle.radix_node.proofs.Divided.{runs-divided, owns-divided}
+use Rattle.slot_lock.proofs.Facts.{two}
+use Rattle.slot_lock.proofs.ListLaws.{info_from_zero, fits_before}
 
 -- ---- what one slot carries on
 
-pub back_zero : (b : Back) → advance_back b 0 ≡ b
-back_zero Anon = refl
-back_zero (Shared f k) = ap (Shared f) (omega arith)
-back_zero (Private f k) = ap (Private f) (omega arith)
-
-pub info_zero : (o : Option PageInfo) → info_from o 0 ≡ o
-info_zero None = refl
-info_zero (Some info) = ap (λ b. Some (record info { meta = record { back = b; prot = info.meta.prot } })) (back_zero info.meta.back)
-
 pub from_first : (s : State) (w : ℕ) → state_from s (0 * w) ≡ s
-from_first s w = let z : 0 * w ≡ 0 = omega arith in ap (state_from s) z ∙ ap (λ o. record { info = o; owner = s.owner }) (info_zero s.info)
+from_first s w = let z : 0 * w ≡ 0 = omega arith in ap (state_from s) z ∙ ap (λ o. record { info = o; owner = s.owner }) (info_from_zero s.info)
 
 -- the slot of each page of what one slot carries on
 pub cell_at-divided : (w k o page : ℕ) (s : State) → k < 512 → o < w → page ≡ k * w + o
@@ -65,7 +51,7 @@ narrower a b h =
     let some = width_pos a in
     omega arith
 
-own_cell : {A : Type 0} (level : ℕ) (x : Slot A) (c : Cell) → IsLower level x → IsPart level (part_of x)
+own_cell : {A : Type 0} (level : ℕ) (x : Slot A) (c : Cell) → IsLower level x → IsSoundPart level (part_of x)
     → cell_at (runs_of (width_of level) (part_of x)) 0 ≡ c → c.width ≡ width_of level → part_of x ≡ Own c.state
 own_cell level (OwnSlot s) c lower h e w = ap (λ (c : Cell). Own c.state)
     (sym (cell_at-here (record { width = width_of level; state = state_of s }) [] 0 (width_pos level)) ∙ e)
@@ -82,7 +68,7 @@ divided_slot level ss s n e k d l =
     let at : IsPlace level (k * width_of level) k 0 = record { slot_in = l; page_is = omega arith; rest_in = width_pos level } in
     let lt : k < length ss = omega (arith, n.full) in
     let lp : k < length (parts_of ss) = omega (arith, length-map ss part_of) in
-    let fit = subst (IsPart level) (part_at d (get_or ss k d) n l refl) (n.fit k (part_of d) lp) in
+    let fit = subst (IsSoundPart level) (part_at d (get_or ss k d) n l refl) (n.fit k (part_of d) lp) in
     let cell = sym (cell_at-part d (get_or ss k d) n at refl) ∙ e k l in
     own_cell level (get_or ss k d) _ (n.lower k d lt) fit cell refl
 
@@ -120,37 +106,23 @@ joins-all level k s ss d n full h =
 -- ---- such a node as one slot
 
 pub width_most : (level : ℕ) → level ≤ 3 → width_of level ≤ 2 ^ 27
-width_most level h =
-    let m : ℕ = 2 ^ (9 * (3 - level)) in
-    let top : width_of 3 ≡ m * width_of level = width-times level 3 h in
-    let is : width_of 3 ≡ 2 ^ 27 = refl in
-    let pos : 0 < m = pow_pos (9 * (3 - level)) in
-    let up : 1 * width_of level ≤ m * width_of level = mul-le-mul_right (width_of level) (let q : 1 ≤ m = omega arith in q) in
-    omega arith
-
-back_sound : (b : Back) (w : ℕ) → w ≤ 2 ^ 27 → file_page (advance_back b (511 * w)) + w ≤ 2 ^ 36 → file_page b + 512 * w ≤ 2 ^ 36
-back_sound Anon w l h = omega arith
-back_sound (Shared f k) w l h = omega arith
-back_sound (Private f k) w l h = omega arith
-
-info_sound : (o : Option PageInfo) (w : ℕ) → w ≤ 2 ^ 27 → info_file_page (info_from o (511 * w)) + w ≤ 2 ^ 36 → info_file_page o + 512 * w ≤ 2 ^ 36
-info_sound None w l h = omega arith
-info_sound (Some info) w l h = back_sound info.meta.back w l h
+width_most zero h = omega arith
+width_most (suc zero) h = omega arith
+width_most (suc (suc zero)) h = omega arith
+width_most (suc (suc (suc zero))) h = omega arith
+width_most (suc (suc (suc (suc l)))) h = absurd (omega arith)
 
 pub joined_sound : {A : Type 0} (level k : ℕ) (s : State) (ss : List (Slot A)) (d : Slot A) → IsNode level ss → 512 ≤ k → IsPlain s
-    → Joins (width_of level) k s ss → IsSound (512 * width_of level) s
+    → Joins (width_of level) k s ss → FitsWidth (512 * width_of level) s
 joined_sound level k s ss d n full plain h =
     let w : ℕ = width_of level in
     let lp : 511 < length (parts_of ss) = omega (arith, length-map ss part_of, n.full) in
-    let last = subst (IsPart level) (get_or-map part_of ss 511 d (part_of d) (omega (arith, n.full))
+    let last = subst (IsSoundPart level) (get_or-map part_of ss 511 d (part_of d) (omega (arith, n.full))
     ∙ h.so_far 511 d (omega arith) (omega arith)) (n.fit 511 (part_of d) lp) in
     record {
-      fits = info_sound s.info w (width_most level n.low) last.fits;
+      fits = fits_before s.info (511 * w) (512 * w) (2 ^ 36) (omega arith) (omega (arith, width_most level n.low)) (omega (arith, last.fits));
       alone = λ leaf. absurd (two _ plain.no_leaf leaf);
     }
-  where
-    two : (b : Bool) → b ≡ false → b ≡ true → ⊥
-    two b e f = cc
 
 below_not_own : (rs : List Run) (s : State) → Below rs ≡ Own s → ⊥
 below_not_own rs s e = cc
@@ -174,8 +146,8 @@ pub goes_on_all : {A : Type 0} (level : ℕ) (ss : List (Slot A)) (s : State) (d
 goes_on_all level ss s d e f k x n same is l here =
     ap part_of here ∙ divided_slot level ss s n same k e l ∙ ap (λ t. Own (state_from t (k * width_of level))) (sym (first_is level ss s d f n same is))
 
-pub part_of-at : {A : Type 0} (level : ℕ) (ss : List (Slot A)) (k : ℕ) (d x : Slot A) → IsNode level ss → k < 512 → x ≡ get_or ss k d → IsPart level (part_of x)
-part_of-at level ss k d x n l is = subst (IsPart level) (part_at d x n l is) (n.fit k (part_of d) (omega (arith, length-map ss part_of, n.full)))
+pub part_of-at : {A : Type 0} (level : ℕ) (ss : List (Slot A)) (k : ℕ) (d x : Slot A) → IsNode level ss → k < 512 → x ≡ get_or ss k d → IsSoundPart level (part_of x)
+part_of-at level ss k d x n l is = subst (IsSoundPart level) (part_at d x n l is) (n.fit k (part_of d) (omega (arith, length-map ss part_of, n.full)))
 
 -- the file pages of the first slot and those that go on from it are numbers
 pub first_fits : {A : Type 0} (level : ℕ) (ss : List (Slot A)) (k : ℕ) (d : Slot A) (f : SlotState) → IsNode level ss
@@ -185,18 +157,6 @@ first_fits level ss k d f n is l =
     let most = width_most level n.low in
     let up : k * width_of level ≤ 512 * width_of level = mul-le-mul_right (width_of level) (let q : k ≤ 512 = omega arith in q) in
     omega (arith, h.fits)
-
-pub joins-none : {A : Type 0} (w : ℕ) (s : State) (ss : List (Slot A)) → Joins w 0 s ss
-joins-none w s ss = record { so_far = λ j d l m. absurd (omega arith) }
-
-pub joins-next : {A : Type 0} (w k n : ℕ) (s : State) (ss : List (Slot A)) (d : Slot A) (x : Slot A) → Joins w k s ss → k < length ss
-    → n ≡ k + 1 → x ≡ get_or ss k d → part_of x ≡ Own (state_from s (k * w)) → Joins w n s ss
-joins-next w k n s ss d x h inside next is e = record {
-  so_far = λ j d' l m. elim (cases_eq j k) [
-    | inl same ↦ rw same (ap part_of (get_or_default ss k d' d inside ∙ sym is) ∙ e)
-    | inr other ↦ h.so_far j d' (omega arith) m
-  ];
-}
 
 pub total-divided : (w : ℕ) (s : State) → total (divided w s) ≡ 512 * w
 unfolding owns_divided

@@ -1,6 +1,5 @@
 -- Lists of a node's pages that have a frame
-use Rattle.std.proofs.Common.{Box, ◌≡◌, ℕ, ◌+◌, ◌-◌, ◌*◌, ◌<◌, ◌≤◌, List, [], ◌∷◌, ◌++◌, Some, None, get_or, max, min, sym, ◌∙◌, ap, subst, arith}
-use Rattle.vm_base.specs.Info.{frame_of}
+use Rattle.slot_lock.proofs.Words.{Box, ◌≡◌, ℕ, ◌+◌, ◌-◌, ◌*◌, ◌<◌, ◌≤◌, List, [], ◌∷◌, ◌++◌, Some, None, get_or, sym, ◌∙◌, ap, subst, arith, frame_of}
 use Rattle.slot_lock.specs.declared.framed.Framed.{Framed}
 use Rattle.slot_lock.specs.Framed.{AddsFrames}
 use Rattle.slot_lock.proofs.Listing.{adds_none, adds_one, adds_then, adds_same, framed_leaf}
@@ -9,7 +8,7 @@ use Rattle.radix_node.specs.declared.node.Slot.{Slot}
 use Rattle.radix_node.specs.declared.node.Slot.TheVariants.{Own as OwnSlot, Child}
 use Rattle.radix_node.specs.declared.state.SlotState.{SlotState}
 use Rattle.radix_node.specs.State.{state_of}
-use Rattle.radix_node.specs.Run.{Run, Cell, cell_at, width_of, IsSound}
+use Rattle.radix_node.specs.Run.{Run, Cell, cell_at, width_of, FitsWidth}
 use Rattle.radix_node.specs.Node.{Parts, runs, flatten}
 use Rattle.radix_node.specs.Slots.{parts_of, IsNode}
 use Rattle.radix_node.specs.Walk.{frames_from}
@@ -20,14 +19,6 @@ use Rattle.radix_node.proofs.Walks.{IsPart, reach, own_page, child_cell}
 -- the pages of the range up to a page are listed
 abbrev pub ListsTo : List Run → ℕ → ℕ → ℕ → ℕ → List Framed → List Framed → Type 0
 ListsTo rs base first end upto old new = AddsFrames (frames_from base rs) (base + first) (base + reach first end upto) old new
-
-pub list_first : (rs : List Run) (base first end upto : ℕ) (old : List Framed) → first < end → upto ≤ first → ListsTo rs base first end upto old old
-list_first rs base first end upto old some l = adds_none _ _ _ old (λ p a b. absurd (omega (arith, a, b)))
-
-pub list_all : (rs : List Run) (base first end upto : ℕ) (old new : List Framed) → first < end → end ≤ upto
-    → ListsTo rs base first end upto old new → AddsFrames (frames_from base rs) (base + first) (base + end) old new
-list_all rs base first end upto old new some l h = let to : base + reach first end upto ≡ base + end = omega arith in
-    subst (λ n. AddsFrames (frames_from base rs) (base + first) n old new) to h
 
 -- ---- a slot that is no child
 
@@ -65,7 +56,7 @@ is_one {level = level} {i = i} {f = f} {ss = ss} d s first end n l is low past h
     let pos = width_pos level in
     let c = (whole-node level ss n).cells (i * width_of level) (let q = part_ends (width_of level) i l in omega arith) in
     let sound =
-    subst (λ (c : Cell). IsSound c.width c.state)
+    subst (λ (c : Cell). FitsWidth c.width c.state)
     (own_page d s n l is (i * width_of level) (record { low = omega arith; high = omega arith }))
     c.sound in
     let wide = sound.alone (framed_leaf (state_of s).info f had) in

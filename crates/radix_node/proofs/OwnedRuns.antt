@@ -1,36 +1,26 @@
 -- Neighbouring slots that get another owner
-use Rattle.std.proofs.Common.{Box, suc, zero, ◌≡◌, ℕ, ◌+◌, ◌-◌, ◌*◌, ◌<◌, ◌≤◌, ⊎_elim, List, [], ◌∷◌, length, get_or, refl, sym, ap, ◌∙◌, subst, arith}
-use Rattle.std.specs.Prelude.{All}
+use Rattle.slot_lock.proofs.Words.{Box, suc, zero, ◌≡◌, ℕ, ◌+◌, ◌-◌, ◌*◌, ◌<◌, ◌≤◌, ⊎_elim, List, [], ◌∷◌, length, get_or, refl, sym, ap, ◌∙◌, subst, arith}
+use Rattle.slot_lock.proofs.Words.{All, mul-le-mul_right, cases_lt, length-map, map-set, set-get_or, get_or-set_same, All-set, All-get_or}
 use Rattle.std.proofs.Math.ListN.{set, length-set}
-use Rattle.std.proofs.Math.Nat.{mul-le-mul_right}
-use Rattle.std.proofs.lemmas.Bool.{cases_lt}
-use Rattle.std.proofs.lemmas.List.{length-map, map-set, set-get_or, set-set, get_or-set_same}
-use Rattle.std.proofs.lemmas.List.Elements.{All-set, All-get_or}
+use Rattle.std.proofs.lemmas.List.{set-set}
 use Rattle.radix_node.specs.declared.node.Node.{Node}
 use Rattle.radix_node.specs.declared.node.Slot.{Slot}
 use Rattle.radix_node.specs.declared.node.Slot.TheVariants.{Own as OwnSlot, Child}
 use Rattle.radix_node.specs.declared.own_run.Handover.{Handover}
 use Rattle.radix_node.specs.State.{State, state_of}
-use Rattle.radix_node.specs.Run.{Run, Cell, total, cell_at, with_run, in_state, width_of, IsSound}
+use Rattle.radix_node.specs.Run.{Run, Cell, total, cell_at, with_run, in_state, width_of, FitsWidth}
 use Rattle.radix_node.specs.Node.{Part, Below, Parts, runs_of, flatten, runs}
 use Rattle.radix_node.specs.Slots.{part_of, parts_of, IsNode}
 use Rattle.radix_node.specs.OwnedRuns.{OwnerChanges, HandsOver, GetsOwner, GetOwner}
 use Rattle.radix_node.proofs.Divided.{part_ends}
-use Rattle.radix_node.proofs.Flat.{IsWide, IsPlace, wide, width_pos, whole-node, cell_at-Own, cell_at-flatten, with_run-flatten, part_at, is_node-set, runs-Own}
-use Rattle.radix_node.proofs.Runs.{cell_at-here, cell_at-there, with_run-here, with_run-there}
+use Rattle.radix_node.proofs.Flat.{IsWide, IsPlace, wide, width_pos, whole-node, cell_at-Own, cell_at-flatten, with_run-flatten, part_at, is_node-set, runs-Own, spread}
+use Rattle.radix_node.proofs.Runs.{with_run-here, with_run-there, block}
 use Rattle.radix_node.proofs.Locks.{owner_sound}
-
-spread : (a b n : ℕ) → (a + b) * n ≡ a * n + b * n
-spread a b n = omega arith
 
 -- ---- lists of runs
 
 pub wide_cell : (rs : List Run) (page : ℕ) → 0 < (cell_at rs page).width
-wide_cell [] page = omega arith
-wide_cell (r ∷ rs) page = ⊎_elim
-    (λ (l : page < r.width). subst (λ (c : Cell). 0 < c.width) (sym (cell_at-here r rs page l)) (omega arith))
-    (λ (l : r.width ≤ page). subst (λ (c : Cell). 0 < c.width) (sym (cell_at-there r rs page l)) (wide_cell rs (page - r.width)))
-    (cases_lt page r.width)
+wide_cell rs page = let b = block rs page in subst (λ (c : Cell). 0 < c.width) (sym (b.cells page b.low b.high)) (omega (arith, b.low, b.high))
 
 total-in_state : (s : State) (rs : List Run) (page : ℕ) → total (with_run (in_state s) rs page) ≡ total rs
 total-in_state s [] page = refl
@@ -65,10 +55,10 @@ handed_sound {level = level} {k = k} {ss = ss} d s t owners n l is h =
     let cell = cell_at-Own d h.old n at (sym h.is_old ∙ is) in
     let within : k * width_of level < 512 * width_of level =
     omega (arith, part_ends (width_of level) k l, width_pos level) in
-    let was = subst (λ (x : Cell). IsSound x.width x.state) cell ((whole-node level ss n).cells (k * width_of level) within).sound in
+    let was = subst (λ (x : Cell). FitsWidth x.width x.state) cell ((whole-node level ss n).cells (k * width_of level) within).sound in
     subst (λ x. IsNode level (set ss k x)) (sym h.is_new)
     (is_node-set level k ss (OwnSlot h.new) n tt
-    (subst (λ (s : State). IsSound (width_of level) s) (sym h.change.now) (owner_sound (width_of level) (state_of h.old) owners.to was)))
+    (subst (λ (s : State). FitsWidth (width_of level) s) (sym h.change.now) (owner_sound (width_of level) (state_of h.old) owners.to was)))
 
 pub one_more : {A : Type 0} {level first k : ℕ} {ss : List (Slot A)} (d s t : Slot A) (rs : List Run) (owners : Handover)
     → IsNode level ss → first ≤ k → k < 512 → s ≡ get_or ss k d → HandsOver s t owners

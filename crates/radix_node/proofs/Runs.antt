@@ -1,9 +1,9 @@
 -- Lists of runs: the slot of a page, and a change of it
-use Rattle.std.proofs.Common.{if◌then◌else◌, nat_lt, ltb, inl, inr, ◌≡◌, ◌≢◌, ◌⊎◌, ⊎_elim, ℕ, ◌+◌, ◌-◌, ◌*◌, ◌^◌, ◌<◌, ◌≤◌, List, [], ◌∷◌}
-use Rattle.std.proofs.Common.{◌++◌, length, refl, sym, ap, ◌∙◌, subst, arith}
-use Rattle.std.proofs.lemmas.Bool.{cases_lt, lt-ltb, le-ltb}
+use Rattle.slot_lock.proofs.Words.{nat_lt, ◌≡◌, ⊎_elim, ℕ, ◌+◌, ◌-◌, ◌<◌, ◌≤◌, List, [], ◌∷◌, ◌++◌, refl, sym, ap, ◌∙◌, subst, arith, cases_lt}
+use Rattle.std.proofs.Common.{if◌then◌else◌, append_assoc}
+use Rattle.std.proofs.lemmas.Bool.{lt-ltb, le-ltb}
 use Rattle.std.proofs.lemmas.List.{append-nil}
-use Rattle.radix_node.specs.State.{State, no_state}
+use Rattle.radix_node.specs.State.{no_state}
 use Rattle.radix_node.specs.Run.{Run, Cell, total, cell_at, with_run, in_state}
 
 pub if_below : {X : Type 0} (a b : ℕ) (x y : X) → a < b → (if nat_lt a b then x else y) ≡ x
@@ -44,29 +44,99 @@ cell_at-right (x ∷ xs) ys page h =
 abbrev pub moved : Cell → ℕ → Cell
 moved c n = record { state = c.state; offset = n; width = c.width }
 
+-- ---- the run of a page
+
+-- the run that has the page, between those before it and those behind it
+pub record Around (rs : List Run) (page : ℕ) : Type 0 where
+  pub front : List Run
+  pub run : Run
+  pub back : List Run
+  pub is : rs ≡ front ++ run ∷ back
+  pub low : total front ≤ page
+  pub high : page < total front + run.width
+
+pub around : (rs : List Run) (page : ℕ) → page < total rs → Around rs page
+around [] page h = absurd (omega arith)
+around (r ∷ rs) page h = ⊎_elim
+    (λ (l : page < r.width). record { front = []; run = r; back = rs; is = refl; low = omega arith; high = omega arith })
+    (λ (l : r.width ≤ page).
+    let a = around rs (page - r.width) (omega arith) in
+    record {
+      front = r ∷ a.front;
+      run = a.run;
+      back = a.back;
+      is = ap (λ (xs : List Run). r ∷ xs) a.is;
+      low = omega (arith, a.low);
+      high = omega (arith, a.high);
+    })
+    (cases_lt page r.width)
+
+-- the slot of each page of that run
+pub around_cell : (rs : List Run) (page p : ℕ) (a : Around rs page) → total a.front ≤ p → p < total a.front + a.run.width
+    → cell_at rs p ≡ record { state = a.run.state; offset = p - total a.front; width = a.run.width }
+around_cell rs page p a low high = ap (λ qs. cell_at qs p) a.is ∙ cell_at-right a.front (a.run ∷ a.back) p low
+    ∙ cell_at-here a.run a.back (p - total a.front) (omega arith)
+
+-- a list begins with a slot's first page
+first_begins : (rs : List Run) → (cell_at rs 0).offset ≡ 0
+first_begins [] = refl
+first_begins (r ∷ rs) = ⊎_elim
+    (λ (l : 0 < r.width). ap (λ (c : Cell). c.offset) (cell_at-here r rs 0 l))
+    (λ (l : r.width ≤ 0).
+    let none : 0 - r.width ≡ 0 = omega arith in
+    ap (λ (c : Cell). c.offset) (cell_at-there r rs 0 l) ∙ ap (λ n. (cell_at rs n).offset) none ∙ first_begins rs)
+    (cases_lt 0 r.width)
+
+-- the pages of a page's slot, behind which another slot begins
+pub record Block (rs : List Run) (page : ℕ) : Type 0 where
+  pub start : ℕ
+  pub run : Run
+  pub low : start ≤ page
+  pub high : page < start + run.width
+  pub cells : (p : ℕ) → start ≤ p → p < start + run.width → cell_at rs p ≡ record { state = run.state; offset = p - start; width = run.width }
+  pub next : (cell_at rs (start + run.width)).offset ≡ 0
+
+pub block : (rs : List Run) (page : ℕ) → Block rs page
+block rs page = ⊎_elim (λ (l : page < total rs). within (around rs page l)) (λ (l : total rs ≤ page). past l) (cases_lt page (total rs))
+  where
+    within : Around rs page → Block rs page
+    within a = record {
+      start = total a.front;
+      run = a.run;
+      low = a.low;
+      high = a.high;
+      cells = λ p low high. around_cell rs page p a low high;
+      next =
+          let end : ℕ = total a.front + a.run.width in
+          let rest : end - total a.front - a.run.width ≡ 0 = omega arith in
+          ap (λ qs. (cell_at qs end).offset) a.is
+          ∙ ap (λ (c : Cell). c.offset) (cell_at-right a.front (a.run ∷ a.back) end (omega arith)
+          ∙ cell_at-there a.run a.back (end - total a.front) (omega arith))
+          ∙ ap (λ n. (cell_at a.back n).offset) rest ∙ first_begins a.back;
+    }
+
+    past : total rs ≤ page → Block rs page
+    past l = record {
+      start = page;
+      run = record { width = 1; state = no_state };
+      low = omega arith;
+      high = omega arith;
+      cells = λ p low high.
+          let none : 0 ≡ p - page = omega arith in
+          cell_at-past rs p (omega arith) ∙ ap (λ n. record { state = no_state; offset = n; width = 1 }) none;
+      next = ap (λ (c : Cell). c.offset) (cell_at-past rs (page + 1) (omega arith));
+    }
+
 -- a later page of the same slot
 pub cell_later : (rs : List Run) (page n : ℕ) → (cell_at rs page).offset + n < (cell_at rs page).width
     → cell_at rs (page + n) ≡ moved (cell_at rs page) ((cell_at rs page).offset + n)
-cell_later [] page n h = let z : 0 ≡ 0 + n = omega arith in ap (moved (cell_at [] page)) z
-cell_later (r ∷ rs) page n h = ⊎_elim (λ (l : page < r.width). here l h)
-    (λ (l : r.width ≤ page). there (cell_later rs (page - r.width) n) l h) (cases_lt page r.width)
-  where
-    here : page < r.width → (cell_at (r ∷ rs) page).offset + n < (cell_at (r ∷ rs) page).width
-        → cell_at (r ∷ rs) (page + n) ≡ moved (cell_at (r ∷ rs) page) ((cell_at (r ∷ rs) page).offset + n)
-    here l h =
-        let e = cell_at-here r rs page l in
-        let m : page + n < r.width = subst (λ (c : Cell). c.offset + n < c.width) e h in
-        cell_at-here r rs (page + n) m ∙ ap (λ (c : Cell). moved c (c.offset + n)) (sym e)
-
-    there : ((cell_at rs (page - r.width)).offset + n < (cell_at rs (page - r.width)).width → cell_at rs (page - r.width + n) ≡ moved
-        (cell_at rs (page - r.width)) ((cell_at rs (page - r.width)).offset + n))
-        → r.width ≤ page → (cell_at (r ∷ rs) page).offset + n < (cell_at (r ∷ rs) page).width
-        → cell_at (r ∷ rs) (page + n) ≡ moved (cell_at (r ∷ rs) page) ((cell_at (r ∷ rs) page).offset + n)
-    there below l h =
-        let e = cell_at-there r rs page l in
-        let m = subst (λ (c : Cell). c.offset + n < c.width) e h in
-        let k : page + n - r.width ≡ page - r.width + n = omega arith in
-        cell_at-there r rs (page + n) (omega arith) ∙ ap (cell_at rs) k ∙ below m ∙ ap (λ (c : Cell). moved c (c.offset + n)) (sym e)
+cell_later rs page n h =
+    let b = block rs page in
+    let e = b.cells page b.low b.high in
+    let m : page - b.start + n < b.run.width = subst (λ (c : Cell). c.offset + n < c.width) e h in
+    let k : page + n - b.start ≡ page - b.start + n = omega (arith, b.low) in
+    b.cells (page + n) (omega (arith, b.low)) (omega (arith, b.low))
+    ∙ ap (λ o. record { state = b.run.state; offset = o; width = b.run.width }) k ∙ ap (λ (c : Cell). moved c (c.offset + n)) (sym e)
 
 -- ---- a change of one slot
 
@@ -75,10 +145,6 @@ with_run-here f r rs page h = if_below page r.width _ _ h
 
 pub with_run-there : (f : Run → List Run) (r : Run) (rs : List Run) (page : ℕ) → r.width ≤ page → with_run f (r ∷ rs) page ≡ r ∷ with_run f rs (page - r.width)
 with_run-there f r rs page h = if_from page r.width _ _ h
-
-append_assoc : (xs ys zs : List Run) → (xs ++ ys) ++ zs ≡ xs ++ (ys ++ zs)
-append_assoc [] ys zs = refl
-append_assoc (x ∷ xs) ys zs = ap (λ (l : List Run). x ∷ l) (append_assoc xs ys zs)
 
 pub with_run-left : (f : Run → List Run) (xs ys : List Run) (page : ℕ) → page < total xs → with_run f (xs ++ ys) page ≡ with_run f xs page ++ ys
 with_run-left f [] ys page h = absurd (omega arith)

@@ -1,21 +1,18 @@
 -- Walks over the slots of a node
-use Rattle.std.proofs.Common.{Box, suc, zero, ◌^◌, ◌≡◌, ◌≢◌, ℕ, ◌+◌, ◌-◌, ◌*◌, ◌<◌, ◌≤◌, ◌||◌, ◌↔◌, ◌⊎◌, inl, inr, ⊎_elim, Bool, true}
-use Rattle.std.proofs.Common.{false, Option, Some, None, is_some, List, get_or, min, max, refl, sym, ap, ◌∙◌, subst, arith}
-use Rattle.std.proofs.lemmas.Bool.{cases_lt}
-use Rattle.std.proofs.Math.Nat.{mul-le-mul_right}
-use Rattle.vm_base.specs.declared.info.PageInfo.{PageInfo}
-use Rattle.vm_base.specs.Cores.{members}
-use Rattle.vm_base.specs.Info.{is_recorded, frame_of}
+use Rattle.slot_lock.proofs.Words.{Box, ◌^◌, ◌≡◌, ℕ, ◌+◌, ◌-◌, ◌*◌, ◌<◌, ◌≤◌, ◌||◌, ◌↔◌, ◌⊎◌, inl, inr, ⊎_elim, Bool, true, false, None, is_some, List}
+use Rattle.slot_lock.proofs.Words.{get_or, min, max, refl, sym, ap, ◌∙◌, subst, arith, cases_lt, mul-le-mul_right, members, is_recorded}
 use Rattle.radix_node.specs.declared.node.Node.{Node}
 use Rattle.radix_node.specs.declared.node.Slot.{Slot}
 use Rattle.radix_node.specs.declared.node.Slot.TheVariants.{Own as OwnSlot, Child}
 use Rattle.radix_node.specs.declared.state.SlotState.{SlotState}
-use Rattle.radix_node.specs.State.{State, state_of}
+use Rattle.radix_node.specs.State.{state_of}
 use Rattle.radix_node.specs.Run.{Run, Cell, cell_at, width_of}
 use Rattle.radix_node.specs.Node.{Parts, runs, flatten}
 use Rattle.radix_node.specs.Slots.{parts_of, IsNode}
-use Rattle.radix_node.specs.Walk.{HasUser, Blocked, IsOpen, IsFree, Finds}
+use Rattle.radix_node.specs.Walk.{HasUser, Blocked, IsOpen, HasFreeRun}
 use Rattle.radix_node.proofs.Flat.{IsPlace, cell_at-Own, cell_at-Child, child_level, child_pages, width_pos}
+use Rattle.radix_node.proofs.Joined.{width_most}
+use Rattle.slot_lock.proofs.Facts.{none_of, either_left, either_right}
 
 -- ---- the pages of one slot
 
@@ -77,20 +74,13 @@ pub along_done : {level first end k to width : ℕ} → Along level first end k 
 along_done {level} {first} {end} {k} {to} h l =
     omega (arith, mul-le-mul_right (width_of level) l, h.to_high)
 
-width_small : (level : ℕ) → level ≤ 3 → width_of level ≤ 2 ^ 27
-width_small zero h = omega arith
-width_small (suc zero) h = omega arith
-width_small (suc (suc zero)) h = omega arith
-width_small (suc (suc (suc zero))) h = omega arith
-width_small (suc (suc (suc (suc l)))) h = absurd (omega arith)
-
 pub slot_small : {level first end k to width : ℕ} → Along level first end k to width → k < to
     → k * width_of level + width_of level ≤ 2 ^ 36
 slot_small {level} {first} {end} {k} {to} h l =
     omega (
       arith,
       mul-le-mul_right (width_of level) (let q : k + 1 ≤ 512 = omega (arith, h.last) in q),
-      width_small level h.low,
+      width_most level h.low,
     )
 
 -- the slot that is next is one of the node's
@@ -149,23 +139,6 @@ pub record Users (rs : List Run) (first end upto cores : ℕ) : Type 0 where
   pub only : (core : ℕ) → members cores core ≡ true → HasUser rs first end core
   pub all : (core p : ℕ) → first ≤ p → p < end → p < upto
       → is_recorded (cell_at rs p).state.info core ≡ true → members cores core ≡ true
-
-two : (b : Bool) → b ≡ false → b ≡ true → ⊥
-two b e f = cc
-
-pub users_first : (rs : List Run) (first end upto cores : ℕ) → upto ≤ first
-    → ((core : ℕ) → members cores core ≡ false) → Users rs first end upto cores
-users_first rs first end upto cores l none = record {
-  only = λ core h. absurd (two _ (none core) h);
-  all = λ core p a b c h. absurd (omega arith);
-}
-
-either_left : (a b : Bool) → a ≡ true → a || b ≡ true
-either_left a b e = rw e refl
-
-either_right : (a b : Bool) → b ≡ true → a || b ≡ true
-either_right true b e = refl
-either_right false b e = e
 
 either : (a b : Bool) → a || b ≡ true → (a ≡ true) ⊎ (b ≡ true)
 either true b e = inl refl
@@ -261,21 +234,6 @@ pub record FreeTo (rs : List Run) (base first end n start open_at upto : ℕ) : 
 abbrev pub reach : ℕ → ℕ → ℕ → ℕ
 reach first end start = min end (max first start)
 
-pub free_first : (rs : List Run) (base first end n start upto : ℕ) → first < end → upto ≤ first
-    → start ≤ base + first → base + first < start + n
-    → FreeTo rs base first end n start start (reach first end upto)
-free_first rs base first end n start upto some l by short = record {
-  low = omega arith;
-  by = omega arith;
-  short = omega arith;
-  free = λ p a b c. absurd (omega arith);
-  before = λ r a b. absurd (omega arith);
-}
-
-none_is : (o : Option PageInfo) → is_some o ≡ false → o ≡ None
-none_is None e = refl
-none_is (Some info) e = cc
-
 pub free_mapped : {A : Type 0} {level i : ℕ} {ss : List (Slot A)} (d : Slot A) (s : SlotState) (base first end lo hi n start open_at : ℕ)
     → IsNode level ss → i < 512 → OwnSlot s ≡ get_or ss i d
     → IsPart first end (i * width_of level) (width_of level) lo hi → lo < hi
@@ -322,7 +280,7 @@ own_free {level = level} {i = i} d s base first end lo hi n start open_at nd l i
     ⊎_elim
     (λ (x : p < i * width_of level + lo). h.free p a x c)
     (λ (x : i * width_of level + lo ≤ p). ap (λ (c : Cell). c.state.info)
-    (own_page d s nd l is p (record { low = omega arith; high = omega (arith, part.end_is) })) ∙ none_is _ none)
+    (own_page d s nd l is p (record { low = omega arith; high = omega (arith, part.end_is) })) ∙ none_of _ none)
     (cases_lt p (i * width_of level + lo))
 
 pub free_on : {A : Type 0} {level i : ℕ} {ss : List (Slot A)} (d : Slot A) (s : SlotState) (base first end lo hi n start open_at : ℕ)
@@ -345,7 +303,7 @@ pub free_found : {A : Type 0} {level i : ℕ} {ss : List (Slot A)} (d : Slot A) 
     → IsPart first end (i * width_of level) (width_of level) lo hi
     → is_some (state_of s).info ≡ false → n ≤ base + i * width_of level + hi - open_at
     → FreeTo (flatten (width_of level) (parts_of ss)) base first end n start open_at (i * width_of level + lo)
-    → IsFree (flatten (width_of level) (parts_of ss)) base first end n start open_at
+    → HasFreeRun (flatten (width_of level) (parts_of ss)) base first end n start open_at
 free_found {level = level} {i = i} d s base first end lo hi n start open_at nd l is part none enough h =
     record {
       low = h.low;
@@ -415,9 +373,9 @@ pub free_found_below : {A : Type 0} {level i : ℕ} {ss : List (Slot A)} (d : Sl
     (base first end lo hi n start open_at here : ℕ)
     → IsNode level ss → i < 512 → Child b ≡ get_or ss i d
     → v ≡ b.value → IsPart first end (i * width_of level) (width_of level) lo hi
-    → IsFree (runs v) (base + i * width_of level) lo hi n open_at here
+    → HasFreeRun (runs v) (base + i * width_of level) lo hi n open_at here
     → FreeTo (flatten (width_of level) (parts_of ss)) base first end n start open_at (i * width_of level + lo)
-    → IsFree (flatten (width_of level) (parts_of ss)) base first end n start here
+    → HasFreeRun (flatten (width_of level) (parts_of ss)) base first end n start here
 free_found_below {level = level} {i = i} d b v base first end lo hi n start open_at here nd l is same part o h =
     let s =
     says d b v base first end lo hi n start open_at here nd l is same part o.low o.free o.before h

@@ -5,7 +5,7 @@ use Rattle.vm_base.specs.Info.{info_from, info_with_prot}
 use Rattle.radix_node.specs.declared.edit.Edit.{Edit}
 use Rattle.radix_node.specs.declared.edit.Edit.TheVariants.{Put, Protect}
 use Rattle.radix_node.specs.State.{State}
-use Rattle.radix_node.specs.Run.{Cell, cell_at, width_of, IsSound, IsWhole}
+use Rattle.radix_node.specs.Run.{Cell, cell_at, width_of, FitsWidth, IsWhole}
 use Rattle.radix_node.specs.Node.{Parts, runs}
 
 -- what a page has after a change of a range that begins so many pages before it
@@ -24,7 +24,7 @@ edited_cell edit n c =
 
 -- the change can be made of a range of so many pages
 abbrev pub CanEdit : Edit → ℕ → Type 0
-CanEdit (Put info) n = IsSound n (record { info = info; owner = None })
+CanEdit (Put info) n = FitsWidth n (record { info = info; owner = None })
 CanEdit (Protect prot) n = Unit {0}
 
 -- a node's pages from one up to another are changed, as those of a range that begins `by` pages

@@ -1,5 +1,5 @@
 -- An attempt to lock a slot
-use Rattle.std.specs.Prelude.{◌≡◌, ℕ, ◌<◌, ◌≤◌, Option, None, Some}
+use Rattle.std.specs.Prelude.{◌≡◌, ℕ, ◌<◌, ◌≤◌, None, Some}
 use Rattle.radix_node.specs.declared.lock.Lock.{Lock}
 use Rattle.radix_node.specs.declared.lock.Lock.TheVariants.{Held, Before, Beyond, Locked}
 use Rattle.radix_node.specs.State.{State}

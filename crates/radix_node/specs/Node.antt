@@ -3,7 +3,7 @@ use Rattle.std.specs.Prelude.{◌≡◌, ℕ, ◌-◌, ◌*◌, List, [], ◌∷
 use Rattle.std.specs.Prelude.{slice_get}
 use Rattle.std.specs.List.{range_with_len}
 use Rattle.radix_node.specs.State.{State, state_from, IsPlain}
-use Rattle.radix_node.specs.Run.{Run, width_of, divided, IsCarried, IsSound, IsWhole}
+use Rattle.radix_node.specs.Run.{Run, width_of, divided, IsCarried, FitsWidth, IsWhole}
 
 pub data Part : Type 0 where
   Own : State → Part
@@ -37,9 +37,9 @@ owns_divided w s = owns w s 512
 abbrev pub node_of : ℕ → State → Parts
 node_of level s = record { level = level; parts = owns_divided (width_of level) s }
 
-abbrev pub IsPart : ℕ → Part → Type 0
-IsPart level (Own s) = IsSound (width_of level) s
-IsPart level (Below rs) = IsWhole (level - 1) (width_of level) rs
+abbrev pub IsSoundPart : ℕ → Part → Type 0
+IsSoundPart level (Own s) = FitsWidth (width_of level) s
+IsSoundPart level (Below rs) = IsWhole (level - 1) (width_of level) rs
 
 -- the slot is no child
 abbrev pub IsOwn : Option Part → Type 0
@@ -61,7 +61,7 @@ pub record Expands (old new : Parts) (slot : ℕ) : Type 0 where
   pub parts : new.parts ≡ slice_set old.parts slot (Below (divided (width_of (old.level - 1)) state))
 
 -- the slot is a child whose slots are no children and plain, and carry on what the first says
-pub record CanFold (v : Parts) (slot : ℕ) (s : State) : Type 0 where
+pub record CanFoldSlot (v : Parts) (slot : ℕ) (s : State) : Type 0 where
   pub plain : IsPlain s
   pub below : List Run
   pub child : slice_get v.parts slot ≡ Some (Below below)

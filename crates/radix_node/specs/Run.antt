@@ -63,14 +63,14 @@ IsCarried w s rs =
     → cell_at rs (k * w) ≡ record { state = state_from s (k * w); offset = 0; width = w }
 
 -- 512 plain slots that carry on what their first says were joined to one
-pub record Folds (old new : List Run) (page : ℕ) : Type 0 where
+pub record FoldsRuns (old new : List Run) (page : ℕ) : Type 0 where
   pub plain : IsPlain (cell_at new page).state
   pub large : 1 < (cell_at new page).width
   pub parts : old ≡ with_run in_parts new page
 
 -- A node of a lower level than this, which has the page, has no child, and its slots are plain and
 -- carry on what the first says
-pub record CanJoin (level : ℕ) (rs : List Run) (page : ℕ) : Type 0 where
+pub record CanFoldRuns (level : ℕ) (rs : List Run) (page : ℕ) : Type 0 where
   pub own_level : ℕ
   pub low : own_level < level
   pub state : State
@@ -87,7 +87,7 @@ pub record CanJoin (level : ℕ) (rs : List Run) (page : ℕ) : Type 0 where
 
 -- the file pages of its pages are numbers, and only a slot of one page has a frame or a recorded
 -- core
-pub record IsSound (width : ℕ) (s : State) : Type 0 where
+pub record FitsWidth (width : ℕ) (s : State) : Type 0 where
   pub fits : info_file_page s.info + width ≤ 2 ^ 36
   pub alone : is_leaf s.info ≡ true → width ≡ 1
 
@@ -103,7 +103,7 @@ pub record IsCell (level page : ℕ) (c : Cell) : Type 0 where
   pub width_is : c.width ≡ width_of (level_of c.width)
   pub place : page ≡ page / c.width * c.width + c.offset
   pub within : c.offset < c.width
-  pub sound : IsSound c.width c.state
+  pub sound : FitsWidth c.width c.state
 
 -- so many pages, all in slots of levels up to this one
 pub record IsWhole (level pages : ℕ) (rs : List Run) : Type 0 where

@@ -3,7 +3,7 @@ use Rattle.std.specs.Prelude.{◌≡◌, ℕ, ◌+◌, ◌≤◌, List, length, 
 use Rattle.radix_node.specs.declared.node.Slot.{Slot}
 use Rattle.radix_node.specs.declared.node.Slot.TheVariants.{Own as OwnSlot, Child}
 use Rattle.radix_node.specs.State.{state_of}
-use Rattle.radix_node.specs.Node.{Part, Own, Below, runs, IsPart}
+use Rattle.radix_node.specs.Node.{Part, Own, Below, runs, IsSoundPart}
 
 abbrev pub part_of : {A : Type 0} → Slot A → Part
 part_of (OwnSlot s) = Own (state_of s)
@@ -21,4 +21,4 @@ pub record IsNode {A : Type 0} (level : ℕ) (slots : List (Slot A)) : Type 0 wh
   pub low : level ≤ 3
   pub full : length slots ≡ 512
   pub lower : All (IsLower level) slots
-  pub fit : All (IsPart level) (parts_of slots)
+  pub fit : All (IsSoundPart level) (parts_of slots)

@@ -1,5 +1,5 @@
 -- Each child is of a lower level
-use Rattle.std.specs.Prelude.{◌≡◌, ℕ, ◌+◌, ◌≤◌, max, List, [], ◌∷◌, All}
+use Rattle.std.specs.Prelude.{ℕ, ◌≤◌, max, List, [], ◌∷◌, All}
 use Rattle.std.proofs.Common.{arith}
 use Rattle.std.proofs.lemmas.List.Elements.{All-head, All-tail}
 use denote.Param.Weighed.{most}

@@ -14,11 +14,11 @@ pub record State : Type 0 where
   pub owner : Option ℕ
 
 -- what backs a page, by its kind, a file and a page of the file
-abbrev pub back_of : Kind → ℕ → ℕ → Option Back
-back_of Unmapped file page = None
-back_of Zeros file page = Some Anon
-back_of OfFile file page = Some (Shared file page)
-back_of Copies file page = Some (Private file page)
+abbrev pub backing_of : Kind → ℕ → ℕ → Option Back
+backing_of Unmapped file page = None
+backing_of Zeros file page = Some Anon
+backing_of OfFile file page = Some (Shared file page)
+backing_of Copies file page = Some (Private file page)
 
 abbrev pub frame_in : Bool → ℕ → Option ℕ
 frame_in false frame = None
@@ -35,7 +35,7 @@ info_in (Some back) s =
     })
 
 abbrev pub state_of : SlotState → State
-state_of s = record { info = info_in (back_of s.kind s.file s.file_page) s; owner = s.owner }
+state_of s = record { info = info_in (backing_of s.kind s.file s.file_page) s; owner = s.owner }
 
 abbrev pub no_state : State
 no_state = record { info = None; owner = None }

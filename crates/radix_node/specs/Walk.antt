@@ -1,5 +1,5 @@
 -- What is found on the pages of a range
-use Rattle.std.specs.Prelude.{◌≡◌, ℕ, ◌+◌, ◌-◌, ◌<◌, ◌≤◌, true, is_some, Option, None, Some, List}
+use Rattle.std.specs.Prelude.{◌≡◌, ℕ, ◌+◌, ◌-◌, ◌<◌, ◌≤◌, true, is_some, Option, None, List}
 use Rattle.vm_base.specs.Info.{frame_of, is_recorded}
 use Rattle.radix_node.specs.declared.walk.FreeRun.{FreeRun}
 use Rattle.radix_node.specs.declared.walk.FreeRun.TheVariants.{Found, Open}
@@ -32,13 +32,13 @@ pub record IsOpen (rs : List Run) (base first end n start here : ℕ) : Type 0 w
 
 -- the n pages from here on are free as far as they lie in the range; from start up to here no n
 -- free pages begin
-pub record IsFree (rs : List Run) (base first end n start here : ℕ) : Type 0 where
+pub record HasFreeRun (rs : List Run) (base first end n start here : ℕ) : Type 0 where
   pub low : start ≤ here
   pub high : here + n ≤ base + end
   pub free : (p : ℕ) → first ≤ p → p < end → here ≤ base + p → base + p < here + n
       → (cell_at rs p).state.info ≡ None
   pub before : (r : ℕ) → start ≤ r → r < here → Blocked rs base first end n r
 
-abbrev pub Finds : List Run → ℕ → ℕ → ℕ → ℕ → ℕ → FreeRun → Type 0
-Finds rs base first end n start (Found here) = IsFree rs base first end n start here
-Finds rs base first end n start (Open here) = IsOpen rs base first end n start here
+abbrev pub FindsRun : List Run → ℕ → ℕ → ℕ → ℕ → ℕ → FreeRun → Type 0
+FindsRun rs base first end n start (Found here) = HasFreeRun rs base first end n start here
+FindsRun rs base first end n start (Open here) = IsOpen rs base first end n start here

@@ -4,10 +4,10 @@ ghost use Rattle.std.specs.Prelude.{IfNone, IsTrue, ◌↔◌, false, Some, slic
 ghost use Rattle.vm_base.specs.Info.{is_leaf, info_file_page};
 ghost use Rattle.radix_node.specs.State.{State, state_of, state_from, no_state, IsPlain};
 ghost use Rattle.radix_node.specs.Run.{width_of, Run, cell_at, with_run, in_state, in_parts, divided};
-ghost use Rattle.radix_node.specs.Run.{CanJoin, Folds, IsCarried, IsSound, IsWhole};
+ghost use Rattle.radix_node.specs.Run.{CanFoldRuns, FoldsRuns, IsCarried, FitsWidth, IsWhole};
 ghost use Rattle.radix_node.specs.Slots.{part_of};
 ghost use Rattle.radix_node.specs.Node.{runs, node_of, owns_divided, Own, Below, Expands, IsOwn};
-ghost use Rattle.radix_node.specs.Node.{IsBelow, CanFold, FoldsSlot};
+ghost use Rattle.radix_node.specs.Node.{IsBelow, CanFoldSlot, FoldsSlot};
 
 use crate::place::{SLOTS, place_of, slot_pages};
 use crate::state::SlotState;
@@ -112,7 +112,7 @@ impl<A: Allocator> Node<A> {
     fn joined(&self) -> Option<SlotState>
         ensures some { IfSome result (λ s. IsPlain (state_of s)
             × (self.now.parts ≡ owns_divided (width_of self.now.level) (state_of s))) }
-        ensures sound { IfSome result (λ s. IsSound (512 * width_of self.now.level) (state_of s)) }
+        ensures sound { IfSome result (λ s. FitsWidth (512 * width_of self.now.level) (state_of s)) }
         ensures none { IfNone result ((s : State) → IsPlain s → ¬ IsCarried (width_of self.now.level) s
             (runs self.now)) }
     {
@@ -141,7 +141,7 @@ impl<A: Allocator> Node<A> {
         ensures whole { IsWhole self.new.level (512 * width_of self.new.level) (runs self.new) }
         ensures folded { IsTrue result → FoldsSlot self.old self.new slot }
         ensures same { ¬ IsTrue result → self.new ≡ self.old }
-        ensures only { ¬ IsTrue result → (s : State) → ¬ CanFold self.old slot s }
+        ensures only { ¬ IsTrue result → (s : State) → ¬ CanFoldSlot self.old slot s }
     {
         let joined = match &self.slots[slot] {
             Slot::Own(_) => return false,
@@ -167,9 +167,9 @@ impl<A: Allocator> Node<A> {
         requires { page < 512 * width_of self.old.level }
         ensures level { self.new.level ≡ self.old.level }
         ensures whole { IsWhole self.new.level (512 * width_of self.new.level) (runs self.new) }
-        ensures folded { IsTrue result → Folds (runs self.old) (runs self.new) page }
+        ensures folded { IsTrue result → FoldsRuns (runs self.old) (runs self.new) page }
         ensures same { ¬ IsTrue result → self.new ≡ self.old }
-        ensures only { ¬ IsTrue result → ¬ CanJoin self.old.level (runs self.old) page }
+        ensures only { ¬ IsTrue result → ¬ CanFoldRuns self.old.level (runs self.old) page }
     {
         let place = place_of(self.level, page);
         match &mut self.slots[place.slot] {

@@ -31,7 +31,7 @@ pub struct OwnedRun {
 
 impl SlotState {
     /// Gives the slot another owner, where it is one of those that get one. Answers whether it is.
-    pub fn hand_over(&mut self, owners: &Handover) -> bool
+    pub(crate) fn hand_over(&mut self, owners: &Handover) -> bool
         ensures changes { IsTrue result → OwnerChanges (state_of self.old) (state_of self.new) owners.now }
         ensures same { ¬ IsTrue result → self.new ≡ self.old }
     {

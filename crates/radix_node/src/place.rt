@@ -23,7 +23,7 @@ pub fn slot_pages(level: u8) -> u64
 
 /// The place of a page in a node of the level, whose pages are counted from 0.
 #[inline(always)]
-pub fn place_of(level: u8, page: u64) -> Place
+pub(crate) fn place_of(level: u8, page: u64) -> Place
     requires level { level ≤ 3 }
     requires within { page < 512 * width_of level }
     ensures slot { result.slot < 512 }
@@ -48,7 +48,7 @@ pub struct SlotSpan {
 /// The slots of a node of the level that have the pages from `first` up to `end`, which are counted
 /// from the node's first.
 #[inline(always)]
-pub fn slots_of(level: u8, first: u64, end: u64) -> SlotSpan
+pub(crate) fn slots_of(level: u8, first: u64, end: u64) -> SlotSpan
     requires level { level ≤ 3 }
     requires some { first < end }
     requires within { end ≤ 512 * width_of level }
@@ -73,7 +73,7 @@ pub struct Part {
 
 /// The pages from `first` up to `end` that a slot of so many pages has which begins at `start`.
 #[inline(always)]
-pub fn part_in(first: u64, end: u64, start: u64, width: u64) -> Part
+pub(crate) fn part_in(first: u64, end: u64, start: u64, width: u64) -> Part
     requires some { first < end }
     requires starts { start < end }
     requires ends { first < start + width }

@@ -5,7 +5,7 @@ ghost use Rattle.vm_base.specs.Cores.{members};
 ghost use Rattle.vm_base.specs.Info.{file_page, info_file_page, info_from, info_with_prot};
 ghost use Rattle.vm_base.specs.Info.{is_leaf, frame_of, is_recorded};
 ghost use Rattle.radix_node.specs.Edit.{CanEdit, edited};
-ghost use Rattle.radix_node.specs.State.{back_of, frame_in, state_of, state_from, IsPlain};
+ghost use Rattle.radix_node.specs.State.{backing_of, frame_in, state_of, state_from, IsPlain};
 
 use crate::edit::Edit;
 use vm_base::{Back, CoreId, CoreSet, Meta, PageInfo, Prot, goes_on, info_from, is_leaf};
@@ -41,7 +41,7 @@ pub struct SlotState {
 
 // A backing as its kind, the file, and the page in it.
 fn parts_of(back: Back) -> (Kind, u32, u64)
-    ensures back { back_of result.0 result.1 result.2 ≡ Some back }
+    ensures back { backing_of result.0 result.1 result.2 ≡ Some back }
     ensures page { result.2 ≡ file_page back }
 {
     match back {
@@ -106,7 +106,7 @@ impl SlotState {
 
     // What backs the slot's first page.
     fn back(&self) -> Option<Back>
-        ensures { result ≡ back_of self.now.kind self.now.file self.now.file_page }
+        ensures { result ≡ backing_of self.now.kind self.now.file self.now.file_page }
     {
         match self.kind {
             Kind::Unmapped => None,

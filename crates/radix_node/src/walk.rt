@@ -6,7 +6,7 @@ ghost use Rattle.arrayvec.specs.ArrayVec.{array_vec_len};
 ghost use Rattle.slot_lock.specs.Framed.{AddsFrames};
 ghost use Rattle.radix_node.specs.Run.{width_of};
 ghost use Rattle.radix_node.specs.Node.{runs};
-ghost use Rattle.radix_node.specs.Walk.{HasUser, Finds, frames_from};
+ghost use Rattle.radix_node.specs.Walk.{HasUser, FindsRun, frames_from};
 
 use crate::node::{Node, Slot};
 use crate::place::{part_in, slot_pages, slots_of};
@@ -93,7 +93,7 @@ impl<A: Allocator> Node<A> {
         requires fits { base + 512 * width_of self.now.level ≤ 2 ^ 36 }
         requires by { start ≤ base + first }
         requires short { base + first < start + n }
-        ensures { Finds (runs self.now) base first end n start result }
+        ensures { FindsRun (runs self.now) base first end n start result }
     {
         let width = slot_pages(self.level);
         let slots = slots_of(self.level, first, end);

@@ -1,31 +1,18 @@
 -- A change of the pages of a range
-use Rattle.std.proofs.Common.{◌≡◌, ◌≢◌, ℕ, ◌+◌, ◌-◌, ◌*◌, ◌^◌, ◌<◌, ◌≤◌, ◌==◌, ◌⊎◌, inl, inr, ⊎_elim, Bool, true, false, cond, Option, Some}
-use Rattle.std.proofs.Common.{None, List, refl, sym, ◌∙◌, ap, arith}
-use Rattle.std.proofs.lemmas.Bool.{cases_lt}
-use Rattle.vm_base.specs.declared.page.PageRange.{PageRange}
-use Rattle.vm_base.specs.declared.info.PageInfo.{PageInfo}
-use Rattle.vm_base.specs.declared.info.Meta.{Meta}
-use Rattle.vm_base.specs.declared.rights.Prot.{Prot}
-use Rattle.vm_base.specs.Functions.{has}
-use Rattle.vm_base.specs.Pages.{IsPage, IsPageRange}
-use Rattle.vm_base.specs.Info.{file_page, frame_of, info_from, info_file_page, info_with_prot, info_without_frame, is_leaf, unused}
-use Rattle.vm_base.proofs.Functions.{by_test, has_in}
-use Rattle.slot_lock.specs.declared.plan.Change.{Change}
-use Rattle.slot_lock.specs.declared.plan.Change.TheVariants as ChangeOf
-use Rattle.slot_lock.specs.Plan.{IsSoundChange, range_of, FitsFile}
-use Rattle.slot_lock.specs.Slots.{Slots, IsCut, HasMeta, between, with_info}
-use Rattle.slot_lock.specs.ListLaws.{info_from_twice, info_from_zero, from_test}
+use Rattle.slot_lock.proofs.Words.{◌≡◌, ◌≢◌, ℕ, ◌+◌, ◌-◌, ◌<◌, ◌≤◌, ◌==◌, ◌⊎◌, ⊎_elim, Bool, true, false, cond, Option, List, refl, sym, ◌∙◌, ap, arith}
+use Rattle.slot_lock.proofs.Words.{cases_lt, PageRange, PageInfo, has, info_from, by_test, has_in, eq_true}
+use Rattle.slot_lock.specs.Slots.{Slots, between, with_info}
+use Rattle.slot_lock.proofs.ListLaws.{info_from_twice}
 use Rattle.slot_lock.proofs.Edits.{has_not, has_one, same_slots}
+use Rattle.slot_lock.proofs.Changes.{prot_from}
 use Rattle.radix_node.specs.declared.edit.Edit.{Edit}
 use Rattle.radix_node.specs.declared.edit.Edit.TheVariants.{Put, Protect}
-use Rattle.radix_node.specs.Edit.{CanEdit, edited_info, edited_cell}
-use Rattle.radix_node.specs.Run.{Run, Cell, cell_at, width_of, IsWhole}
+use Rattle.radix_node.specs.Edit.{edited_info, edited_cell}
+use Rattle.radix_node.specs.Run.{Run, Cell, cell_at}
 use Rattle.radix_node.specs.Node.{Parts, runs}
-use Rattle.radix_node.proofs.Runs.{moved}
-use Rattle.radix_range.specs.Tree.{run_slots, tree_slots, IsRadix}
-use Rattle.radix_range.specs.TreeLaws.{tree-is_slot_map, cell_ok}
+use Rattle.radix_range.specs.Tree.{run_slots, tree_slots}
 use Rattle.radix_range.specs.Found.{edited_to}
-use Rattle.radix_range.specs.Cells.{cell_earlier}
+use Rattle.radix_range.proofs.Cells.{cell_earlier}
 
 -- the cells of a list whose range was changed
 pub record IsEdited (rs qs : List Run) (range : PageRange) (edit : Edit) : Type 0 where
@@ -41,10 +28,6 @@ starts_in rs first p begins low = ⊎_elim
     absurd (omega (arith, e, begins)))
     (λ (l : (cell_at rs p).offset ≤ p - first). l)
     (cases_lt (p - first) (cell_at rs p).offset)
-
-prot_from : (prot : Prot) (o : Option PageInfo) (n : ℕ) → info_from (info_with_prot prot o) n ≡ info_with_prot prot (info_from o n)
-prot_from prot None n = refl
-prot_from prot (Some info) n = refl
 
 -- a page of a slot that was changed
 edited_from : (edit : Edit) (n offset : ℕ) (o : Option PageInfo) → offset ≤ n
@@ -70,22 +53,9 @@ edited_slots rs qs range edit h begins = same_slots _ _
     same f stays p true e = let b = has_in range p e in ap f (h.inside p b.0 b.1) ∙ stays p b.0 b.1
     same f stays p false e = ap f (h.outside p (has_not range p e))
 
-pub edited_radix : (v u : Parts) → IsRadix v → (range : PageRange) (edit : Edit) → IsPageRange range
-    → IsEdited (runs v) (runs u) range edit → u.level ≡ v.level → IsWhole u.level (512 * width_of u.level) (runs u) → IsRadix u
-edited_radix v u ok range edit pages h same whole = record {
-  top = same ∙ ok.top;
-  whole = whole;
-  outside = λ p not. ap (λ (c : Cell). c.state) (h.outside p (out p not)) ∙ ok.outside p not;
-}
-  where
-    out : (p : ℕ) → ¬ IsPage p → (p < range.first) ⊎ (range.end ≤ p)
-    out p not = ⊎_elim (λ (l : p < range.first). inl l)
-        (λ (l : range.first ≤ p). ⊎_elim (λ (m : p < range.end). absurd (not (omega (arith, pages.low), omega (arith, pages.high))))
-        (λ (m : range.end ≤ p). inr m) (cases_lt p range.end)) (cases_lt p range.first)
-
 -- an edge of a slot begins it
 pub begins_at : (v : Parts) (p : ℕ) → (tree_slots v).edge p ≡ true → (cell_at (runs v) p).offset ≡ 0
-begins_at v p h = from_test _ _ h
+begins_at v p h = eq_true _ _ h
 
 -- ---- one page
 
@@ -114,43 +84,3 @@ edited_one s page edit o is = same_slots _ _ (λ p. by_test (λ x. x ≡ cond (h
         let z : p - page ≡ 0 = omega (arith, b.0, b.1) in
         let k : p ≡ page = omega (arith, b.0, b.1) in
         ap (λ n. edited_info edit n (s.info p)) z ∙ ap (λ q. edited_info edit 0 (s.info q)) k ∙ is
-
-same_file_page : (o : Option PageInfo) (info : PageInfo) → HasMeta o info.meta → info_file_page (Some info) ≡ info_file_page o
-same_file_page None info h = absurd h
-same_file_page (Some old) info h = ap (λ (m : Meta). file_page m.back) (sym h)
-
--- what a page of the tree can have
-pub can_put : (v : Parts) → IsRadix v → (page n : ℕ) (info : PageInfo) → page < 2 ^ 35 → n ≡ 1 → (tree_slots v).edge page ≡ true
-    → HasMeta ((tree_slots v).info page) info.meta → CanEdit (Put (Some info)) n
-can_put v ok page n info l one edge meta =
-    let c = cell_ok v ok page (omega arith) in
-    let z = begins_at v page edge in
-    let pos = c.within in
-    let is : (tree_slots v).info page ≡ (cell_at (runs v) page).state.info = ap (info_from (cell_at (runs v) page).state.info) z
-    ∙ info_from_zero (cell_at (runs v) page).state.info in
-    let same : info_file_page (Some info) ≡ info_file_page (cell_at (runs v) page).state.info = same_file_page
-    ((tree_slots v).info page) info meta ∙ ap info_file_page is in
-    record {
-      fits = omega (arith, c.sound.fits, same, one, pos);
-      alone = λ _. one;
-    }
-
--- ---- a whole change
-
-pub can_map : (meta : Meta) (n : ℕ) → FitsFile meta n → CanEdit (Put (Some (unused meta))) n
-can_map meta n fits = record {
-  fits = omega (arith, fits);
-  alone = λ leaf. absurd (clash leaf);
-}
-  where
-    clash : false ≡ true → ⊥
-    clash e = cc
-
-pub can_unmap : (n : ℕ) → n ≤ 2 ^ 36 → CanEdit (Put None) n
-can_unmap n l = record {
-  fits = omega arith;
-  alone = λ leaf. absurd (clash leaf);
-}
-  where
-    clash : false ≡ true → ⊥
-    clash e = cc

@@ -1,21 +1,15 @@
 -- A slot that became 512 slots, and back
-use Rattle.std.proofs.Common.{◌≡◌, ℕ, ◌+◌, ◌-◌, ◌*◌, ◌/◌, ◌%◌, ◌^◌, ◌<◌, ◌≤◌, ◌==◌, ◌⊎◌, inl, inr, ⊎_elim, Bool, true, false, List, Option}
-use Rattle.std.proofs.Common.{Some, None, refl, sym, ◌∙◌, ap, subst, arith}
-use Rattle.std.specs.Prelude.{Result, Ok, Err, OnOk, OnErr}
-use Rattle.std.proofs.lemmas.Bool.{cases_lt}
+use Rattle.slot_lock.proofs.Words.{◌≡◌, ℕ, ◌+◌, ◌-◌, ◌*◌, ◌/◌, ◌%◌, ◌^◌, ◌<◌, ◌≤◌, ◌==◌, ◌⊎◌, inl, inr, ⊎_elim, Bool, true, false, List, Option, Some, None}
+use Rattle.slot_lock.proofs.Words.{refl, sym, ◌∙◌, ap, subst, arith, OnOk, cases_lt, PageInfo, IsPage, PageRange, has, info_from, is_leaf, by_test, has_in}
+use Rattle.slot_lock.proofs.Words.{eq_true, eq_false}
+use Rattle.std.specs.Prelude.{Result, Ok, Err, OnErr}
 use Rattle.std.proofs.lemmas.Nat.{mod-mul-add}
-use Rattle.vm_base.specs.declared.info.PageInfo.{PageInfo}
-use Rattle.vm_base.specs.Pages.{IsPage}
-use Rattle.vm_base.specs.declared.page.PageRange.{PageRange}
-use Rattle.vm_base.specs.Functions.{has}
-use Rattle.vm_base.specs.Info.{info_from, is_leaf}
-use Rattle.vm_base.proofs.Functions.{by_test, has_in}
 use Rattle.slot_lock.specs.Slots.{Slots, Divides, DividesAs, Joins, CanBeOne, between}
-use Rattle.slot_lock.specs.ListLaws.{info_from_twice, is_leaf-info_from, same_test, other_test, from_test, from_other_test}
+use Rattle.slot_lock.proofs.ListLaws.{info_from_twice, is_leaf-info_from}
 use Rattle.slot_lock.proofs.Edits.{has_not, same_slots}
 use Rattle.slot_lock.proofs.Steps.{slot_by_edge}
 use Rattle.radix_node.specs.State.{State, no_state, state_from, IsPlain}
-use Rattle.radix_node.specs.Run.{Run, Cell, total, cell_at, with_run, in_parts, divided, width_of, level_of, Folds, IsCell, IsWhole}
+use Rattle.radix_node.specs.Run.{Run, Cell, total, cell_at, with_run, in_parts, divided, width_of, level_of, FoldsRuns, IsCell, IsWhole}
 use Rattle.radix_node.specs.Node.{Parts, runs}
 use Rattle.radix_node.proofs.Flat.{place_index, width-below, width_pos}
 use Rattle.radix_node.proofs.Joined.{cell_at-divided, total-divided}
@@ -23,8 +17,9 @@ use Rattle.radix_node.proofs.Divided.{part_ends}
 use Rattle.radix_node.proofs.Folds.{in_parts-is, large_level}
 use Rattle.radix_range.specs.Tree.{run_slots, tree_slots, IsRadix}
 use Rattle.radix_range.specs.Found.{in_512}
-use Rattle.radix_range.specs.Cells.{cell_in, run_of, slot_start, changed_inside, changed_outside}
-use Rattle.radix_range.specs.TreeLaws.{pages_are, cell_ok, is_slot, cell_of, tree-is_slot_map}
+use Rattle.radix_range.proofs.Cells.{cell_in, run_of, slot_start, changed_inside, changed_outside}
+use Rattle.radix_range.proofs.TreeLaws.{pages_are, cell_ok, is_slot, cell_of, is_radix}
+use Rattle.slot_lock.proofs.Facts.{same_test, other_test, two}
 
 -- the page's slot became 512 slots of so many pages
 pub record IsExpanded (rs qs : List Run) (page : ℕ) : Type 0 where
@@ -127,7 +122,7 @@ edges_kept rs qs page e p h = ⊎_elim (λ b. here b.0 b.1) (λ o. ap (λ (c : C
   where
     here : slot_start rs page ≤ p → p < slot_start rs page + (cell_at rs page).width → (run_slots qs).edge p ≡ true
     here a b =
-        let zero : p - slot_start rs page ≡ 0 = sym (ap (λ (c : Cell). c.offset) (cell_of rs page p a b)) ∙ from_test _ _ h in
+        let zero : p - slot_start rs page ≡ 0 = sym (ap (λ (c : Cell). c.offset) (cell_of rs page p a b)) ∙ eq_true _ _ h in
         let first : p ≡ slot_start rs page + (0 * e.part + 0) = omega arith in
         same_test _ _ (ap (λ (c : Cell). c.offset) (ap (cell_at qs) first ∙ e.inside 0 0 (omega arith) e.some))
 
@@ -169,17 +164,13 @@ state_kept rs qs page e p h = ⊎_elim (λ b. here b.0 b.1) (λ o. ap (λ (c : C
 pub tree_expanded : (v u : Parts) → IsRadix v → (page : ℕ) → page < 2 ^ 36 → 1 < (cell_at (runs v) page).width
     → runs u ≡ with_run in_parts (runs v) page → IsExpanded (runs v) (runs u) page
 tree_expanded v u ok page h large e =
-    let n = pages_are v ok in
+    let n = pages_are v ok.top in
     subst (λ qs. IsExpanded (runs v) qs page) (sym e) (expanded (runs v) v.level page (let t = ok.top in omega arith)
-    (omega (arith, ok.whole.pages_are)) (cell_ok v ok page h) large)
+    (omega (arith, ok.whole.pages_are)) (cell_ok v ok.top ok.whole page h) large)
 
 pub expanded-IsRadix : (v u : Parts) → IsRadix v → (page : ℕ) → IsExpanded (runs v) (runs u) page → u.level ≡ v.level
     → IsWhole u.level (512 * width_of u.level) (runs u) → IsRadix u
-expanded-IsRadix v u ok page e same whole = record {
-  top = same ∙ ok.top;
-  whole = whole;
-  outside = λ p h. state_kept (runs v) (runs u) page e p (ok.outside p h);
-}
+expanded-IsRadix v u ok page e same whole = is_radix u (same ∙ ok.top) whole (λ p h. state_kept (runs v) (runs u) page e p (ok.outside p h))
 
 -- a valid page's slot ends by the limit
 ends_by_limit : (v : Parts) → IsRadix v → (page : ℕ) → page < 2 ^ 35 → slot_start (runs v) page + (cell_at (runs v) page).width ≤ 2 ^ 35
@@ -187,7 +178,7 @@ ends_by_limit v ok page l =
     let rs = runs v in
     let c = cell_in rs page in
     slot_by_edge (tree_slots v) (slot_start rs page) (slot_start rs page + (cell_at rs page).width) (2 ^ 35) (is_slot rs page)
-    (tree-is_slot_map v ok).limit (omega arith)
+    (ok.laws _ refl).limit (omega arith)
 
 pub divides_at : (v u : Parts) → IsRadix v → (page : ℕ) → IsPage page → IsExpanded (runs v) (runs u) page → (at : ℕ) × IsPage at
     × Divides (tree_slots v) (tree_slots u) ((tree_slots v).owner page) at
@@ -214,7 +205,7 @@ outer_edge rs qs page e p (inl l) = ⊎_elim
 pub divides_as : (rs qs : List Run) (page : ℕ) → (run_slots rs).edge page ≡ false → IsExpanded rs qs page → DividesAs in_512 (run_slots rs) (run_slots qs) page
 divides_as rs qs page crossed e =
     let c = cell_in rs page in
-    let inside = from_other_test _ _ crossed in
+    let inside = eq_false _ _ crossed in
     record {
       slot = slot;
       is_slot = is_slot rs page;
@@ -255,17 +246,14 @@ joins_back s t at d could = record {
     owner : (p : ℕ) → s.owner p ≡ t.owner p
     owner p = λ j. d.owners j p
 
-    two : (b : Bool) → b ≡ false → b ≡ true → ⊥
-    two b e f = cc
-
     kept : (p : ℕ) (b : Bool) → t.edge p ≡ b → s.edge p ≡ false → t.edge p ≡ false
     kept p true e h = absurd (two _ h (d.kept p e))
     kept p false e h = e
 
 pub tree_folded : (v u : Parts) → IsRadix v → (page : ℕ) → page < 2 ^ 36 → u.level ≡ v.level → IsWhole u.level (512 * width_of u.level)
-    (runs u) → Folds (runs v) (runs u) page → IsExpanded (runs u) (runs v) page
+    (runs u) → FoldsRuns (runs v) (runs u) page → IsExpanded (runs u) (runs v) page
 tree_folded v u ok page h same whole f =
-    let n = pages_are v ok in
+    let n = pages_are v ok.top in
     let m : 512 * width_of u.level ≡ 2 ^ 36 = ap (λ k. 512 * width_of k) same ∙ n in
     subst (λ qs. IsExpanded (runs u) qs page) (sym f.parts) (expanded (runs u) u.level page (let t = ok.top in omega arith)
     (omega (arith, whole.pages_are)) (whole.cells page (omega arith)) f.large)
@@ -282,11 +270,8 @@ no_state_back s n h =
 
 pub folded-IsRadix : (v u : Parts) → IsRadix v → (page : ℕ) → IsExpanded (runs u) (runs v) page → u.level ≡ v.level
     → IsWhole u.level (512 * width_of u.level) (runs u) → IsRadix u
-folded-IsRadix v u ok page e same whole = record {
-  top = same ∙ ok.top;
-  whole = whole;
-  outside = λ p h. ⊎_elim (λ b. here p h b.0 b.1) (λ o. ap (λ (c : Cell). c.state) (sym (e.outside p o)) ∙ ok.outside p h) (in_or_out (runs u) page p);
-}
+folded-IsRadix v u ok page e same whole = is_radix u (same ∙ ok.top) whole
+    (λ p h. ⊎_elim (λ b. here p h b.0 b.1) (λ o. ap (λ (c : Cell). c.state) (sym (e.outside p o)) ∙ ok.outside p h) (in_or_out (runs u) page p))
   where
     here : (p : ℕ) → ¬ IsPage p → slot_start (runs u) page ≤ p → p < slot_start (runs u) page + (cell_at (runs u) page).width
         → (cell_at (runs u) p).state ≡ no_state
@@ -319,9 +304,6 @@ folded-Joins v u ok page l plain e =
     leaf : (p : ℕ) → slot_start rs page ≤ p → p < slot_start rs page + (cell_at rs page).width → is_leaf ((tree_slots v).info p) ≡ false
     leaf p a b = ap is_leaf (info p a b) ∙ (is_leaf-info_from state.info _ ∙ plain.no_leaf)
 
-    two : (b : Bool) → b ≡ false → b ≡ true → ⊥
-    two b e f = cc
-
     inside : (p : ℕ) → slot_start rs page + 1 ≤ p → p < slot_start rs page + (cell_at rs page).width → CanBeOne (tree_slots v) p
     inside p a b =
         let limit = ends_by_limit u ok page l in
@@ -352,4 +334,4 @@ same_or_expanded (Err e) f g h k = g k
 
 -- a slot that begins before the page has several pages
 pub several : (rs : List Run) (page : ℕ) → (run_slots rs).edge page ≡ false → 1 < (cell_at rs page).width
-several rs page h = let c = cell_in rs page in let inside = from_other_test _ _ h in omega (arith, c.high)
+several rs page h = let c = cell_in rs page in let inside = eq_false _ _ h in omega (arith, c.high)

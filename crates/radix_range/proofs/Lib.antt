@@ -1,3 +1,5 @@
+pub mod Cells
+pub mod TreeLaws
 pub mod Walks
 pub mod Expansions
 pub mod Sets

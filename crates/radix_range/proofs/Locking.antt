@@ -1,19 +1,19 @@
 -- An attempt to lock the slot of a page
-use Rattle.std.proofs.Common.{◌≡◌, ℕ, ◌+◌, ◌-◌, ◌*◌, ◌^◌, ◌<◌, ◌≤◌, true, Option, None, Some, refl, sym, ◌∙◌, ap, subst, arith}
-use Rattle.slot_lock.specs.Slots.{IsSlot, Locks, with_owner}
-use Rattle.slot_lock.specs.ListLaws.{same_test}
+use Rattle.std.proofs.Common.{◌≡◌, ℕ, ◌+◌, ◌-◌, ◌*◌, ◌^◌, ◌<◌, ◌≤◌, true, Option, Some, refl, sym, ◌∙◌, ap, subst, arith}
+use Rattle.slot_lock.specs.Slots.{with_owner}
+use Rattle.slot_lock.proofs.Facts.{same_test}
 use Rattle.radix_node.specs.declared.lock.Lock.{Lock}
 use Rattle.radix_node.specs.declared.lock.Lock.TheVariants.{Held, Before, Beyond, Locked}
 use Rattle.radix_node.specs.State.{State}
-use Rattle.radix_node.specs.Run.{Run, Cell, cell_at, width_of, with_run, in_state, IsWhole}
+use Rattle.radix_node.specs.Run.{cell_at, width_of, with_run, in_state, IsWhole}
 use Rattle.radix_node.specs.Node.{Parts, runs}
 use Rattle.radix_node.specs.Lock.{Meets, after_lock}
 use Rattle.radix_node.proofs.Runs.{with_run-same}
 use Rattle.radix_range.specs.Tree.{run_slots, tree_slots, IsRadix}
-use Rattle.radix_range.specs.TreeLaws.{is_found}
-use Rattle.radix_range.specs.Cells.{cell_in, slot_start}
-use Rattle.radix_range.specs.Locking.{GoesPast, TriesLock}
-use Rattle.radix_range.proofs.Sets.{IsSet, tree_set, set_slots, set_radix}
+use Rattle.radix_range.proofs.TreeLaws.{is_found, is_radix, still_radix}
+use Rattle.radix_range.proofs.Cells.{cell_in, slot_start}
+use Rattle.radix_range.specs.Locking.{TriesLock}
+use Rattle.radix_range.proofs.Sets.{IsSet, tree_set, set_slots}
 use Rattle.radix_range.proofs.Changes.{Here, here, first_is, by_limit, restated_owner}
 
 -- ---- the slot that begins at a page, with another owner
@@ -55,19 +55,15 @@ pub owned_radix : (v u : Parts) → IsRadix v → (page end : ℕ) (owner : Opti
     → runs u ≡ with_run (in_state (owned v page owner)) (runs v) page
     → u.level ≡ v.level → IsWhole u.level (512 * width_of u.level) (runs u) → IsRadix u
 owned_radix v u ok page end owner low l h e same whole =
-    set_radix v u ok page end _ low (by_limit v ok page end h.slot l)
-    (owned_set v u ok page end owner l h e) same whole
+    still_radix v u ok page end low (by_limit v ok page end h.slot l)
+    (owned_set v u ok page end owner l h e).outside same whole
 
 -- ---- attempts
 
 -- a tree whose slots are as they were
 same_radix : (v u : Parts) → IsRadix v → runs u ≡ runs v → u.level ≡ v.level
     → IsWhole u.level (512 * width_of u.level) (runs u) → IsRadix u
-same_radix v u ok e same whole = record {
-  top = same ∙ ok.top;
-  whole = whole;
-  outside = λ p not. ap (λ rs. (cell_at rs p).state) e ∙ ok.outside p not;
-}
+same_radix v u ok e same whole = is_radix u (same ∙ ok.top) whole (λ p not. ap (λ rs. (cell_at rs p).state) e ∙ ok.outside p not)
 
 edge_here : (v : Parts) (page : ℕ) → (cell_at (runs v) page).offset ≡ 0
     → (tree_slots v).edge page ≡ true
@@ -114,14 +110,10 @@ pub tried_radix : (v u : Parts) → IsRadix v → (core cursor end : ℕ) (l : L
     → Meets (cell_at (runs v) cursor) (end - cursor) l
     → runs u ≡ with_run (in_state (after_lock l core (cell_at (runs v) cursor).state)) (runs v) cursor
     → u.level ≡ v.level → IsWhole u.level (512 * width_of u.level) (runs u) → IsRadix u
-tried_radix v u ok core cursor end (Held by) low some high m e same whole =
-    same_radix v u ok (e ∙ with_run-same (runs v) cursor) same whole
-tried_radix v u ok core cursor end Before low some high m e same whole =
-    same_radix v u ok (e ∙ with_run-same (runs v) cursor) same whole
-tried_radix v u ok core cursor end Beyond low some high m e same whole =
-    same_radix v u ok (e ∙ with_run-same (runs v) cursor) same whole
 tried_radix v u ok core cursor end (Locked width) low some high m e same whole =
     let h =
     found_here v ok cursor (cursor + width) (omega arith) (edge_here v cursor m.1)
     (ap (λ n. cursor + n) (sym m.3)) in
     owned_radix v u ok cursor (cursor + width) (Some core) low (omega arith) h e same whole
+tried_radix v u ok core cursor end l low some high m e same whole =
+    same_radix v u ok (e ∙ with_run-same (runs v) cursor) same whole

@@ -1,24 +1,13 @@
 -- What keeps pages mapped, and where no room is among them
-use Rattle.std.proofs.Common.{◌≡◌, ℕ, ◌+◌, ◌<◌, ◌≤◌, ◌⊎◌, inl, inr, ⊎_elim, Bool, true, false, IsTrue, ◌==◌, Option, Some, None, is_some}
-use Rattle.std.proofs.Common.{IfSome, IfNone, OnOk, OnErr, Result, Ok, Err, refl, sym, ap, ◌∙◌, arith}
-use Rattle.std.proofs.lemmas.Bool.Decides.{nat_tests}
-use Rattle.std.proofs.lemmas.Bool.{cases_lt}
-use Rattle.vm_base.specs.declared.page.PageRange.{PageRange}
-use Rattle.vm_base.specs.declared.info.PageInfo.{PageInfo}
-use Rattle.vm_base.specs.declared.info.Meta.{Meta}
-use Rattle.vm_base.specs.declared.rights.Prot.{Prot}
-use Rattle.vm_base.specs.Functions.{has}
-use Rattle.vm_base.specs.Info.{info_with_prot}
-use Rattle.vm_base.specs.Pages.{IsPage}
-use Rattle.vm_base.proofs.Functions.{by_test, in_has}
+use Rattle.slot_lock.proofs.Words.{◌≡◌, ℕ, ◌+◌, ◌<◌, ◌≤◌, ◌⊎◌, inl, inr, ⊎_elim, Bool, true, false, ◌==◌, Option, Some, None, is_some, Result, Ok, Err, refl}
+use Rattle.slot_lock.proofs.Words.{sym, ap, ◌∙◌, arith, nat_tests, cases_lt, PageRange, PageInfo, IsPage, by_test, in_has}
+use Rattle.std.proofs.Common.{IsTrue}
+use Rattle.std.proofs.Common.{IfSome, IfNone, OnOk, OnErr}
 use Rattle.slot_lock.specs.Slots.{Slots, Divides, IsFreeRun, Joins, between, with_info}
-use Rattle.slot_lock.proofs.Adding.{no_some}
+use Rattle.slot_lock.proofs.Facts.{no_some, two}
 use Rattle.radix_node.specs.Node.{Parts}
 use Rattle.radix_range.specs.Tree.{tree_slots}
 use Rattle.radix_range.specs.Mapped.{IsMappedRun}
-
-two : (b : Bool) → b ≡ false → b ≡ true → ⊥
-two b e f = cc
 
 -- ---- what keeps pages mapped
 

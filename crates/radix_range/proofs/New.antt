@@ -1,10 +1,6 @@
 -- A new tree
-use Rattle.std.proofs.Common.{◌≡◌, ℕ, ◌+◌, ◌-◌, ◌*◌, ◌%◌, ◌^◌, ◌<◌, ◌≤◌, ◌==◌, true, ⊎_elim, Option, None, refl, sym, ◌∙◌, ap, arith}
-use Rattle.std.proofs.Math.Path.{fun_ext}
-use Rattle.std.proofs.lemmas.Bool.Decides.{nat_tests}
-use Rattle.std.proofs.lemmas.Bool.{cases_lt}
-use Rattle.vm_base.specs.declared.info.PageInfo.{PageInfo}
-use Rattle.vm_base.specs.Info.{info_from}
+use Rattle.slot_lock.proofs.Words.{◌≡◌, ℕ, ◌+◌, ◌-◌, ◌*◌, ◌%◌, ◌^◌, ◌<◌, ◌≤◌, ◌==◌, true, ⊎_elim, Option, None, refl, ◌∙◌, ap, arith, fun_ext, nat_tests}
+use Rattle.slot_lock.proofs.Words.{cases_lt, PageInfo, info_from}
 use Rattle.slot_lock.specs.Slots.{Slots, IsNew}
 use Rattle.radix_node.specs.State.{State, no_state}
 use Rattle.radix_node.specs.Run.{Cell, cell_at, width_of, divided, IsWhole}
@@ -14,6 +10,7 @@ use Rattle.radix_node.proofs.Flat.{place_index, width_pos}
 use Rattle.radix_node.proofs.Divided.{runs-divided}
 use Rattle.radix_node.proofs.Joined.{cell_at-divided, total-divided}
 use Rattle.radix_range.specs.Tree.{tree_slots, root_edges, new_tree, IsRadix}
+use Rattle.radix_range.proofs.TreeLaws.{is_radix}
 
 divided_state : (w p : ℕ) → 0 < w → (cell_at (divided w no_state) p).state ≡ no_state
 divided_state w p pos = ⊎_elim
@@ -28,7 +25,7 @@ new_state v e p = ap (λ v. (cell_at (runs v) p).state) e ∙ ap (λ rs. (cell_a
     ∙ divided_state (width_of 3) p (width_pos 3)
 
 pub new_radix : (v : Parts) → v ≡ node_of 3 no_state → IsWhole v.level (512 * width_of v.level) (runs v) → IsRadix v
-new_radix v e whole = record { top = ap (λ (v : Parts). v.level) e; whole = whole; outside = λ p _. new_state v e p }
+new_radix v e whole = is_radix v (ap (λ (v : Parts). v.level) e) whole (λ p _. new_state v e p)
 
 pub is_new : (v : Parts) → v ≡ node_of 3 no_state → IsNew (tree_slots v)
 is_new v e = record {

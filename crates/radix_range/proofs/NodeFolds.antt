@@ -1,25 +1,21 @@
 -- A folded node, and one that can't be folded
-use Rattle.std.proofs.Common.{◌≡◌, ℕ, ◌+◌, ◌-◌, ◌*◌, ◌^◌, ◌<◌, ◌≤◌, ◌==◌, ◌⊎◌, inl, inr, ⊎_elim, Bool, true, false, List, Option, Some}
-use Rattle.std.proofs.Common.{None, refl, sym, ◌∙◌, ap, subst, arith}
-use Rattle.std.proofs.lemmas.Bool.{cases_lt}
-use Rattle.vm_base.specs.declared.info.PageInfo.{PageInfo}
-use Rattle.vm_base.specs.Functions.{has}
-use Rattle.vm_base.specs.Info.{info_from, is_leaf}
-use Rattle.vm_base.proofs.Functions.{by_test, has_in}
-use Rattle.slot_lock.specs.Slots.{Slots, IsSlot, between}
-use Rattle.slot_lock.specs.ListLaws.{info_from_zero, is_leaf-info_from, same_test, other_test, from_test}
+use Rattle.slot_lock.proofs.Words.{◌≡◌, ℕ, ◌+◌, ◌-◌, ◌*◌, ◌<◌, ◌≤◌, ◌⊎◌, inl, inr, false, List, Option, None, refl, sym, ◌∙◌, ap, subst, arith, PageInfo, has}
+use Rattle.slot_lock.proofs.Words.{info_from, is_leaf, by_test, has_in, eq_true}
+use Rattle.slot_lock.specs.Slots.{IsSlot, between}
+use Rattle.slot_lock.proofs.ListLaws.{info_from_zero}
 use Rattle.slot_lock.proofs.Edits.{has_not, same_slots}
-use Rattle.radix_node.specs.State.{State, state_from, IsPlain}
-use Rattle.radix_node.specs.Run.{Run, Cell, cell_at, width_of, CanJoin}
+use Rattle.radix_node.specs.State.{state_from, IsPlain}
+use Rattle.radix_node.specs.Run.{Run, Cell, cell_at, width_of, CanFoldRuns}
 use Rattle.radix_node.specs.Node.{Parts, runs}
-use Rattle.radix_node.proofs.Flat.{width-below, width_pos}
+use Rattle.radix_node.proofs.Flat.{width-below}
 use Rattle.radix_node.proofs.Divided.{part_ends}
 use Rattle.radix_range.specs.Tree.{run_slots, tree_slots, IsRadix}
-use Rattle.radix_range.specs.Cells.{IsIn, cell_in, slot_start}
-use Rattle.radix_range.specs.TreeLaws.{is_slot, cell_of}
+use Rattle.radix_range.proofs.Cells.{cell_in, slot_start}
+use Rattle.radix_range.proofs.TreeLaws.{is_slot, cell_of}
 use Rattle.radix_range.specs.Folds.{CanFold, joined, FoldsNode}
 use Rattle.radix_range.proofs.Expansions.{IsExpanded, info_kept, owner_kept, outer_edge}
 use Rattle.radix_range.proofs.Sets.{begins}
+use Rattle.slot_lock.proofs.Facts.{other_test}
 
 -- ---- where no node can be folded
 
@@ -32,12 +28,12 @@ slot_cell : (rs : List Run) (a w : ℕ) → IsSlot (run_slots rs) a (a + w) → 
 slot_cell rs a w slot =
     let b = begins rs a (a + w) slot in
     let width = b.width in
-    (from_test _ _ slot.begins, omega arith)
+    (eq_true _ _ slot.begins, omega arith)
 
 info_first : (rs : List Run) (a : ℕ) → (cell_at rs a).offset ≡ 0 → (cell_at rs a).state.info ≡ (run_slots rs).info a
 info_first rs a zero = sym (info_from_zero (cell_at rs a).state.info) ∙ ap (info_from (cell_at rs a).state.info) (sym zero)
 
-pub can_join : (v : Parts) → IsRadix v → (page : ℕ) → CanFold (tree_slots v) page → CanJoin v.level (runs v) page
+pub can_join : (v : Parts) → IsRadix v → (page : ℕ) → CanFold (tree_slots v) page → CanFoldRuns v.level (runs v) page
 can_join v ok page can =
     let rs = runs v in
     let base : ℕ = can.before * width_of (can.level + 1) in

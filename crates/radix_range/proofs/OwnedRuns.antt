@@ -1,10 +1,8 @@
 -- Slots that get another owner, one after another
-use Rattle.std.proofs.Common.{◌≡◌, ℕ, zero, suc, ◌+◌, ◌-◌, ◌*◌, ◌^◌, ◌<◌, ◌≤◌, ◌⊎◌, inl, inr, ⊎_elim, None, Some, List, sym, ◌∙◌, ap, subst, arith}
-use Rattle.std.proofs.lemmas.Bool.{cases_lt}
-use Rattle.vm_base.specs.Pages.{IsPage}
-use Rattle.vm_base.specs.Info.{info_from}
+use Rattle.slot_lock.proofs.Words.{◌≡◌, ℕ, zero, suc, ◌+◌, ◌-◌, ◌*◌, ◌^◌, ◌<◌, ◌≤◌, ◌⊎◌, inl, inr, ⊎_elim, None, Some, List, sym, ◌∙◌, ap, subst, arith}
+use Rattle.slot_lock.proofs.Words.{info_from}
 use Rattle.slot_lock.specs.declared.slot_map.SlotRun.{SlotRun}
-use Rattle.slot_lock.specs.Slots.{Slots, IsSlot, with_owner}
+use Rattle.slot_lock.specs.Slots.{Slots, IsSlot}
 use Rattle.slot_lock.specs.SlotRuns.{OneByOne, LocksRun, UnlocksRun}
 use Rattle.radix_node.specs.declared.own_run.Handover.{Handover}
 use Rattle.radix_node.specs.OwnedRuns.{GetsOwner, GetOwner}
@@ -13,9 +11,9 @@ use Rattle.radix_node.specs.Run.{Run, Cell, total, cell_at, with_run, in_state, 
 use Rattle.radix_node.specs.Node.{Parts, runs}
 use Rattle.radix_node.proofs.OwnedRuns.{wide_cell, get-total}
 use Rattle.radix_range.specs.Tree.{run_slots, tree_slots, IsRadix}
-use Rattle.radix_range.specs.Cells.{slot_start}
+use Rattle.radix_range.proofs.Cells.{slot_start}
 use Rattle.radix_range.specs.Locking.{HandsSlot, HandsRun}
-use Rattle.radix_range.specs.TreeLaws.{is_slot, cell_of, pages_are}
+use Rattle.radix_range.proofs.TreeLaws.{is_slot, cell_of, pages_are, still_radix}
 use Rattle.radix_range.proofs.Sets.{IsSet, is_set, set_slots}
 use Rattle.radix_range.proofs.Changes.{restated_owner}
 
@@ -105,7 +103,7 @@ pub record IsOwnedRun (v u : Parts) (page w end : ℕ) (owners : Handover) (n : 
   pub owned : GetOwner (runs v) (runs u) page w owners n
 
 total_is : (v : Parts) → IsRadix v → total (runs v) ≡ 2 ^ 36
-total_is v ok = ok.whole.pages_are ∙ pages_are v ok
+total_is v ok = ok.whole.pages_are ∙ pages_are v ok.top
 
 by_end : (v : Parts) (end : ℕ) → IsRadix v → end ≤ 2 ^ 35 → end ≤ total (runs v)
 by_end v end ok h = let e = total_is v ok in omega arith
@@ -114,19 +112,8 @@ pub owned_radix : (v u : Parts) (page w end : ℕ) (owners : Handover) (n : ℕ)
     → u.level ≡ v.level → IsWhole u.level (512 * width_of u.level) (runs u) → IsRadix u
 owned_radix v u page w end owners n h same whole =
     let e = by_end v end h.radix h.high in
-    record {
-      top = same ∙ h.radix.top;
-      whole = whole;
-      outside = λ p not.
-          ap (λ (c : Cell). c.state)
-          (run_outside (runs v) (runs u) page w owners n (omega (arith, h.ends, e)) h.owned p (out p not))
-          ∙ h.radix.outside p not;
-    }
-  where
-    out : (p : ℕ) → ¬ IsPage p → (p < page) ⊎ (page + n * w ≤ p)
-    out p not = ⊎_elim (λ (l : p < page). inl l)
-        (λ (l : page ≤ p). ⊎_elim (λ (m : p < page + n * w). absurd (not (omega (arith, h.low, l), omega (arith, m, h.ends, h.high))))
-        (λ (m : page + n * w ≤ p). inr m) (cases_lt p (page + n * w))) (cases_lt p page)
+    still_radix v u h.radix page (page + n * w) h.low (omega (arith, h.ends, h.high))
+    (run_outside (runs v) (runs u) page w owners n (omega (arith, h.ends, e)) h.owned) same whole
 
 pub owned_info : (v u : Parts) (page w end : ℕ) (owners : Handover) (n : ℕ) → IsOwnedRun v u page w end owners n
     → (tree_slots u).info ≡ (tree_slots v).info

@@ -1,22 +1,17 @@
 -- A slot in another state
-use Rattle.std.proofs.Common.{◌≡◌, ℕ, ◌+◌, ◌-◌, ◌*◌, ◌^◌, ◌<◌, ◌≤◌, ◌==◌, ◌⊎◌, inl, inr, ⊎_elim, Bool, true, false, [], List, refl, sym, ◌∙◌, ap, subst, arith}
-use Rattle.std.proofs.lemmas.Bool.{cases_lt}
-use Rattle.vm_base.specs.Functions.{has}
-use Rattle.vm_base.specs.Pages.{IsPage}
-use Rattle.vm_base.specs.Info.{info_from}
-use Rattle.vm_base.proofs.Functions.{by_test, has_in}
-use Rattle.slot_lock.specs.Slots.{Slots, IsSlot, between}
-use Rattle.slot_lock.specs.ListLaws.{from_test}
+use Rattle.slot_lock.proofs.Words.{◌≡◌, ℕ, ◌+◌, ◌-◌, ◌^◌, ◌<◌, ◌≤◌, ◌==◌, ◌⊎◌, inl, inr, ⊎_elim, Bool, true, false, [], List, refl, sym, ◌∙◌, ap, subst}
+use Rattle.slot_lock.proofs.Words.{arith, has, info_from, by_test, has_in, eq_true}
+use Rattle.slot_lock.specs.Slots.{IsSlot, between}
 use Rattle.slot_lock.proofs.Edits.{has_not, same_slots}
 use Rattle.slot_lock.proofs.Steps.{slot_by_edge}
-use Rattle.radix_node.specs.State.{State, no_state}
-use Rattle.radix_node.specs.Run.{Run, Cell, total, cell_at, with_run, in_state, width_of, IsSound, IsWhole}
+use Rattle.radix_node.specs.State.{State}
+use Rattle.radix_node.specs.Run.{Run, Cell, total, cell_at, with_run, in_state}
 use Rattle.radix_node.specs.Node.{Parts, runs}
 use Rattle.radix_node.proofs.Runs.{cell_at-here}
 use Rattle.radix_range.specs.Tree.{run_slots, tree_slots, IsRadix}
 use Rattle.radix_range.specs.Found.{restated}
-use Rattle.radix_range.specs.Cells.{cell_in, slot_start, changed_inside, changed_outside}
-use Rattle.radix_range.specs.TreeLaws.{pages_are, is_slot, cell_of}
+use Rattle.radix_range.proofs.Cells.{cell_in, slot_start, changed_inside, changed_outside}
+use Rattle.radix_range.proofs.TreeLaws.{pages_are, is_slot, cell_of}
 
 -- the slot of a page that begins it
 pub record Begins (rs : List Run) (page end : ℕ) : Type 0 where
@@ -26,7 +21,7 @@ pub record Begins (rs : List Run) (page end : ℕ) : Type 0 where
 
 pub begins : (rs : List Run) (page end : ℕ) → IsSlot (run_slots rs) page end → Begins rs page end
 begins rs page end slot =
-    let zero = from_test _ _ slot.begins in
+    let zero = eq_true _ _ slot.begins in
     let start : slot_start rs page ≡ page = omega arith in
     let c = cell_in rs page in
     let own = is_slot rs page in
@@ -34,9 +29,6 @@ begins rs page end slot =
     let b = slot_by_edge (run_slots rs) (slot_start rs page) (slot_start rs page + (cell_at rs page).width) end own slot.ends
     (let o = slot.ordered in omega arith) in
     record { start = start; width = omega arith; some = slot.ordered }
-
-pub set_sound : (rs : List Run) (page end : ℕ) (t : State) → IsSlot (run_slots rs) page end → IsSound (end - page) t → IsSound (cell_at rs page).width t
-set_sound rs page end t slot h = subst (λ w. IsSound w t) (sym (begins rs page end slot).width) h
 
 -- the slots of a list whose slot was written
 pub record IsSet (rs qs : List Run) (page end : ℕ) (t : State) : Type 0 where
@@ -75,21 +67,9 @@ set_slots rs qs page end t h = same_slots _ _
     edge p true e = let b = has_in (between page end) p e in ap (λ n. n == 0) (ap (λ (c : Cell). c.offset) (h.inside p b.0 b.1) ∙ sym (h.was p b.0 b.1))
     edge p false e = ap (λ (c : Cell). c.offset == 0) (h.outside p (has_not (between page end) p e))
 
-pub set_radix : (v u : Parts) → IsRadix v → (page end : ℕ) (t : State) → 1 ≤ page → end ≤ 2 ^ 35 → IsSet (runs v) (runs u) page end t
-    → u.level ≡ v.level → IsWhole u.level (512 * width_of u.level) (runs u) → IsRadix u
-set_radix v u ok page end t low high h same whole = record {
-  top = same ∙ ok.top;
-  whole = whole;
-  outside = λ p not. ap (λ (c : Cell). c.state) (h.outside p (out p not)) ∙ ok.outside p not;
-}
-  where
-    out : (p : ℕ) → ¬ IsPage p → (p < page) ⊎ (end ≤ p)
-    out p not = ⊎_elim (λ (l : p < page). inl l) (λ (l : page ≤ p). ⊎_elim (λ (m : p < end). absurd (not (omega arith, omega arith)))
-        (λ (m : end ≤ p). inr m) (cases_lt p end)) (cases_lt p page)
-
 pub tree_set : (v u : Parts) → IsRadix v → (page end : ℕ) (t : State) → end ≤ 2 ^ 35 → IsSlot (tree_slots v) page end
     → runs u ≡ with_run (in_state t) (runs v) page → IsSet (runs v) (runs u) page end t
 tree_set v u ok page end t high slot e =
-    let n = pages_are v ok in
+    let n = pages_are v ok.top in
     let o = slot.ordered in
     subst (λ qs. IsSet (runs v) qs page end t) (sym e) (is_set (runs v) page end t (omega (arith, ok.whole.pages_are)) slot)

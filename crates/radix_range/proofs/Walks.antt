@@ -1,27 +1,21 @@
 -- What a tree's slots say of the pages of a range
-use Rattle.std.proofs.Common.{◌≡◌, ℕ, ◌+◌, ◌-◌, ◌*◌, ◌^◌, ◌<◌, ◌≤◌, ◌↔◌, ⊎_elim, Bool, true, false, Option, Some, None, is_some, List, refl}
-use Rattle.std.proofs.Common.{sym, ◌∙◌, ap, subst, arith}
-use Rattle.std.proofs.lemmas.Bool.{cases_lt}
-use Rattle.vm_base.specs.declared.page.PageRange.{PageRange}
-use Rattle.vm_base.specs.declared.info.PageInfo.{PageInfo}
-use Rattle.vm_base.specs.Functions.{has}
-use Rattle.vm_base.specs.Pages.{IsPageRange}
-use Rattle.vm_base.specs.Info.{info_from, frame_of, is_recorded}
-use Rattle.vm_base.proofs.Functions.{has_in, in_has}
+use Rattle.slot_lock.proofs.Words.{◌≡◌, ℕ, ◌+◌, ◌-◌, ◌*◌, ◌^◌, ◌<◌, ◌≤◌, ◌↔◌, ⊎_elim, Bool, true, List, sym, ◌∙◌, ap, subst, arith, cases_lt, PageRange}
+use Rattle.slot_lock.proofs.Words.{info_from, frame_of, has_in, in_has}
 use Rattle.slot_lock.specs.declared.framed.Framed.{Framed}
 use Rattle.slot_lock.specs.Framed.{AddsFrames, frames_in}
 use Rattle.slot_lock.specs.Slots.{IsUser, IsFreeRun}
 use Rattle.slot_lock.proofs.Listing.{adds_same}
 use Rattle.slot_lock.proofs.Walks.{is_some-from, frame_of-from, is_recorded-from}
+use Rattle.slot_lock.proofs.Facts.{no_some}
 use Rattle.radix_node.specs.Run.{Run, cell_at, width_of}
 use Rattle.radix_node.specs.Node.{Parts}
-use Rattle.radix_node.specs.Walk.{HasUser, Blocked, IsFree, IsOpen, frames_from}
-use Rattle.radix_range.specs.Tree.{run_slots, tree_slots, IsRadix}
-use Rattle.radix_range.specs.TreeLaws.{pages_are}
+use Rattle.radix_node.specs.Walk.{HasUser, Blocked, HasFreeRun, IsOpen, frames_from}
+use Rattle.radix_range.specs.Tree.{run_slots, IsRadix}
+use Rattle.radix_range.proofs.TreeLaws.{pages_are}
 
 -- the pages that are asked for are the root's
 pub of_root : (v : Parts) → IsRadix v → (end : ℕ) → end ≤ 2 ^ 36 → end ≤ 512 * width_of v.level
-of_root v ok end h = let n = pages_are v ok in omega arith
+of_root v ok end h = let n = pages_are v ok.top in omega arith
 
 pub users_are : (rs : List Run) (range : PageRange) (core : ℕ) (b : Bool) → (b ≡ true) ↔ HasUser rs range.first range.end core
     → (b ≡ true) ↔ IsUser (run_slots rs) range core
@@ -40,22 +34,12 @@ frames_are rs first end old new h =
     same p = let k : p - 0 ≡ p = omega arith in ap (λ n. frame_of (cell_at rs n).state.info) k
         ∙ sym (frame_of-from (cell_at rs p).state.info (cell_at rs p).offset)
 
-clash : (o : Option PageInfo) → is_some o ≡ true → o ≡ None → ⊥
-clash o e f = cc
-
 blocked : (rs : List Run) (range : PageRange) (n r : ℕ) → Blocked rs 0 range.first range.end n r → ¬ IsFreeRun (run_slots rs) range n r
 blocked rs range n r w run =
-    clash (info_from (cell_at rs w.0).state.info (cell_at rs w.0).offset) (is_some-from (cell_at rs w.0).state.info (cell_at rs w.0).offset
+    no_some (info_from (cell_at rs w.0).state.info (cell_at rs w.0).offset) (is_some-from (cell_at rs w.0).state.info (cell_at rs w.0).offset
     ∙ w.5) (run.free w.0 (omega (arith, w.3)) (omega (arith, w.4)))
 
-pub free_run_found : (rs : List Run) (range : PageRange) (n here : ℕ) → IsFree rs 0 range.first range.end n range.first here
-    → IsFreeRun (run_slots rs) range n here
-free_run_found rs range n here h = record {
-  inside = record { low = h.low; high = omega (arith, h.high) };
-  free = λ p a b. ap (λ o. info_from o (cell_at rs p).offset) (h.free p (omega (arith, h.low)) (omega (arith, h.high)) (omega arith) (omega arith));
-}
-
-pub free_run_least : (rs : List Run) (range : PageRange) (n here : ℕ) → IsFree rs 0 range.first range.end n range.first here → (r : ℕ)
+pub free_run_least : (rs : List Run) (range : PageRange) (n here : ℕ) → HasFreeRun rs 0 range.first range.end n range.first here → (r : ℕ)
     → r < here → ¬ IsFreeRun (run_slots rs) range n r
 free_run_least rs range n here h r l run = blocked rs range n r (h.before r run.inside.low l) run
 

@@ -1,5 +1,5 @@
 -- The slot that has a page, and what a walk from slot to slot has seen
-use Rattle.std.specs.Prelude.{◌≡◌, ℕ, ◌-◌, ◌/◌, ◌%◌, ◌<◌, ◌≤◌, ◌==◌, Bool, Option, None, Some}
+use Rattle.std.specs.Prelude.{◌≡◌, ℕ, ◌-◌, ◌/◌, ◌%◌, ◌<◌, ◌≤◌, ◌==◌, Bool}
 use Rattle.vm_base.specs.declared.page.PageRange.{PageRange}
 use Rattle.vm_base.specs.Functions.{has, across, over}
 use Rattle.vm_base.specs.Info.{info_from}
@@ -7,7 +7,7 @@ use Rattle.slot_lock.specs.Slots.{Slots, IsSlot, between}
 use Rattle.radix_node.specs.declared.edit.Edit.{Edit}
 use Rattle.radix_node.specs.Edit.{edited_info}
 use Rattle.radix_node.specs.State.{State}
-use Rattle.radix_node.specs.Run.{IsSound}
+use Rattle.radix_node.specs.Run.{FitsWidth}
 
 -- the pages from first up to end are one slot in this state, which has the page
 pub record IsSlotOf (s : Slots) (page first end : ℕ) (state : State) : Type 0 where
@@ -16,7 +16,7 @@ pub record IsSlotOf (s : Slots) (page first end : ℕ) (state : State) : Type 0 
   pub high : page < end
   pub info : (p : ℕ) → first ≤ p → p < end → s.info p ≡ info_from state.info (p - first)
   pub owner : (p : ℕ) → first ≤ p → p < end → s.owner p ≡ state.owner
-  pub sound : IsSound (end - first) state
+  pub sound : FitsWidth (end - first) state
 
 -- the pages from first up to end are in this state, and all else stays
 abbrev pub restated : Slots → ℕ → ℕ → State → Slots

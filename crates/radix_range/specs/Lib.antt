@@ -3,5 +3,3 @@ pub mod Found
 pub mod Locking
 pub mod Folds
 pub mod Mapped
-pub mod Cells
-pub mod TreeLaws

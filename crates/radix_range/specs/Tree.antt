@@ -1,8 +1,8 @@
 -- What a tree of slots says of each page
-use Rattle.std.specs.Prelude.{◌≡◌, ℕ, ◌*◌, ◌%◌, ◌==◌, ◌||◌, ◌<◌, ◌≤◌, ◌^◌, nat_le, Bool, None, List}
+use Rattle.std.specs.Prelude.{◌≡◌, ℕ, ◌*◌, ◌%◌, ◌==◌, ◌||◌, ◌^◌, nat_le, Bool, None, List}
 use Rattle.vm_base.specs.Info.{info_from}
 use Rattle.vm_base.specs.Pages.{IsPage}
-use Rattle.slot_lock.specs.Slots.{Slots}
+use Rattle.slot_lock.specs.Slots.{Slots, IsSlotMap}
 use Rattle.radix_node.specs.State.{no_state}
 use Rattle.radix_node.specs.Run.{Run, cell_at, width_of, IsWhole}
 use Rattle.radix_node.specs.Node.{Parts, runs}
@@ -27,8 +27,10 @@ root_edges p = p % 2 ^ 27 == 0 || nat_le (2 ^ 36) p
 abbrev pub new_tree : Slots
 new_tree = record { info = λ p. None; owner = λ p. None; edge = root_edges }
 
--- the root has four levels, and what is no page is never mapped and never held
+-- the root has four levels, what is no page is never mapped and never held, and the slots are those of
+-- a slot map
 pub record IsRadix (v : Parts) : Type 0 where
   pub top : v.level ≡ 3
   pub whole : IsWhole v.level (512 * width_of v.level) (runs v)
   pub outside : (p : ℕ) → ¬ IsPage p → (cell_at (runs v) p).state ≡ no_state
+  pub laws : (s : Slots) → s ≡ tree_slots v → IsSlotMap s

@@ -20,7 +20,7 @@ use vm_base::{CoreId, NoMemory, PageInfo, PageRange};
 
 /// Makes 512 slots of the slot that has the valid page and begins before it. A refusal for memory
 /// changes nothing.
-pub fn expand<A: Allocator + Clone>(root: &mut Node<A>, page: u64) -> Result<(), NoMemory>
+pub(crate) fn expand<A: Allocator + Clone>(root: &mut Node<A>, page: u64) -> Result<(), NoMemory>
     requires tree { IsRadix root.old }
     requires page { IsPage page }
     requires crossed { (tree_slots root.old).edge page ≡ false }
@@ -35,7 +35,7 @@ pub fn expand<A: Allocator + Clone>(root: &mut Node<A>, page: u64) -> Result<(),
 
 /// Locks the slot that has the cursor for the core, in one walk, where nobody holds it, and it
 /// begins at the cursor and ends by `end`. Else nothing changes.
-pub fn lock<A: Allocator>(root: &mut Node<A>, core: CoreId, cursor: u64, end: u64) -> Lock
+pub(crate) fn lock<A: Allocator>(root: &mut Node<A>, core: CoreId, cursor: u64, end: u64) -> Lock
     requires tree { IsRadix root.old }
     requires ordered { cursor < end }
     requires valid { (1 ≤ cursor) × (end ≤ 2 ^ 35) }
@@ -48,7 +48,7 @@ pub fn lock<A: Allocator>(root: &mut Node<A>, core: CoreId, cursor: u64, end: u6
 /// Gives slots another owner, in one walk: neighbours of one node, from the one that begins at the
 /// cursor on, as long as their owner is the one given. They end by `end`, and are at most `most`.
 #[inline(always)]
-pub fn own_run<A: Allocator>(
+pub(crate) fn own_run<A: Allocator>(
     root: &mut Node<A>,
     cursor: u64,
     end: u64,
@@ -71,7 +71,7 @@ pub fn own_run<A: Allocator>(
 }
 
 /// Unlocks the slot that begins at the page, and answers its end.
-pub fn unlock<A: Allocator>(root: &mut Node<A>, page: u64) -> u64
+pub(crate) fn unlock<A: Allocator>(root: &mut Node<A>, page: u64) -> u64
     requires tree { IsRadix root.old }
     requires page { IsPage page }
     requires begins { (tree_slots root.old).edge page ≡ true }
@@ -111,7 +111,7 @@ fn edit_one<A: Allocator>(root: &mut Node<A>, page: u64, edit: &Edit)
 }
 
 /// Gives a mapped page that is a slot of its own another frame and other cores.
-pub fn set_info<A: Allocator>(root: &mut Node<A>, page: u64, info: PageInfo)
+pub(crate) fn set_info<A: Allocator>(root: &mut Node<A>, page: u64, info: PageInfo)
     requires tree { IsRadix root.old }
     requires page { IsPage page }
     requires alone { IsSlot (tree_slots root.old) page (page + 1) }
@@ -137,7 +137,7 @@ fn edit_of(change: Change) -> Edit
 }
 
 /// Makes a change of pages that no slot crosses the edge of, in one walk over their slots.
-pub fn change<A: Allocator>(root: &mut Node<A>, change: Change)
+pub(crate) fn change<A: Allocator>(root: &mut Node<A>, change: Change)
     requires tree { IsRadix root.old }
     requires sound { IsSoundChange change }
     requires cut { IsCut (tree_slots root.old) (range_of change) }
@@ -152,7 +152,7 @@ pub fn change<A: Allocator>(root: &mut Node<A>, change: Change)
 }
 
 /// Makes a change of a page that is a slot of its own.
-pub fn change_one<A: Allocator>(root: &mut Node<A>, change: Change)
+pub(crate) fn change_one<A: Allocator>(root: &mut Node<A>, change: Change)
     requires tree { IsRadix root.old }
     requires sound { IsSoundChange change }
     requires one { (range_of change).end ≡ (range_of change).first + 1 }
@@ -166,7 +166,7 @@ pub fn change_one<A: Allocator>(root: &mut Node<A>, change: Change)
 
 /// Folds the deepest node below the root that has the page, where all its slots can be one. Answers
 /// whether it did.
-pub fn fold<A: Allocator>(root: &mut Node<A>, page: u64) -> bool
+pub(crate) fn fold<A: Allocator>(root: &mut Node<A>, page: u64) -> bool
     requires tree { IsRadix root.old }
     requires page { IsPage page }
     ensures tree { IsRadix root.new }

@@ -10,7 +10,7 @@ use vm_base::PageRange;
 
 /// What is known after a change of pages.
 #[inline(always)]
-pub fn with_change(full: PageRange, change: Change) -> PageRange
+pub(crate) fn with_change(full: PageRange, change: Change) -> PageRange
     ensures { (s : Slots) → IsMappedRun s full → IsMappedRun (changed s change) result }
 {
     match change {
@@ -22,7 +22,7 @@ pub fn with_change(full: PageRange, change: Change) -> PageRange
 
 /// What is known once the pages of a range are mapped: the run with the range, where they touch,
 /// else the longer of them.
-pub fn with_range(full: PageRange, range: PageRange) -> PageRange
+pub(crate) fn with_range(full: PageRange, range: PageRange) -> PageRange
     ensures { (p : ℕ) → has result p ≡ true → (has full p ≡ true) ⊎ (has range p ≡ true) }
 {
     if range.first <= full.end && full.first <= range.end {
@@ -39,7 +39,7 @@ pub fn with_range(full: PageRange, range: PageRange) -> PageRange
 
 /// What is known once the pages of a range are unmapped: what the run has before the range, or else
 /// what it has after it.
-pub fn without_range(full: PageRange, range: PageRange) -> PageRange
+pub(crate) fn without_range(full: PageRange, range: PageRange) -> PageRange
     ensures { (p : ℕ) → has result p ≡ true → (has full p ≡ true) × (has range p ≡ false) }
 {
     if full.first < range.first {

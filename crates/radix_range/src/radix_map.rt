@@ -77,7 +77,7 @@ impl<A: Allocator> SlotRead for RadixMap<A> {
 }
 
 impl<A: Allocator + Clone> SlotMap for RadixMap<A> {
-    ghost use Rattle.radix_range.specs.TreeLaws.{tree-is_slot_map};
+    ghost use Rattle.std.specs.Prelude.{refl};
     ghost use Rattle.radix_range.specs.Folds.{CanFold, FoldsNode};
     ghost use Rattle.radix_range.specs.Found.{in_512};
 
@@ -87,7 +87,7 @@ impl<A: Allocator + Clone> SlotMap for RadixMap<A> {
 
     ghost folds = { FoldsNode };
 
-    ghost is_slot_map = { λ m. tree-is_slot_map m.root m.ok };
+    ghost is_slot_map = { λ m. m.ok.laws (tree_slots m.root) refl };
 
     ghost reads_all = { λ _ _ h. h };
 

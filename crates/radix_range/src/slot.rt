@@ -19,7 +19,7 @@ pub struct SlotRef<'a> {
 }
 
 /// The slot that has the page, by one index in each level.
-pub fn slot_at<A: Allocator>(root: &Node<A>, page: u64) -> SlotRef<'_>
+pub(crate) fn slot_at<A: Allocator>(root: &Node<A>, page: u64) -> SlotRef<'_>
     requires tree { IsRadix root.now }
     requires page { page < 2 ^ 36 }
     ensures { IsSlotOf (tree_slots root.now) page result.first result.end (state_of result.state.now) }

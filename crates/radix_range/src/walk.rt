@@ -34,7 +34,7 @@ fn free_run<A: Allocator>(root: &Node<A>, range: PageRange, n: u64) -> Option<u6
 
 /// The least start of `n` unmapped pages in the range, if there is one. Pages that are known to be
 /// mapped aren't looked at.
-pub fn first_free_run<A: Allocator>(
+pub(crate) fn first_free_run<A: Allocator>(
     root: &Node<A>,
     full: PageRange,
     range: PageRange,
@@ -70,7 +70,7 @@ pub fn first_free_run<A: Allocator>(
 }
 
 /// The cores that are recorded on some page of the range.
-pub fn recorded<A: Allocator>(root: &Node<A>, range: PageRange) -> CoreSet
+pub(crate) fn recorded<A: Allocator>(root: &Node<A>, range: PageRange) -> CoreSet
     requires tree { IsRadix root.now }
     requires range { IsPageRange range }
     ensures { (core : ℕ) → (members result core ≡ true) ↔ IsUser (tree_slots root.now) range core }
@@ -80,7 +80,12 @@ pub fn recorded<A: Allocator>(root: &Node<A>, range: PageRange) -> CoreSet
 
 /// Adds the pages from `from` up to `end` that have a frame, and their frames, to the list, in
 /// order of pages, until it is full. Answers the page up to which none is left out.
-pub fn list_frames<A: Allocator>(root: &Node<A>, from: u64, end: u64, list: &mut FramedPages) -> u64
+pub(crate) fn list_frames<A: Allocator>(
+    root: &Node<A>,
+    from: u64,
+    end: u64,
+    list: &mut FramedPages,
+) -> u64
     requires tree { IsRadix root.now }
     requires ordered { from ≤ end }
     requires end { end ≤ 2 ^ 35 }

@@ -1,21 +1,13 @@
 -- What is written for an event is read as it was meant, and what is told tells outcomes apart
-use Rattle.std.proofs.Common.{◌≡◌, ℕ, List, ◌+◌, ◌<◌, Bool, true, false, cond, refl, sym, ap, ◌∙◌, ◌==◌, arith}
-use Rattle.std.specs.Prelude.{Option, None, Some, nat_lt, if◌then◌else◌, Result, Ok, Err}
-use Rattle.std.proofs.lemmas.Bool.Decides.{nat_tests}
-use Rattle.vm_base.specs.declared.rights.Prot.{Prot}
-use Rattle.vm_base.specs.declared.requests.Flags.{Flags}
-use Rattle.vm_base.specs.declared.requests.Request.{Request}
+use Rattle.machine_laws.proofs.Words.{◌≡◌, ℕ, List, ◌+◌, ◌<◌, Bool, true, false, cond, refl, sym, ap, ◌∙◌, ◌==◌, arith, nat_lt, if◌then◌else◌, nat_tests}
+use Rattle.machine_laws.proofs.Words.{Prot, Flags, Request, Entry, Errno, EINVAL, ENOMEM, EACCES, EBADF, EOVERFLOW, MapErr, Reply, Event, Stepped, Wait, Idle}
+use Rattle.machine_laws.proofs.Words.{Answered, Full}
+use Rattle.std.specs.Prelude.{Option, None, Some, Result, Ok, Err}
 use Rattle.vm_base.specs.declared.requests.Request.TheVariants as Asks
-use Rattle.vm_base.specs.declared.log.Entry.{Entry}
 use Rattle.vm_base.specs.declared.log.Entry.TheVariants as In
-use Rattle.vm_base.specs.declared.replies.Errno.{Errno}
-use Rattle.vm_base.specs.declared.replies.Errno.TheVariants.{EINVAL, ENOMEM, EACCES, EBADF, EOVERFLOW}
-use Rattle.vm_base.specs.declared.replies.SegvCode.TheVariants.{MapErr, AccErr}
-use Rattle.vm_base.specs.declared.replies.Reply.{Reply}
+use Rattle.vm_base.specs.declared.replies.SegvCode.TheVariants.{AccErr}
 use Rattle.vm_base.specs.declared.replies.Reply.TheVariants as By
-use Rattle.machine_model.specs.declared.event.Event.{Event}
 use Rattle.machine_model.specs.declared.event.Event.TheVariants as Ev
-use Rattle.machine_model.specs.declared.event.Outcome.TheVariants.{Stepped, Wait, Idle, Answered, Full}
 use Rattle.machine_model.specs.declared.event.Blocker.TheVariants as On
 use Rattle.machine_model.specs.Events.{core_of as core_that_takes}
 use Rattle.core_steps.specs.declared.machine.Finished.{Finished}

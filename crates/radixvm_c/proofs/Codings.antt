@@ -1,9 +1,8 @@
 -- Codes by their places in a list, and sets of cores by their bits
-use Rattle.std.proofs.Common.{◌≡◌, ℕ, zero, suc, ◌-◌, ◌+◌, ◌*◌, ◌^◌, ◌%◌, ◌<◌, ◌≤◌, get_or, refl, sym, ◌∙◌, arith, subst}
+use Rattle.machine_laws.proofs.Words.{◌≡◌, ℕ, zero, suc, ◌-◌, ◌+◌, ◌*◌, ◌^◌, ◌%◌, ◌<◌, ◌≤◌, get_or, refl, sym, ◌∙◌, arith, subst, slice_get-get_or}
 use Rattle.std.specs.Prelude.{Some}
 use Rattle.std.specs.Int.{bit_at}
 use Rattle.std.proofs.lemmas.Nat.{mod-pow-add}
-use Rattle.std.proofs.lemmas.Option.{slice_get-get_or}
 use Rattle.radixvm_c.specs.declared.codes.Kind.{Kind}
 use Rattle.radixvm_c.specs.Codes.{kind_of, kinds}
 

@@ -1,6 +1,6 @@
 -- What is said of a handle
-use Rattle.std.proofs.Common.{◌≡◌, false, refl}
-use Rattle.std.specs.Prelude.{Option, None, Some, is_some}
+use Rattle.machine_laws.proofs.Words.{◌≡◌, false, refl, is_some}
+use Rattle.std.specs.Prelude.{Option, None, Some}
 use Rattle.core_steps.specs.Machine.{IsLegal}
 use Rattle.core_steps.proofs.Reached.{legal}
 use Rattle.radixvm_c.specs.declared.held.Held.{Held}

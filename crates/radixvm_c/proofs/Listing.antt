@@ -1,7 +1,8 @@
 -- What is told one by one
-use Rattle.std.proofs.Common.{◌≡◌, ℕ, ◌+◌, ◌<◌, ◌≤◌, List, ◌++◌, sym, subst, ap, ◌∙◌, take, drop, map, length, get_or, set, min, arith}
+use Rattle.machine_laws.proofs.Words.{◌≡◌, ℕ, ◌+◌, ◌<◌, ◌≤◌, List, ◌++◌, sym, subst, ap, ◌∙◌, take, drop, map, length, get_or, set, arith, take_more}
+use Rattle.std.proofs.Common.{min}
 use native.Mathlib.Nat.{min_comm, min-le_left}
-use Rattle.std.proofs.lemmas.List.{take_more, length-take-le}
+use Rattle.std.proofs.lemmas.List.{length-take-le}
 use Rattle.radixvm_c.proofs.Batching.{told_more}
 
 -- what is below the lesser of two is below both

@@ -1,15 +1,8 @@
 -- What the log of a legal state has
-use Rattle.std.proofs.Common.{◌≡◌, ℕ, zero, suc, Bool, true, List, [], ◌∷◌, refl, subst, ap}
-use Rattle.std.proofs.Math.Logic.{∥∥₁_elim}
-use Rattle.std.proofs.Props.{props}
-use Rattle.std.specs.Prelude.{Option, None, Some, is_some, slice_get}
-use Rattle.vm_base.specs.declared.requests.Request.{Request}
-use Rattle.vm_base.specs.declared.replies.Reply.{Reply}
-use Rattle.vm_base.specs.declared.log.Entry.{Entry}
-use Rattle.vm_base.specs.declared.log.Entry.TheVariants.{Answer, Detach}
-use Rattle.vm_base.specs.Plain.{Plain}
-use Rattle.vm_base.specs.Log.{nth, EntryLeads, Replays}
-use Rattle.machine_model.specs.World.{World}
+use Rattle.machine_laws.proofs.Words.{◌≡◌, ℕ, zero, suc, Bool, true, List, [], ◌∷◌, refl, subst, ap, ∥∥₁_elim, props, is_some, Request, Reply, Entry, Detach}
+use Rattle.machine_laws.proofs.Words.{Plain, nth, EntryLeads, Replays, World}
+use Rattle.std.specs.Prelude.{Option, None, Some, slice_get}
+use Rattle.vm_base.specs.declared.log.Entry.TheVariants.{Answer}
 use Rattle.machine_laws.specs.Brackets.{IsAnswer}
 use Rattle.core_steps.specs.Machine.{IsLegal}
 

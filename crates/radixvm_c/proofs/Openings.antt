@@ -1,13 +1,10 @@
 -- Files that are opened one by one, and the machine that has them
-use Rattle.std.proofs.Common.{◌≡◌, ℕ, zero, suc, Bool, ◌+◌, ◌-◌, ◌≤◌, List, [], ◌∷◌, ◌++◌, refl, sym, ap, ◌∙◌, take, drop, length, arith, inl, inr}
-use Rattle.std.specs.Prelude.{◌<◌, get_or, None, slice_get, ◌||◌}
+use Rattle.machine_laws.proofs.Words.{◌≡◌, ℕ, zero, suc, Bool, ◌+◌, ◌-◌, ◌≤◌, List, [], ◌∷◌, ◌++◌, refl, sym, ap, ◌∙◌, take, drop, length, arith, inl, inr}
+use Rattle.machine_laws.proofs.Words.{◌||◌, slice_get-get_or, given_files, Slots, IsNew, World, new_world}
+use Rattle.std.specs.Prelude.{◌<◌, get_or, None, slice_get}
 use Rattle.std.specs.List.{list_any}
 use Rattle.std.proofs.lemmas.List.{length-take-le, length-drop}
-use Rattle.std.proofs.lemmas.Option.{slice_get-get_or}
 use Rattle.backing.specs.declared.file_spec.FileSpec.{FileSpec}
-use Rattle.backing.specs.Given.{given_files}
-use Rattle.slot_lock.specs.Slots.{Slots, IsNew}
-use Rattle.machine_model.specs.World.{World, new_world}
 use Rattle.core_steps.specs.declared.setup.Setup.{Setup}
 use Rattle.core_steps.specs.declared.setup.CallLimit.{CallLimit}
 use Rattle.core_steps.specs.declared.setup.SetupFault.{SetupFault}

@@ -1,6 +1,7 @@
 -- The machine values of a `Loose` and of a `Handle`. Assumes `Logic`.
-use Rattle.std.proofs.Common.{◌≡◌, ℕ, List, [], ◌∷◌, ◌++◌, refl, sym, subst, lit<}
-use Rattle.std.specs.Prelude.{Option, None, Some, is_some, IsSome}
+use Rattle.machine_laws.proofs.Words.{◌≡◌, ℕ, List, [], ◌∷◌, ◌++◌, refl, sym, subst, is_some, IsSome, ghosts}
+use Rattle.std.proofs.Common.{lit<}
+use Rattle.std.specs.Prelude.{Option, None, Some}
 use mathlib.Core.Bool.{Bool, true, false, ◌&&◌, not}
 use lib.Dec.{T}
 use seplogic.Ra.Ura.{Ura}
@@ -35,7 +36,6 @@ use Rattle.std.specs.declared.alloc.Global.{Global}
 use Rattle.std.specs.contracts.alloc.Global as heap
 use Rattle.std.proofs.alloc.Global.TheLaws as heap_laws
 use Rattle.std.proofs.GlobalToken.{dealloc_token-Testable}
-use Rattle.std.specs.contracts.impls.GlobalAllocator.TheImpl.{ghosts}
 use Rattle.radixvm_c.specs.Behind.{held_at}
 use Rattle.radixvm_c.specs.contracts.held.Held as vm
 use Rattle.radixvm_c.specs.contracts.loose.Loose as loose
@@ -43,11 +43,6 @@ use Rattle.radixvm_c.specs.contracts.handle.Handle as handle
 
 abbrev pub both : Val → Val → Val
 both v w = vstruct (vcons v (vcons w vnil))
-
-pub both_tt : (x y : Bool) → T x → T y → T (x && (y && true))
-both_tt true true s t = tt
-both_tt true false s t = absurd t
-both_tt false y s t = absurd s
 
 module _ (R Z : RattleType) (L : Laws Z) (g : Ghosts Z.Denot) where
   abbrev pub Loose : RattleType

@@ -3,7 +3,7 @@ use Rattle.std.specs.Prelude.{◌≡◌, ◌⊎◌, List, ◌++◌, length, map,
 use Rattle.std.specs.Prelude.{Option, None, Some, Result, Ok, Err}
 use Rattle.vm_base.specs.declared.info.Back.{Back}
 use Rattle.vm_base.specs.declared.info.Back.TheVariants.{Anon, Shared, Private}
-use Rattle.map_list.specs.declared.lines.MapLine.{MapLine}
+use Rattle.slot_lock.specs.declared.map_list.MapLine.{MapLine}
 use Rattle.machine_model.specs.World.{World}
 use Rattle.core_steps.specs.MapLines.{ListsMaps}
 use Rattle.radixvm_c.specs.declared.opening.Refusal.{Refusal}

@@ -7,8 +7,7 @@ use crate::batch::{Ended, LENGTH_LIMIT, Stop};
 use crate::bits::bits_of_prot;
 use crate::opening::Refusal;
 use core_steps::{Ledger, Machine};
-use map_list::MapLine;
-use slot_lock::SlotMap;
+use slot_lock::{MapLine, SlotMap};
 use std::alloc::{Allocator, Global};
 use vm_base::Back;
 

@@ -1,17 +1,14 @@
 -- The least object of a core's places.
-use Rattle.std.proofs.Common.{◌≡◌, ◌≢◌, ℕ, ◌<◌, ◌≤◌, ◌+◌, ◌%◌, ◌==◌, false, cond, refl, sym, ap, subst, arith, ◌∙◌, List, Option, Some}
-use Rattle.std.proofs.Common.{None, IfSome, IfNone, slice_index_or, nat_lt, ◌⊎◌, inl, inr, Bool, true, is_some}
+use Rattle.std.proofs.Common.{◌≡◌, ◌≢◌, ℕ, ◌<◌, ◌≤◌, ◌+◌, ◌%◌, ◌==◌, false, cond, refl, sym, ap, arith, ◌∙◌, List, Option, Some}
+use Rattle.std.proofs.Common.{None, slice_index_or, nat_lt, ◌⊎◌, inl, inr, Bool, true, is_some}
 use Rattle.std.proofs.lemmas.Bool.{cases_lt}
 use Rattle.std.proofs.lemmas.Bool.Decides.{nat_tests}
 use Rattle.refcache.specs.declared.places.Entry.{Entry}
 use Rattle.refcache.specs.Places.{entries, if_its, in_use}
-use Rattle.refcache.specs.Pieces.{ArePlaces, Fits, IsLeast, lesser_object}
-use Rattle.vm_base.specs.Cores.{members}
+use Rattle.refcache.specs.Pieces.{lesser_object}
 use Rattle.vm_base.specs.Functions.{put}
-use Rattle.vm_base.proofs.CoreSets.{members-empty}
 use Rattle.vm_base.proofs.Functions.{by_test, put_other, eq_false}
 use Rattle.refcache.proofs.Sums.{same_or_not}
-use Rattle.refcache.proofs.Way.{its}
 
 abbrev at : List (Option Entry) → ℕ → Option Entry
 at places j = slice_index_or places j None
@@ -109,34 +106,3 @@ absent places p h = go (at places (p % 64)) refl
         let ne : x.object ≢ p = h x e in
         let t : (x.object == p) ≡ false = grind (arith, nat_tests) in
         ap (λ x. if_its x p) e ∙ ap (λ b. cond b (Some x.delta) None) t
-
--- once no place is left
-abbrev AreDone : (ℕ → Bool) → Type 0
-AreDone left = (j : ℕ) → j < 64 → left j ≡ false
-
-least_none : (places : List (Option Entry)) (left : ℕ → Bool) → AreDone left → IsLeastBeside places left None → (o : ℕ) → entries places o ≡ None
-least_none places left done h o = absent places o (λ e at. absurd (some_none (sym at ∙ h (o % 64) (done (o % 64) (omega arith)))))
-
-least_some : (places : List (Option Entry)) (left : ℕ → Bool) (o : ℕ) → AreDone left → ArePlaces places → IsLeastBeside places left (Some o)
-    → IsLeast (entries places) o
-least_some places left o done all h =
-    let f = h.0 in
-    let e = f.1 in
-    let fits = subst (Fits f.0) f.3 (all.each f.0 f.2) in
-    let place : o % 64 ≡ f.0 = ap (λ z. z % 64) (sym f.4) ∙ fits.0 in
-    let here : entries places o ≡ Some e.delta = ap (λ j. if_its (slice_index_or places j None) o) place ∙ ap (λ x. if_its x o) f.3 ∙ its e o f.4 in
-    record {
-      entry = λ none. some_none (sym here ∙ none);
-      least = λ p lt. absent places p
-          (λ y at same. let b = h.1 (p % 64) y (done (p % 64) (omega arith)) at in omega (arith, b, lt, same));
-    }
-
-pub least_at_end : (places : List (Option Entry)) (left : ℕ → Bool) (least : Option ℕ) → ((j : ℕ) → j < 64 → left j ≡ false) → ArePlaces places
-    → IsLeastBeside places left least → IfSome least (λ o. IsLeast (entries places) o) × IfNone least ((o : ℕ) → entries places o ≡ None)
-least_at_end places left None done all h = (tt, least_none places left done h)
-least_at_end places left (Some o) done all h = (least_some places left o done all h, tt)
-
-pub least_of_all : (places : List (Option Entry)) (left : ℕ) (least : Option ℕ) → left ≡ 0 → ArePlaces places
-    → IsLeastBeside places (members left) least
-    → IfSome least (λ o. IsLeast (entries places) o) × IfNone least ((o : ℕ) → entries places o ≡ None)
-least_of_all places left least none all h = least_at_end places (members left) least (λ j lt. ap (λ s. members s j) none ∙ members-empty j) all h

@@ -1,4 +1,4 @@
-//! Sets of a core's places.
+//! Which places of a core have an entry, as bits.
 
 ghost use Rattle.std.specs.Prelude.{◌≡◌, ℕ, ◌<◌, IfNone, IfSome, true, false};
 ghost use Rattle.vm_base.specs.Functions.{put};

@@ -74,7 +74,7 @@ pub(crate) fn drop_entry(places: &mut [Option<Entry>], object: u32)
 }
 
 /// How far a delta may go from 0.
-pub const DELTA_LIMIT: i64 = 1 << 40;
+pub(crate) const DELTA_LIMIT: i64 = 1 << 40;
 
 /// Tells whether a delta is small enough.
 fn is_delta(delta: i64) -> bool

@@ -1,12 +1,12 @@
 -- Notes that grow step by step
-use Rattle.std.proofs.Common.{◌≡◌, ℕ, ◌+◌, ◌&&◌, Bool, true, false, List, [], ◌∷◌, ◌++◌, append_assoc, refl, sym, ap, ◌∙◌, subst}
+use Rattle.std.proofs.Common.{◌≡◌, ℕ, ◌+◌, ◌&&◌, true, [], ◌∷◌, ◌++◌, append_assoc, refl, sym, ap, ◌∙◌, subst}
 use Rattle.std.specs.List.{list_all}
 use Rattle.std.proofs.lemmas.List.{append-nil}
 use Rattle.std.proofs.lemmas.List.Folds.{list_all-append}
 use Rattle.machine_model.specs.declared.event.Outcome.TheVariants.{Stepped}
 use Rattle.seats.specs.declared.noted.Noted.{Noted}
 use Rattle.seats.specs.Notes.{SeatView, noted, with_note}
-use Rattle.seats.specs.Growing.{IsSame, Grew, Steps, is_between, are_between}
+use Rattle.seats.specs.Growing.{IsSame, Grew, Steps, is_between}
 
 pub same_trans : (a b c : SeatView) → IsSame a b → IsSame b c → IsSame a c
 same_trans a b c h k = record { word = k.word ∙ h.word; core = k.core ∙ h.core; plain = k.plain ∙ h.plain }
@@ -28,9 +28,6 @@ grew_beside a b r f p e = grew_same a b (record {
 
 pub grew_room : (a b : SeatView) → b ≡ record a { room = b.room } → Grew a b
 grew_room a b e = grew_beside a b b.room a.next_frame a.next_page e
-
-pub grew_next_frame : (a b : SeatView) → b ≡ record a { next_frame = b.next_frame } → Grew a b
-grew_next_frame a b e = grew_beside a b a.room b.next_frame a.next_page e
 
 pub grew_next_page : (a b : SeatView) → b ≡ record a { next_page = b.next_page } → Grew a b
 grew_next_page a b e = grew_beside a b a.room a.next_frame b.next_page e

@@ -2,8 +2,8 @@
 use Rattle.std.proofs.Common.{◌≡◌, ℕ, ◌<◌, List, [], ◌∷◌, ◌++◌, map, sym, ap, ◌∙◌, subst}
 use Rattle.std.specs.Prelude.{All}
 use Rattle.std.proofs.lemmas.List.{map-append}
-use Rattle.tickets.specs.Tickets.{Rises}
-use Rattle.tickets.proofs.Dealing.{Rises-push}
+use Rattle.seats.specs.Tickets.{Rises}
+use Rattle.seats.proofs.Dealing.{Rises-push}
 use Rattle.seats.specs.declared.noted.Noted.{Noted}
 use Rattle.seats.specs.Notes.{ticket_of}
 

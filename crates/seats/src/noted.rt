@@ -1,4 +1,4 @@
-//! Notes of steps.
+//! One note: a step with its ticket and what it came to.
 use machine_model::{Event, Outcome};
 
 /// A step as a thread took it: its ticket, its event and what it came to.

@@ -1,18 +1,18 @@
 //! A seat: a core's right to draw tickets, with what was noted under each.
 ghost use Rattle.std.specs.Prelude.{◌≡◌, ◌+◌, ◌-◌, ◌^◌, ◌<◌, ◌≤◌, ◌↔◌, [], map, length, All, IsTrue};
 ghost use Rattle.std.specs.Arc.{arc_value};
-ghost use Rattle.tickets.specs.Tickets.{Rises};
+ghost use Rattle.seats.specs.Tickets.{Rises};
 ghost use Rattle.machine_model.specs.declared.event.Event.TheVariants.{Call, Fold, Go};
 ghost use Rattle.machine_model.specs.declared.event.Outcome.TheVariants.{Stepped};
 ghost use Rattle.seats.specs.Notes.{noted, ticket_of, with_note};
 
 use crate::noted::Noted;
+use crate::tickets::{Ticketer, Tickets};
 use live_levels::level::Stepper;
 use machine_model::{Event, Outcome};
 use std::alloc::Allocator;
 use std::marker::Model;
 use std::sync::Arc;
-use tickets::{Ticketer, Tickets};
 use vm_base::{CoreId, Request};
 
 /// How many steps a seat may note.
@@ -35,7 +35,7 @@ pub struct Seat<A: Allocator> {
 impl<A: Allocator> Model for Seat<A> {
     ghost use Rattle.std.specs.Prelude.{◌≡◌, ◌-◌, ◌^◌, ◌≤◌, map, min, vec_len, vec_capacity, true};
     ghost use Rattle.std.specs.Arc.{arc_value};
-    ghost use Rattle.tickets.specs.Tickets.{Rises};
+    ghost use Rattle.seats.specs.Tickets.{Rises};
     ghost use Rattle.machine_model.specs.declared.event.Outcome.TheVariants.{Stepped};
     ghost use Rattle.seats.specs.Growing.{is_between};
     ghost use Rattle.seats.specs.Notes.{SeatView, ticket_of};

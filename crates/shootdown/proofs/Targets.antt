@@ -4,7 +4,7 @@ use Rattle.std.proofs.Math.Path.{fun_ext}
 use Rattle.std.proofs.lemmas.Bool.{cases_lt}
 use Rattle.vm_base.specs.declared.page.PageRange.{PageRange}
 use Rattle.vm_base.specs.Functions.{put}
-use Rattle.vm_base.proofs.Functions.{by_test, put_all, eq_true, eq_false}
+use Rattle.vm_base.proofs.Functions.{by_test, put_all, eq_false}
 use Rattle.shootdown.specs.declared.message.Message.{Message}
 use Rattle.shootdown.specs.Messages.{posted}
 use Rattle.shootdown.proofs.Senders.{test_of, test_itself}
@@ -15,13 +15,6 @@ done to left d = to d && not (left d)
 
 abbrev pub sent_to : ℕ → PageRange → (ℕ → Bool) → (ℕ → List Message) → ℕ → List Message
 sent_to from range s inbox d = cond (s d) (inbox d ++ posted from range ∷ []) (inbox d)
-
-done_now : (to left : ℕ → Bool) (t : ℕ) → to t ≡ true → done to (put left t false) ≡ put (done to left) t true
-done_now to left t e = fun_ext (λ d. by d (d == t) refl)
-  where
-    by : (d : ℕ) (b : Bool) → (d == t) ≡ b → to d && not (cond b false (left d)) ≡ cond b true (to d && not (left d))
-    by d true s = rw (eq_true d t s) (rw e refl)
-    by d false s = refl
 
 -- one message more
 pub sent_next : (from : ℕ) (range : PageRange) (to left : ℕ → Bool) (inbox : ℕ → List Message) (t : ℕ) → to t ≡ true → left t ≡ true

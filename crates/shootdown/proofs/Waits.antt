@@ -109,10 +109,3 @@ pub empty_sets : (n : ℕ) (x : ℕ) → x ≡ 0 → (c d : ℕ) → members (ge
 empty_sets zero x e c d = ap (λ b. b == 1) (bit_at-zero d)
 empty_sets (suc n) x e zero d = rw e (ap (λ b. b == 1) (bit_at-zero d))
 empty_sets (suc n) x e (suc c) d = empty_sets n x e c d
-
-pub index_none : (boxes : List InboxOf) (waits : List ℕ) → ((d : ℕ) → inbox boxes d ≡ [])
-    → ((d : ℕ) → d < length boxes → owner boxes d ≡ d) → ((c d : ℕ) → members (get_or waits c 0) d ≡ false) → AreIndexed boxes waits
-index_none boxes waits none own w = record {
-  own = own;
-  kept = λ c h. fun_ext (λ d. w c d ∙ ap (λ ms. is_some (message_of ms c)) (sym (none d)));
-}

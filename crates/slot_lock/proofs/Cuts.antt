@@ -1,29 +1,26 @@
 -- A slot cut in two
-use Rattle.std.proofs.Common.{◌≡◌, ◌≢◌, ℕ, ◌+◌, ◌-◌, ◌^◌, ◌<◌, ◌≤◌, ◌==◌, ◌⊎◌, inl, inr, ⊎_elim, true, List, length, is_some, refl, sym, ◌∙◌, ap, arith}
-use Rattle.std.proofs.lemmas.Bool.{cases_lt, cases_eq}
+use Rattle.slot_lock.proofs.Words.{◌≡◌, ◌≢◌, ℕ, ◌+◌, ◌-◌, ◌^◌, ◌<◌, ◌≤◌, ◌==◌, ◌⊎◌, inl, inr, ⊎_elim, true, List, length, is_some, refl, sym, ◌∙◌, ap, arith}
+use Rattle.slot_lock.proofs.Words.{cases_lt, cases_eq, PageRange, has, info_from, info_file_page, is_leaf, by_test, has_in, eq_true}
 use Rattle.std.proofs.lemmas.List.Edits.{length-insert, get_or-insert_below, get_or-insert_at, get_or-insert_above}
-use Rattle.vm_base.specs.declared.page.PageRange.{PageRange}
-use Rattle.vm_base.specs.Functions.{has}
-use Rattle.vm_base.specs.Info.{info_from, info_file_page, is_leaf}
-use Rattle.vm_base.proofs.Functions.{by_test, has_in}
 use Rattle.slot_lock.specs.declared.slot.Slot.{Slot}
-use Rattle.slot_lock.specs.SlotList.{IsSlotList, IsInside, get_slot, slot_at, nobody, tail_from, cut_list}
-use Rattle.slot_lock.specs.Places.{Found, found, slot_at_is}
+use Rattle.slot_lock.specs.SlotList.{IsSlotList, IsInsideSlot, get_slot, slot_at, empty_slot, tail_from, cut_list}
+use Rattle.slot_lock.proofs.Places.{Found, found, slot_at_is}
 use Rattle.slot_lock.specs.Slots.{Divides, DividesAs, divided, between}
 use Rattle.slot_lock.specs.ListedSlots.{slots_of, two_parts}
-use Rattle.slot_lock.specs.ListLaws.{info_from_twice, fits_on, is_leaf-info_from, same_test, other_test, from_test, is_slot}
+use Rattle.slot_lock.proofs.ListLaws.{info_from_twice, file_page_on, is_leaf-info_from, is_slot}
 use Rattle.slot_lock.proofs.Edits.{has_not, same_slots}
+use Rattle.slot_lock.proofs.Facts.{same_test, other_test}
 
-pub below : (rs : List Slot) (i at : ℕ) → IsInside rs i at → (k : ℕ) → k ≤ i → get_slot (cut_list rs i at) k ≡ get_slot rs k
-below rs i at h k l = get_or-insert_below rs (i + 1) (tail_from (get_slot rs i) at) nobody k (omega arith) (omega (arith, h.inner.before_last))
+pub below : (rs : List Slot) (i at : ℕ) → IsInsideSlot rs i at → (k : ℕ) → k ≤ i → get_slot (cut_list rs i at) k ≡ get_slot rs k
+below rs i at h k l = get_or-insert_below rs (i + 1) (tail_from (get_slot rs i) at) empty_slot k (omega arith) (omega (arith, h.inner.before_last))
 
-pub here : (rs : List Slot) (i at : ℕ) → IsInside rs i at → get_slot (cut_list rs i at) (i + 1) ≡ tail_from (get_slot rs i) at
-here rs i at h = get_or-insert_at rs (i + 1) (tail_from (get_slot rs i) at) nobody (omega (arith, h.inner.before_last))
+pub here : (rs : List Slot) (i at : ℕ) → IsInsideSlot rs i at → get_slot (cut_list rs i at) (i + 1) ≡ tail_from (get_slot rs i) at
+here rs i at h = get_or-insert_at rs (i + 1) (tail_from (get_slot rs i) at) empty_slot (omega (arith, h.inner.before_last))
 
-pub above : (rs : List Slot) (i at : ℕ) → IsInside rs i at → (k : ℕ) → i + 1 ≤ k → get_slot (cut_list rs i at) (k + 1) ≡ get_slot rs k
-above rs i at h k l = get_or-insert_above rs (i + 1) (tail_from (get_slot rs i) at) nobody k l (omega (arith, h.inner.before_last))
+pub above : (rs : List Slot) (i at : ℕ) → IsInsideSlot rs i at → (k : ℕ) → i + 1 ≤ k → get_slot (cut_list rs i at) (k + 1) ≡ get_slot rs k
+above rs i at h k l = get_or-insert_above rs (i + 1) (tail_from (get_slot rs i) at) empty_slot k l (omega (arith, h.inner.before_last))
 
-pub longer : (rs : List Slot) (i at : ℕ) → IsInside rs i at → length (cut_list rs i at) ≡ length rs + 1
+pub longer : (rs : List Slot) (i at : ℕ) → IsInsideSlot rs i at → length (cut_list rs i at) ≡ length rs + 1
 longer rs i at h = length-insert rs (i + 1) (tail_from (get_slot rs i) at) (omega (arith, h.inner.before_last))
 
 -- a place of the cut list: as before, the new one, or one further
@@ -36,26 +33,14 @@ which : (i k : ℕ) → At i k
 which i k = ⊎_elim (λ l. before (omega arith)) (λ l. ⊎_elim (λ m. new (omega arith)) (λ m. after (k - 1) (omega arith) (omega arith))
     (cases_lt k (i + 2))) (cases_lt k (i + 1))
 
-along : (P : Slot → Type 0) (a b : Slot) → a ≡ b → P b → P a
-along P a b e p = rw e p
-
-along_both : (P : Slot → Slot → Type 0) (a b c d : Slot) → a ≡ c → b ≡ d → P c d → P a b
+pub along_both : (P : Slot → Slot → Type 0) (a b c d : Slot) → a ≡ c → b ≡ d → P c d → P a b
 along_both P a b c d e f p = rw (e, f) p
 
 get_same : (rs : List Slot) (j k : ℕ) → j ≡ k → get_slot rs j ≡ get_slot rs k
 get_same rs j k e = ap (get_slot rs) e
 
--- what holds of each slot of the old list and of the new one holds of each of the cut list
-each : (P : Slot → Type 0) (rs : List Slot) (i at : ℕ) → (h : IsInside rs i at) → ((k : ℕ) → k < length rs → P (get_slot rs k))
-    → P (tail_from (get_slot rs i) at) → (k : ℕ) → k < length (cut_list rs i at) → P (get_slot (cut_list rs i at) k)
-each P rs i at h old one k l = elim (which i k) as (λ _. P (get_slot (cut_list rs i at) k)) [
-  | before b ↦ along P _ _ (below rs i at h k b) (old k (omega (arith, h.inner.before_last)))
-  | new e ↦ along P _ _ (get_same _ _ _ e ∙ here rs i at h) one
-  | after j b e ↦ along P _ _ (get_same _ _ _ e ∙ above rs i at h j b) (let n = longer rs i at h in old j (omega arith))
-]
-
 -- what holds of each slot and the next
-each_next : (P : Slot → Slot → Type 0) (rs : List Slot) (i at : ℕ) → (h : IsInside rs i at)
+each_next : (P : Slot → Slot → Type 0) (rs : List Slot) (i at : ℕ) → (h : IsInsideSlot rs i at)
     → ((k : ℕ) → k + 1 < length rs → P (get_slot rs k) (get_slot rs (k + 1))) → P (get_slot rs i) (tail_from (get_slot rs i) at)
     → P (tail_from (get_slot rs i) at) (get_slot rs (i + 1)) → (k : ℕ) → k + 1 < length (cut_list rs i at)
     → P (get_slot (cut_list rs i at) k) (get_slot (cut_list rs i at) (k + 1))
@@ -75,10 +60,10 @@ each_next P rs i at h old to from k l = elim (which i (k + 1)) as (λ _. P (get_
   ]
 ]
 
-not_leaf : (rs : List Slot) → IsSlotList rs → (i at : ℕ) → IsInside rs i at → is_leaf (get_slot rs i).info ≡ true → ⊥
+not_leaf : (rs : List Slot) → IsSlotList rs → (i at : ℕ) → IsInsideSlot rs i at → is_leaf (get_slot rs i).info ≡ true → ⊥
 not_leaf rs ok i at h l = let e = ok.alone i h.inner.before_last l in omega (arith, h.above, h.below)
 
-pub cut_list-IsSlotList : (rs : List Slot) → IsSlotList rs → (i at : ℕ) → IsInside rs i at → IsSlotList (cut_list rs i at)
+pub cut_list-IsSlotList : (rs : List Slot) → IsSlotList rs → (i at : ℕ) → IsInsideSlot rs i at → IsSlotList (cut_list rs i at)
 cut_list-IsSlotList rs ok i at h =
     let n = longer rs i at h in
     let fits = ok.fits i h.inner.before_last in
@@ -97,8 +82,7 @@ cut_list-IsSlotList rs ok i at h =
       limit_free = ap (λ (r : Slot). is_some r.owner) end ∙ ok.limit_free;
       fits = each_next (λ r s. info_file_page r.info + (s.start - r.start) ≤ 2 ^ 35) rs i at h ok.fits
           (omega (arith, fits, h.above, h.below))
-          (let f = fits_on (get_slot rs i).info (at - (get_slot rs i).start) ((get_slot rs (i + 1)).start - (get_slot rs i).start)
-          (omega (arith, h.above, h.below)) fits in omega (arith, h.above));
+          (omega (arith, fits, h.above, h.below, file_page_on (get_slot rs i).info (at - (get_slot rs i).start)));
       alone = each_next (λ r s. is_leaf r.info ≡ true → s.start ≡ r.start + 1) rs i at h ok.alone
           (λ l. absurd (not_leaf rs ok i at h l))
           (λ l. absurd (not_leaf rs ok i at h (sym (is_leaf-info_from (get_slot rs i).info (at - (get_slot rs i).start)) ∙ l)));
@@ -109,7 +93,7 @@ data Moved (rs : List Slot) (i at p : ℕ) : Type 0 where
   stays : slot_at (cut_list rs i at) p ≡ slot_at rs p → Moved rs i at p
   moves : at ≤ p → slot_at rs p ≡ get_slot rs i → slot_at (cut_list rs i at) p ≡ tail_from (get_slot rs i) at → Moved rs i at p
 
-moved : (rs : List Slot) → IsSlotList rs → (i at : ℕ) → IsInside rs i at → (p : ℕ) → Moved rs i at p
+moved : (rs : List Slot) → IsSlotList rs → (i at : ℕ) → IsInsideSlot rs i at → (p : ℕ) → Moved rs i at p
 moved rs ok i at h p = go (found rs ok p)
   where
     cut_ok : IsSlotList (cut_list rs i at)
@@ -150,7 +134,7 @@ moved rs ok i at h p = go (found rs ok p)
     go f = ⊎_elim (λ (l : f.at < i). lower f l) (λ (l : i ≤ f.at). ⊎_elim (λ (m : i < f.at). higher f m)
         (λ (m : f.at ≤ i). same f (omega arith)) (cases_lt i f.at)) (cases_lt f.at i)
 
-pub cut_list-Divides : (rs : List Slot) → IsSlotList rs → (i at : ℕ) → IsInside rs i at
+pub cut_list-Divides : (rs : List Slot) → IsSlotList rs → (i at : ℕ) → IsInsideSlot rs i at
     → Divides (slots_of rs) (slots_of (cut_list rs i at)) (get_slot rs i).owner at
 cut_list-Divides rs ok i at h = record {
   info = λ j p. same_info p (moved rs ok i at h p) j;
@@ -183,21 +167,21 @@ cut_list-Divides rs ok i at h = record {
 
     kept : (p : ℕ) → Moved rs i at p → (slots_of rs).edge p ≡ true → (slots_of (cut_list rs i at)).edge p ≡ true
     kept p (stays e) k = rw e k
-    kept p (moves l f e) k = let s = from_test _ _ (rw f at k) in absurd (omega (arith, h.above))
+    kept p (moves l f e) k = let s = eq_true _ _ (rw f at k) in absurd (omega (arith, h.above))
 
     elsewhere : (p : ℕ) → Moved rs i at p → (slots_of rs).owner p ≢ (get_slot rs i).owner → (slots_of (cut_list rs i at)).edge p ≡ (slots_of rs).edge p
     elsewhere p (stays e) ne = rw e refl
     elsewhere p (moves l f e) ne = absurd (ne (ap (λ (r : Slot). r.owner) f))
 
 -- no other slot begins or ceases to begin
-pub cut_edge : (rs : List Slot) → IsSlotList rs → (i at : ℕ) → IsInside rs i at → (p : ℕ) → p ≢ at → (slots_of (cut_list rs i at)).edge p ≡ (slots_of rs).edge p
+pub cut_edge : (rs : List Slot) → IsSlotList rs → (i at : ℕ) → IsInsideSlot rs i at → (p : ℕ) → p ≢ at → (slots_of (cut_list rs i at)).edge p ≡ (slots_of rs).edge p
 cut_edge rs ok i at h p ne = go (moved rs ok i at h p)
   where
     go : Moved rs i at p → (slots_of (cut_list rs i at)).edge p ≡ (slots_of rs).edge p
     go (stays e) = rw e refl
     go (moves l f e) = rw (e, f) (other_test at p (λ same. ne (sym same)) ∙ sym (other_test (get_slot rs i).start p (omega (arith, h.above))))
 
-pub cut_list-DividesAs : (rs : List Slot) → IsSlotList rs → (i at : ℕ) → IsInside rs i at → DividesAs two_parts (slots_of rs) (slots_of (cut_list rs i at)) at
+pub cut_list-DividesAs : (rs : List Slot) → IsSlotList rs → (i at : ℕ) → IsInsideSlot rs i at → DividesAs two_parts (slots_of rs) (slots_of (cut_list rs i at)) at
 cut_list-DividesAs rs ok i at h = record {
   slot = slot;
   is_slot = is_slot rs ok i h.inner.before_last;

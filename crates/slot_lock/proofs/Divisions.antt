@@ -1,20 +1,12 @@
 -- Which slot a division divides, and laws of divisions and joins
-use Rattle.std.proofs.Common.{◌≡◌, ℕ, zero, suc, ◌+◌, ◌-◌, ◌^◌, ◌<◌, ◌≤◌, ◌⊎◌, inl, inr, ⊎_elim, Bool, true, false, Option, Some, None}
-use Rattle.std.proofs.Common.{refl, sym, ◌∙◌, ap, arith}
-use Rattle.std.proofs.lemmas.Bool.{cases_lt}
-use Rattle.vm_base.specs.declared.page.PageRange.{PageRange}
-use Rattle.vm_base.specs.Functions.{has}
-use Rattle.vm_base.specs.Pages.{IsPage}
-use Rattle.vm_base.specs.Info.{info_from, is_leaf}
-use Rattle.vm_base.proofs.Functions.{by_test}
+use Rattle.slot_lock.proofs.Words.{◌≡◌, ℕ, zero, suc, ◌+◌, ◌-◌, ◌^◌, ◌<◌, ◌≤◌, ◌⊎◌, inl, inr, ⊎_elim, Bool, true, false, Option, Some, None, refl, sym, ◌∙◌}
+use Rattle.slot_lock.proofs.Words.{ap, arith, cases_lt, PageRange, has, IsPage, info_from, is_leaf, by_test}
 use Rattle.slot_lock.specs.Slots.{Slots, IsSlot, IsSlotMap, Divides, DividesAs, OnlySlotOf, Splits, Cuts, IsCrossed, Joins, CanBeOne}
 use Rattle.slot_lock.specs.Slots.{Crosses, crossed_edge, divided, between}
 use Rattle.slot_lock.proofs.Edits.{has_below, has_above}
+use Rattle.slot_lock.proofs.Facts.{two}
 
 -- ---- the slot that is divided
-
-two : (b : Bool) → b ≡ false → b ≡ true → ⊥
-two b e f = cc
 
 -- no edge changes outside it
 outside : (s t : Slots) (slot : PageRange) (begins : ℕ → Bool) → t ≡ divided s slot begins → (p : ℕ) → (p ≤ slot.first) ⊎ (slot.end ≤ p) → t.edge p ≡ s.edge p

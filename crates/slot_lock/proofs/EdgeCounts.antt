@@ -1,15 +1,13 @@
 -- Divisions add slots, of which there are no more than pages
-use Rattle.std.proofs.Common.{◌≡◌, ℕ, zero, suc, ◌<◌, ◌≤◌, ⊎_elim, if◌then◌else◌, Bool, true, false, Option, refl, ◌∙◌, ap, arith}
-use Rattle.std.proofs.lemmas.Bool.{cases_lt}
+use Rattle.slot_lock.proofs.Words.{◌≡◌, ℕ, zero, suc, ◌<◌, ◌≤◌, ⊎_elim, Bool, true, false, Option, refl, ◌∙◌, ap, arith, cases_lt}
+use Rattle.std.proofs.Common.{if◌then◌else◌}
 use Rattle.slot_lock.specs.Slots.{Slots, Divides}
 use Rattle.slot_lock.specs.Edges.{edges_below}
+use Rattle.slot_lock.proofs.Facts.{two}
 
 one_more : (b c : Bool) → (b ≡ true → c ≡ true) → (if b then 1 else 0) ≤ (if c then 1 else 0)
 one_more true true h = omega arith
-one_more true false h = absurd (two (h refl))
-  where
-    two : false ≡ true → ⊥
-    two e = cc
+one_more true false h = absurd (two _ refl (h refl))
 one_more false c h = omega arith
 
 edges_below-kept : (s t : Slots) → ((p : ℕ) → s.edge p ≡ true → t.edge p ≡ true) → (n : ℕ) → edges_below s n ≤ edges_below t n

@@ -1,24 +1,19 @@
 -- Two slots joined
-use Rattle.std.proofs.Common.{◌≡◌, ◌≢◌, ℕ, ◌+◌, ◌-◌, ◌^◌, ◌<◌, ◌≤◌, ◌⊎◌, inl, inr, ⊎_elim, Bool, true, false, List, length, Option, is_some}
-use Rattle.std.proofs.Common.{refl, sym, ◌∙◌, ap, arith}
-use Rattle.std.specs.List.{remove}
-use Rattle.std.proofs.lemmas.Bool.{cases_lt, cases_eq}
+use Rattle.slot_lock.proofs.Words.{◌≡◌, ◌≢◌, ℕ, ◌+◌, ◌-◌, ◌^◌, ◌<◌, ◌≤◌, ⊎_elim, true, false, List, length, Option, is_some, refl, sym, ◌∙◌, ap, arith}
+use Rattle.slot_lock.proofs.Words.{remove, cases_lt, cases_eq, PageInfo, put, info_from, info_file_page, is_leaf, put_same, put_other}
 use Rattle.std.proofs.lemmas.List.{ext_get_or}
 use Rattle.std.proofs.lemmas.List.Edits.{length-remove, get_or-remove_below, get_or-remove_above}
-use Rattle.vm_base.specs.declared.info.PageInfo.{PageInfo}
-use Rattle.vm_base.specs.Functions.{put}
-use Rattle.vm_base.specs.Info.{info_from, info_file_page, is_leaf}
-use Rattle.vm_base.proofs.Functions.{put_same, put_other}
 use Rattle.slot_lock.specs.declared.slot.Slot.{Slot}
-use Rattle.slot_lock.specs.SlotList.{IsSlotList, IsAt, IsInside, IsJoint, get_slot, nobody, tail_from, cut_list}
-use Rattle.slot_lock.specs.Places.{slot_at_is, before_last, start_most}
+use Rattle.slot_lock.specs.SlotList.{IsSlotList, HasPageAt, IsInsideSlot, IsJoint, get_slot, empty_slot, tail_from, cut_list}
+use Rattle.slot_lock.proofs.Places.{slot_at_is, before_last, start_most}
 use Rattle.slot_lock.specs.Slots.{Slots, IsSlotMap, Divides, Joins, CanBeOne, CanJoin, Folds, without_edge}
 use Rattle.slot_lock.specs.ListedSlots.{slots_of}
-use Rattle.slot_lock.specs.ListLaws.{info_from_twice, fits_before, info_from_zero, is_leaf-info_from, edge_at, is_slot}
-use Rattle.slot_lock.proofs.Cuts.{below, here, above, longer, cut_list-Divides, cut_edge}
+use Rattle.slot_lock.proofs.ListLaws.{info_from_twice, fits_before, info_from_zero, is_leaf-info_from, edge_at, is_slot}
+use Rattle.slot_lock.proofs.Cuts.{below, here, above, longer, cut_list-Divides, cut_edge, along_both}
 use Rattle.slot_lock.proofs.Edits.{same_slots}
 use Rattle.slot_lock.proofs.SlotLaws.{owner_on, info_on}
 use Rattle.slot_lock.proofs.Steps.{before_limit, owner_at, slot_by_edge}
+use Rattle.slot_lock.proofs.Facts.{two}
 
 -- ---- the list without the second of two slots
 
@@ -34,21 +29,41 @@ shorter : (rs : List Slot) (i : ℕ) → CanGo rs i → length (joined_list rs i
 shorter rs i h = length-remove rs (i + 1) (omega (arith, h.joint.next))
 
 low : (rs : List Slot) (i : ℕ) → CanGo rs i → (k : ℕ) → k ≤ i → get_slot (joined_list rs i) k ≡ get_slot rs k
-low rs i h k l = get_or-remove_below rs (i + 1) nobody k (omega arith) (omega (arith, h.joint.next))
+low rs i h k l = get_or-remove_below rs (i + 1) empty_slot k (omega arith) (omega (arith, h.joint.next))
 
 high : (rs : List Slot) (i : ℕ) → CanGo rs i → (k : ℕ) → i < k → get_slot (joined_list rs i) k ≡ get_slot rs (k + 1)
-high rs i h k l = get_or-remove_above rs (i + 1) nobody k (omega arith) (omega (arith, h.joint.next))
+high rs i h k l = get_or-remove_above rs (i + 1) empty_slot k (omega arith) (omega (arith, h.joint.next))
+
+-- what holds of each slot and the next
+each_next : (P : Slot → Slot → Type 0) (rs : List Slot) (i : ℕ) → CanGo rs i
+    → ((k : ℕ) → k + 1 < length rs → P (get_slot rs k) (get_slot rs (k + 1))) → P (get_slot rs i) (get_slot rs (i + 1 + 1))
+    → (k : ℕ) → k + 1 < length (joined_list rs i) → P (get_slot (joined_list rs i) k) (get_slot (joined_list rs i) (k + 1))
+each_next P rs i h old over k l =
+    let n = shorter rs i h in
+    ⊎_elim
+    (λ (m : k < i). along_both P _ _ _ _ (low rs i h k (omega arith)) (low rs i h (k + 1) (omega arith)) (old k (omega arith)))
+    (λ (m : i ≤ k). ⊎_elim
+    (λ (e : k ≡ i). along_both P _ _ _ _ (low rs i h k (omega arith) ∙ ap (get_slot rs) e)
+    (high rs i h (k + 1) (omega arith) ∙ ap (λ n. get_slot rs (n + 1 + 1)) e) over)
+    (λ (ne : k ≢ i). along_both P _ _ _ _ (high rs i h k (omega arith)) (high rs i h (k + 1) (omega arith)) (old (k + 1) (omega arith)))
+    (cases_eq k i))
+    (cases_lt k i)
 
 pub joined-IsSlotList : (rs : List Slot) → IsSlotList rs → (i : ℕ) → CanGo rs i → IsSlotList (joined_list rs i)
 joined-IsSlotList rs ok i h =
     let n = shorter rs i h in
+    let a = ok.rising i (omega (arith, h.joint.next)) in
+    let b = ok.rising (i + 1) (omega (arith, h.joint.next)) in
+    let most = start_most rs ok (i + 1 + 1) (omega (arith, h.joint.next)) in
+    let next = ok.fits (i + 1) (omega (arith, h.joint.next)) in
+    let same = ap info_file_page h.joint.one.goes_on in
     let zero_is = low rs i h 0 (omega arith) in
     let back : length (joined_list rs i) - 1 + 1 ≡ length rs - 1 = omega (arith, h.joint.next) in
     let last_is : get_slot (joined_list rs i) (length (joined_list rs i) - 1) ≡ get_slot rs (length rs - 1) = high rs i h
     (length (joined_list rs i) - 1) (omega (arith, h.joint.next)) ∙ ap (get_slot rs) back in
     record {
       some = omega (arith, h.after_first, h.joint.next);
-      rising = λ k l. rising k (omega arith);
+      rising = each_next (λ r s. r.start < s.start) rs i h ok.rising (omega arith);
       zero_first = ap (λ (r : Slot). r.start) zero_is ∙ ok.zero_first;
       one_second = ap (λ (r : Slot). r.start) (low rs i h 1 h.after_first) ∙ ok.one_second;
       zero_unmapped = ap (λ (r : Slot). is_some r.info) zero_is ∙ ok.zero_unmapped;
@@ -56,59 +71,13 @@ joined-IsSlotList rs ok i h =
       limit_last = ap (λ (r : Slot). r.start) last_is ∙ ok.limit_last;
       limit_unmapped = ap (λ (r : Slot). is_some r.info) last_is ∙ ok.limit_unmapped;
       limit_free = ap (λ (r : Slot). is_some r.owner) last_is ∙ ok.limit_free;
-      fits = λ k l. fits k (omega arith);
-      alone = λ k l leaf. alone k (omega arith) leaf;
+      fits = each_next (λ r s. info_file_page r.info + (s.start - r.start) ≤ 2 ^ 35) rs i h ok.fits
+          (fits_before (get_slot rs i).info ((get_slot rs (i + 1)).start - (get_slot rs i).start)
+          ((get_slot rs (i + 1 + 1)).start - (get_slot rs i).start) (2 ^ 35) (omega arith) (omega arith) (omega arith));
+      alone = each_next (λ r s. is_leaf r.info ≡ true → s.start ≡ r.start + 1) rs i h ok.alone (λ leaf. absurd (two _ h.joint.one.no_leaf leaf));
     }
-  where
-    rising : (k : ℕ) → k + 2 < length rs → (get_slot (joined_list rs i) k).start < (get_slot (joined_list rs i) (k + 1)).start
-    rising k l =
-        let a = ok.rising k (omega arith) in
-        let b = ok.rising (k + 1) (omega arith) in
-        ⊎_elim
-        (λ (m : k < i). rw (low rs i h k (omega arith), low rs i h (k + 1) (omega arith)) a)
-        (λ (m : i ≤ k). ⊎_elim
-        (λ (e : k ≡ i). rw (low rs i h k (omega arith), high rs i h (k + 1) (omega arith)) (omega arith))
-        (λ (ne : k ≢ i). rw (high rs i h k (omega arith), high rs i h (k + 1) (omega arith)) b)
-        (cases_eq k i))
-        (cases_lt k i)
 
-    fits : (k : ℕ) → k + 2 < length rs
-        → info_file_page
-        (get_slot (joined_list rs i) k).info + ((get_slot (joined_list rs i) (k + 1)).start - (get_slot (joined_list rs i) k).start) ≤ 2 ^ 35
-    fits k l = ⊎_elim
-        (λ (m : k < i). rw (low rs i h k (omega arith), low rs i h (k + 1) (omega arith)) (ok.fits k (omega arith)))
-        (λ (m : i ≤ k). ⊎_elim
-        (λ (e : k ≡ i). rw (low rs i h k (omega arith), high rs i h (k + 1) (omega arith), e) both)
-        (λ (ne : k ≢ i). rw (high rs i h k (omega arith), high rs i h (k + 1) (omega arith)) (ok.fits (k + 1) (omega arith)))
-        (cases_eq k i))
-        (cases_lt k i)
-      where
-        both : info_file_page (get_slot rs i).info + ((get_slot rs (i + 1 + 1)).start - (get_slot rs i).start) ≤ 2 ^ 35
-        both =
-            let a = ok.rising i (omega (arith, h.joint.next)) in
-            let b = ok.rising (i + 1) (omega (arith, h.joint.next)) in
-            let most = start_most rs ok (i + 1 + 1) (omega (arith, h.joint.next)) in
-            let next = ok.fits (i + 1) (omega (arith, h.joint.next)) in
-            let same = ap info_file_page h.joint.one.goes_on in
-            fits_before (get_slot rs i).info ((get_slot rs (i + 1)).start - (get_slot rs i).start)
-            ((get_slot rs (i + 1 + 1)).start - (get_slot rs i).start) (omega arith) (omega arith) (omega arith)
-
-    alone : (k : ℕ) → k + 2 < length rs → is_leaf (get_slot (joined_list rs i) k).info ≡ true
-        → (get_slot (joined_list rs i) (k + 1)).start ≡ (get_slot (joined_list rs i) k).start + 1
-    alone k l leaf = ⊎_elim
-        (λ (m : k < i). rw (low rs i h k (omega arith), low rs i h (k + 1) (omega arith))
-        (ok.alone k (omega arith) (sym (ap (λ (r : Slot). is_leaf r.info) (low rs i h k (omega arith))) ∙ leaf)))
-        (λ (m : i ≤ k). ⊎_elim
-        (λ (e : k ≡ i). absurd (clash (sym (ap (λ (r : Slot). is_leaf r.info) (low rs i h k (omega arith) ∙ ap (get_slot rs) e)) ∙ leaf)))
-        (λ (ne : k ≢ i). rw (high rs i h k (omega arith), high rs i h (k + 1) (omega arith))
-        (ok.alone (k + 1) (omega arith) (sym (ap (λ (r : Slot). is_leaf r.info) (high rs i h k (omega arith))) ∙ leaf)))
-        (cases_eq k i))
-        (cases_lt k i)
-      where
-        clash : is_leaf (get_slot rs i).info ≡ true → ⊥
-        clash e = let f = h.joint.one.no_leaf in cc
-
-joined-IsInside : (rs : List Slot) → IsSlotList rs → (i : ℕ) → CanGo rs i → IsInside (joined_list rs i) i (get_slot rs (i + 1)).start
+joined-IsInside : (rs : List Slot) → IsSlotList rs → (i : ℕ) → CanGo rs i → IsInsideSlot (joined_list rs i) i (get_slot rs (i + 1)).start
 joined-IsInside rs ok i h = record {
   inner = record { after_first = h.after_first; before_last = let n = shorter rs i h in omega (arith, h.joint.next) };
   above = rw (low rs i h i (omega arith)) (ok.rising i (omega (arith, h.joint.next)));
@@ -121,9 +90,9 @@ same_slot r start owner info a b c = λ j. record { start = a j; owner = b j; in
 
 -- a cut where they were joined gives the two slots back
 cut_again : (rs : List Slot) → IsSlotList rs → (i : ℕ) → CanGo rs i → cut_list (joined_list rs i) i (get_slot rs (i + 1)).start ≡ rs
-cut_again rs ok i h = ext_get_or nobody _ rs lengths (λ k l. each k)
+cut_again rs ok i h = ext_get_or empty_slot _ rs lengths (λ k l. each k)
   where
-    inside : IsInside (joined_list rs i) i (get_slot rs (i + 1)).start
+    inside : IsInsideSlot (joined_list rs i) i (get_slot rs (i + 1)).start
     inside = joined-IsInside rs ok i h
 
     lengths : length (cut_list (joined_list rs i) i (get_slot rs (i + 1)).start) ≡ length rs
@@ -135,7 +104,6 @@ cut_again rs ok i h = ext_get_or nobody _ rs lengths (λ k l. each k)
 
     each : (k : ℕ) → get_slot (cut_list (joined_list rs i) i (get_slot rs (i + 1)).start) k ≡ get_slot rs k
     each k = ⊎_elim
-        (λ (m : k ≤ i). below _ i _ inside k m ∙ low rs i h k m)
         (λ (m : i < k). ⊎_elim
         (λ (e : k ≡ i + 1). ap (get_slot (cut_list (joined_list rs i) i (get_slot rs (i + 1)).start)) e
         ∙ (here _ i _ inside ∙ (tail ∙ ap (get_slot rs) (sym e))))
@@ -144,11 +112,8 @@ cut_again rs ok i h = ext_get_or nobody _ rs lengths (λ k l. each k)
         ap (get_slot (cut_list (joined_list rs i) i (get_slot rs (i + 1)).start)) (sym back)
         ∙ (above _ i _ inside (k - 1) (omega arith) ∙ (high rs i h (k - 1) (omega arith) ∙ ap (get_slot rs) back)))
         (cases_eq k (i + 1)))
-        (flip (cases_lt i k))
-      where
-        flip : (i < k) ⊎ (k ≤ i) → (k ≤ i) ⊎ (i < k)
-        flip (inl a) = inr a
-        flip (inr a) = inl a
+        (λ (m : k ≤ i). below _ i _ inside k m ∙ low rs i h k m)
+        (cases_lt i k)
 
 -- one edge fewer
 pub slots_of-joined : (rs : List Slot) → IsSlotList rs → (i : ℕ) → CanGo rs i
@@ -178,24 +143,24 @@ next_info rs ok k h =
     ap (λ (r : Slot). info_from r.info ((get_slot rs k).start - r.start)) slot
     ∙ (ap (info_from (get_slot rs k).info) none ∙ info_from_zero (get_slot rs k).info)
 
-page_info : (rs : List Slot) → IsSlotList rs → (page i : ℕ) → IsAt rs page i
+page_info : (rs : List Slot) → IsSlotList rs → (page i : ℕ) → HasPageAt rs page i
     → (slots_of rs).info page ≡ info_from (get_slot rs i).info (page - (get_slot rs i).start)
 page_info rs ok page i at = ap (λ (r : Slot). info_from r.info (page - r.start)) (slot_at_is rs ok page i at)
 
-on_info : (rs : List Slot) → IsSlotList rs → (page i end : ℕ) → IsAt rs page i → page ≤ end
+on_info : (rs : List Slot) → IsSlotList rs → (page i end : ℕ) → HasPageAt rs page i → page ≤ end
     → info_from ((slots_of rs).info page) (end - page) ≡ info_from (get_slot rs i).info (end - (get_slot rs i).start)
 on_info rs ok page i end at l =
     let n : page - (get_slot rs i).start + (end - page) ≡ end - (get_slot rs i).start = omega (arith, at.from) in
     ap (λ o. info_from o (end - page)) (page_info rs ok page i at)
     ∙ (info_from_twice (get_slot rs i).info (page - (get_slot rs i).start) (end - page) ∙ ap (info_from (get_slot rs i).info) n)
 
-pub joint-CanJoin : (rs : List Slot) → IsSlotList rs → (page i : ℕ) → IsAt rs page i → IsJoint rs i → CanJoin (slots_of rs) page (get_slot rs (i + 1)).start
+pub joint-CanJoin : (rs : List Slot) → IsSlotList rs → (page i : ℕ) → HasPageAt rs page i → IsJoint rs i → CanJoin (slots_of rs) page (get_slot rs (i + 1)).start
 joint-CanJoin rs ok page i at h =
     let within : i + 1 < length rs = omega (arith, h.next) in
     let rise = ok.rising (i + 1) (omega (arith, h.next)) in
     let most = start_most rs ok (i + 1 + 1) (omega (arith, h.next)) in
     let until = at.until within in
-    let next_at : IsAt rs (get_slot rs (i + 1)).start (i + 1) = record { within = within; from = omega arith; until = λ _. rise } in
+    let next_at : HasPageAt rs (get_slot rs (i + 1)).start (i + 1) = record { within = within; from = omega arith; until = λ _. rise } in
     record {
       above = until;
       next = λ p a b. (is_slot rs ok i within).inside p (omega (arith, at.from)) b;
@@ -208,7 +173,7 @@ joint-CanJoin rs ok page i at h =
       goes_on = next_info rs ok (i + 1) (omega (arith, h.next)) ∙ (h.one.goes_on ∙ sym (on_info rs ok page i _ at (omega arith)));
     }
 
-pub CanJoin-joint : (rs : List Slot) → IsSlotList rs → (page i end : ℕ) → page < 2 ^ 35 → IsAt rs page i → CanJoin (slots_of rs) page end → IsJoint rs i
+pub CanJoin-joint : (rs : List Slot) → IsSlotList rs → (page i end : ℕ) → page < 2 ^ 35 → HasPageAt rs page i → CanJoin (slots_of rs) page end → IsJoint rs i
 CanJoin-joint rs ok page i end valid at h =
     let within = before_last rs ok page i at valid in
     let until = at.until within in
@@ -219,7 +184,7 @@ CanJoin-joint rs ok page i end valid at h =
     (cases_lt (get_slot rs (i + 1)).start end) in
     let more = before_limit rs ok (i + 1) within (omega (arith, h.below_limit)) in
     let rise = ok.rising (i + 1) more in
-    let next_at : IsAt rs (get_slot rs (i + 1)).start (i + 1) = record { within = within; from = omega arith; until = λ _. rise } in
+    let next_at : HasPageAt rs (get_slot rs (i + 1)).start (i + 1) = record { within = within; from = omega arith; until = λ _. rise } in
     let info = next_info rs ok (i + 1) more in
     record {
       next = omega arith;
@@ -234,9 +199,6 @@ CanJoin-joint rs ok page i end valid at h =
             ∙ ap (λ n. info_from (get_slot rs i).info (n - (get_slot rs i).start)) same)));
       };
     }
-  where
-    two : (b : Bool) → b ≡ false → b ≡ true → ⊥
-    two b e f = cc
 
 -- ---- a fold joins
 
@@ -273,9 +235,6 @@ Folds-Joins s t laws page low h = record {
       (cases_eq p h.at);
 }
   where
-    two : (b : Bool) → b ≡ false → b ≡ true → ⊥
-    two b e f = cc
-
     kept : (p : ℕ) → s.edge p ≡ false → put s.edge h.at false p ≡ false
     kept p e = ⊎_elim
         (λ (same : p ≡ h.at). rw same (put_same s.edge h.at false))

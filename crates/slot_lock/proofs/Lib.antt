@@ -1,3 +1,7 @@
+pub mod Words
+pub mod Facts
+pub mod Places
+pub mod ListLaws
 pub mod Cuts
 pub mod Steps
 pub mod Edits
@@ -10,3 +14,6 @@ pub mod EdgeCounts
 pub mod SlotLaws
 pub mod Divisions
 pub mod Adding
+pub mod MapWalks
+pub mod MapLists
+pub mod OneMapList

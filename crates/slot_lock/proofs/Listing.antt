@@ -1,16 +1,14 @@
 -- Lists of the pages that have a frame
-use Rattle.std.proofs.Common.{◌≡◌, ℕ, ◌+◌, ◌-◌, ◌<◌, ◌≤◌, ⊎_elim, true, List, length, [], ◌∷◌, ◌++◌, Option, None, Some, max, min, refl}
-use Rattle.std.proofs.Common.{sym, ◌∙◌, ap, subst, arith}
-use Rattle.std.proofs.lemmas.Bool.{cases_lt}
-use Rattle.vm_base.specs.declared.info.PageInfo.{PageInfo}
-use Rattle.vm_base.specs.Info.{frame_of, is_leaf}
+use Rattle.slot_lock.proofs.Words.{◌≡◌, ℕ, ◌+◌, ◌-◌, ◌<◌, ◌≤◌, ⊎_elim, true, List, length, [], ◌∷◌, ◌++◌, Option, None, Some, max, min, refl, sym, ◌∙◌, ap}
+use Rattle.slot_lock.proofs.Words.{subst, arith, cases_lt, PageInfo, frame_of, is_leaf, NoneIn}
+use Rattle.std.proofs.Common.{append_assoc}
+use Rattle.std.proofs.lemmas.List.{append-nil}
 use Rattle.slot_lock.specs.declared.framed.Framed.{Framed}
 use Rattle.slot_lock.specs.declared.slot.Slot.{Slot}
-use Rattle.vm_base.specs.Runs.{NoneIn}
 use Rattle.slot_lock.specs.Framed.{ListsFrames, AddsFrames, frames_in}
-use Rattle.slot_lock.specs.SlotList.{IsSlotList, IsAt, get_slot}
+use Rattle.slot_lock.specs.SlotList.{IsSlotList, get_slot}
 use Rattle.slot_lock.specs.ListedSlots.{slots_of}
-use Rattle.slot_lock.proofs.Walks.{IsWalk, walk_first, walk_next, info_in, frame_of-from}
+use Rattle.slot_lock.proofs.Walks.{IsWalk, walk_next, info_in, frame_of-from}
 
 -- ---- one list after another
 
@@ -52,11 +50,7 @@ lists_same frame other first end (x ∷ xs) same h = (
 -- ---- what was added
 
 pub adds_none : (frame : ℕ → Option ℕ) (first end : ℕ) (xs : List Framed) → NoneIn frame first end → AddsFrames frame first end xs xs
-adds_none frame first end xs none = ([], sym (nil xs), none)
-  where
-    nil : (xs : List Framed) → xs ++ [] ≡ xs
-    nil [] = refl
-    nil (x ∷ xs) = ap (λ ys. x ∷ ys) (nil xs)
+adds_none frame first end xs none = ([], sym (append-nil xs), none)
 
 pub adds_one : (frame : ℕ → Option ℕ) (page f : ℕ) (xs : List Framed) → frame page ≡ Some f
     → AddsFrames frame page (page + 1) xs (xs ++ (record { page = page; frame = f }) ∷ [])
@@ -70,13 +64,9 @@ pub adds_then : (frame : ℕ → Option ℕ) (first m end : ℕ) (xs ys zs : Lis
     → AddsFrames frame m end ys zs → AddsFrames frame first end xs zs
 adds_then frame first m end xs ys zs l n h g = (
   h.0 ++ g.0,
-  g.1 ∙ ap (λ vs. vs ++ g.0) h.1 ∙ join xs h.0 g.0,
+  g.1 ∙ ap (λ vs. vs ++ g.0) h.1 ∙ append_assoc xs h.0 g.0,
   lists_then frame first m end h.0 g.0 l n h.2 g.2,
 )
-  where
-    join : (xs ys zs : List Framed) → (xs ++ ys) ++ zs ≡ xs ++ (ys ++ zs)
-    join [] ys zs = refl
-    join (x ∷ xs) ys zs = ap (λ vs. x ∷ vs) (join xs ys zs)
 
 pub adds_same : (frame other : ℕ → Option ℕ) (first end : ℕ) (xs ys : List Framed) → ((p : ℕ) → first ≤ p → p < end → frame p ≡ other p)
     → AddsFrames frame first end xs ys → AddsFrames other first end xs ys
@@ -96,12 +86,6 @@ reach first end p = min end (max first p)
 pub record ListsTo (rs : List Slot) (first end i : ℕ) (old new : List Framed) : Type 0 where
   pub walk : IsWalk rs first i
   pub adds : AddsFrames (frames_in (slots_of rs)) first (reach first end (get_slot rs i).start) old new
-
-pub list_first : (rs : List Slot) (first end i : ℕ) (old : List Framed) → first ≤ end → IsAt rs first i → ListsTo rs first end i old old
-list_first rs first end i old l at = record {
-  walk = walk_first rs first i at;
-  adds = adds_none _ _ _ old (λ p a b. absurd (omega (arith, a, b, at.from)));
-}
 
 pub list_none : (rs : List Slot) → IsSlotList rs → (first end i : ℕ) (old new : List Framed) → first ≤ end → ListsTo rs first end i old new
     → i + 1 < length rs → frame_of (get_slot rs i).info ≡ None → ListsTo rs first end (i + 1) old new
@@ -150,11 +134,6 @@ list_one rs ok first end i f old new h more high one =
           (subst (λ n. AddsFrames (frames_in (slots_of rs)) first n old new) one.reached h.adds)
           (adds_one _ (get_slot rs i).start f new one.had));
     }
-
-pub list_all : (rs : List Slot) (first end i : ℕ) (old new : List Framed) → first ≤ end → ListsTo rs first end i old new
-    → end ≤ (get_slot rs i).start → AddsFrames (frames_in (slots_of rs)) first end old new
-list_all rs first end i old new l h past = let to : reach first end (get_slot rs i).start ≡ end = omega arith in
-    subst (λ n. AddsFrames (frames_in (slots_of rs)) first n old new) to h.adds
 
 -- ---- lists that were empty
 

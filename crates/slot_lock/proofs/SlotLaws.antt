@@ -1,12 +1,9 @@
 -- What follows from the laws of a slot map
-use Rattle.std.proofs.Common.{◌≡◌, ℕ, zero, suc, ◌+◌, ◌-◌, ◌^◌, ◌<◌, ◌≤◌, false, Some, None, add-zero, refl, sym, ◌∙◌, ap, arith, ⊎_elim}
-use Rattle.vm_base.specs.declared.page.PageRange.{PageRange}
-use Rattle.std.proofs.lemmas.Bool.{cases_lt}
-use Rattle.vm_base.specs.Pages.{IsPage, IsPageRange}
-use Rattle.vm_base.specs.Info.{frame_of, info_from}
-use Rattle.slot_lock.specs.Slots.{Slots, IsSlot, IsSlotMap, IsHeld, NoFrames}
-use Rattle.slot_lock.specs.ListLaws.{info_from_zero, info_from_twice}
-use Rattle.slot_lock.proofs.Walks.{frame_of-from}
+use Rattle.slot_lock.proofs.Words.{◌≡◌, ℕ, zero, suc, ◌+◌, ◌-◌, ◌^◌, ◌<◌, ◌≤◌, false, Some, refl, sym, ◌∙◌, ap, arith, ⊎_elim, PageRange, cases_lt, IsPage}
+use Rattle.slot_lock.proofs.Words.{IsPageRange, info_from}
+use Rattle.std.proofs.Common.{add-zero}
+use Rattle.slot_lock.specs.Slots.{Slots, IsSlot, IsSlotMap, IsHeld}
+use Rattle.slot_lock.proofs.ListLaws.{info_from_zero, info_from_twice}
 
 -- pages among which no slot begins after the first have one owner
 pub owner_on : (s : Slots) → IsSlotMap s → (a b n : ℕ) → 1 ≤ a → b ≤ 2 ^ 35 → ((p : ℕ) → a < p → p < b → s.edge p ≡ false) → a + n < b
@@ -46,13 +43,4 @@ slot-IsHeld s laws core range pages slot own = record {
   held = λ p a b.
       let same : range.first + (p - range.first) ≡ p = omega arith in
       rw same at (owner_on s laws range.first range.end (p - range.first) pages.low pages.high slot.inside (omega arith)) ∙ own;
-}
-
-pub slot-NoFrames : (s : Slots) → IsSlotMap s → (range : PageRange) → IsPageRange range → IsSlot s range.first range.end
-    → frame_of (s.info range.first) ≡ None → NoFrames s range.first range.end
-slot-NoFrames s laws range pages slot none = record {
-  none = λ p a b.
-      let same : range.first + (p - range.first) ≡ p = omega arith in
-      rw same at (ap frame_of (info_on s laws range.first range.end (p - range.first) pages.low pages.high slot.inside (omega arith)))
-      ∙ (frame_of-from (s.info range.first) (p - range.first) ∙ none);
 }

@@ -1,26 +1,21 @@
 -- What a step of a list of slots does, from what its parts do
-use Rattle.std.proofs.Common.{◌≡◌, ℕ, zero, suc, ◌+◌, ◌-◌, ◌^◌, ◌<◌, ◌≤◌, inl, inr, ⊎_elim, true, false, List, [], ◌∷◌, length, get_or}
-use Rattle.std.proofs.Common.{Some, None, refl, sym, ◌∙◌, ap, arith}
-use Rattle.std.specs.Prelude.{Result, Ok, Err, OnErr}
-use Rattle.std.proofs.lemmas.Bool.{cases_lt}
-use Rattle.vm_base.specs.Info.{info_from, info_file_page, is_leaf}
+use Rattle.slot_lock.proofs.Words.{◌≡◌, ℕ, zero, suc, ◌+◌, ◌-◌, ◌^◌, ◌<◌, ◌≤◌, inl, inr, ⊎_elim, true, false, List, [], ◌∷◌, length, get_or, Some, None, refl}
+use Rattle.slot_lock.proofs.Words.{sym, ◌∙◌, ap, arith, cases_lt, info_from, info_file_page, is_leaf, eq_true}
 use Rattle.slot_lock.specs.declared.slot.Slot.{Slot}
-use Rattle.slot_lock.specs.SlotList.{IsSlotList, IsAt, get_slot, slot_at, place_of}
-use Rattle.slot_lock.specs.Places.{read_slot, slot_at_is, slot_at_place, before_last, start_most}
+use Rattle.slot_lock.specs.SlotList.{IsSlotList, HasPageAt, get_slot, slot_at, place_of}
+use Rattle.slot_lock.proofs.Places.{read_slot, slot_at_is, slot_at_place, before_last, start_most}
 use Rattle.slot_lock.specs.Slots.{Slots, IsFreePage, IsFreeSlot, IsNew, IsSlot, IsSlotBy, Locks, Unlocks, Crosses, with_owner}
 use Rattle.slot_lock.specs.ListedSlots.{slots_of}
-use Rattle.slot_lock.specs.ListLaws.{info_from_zero, is_slot, from_test, other_test, edge_at}
+use Rattle.slot_lock.proofs.ListLaws.{info_from_zero, is_slot, edge_at}
+use Rattle.slot_lock.proofs.Facts.{other_test, two}
 
 -- what an index at a page's place reads
-pub read_at : (rs : List Slot) → IsSlotList rs → (p i : ℕ) (r : Slot) → IsAt rs p i → r ≡ get_or rs i r → r ≡ slot_at rs p
+pub read_at : (rs : List Slot) → IsSlotList rs → (p i : ℕ) (r : Slot) → HasPageAt rs p i → r ≡ get_or rs i r → r ≡ slot_at rs p
 read_at rs ok p i r at e = read_slot rs i r at.within e ∙ sym (slot_at_is rs ok p i at)
 
 -- a slot ends by each edge after its start
 pub slot_by_edge : (s : Slots) (a b e : ℕ) → IsSlot s a b → s.edge e ≡ true → a < e → b ≤ e
-slot_by_edge s a b e slot edge l = ⊎_elim (λ (m : e < b). absurd (two (slot.inside e l m))) (λ (m : b ≤ e). m) (cases_lt e b)
-  where
-    two : s.edge e ≡ false → ⊥
-    two h = cc
+slot_by_edge s a b e slot edge l = ⊎_elim (λ (m : e < b). absurd (two _ (slot.inside e l m) edge)) (λ (m : b ≤ e). m) (cases_lt e b)
 
 -- each page of a slot has its owner
 pub owner_in : (rs : List Slot) → IsSlotList rs → (i p : ℕ) → i < length rs → (get_slot rs i).start ≤ p → p < (get_slot rs (i + 1)).start
@@ -59,8 +54,8 @@ pub crosses_end : (rs : List Slot) → IsSlotList rs → (i cursor end : ℕ) �
     → end < (get_slot rs (i + 1)).start → Crosses (slots_of rs) cursor end
 crosses_end rs ok i cursor end h e l = inr (λ p a b. (slot_from rs ok i cursor h e).inside p a (omega arith))
 
-pub first_slot : (rs : List Slot) → IsSlotList rs → (i cursor : ℕ) → IsAt rs cursor i → (slots_of rs).edge cursor ≡ true → (get_slot rs i).start ≡ cursor
-first_slot rs ok i cursor at edge = sym (ap (λ (r : Slot). r.start) (slot_at_is rs ok cursor i at)) ∙ from_test _ _ edge
+pub first_slot : (rs : List Slot) → IsSlotList rs → (i cursor : ℕ) → HasPageAt rs cursor i → (slots_of rs).edge cursor ≡ true → (get_slot rs i).start ≡ cursor
+first_slot rs ok i cursor at edge = sym (ap (λ (r : Slot). r.start) (slot_at_is rs ok cursor i at)) ∙ eq_true _ _ edge
 
 -- the slots of a new list
 abbrev pub new_list : List Slot
@@ -103,10 +98,7 @@ new_list-IsSlotList = record {
     fits (suc (suc k)) l = absurd (omega arith)
 
     no_leaf : (k : ℕ) → is_leaf (get_slot new_list k).info ≡ true → ⊥
-    no_leaf k h = clash (sym (ap is_leaf (empty_at k).0) ∙ h)
-      where
-        clash : false ≡ true → ⊥
-        clash e = cc
+    no_leaf k h = two _ (ap is_leaf (empty_at k).0) h
 
 pub new_list-IsNew : IsNew (slots_of new_list)
 new_list-IsNew = record {
@@ -115,7 +107,7 @@ new_list-IsNew = record {
 }
 
 -- a page inside a slot lies below all that is no page
-pub below_limit : (rs : List Slot) → IsSlotList rs → (j e : ℕ) → IsAt rs e j → (get_slot rs j).start < e → e ≤ 2 ^ 35 → e < 2 ^ 35
+pub below_limit : (rs : List Slot) → IsSlotList rs → (j e : ℕ) → HasPageAt rs e j → (get_slot rs j).start < e → e ≤ 2 ^ 35 → e < 2 ^ 35
 below_limit rs ok j e at l m = ⊎_elim
     (λ (n : j + 1 < length rs). let s = start_most rs ok (j + 1) n in let u = at.until n in omega arith)
     (λ (n : length rs ≤ j + 1).
@@ -124,21 +116,21 @@ below_limit rs ok j e at l m = ⊎_elim
     absurd (omega arith))
     (cases_lt (j + 1) (length rs))
 
-pub owner_at : (rs : List Slot) → IsSlotList rs → (p i : ℕ) → IsAt rs p i → (slots_of rs).owner p ≡ (get_slot rs i).owner
+pub owner_at : (rs : List Slot) → IsSlotList rs → (p i : ℕ) → HasPageAt rs p i → (slots_of rs).owner p ≡ (get_slot rs i).owner
 owner_at rs ok p i at = ap (λ (r : Slot). r.owner) (slot_at_is rs ok p i at)
 
 -- the slot of a page that begins no slot has the page before it too
-pub owner_before : (rs : List Slot) → IsSlotList rs → (j e : ℕ) → IsAt rs e j → (get_slot rs j).start < e → (slots_of rs).owner (e - 1) ≡ (get_slot rs j).owner
+pub owner_before : (rs : List Slot) → IsSlotList rs → (j e : ℕ) → HasPageAt rs e j → (get_slot rs j).start < e → (slots_of rs).owner (e - 1) ≡ (get_slot rs j).owner
 owner_before rs ok j e at l = ap (λ (r : Slot). r.owner)
     (slot_at_is rs ok (e - 1) j (record { within = at.within; from = omega arith; until = λ n. let u = at.until n in omega arith }))
 
-pub edge_of : (rs : List Slot) → IsSlotList rs → (j e : ℕ) → IsAt rs e j → e ≤ (get_slot rs j).start → (slots_of rs).edge e ≡ true
+pub edge_of : (rs : List Slot) → IsSlotList rs → (j e : ℕ) → HasPageAt rs e j → e ≤ (get_slot rs j).start → (slots_of rs).edge e ≡ true
 edge_of rs ok j e at l =
     let same : (get_slot rs j).start ≡ e = omega (arith, at.from) in
     rw same at (edge_at rs ok j at.within)
 
 -- a slot of one page
-pub one_page : (rs : List Slot) → IsSlotList rs → (j p : ℕ) → IsAt rs p j → IsSlot (slots_of rs) p (p + 1) → p < 2 ^ 35
+pub one_page : (rs : List Slot) → IsSlotList rs → (j p : ℕ) → HasPageAt rs p j → IsSlot (slots_of rs) p (p + 1) → p < 2 ^ 35
     → ((get_slot rs j).start ≡ p) × ((get_slot rs (j + 1)).start ≡ p + 1)
 one_page rs ok j p at slot valid =
     let last = before_last rs ok p j at valid in
@@ -148,7 +140,7 @@ one_page rs ok j p at slot valid =
     (first, omega arith)
 
 -- a slot of one page that nobody holds, as its page
-pub free_page : (rs : List Slot) → IsSlotList rs → (i p : ℕ) → IsAt rs p i → p < 2 ^ 35 → (get_slot rs i).owner ≡ None
+pub free_page : (rs : List Slot) → IsSlotList rs → (i p : ℕ) → HasPageAt rs p i → p < 2 ^ 35 → (get_slot rs i).owner ≡ None
     → p ≤ (get_slot rs i).start → (get_slot rs (i + 1)).start ≤ p + 1 → IsFreePage (slots_of rs) p (record { info = (get_slot rs i).info })
 free_page rs ok i p at valid free begins ends =
     let last = before_last rs ok p i at valid in
@@ -166,26 +158,17 @@ free_page rs ok i p at valid free begins ends =
     }
 
 -- a page that nobody holds, as a slot of one page
-pub free_slot : (rs : List Slot) → IsSlotList rs → (i p : ℕ) → IsAt rs p i → p < 2 ^ 35 → IsFreeSlot (slots_of rs) p
+pub free_slot : (rs : List Slot) → IsSlotList rs → (i p : ℕ) → HasPageAt rs p i → p < 2 ^ 35 → IsFreeSlot (slots_of rs) p
     → ((get_slot rs i).owner ≡ None) × (p ≤ (get_slot rs i).start) × ((get_slot rs (i + 1)).start ≤ p + 1)
 free_slot rs ok i p at valid alone =
     let one = one_page rs ok i p at alone.slot valid in
     (sym (owner_at rs ok p i at) ∙ alone.free, omega (arith, one.0), omega (arith, one.1))
 
--- a fact on an error, from the fact
-pub on_err : {T E P : Type 0} (r : Result T E) → P → OnErr r P
-on_err (Ok x) p = tt
-on_err (Err e) p = p
-
-pub on_err_both : {T E P Q : Type 0} (r : Result T E) → P → Q → OnErr r (P × Q)
-on_err_both (Ok x) p q = tt
-on_err_both (Err e) p q = (p, q)
-
 -- a page inside a slot begins none
-pub no_edge : (rs : List Slot) → IsSlotList rs → (i p : ℕ) → IsAt rs p i → (get_slot rs i).start < p → (slots_of rs).edge p ≡ false
+pub no_edge : (rs : List Slot) → IsSlotList rs → (i p : ℕ) → HasPageAt rs p i → (get_slot rs i).start < p → (slots_of rs).edge p ≡ false
 no_edge rs ok i p at l = rw (slot_at_is rs ok p i at) (other_test (get_slot rs i).start p (omega arith))
 
-pub crosses_start : (rs : List Slot) → IsSlotList rs → (i cursor end : ℕ) → IsAt rs cursor i → (get_slot rs i).start < cursor → Crosses (slots_of rs) cursor end
+pub crosses_start : (rs : List Slot) → IsSlotList rs → (i cursor end : ℕ) → HasPageAt rs cursor i → (get_slot rs i).start < cursor → Crosses (slots_of rs) cursor end
 crosses_start rs ok i cursor end at l = inl (no_edge rs ok i cursor at l)
 
 -- a slot that begins below all that is no page is not the last

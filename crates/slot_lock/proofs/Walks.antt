@@ -1,20 +1,13 @@
 -- What a walk over the slots of a range has seen
-use Rattle.std.proofs.Common.{◌≡◌, ℕ, ◌+◌, ◌-◌, ◌^◌, ◌<◌, ◌≤◌, ◌⊎◌, ◌↔◌, ◌||◌, ⊎_elim, inl, inr, Bool, true, false, List, length, get_or}
-use Rattle.std.proofs.Common.{Option, Some, None, is_some, refl, sym, ◌∙◌, ap, max, min, arith}
-use Rattle.std.proofs.lemmas.Bool.{cases_lt}
-use Rattle.std.proofs.lemmas.List.{get_or_default}
-use Rattle.vm_base.specs.declared.info.PageInfo.{PageInfo}
-use Rattle.vm_base.specs.declared.page.PageRange.{PageRange}
-use Rattle.vm_base.specs.Functions.{has}
-use Rattle.vm_base.specs.Cores.{members}
-use Rattle.vm_base.specs.Info.{info_from, frame_of, is_recorded}
-use Rattle.vm_base.proofs.Functions.{has_in, in_has}
+use Rattle.slot_lock.proofs.Words.{◌≡◌, ℕ, ◌+◌, ◌-◌, ◌^◌, ◌<◌, ◌≤◌, ◌⊎◌, ◌||◌, ⊎_elim, inl, inr, Bool, true, false, List, length, Option, Some, None, is_some}
+use Rattle.slot_lock.proofs.Words.{refl, sym, ◌∙◌, ap, max, min, arith, cases_lt, PageInfo, PageRange, has, members, info_from, frame_of, is_recorded, in_has}
 use Rattle.slot_lock.specs.declared.slot.Slot.{Slot}
-use Rattle.slot_lock.specs.SlotList.{IsSlotList, IsAt, get_slot, nobody}
-use Rattle.slot_lock.specs.Places.{slot_at_is}
-use Rattle.slot_lock.specs.Slots.{Slots, IsUser, AllMapped, IsFreeRun, NoFrames}
+use Rattle.slot_lock.specs.SlotList.{IsSlotList, get_slot}
+use Rattle.slot_lock.proofs.Places.{slot_at_is}
+use Rattle.slot_lock.specs.Slots.{Slots, IsFreeRun}
 use Rattle.slot_lock.specs.ListedSlots.{slots_of}
 use Rattle.slot_lock.proofs.Steps.{before_limit}
+use Rattle.slot_lock.proofs.Facts.{no_some, either_left, either_right}
 
 pub is_some-from : (o : Option PageInfo) (n : ℕ) → is_some (info_from o n) ≡ is_some o
 is_some-from None n = refl
@@ -34,9 +27,6 @@ is_recorded-from (Some info) n core = refl
 pub record IsWalk (rs : List Slot) (first i : ℕ) : Type 0 where
   pub within : i < length rs
   pub after : i + 1 < length rs → first < (get_slot rs (i + 1)).start
-
-pub walk_first : (rs : List Slot) (first i : ℕ) → IsAt rs first i → IsWalk rs first i
-walk_first rs first i at = record { within = at.within; after = at.until }
 
 pub walk_more : (rs : List Slot) → IsSlotList rs → (first end i : ℕ) → IsWalk rs first i → (get_slot rs i).start < end → end ≤ 2 ^ 35 → i + 1 < length rs
 walk_more rs ok first end i w l h = before_limit rs ok i w.within (omega arith)
@@ -87,16 +77,6 @@ pub record Users (rs : List Slot) (range : PageRange) (cores i : ℕ) : Type 0 w
   pub only : (core : ℕ) → members cores core ≡ true → UserBelow (slots_of rs) range (get_slot rs i).start core
   pub all : (core : ℕ) → UserBelow (slots_of rs) range (get_slot rs i).start core → members cores core ≡ true
 
-pub users_first : (rs : List Slot) (range : PageRange) (i : ℕ) → IsAt rs range.first i → ((core : ℕ) → members 0 core ≡ false) → Users rs range 0 i
-users_first rs range i at none = record {
-  walk = walk_first rs range.first i at;
-  only = λ core h. absurd (two _ (none core) h);
-  all = λ core u. let b = has_in range u.page u.here in absurd (let l = u.below in omega (arith, at.from, b.0));
-}
-  where
-    two : (b : Bool) → b ≡ false → b ≡ true → ⊥
-    two b e f = cc
-
 pub users_next : (rs : List Slot) → IsSlotList rs → (range : PageRange) (cores more i : ℕ) → range.first < range.end → Users rs range cores i
     → i + 1 < length rs → (get_slot rs i).start < range.end → ((core : ℕ) → members more core ≡ (members cores core || is_recorded (get_slot rs i).info core))
     → Users rs range more (i + 1)
@@ -124,13 +104,6 @@ users_next rs ok range cores more i some u h l joined = record {
     only core true e m = older core (u.only core e)
     only core false e m = newer core (page_in rs ok range.first i u.walk h) (sym (ap (λ b. b || is_recorded (get_slot rs i).info core) e) ∙ m)
 
-    either_left : (a b : Bool) → a ≡ true → a || b ≡ true
-    either_left a b e = rw e refl
-
-    either_right : (a b : Bool) → b ≡ true → a || b ≡ true
-    either_right true b e = refl
-    either_right false b e = e
-
     all : (core : ℕ) → UserBelow (slots_of rs) range (get_slot rs (i + 1)).start core → members cores core || is_recorded (get_slot rs i).info core ≡ true
     all core v = ⊎_elim
         (λ (below : v.page < (get_slot rs i).start). either_left _ _ (u.all core (record { page = v.page; here = v.here; below = below; is = v.is })))
@@ -138,16 +111,6 @@ users_next rs ok range cores more i some u h l joined = record {
         (sym (is_recorded-from (get_slot rs i).info (v.page - (get_slot rs i).start) core)
         ∙ (sym (ap (λ o. is_recorded o core) (info_in rs ok i v.page h from v.below)) ∙ v.is)))
         (cases_lt v.page (get_slot rs i).start)
-
-pub users_all : (rs : List Slot) (range : PageRange) (cores i : ℕ) → Users rs range cores i → range.end ≤ (get_slot rs i).start → (core : ℕ)
-    → (members cores core ≡ true) ↔ IsUser (slots_of rs) range core
-users_all rs range cores i u l core = (to, from)
-  where
-    to : members cores core ≡ true → IsUser (slots_of rs) range core
-    to m = let v = u.only core m in (v.page, v.here, v.is)
-
-    from : IsUser (slots_of rs) range core → members cores core ≡ true
-    from v = let b = has_in range v.0 v.1 in u.all core (record { page = v.0; here = v.1; below = omega (arith, b.1); is = v.2 })
 
 -- ---- free pages
 
@@ -160,16 +123,6 @@ pub record Free (rs : List Slot) (range : PageRange) (n start i : ℕ) : Type 0 
   pub short : min (get_slot rs i).start range.end < start + n
   pub least : (r : ℕ) → r < start → ¬ IsFreeRun (slots_of rs) range n r
 
-pub free_first : (rs : List Slot) (range : PageRange) (n i : ℕ) → 1 ≤ n → range.first < range.end → IsAt rs range.first i → Free rs range n range.first i
-free_first rs range n i some order at = record {
-  walk = walk_first rs range.first i at;
-  low = omega arith;
-  by = omega arith;
-  free = λ p a b. absurd (omega (arith, at.from));
-  short = omega (arith, at.from);
-  least = λ r l slot. omega (arith, slot.inside.low);
-}
-
 pub free_mapped : (rs : List Slot) → IsSlotList rs → (range : PageRange) (n start i : ℕ) → 1 ≤ n → Free rs range n start i → i + 1 < length rs
     → (get_slot rs i).start < range.end → is_some (get_slot rs i).info ≡ true → Free rs range n (get_slot rs (i + 1)).start (i + 1)
 free_mapped rs ok range n start i some f h l mapped = record {
@@ -181,11 +134,8 @@ free_mapped rs ok range n start i some f h l mapped = record {
   least = λ r m slot. ⊎_elim (λ (early : r < start). f.least r early slot) (λ (late : start ≤ r). clash r late m slot) (cases_lt r start);
 }
   where
-    none_some : (o : Option PageInfo) → is_some o ≡ true → o ≡ None → ⊥
-    none_some o e g = cc
-
     taken : (p : ℕ) → (get_slot rs i).start ≤ p → p < (get_slot rs (i + 1)).start → (slots_of rs).info p ≡ None → ⊥
-    taken p a b e = none_some _ (ap is_some (info_in rs ok i p h a b) ∙ (is_some-from (get_slot rs i).info _ ∙ mapped)) e
+    taken p a b e = no_some _ (ap is_some (info_in rs ok i p h a b) ∙ (is_some-from (get_slot rs i).info _ ∙ mapped)) e
 
     clash : (r : ℕ) → start ≤ r → r < (get_slot rs (i + 1)).start → IsFreeRun (slots_of rs) range n r → ⊥
     clash r late m slot = ⊎_elim
@@ -233,8 +183,3 @@ free_none rs range n start i f l r slot = ⊎_elim
     (λ (a : r < start). f.least r a slot)
     (λ (a : start ≤ r). omega (arith, f.short, slot.inside.high))
     (cases_lt r start)
-
--- the start is in reach
-pub start_by : (rs : List Slot) → IsSlotList rs → (range : PageRange) (n start i : ℕ) → range.first < range.end → Free rs range n start i
-    → i + 1 < length rs → (get_slot rs i).start < range.end → start ≤ min (get_slot rs (i + 1)).start range.end
-start_by rs ok range n start i order f h l = let a = f.walk.after h in let r = ok.rising i h in omega (arith, f.by)

@@ -7,7 +7,7 @@ use Rattle.slot_lock.specs.Slots.{Slots, IsSlot, between}
 
 -- the pages from this one to the last valid one are one slot, which nobody holds, and nothing is
 -- mapped there
-pub record IsRest (s : Slots) (start : ℕ) : Type 0 where
+pub record IsFreeRest (s : Slots) (start : ℕ) : Type 0 where
   pub slot : IsSlot s start (2 ^ 35)
   pub free : s.owner start ≡ None
   pub unmapped : s.info start ≡ None
@@ -22,7 +22,7 @@ pub record IsSoundSlot (first end : ℕ) (info : Option PageInfo) : Type 0 where
 -- such a slot follows on: it begins where the last one ends, or is the first one
 pub record CanAdd (s : Slots) (first end : ℕ) (info : Option PageInfo) : Type 0 where
   pub rest : ℕ
-  pub is_rest : IsRest s rest
+  pub is_rest : IsFreeRest s rest
   pub follows : (first ≡ rest) ⊎ ((rest ≡ 1) × (1 ≤ first))
   pub sound : IsSoundSlot first end info
 

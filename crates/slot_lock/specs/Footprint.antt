@@ -1,4 +1,4 @@
--- The pages that an acquisition locks, a cursor over them, and what of them is held
+-- The pages that an acquisition locks, and a cursor over them
 use Rattle.std.specs.Prelude.{ℕ, ◌<◌, ◌==◌, ◌||◌, nat_lt, nat_le, min, max, Bool, false, if◌then◌else◌}
 use Rattle.std.specs.Prelude.{Option, Some, None}
 use Rattle.std.specs.Option.{ForSome}
@@ -74,27 +74,3 @@ abbrev pub cursor_after : Footprint → ℕ → Got → ℕ
 cursor_after fp cursor Split = cursor
 cursor_after fp cursor (Locked b) = next_after fp b
 cursor_after fp cursor (Held by) = cursor
-
--- ---- what is held of a footprint
-
--- what of the second range lies below the cursor
-abbrev pub second_below : Option PageRange → ℕ → Option PageRange
-second_below None cursor = None
-second_below (Some r) cursor = if nat_le cursor r.first then None else Some (between r.first cursor)
-
--- the pages below the cursor, if there are some
-abbrev pub below : Footprint → ℕ → Option Footprint
-below fp cursor =
-    if nat_le cursor fp.first.first then None
-    else if nat_le cursor fp.first.end then Some (one_range (between fp.first.first cursor))
-    else Some (record { first = fp.first; second = second_below fp.second cursor })
-
-abbrev pub rest_of : Option PageRange → Option Footprint
-rest_of None = None
-rest_of (Some r) = Some (one_range r)
-
--- the pages from b on, once those up to b of the first range are let go, if there are some
-abbrev pub after : Footprint → ℕ → Option Footprint
-after fp b =
-    if b == fp.first.end then rest_of fp.second
-    else Some (record { first = between b fp.first.end; second = fp.second })

@@ -7,7 +7,7 @@ pub mod Footprint
 pub mod Acquire
 pub mod SlotList
 pub mod ListedSlots
-pub mod Places
-pub mod ListLaws
 pub mod Adding
 pub mod Edges
+pub mod MapList
+pub mod MapWalks

@@ -73,10 +73,10 @@ pub record IsSoundTouch (touch : Touch) : Type 0 where
   pub page : IsPage touch.page
   pub offset : touch.offset < 4096
 
-abbrev pub IsSound : Plan → Type 0
-IsSound (PlanOf.Place place) = IsSoundPlace place
-IsSound (PlanOf.Change change) = IsSoundChange change
-IsSound (PlanOf.Touch touch) = IsSoundTouch touch
+abbrev pub IsSoundPlan : Plan → Type 0
+IsSoundPlan (PlanOf.Place place) = IsSoundPlace place
+IsSoundPlan (PlanOf.Change change) = IsSoundChange change
+IsSoundPlan (PlanOf.Touch touch) = IsSoundTouch touch
 
 -- ---- goals
 
@@ -98,5 +98,5 @@ HasTarget (To.Change change) = Unit {0}
 HasTarget (To.Access touch) = Unit {0}
 
 pub record IsSoundGoal (goal : Goal) : Type 0 where
-  pub plan : IsSound (goal_plan goal)
+  pub plan : IsSoundPlan (goal_plan goal)
   pub target : HasTarget goal

@@ -9,25 +9,25 @@ use Rattle.slot_lock.specs.declared.plan.Change.{Change}
 use Rattle.slot_lock.specs.declared.plan.Change.TheVariants.{Put, Clear, Protect}
 use Rattle.slot_lock.specs.declared.slot.Slot.{Slot}
 
-abbrev pub nobody : Slot
-nobody = record { start = 0; owner = None; info = None }
+abbrev pub empty_slot : Slot
+empty_slot = record { start = 0; owner = None; info = None }
 
 abbrev pub get_slot : List Slot → ℕ → Slot
-get_slot rs i = slice_index_or rs i nobody
+get_slot rs i = slice_index_or rs i empty_slot
 
-abbrev pub begins_by : ℕ → Slot → Bool
-begins_by p r = nat_le r.start p
+abbrev pub slot_begins_by : ℕ → Slot → Bool
+slot_begins_by p r = nat_le r.start p
 
 -- the place of the last slot that begins by the page
 unfoldable pub place_of : List Slot → ℕ → ℕ
-place_of rs p = prefix_len (begins_by p) rs - 1
+place_of rs p = prefix_len (slot_begins_by p) rs - 1
 
 -- the slot that has the page
 unfoldable pub slot_at : List Slot → ℕ → Slot
 slot_at rs p = get_slot rs (place_of rs p)
 
 -- the slot at i has the page
-pub record IsAt (rs : List Slot) (p i : ℕ) : Type 0 where
+pub record HasPageAt (rs : List Slot) (p i : ℕ) : Type 0 where
   pub within : i < length rs
   pub from : (get_slot rs i).start ≤ p
   pub until : i + 1 < length rs → p < (get_slot rs (i + 1)).start
@@ -59,7 +59,7 @@ pub record IsInner (rs : List Slot) (i : ℕ) : Type 0 where
   pub before_last : i + 1 < length rs
 
 -- the page lies inside the slot at i, which is neither the first nor the last
-pub record IsInside (rs : List Slot) (i at : ℕ) : Type 0 where
+pub record IsInsideSlot (rs : List Slot) (i at : ℕ) : Type 0 where
   pub inner : IsInner rs i
   pub above : (get_slot rs i).start < at
   pub below : at < (get_slot rs (i + 1)).start

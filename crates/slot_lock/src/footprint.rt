@@ -2,7 +2,6 @@
 ghost use Rattle.std.specs.Prelude.{◌≡◌, ℕ, ◌+◌, ◌^◌, ◌<◌, ◌≤◌, true, IfSome, Option};
 ghost use Rattle.vm_base.specs.Pages.{IsPageRange};
 ghost use Rattle.slot_lock.specs.Footprint.{IsFootprint, one_range, both, end_at, next_after, is_past};
-ghost use Rattle.slot_lock.specs.Footprint.{below, after};
 
 use vm_base::PageRange;
 
@@ -79,56 +78,5 @@ impl Footprint {
             Some(second) => second.end <= cursor,
             None => self.first.end <= cursor,
         }
-    }
-
-    /// The pages below the cursor, if there are some.
-    pub fn below(&self, cursor: u64) -> Option<Footprint>
-        ensures { result ≡ below self.now cursor }
-    {
-        if cursor <= self.first.first {
-            return None;
-        }
-        if cursor <= self.first.end {
-            return Some(Footprint {
-                first: PageRange {
-                    first: self.first.first,
-                    end: cursor,
-                },
-                second: None,
-            });
-        }
-        let second = match self.second {
-            Some(second) if second.first < cursor => Some(PageRange {
-                first: second.first,
-                end: cursor,
-            }),
-            _ => None,
-        };
-        Some(Footprint {
-            first: self.first,
-            second,
-        })
-    }
-
-    /// The pages that are left once those of the first range up to `end` are let go, if there are some.
-    pub fn after(&self, end: u64) -> Option<Footprint>
-        ensures { result ≡ after self.now end }
-    {
-        if end == self.first.end {
-            return match self.second {
-                None => None,
-                Some(second) => Some(Footprint {
-                    first: second,
-                    second: None,
-                }),
-            };
-        }
-        Some(Footprint {
-            first: PageRange {
-                first: end,
-                end: self.first.end,
-            },
-            second: self.second,
-        })
     }
 }

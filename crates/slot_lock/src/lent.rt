@@ -5,7 +5,7 @@ ghost use Rattle.std.specs.Vec.{vec_len, vec_capacity};
 ghost use Rattle.vm_base.specs.Info.{info_file_page};
 ghost use Rattle.slot_lock.specs.SlotList.{IsSlotList, IsInner, get_slot};
 ghost use Rattle.slot_lock.specs.ListedSlots.{slots_of};
-ghost use Rattle.slot_lock.specs.Adding.{IsRest, IsSoundSlot, CanAdd, with_edge, filled, with_slot};
+ghost use Rattle.slot_lock.specs.Adding.{IsFreeRest, IsSoundSlot, CanAdd, with_edge, filled, with_slot};
 
 use crate::slot::{self, Slot};
 use std::alloc::Allocator;
@@ -41,8 +41,8 @@ fn is_sound(first: u64, end: u64, info: &Option<PageInfo>) -> bool
 // Where the pages after the last slot begin, if nobody holds them and nothing is mapped there.
 fn rest_of(slots: &[Slot]) -> Option<u64>
     requires { IsSlotList slots.now }
-    ensures some { IfSome result (IsRest (slots_of slots.now)) }
-    ensures none { IfNone result ((start : ℕ) → ¬ IsRest (slots_of slots.now) start) }
+    ensures some { IfSome result (IsFreeRest (slots_of slots.now)) }
+    ensures none { IfNone result ((start : ℕ) → ¬ IsFreeRest (slots_of slots.now) start) }
 {
     let rest = slots[slots.len() - 2];
     if rest.owner.is_some() {
@@ -55,7 +55,7 @@ fn rest_of(slots: &[Slot]) -> Option<u64>
 }
 
 /// Tells whether a slot of these pages, whose first has this, follows on from the last one.
-pub fn can_add(slots: &[Slot], first: u64, end: u64, info: &Option<PageInfo>) -> bool
+pub(crate) fn can_add(slots: &[Slot], first: u64, end: u64, info: &Option<PageInfo>) -> bool
     requires { IsSlotList slots.now }
     ensures { IsTrue result ↔ CanAdd (slots_of slots.now) first end info.now }
 {
@@ -134,7 +134,7 @@ fn fill<A: Allocator>(
 }
 
 /// Adds a slot that follows on. A refusal for memory changes nothing.
-pub fn add<A: Allocator>(
+pub(crate) fn add<A: Allocator>(
     slots: &mut Vec<Slot, A>,
     first: u64,
     end: u64,

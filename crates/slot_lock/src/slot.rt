@@ -5,7 +5,7 @@ ghost use Rattle.std.specs.Vec.{vec_len, vec_capacity};
 ghost use Rattle.vm_base.specs.Pages.{IsPage};
 ghost use Rattle.vm_base.specs.Info.{info_with_prot, info_from, info_file_page, is_leaf};
 ghost use Rattle.slot_lock.specs.Plan.{IsSoundChange, range_of};
-ghost use Rattle.slot_lock.specs.SlotList.{IsSlotList, IsAt, IsInner, IsInside, IsJoint, get_slot, cut_list};
+ghost use Rattle.slot_lock.specs.SlotList.{IsSlotList, HasPageAt, IsInner, IsInsideSlot, IsJoint, get_slot, cut_list};
 ghost use Rattle.slot_lock.specs.Slots.{Divides, DividesAs, HasMeta, IsCut, CanJoin, Folds, with_owner};
 ghost use Rattle.slot_lock.specs.Slots.{with_info};
 ghost use Rattle.slot_lock.specs.Changes.{changed};
@@ -65,9 +65,9 @@ fn is_plain(owner: Option<CoreId>, info: Option<PageInfo>) -> bool
 }
 
 /// The place of the slot that has the page.
-pub fn place(slots: &[Slot], page: u64) -> usize
+pub(crate) fn place(slots: &[Slot], page: u64) -> usize
     requires { IsSlotList slots.now }
-    ensures { IsAt slots.now page result }
+    ensures { HasPageAt slots.now page result }
 {
     let mut low = 0;
     let mut high = slots.len();
@@ -83,9 +83,9 @@ pub fn place(slots: &[Slot], page: u64) -> usize
 }
 
 /// Cuts the slot at a place in two, at a page inside it. A refusal for memory changes nothing.
-pub fn cut<A: Allocator>(slots: &mut Vec<Slot, A>, i: usize, at: u64) -> Result<(), NoMemory>
+pub(crate) fn cut<A: Allocator>(slots: &mut Vec<Slot, A>, i: usize, at: u64) -> Result<(), NoMemory>
     requires list { IsSlotList slots.old.items }
-    requires inside { IsInside slots.old.items i at }
+    requires inside { IsInsideSlot slots.old.items i at }
     ensures list { IsSlotList slots.new.items }
     ensures items { OnOk result (slots.new.items ≡ cut_list slots.old.items i at) }
     ensures ok { OnOk result (Divides (slots_of slots.old.items) (slots_of slots.new.items)
@@ -107,7 +107,7 @@ pub fn cut<A: Allocator>(slots: &mut Vec<Slot, A>, i: usize, at: u64) -> Result<
 }
 
 /// Gives the slot at a place another owner.
-pub fn set_owner<A: Allocator>(slots: &mut Vec<Slot, A>, i: usize, owner: Option<CoreId>)
+pub(crate) fn set_owner<A: Allocator>(slots: &mut Vec<Slot, A>, i: usize, owner: Option<CoreId>)
     requires list { IsSlotList slots.old.items }
     requires inner { IsInner slots.old.items i }
     ensures list { IsSlotList slots.new.items }
@@ -118,7 +118,7 @@ pub fn set_owner<A: Allocator>(slots: &mut Vec<Slot, A>, i: usize, owner: Option
 }
 
 /// Gives the slot at a place, which is one mapped page, another frame and other cores.
-pub fn set_info<A: Allocator>(slots: &mut Vec<Slot, A>, i: usize, info: PageInfo)
+pub(crate) fn set_info<A: Allocator>(slots: &mut Vec<Slot, A>, i: usize, info: PageInfo)
     requires list { IsSlotList slots.old.items }
     requires inner { IsInner slots.old.items i }
     requires one { (get_slot slots.old.items (i + 1)).start ≡ (get_slot slots.old.items i).start + 1 }
@@ -131,7 +131,7 @@ pub fn set_info<A: Allocator>(slots: &mut Vec<Slot, A>, i: usize, info: PageInfo
 }
 
 /// Changes each page of a range that no slot crosses the edge of. Only the slots of the range are read.
-pub fn change<A: Allocator>(slots: &mut Vec<Slot, A>, change: Change)
+pub(crate) fn change<A: Allocator>(slots: &mut Vec<Slot, A>, change: Change)
     requires list { IsSlotList slots.old.items }
     requires sound { IsSoundChange change }
     requires cut { IsCut (slots_of slots.old.items) (range_of change) }
@@ -162,7 +162,7 @@ fn can_join(slots: &[Slot], i: usize) -> bool
 /// Joins the page's slot with the next one, where nobody holds them, they have no frame and no
 /// recorded core, and the pages of the second go on from those of the first. Answers whether it
 /// did.
-pub fn fold<A: Allocator>(slots: &mut Vec<Slot, A>, page: u64) -> bool
+pub(crate) fn fold<A: Allocator>(slots: &mut Vec<Slot, A>, page: u64) -> bool
     requires list { IsSlotList slots.old.items }
     requires page { IsPage page }
     ensures list { IsSlotList slots.new.items }

@@ -2,6 +2,8 @@
 ghost use Rattle.std.specs.Prelude.{◌≡◌, ◌≢◌, ℕ, ◌+◌, ◌-◌, ◌^◌, ◌<◌, ◌≤◌, IfOk, OnErr, Option, Some};
 ghost use Rattle.std.specs.Prelude.{Bool, length};
 ghost use Rattle.slot_lock.specs.SlotList.{IsSlotList};
+ghost use Rattle.slot_lock.specs.ListedSlots.{slots_of};
+ghost use Rattle.slot_lock.specs.Slots.{IsSlotMap};
 
 use crate::framed::FramedPages;
 use crate::plan::Change;
@@ -20,16 +22,17 @@ use vm_base::{CoreId, CoreSet, NoMemory, PageInfo, PageRange};
 pub struct SlotList<A: Allocator> {
     slots: Vec<Slot, A>,
     ghost ok: { IsSlotList slots.items },
+    ghost laws: { IsSlotMap (slots_of slots.items) },
 }
 
 impl<A: Allocator> SlotList<A> {
     ghost use Rattle.std.specs.Prelude.{IsTrue, ◌↔◌};
     ghost use Rattle.slot_lock.specs.Slots.{IsNew};
-    ghost use Rattle.slot_lock.specs.Adding.{IsRest, CanAdd, with_slot};
+    ghost use Rattle.slot_lock.specs.Adding.{IsFreeRest, CanAdd, with_slot};
 
     /// All valid pages unmapped and unheld, in one slot.
     pub fn new(alloc: A) -> Result<SlotList<A>, NoMemory>
-        ensures rest { IfOk result (λ map. IsRest (⟦<SlotList<A> as SlotRead>⟧.slots map) 1) }
+        ensures rest { IfOk result (λ map. IsFreeRest (⟦<SlotList<A> as SlotRead>⟧.slots map) 1) }
         ensures new { IfOk result (λ map. IsNew (⟦<SlotList<A> as SlotRead>⟧.slots map)) }
     {
         let mut slots = Vec::with_capacity(alloc, 3)?;
@@ -112,7 +115,6 @@ impl<A: Allocator> SlotRead for SlotList<A> {
 
 impl<A: Allocator> SlotMap for SlotList<A> {
     ghost use Rattle.std.specs.Prelude.{ℕ};
-    ghost use Rattle.slot_lock.specs.ListLaws.{slots_of-is_slot_map};
     ghost use Rattle.slot_lock.specs.ListedSlots.{two_parts};
     ghost use Rattle.slot_lock.specs.Slots.{CanJoin, Folds};
 
@@ -122,7 +124,7 @@ impl<A: Allocator> SlotMap for SlotList<A> {
 
     ghost folds = { Folds };
 
-    ghost is_slot_map = { λ m. slots_of-is_slot_map m.slots.items m.ok };
+    ghost is_slot_map = { λ m. m.laws };
 
     ghost reads_all = { λ _ _ h. h };
 

@@ -15,7 +15,7 @@ use vm_base::info::recorded_cores;
 use vm_base::{CoreSet, PageInfo, PageRange};
 
 /// The least start of `n` unmapped pages in the range, if there is one.
-pub fn first_free_run(slots: &[Slot], range: PageRange, n: u64) -> Option<u64>
+pub(crate) fn first_free_run(slots: &[Slot], range: PageRange, n: u64) -> Option<u64>
     requires some { 1 ≤ n }
     requires list { IsSlotList slots.now }
     requires range { IsPageRange range }
@@ -39,7 +39,7 @@ pub fn first_free_run(slots: &[Slot], range: PageRange, n: u64) -> Option<u64>
 }
 
 /// The cores that are recorded on some page of the range.
-pub fn recorded(slots: &[Slot], range: PageRange) -> CoreSet
+pub(crate) fn recorded(slots: &[Slot], range: PageRange) -> CoreSet
     requires list { IsSlotList slots.now }
     requires range { IsPageRange range }
     ensures { (core : ℕ) → (members result core ≡ true) ↔ IsUser (slots_of slots.now) range core }
@@ -65,7 +65,7 @@ fn frame_of(info: Option<PageInfo>) -> Option<u32>
 
 /// Adds the pages from `from` up to `end` that have a frame, and their frames, to the list, in
 /// order of pages, until it is full. Answers the page up to which none is left out.
-pub fn list_frames(slots: &[Slot], from: u64, end: u64, list: &mut FramedPages) -> u64
+pub(crate) fn list_frames(slots: &[Slot], from: u64, end: u64, list: &mut FramedPages) -> u64
     requires list { IsSlotList slots.now }
     requires ordered { from ≤ end }
     requires end { end ≤ 2 ^ 35 }

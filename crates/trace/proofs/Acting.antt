@@ -1,9 +1,10 @@
 -- Why a line isn't acted on, by what a replayer has.
-use Rattle.std.proofs.Common.{◌≡◌, ℕ, Bool, true, false, List, [], ◌∷◌, Option, None, Some, is_some, ◌⊎◌, inl, inr, Result, Ok, Err, refl, sym, ap, subst}
-use Rattle.std.specs.Prelude.{IfErr, IfSome, IsSomeAnd, codes, if◌then◌else◌, is_none, option_map}
+use Rattle.machine_laws.proofs.Words.{◌≡◌, ℕ, Bool, true, false, List, [], ◌∷◌, Option, None, Some, ◌⊎◌, inl, inr, Result, Ok, Err, refl, sym, ap, subst}
+use Rattle.machine_laws.proofs.Words.{IfErr, IfSome, IsSomeAnd, if◌then◌else◌, World}
+use Rattle.std.proofs.Common.{is_some}
+use Rattle.std.specs.Prelude.{codes, is_none, option_map}
 use Rattle.std.specs.Str.{bytes_eq}
 use Rattle.std.proofs.lemmas.Slice.Eq.{bytes_eq-Decides}
-use Rattle.machine_model.specs.World.{World}
 use Rattle.trace_text.specs.Words.{Word, words_of}
 use Rattle.trace_text.specs.Line.{are_printable, begins_with_file, begins_with_vm, line_of}
 use Rattle.trace_text.specs.declared.line.Line.{Line}

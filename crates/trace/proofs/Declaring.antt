@@ -1,15 +1,13 @@
 -- The files that the lines of a trace ask for, made one after another.
-use Rattle.std.proofs.Common.{◌≡◌, ℕ, ◌+◌, ◌%◌, ◌<◌, Bool, List, [], ◌∷◌, ◌++◌, map, length, Option, Some}
-use Rattle.std.proofs.Common.{None, refl, sym, ap, ◌∙◌, take, slice_get, get_or}
-use Rattle.std.specs.Prelude.{◌||◌, option_map}
-use Rattle.std.specs.List.{list_any, range_with_len}
-use Rattle.std.proofs.lemmas.List.{map_push, take_more, length-map}
+use Rattle.machine_laws.proofs.Words.{◌≡◌, ℕ, ◌+◌, ◌%◌, ◌<◌, Bool, List, [], ◌∷◌, ◌++◌, map, length, Option, Some, None, refl, sym, ap, ◌∙◌, take, slice_get}
+use Rattle.machine_laws.proofs.Words.{get_or, ◌||◌, range_with_len, take_more, length-map, fun_ext, file_with, given_files}
+use Rattle.std.specs.Prelude.{option_map}
+use Rattle.std.specs.List.{list_any}
+use Rattle.std.proofs.lemmas.List.{map_push}
 use Rattle.std.proofs.lemmas.List.FromFn.{length-map-range_with_len}
 use Rattle.std.proofs.lemmas.Option.{slice_get-map}
-use Rattle.std.proofs.Math.Path.{fun_ext}
-use Rattle.vm_base.specs.Plain.{file_with}
 use Rattle.backing.specs.declared.file_spec.FileSpec.{FileSpec}
-use Rattle.backing.specs.Given.{given_file, given_files}
+use Rattle.backing.specs.Given.{given_file}
 use Rattle.core_steps.specs.declared.setup.CallLimit.{CallLimit}
 use Rattle.core_steps.specs.Setups.{first_fault_within, is_too_long}
 use Rattle.trace.specs.declared.declaration.FileLine.{FileLine}

@@ -1,16 +1,10 @@
 -- A call that waits is given up, or nothing comes of it.
-use Rattle.std.proofs.Common.{◌≡◌, ℕ, zero, suc, ◌<◌, ◌==◌, ◌⊎◌, inl, inr, Bool, true, false, Option, Some, None, refl, sym, ap, subst, ◌∙◌, arith}
-use Rattle.std.specs.Prelude.{nat_lt}
-use Rattle.std.proofs.lemmas.Bool.Decides.{nat_tests}
-use Rattle.vm_base.proofs.Functions.{eq_true, eq_false}
+use Rattle.machine_laws.proofs.Words.{◌≡◌, ℕ, zero, suc, ◌<◌, ◌==◌, ◌⊎◌, inl, inr, Bool, true, false, Option, Some, None, refl, sym, ap, subst, ◌∙◌, arith}
+use Rattle.machine_laws.proofs.Words.{nat_lt, nat_tests, eq_true, eq_false, CopyAcks, can_give_up, World, is_access}
 use Rattle.machine_model.specs.declared.event.Event.TheVariants as Ev
-use Rattle.machine_model.specs.declared.phase.Phase.TheVariants.{CopyAcks}
-use Rattle.machine_model.specs.Holding.{can_give_up}
-use Rattle.machine_model.specs.World.{World}
 use Rattle.machine_laws.proofs.Moves.{IsCallOf, call_at}
 use Rattle.machine_sound.proofs.Kept.{reached_fine}
 use Rattle.machine_alone.specs.Alone.{IsBeside}
-use Rattle.vm_base.specs.Requests.{is_access}
 use Rattle.machine_alone.proofs.Taking.{its_access}
 use Rattle.machine_alone.proofs.Telling.{for_change, for_copy, waits_at}
 use Rattle.trace_text.specs.declared.action.Action.TheVariants as By

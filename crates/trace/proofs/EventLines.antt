@@ -1,11 +1,8 @@
 -- What the steps of a line of an event give
-use Rattle.std.proofs.Common.{◌≡◌, ℕ, Bool, List, Option, Some, None, false, inl, inr, Result, Ok, Err, refl, sym, ap, ◌∙◌, subst}
-use Rattle.std.specs.Prelude.{IsSomeAnd, IfErr, OnOk, OnErr, ◌⊎◌}
+use Rattle.machine_laws.proofs.Words.{◌≡◌, ℕ, Bool, List, Option, Some, None, false, inl, inr, Result, Ok, Err, refl, sym, ap, ◌∙◌, subst, IsSomeAnd, IfErr}
+use Rattle.machine_laws.proofs.Words.{Outcome, Stepped, Wait, Idle, Answered, Full, World, Made, new_world, Slots, IsNew, Request}
+use Rattle.std.specs.Prelude.{OnOk, OnErr, ◌⊎◌}
 use Rattle.vm_base.specs.declared.memory.NoMemory.{NoMemory}
-use Rattle.machine_model.specs.declared.event.Outcome.{Outcome}
-use Rattle.machine_model.specs.declared.event.Outcome.TheVariants.{Stepped, Wait, Idle, Answered, Full}
-use Rattle.machine_model.specs.World.{World, Made, new_world}
-use Rattle.slot_lock.specs.Slots.{Slots, IsNew}
 use Rattle.radix_range.specs.Folds.{CanFold, FoldsNode}
 use Rattle.radix_range.specs.Tree.{root_edges, new_tree}
 use Rattle.radix_range.proofs.New.{is_new_tree}
@@ -14,7 +11,6 @@ use Rattle.trace.specs.Declarations.{Asked, asked_fault_within, made_by}
 use Rattle.trace.specs.declared.fault.TraceFault.{TraceFault}
 use Rattle.trace.specs.declared.fault.TraceFault.TheVariants as By
 use Rattle.trace.specs.Stage.{Stage, Start, Declared, Running, CanOpen, EventActs, EventFails, EventWants, Opens, stage_of}
-use Rattle.vm_base.specs.declared.requests.Request.{Request}
 use Rattle.trace_text.specs.declared.line.Line.{Line}
 use Rattle.trace_text.specs.declared.line.Line.TheVariants.{Now}
 use Rattle.core_steps.specs.declared.machine.Finished.{Finished}

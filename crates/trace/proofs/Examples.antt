@@ -1,21 +1,10 @@
 -- What the definition of a plain page map's text refuses: other replies, a step of a core that isn't there, `stuck`, a log without a reply,
 -- and mappings that aren't.
-use Rattle.std.proofs.Common.{◌≡◌, ◌≢◌, ℕ, ◌==◌, ◌⊎◌, inl, inr, Bool, true, false, cond, List, [], ◌∷◌, Option, None, Some, length, refl, ap, ◌∙◌, arith}
-use Rattle.std.specs.Prelude.{codes, nat_lt}
-use Rattle.vm_base.specs.declared.log.Entry.{Entry}
-use Rattle.vm_base.specs.declared.log.Entry.{Entry}
-use Rattle.vm_base.specs.declared.replies.Reply.{Reply}
-use Rattle.vm_base.specs.declared.replies.Reply.TheVariants.{Mapped, Done, Byte, Refused, Segv, Bus, NoFrame, NoMemory}
-use Rattle.vm_base.specs.declared.replies.SegvCode.TheVariants.{MapErr}
-use Rattle.vm_base.specs.declared.requests.Request.{Request}
-use Rattle.vm_base.specs.declared.requests.Request.TheVariants.{Load}
-use Rattle.vm_base.specs.Plain.{Plain}
-use Rattle.map_list.specs.declared.lines.MapLine.{MapLine}
-use Rattle.map_list.specs.Lines.{IsMapList, plain_metas}
+use Rattle.machine_laws.proofs.Words.{◌≡◌, ◌≢◌, ℕ, ◌==◌, ◌⊎◌, inl, inr, Bool, true, false, cond, List, [], ◌∷◌, Option, None, Some, length, refl, ap, ◌∙◌}
+use Rattle.machine_laws.proofs.Words.{arith, nat_lt, Entry, Entry, Reply, Mapped, Done, Byte, Refused, Segv, Bus, NoFrame, NoMemory, MapErr, Request, Load}
+use Rattle.machine_laws.proofs.Words.{Plain, MapLine, IsMapList, plain_metas, Outcome, Stepped, Wait, Idle, Answered, Full, RepliesBy, IsFirstPlace}
+use Rattle.std.specs.Prelude.{codes}
 use Rattle.machine_model.specs.declared.event.Blocker.TheVariants.{Acks}
-use Rattle.machine_model.specs.declared.event.Outcome.{Outcome}
-use Rattle.machine_model.specs.declared.event.Outcome.TheVariants.{Stepped, Wait, Idle, Answered, Full}
-use Rattle.vm_base.specs.Log.{FirstReplies}
 use Rattle.trace_text.specs.declared.action.Action.{Action}
 use Rattle.trace_text.specs.declared.action.Action.TheVariants as By
 use Rattle.trace_text.specs.declared.line.Line.{Line}
@@ -32,7 +21,7 @@ one_core = record nothing_reached { cores = 1; frames = 4; calls = 8 }
 
 -- ---- replies
 
-faults : (after : Plain) (y : Reply) → FirstReplies one_core.plain 0 (Load 65540) y after → y ≢ NoMemory → y ≡ Segv MapErr
+faults : (after : Plain) (y : Reply) → RepliesBy IsFirstPlace one_core.plain 0 (Load 65540) y after → y ≢ NoMemory → y ≡ Segv MapErr
 faults after (Mapped a) h given = let e = h.0 in cc
 faults after Done h given = let e = h.0 in cc
 faults after (Byte b) h given = let e = h.0 in cc

@@ -1,15 +1,8 @@
 -- The mappings, written one after another.
-use Rattle.std.proofs.Common.{◌≡◌, ℕ, ◌^◌, ◌<◌, ◌≤◌, List, [], ◌∷◌, ◌++◌, Option, None, Some, IfSome, inl, inr, arith, refl, sym, ap, ◌∙◌, subst, append-nil}
-use Rattle.std.proofs.Math.Logic.{∥∥₁_elim}
-use Rattle.std.proofs.Props.{props}
-use Rattle.std.proofs.lemmas.Grind.{flat_map-append}
-use Rattle.std.proofs.KnownBytes.{Appends-nil, Appends-trans}
-use Rattle.std.specs.List.{flat_map}
-use Rattle.std.specs.Io.KnownBytes.{Appends}
-use Rattle.map_list.specs.declared.lines.MapLine.{MapLine}
-use Rattle.map_list.specs.Lines.{plain_metas}
-use Rattle.map_list.proofs.Lists.{lists_end, lists_more}
-use Rattle.machine_model.specs.World.{World}
+use Rattle.machine_laws.proofs.Words.{◌≡◌, ℕ, ◌^◌, ◌<◌, ◌≤◌, List, [], ◌∷◌, ◌++◌, Option, None, Some, inl, inr, arith, refl, sym, ap, ◌∙◌, subst, append-nil}
+use Rattle.machine_laws.proofs.Words.{∥∥₁_elim, props, flat_map-append, Appends-nil, Appends-trans, flat_map, Appends, MapLine, plain_metas, World}
+use Rattle.std.proofs.Common.{IfSome}
+use Rattle.slot_lock.proofs.MapLists.{lists_end, lists_more}
 use Rattle.core_steps.specs.Machine.{IsLegal}
 use Rattle.core_steps.specs.MapLines.{IsNextMap}
 use Rattle.trace_io.specs.Sink.{AppendsFront}
@@ -17,7 +10,7 @@ use Rattle.trace.specs.declared.shown.Show.TheVariants.{Maps}
 use Rattle.trace.specs.Stage.{Stage, Start, Declared, Running}
 use Rattle.trace.specs.Shown.{ListsUpTo, IsStartAt, IsNextAt, HasNoneAt, IsBehind, IsBegunBehind}
 use Rattle.trace.specs.Listing.{mapping_text, maps_text}
-use Rattle.trace.proofs.ShownLemmas.{front_more}
+use Rattle.trace_io.proofs.IoLemmas.{front_more}
 
 -- ---- the mappings of a trace
 

@@ -1,12 +1,8 @@
 -- The files that the lines of a trace open, one after another.
-use Rattle.std.proofs.Common.{◌≡◌, ◌≢◌, ℕ, zero, suc, ◌+◌, ◌<◌, ◌≤◌, Bool, true, false, List, [], ◌∷◌, ◌++◌, Option, Some}
-use Rattle.std.proofs.Common.{None, refl, sym, ap, ◌∙◌, arith, length, length-append, slice_get}
-use Rattle.std.specs.Prelude.{◌==◌, ◌&&◌, ◌||◌, ◌^◌, nat_lt, if◌then◌else◌}
-use Rattle.std.proofs.Math.Path.{fun_ext}
-use Rattle.std.proofs.lemmas.Bool.Decides.{nat_tests}
-use Rattle.vm_base.specs.Functions.{put}
-use Rattle.vm_base.specs.Plain.{file_with, nothing_mapped}
-use Rattle.vm_base.proofs.Functions.{eq_true, put_all}
+use Rattle.machine_laws.proofs.Words.{◌≡◌, ◌≢◌, ℕ, zero, suc, ◌+◌, ◌<◌, ◌≤◌, Bool, true, false, List, [], ◌∷◌, ◌++◌, Option, Some, None, refl, sym, ap, ◌∙◌}
+use Rattle.machine_laws.proofs.Words.{arith, length, length-append, slice_get, ◌&&◌, ◌||◌, nat_lt, if◌then◌else◌, fun_ext, nat_tests, put, file_with}
+use Rattle.machine_laws.proofs.Words.{nothing_mapped, eq_true, put_all}
+use Rattle.std.specs.Prelude.{◌==◌, ◌^◌}
 use Rattle.core_steps.specs.declared.setup.CallLimit.{CallLimit}
 use Rattle.core_steps.specs.declared.setup.SetupFault.{SetupFault}
 use Rattle.core_steps.specs.declared.setup.SetupFault.TheVariants.{Cores, Frames, TooManyFiles, FileTooLong, Calls}

@@ -1,39 +1,20 @@
 -- The state of a machine between two lines of a trace in which no call runs beside another
-use Rattle.std.proofs.Common.{◌≡◌, ◌≢◌, ℕ, zero, suc, ◌+◌, ◌≤◌, ◌<◌, ◌^◌, ◌⊎◌, inl, inr, Bool, true, false, cond, List}
-use Rattle.std.proofs.Common.{[], ◌∷◌, ◌++◌, Option, None, Some, refl, sym, ap, subst, ◌∙◌, arith}
-use Rattle.std.proofs.Math.Path.{fun_ext}
-use Rattle.std.specs.Prelude.{nat_lt, pred, if◌then◌else◌}
-use Rattle.vm_base.specs.declared.page.PageRange.{PageRange}
-use Rattle.vm_base.specs.declared.replies.Reply.{Reply}
-use Rattle.vm_base.specs.declared.replies.Reply.TheVariants.{NoFrame}
-use Rattle.vm_base.specs.declared.requests.Request.{Request}
-use Rattle.vm_base.specs.Cores.{members}
-use Rattle.vm_base.specs.Functions.{has, put}
-use Rattle.vm_base.specs.Plain.{Plain, nothing_mapped}
-use Rattle.vm_base.proofs.Functions.{put_all, put_both, put_other}
-use Rattle.slot_lock.specs.Slots.{IsUser}
-use Rattle.machine_model.specs.declared.event.Event.{Event}
+use Rattle.machine_laws.proofs.Words.{◌≡◌, ◌≢◌, ℕ, zero, suc, ◌+◌, ◌≤◌, ◌<◌, ◌^◌, ◌⊎◌, inl, inr, Bool, true, false, cond, List, [], ◌∷◌, ◌++◌, Option, None}
+use Rattle.machine_laws.proofs.Words.{Some, refl, sym, ap, subst, ◌∙◌, arith, fun_ext, nat_lt, pred, if◌then◌else◌, PageRange, Reply, NoFrame, Request}
+use Rattle.machine_laws.proofs.Words.{members, has, put, Plain, nothing_mapped, put_all, put_both, put_other, IsUser, Event, Outcome, Stepped, Idle, Full}
+use Rattle.machine_laws.proofs.Words.{Free, awaits_in, World, Made, Goes, Acts, with_event, event_limit, Step, StepsTo, nth, Replays, Stands, RepliesBy}
+use Rattle.machine_laws.proofs.Words.{NoneFree, page_copied, with_copy, is_placed, is_access, Users, Same, users_after, with_user, without, IsPlace}
+use Rattle.machine_laws.proofs.Words.{IsFirstPlace}
 use Rattle.machine_model.specs.declared.event.Event.TheVariants as Ev
-use Rattle.machine_model.specs.declared.event.Outcome.{Outcome}
-use Rattle.machine_model.specs.declared.event.Outcome.TheVariants.{Stepped, Idle, Full}
-use Rattle.machine_model.specs.declared.phase.Phase.TheVariants.{Free}
 use Rattle.vm_base.specs.declared.log.Entry.TheVariants.{Answer}
-use Rattle.machine_model.specs.Holding.{awaits_in}
-use Rattle.machine_model.specs.World.{World, Made}
-use Rattle.machine_model.specs.Step.{Goes, Acts, with_event, event_limit, Step, StepsTo}
-use Rattle.vm_base.specs.Log.{nth, Replays, Stands, FirstReplies}
-use Rattle.machine_model.specs.Accesses.{NoneFree}
 use Rattle.machine_sound.specs.Sound.{IsDue, IsReached}
 use Rattle.machine_sound.proofs.Kept.{reached_fine, reached_step}
 use Rattle.machine_alone.specs.Alone.{ComesBeside, IsAwaiting, IsBeside, IsBesideCalls, IsCalm, IsResting, IsServed, IsServedAlone}
 use Rattle.machine_alone.specs.Alone.{IsServedAtLast, IsWaiting, KeepsOthers, KeepsTakes, left_to, takes_left, users_dropped}
 use Rattle.machine_sound.specs.Log.{LeadsTo}
-use Rattle.vm_base.specs.Copies.{page_copied, with_copy}
-use Rattle.vm_base.specs.Requests.{is_placed, is_access}
 use Rattle.machine_alone.specs.Taken.{frames_for, frames_taken}
 use Rattle.machine_alone.proofs.Taking.{all_taken, no_frame_access}
 use Rattle.machine_alone.specs.Users.{recorded}
-use Rattle.vm_base.specs.Users.{Users, Same, users_after, with_user, without}
 use Rattle.machine_alone.proofs.Beside.{rests_beside}
 use Rattle.machine_alone.proofs.Ending.{served_at_last}
 use Rattle.machine_alone.proofs.Serving.{served_alone}
@@ -232,7 +213,7 @@ no_give_up core e = absurd cc
 served : (w v : World) (s : Reached) (core : ℕ) (request : Request) (o : Outcome) (text : List ℕ) → s.cores ≡ w.made.cores → s.calls ≡ w.made.calls
     → s.files ≡ w.made.file → replies_in w.calls.log ≡ s.replies
     → recorded w.slots ≡ s.users → v.made ≡ w.made → s.requests ≡ v.calls.requests → s.frames ≡ w.made.frames → frames_taken v ≤ s.accesses
-    → (k : IsServed w s.plain core request o v) → FirstReplies s.plain core request k.reply k.after → (k.reply ≡ NoFrame → s.frames < s.accesses)
+    → (k : IsServed w s.plain core request o v) → RepliesBy IsFirstPlace s.plain core request k.reply k.after → (k.reply ≡ NoFrame → s.frames < s.accesses)
     → text ≡ outcome_text o
     → IsNext v (λ r. IsAnswered s core request k.reply r text)
 served w v s core request o text cores calls files replies users made requests frames most k first framed t =
@@ -406,7 +387,7 @@ call_ends w begun core n request (Last o) v s text m calm call made asked same b
         let none : NoneFree w.memory.is_free = subst (λ r. IsDue (Ev.Go core) w.memory.is_free (Answer 0 0 core r)) e (d.due 0 0) in
         let all : frames_taken w ≡ w.made.frames = all_taken w.memory.is_free w.made.frames none in
         let access : is_access request ≡ true = no_frame_access s.plain d.after core request
-        (subst (λ r. Stands (with_copy s.plain (page_copied s.plain request r)) core request r d.after) e d.stands) in
+        (subst (λ r. Stands IsPlace (with_copy s.plain (page_copied s.plain request r)) core request r d.after) e d.stands) in
         let one : frames_for request ≡ 1 = ap (λ (b : Bool). if b then 1 else 0) access in
         let frames = m.frames in
         let before = m.taken in

@@ -1,29 +1,14 @@
 -- The text of a trace in which no call runs beside another, and what comes behind it, are those of the plain page map and the users of its pages.
-use Rattle.std.proofs.Common.{◌≡◌, ◌≢◌, ℕ, ◌≤◌, ◌<◌, ◌==◌, ◌⊎◌, inl, inr, Bool, true, false, cond, List, [], ◌∷◌, ◌++◌}
-use Rattle.std.proofs.Common.{Option, None, Some, refl, sym, ap, subst, ◌∙◌, arith, length}
-use Rattle.std.specs.Prelude.{◌^◌, nat_lt, pred, IsSomeAnd}
-use Rattle.std.proofs.Math.Path.{fun_ext}
-use Rattle.vm_base.specs.Functions.{put}
-use Rattle.vm_base.specs.Info.{is_recorded}
-use Rattle.std.proofs.lemmas.Bool.Decides.{nat_tests}
-use Rattle.vm_base.specs.declared.requests.Request.{Request}
-use Rattle.vm_base.specs.Plain.{file_with, nothing_mapped}
-use Rattle.vm_base.proofs.Functions.{eq_true, eq_false}
-use Rattle.slot_lock.specs.Slots.{Slots, IsNew}
+use Rattle.machine_laws.proofs.Words.{◌≡◌, ◌≢◌, ℕ, ◌≤◌, ◌<◌, ◌==◌, ◌⊎◌, inl, inr, Bool, true, false, cond, List, [], ◌∷◌, ◌++◌, Option, None, Some, refl, sym}
+use Rattle.machine_laws.proofs.Words.{ap, subst, ◌∙◌, arith, length, nat_lt, pred, IsSomeAnd, fun_ext, put, is_recorded, nat_tests, Request, file_with}
+use Rattle.machine_laws.proofs.Words.{nothing_mapped, eq_true, eq_false, Slots, IsNew, MapLine, IsMapList, plain_metas, Event, Outcome, Stepped, Wait, Idle}
+use Rattle.machine_laws.proofs.Words.{Answered, Full, Free, Becomes, World, new_world, core_of, after_call, Acts, is_here, with_event, event_limit, Step}
+use Rattle.machine_laws.proofs.Words.{Replays}
+use Rattle.std.specs.Prelude.{◌^◌}
 use Rattle.radix_range.specs.Tree.{new_tree}
 use Rattle.radix_range.proofs.New.{new_tree_new}
-use Rattle.map_list.specs.declared.lines.MapLine.{MapLine}
-use Rattle.map_list.specs.Lines.{IsMapList, plain_metas}
-use Rattle.machine_model.specs.declared.event.Event.{Event}
 use Rattle.machine_model.specs.declared.event.Event.TheVariants as Ev
-use Rattle.machine_model.specs.declared.event.Outcome.{Outcome}
-use Rattle.machine_model.specs.declared.event.Outcome.TheVariants.{Stepped, Wait, Idle, Answered, Full}
-use Rattle.machine_model.specs.declared.phase.Phase.TheVariants.{Free}
-use Rattle.machine_model.specs.Actions.{Becomes}
-use Rattle.machine_model.specs.World.{World, new_world}
-use Rattle.machine_model.specs.Events.{core_of}
-use Rattle.machine_model.specs.Step.{after_call, Begins as BeginsBy, Acts, is_here, with_event, event_limit, Step}
-use Rattle.vm_base.specs.Log.{Replays}
+use Rattle.machine_model.specs.Step.{Begins as BeginsBy}
 use Rattle.machine_sound.specs.Sound.{IsReached}
 use Rattle.machine_sound.proofs.Kept.{reached_opening, reached_step}
 use Rattle.machine_alone.proofs.Taking.{none_taken}

@@ -1,16 +1,8 @@
 -- The replies in the log of a machine: a call adds its own, and none while it waits.
-use Rattle.std.proofs.Common.{◌≡◌, ℕ, zero, suc, ◌==◌, Bool, true, false, List, [], ◌∷◌, ◌++◌, Option, None, Some, refl, sym, ap, subst, ◌∙◌, append-nil}
-use Rattle.vm_base.specs.declared.replies.Reply.{Reply}
-use Rattle.vm_base.specs.declared.requests.Request.{Request}
-use Rattle.vm_base.specs.Plain.{Plain}
-use Rattle.vm_base.proofs.Functions.{eq_true, eq_false, put_same}
-use Rattle.machine_model.specs.declared.event.Event.TheVariants.{Go}
-use Rattle.machine_model.specs.declared.event.Outcome.TheVariants.{Stepped}
-use Rattle.vm_base.specs.declared.log.Entry.{Entry}
-use Rattle.vm_base.specs.declared.log.Entry.TheVariants.{Answer, Detach}
-use Rattle.machine_model.specs.Actions.{detach_entry}
-use Rattle.machine_model.specs.World.{World}
-use Rattle.machine_model.specs.Step.{with_event, Step, StepsTo}
+use Rattle.machine_laws.proofs.Words.{◌≡◌, ℕ, zero, suc, ◌==◌, Bool, true, false, List, [], ◌∷◌, ◌++◌, Option, None, Some, refl, sym, ap, subst, ◌∙◌}
+use Rattle.machine_laws.proofs.Words.{append-nil, Reply, Request, Plain, eq_true, eq_false, put_same, Go, Stepped, Entry, Detach, detach_entry, World}
+use Rattle.machine_laws.proofs.Words.{with_event, Step, StepsTo}
+use Rattle.vm_base.specs.declared.log.Entry.TheVariants.{Answer}
 use Rattle.machine_laws.proofs.Effects.{Closed, Asked, Told, status, keeps, tells, detaches, opens, closes, effect_of}
 use Rattle.machine_laws.proofs.Shapes.{Comes, stopped, acts, comes}
 use Rattle.machine_sound.specs.Sound.{IsReached}

@@ -1,20 +1,22 @@
 -- Whole runs, a line at a time.
-use Rattle.std.proofs.Common.{◌≡◌, ◌≢◌, ℕ, zero, suc, ◌+◌, ◌<◌, ◌≤◌, false, Bool, cond, List, [], ◌∷◌, ◌++◌, Option, Result, Ok, Err, IfErr}
-use Rattle.std.proofs.Common.{OnOk, length, take, ◌⊎◌, inl, inr, arith, refl, sym, ap, ◌∙◌, subst, eqb, append_assoc, append-nil, length-append}
-use Rattle.std.proofs.lemmas.Bool.{ne_eqb}
-use Rattle.std.proofs.KnownBytes.{Appends-nil, Appends-trans, Appends-kept}
-use Rattle.std.specs.Io.KnownBytes.{Keeps, Appends}
+use Rattle.machine_laws.proofs.Words.{◌≡◌, ◌≢◌, ℕ, zero, suc, ◌+◌, ◌<◌, ◌≤◌, false, Bool, cond, List, [], ◌∷◌, ◌++◌, Option, Result, Ok, Err, OnOk, length}
+use Rattle.machine_laws.proofs.Words.{take, ◌⊎◌, inl, inr, arith, refl, sym, ap, ◌∙◌, subst, eqb, append_assoc, append-nil, length-append, Appends-nil}
+use Rattle.machine_laws.proofs.Words.{Appends-trans, Appends-kept, Keeps, Appends}
+use Rattle.std.proofs.Common.{IfErr}
+use Rattle.std.proofs.lemmas.Bool.{eqb-true, ne_eqb}
 use Rattle.trace_io.specs.Lines.{onto, lines_of, IsUnbroken, IsFirstLine}
 use Rattle.trace_io.specs.Sink.{AppendsFront}
 use Rattle.core_steps.specs.declared.setup.CallLimit.{CallLimit}
 use Rattle.trace.specs.declared.fault.TraceFault.{TraceFault}
 use Rattle.trace.specs.declared.fault.TraceFault.TheVariants.{TooLong, WriteFailed}
-use Rattle.trace.specs.Stage.{Stage, Start, LineFails, CanOpen, OpenFails, Acts}
+use Rattle.trace.specs.Stage.{Stage, Start, LineFails, LineWants, CanOpen, OpenFails, Acts}
 use Rattle.trace.specs.Runs.{Runs}
 use Rattle.trace.specs.declared.shown.Show.{Show}
-use Rattle.trace.specs.Shown.{told, IsBehind, IsBegunBehind, Closes, CloseFails}
+use Rattle.trace.specs.Shown.{keeps_log, told, IsBehind, IsBegunBehind, Closes, CloseFails}
 use Rattle.trace.proofs.PlainTextLemmas.{traces_plain}
-use Rattle.trace.proofs.ShownLemmas.{begun_behind, told_more, told_none, front_more, whole_front}
+use Rattle.trace_io.proofs.IoLemmas.{front_kept, front_more, whole_front}
+use Rattle.trace_io.proofs.TextLemmas.{line_last, onto_line}
+use Rattle.trace.proofs.ShownLemmas.{begun_behind, told_more, told_none}
 use Rattle.trace.specs.Turns.{Scene, Advances, IsOver, Fails, read_fails, unsent, too_long, no_memory, refused, unwritten}
 use Rattle.trace.specs.Ends.{Front, AreRead, Stops, reading, unmade, wanting, overlong, refusing, unopened, writing, closing, Ends}
 
@@ -22,18 +24,10 @@ use Rattle.trace.specs.Ends.{Front, AreRead, Stops, reading, unmade, wanting, ov
 lines-ended : (line ys : List ℕ) → IsUnbroken line → lines_of (line ++ 10 ∷ ys) ≡ line ∷ lines_of ys
 lines-ended [] ys u = refl
 lines-ended (x ∷ xs) ys u =
-    let letter : eqb x 10 ≡ false = ne_eqb x 10 (u 0 (omega arith)) in
-    let rest : lines_of (xs ++ 10 ∷ ys) ≡ xs ∷ lines_of ys = lines-ended xs ys (λ k lt. u (suc k) (omega arith)) in
-    ap (λ b. cond b ([] ∷ lines_of (xs ++ 10 ∷ ys)) (onto x (lines_of (xs ++ 10 ∷ ys)))) letter ∙ ap (onto x) rest
+    onto_line x (xs ++ 10 ∷ ys) xs (lines_of ys) (ne_eqb x 10 (u 0 (omega arith))) (lines-ended xs ys (λ k lt. u (suc k) (omega arith)))
 
 lines-last : (line : List ℕ) → IsUnbroken line → 0 < length line → lines_of line ≡ line ∷ []
-lines-last [] u p = absurd (omega arith)
-lines-last (x ∷ []) u p =
-    let letter : eqb x 10 ≡ false = ne_eqb x 10 (u 0 (omega arith)) in ap (λ b. cond b ([] ∷ []) ((x ∷ []) ∷ [])) letter
-lines-last (x ∷ (y ∷ ys)) u p =
-    let letter : eqb x 10 ≡ false = ne_eqb x 10 (u 0 (omega arith)) in
-    let rest : lines_of (y ∷ ys) ≡ (y ∷ ys) ∷ [] = lines-last (y ∷ ys) (λ k lt. u (suc k) (omega arith)) (omega arith) in
-    ap (λ b. cond b ([] ∷ lines_of (y ∷ ys)) (onto x (lines_of (y ∷ ys)))) letter ∙ ap (onto x) rest
+lines-last line u p = line_last line p (λ k lt e. u k lt (eqb-true _ 10 e))
 
 pub lines-first : (xs line ys : List ℕ) → IsUnbroken line → IsFirstLine xs line ys → lines_of xs ≡ line ∷ lines_of ys
 lines-first xs line ys u (inl e) = ap lines_of e ∙ lines-ended line ys u
@@ -47,22 +41,18 @@ pub record LongFirst (n : ℕ) (xs : List ℕ) : Type 0 where
   pub long : n < length line
 
 longer : (x : ℕ) (xs : List ℕ) (n : ℕ) → x ≢ 10 → LongFirst n xs → LongFirst (suc n) (x ∷ xs)
-longer x xs n u h =
-    let letter : eqb x 10 ≡ false = ne_eqb x 10 u in
-    record {
-      line = x ∷ h.line;
-      others = h.others;
-      lines = ap (λ b. cond b ([] ∷ lines_of xs) (onto x (lines_of xs))) letter ∙ ap (onto x) h.lines;
-      long = let l = h.long in omega arith;
-    }
+longer x xs n u h = record {
+  line = x ∷ h.line;
+  others = h.others;
+  lines = onto_line x xs h.line h.others (ne_eqb x 10 u) h.lines;
+  long = let l = h.long in omega arith;
+}
 
 some_first : (x : ℕ) (xs : List ℕ) (ls : List (List ℕ)) → x ≢ 10 → lines_of xs ≡ ls → LongFirst 0 (x ∷ xs)
 some_first x xs [] u e =
     let letter : eqb x 10 ≡ false = ne_eqb x 10 u in
     record { line = x ∷ []; others = []; lines = ap (λ b. cond b ([] ∷ lines_of xs) (onto x (lines_of xs))) letter ∙ ap (onto x) e; long = omega arith }
-some_first x xs (l ∷ ls) u e =
-    let letter : eqb x 10 ≡ false = ne_eqb x 10 u in
-    record { line = x ∷ l; others = ls; lines = ap (λ b. cond b ([] ∷ lines_of xs) (onto x (lines_of xs))) letter ∙ ap (onto x) e; long = omega arith }
+some_first x xs (l ∷ ls) u e = record { line = x ∷ l; others = ls; lines = onto_line x xs l ls (ne_eqb x 10 u) e; long = omega arith }
 
 pub long_first : (n : ℕ) (xs : List ℕ) → n < length xs → IsUnbroken (take (suc n) xs) → LongFirst n xs
 long_first n [] p u = absurd (omega arith)
@@ -124,63 +114,78 @@ taken_more input whole rest line ys done t u (inr h) = go t.joins
       },
     )
 
--- the lines so far were acted on, and what is left has the others
-pub record HasRun (limit : CallLimit) (show : Show) (input : List ℕ) (old : Option (List ℕ)) (now : Scene) (number : ℕ) : Type 0 where
-  pub done : List (List ℕ)
-  pub text : List ℕ
-  pub whole : List ℕ
-  pub rest : List ℕ
-  pub taken : IsTaken input whole rest done
-  pub left : now.left ≡ rest
-  pub lines : lines_of input ≡ done ++ lines_of rest
-  pub runs : Runs (Start limit) done now.stage text
-  pub appends : Appends old now.written (told show text)
-  pub count : number ≡ length done
-
--- nothing has been read yet
-pub run_none : (limit : CallLimit) (show : Show) (input : List ℕ) (old : Option (List ℕ)) (now : Scene) → now.left ≡ input → now.stage ≡ Start limit
-    → now.written ≡ old → HasRun limit show input old now 0
-run_none limit show input old now e s w = record {
-  done = [];
-  text = [];
-  whole = [];
-  rest = input;
-  taken = record { bytes = refl; lines = refl; joins = inr (λ zs. refl) };
-  left = e;
-  lines = refl;
-  runs = (s, refl);
-  appends = subst (Appends old now.written) (sym (told_none show)) (subst (λ o. Appends old o []) (sym w) (Appends-nil old));
-  count = refl;
-}
-
--- the next line
 pub next_line : (input line rest ys : List ℕ) (done : List (List ℕ)) → lines_of input ≡ done ++ lines_of rest → IsUnbroken line
     → IsFirstLine rest line ys → lines_of input ≡ done ++ line ∷ lines_of ys
 next_line input line rest ys done e u f = e ∙ ap (λ l. done ++ l) (lines-first rest line ys u f)
 
-pub run_more : (limit : CallLimit) (show : Show) (input : List ℕ) (old : Option (List ℕ)) (now next : Scene) (number : ℕ)
-    → HasRun limit show input old now number → Advances show now next → HasRun limit show input old next (number + 1)
-run_more limit show input old now next number h a =
-    let ys = next.left in
-    let first : IsFirstLine h.rest a.line ys = subst (λ x. IsFirstLine x a.line ys) h.left a.takes in
-    let (whole, taken) = taken_more input h.whole h.rest a.line ys h.done h.taken a.unbroken first in
+-- so many lines were taken, and what is left has the others
+pub record HasTaken (input left : List ℕ) (number : ℕ) : Type 0 where
+  pub done : List (List ℕ)
+  pub whole : List ℕ
+  pub taken : IsTaken input whole left done
+  pub lines : lines_of input ≡ done ++ lines_of left
+  pub count : number ≡ length done
+
+-- nothing has been read yet
+unfoldable pub none_taken : (input left : List ℕ) → left ≡ input → HasTaken input left 0
+none_taken input left e = record {
+  done = [];
+  whole = [];
+  taken = record { bytes = sym e; lines = refl; joins = inr (λ zs. refl) };
+  lines = ap lines_of (sym e);
+  count = refl;
+}
+
+-- the next line
+unfoldable pub line_taken : (input left line ys : List ℕ) (number : ℕ) → HasTaken input left number → IsUnbroken line → IsFirstLine left line ys
+    → HasTaken input ys (number + 1)
+line_taken input left line ys number h u f =
+    let more = taken_more input h.whole left line ys h.done h.taken u f in
     record {
-      done = h.done ++ a.line ∷ [];
-      text = h.text ++ a.text;
-      whole = whole;
-      rest = ys;
-      taken = taken;
-      left = refl;
-      lines = next_line input a.line h.rest ys h.done h.lines a.unbroken first ∙ sym (append_assoc h.done (a.line ∷ []) (lines_of ys));
-      runs = runs-snoc (Start limit) now.stage next.stage h.done a.line h.text a.text h.runs a.short a.acts;
-      appends = subst (Appends old next.written) (sym (told_more show h.text a.text)) (Appends-trans _ _ _ _ _ h.appends a.appends);
-      count = let c = h.count in omega (arith, length-append h.done (a.line ∷ []));
+      done = h.done ++ line ∷ [];
+      whole = more.0;
+      taken = more.1;
+      lines = next_line input line left ys h.done h.lines u f ∙ sym (append_assoc h.done (line ∷ []) (lines_of ys));
+      count = let c = h.count in omega (arith, length-append h.done (line ∷ []));
     }
+
+-- once nothing is left, all were
+pub all_taken : (input left : List ℕ) (number : ℕ) (h : HasTaken input left number) → left ≡ [] → lines_of input ≡ h.done
+all_taken input left number h e = h.lines ∙ ap (λ l. h.done ++ lines_of l) e ∙ append-nil h.done
+
+-- the lines so far were acted on
+pub record HasRun (limit : CallLimit) (show : Show) (input : List ℕ) (old : Option (List ℕ)) (now : Scene) (number : ℕ) : Type 0 where
+  pub at : HasTaken input now.left number
+  pub text : List ℕ
+  pub runs : Runs (Start limit) at.done now.stage text
+  pub appends : Appends old now.written (told show text)
+
+-- nothing has been read yet
+pub run_none : (limit : CallLimit) (show : Show) (input : List ℕ) (old : Option (List ℕ)) (now : Scene) → now.left ≡ input → now.stage ≡ Start limit
+    → now.written ≡ old → HasRun limit show input old now 0
+unfolding none_taken
+run_none limit show input old now e s w = record {
+  at = none_taken input now.left e;
+  text = [];
+  runs = (s, refl);
+  appends = subst (Appends old now.written) (sym (told_none show)) (subst (λ o. Appends old o []) (sym w) (Appends-nil old));
+}
+
+pub run_more : (limit : CallLimit) (show : Show) (input : List ℕ) (old : Option (List ℕ)) (now next : Scene) (number : ℕ)
+    → HasRun limit show input old now number → Advances (λ line text. told show text) now next → HasRun limit show input old next (number + 1)
+unfolding line_taken
+run_more limit show input old now next number h a = record {
+  at = line_taken input now.left a.line next.left number h.at a.takes.unbroken a.takes.first;
+  text = h.text ++ a.text;
+  runs = runs-snoc (Start limit) now.stage next.stage h.at.done a.line h.text a.text h.runs a.takes.short a.acts;
+  appends = subst (Appends old next.written) (sym (told_more show h.text a.text)) (Appends-trans _ _ _ _ _ h.appends a.appends);
+}
 
 -- what was acted on so far
 front_of : (limit : CallLimit) (show : Show) (input : List ℕ) (old : Option (List ℕ)) (now : Scene) (number : ℕ) → HasRun limit show input old now number
     → Front limit input
-front_of limit show input old now number h = record { done = h.done; more = lines_of h.rest; stage = now.stage; text = h.text; lines = h.lines; runs = h.runs }
+front_of limit show input old now number h =
+    record { done = h.at.done; more = lines_of now.left; stage = now.stage; text = h.text; lines = h.at.lines; runs = h.runs }
 
 -- what is held and what is unread is what is left
 pub known_read : (input whole rest held : List ℕ) (done : List (List ℕ)) (left unread : List ℕ) → IsTaken input whole rest done
@@ -197,39 +202,36 @@ known_read input whole rest held done left unread t e few l =
       refl,
     )
 
-pub run_fails : (limit : CallLimit) (show : Show) (input : List ℕ) (old : Option (List ℕ)) (now next : Scene) (number : ℕ) (f : TraceFault)
-    → HasRun limit show input old now number → Fails show now next number f → Stops limit show input next.unread old next.written f
-unfolding front_of
-run_fails limit show input old now next number f h (read_fails e held u l m k) =
-    let (r, same) = known_read input h.whole h.rest held h.done next.left next.unread h.taken (m ∙ h.left) l.0 l.1 in
+pub run_fails : (limit : CallLimit) (show : Show) (keeps : Bool) → keeps ≡ keeps_log show → (input : List ℕ) (old : Option (List ℕ)) (now next : Scene)
+    (number : ℕ) (f : TraceFault)
+    → HasRun limit show input old now number → Fails keeps (λ line text. told show text) now next number f
+    → Stops limit show input next.unread old next.written f
+unfolding front_of line_taken
+run_fails limit show keeps rule input old now next number f h (read_fails e held u l m k) =
+    let (r, same) = known_read input h.at.whole now.left held h.at.done next.left next.unread h.at.taken m l.0 l.1 in
     reading e (front_of limit show input old now number h) r (subst IsUnbroken (sym same) u) (Appends-kept _ _ _ _ h.appends k)
-run_fails limit show input old now next number f h (unsent e k) =
+run_fails limit show keeps rule input old now next number f h (unsent e k) =
     writing e (front_of limit show input old now number h) (whole_front _ _ _ (Appends-kept _ _ _ _ h.appends k))
-run_fails limit show input old now next number f h (too_long e b k) =
-    let l = long_first 256 h.rest (subst (λ x. 256 < length x) h.left b.0) (subst (λ x. IsUnbroken (take 257 x)) h.left b.1) in
-    overlong (front_of limit show input old now number h) l.line l.others l.lines l.long (e ∙ ap (λ n. TooLong (n + 1)) h.count)
+run_fails limit show keeps rule input old now next number f h (too_long e b k) =
+    let l = long_first 256 now.left b.0 b.1 in
+    overlong (front_of limit show input old now number h) l.line l.others l.lines l.long (e ∙ ap (λ n. TooLong (n + 1)) h.at.count)
     (Appends-kept _ _ _ _ h.appends k)
-run_fails limit show input old now next number f h (no_memory e line held short u t l w k) =
-    let ys = next.left in
-    let first : IsFirstLine h.rest line ys = subst (λ x. IsFirstLine x line ys) h.left t in
-    let (whole, taken) = taken_more input h.whole h.rest line ys h.done h.taken u first in
-    let (r, same) = known_read input whole ys held (h.done ++ line ∷ []) next.left next.unread taken refl l.0 l.1 in
-    wanting e (front_of limit show input old now number h) line (lines_of ys) (lines-first h.rest line ys u first) r w (Appends-kept _ _ _ _ h.appends k)
-run_fails limit show input old now next number f h (refused line short u t b k) =
-    let ys = next.left in
-    let first : IsFirstLine h.rest line ys = subst (λ x. IsFirstLine x line ys) h.left t in
-    refusing (front_of limit show input old now number h) line (lines_of ys) (lines-first h.rest line ys u first) short
-    (subst (λ n. LineFails now.stage (n + 1) line f) h.count b) (Appends-kept _ _ _ _ h.appends k)
-run_fails limit show input old now next number f h (unwritten e line text short u t a w) =
-    let ys = next.left in
-    let first : IsFirstLine h.rest line ys = subst (λ x. IsFirstLine x line ys) h.left t in
+run_fails limit show keeps rule input old now next number f h (no_memory e line held t l w k) =
+    let (whole, taken) = taken_more input h.at.whole now.left line next.left h.at.done h.at.taken t.unbroken t.first in
+    let (r, same) = known_read input whole next.left held (h.at.done ++ line ∷ []) next.left next.unread taken refl l.0 l.1 in
+    wanting e (front_of limit show input old now number h) line (lines_of next.left) (lines-first now.left line next.left t.unbroken t.first) r
+    (subst (λ b. LineWants b now.stage line) rule w) (Appends-kept _ _ _ _ h.appends k)
+run_fails limit show keeps rule input old now next number f h (refused line t b k) =
+    refusing (front_of limit show input old now number h) line (lines_of next.left) (lines-first now.left line next.left t.unbroken t.first) t.short
+    (subst (λ n. LineFails now.stage (n + 1) line f) h.at.count b) (Appends-kept _ _ _ _ h.appends k)
+run_fails limit show keeps rule input old now next number f h (unwritten e line text t a w) =
     writing e (record {
-      done = h.done ++ line ∷ [];
-      more = lines_of ys;
+      done = h.at.done ++ line ∷ [];
+      more = lines_of next.left;
       stage = next.stage;
       text = h.text ++ text;
-      lines = next_line input line h.rest ys h.done h.lines u first ∙ sym (append_assoc h.done (line ∷ []) (lines_of ys));
-      runs = runs-snoc (Start limit) now.stage next.stage h.done line h.text text h.runs short a;
+      lines = (line_taken input now.left line next.left number h.at t.unbroken t.first).lines;
+      runs = runs-snoc (Start limit) now.stage next.stage h.at.done line h.text text h.runs t.short a;
     }) (subst (AppendsFront old next.written) (sym (told_more show h.text text)) (front_more old now.written next.written _ _ h.appends w))
 
 -- and the trace is closed
@@ -238,9 +240,8 @@ pub run_ends : {T : Type 0} (limit : CallLimit) (show : Show) (input : List ℕ)
     → IfErr r (λ f. CloseFails show next.stage next.written wn f) → Ends limit show input next.unread wo wn r
 unfolding front_of
 run_ends limit show input wo wn now next n (Ok x) h v o e =
-    let none = ap lines_of (sym h.left ∙ v.ended) in
     let runs : Runs (Start limit) (lines_of input) now.stage h.text =
-    subst (λ ls. Runs (Start limit) ls now.stage h.text) (sym (h.lines ∙ ap (λ l. h.done ++ l) none ∙ append-nil h.done)) h.runs in
+    subst (λ ls. Runs (Start limit) ls now.stage h.text) (sym (all_taken input now.left n h.at v.ended)) h.runs in
     let opens : CanOpen now.stage = subst CanOpen v.stage o.opens in
     let is : IsBehind show now.stage o.behind = subst (λ s. IsBehind show s o.behind) v.stage o.is in
     record {
@@ -254,14 +255,11 @@ run_ends limit show input wo wn now next n (Ok x) h v o e =
       appends = Appends-trans _ _ _ _ _ (Appends-kept _ _ _ _ h.appends v.written) o.appends;
     }
 run_ends limit show input wo wn now next n (Err f) h v o (inl e) =
-    unopened (front_of limit show input wo now n h) (ap lines_of (sym h.left ∙ v.ended)) (subst (λ s. OpenFails s f) v.stage e.0)
+    unopened (front_of limit show input wo now n h) (ap lines_of v.ended) (subst (λ s. OpenFails s f) v.stage e.0)
     (Appends-kept _ _ _ _ (Appends-kept _ _ _ _ h.appends v.written) e.1)
 run_ends limit show input wo wn now next n (Err f) h v o (inr e) =
-    closing e.0 (front_of limit show input wo now n h) (ap lines_of (sym h.left ∙ v.ended)) (subst CanOpen v.stage e.1.opens) e.1.behind
+    closing e.0 (front_of limit show input wo now n h) (ap lines_of v.ended) (subst CanOpen v.stage e.1.opens) e.1.behind
     (subst (λ s. IsBegunBehind show s e.1.behind) v.stage e.1.is) (front_more _ _ _ _ _ (Appends-kept _ _ _ _ h.appends v.written) e.1.appends)
-
-front_kept : (a b c : Option (List ℕ)) (xs : List ℕ) → AppendsFront a b xs → Keeps b c → AppendsFront a c xs
-front_kept a b c xs p k = (p.0, p.1, Appends-kept a b c (take p.0 xs) p.2 k)
 
 -- a flush keeps what was written
 pub stops_kept : (limit : CallLimit) (show : Show) (input : List ℕ) (unread : List ℕ) (a b c : Option (List ℕ)) (f : TraceFault)

@@ -1,22 +1,13 @@
 -- What is seen of lines, and of a whole replay
-use Rattle.std.proofs.Common.{◌≡◌, ℕ, ◌≤◌, List, [], ◌∷◌, ◌++◌, Option, None, Some, Result, Ok, Err, OnOk, length, refl}
-use Rattle.std.proofs.Common.{sym, ap, ◌∙◌, subst, append_assoc, append-nil}
-use Rattle.std.specs.Prelude.{IfOk, IsSomeAnd}
-use Rattle.std.specs.Io.KnownBytes.{Keeps, Appends}
-use Rattle.std.proofs.KnownBytes.{Appends-nil, Appends-trans, Appends-kept}
-use Rattle.vm_base.specs.declared.requests.Request.{Request}
-use Rattle.vm_base.specs.declared.rights.Mode.{Mode}
-use Rattle.machine_model.specs.declared.event.Event.{Event}
+use Rattle.machine_laws.proofs.Words.{◌≡◌, ℕ, ◌≤◌, List, [], ◌∷◌, ◌++◌, Option, None, Some, Result, Ok, Err, OnOk, length, refl, sym, ap, ◌∙◌, subst}
+use Rattle.machine_laws.proofs.Words.{append_assoc, append-nil, IfOk, IsSomeAnd, Keeps, Appends, Appends-nil, Appends-trans, Appends-kept, Request, Mode}
+use Rattle.machine_laws.proofs.Words.{Event, Outcome, Stepped, Wait, Idle, Answered, Full, World, Step}
 use Rattle.machine_model.specs.declared.event.Event.TheVariants as Ev
-use Rattle.machine_model.specs.declared.event.Outcome.{Outcome}
-use Rattle.machine_model.specs.declared.event.Outcome.TheVariants.{Stepped, Wait, Idle, Answered, Full}
-use Rattle.machine_model.specs.World.{World}
-use Rattle.machine_model.specs.Step.{Step}
 use Rattle.core_steps.specs.declared.machine.Finished.{Finished}
 use Rattle.core_steps.specs.declared.machine.Finished.TheVariants.{Last}
 use Rattle.watched.specs.Watching.{Watches, WatchesAfter, WatchesCall, WatchesFinish}
 use Rattle.watched.proofs.Watched.{watches_then}
-use Rattle.trace_io.specs.Lines.{lines_of, IsUnbroken, IsFirstLine}
+use Rattle.trace_io.specs.Lines.{lines_of, TakesLine}
 use Rattle.trace_text.specs.Line.{line_of}
 use Rattle.trace_text.specs.declared.line.Line.{Line}
 use Rattle.trace_text.specs.declared.line.Line.TheVariants.{Blank, Space, File, Act, Fold, Finish, Now}
@@ -171,13 +162,13 @@ file_grows after first mid other old new lines line before text n mode len seed 
 
 -- ---- a replay
 
--- a line whose text was written was seen
-pub line_seen : {R : Type 0} (saw : R → R → List (List ℕ) → List ℕ → Type 0) (show : Show) (r q : R) (old new : Scene) (mid : Option (List ℕ))
-    (line seen text : List ℕ) → length line ≤ 256 → IsUnbroken line → IsFirstLine old.left line new.left → seen ≡ line → Acts old.stage seen new.stage text
-    → Keeps old.written mid → Appends mid new.written (told show text) → Grows saw r seen q text → AdvancesSeen saw show r q old new
+-- a line that was shown was seen
+pub line_seen : {R : Type 0} (saw : R → R → List (List ℕ) → List ℕ → Type 0) (shown : List ℕ → List ℕ → List ℕ) (r q : R) (old new : Scene)
+    (mid : Option (List ℕ)) (line seen text : List ℕ) → TakesLine old.left line new.left → seen ≡ line → Acts old.stage seen new.stage text
+    → Keeps old.written mid → Appends mid new.written (shown seen text) → Grows saw r seen q text → AdvancesSeen saw shown r q old new
 unfolding line_told
-line_seen saw show r q old new mid line seen text short unbroken takes same acts keeps wrote grows =
-    (line_told show old new mid line seen text short unbroken takes same acts keeps wrote, subst (λ l. Grows saw r l q text) same grows)
+line_seen saw shown r q old new mid line seen text takes same acts keeps wrote grows =
+    (line_told shown old new mid line seen text takes same acts keeps wrote, subst (λ l. Grows saw r l q text) same grows)
 
 -- the lines so far were seen, and what is left has the others
 pub record HasSeen (Holds : List (List ℕ) → List ℕ → Type 0) (show : Show) (input : List ℕ) (old : Option (List ℕ)) (now : Scene) : Type 0 where
@@ -198,12 +189,12 @@ seen_none Holds show input old now h e w = record {
 }
 
 pub seen_more : {R : Type 0} (saw : R → R → List (List ℕ) → List ℕ → Type 0) (show : Show) (first r q : R) (input : List ℕ) (old : Option (List ℕ))
-    (now next : Scene) → HasSeen (saw first r) show input old now → AdvancesSeen saw show r q now next → HasSeen (saw first q) show input old next
+    (now next : Scene) → HasSeen (saw first r) show input old now → AdvancesSeen saw (λ line text. told show text) r q now next → HasSeen (saw first q) show input old next
 seen_more saw show first r q input old now next h (a, grows) = record {
   done = h.done ++ a.line ∷ [];
   text = h.text ++ a.text;
   holds = grows first h.done h.text h.holds;
-  lines = next_line input a.line now.left next.left h.done h.lines a.unbroken a.takes ∙ sym (append_assoc h.done (a.line ∷ []) (lines_of next.left));
+  lines = next_line input a.line now.left next.left h.done h.lines a.takes.unbroken a.takes.first ∙ sym (append_assoc h.done (a.line ∷ []) (lines_of next.left));
   appends = subst (Appends old next.written) (sym (told_more show h.text a.text)) (Appends-trans _ _ _ _ _ h.appends a.appends);
 }
 
@@ -242,12 +233,6 @@ seen_kept after one other show input a b c (stage, h) k = (stage, writes_kept _ 
 pub seen_over : {T U : Type 0} (r : Result T U) (P Q : Type 0) → (P → Q) → OnOk r P → IfOk r (λ u. Q)
 seen_over (Ok x) P Q f h = f h
 seen_over (Err e) P Q f h = tt
-
--- before the first line
-pub nothing_seen : {S : Type 0} (after : S → World → Event → Outcome → World → S) (one : S) (limit : CallLimit) (stage : Stage) → stage ≡ Start limit
-    → SeesAll after one stage [] [] one
-nothing_seen after one limit stage is =
-    subst (λ s. SeesAll after one s [] [] one) (sym is) ([], [], (refl, refl, refl), (refl, refl, refl))
 
 -- who watched from the start to the end
 pub is_seen : {S : Type 0} (after : S → World → Event → Outcome → World → S) (one first last other : S) (stage : Stage) (show : Show) (input : List ℕ)

@@ -1,14 +1,9 @@
--- What is written piece by piece, whole or a front of it.
-use Rattle.std.proofs.Common.{◌≡◌, ℕ, ◌+◌, ◌<◌, ◌≤◌, List, [], ◌∷◌, ◌++◌, Option, length, take, drop, get_or}
-use Rattle.std.proofs.Common.{arith, refl, sym, ap, ◌∙◌, subst, append-nil, append_assoc, length-append}
-use Rattle.std.proofs.Math.Seq.{take-append-add}
-use Rattle.std.proofs.lemmas.Grind.{common_steps, flat_map-append}
-use Rattle.std.proofs.lemmas.List.{take_more, take-append-drop, take-append-le}
-use Rattle.std.proofs.KnownBytes.{Appends-nil, Appends-trans}
-use Rattle.std.specs.List.{flat_map}
-use Rattle.std.specs.Io.KnownBytes.{Appends}
-use Rattle.vm_base.specs.declared.log.Entry.{Entry}
+-- What a replay writes: the text of outcomes, and the log piece by piece.
+use Rattle.machine_laws.proofs.Words.{◌≡◌, ℕ, ◌+◌, ◌<◌, ◌≤◌, List, [], ◌∷◌, ◌++◌, Option, length, take, drop, get_or, arith, refl, sym, ap, ◌∙◌, subst}
+use Rattle.machine_laws.proofs.Words.{append_assoc, common_steps, flat_map-append, Appends-nil, Appends-trans, flat_map, Appends, Entry}
+use Rattle.std.proofs.lemmas.List.{take-append-drop}
 use Rattle.trace_io.specs.Sink.{AppendsFront}
+use Rattle.trace_io.proofs.IoLemmas.{each_more, front_longer, front_more}
 use Rattle.trace.specs.declared.shown.Show.{Show}
 use Rattle.trace.specs.declared.shown.Show.TheVariants.{Outcomes, OutcomesAndLog, Maps}
 use Rattle.trace.specs.Stage.{Stage}
@@ -27,37 +22,7 @@ told_more Outcomes xs ys = refl
 told_more OutcomesAndLog xs ys = refl
 told_more Maps xs ys = refl
 
--- ---- fronts
-
--- a front goes behind what was written whole
-pub front_more : (a b c : Option (List ℕ)) (xs ys : List ℕ) → Appends a b xs → AppendsFront b c ys → AppendsFront a c (xs ++ ys)
-front_more a b c xs ys p q =
-    let fits = q.1 in
-    let size = length-append xs ys in
-    (length xs + q.0, omega arith, subst (Appends a c) (sym (take-append-add xs ys q.0)) (Appends-trans a b c xs (take q.0 ys) p q.2))
-
-take_all_of : (xs : List ℕ) → take (length xs) xs ≡ xs
-take_all_of xs = grind (arith, common_steps)
-
--- the whole is a front
-pub whole_front : (a b : Option (List ℕ)) (xs : List ℕ) → Appends a b xs → AppendsFront a b xs
-whole_front a b xs p = (length xs, omega arith, subst (Appends a b) (sym (take_all_of xs)) p)
-
--- a front of the first bytes is one of all
-longer_front : (a b : Option (List ℕ)) (xs ys : List ℕ) → AppendsFront a b xs → AppendsFront a b (xs ++ ys)
-longer_front a b xs ys p =
-    let fits = p.1 in
-    let size = length-append xs ys in
-    (p.0, omega arith, subst (Appends a b) (sym (take-append-le p.0 xs ys p.1)) p.2)
-
 -- ---- the log
-
-lines_more : (log : List Entry) (n : ℕ) (x : Entry) → n < length log → x ≡ get_or log n x
-    → log_text (take (n + 1) log) ≡ log_text (take n log) ++ entry_text x
-unfolding log_text
-lines_more log n x h is =
-    ap (flat_map entry_text) (take_more log n x h ∙ ap (λ y. take n log ++ y ∷ []) (sym is))
-    ∙ flat_map-append entry_text (take n log) (x ∷ []) ∙ ap (λ t. flat_map entry_text (take n log) ++ t) (append-nil (entry_text x))
 
 -- some lines were handed on, and the others wait
 abbrev pub IsHanded : Option (List ℕ) → Option (List ℕ) → List ℕ → List ℕ → Type 0
@@ -72,12 +37,13 @@ handed_none a waiting none = ([], Appends-nil a, none)
 pub handed_more : (a b c : Option (List ℕ)) (log : List Entry) (n : ℕ) (x : Entry) (was rest now : List ℕ) → n < length log → x ≡ get_or log n x
     → IsHanded a b was (log_text (take n log)) → (text : List ℕ) × Appends b c text × (was ≡ text ++ rest) → now ≡ rest ++ entry_text x
     → IsHanded a c now (log_text (take (n + 1) log))
+unfolding log_text
 handed_more a b c log n x was rest now h is p q e = (
   p.0 ++ q.0,
   Appends-trans a b c p.0 q.0 p.1 q.1,
   ap (λ t. (p.0 ++ q.0) ++ t) e ∙ append_assoc p.0 q.0 (rest ++ entry_text x)
       ∙ ap (λ t. p.0 ++ t) (sym (append_assoc q.0 rest (entry_text x)) ∙ ap (λ t. t ++ entry_text x) (sym q.2))
-      ∙ sym (append_assoc p.0 was (entry_text x)) ∙ ap (λ t. t ++ entry_text x) p.2 ∙ sym (lines_more log n x h is),
+      ∙ sym (append_assoc p.0 was (entry_text x)) ∙ ap (λ t. t ++ entry_text x) p.2 ∙ sym (each_more entry_text log n x h is),
 )
 
 -- a front of the waiting ones was handed on
@@ -87,7 +53,7 @@ unfolding log_text
 handed_front a b c log n waiting p q =
     let front : AppendsFront a c (log_text (take n log)) = subst (AppendsFront a c) p.2 (front_more a b c p.0 waiting p.1 q) in
     let whole = sym (flat_map-append entry_text (take n log) (drop n log)) ∙ ap log_text (take-append-drop n log) in
-    subst (AppendsFront a c) whole (longer_front a c _ (flat_map entry_text (drop n log)) front)
+    subst (AppendsFront a c) whole (front_longer a c _ (flat_map entry_text (drop n log)) front)
 
 -- all of them were handed on
 pub handed_all : (a b c : Option (List ℕ)) (log : List Entry) (n : ℕ) (waiting : List ℕ) → length log ≤ n

@@ -1,11 +1,8 @@
 -- The text of a set of cores, one core after another.
-use Rattle.std.proofs.Common.{◌≡◌, ℕ, zero, suc, ◌+◌, ◌<◌, ◌≤◌, Bool, true, false, cond, List, [], ◌∷◌, ◌++◌, length}
-use Rattle.std.proofs.Common.{decimal, arith, refl, sym, ap, ◌∙◌, subst, append-nil, append_assoc}
-use Rattle.std.specs.List.{filter, flat_map, range_with_len}
-use Rattle.std.proofs.lemmas.List.Elements.{filter-append}
-use Rattle.std.proofs.lemmas.Grind.{flat_map-append}
-use Rattle.std.proofs.lemmas.Fmt.{length-decimal-le}
-use Rattle.vm_base.specs.Cores.{members}
+use Rattle.machine_laws.proofs.Words.{◌≡◌, ℕ, zero, suc, ◌+◌, ◌<◌, ◌≤◌, Bool, true, false, cond, List, [], ◌∷◌, ◌++◌, length, decimal, arith, refl, sym, ap}
+use Rattle.machine_laws.proofs.Words.{◌∙◌, subst, append-nil, append_assoc, flat_map, range_with_len, filter-append, flat_map-append, length-decimal-le}
+use Rattle.machine_laws.proofs.Words.{members}
+use Rattle.std.specs.List.{filter}
 use Rattle.trace_text.specs.Printing.{core_text, cores_text}
 
 pub range_more : (a n j : ℕ) → a + n ≡ j → range_with_len a (suc n) ≡ range_with_len a n ++ j ∷ []

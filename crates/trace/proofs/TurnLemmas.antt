@@ -1,8 +1,9 @@
 -- Whose fault a fault is, and what a line comes to in a turn.
-use Rattle.std.proofs.Common.{◌≡◌, ℕ, ◌+◌, ◌≤◌, Bool, true, false, List, ◌++◌, Option, None, Some, ◌⊎◌, inl, inr, refl, sym, ap, ◌∙◌, subst, length}
-use Rattle.std.specs.Io.KnownBytes.{Keeps, Appends}
+use Rattle.machine_laws.proofs.Words.{◌≡◌, ℕ, ◌+◌, ◌≤◌, Bool, true, false, List, ◌++◌, Option, None, Some, ◌⊎◌, inl, inr, refl, sym, ap, ◌∙◌, subst, length}
+use Rattle.machine_laws.proofs.Words.{Keeps, Appends}
 use Rattle.trace_io.specs.Sink.{AppendsFront}
-use Rattle.trace_io.specs.Lines.{IsUnbroken, IsFirstLine}
+use Rattle.trace_io.specs.Lines.{TakesLine}
+use Rattle.trace_io.proofs.IoLemmas.{appends_after, front_after}
 use Rattle.trace_text.specs.Words.{words_of}
 use Rattle.trace_text.specs.Line.{are_printable, line_of}
 use Rattle.trace_text.specs.declared.line.Line.{Line}
@@ -12,14 +13,12 @@ use Rattle.trace.specs.declared.fault.TraceFault.{TraceFault}
 use Rattle.trace.specs.declared.fault.TraceFault.TheVariants.{BadLine, TooLong, ReadFailed, NoVmLine, NoMemory, Setup, WriteFailed}
 use Rattle.trace.specs.Stage.{Stage, Start, Declared, Running, SetupFails, OpenFails, LineWants, Kind, OfSpace, OfFile, OfEvents, kind_of}
 use Rattle.trace.specs.Stage.{LateFails, BadFails, SpaceFails, FileFails, SaidFails, BytesFail, LineFails, Acts}
-use Rattle.trace.specs.declared.shown.Show.{Show}
-use Rattle.trace.specs.Shown.{keeps_log, told}
 use Rattle.core_steps.specs.declared.setup.CallLimit.{CallLimit}
 use Rattle.trace.specs.Declarations.{Asked, asked_fault_within}
 use Rattle.trace.specs.Turns.{Scene, Advances, IsHeld, Fails, no_memory, refused, unwritten}
 
 -- neither the reader's fault nor the writer's
-pub is_own : TraceFault → Bool
+unfoldable pub is_own : TraceFault → Bool
 is_own (BadLine n) = true
 is_own (TooLong n) = true
 is_own ReadFailed = false
@@ -108,42 +107,30 @@ unfolding is_own
 end_not_write s f h e = let clash : false ≡ true = sym (ap is_own e) ∙ own_open s f h in cc
 
 -- a line that wasn't acted on fails the turn
-pub act_fails : (keeps : Bool) (show : Show) (old new : Scene) (n : ℕ) (line held seen : List ℕ) (f : TraceFault)
-    → keeps ≡ keeps_log show → Keeps old.written new.written → length line ≤ 256
-    → IsUnbroken line → IsFirstLine old.left line new.left → IsHeld held new → seen ≡ line
-    → ((f ≡ NoMemory) × LineWants keeps old.stage seen) ⊎ LineFails old.stage (n + 1) seen f → Fails show old new n f
-act_fails kept show old new n line held seen f shown keeps short unbroken takes holds same (inl e) =
-    no_memory e.0 line held short unbroken takes holds (subst (λ k. LineWants k old.stage line) shown (subst (LineWants kept old.stage) same e.1)) keeps
-act_fails kept show old new n line held seen f shown keeps short unbroken takes holds same (inr h) =
-    refused line short unbroken takes (subst (λ l. LineFails old.stage (n + 1) l f) same h) keeps
+pub act_fails : (keeps : Bool) (shown : List ℕ → List ℕ → List ℕ) (old new : Scene) (n : ℕ) (line held seen : List ℕ) (f : TraceFault)
+    → Keeps old.written new.written → TakesLine old.left line new.left → IsHeld held new → seen ≡ line
+    → ((f ≡ NoMemory) × LineWants keeps old.stage seen) ⊎ LineFails old.stage (n + 1) seen f → Fails keeps shown old new n f
+act_fails keeps shown old new n line held seen f stays takes holds same (inl e) =
+    no_memory e.0 line held takes holds (subst (LineWants keeps old.stage) same e.1) stays
+act_fails keeps shown old new n line held seen f stays takes holds same (inr h) =
+    refused line takes (subst (λ l. LineFails old.stage (n + 1) l f) same h) stays
 
-pub appends_after : (a b c : Option (List ℕ)) (xs : List ℕ) → Keeps a b → Appends b c xs → Appends a c xs
-appends_after None b c xs k p = tt
-appends_after (Some x) None c xs k p = absurd k
-appends_after (Some x) (Some y) None xs k p = absurd p
-appends_after (Some x) (Some y) (Some z) xs k p = p ∙ ap (λ l. l ++ xs) k
+-- a line that wasn't shown whole fails the turn
+pub text_lost : (keeps : Bool) (shown : List ℕ → List ℕ → List ℕ) (old new : Scene) (mid : Option (List ℕ)) (n : ℕ) (line seen text : List ℕ)
+    → TakesLine old.left line new.left → seen ≡ line → Acts old.stage seen new.stage text → Keeps old.written mid
+    → AppendsFront mid new.written (shown seen text) → Fails keeps shown old new n WriteFailed
+text_lost keeps shown old new mid n line seen text takes same acts stays front =
+    unwritten refl line text takes (subst (λ l. Acts old.stage l new.stage text) same acts)
+    (subst (λ l. AppendsFront old.written new.written (shown l text)) same (front_after _ _ _ _ stays front))
 
--- a line whose text wasn't written whole fails the turn
-pub text_lost : (show : Show) (old new : Scene) (mid : Option (List ℕ)) (n : ℕ) (line seen text : List ℕ) → length line ≤ 256
-    → IsUnbroken line
-    → IsFirstLine old.left line new.left → seen ≡ line → Acts old.stage seen new.stage text
-    → Keeps old.written mid → AppendsFront mid new.written (told show text) → Fails show old new n WriteFailed
-text_lost show old new mid n line seen text short unbroken takes same acts keeps front =
-    let from : AppendsFront old.written new.written (told show text) = (front.0, front.1, appends_after _ _ _ _ keeps front.2) in
-    unwritten refl line text short unbroken takes (subst (λ l. Acts old.stage l new.stage text) same acts)
-    from
-
--- a line whose text was written
-unfoldable pub line_told : (show : Show) (old new : Scene) (mid : Option (List ℕ)) (line seen text : List ℕ) → length line ≤ 256
-    → IsUnbroken line
-    → IsFirstLine old.left line new.left → seen ≡ line → Acts old.stage seen new.stage text
-    → Keeps old.written mid → Appends mid new.written (told show text) → Advances show old new
-line_told show old new mid line seen text short unbroken takes same acts keeps wrote = record {
+-- a line that was shown
+unfoldable pub line_told : (shown : List ℕ → List ℕ → List ℕ) (old new : Scene) (mid : Option (List ℕ)) (line seen text : List ℕ)
+    → TakesLine old.left line new.left → seen ≡ line → Acts old.stage seen new.stage text → Keeps old.written mid
+    → Appends mid new.written (shown seen text) → Advances shown old new
+line_told shown old new mid line seen text takes same acts stays wrote = record {
   line = line;
   text = text;
-  short = short;
-  unbroken = unbroken;
   takes = takes;
   acts = subst (λ l. Acts old.stage l new.stage text) same acts;
-  appends = appends_after _ _ _ _ keeps wrote;
+  appends = subst (λ l. Appends old.written new.written (shown l text)) same (appends_after _ _ _ _ stays wrote);
 }

@@ -1,11 +1,14 @@
 -- How a replay of a whole text ends.
-use Rattle.std.specs.Prelude.{◌≡◌, ℕ, ◌+◌, ◌<◌, ◌≤◌, ◌⊎◌, Bool, true, List, [], ◌∷◌, ◌++◌, Option}
+use Rattle.std.specs.Prelude.{◌≡◌, ℕ, ◌+◌, ◌<◌, ◌≤◌, ◌⊎◌, true, List, [], ◌∷◌, ◌++◌, Option}
 use Rattle.std.specs.Prelude.{Result, Ok, Err, length}
 use Rattle.std.specs.Io.KnownBytes.{Appends}
 use Rattle.core_steps.specs.declared.setup.CallLimit.{CallLimit}
+use Rattle.trace_io.specs.Io.{ReadFrom, WrittenTo}
 use Rattle.trace_io.specs.Lines.{lines_of, IsUnbroken}
 use Rattle.trace_io.specs.Sink.{AppendsFront}
 use Rattle.trace_io.specs.Source.{HasStopped}
+use Rattle.trace_io.specs.declared.fault.IoFault.{IoFault}
+use Rattle.trace_io.specs.declared.fault.IoFault.TheVariants as Io
 use Rattle.trace.specs.declared.fault.TraceFault.{TraceFault}
 use Rattle.trace.specs.declared.fault.TraceFault.TheVariants.{TooLong, ReadFailed, NoMemory}
 use Rattle.trace.specs.declared.fault.TraceFault.TheVariants.{WriteFailed}
@@ -81,11 +84,16 @@ abbrev pub Ends : {T : Type 0} → CallLimit → Show → List ℕ → List ℕ 
 Ends limit show input unread old new (Ok x) = Completes limit show input old new
 Ends limit show input unread old new (Err f) = Stops limit show input unread old new f
 
+-- as what a fault of reading and writing is told
+abbrev pub fault_named : IoFault → TraceFault
+fault_named Io.ReadFailed = ReadFailed
+fault_named Io.NoMemory = NoMemory
+fault_named Io.WriteFailed = WriteFailed
+
 -- `read failed` is told only of a read that failed or was one too many, and `write failed` only
 -- where a write or a flush failed; where it isn't told, none failed, and all that was written has
 -- gone out.
-pub record TellsFaults {T : Type 0} (r : Result T TraceFault) (read_failed : Bool) (reads : ℕ)
-    (before failed is_flushed : Bool) : Type 0 where
-  pub read : r ≡ Err ReadFailed → HasStopped read_failed reads
-  pub write : r ≡ Err WriteFailed → failed ≡ true
-  pub out : (r ≡ Err WriteFailed) ⊎ ((failed ≡ before) × (is_flushed ≡ true))
+pub record TellsFaults {T : Type 0} (r : Result T TraceFault) (text : ReadFrom) (sink : WrittenTo) : Type 0 where
+  pub read : r ≡ Err ReadFailed → HasStopped text.failed text.reads
+  pub write : r ≡ Err WriteFailed → sink.failed ≡ true
+  pub out : (r ≡ Err WriteFailed) ⊎ ((sink.failed ≡ sink.had_failed) × (sink.is_flushed ≡ true))

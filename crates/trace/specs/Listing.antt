@@ -1,7 +1,7 @@
 -- The list of mappings as text
 use Rattle.std.specs.Prelude.{ℕ, List}
 use Rattle.std.specs.List.{flat_map}
-use Rattle.map_list.specs.declared.lines.MapLine.{MapLine}
+use Rattle.slot_lock.specs.declared.map_list.MapLine.{MapLine}
 use Rattle.trace_text.specs.Lists.{map_line}
 
 -- a line for each mapping, in order

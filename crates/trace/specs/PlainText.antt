@@ -9,12 +9,12 @@ use Rattle.vm_base.specs.declared.replies.Reply.TheVariants.{NoFrame, NoMemory}
 use Rattle.vm_base.specs.declared.requests.Request.{Request}
 use Rattle.vm_base.specs.Cores.{members}
 use Rattle.vm_base.specs.Functions.{put}
-use Rattle.vm_base.specs.Log.{FirstReplies, Replays}
+use Rattle.vm_base.specs.Log.{Replays, RepliesBy}
 use Rattle.vm_base.specs.Plain.{File as OpenFile, Plain, file_with, nothing_mapped}
 use Rattle.vm_base.specs.Requests.{is_access}
 use Rattle.vm_base.specs.Users.{Users, users_after}
-use Rattle.map_list.specs.declared.lines.MapLine.{MapLine}
-use Rattle.map_list.specs.Lines.{IsMapList, plain_metas}
+use Rattle.slot_lock.specs.declared.map_list.MapLine.{MapLine}
+use Rattle.slot_lock.specs.MapList.{IsMapList, plain_metas}
 use Rattle.trace_text.specs.Grammar.{BytesSay}
 use Rattle.trace_text.specs.Line.{seeded}
 use Rattle.trace_text.specs.Lists.{log_text}
@@ -26,6 +26,7 @@ use Rattle.trace_text.specs.declared.line.Line.TheVariants.{Blank, Space, File, 
 use Rattle.trace.specs.declared.shown.Show.{Show}
 use Rattle.trace.specs.declared.shown.Show.TheVariants.{Outcomes, OutcomesAndLog, Maps}
 use Rattle.trace.specs.Listing.{maps_text}
+use Rattle.vm_base.specs.Places.{IsFirstPlace}
 
 -- A call that waits: whose it is, what it asks for, and how many takes each core still has before
 -- it
@@ -80,7 +81,7 @@ Idles s r text = (r ≡ s) × (text ≡ idle_text)
 pub record IsAnswered (s : Reached) (core : ℕ) (request : Request) (reply : Reply) (r : Reached)
     (text : List ℕ) : Type 0 where
   pub after : Plain
-  pub replies : FirstReplies s.plain core request reply after
+  pub replies : RepliesBy IsFirstPlace s.plain core request reply after
   pub given : reply ≢ NoMemory
   pub framed : reply ≡ NoFrame → s.frames < s.accesses
   pub next : r ≡ record s {
@@ -108,7 +109,7 @@ pub record IsHeldUp (s : Reached) (core : ℕ) (request : Request) (r : Reached)
     (text : List ℕ) : Type 0 where
   pub reply : Reply
   pub after : Plain
-  pub replies : FirstReplies s.plain core request reply after
+  pub replies : RepliesBy IsFirstPlace s.plain core request reply after
   pub set : ℕ
   pub some : (d : ℕ) × (members set d ≡ true)
   pub exact : (d : ℕ) → (members set d ≡ true) ↔ IsDropped s core request reply d

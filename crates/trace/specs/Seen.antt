@@ -52,9 +52,9 @@ Grows {R} saw old line new text = (first : R) (lines : List (List ℕ)) (before 
     → saw first old lines before → saw first new (lines ++ line ∷ []) (before ++ text)
 
 -- a line was acted on and seen
-abbrev pub AdvancesSeen : {R : Type 0} → (R → R → List (List ℕ) → List ℕ → Type 0) → Show → R → R
+abbrev pub AdvancesSeen : {R : Type 0} → (R → R → List (List ℕ) → List ℕ → Type 0) → (List ℕ → List ℕ → List ℕ) → R → R
     → Scene → Scene → Type 0
-AdvancesSeen saw show r q old new = (a : Advances show old new) × Grows saw r a.line q a.text
+AdvancesSeen saw shown r q old new = (a : Advances shown old new) × Grows saw r a.line q a.text
 
 -- of all lines and their text this holds, and the text was written, with what comes behind it
 pub record Writes (Holds : List (List ℕ) → List ℕ → Type 0) (stage : Stage) (show : Show)

@@ -4,8 +4,8 @@ use Rattle.std.specs.Io.KnownBytes.{Keeps, Appends}
 use Rattle.vm_base.specs.declared.log.Entry.{Entry}
 use Rattle.trace_io.specs.Sink.{AppendsFront}
 use Rattle.vm_base.specs.Plain.{Plain}
-use Rattle.map_list.specs.declared.lines.MapLine.{MapLine}
-use Rattle.map_list.specs.Lines.{ListsLines, plain_metas}
+use Rattle.slot_lock.specs.declared.map_list.MapLine.{MapLine}
+use Rattle.slot_lock.specs.MapList.{ListsLines, plain_metas}
 use Rattle.core_steps.specs.MapLines.{HasNoMap, IsLineStart, IsNextMap}
 use Rattle.core_steps.specs.declared.setup.CallLimit.{CallLimit}
 use Rattle.core_steps.specs.declared.setup.CallLimit.TheVariants.{Usual}

@@ -129,7 +129,7 @@ fn tell_call<M: SlotMap, A: Allocator + Clone, L: Ledger, X: Watch>(
 /// that is bad, or the line of a space or of a file, is a bad line here, and nothing
 /// changes. At `NoMemory` the steps before the refused one stand.
 #[inline(always)]
-pub fn watch_line<M: SlotMap, A: Allocator + Clone, L: Ledger, X: Watch>(
+pub(crate) fn watch_line<M: SlotMap, A: Allocator + Clone, L: Ledger, X: Watch>(
     machine: &mut Machine<M, A, L>,
     watch: &mut X,
     line: Option<Line>,

@@ -1,12 +1,13 @@
 //! The lines of a trace, acted on one by one.
 ghost use Rattle.std.specs.Prelude.{◌≡◌, ◌+◌, ◌^◌, ◌<◌, ◌⊎◌, Err, IfErr, IfOk, OnOk, [], false, true};
+ghost use Rattle.trace_io.specs.Io.{TellsIo, read_from, written_to};
 ghost use Rattle.trace_io.specs.Source.{HasStopped, Reads};
 ghost use Rattle.trace_io.specs.Window.{left, budget, opening};
 ghost use Rattle.trace.specs.declared.fault.TraceFault.TheVariants.{ReadFailed, WriteFailed};
 ghost use Rattle.trace.specs.declared.shown.Show.TheVariants.{OutcomesAndLog};
 ghost use Rattle.trace.specs.Turns.{Turns, scene};
 ghost use Rattle.trace.specs.Stage.{Start};
-ghost use Rattle.trace.specs.Ends.{Ends, TellsFaults};
+ghost use Rattle.trace.specs.Ends.{Ends, TellsFaults, fault_named};
 ghost use Rattle.trace.specs.Seen.{AdvancesSeen, IsSeen, Writes};
 ghost use Rattle.watched.specs.Sums.{nothing_counted, summed};
 ghost use Rattle.trace.specs.Shown.{Closes, CloseFails, keeps_log, limit_for};
@@ -16,41 +17,38 @@ ghost use Rattle.core_steps.specs.declared.setup.CallLimit.TheVariants.{Usual};
 
 use crate::fault::{TraceFault, status_of_fault};
 use crate::replayer::{Replayer, Staged};
-use crate::shown::{Show, write_log, write_maps, write_told};
+use crate::shown::{Show, Showing, write_log, write_maps};
 use core_steps::{CallLimit, Forgotten, Logged, Opening};
 use std::alloc::Allocator;
 use std::io::Write;
-use trace_io::lines::{Found, LineReader, NoLine};
+use trace_io::lines::{Found, LineReader, NoLine, line_reader};
 use trace_io::sink::Sink;
 use trace_io::source::Source;
 use trace_text::LineText;
 use watched::{Summary, Unwatched, Watch};
 
-// Acts on the next line and writes its text, where that is shown, or answers false where there is none.
-fn turn<A: Allocator, S: Source, W: Sink, R: Staged>(
+/// Acts on the next line and writes what is shown of it, or answers false where there is none.
+pub fn turn<A: Allocator, S: Source, W: Sink, R: Staged, H: Showing>(
     lines: &mut LineReader<A>,
     reader: &mut S,
     writer: &mut W,
     replayer: &mut R,
     number: u64,
-    show: Show,
+    show: &H,
     text: &mut LineText,
 ) -> Result<bool, TraceFault>
     requires few { number + 1 < 2 ^ 64 }
-    requires keeps { R.keeps ≡ keeps_log show }
-    ensures turns { Reads (S.stream reader.old) (S.stream reader.new) (λ xs ys. Turns show
+    ensures turns { Reads (S.stream reader.old) (S.stream reader.new) (λ xs ys. Turns R.keeps (H.shown show.now)
         (scene (left xs lines.old) xs (R.stage replayer.old) (W.contents writer.old))
         (scene (left ys lines.new) ys (R.stage replayer.new) (W.contents writer.new)) number result) }
     ensures seen { IfOk result (λ more. more ≡ true
-        → Reads (S.stream reader.old) (S.stream reader.new) (λ xs ys. AdvancesSeen R.saw show replayer.old replayer.new
+        → Reads (S.stream reader.old) (S.stream reader.new) (λ xs ys. AdvancesSeen R.saw (H.shown show.now) replayer.old replayer.new
         (scene (left xs lines.old) xs (R.stage replayer.old) (W.contents writer.old))
         (scene (left ys lines.new) ys (R.stage replayer.new) (W.contents writer.new)))) }
     ensures over { IfOk result (λ more. more ≡ false → replayer.new ≡ replayer.old) }
     ensures budget { IfOk result (λ more. more ≡ true
         → budget (S.reads reader.new) lines.new < budget (S.reads reader.old) lines.old) }
-    ensures read { result ≡ Err ReadFailed → HasStopped (S.failed reader.new) (S.reads reader.new) }
-    ensures write { result ≡ Err WriteFailed → W.failed writer.new ≡ true }
-    ensures kept { (result ≡ Err WriteFailed) ⊎ (W.failed writer.new ≡ W.failed writer.old) }
+    ensures told { TellsIo fault_named result (read_from S.Source reader.old reader.new) (written_to W.Sink writer.old writer.new) }
 {
     match lines.next_line(reader, writer) {
         Err(NoLine::ReadFailed) => Err(TraceFault::ReadFailed),
@@ -58,10 +56,11 @@ fn turn<A: Allocator, S: Source, W: Sink, R: Staged>(
         Ok(Found::End) => Ok(false),
         Ok(Found::TooLong) => Err(TraceFault::TooLong(number + 1)),
         Ok(Found::Line) => {
-            if let Err(fault) = replayer.act(number + 1, lines.line(), text) {
+            let line = lines.line();
+            if let Err(fault) = replayer.act(number + 1, line, text) {
                 return Err(fault);
             }
-            if let Err(_) = write_told(writer, show, text) {
+            if let Err(_) = show.write_line(writer, line, text) {
                 return Err(TraceFault::WriteFailed);
             }
             Ok(true)
@@ -74,12 +73,12 @@ fn turn<A: Allocator, S: Source, W: Sink, R: Staged>(
 fn close<W: Sink, R: Staged>(
     writer: &mut W,
     replayer: &R,
-    show: Show,
+    show: &Show,
     text: &mut LineText,
 ) -> Result<(), TraceFault>
-    requires { show ≡ OutcomesAndLog → R.keeps ≡ true }
-    ensures ok { OnOk result (Closes show (R.stage replayer.now) (W.contents writer.old) (W.contents writer.new)) }
-    ensures err { IfErr result (λ f. CloseFails show (R.stage replayer.now)
+    requires { show.now ≡ OutcomesAndLog → R.keeps ≡ true }
+    ensures ok { OnOk result (Closes show.now (R.stage replayer.now) (W.contents writer.old) (W.contents writer.new)) }
+    ensures err { IfErr result (λ f. CloseFails show.now (R.stage replayer.now)
         (W.contents writer.old) (W.contents writer.new) f) }
     ensures write { result ≡ Err WriteFailed → W.failed writer.new ≡ true }
     ensures kept { (result ≡ Err WriteFailed) ⊎ (W.failed writer.new ≡ W.failed writer.old) }
@@ -108,17 +107,17 @@ fn replay_lines<A: Allocator, S: Source, W: Sink, R: Staged>(
     reader: &mut S,
     writer: &mut W,
     replayer: &mut R,
-    show: Show,
+    show: &Show,
     text: &mut LineText,
 ) -> Result<(), TraceFault>
     requires fresh { lines.old ≡ opening }
-    requires keeps { R.keeps ≡ keeps_log show }
+    requires keeps { R.keeps ≡ keeps_log show.now }
     requires begins { R.saw replayer.old replayer.old [] [] }
     ensures ends { (limit : CallLimit) → R.stage replayer.old ≡ Start limit
         → Reads (S.stream reader.old) (S.stream reader.new) (λ input unread.
-        Ends limit show input unread (W.contents writer.old) (W.contents writer.new) result) }
+        Ends limit show.now input unread (W.contents writer.old) (W.contents writer.new) result) }
     ensures seen { IfOk result (λ u. Reads (S.stream reader.old) (S.stream reader.new) (λ input unread.
-        Writes (R.saw replayer.old replayer.new) (R.stage replayer.new) show input
+        Writes (R.saw replayer.old replayer.new) (R.stage replayer.new) show.now input
         (W.contents writer.old) (W.contents writer.new))) }
     ensures read { result ≡ Err ReadFailed → HasStopped (S.failed reader.new) (S.reads reader.new) }
     ensures write { result ≡ Err WriteFailed → W.failed writer.new ≡ true }
@@ -164,13 +163,11 @@ fn replay_over<
         Ends limit show input unread (W.contents writer.old) (W.contents writer.new) result.ended) }
     ensures seen { IfOk result.ended (λ u. Reads (S.stream reader.old) (S.stream reader.new) (λ input unread.
         IsSeen X.after watch result.watch show input (W.contents writer.old) (W.contents writer.new))) }
-    ensures read { result.ended ≡ Err ReadFailed → HasStopped (S.failed reader.new) (S.reads reader.new) }
-    ensures write { result.ended ≡ Err WriteFailed → W.failed writer.new ≡ true }
-    ensures kept { (result.ended ≡ Err WriteFailed) ⊎ (W.failed writer.new ≡ W.failed writer.old) }
+    ensures told { TellsIo fault_named result.ended (read_from S.Source reader.old reader.new) (written_to W.Sink writer.old writer.new) }
 {
     let mut replayer = Replayer::<A, L, X>::within(limit, alloc, watch);
     let mut text = LineText::new();
-    let ended = replay_lines(lines, reader, writer, &mut replayer, show, &mut text);
+    let ended = replay_lines(lines, reader, writer, &mut replayer, &show, &mut text);
     WatchEnd {
         ended,
         watch: replayer.into_watch(),
@@ -193,9 +190,7 @@ fn replay_text<A: Allocator + Clone + Drop, S: Source, W: Sink, X: Watch + Drop>
         Ends (limit_for show limit) show input unread (W.contents writer.old) (W.contents writer.new) result.ended) }
     ensures seen { IfOk result.ended (λ u. Reads (S.stream reader.old) (S.stream reader.new) (λ input unread.
         IsSeen X.after watch result.watch show input (W.contents writer.old) (W.contents writer.new))) }
-    ensures read { result.ended ≡ Err ReadFailed → HasStopped (S.failed reader.new) (S.reads reader.new) }
-    ensures write { result.ended ≡ Err WriteFailed → W.failed writer.new ≡ true }
-    ensures kept { (result.ended ≡ Err WriteFailed) ⊎ (W.failed writer.new ≡ W.failed writer.old) }
+    ensures told { TellsIo fault_named result.ended (read_from S.Source reader.old reader.new) (written_to W.Sink writer.old writer.new) }
 {
     match show {
         Show::OutcomesAndLog => replay_over::<Logged<A>, A, S, W, X>(
@@ -261,20 +256,10 @@ fn replay_read<A: Allocator + Clone + Drop, S: Source, W: Sink, X: Watch + Drop>
         Ends (limit_for show limit) show input unread (W.contents writer.old) (W.contents writer.new) result.replayed.ended) }
     ensures seen { IfOk result.replayed.ended (λ u. Reads (S.stream reader.old) (S.stream reader.new) (λ input unread.
         IsSeen X.after watch result.watch show input (W.contents writer.old) (W.contents writer.new))) }
-    ensures read { result.replayed.ended ≡ Err ReadFailed → HasStopped (S.failed reader.new) (S.reads reader.new) }
-    ensures write { result.replayed.ended ≡ Err WriteFailed → W.failed writer.new ≡ true }
-    ensures kept { (result.replayed.ended ≡ Err WriteFailed) ⊎ (W.failed writer.new ≡ W.failed writer.old) }
+    ensures told { TellsIo fault_named result.replayed.ended (read_from S.Source reader.old reader.new)
+        (written_to W.Sink writer.old writer.new) }
 {
-    let Ok(for_lines) = alloc.clone() else {
-        return Beside {
-            replayed: Replayed {
-                ended: Err(TraceFault::NoMemory),
-                lines: None,
-            },
-            watch,
-        };
-    };
-    let Ok(mut lines) = LineReader::new(for_lines) else {
+    let Some(mut lines) = line_reader(&alloc) else {
         return Beside {
             replayed: Replayed {
                 ended: Err(TraceFault::NoMemory),
@@ -307,8 +292,8 @@ pub fn replay_watched<A: Allocator + Clone + Drop, S: Source, W: Sink, X: Watch 
         Ends (limit_for show limit) show input unread (W.contents writer.old) (W.contents writer.new) result.replayed.ended) }
     ensures seen { IfOk result.replayed.ended (λ u. Reads (S.stream reader.old) (S.stream reader.new) (λ input unread.
         IsSeen X.after watch result.watch show input (W.contents writer.old) (W.contents writer.new))) }
-    ensures told { TellsFaults result.replayed.ended (S.failed reader.new) (S.reads reader.new)
-        (W.failed writer.old) (W.failed writer.new) (W.is_flushed writer.new) }
+    ensures told { TellsFaults result.replayed.ended (read_from S.Source reader.old reader.new)
+        (written_to W.Sink writer.old writer.new) }
 {
     let beside = replay_read(alloc, reader, writer, show, limit, watch);
     match writer.flush() {
@@ -334,8 +319,7 @@ pub fn replay_telling<A: Allocator + Clone + Drop, S: Source, W: Sink>(
 ) -> Replayed<A>
     ensures ends { Reads (S.stream reader.old) (S.stream reader.new) (λ input unread.
         Ends (limit_for show limit) show input unread (W.contents writer.old) (W.contents writer.new) result.ended) }
-    ensures told { TellsFaults result.ended (S.failed reader.new) (S.reads reader.new)
-        (W.failed writer.old) (W.failed writer.new) (W.is_flushed writer.new) }
+    ensures told { TellsFaults result.ended (read_from S.Source reader.old reader.new) (written_to W.Sink writer.old writer.new) }
 {
     replay_watched(alloc, reader, writer, show, limit, Unwatched).replayed
 }
@@ -354,8 +338,7 @@ pub fn replay_summing<A: Allocator + Clone + Drop, S: Source, W: Sink>(
         Ends (limit_for show limit) show input unread (W.contents writer.old) (W.contents writer.new) result.ended) }
     ensures sums { IfOk result.ended (λ u. Reads (S.stream reader.old) (S.stream reader.new) (λ input unread.
         IsSeen summed nothing_counted summary.new show input (W.contents writer.old) (W.contents writer.new))) }
-    ensures told { TellsFaults result.ended (S.failed reader.new) (S.reads reader.new)
-        (W.failed writer.old) (W.failed writer.new) (W.is_flushed writer.new) }
+    ensures told { TellsFaults result.ended (read_from S.Source reader.old reader.new) (written_to W.Sink writer.old writer.new) }
 {
     let beside = replay_watched(alloc, reader, writer, show, limit, Summary::new());
     *summary = beside.watch;
@@ -380,8 +363,7 @@ pub fn replay<A: Allocator + Clone + Drop, S: Source, W: Sink>(
     // the reader gave: a text that begins with them, whatever comes after them.
     ensures ends { Reads (S.stream reader.old) (S.stream reader.new) (λ input unread.
         Ends Usual show input unread (W.contents writer.old) (W.contents writer.new) result) }
-    ensures told { TellsFaults result (S.failed reader.new) (S.reads reader.new)
-        (W.failed writer.old) (W.failed writer.new) (W.is_flushed writer.new) }
+    ensures told { TellsFaults result (read_from S.Source reader.old reader.new) (written_to W.Sink writer.old writer.new) }
 {
     replay_telling(alloc, reader, writer, show, CallLimit::Usual).ended
 }

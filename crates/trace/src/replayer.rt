@@ -15,10 +15,9 @@ use crate::declaration::{Declaration, FileLine};
 use crate::event_lines::watch_line;
 use crate::fault::TraceFault;
 use core_steps::{CallLimit, Ledger, Machine, Opening, SetupFault};
-use map_list::MapLine;
 use mmu::{Cpu, Hardware};
 use radix_range::RadixMap;
-use slot_lock::SlotMap;
+use slot_lock::{MapLine, SlotMap};
 use std::alloc::Allocator;
 use trace_text::{
     Line, LineText, first_word_is_file, first_word_is_vm, is_printable_line, read_access, read_line,
@@ -162,7 +161,7 @@ impl<A: Allocator + Clone + Drop, L: Opening<A> + Drop, X: Watch + Drop> Replaye
     }
 
     /// Who watched the steps.
-    pub fn into_watch(self) -> X
+    pub(crate) fn into_watch(self) -> X
         ensures { result ≡ self.watch }
     {
         self.watch

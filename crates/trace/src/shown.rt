@@ -1,6 +1,7 @@
 //! What a replay shows beside the text of each line.
-ghost use Rattle.std.specs.Prelude.{◌≡◌, ℕ, List, ◌++◌, OnErr, OnOk, true};
+ghost use Rattle.std.specs.Prelude.{◌≡◌, ◌≤◌, ℕ, List, ◌++◌, OnErr, OnOk, length, true};
 ghost use Rattle.std.specs.Io.KnownBytes.{Appends};
+ghost use Rattle.trace_io.specs.Io.{IsWritten, written_to};
 ghost use Rattle.trace_io.specs.Sink.{AppendsFront};
 ghost use Rattle.trace.specs.Shown.{told, IsBegunBehind, IsBehind};
 ghost use Rattle.trace_text.specs.Lists.{log_text};
@@ -24,17 +25,36 @@ pub enum Show {
     Maps,
 }
 
-/// Writes the text of an outcome, where it is to be shown. At an `Err` a front of it was written.
-pub fn write_told<W: Sink>(writer: &mut W, show: Show, text: &LineText) -> Result<(), WriteFailed>
-    ensures ok { OnOk result (Appends (W.contents writer.old) (W.contents writer.new) (told show text.now.bytes)) }
-    ensures kept { OnOk result (W.failed writer.new ≡ W.failed writer.old) }
-    ensures front { OnErr result
-        (AppendsFront (W.contents writer.old) (W.contents writer.new) (told show text.now.bytes)) }
-    ensures err { OnErr result (W.failed writer.new ≡ true) }
-{
-    match show {
-        Show::Outcomes | Show::OutcomesAndLog => write_all(writer, text.as_str().as_bytes()),
-        Show::Maps => Ok(()),
+/// What a replay shows of a line.
+pub trait Showing {
+    // Of this line, which gave this text.
+    ghost shown: { Self → List ℕ → List ℕ → List ℕ };
+
+    /// Writes that. At an `Err` a front of it was written.
+    fn write_line<W: Sink>(
+        &self,
+        writer: &mut W,
+        line: &[u8],
+        text: &LineText,
+    ) -> Result<(), WriteFailed>
+        requires { length line.now ≤ 256 }
+        ensures { IsWritten result (written_to W.Sink writer.old writer.new)
+            (shown self.now line.now text.now.bytes) };
+}
+
+impl Showing for Show {
+    ghost shown = { λ show line text. told show text };
+
+    fn write_line<W: Sink>(
+        &self,
+        writer: &mut W,
+        line: &[u8],
+        text: &LineText,
+    ) -> Result<(), WriteFailed> {
+        match self {
+            Show::Outcomes | Show::OutcomesAndLog => write_all(writer, text.as_str().as_bytes()),
+            Show::Maps => Ok(()),
+        }
     }
 }
 
@@ -61,16 +81,12 @@ fn make_room<W: Sink>(writer: &mut W, lines: &mut LogLines) -> Result<(), WriteF
 
 /// Writes a line for each entry of a log, in order. At an `Err` a front of them was
 /// written. The text is where rare lines are made.
-pub fn write_log<W: Sink>(
+pub(crate) fn write_log<W: Sink>(
     writer: &mut W,
     log: &[Entry],
     text: &mut LineText,
 ) -> Result<(), WriteFailed>
-    ensures ok { OnOk result (Appends (W.contents writer.old) (W.contents writer.new) (log_text log.now)) }
-    ensures kept { OnOk result (W.failed writer.new ≡ W.failed writer.old) }
-    ensures front { OnErr result
-        (AppendsFront (W.contents writer.old) (W.contents writer.new) (log_text log.now)) }
-    ensures err { OnErr result (W.failed writer.new ≡ true) }
+    ensures { IsWritten result (written_to W.Sink writer.old writer.new) (log_text log.now) }
 {
     let mut lines = LogLines::new();
     let mut at = 0;
@@ -90,7 +106,7 @@ pub fn write_log<W: Sink>(
 
 /// Writes a line for each mapping, in order. At an `Err` a front of them was written. The
 /// text is where each line is made.
-pub fn write_maps<W: Sink, R: Staged>(
+pub(crate) fn write_maps<W: Sink, R: Staged>(
     writer: &mut W,
     replayer: &R,
     text: &mut LineText,

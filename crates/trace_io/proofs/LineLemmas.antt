@@ -49,13 +49,6 @@ filled xs ys held later s e n none same before =
     ap (λ l. l ++ later) (held_grown xs ys s e n none same ∙ ap (λ l. l ++ take n (drop e ys)) before)
     ∙ append_assoc held (take n (drop e ys)) later
 
-pub unfilled : (xs ys held later : List ℕ) (s e : ℕ) → s ≡ 0 → take e ys ≡ take e xs → take (e - s) (drop s xs) ≡ held
-    → take (e - s) (drop s ys) ++ later ≡ held ++ later
-unfilled xs ys held later s e none same before = ap (λ l. l ++ later) (front ∙ before)
-  where
-    front : take (e - s) (drop s ys) ≡ take (e - s) (drop s xs)
-    front = rw none (at_front ys e ∙ same ∙ sym (at_front xs e))
-
 -- ---- what a reader of lines takes from a source
 
 -- nothing was read
@@ -101,11 +94,11 @@ nothing_comes (Some x) ys e k = let none : x ≡ [] = cc in k ∙ none
 
 -- a line among what is held
 pub found_line : (ys before : List ℕ) (mid new : Window) → left ys mid ≡ before → TakesHeld mid new → Finds before (left ys new) new Line
-found_line ys before mid new kept h = (
-  h.short,
-  h.unbroken,
-  inl (sym kept ∙ ap (λ l. l ++ ys) h.held ∙ append_assoc new.line (10 ∷ new.held) ys),
-)
+found_line ys before mid new kept h = record {
+  short = h.short;
+  unbroken = h.unbroken;
+  first = inl (sym kept ∙ ap (λ l. l ++ ys) h.held ∙ append_assoc new.line (10 ∷ new.held) ys);
+}
 
 -- a line that is too long among what is held
 pub found_long : (ys before : List ℕ) (mid new : Window) → left ys mid ≡ before → (new ≡ mid) × IsTooLong mid.held
@@ -118,15 +111,15 @@ found_long ys before mid new kept h = (
 -- all that is held is the last line, where nothing comes any more
 pub found_last : (ys before : List ℕ) (mid new : Window) (f : Found) → left ys mid ≡ before → ys ≡ [] → length mid.held ≤ 256
     → IsUnbroken mid.held → TakesLast mid new f → Finds before (left ys new) new f
-found_last ys before mid new Line kept none short unbroken h = (
-  subst (λ (l : List ℕ). length l ≤ 256) (sym h.0) short,
-  subst IsUnbroken (sym h.0) unbroken,
-  inr (
+found_last ys before mid new Line kept none short unbroken h = record {
+  short = subst (λ (l : List ℕ). length l ≤ 256) (sym h.0) short;
+  unbroken = subst IsUnbroken (sym h.0) unbroken;
+  first = inr (
     sym kept ∙ ap (λ l. mid.held ++ l) none ∙ append-nil mid.held ∙ sym h.0,
     ap (λ l. new.held ++ l) none ∙ append-nil new.held ∙ h.1,
     subst (λ (l : List ℕ). 0 < length l) (sym h.0) h.2,
-  ),
-)
+  );
+}
 found_last ys before mid new TooLong kept none short unbroken h = absurd h
 found_last ys before mid new End kept none short unbroken h = (
   sym kept ∙ ap (λ l. mid.held ++ l) none ∙ append-nil mid.held ∙ h.1,

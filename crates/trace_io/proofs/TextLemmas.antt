@@ -31,7 +31,7 @@ all_read a b c done bs r g n h =
 -- ---- lines
 
 -- a byte of a line before the rest of it
-onto_line : (x : ℕ) (xs line : List ℕ) (ls : List (List ℕ)) → eqb x 10 ≡ false → lines_of xs ≡ line ∷ ls → lines_of (x ∷ xs) ≡ (x ∷ line) ∷ ls
+pub onto_line : (x : ℕ) (xs line : List ℕ) (ls : List (List ℕ)) → eqb x 10 ≡ false → lines_of xs ≡ line ∷ ls → lines_of (x ∷ xs) ≡ (x ∷ line) ∷ ls
 onto_line x xs line ls letter rest = ap (λ b. cond b ([] ∷ lines_of xs) (onto x (lines_of xs))) letter ∙ ap (onto x) rest
 
 -- the bytes before the first newline are the first line

@@ -1,6 +1,6 @@
 -- What the next line is.
-use Rattle.std.specs.Prelude.{◌≡◌, ℕ, ◌<◌, ◌≤◌, List, [], length}
-use Rattle.trace_io.specs.Lines.{IsUnbroken, IsTooLong, IsFirstLine}
+use Rattle.std.specs.Prelude.{◌≡◌, ℕ, ◌<◌, List, [], length}
+use Rattle.trace_io.specs.Lines.{IsTooLong, TakesLine}
 use Rattle.trace_io.specs.Window.{Window}
 use Rattle.trace_io.specs.declared.lines.Found.{Found}
 use Rattle.trace_io.specs.declared.lines.Found.TheVariants.{Line, TooLong, End}
@@ -13,6 +13,6 @@ TakesLast old new End = (new ≡ old) × (old.held ≡ [])
 
 -- what is still to come, before and after
 abbrev pub Finds : List ℕ → List ℕ → Window → Found → Type 0
-Finds old new w Line = (length w.line ≤ 256) × IsUnbroken w.line × IsFirstLine old w.line new
+Finds old new w Line = TakesLine old w.line new
 Finds old new w TooLong = IsTooLong old × (new ≡ old)
 Finds old new w End = (old ≡ []) × (new ≡ old)

@@ -4,3 +4,4 @@ pub mod Sink
 pub mod Window
 pub mod Scans
 pub mod Founds
+pub mod Io

@@ -1,9 +1,10 @@
 //! Lines of at most 256 bytes, read in chunks of fixed size: once made, a reader of lines takes no
 //! memory. Before it reads, what was written goes out.
 ghost use Rattle.std.specs.Prelude.{◌≡◌, ◌+◌, ◌-◌, ◌<◌, ◌≤◌, ◌^◌, ◌∷◌, length, take};
-ghost use Rattle.std.specs.Prelude.{drop, slice_range, IfOk, OnOk, OnErr};
+ghost use Rattle.std.specs.Prelude.{drop, slice_range, IfOk, IfSome, OnOk, OnErr};
 ghost use Rattle.trace_io.specs.Lines.{lines_of};
 ghost use Rattle.trace_io.specs.Source.{Gives, HasEnded, HasStopped, read_bytes};
+ghost use Rattle.trace_io.specs.Window.{opening};
 
 use crate::sink::Sink;
 use crate::source::{ReadFailed, Source};
@@ -231,6 +232,19 @@ impl<A: Allocator> LineReader<A> {
             Ok(found) => Ok(found),
             Err(_) => Err(NoLine::ReadFailed),
         }
+    }
+}
+
+/// A reader of lines that takes its memory from this allocator; None where there is none.
+pub fn line_reader<A: Allocator + Clone>(alloc: &A) -> Option<LineReader<A>>
+    ensures { IfSome result (λ r. r ≡ opening) }
+{
+    let Ok(for_lines) = alloc.clone() else {
+        return None;
+    };
+    match LineReader::new(for_lines) {
+        Ok(lines) => Some(lines),
+        Err(_) => None,
     }
 }
 

@@ -1,7 +1,7 @@
 //! What is written to: a writer that tells what it took, whether all of it has gone out, and
 //! whether a write has failed.
 ghost use Rattle.std.specs.Prelude.{◌≡◌, ◌<◌, ◌++◌, ◌==◌, ◌&&◌, ℕ, List, [], Bool, true, false, Option};
-ghost use Rattle.std.specs.Prelude.{Some, length, IfOk, OnOk, OnErr};
+ghost use Rattle.std.specs.Prelude.{None, Some, length, IfOk, OnOk, OnErr};
 ghost use Rattle.std.specs.Io.Buffered.{writer_buffer, writer_contents, writer_inner};
 ghost use Rattle.std.specs.Io.{WritesAtMost};
 ghost use Rattle.std.specs.Io.KnownBytes.{Keeps, Appends, WriteAppends};
@@ -122,6 +122,37 @@ impl<W: Write + Drop, A: Allocator> Sink for Noted<W, A> {
             return Err(WriteFailed);
         }
         self.flushed = true;
+        Ok(())
+    }
+}
+
+/// A writer that takes all bytes and holds none, for what nobody reads. Its flush does nothing.
+#[derive(Drop)]
+pub struct Nowhere {
+    is_flushed: bool,
+}
+
+impl Nowhere {
+    /// The writer, before its first write.
+    pub fn new() -> Nowhere {
+        Nowhere { is_flushed: true }
+    }
+}
+
+impl Sink for Nowhere {
+    ghost contents = { λ s. None };
+
+    ghost failed = { λ s. false };
+
+    ghost is_flushed = { λ s. s.is_flushed };
+
+    fn write(&mut self, bytes: &[u8]) -> Result<usize, WriteFailed> {
+        self.is_flushed = false;
+        Ok(bytes.len())
+    }
+
+    fn flush(&mut self) -> Result<(), WriteFailed> {
+        self.is_flushed = true;
         Ok(())
     }
 }

@@ -1,10 +1,11 @@
 //! What is read from: a reader that tells its bytes, how often it was read, and whether a read has
 //! failed.
-ghost use Rattle.std.specs.Prelude.{◌≡◌, ◌+◌, ◌^◌, ◌<◌, ℕ, [], Bool, false, length, IfOk, OnOk, OnErr};
+ghost use Rattle.std.specs.Prelude.{◌≡◌, ◌≢◌, ◌+◌, ◌^◌, ◌<◌, ℕ, [], Bool, false, length, IfOk, OnOk, OnErr};
 ghost use Rattle.std.specs.Prelude.{if◌then◌else◌, ◌≤◌, Some, Err, drop};
 ghost use Rattle.std.specs.Io.{ReadsAtMost};
 ghost use Rattle.trace_io.specs.Source.{Stream, Gives, HasEnded, HasStopped, Reads, read_bytes};
 
+use crate::fault::IoFault;
 use ghost_list::GhostList;
 use std::alloc::{AllocError, Allocator};
 use std::io::Read;
@@ -106,15 +107,6 @@ impl<R: Read> Source for Counted<R> {
     }
 }
 
-/// Why an input wasn't read to its end.
-#[derive(Clone, Copy, Debug, PartialEq, Eq)]
-pub enum Unread {
-    /// A read failed, or one more than `READ_LIMIT` was due.
-    ReadFailed,
-    /// What was read found no memory.
-    NoMemory,
-}
-
 // Room for what one read gives.
 fn new_chunk<A: Allocator>(alloc: A) -> Result<Vec<u8, A>, AllocError>
     ensures { IfOk result (λ chunk. length chunk.items ≡ 65536) }
@@ -145,31 +137,32 @@ fn read_chunk<A: Allocator, S: Source>(
 pub fn read_all<A: Allocator + Clone, S: Source>(
     alloc: A,
     reader: &mut S,
-) -> Result<Vec<u8, A>, Unread>
+) -> Result<Vec<u8, A>, IoFault>
     ensures text { IfOk result (λ text.
         Reads (S.stream reader.old) (S.stream reader.new) (λ input unread. input ≡ text.items)) }
     ensures kept { OnErr result
         (Reads (S.stream reader.old) (S.stream reader.new) (λ input unread. input ≡ input)) }
-    ensures read { result ≡ Err Unread.ReadFailed →
+    ensures read { result ≡ Err IoFault.ReadFailed →
         HasStopped (S.failed reader.new) (S.reads reader.new) }
+    ensures write { result ≢ Err IoFault.WriteFailed }
 {
     let Ok(for_text) = alloc.clone() else {
-        return Err(Unread::NoMemory);
+        return Err(IoFault::NoMemory);
     };
     let Ok(mut chunk) = new_chunk(alloc) else {
-        return Err(Unread::NoMemory);
+        return Err(IoFault::NoMemory);
     };
     let mut text: Vec<u8, A> = Vec::new(for_text);
     'reads: loop {
         let count = match read_chunk(&mut chunk, reader) {
             Ok(count) => count,
-            Err(_) => return Err(Unread::ReadFailed),
+            Err(_) => return Err(IoFault::ReadFailed),
         };
         if count == 0 {
             return Ok(text);
         }
         if let Err(_) = text.extend_from_slice(&chunk[..count]) {
-            return Err(Unread::NoMemory);
+            return Err(IoFault::NoMemory);
         }
     }
 }

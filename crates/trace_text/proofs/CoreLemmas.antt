@@ -26,7 +26,7 @@ two c low h =
 pub two_digits : (c : ℕ) → 10 ≤ c → c < 64 → decimal c ≡ (48 + c / 10) ∷ (48 + c % 10) ∷ []
 two_digits c high h = decimal_step c high (omega arith) ∙ ap (λ l. l ++ (48 + c % 10) ∷ []) (decimal_digit (c / 10) (omega arith))
 
-names_core : (core : ℕ) → core < 64 → core_number (decimal core) ≡ Some core
+pub names_core : (core : ℕ) → core < 64 → core_number (decimal core) ≡ Some core
 names_core core h = elim (cases_lt core 10) [
   | inl low ↦ ap core_number (decimal_digit core low) ∙ one core low
   | inr high ↦ ap core_number (two_digits core high h) ∙ two core high h

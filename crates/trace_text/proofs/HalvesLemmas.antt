@@ -57,9 +57,6 @@ same_cut : (f b g c : List ℕ) → Some (at_sign f b) ≡ Some (at_sign g c) �
 unfolding at_sign
 same_cut f b g c e = let same : at_sign f b ≡ at_sign g c = cc in (ap (λ (p : Cut). p.front) same, ap (λ (p : Cut). p.behind) same)
 
-no_cut : (c : Cut) → None ≡ Some c → ⊥
-no_cut c e = absurd (cc)
-
 tail_same : (b c : List ℕ) → 32 ∷ b ≡ 32 ∷ c → b ≡ c
 tail_same b c e = cc
 
@@ -111,10 +108,6 @@ halves_at bytes front behind at h s c k =
     let (before, rest) = same_cut (take at bytes) (drop (suc at) bytes) (front ++ 32 ∷ []) (32 ∷ behind)
     (sym (found_cut bytes at h s c) ∙ halves_cut bytes front behind k) in
     (before, drop_at bytes at h ∙ ap (λ x. x ∷ drop (suc at) bytes) s ∙ ap (λ l. 61 ∷ l) rest)
-
-pub halves_none : (bytes front behind : List ℕ) → are_clear bytes ≡ true → AreHalves bytes front behind → ⊥
-halves_none bytes front behind h k =
-    no_cut (at_sign (front ++ 32 ∷ []) (32 ∷ behind)) (sym (cut_none bytes h) ∙ halves_cut bytes front behind k)
 
 pub if_none : {X : Type 0} (r : Option X) (P : Type 0) → P → IfNone r P
 if_none None P h = h

@@ -52,7 +52,7 @@ fn read_number_alone(args: &[u8]) -> Option<u64>
 
 /// The page of the address that is the last word; any address below 2^64 has one.
 #[tactic(auto, unfolding(crate::specs::Action::page_alone))]
-pub fn read_page_alone(args: &[u8]) -> Option<u64>
+pub(crate) fn read_page_alone(args: &[u8]) -> Option<u64>
     ensures { result ≡ page_alone (words_of args.now) }
 {
     let addr = read_number_alone(args)?;
@@ -201,7 +201,7 @@ pub(crate) fn front_action(bytes: &[u8]) -> Option<Action>
 /// The action with this name, whose other words are in `args`; `None` where they say none.
 /// Nothing but the form is tested: whether the action is possible is the machine's to tell.
 #[tactic(auto, unfolding(crate::specs::Action::action_of))]
-pub fn read_action(name: &[u8], args: &[u8]) -> Option<Action>
+pub(crate) fn read_action(name: &[u8], args: &[u8]) -> Option<Action>
     ensures { result ≡ action_of name.now (words_of args.now) }
 {
     if name == b"call".as_slice() {

@@ -28,7 +28,7 @@ pub fn read_core_number(digits: &[u8]) -> Option<CoreId>
 }
 
 /// The core that a word `cC` names.
-pub fn read_core(word: &[u8]) -> Option<CoreId>
+pub(crate) fn read_core(word: &[u8]) -> Option<CoreId>
     ensures { result ≡ core_of word.now }
 {
     match word {
@@ -70,7 +70,7 @@ fn read_task(core: CoreId, words: &[u8]) -> Option<Line>
 /// The line of a core whose first word is `name` and whose other words are in `args`;
 /// `None` where they say none.
 #[tactic(auto, unfolding(crate::specs::Line::event_of, crate::specs::Line::now_of))]
-pub fn read_core_line(name: &[u8], args: &[u8]) -> Option<Line>
+pub(crate) fn read_core_line(name: &[u8], args: &[u8]) -> Option<Line>
     ensures { result ≡ event_of name.now (words_of args.now) }
 {
     match name {

@@ -158,7 +158,7 @@ pub fn next_number(bytes: &[u8]) -> Option<(u64, &[u8])>
 /// The number up to 255 that the first word spells, and the bytes after it.
 #[inline(always)]
 #[tactic(auto, unfolding(crate::specs::Request::front_byte))]
-pub fn next_byte(bytes: &[u8]) -> Option<(u8, &[u8])>
+pub(crate) fn next_byte(bytes: &[u8]) -> Option<(u8, &[u8])>
     ensures { option_map (λ f. (f.0, words_of f.1.now)) result ≡ front_byte (words_of bytes.now) }
 {
     let (number, rest) = next_number(bytes)?;

@@ -299,7 +299,7 @@ fn read_by_name(words: &[u8]) -> Option<Request>
 /// offsets are in bytes. Nothing but the form is tested: what a request asks for may still be refused.
 /// Most are known by the bytes that they begin with, and their names aren't looked for.
 #[inline(always)]
-pub fn read_request(words: &[u8]) -> Option<Request>
+pub(crate) fn read_request(words: &[u8]) -> Option<Request>
     ensures { result ≡ request_of (words_of words.now) }
 {
     let bytes = trimmed(words);

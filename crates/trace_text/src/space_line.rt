@@ -35,7 +35,7 @@ fn read_calls(cores: u64, frames: u64, args: &[u8]) -> Option<Line>
 /// The line of these words after `vm`; `None` where they are no such line. Whether a
 /// space of this size can be made isn't tested here.
 #[tactic(auto, unfolding(crate::specs::Line::space_of))]
-pub fn read_space(args: &[u8]) -> Option<Line>
+pub(crate) fn read_space(args: &[u8]) -> Option<Line>
     ensures { result ≡ space_of (words_of args.now) }
 {
     let (cores, rest) = next_number(args)?;

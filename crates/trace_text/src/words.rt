@@ -31,7 +31,7 @@ fn word_length(bytes: &[u8]) -> usize
 }
 
 /// The bytes from the first word on, none where there is no word.
-pub fn trimmed(bytes: &[u8]) -> &[u8]
+pub(crate) fn trimmed(bytes: &[u8]) -> &[u8]
     ensures { words_of result.now ≡ words_of bytes.now }
 {
     let (_, rest) = bytes.split_at(space_count(bytes));

@@ -18,10 +18,10 @@ use Rattle.vm_base.specs.Places.{IsFree, IsHint, IsFirstPlace, IsLeastRoom, IsRo
 use Rattle.vm_base.specs.Places.IsFirstPlace.{at_hint, in_window}
 use Rattle.vm_base.specs.Plain.{Entry, Plain, mode_of, is_mapped}
 use Rattle.vm_base.specs.Refusals.{refusal}
-use Rattle.vm_base.specs.Apply.{AppliesAfter, FirstApplies, NewMapping, Performs, Maps, MapsAt, Protects, HasPage, Accesses, access_reply, accessed, meta_of}
+use Rattle.vm_base.specs.Apply.{AppliesAfter, NewMapping, Performs, Maps, MapsAt, Protects, HasPage, Accesses, access_reply, accessed, meta_of, Applies}
 use Rattle.vm_base.specs.Apply.{is_absent, is_read_only, after_mapping, after_protecting, range_at, after_unmapping}
 use Rattle.vm_base.specs.Apply.Protects.{no_page, no_write, done}
-use Rattle.vm_base.specs.Answers.{FirstAnswers, is_ready}
+use Rattle.vm_base.specs.Answers.{is_ready, Answers}
 use Rattle.vm_base.specs.Copies.{page_due}
 use Rattle.vm_base.proofs.Due.{due, after, answered as copy_answers}
 use Rattle.vm_base.proofs.Functions.{has_in, in_has}
@@ -164,25 +164,25 @@ performs t core (LoadOf addr) ready = accesses t addr Load 0 (load_ready t addr)
 performs t core (StoreOf addr byte) ready = accesses t addr Store byte ready
 performs t core (FetchOf addr) ready = accesses t addr Fetch 0 (fetch_ready t addr)
 
-applies : (t : Plain) (core : ℕ) (request : Request) → is_ready t request ≡ true → Replies (FirstApplies t core request)
+applies : (t : Plain) (core : ℕ) (request : Request) → is_ready t request ≡ true → Replies (Applies IsFirstPlace t core request)
 applies t core request ready = go (refusal (λ n. mode_of (t.file n)) request)
   where
     go : (o : Option Reply) → Replies (AppliesAfter IsFirstPlace o t core request)
     go None = performs t core request ready
     go (Some y) = (y, t, (refl, refl))
 
-at_once : (t : Plain) (core : ℕ) (request : Request) → is_ready t request ≡ true → page_due t request ≡ None → Replies (FirstAnswers t core request)
+at_once : (t : Plain) (core : ℕ) (request : Request) → is_ready t request ≡ true → page_due t request ≡ None → Replies (Answers IsFirstPlace t core request)
 at_once t core request ready due =
     let a = applies t core request ready in (
       a.0,
       a.1,
-      subst (λ m. FirstApplies m core request a.0 a.1) (sym (uncopied t request a.0 due)) a.2,
+      subst (λ m. Applies IsFirstPlace m core request a.0 a.1) (sym (uncopied t request a.0 due)) a.2,
     )
 
-stores : (t : Plain) (core addr byte : ℕ) → Replies (FirstAnswers t core (StoreOf addr byte))
+stores : (t : Plain) (core addr byte : ℕ) → Replies (Answers IsFirstPlace t core (StoreOf addr byte))
 stores t core addr byte = go (access_reply t addr Store) refl
   where
-    go : (o : Option Reply) → access_reply t addr Store ≡ o → Replies (FirstAnswers t core (StoreOf addr byte))
+    go : (o : Option Reply) → access_reply t addr Store ≡ o → Replies (Answers IsFirstPlace t core (StoreOf addr byte))
     go None e =
         let d = due t addr e in
         let u = accessed (after t addr d) addr byte Done in (
@@ -194,7 +194,7 @@ stores t core addr byte = go (access_reply t addr Store) refl
         let u = accessed t addr byte y in
         (y, u, subst (λ m. Accesses m addr Store byte y u) (sym (store_at_once t addr byte y e)) (e, refl))
 
-pub answered : (t : Plain) (core : ℕ) (request : Request) → Replies (FirstAnswers t core request)
+pub answered : (t : Plain) (core : ℕ) (request : Request) → Replies (Answers IsFirstPlace t core request)
 answered t core (Mmap addr len prot flags file off) = at_once t core (Mmap addr len prot flags file off) refl refl
 answered t core (Munmap addr len) = at_once t core (Munmap addr len) refl refl
 answered t core (Mprotect addr len prot) = at_once t core (Mprotect addr len prot) refl refl

@@ -10,7 +10,7 @@ use Rattle.vm_base.specs.Places.IsPlace.{at_hint, in_window, nowhere}
 use Rattle.vm_base.specs.Places.IsFirstPlace.{at_hint as first_at_hint, in_window as first_in_window}
 use Rattle.vm_base.specs.Plain.{Plain, mode_of, is_mapped}
 use Rattle.vm_base.specs.Refusals.{refusal}
-use Rattle.vm_base.specs.Apply.{Applies, AppliesAfter, FirstApplies, NewMapping, MapsAt, Performs, meta_of}
+use Rattle.vm_base.specs.Apply.{AppliesAfter, NewMapping, MapsAt, Performs, meta_of, Applies}
 
 least_room_is_place : (m : ℕ → Bool) (w : PageRange) (h n : ℕ) (place : Option ℕ) → IsLeastRoom m w n place → IsPlace m w h n place
 least_room_is_place m w h n None none = nowhere none refl
@@ -40,5 +40,5 @@ first_applies : (o : Option Reply) (t u : Plain) (core : ℕ) (request : Request
 first_applies None t u core request y applies = first_performs t u core request y applies
 first_applies (Some refused) t u core request y applies = applies
 
-pub first_answer : (t u : Plain) (core : ℕ) (request : Request) (y : Reply) → FirstApplies t core request y u → Applies t core request y u
+pub first_answer : (t u : Plain) (core : ℕ) (request : Request) (y : Reply) → Applies IsFirstPlace t core request y u → Applies IsPlace t core request y u
 first_answer t u core request y applies = first_applies (refusal (λ k. mode_of (t.file k)) request) t u core request y applies

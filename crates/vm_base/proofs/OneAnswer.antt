@@ -11,7 +11,7 @@ use Rattle.vm_base.specs.Places.{IsFirstPlace, IsLeastRoom}
 use Rattle.vm_base.specs.Places.IsFirstPlace.{at_hint, in_window}
 use Rattle.vm_base.specs.Plain.{Plain, mode_of, is_mapped}
 use Rattle.vm_base.specs.Refusals.{refusal}
-use Rattle.vm_base.specs.Apply.{FirstApplies, AppliesAfter, NewMapping, Performs, Maps, MapsAt, Protects, Accesses, range_at, meta_of, accessed}
+use Rattle.vm_base.specs.Apply.{AppliesAfter, NewMapping, Performs, Maps, MapsAt, Protects, Accesses, range_at, meta_of, accessed, Applies}
 use Rattle.vm_base.specs.Apply.Protects.{no_page, no_write, done}
 
 least_one : (m : ℕ → Bool) (w : PageRange) (n : ℕ) (a b : Option ℕ) → IsLeastRoom m w n a → IsLeastRoom m w n b → a ≡ b
@@ -89,6 +89,6 @@ after_one : (t u v : Plain) (core : ℕ) (request : Request) (y z : Reply) (o : 
 after_one t u v core request y z None h k = performs_one t u v core request y z h k
 after_one t u v core request y z (Some refused) h k = (h.0 ∙ sym k.0, h.1 ∙ sym k.1)
 
-pub one_answer : (t u v : Plain) (core : ℕ) (request : Request) (y z : Reply) → FirstApplies t core request y u → FirstApplies t core request z v
+pub one_answer : (t u v : Plain) (core : ℕ) (request : Request) (y z : Reply) → Applies IsFirstPlace t core request y u → Applies IsFirstPlace t core request z v
     → (y ≡ z) × (u ≡ v)
 one_answer t u v core request y z h k = after_one t u v core request y z (refusal (λ n. mode_of (t.file n)) request) h k

@@ -1,5 +1,5 @@
 -- Loads and fetches have a reply at once, and so has a store once its page's copy is made, if one is due
-use Rattle.std.proofs.Common.{◌≡◌, ℕ, Bool, true, false, cond, is_some, Option, Some, None, refl, sym, subst, ◌∙◌, ap}
+use Rattle.std.proofs.Common.{◌≡◌, ℕ, Bool, true, false, cond, is_some, Option, Some, None, refl, ◌∙◌, ap}
 use Rattle.vm_base.specs.declared.rights.Access.{Access}
 use Rattle.vm_base.specs.declared.rights.Access.TheVariants.{Load, Store, Fetch}
 use Rattle.vm_base.specs.declared.info.Back.{Back}
@@ -7,13 +7,13 @@ use Rattle.vm_base.specs.declared.replies.SegvCode.TheVariants.{MapErr, AccErr}
 use Rattle.vm_base.specs.declared.replies.Reply.{Reply}
 use Rattle.vm_base.specs.declared.replies.Reply.TheVariants.{Mapped, Done, Byte, Refused, Segv, Bus, NoFrame, NoMemory}
 use Rattle.vm_base.specs.declared.requests.Request.{Request}
-use Rattle.vm_base.specs.declared.requests.Request.TheVariants.{Mmap, Munmap, Mprotect, Load as LoadOf, Store as StoreOf, Fetch as FetchOf}
+use Rattle.vm_base.specs.declared.requests.Request.TheVariants.{Store as StoreOf}
 use Rattle.vm_base.specs.Rights.{is_allowed}
 use Rattle.vm_base.specs.Pages.{page_of, offset_of, is_page}
 use Rattle.vm_base.specs.Plain.{Bytes, File, Entry, Plain, bytes_of}
 use Rattle.vm_base.specs.Apply.{needs_copy, bytes_reply, entry_reply, access_reply, copied, detached, detached_entry, is_uncopied}
 use Rattle.vm_base.specs.Copies.{if_copied, or_else, page_copied, page_due, with_copy}
-use Rattle.vm_base.proofs.Due.{Due, after, detached_due, answered}
+use Rattle.vm_base.proofs.Due.{Due, after, detached_due}
 
 -- without a copy to be made each access has a reply
 with_bytes : (a : Access) (i : ℕ) (o : Option Bytes) → is_some (bytes_reply false o a i) ≡ true
@@ -72,13 +72,6 @@ copy_due t addr byte d =
     ap (λ (x : Option Plain). with_copy t (if_copied x (page_of addr))) (detached_due t addr d)
     ∙ ap (λ (x : Option Plain). or_else t x) (detached_due t addr d)
 
-pub store_due : (t : Plain) (addr byte : ℕ) (y : Reply) (d : Due t addr) → access_reply (after t addr d) addr Store ≡ Some y
-    → with_copy t (page_copied t (StoreOf addr byte) y) ≡ after t addr d
-store_due t addr byte y d h =
-    let one : Some Done ≡ Some y = sym (answered t addr d) ∙ h in
-    let done : Done ≡ y = cc in
-    subst (λ r. with_copy t (page_copied t (StoreOf addr byte) r) ≡ after t addr d) done (copy_due t addr byte d)
-
 -- and else as the map is
 pub store_at_once : (t : Plain) (addr byte : ℕ) (y : Reply) → access_reply t addr Store ≡ Some y
     → with_copy t (page_copied t (StoreOf addr byte) y) ≡ t
@@ -90,15 +83,6 @@ store_at_once t addr byte (Segv s) h = refl
 store_at_once t addr byte Bus h = refl
 store_at_once t addr byte NoFrame h = refl
 store_at_once t addr byte NoMemory h = refl
-
--- a request that is no store is answered in the state that it finds
-pub other_undue : (t : Plain) (request : Request) → ((addr byte : ℕ) → request ≡ StoreOf addr byte → ⊥) → page_due t request ≡ None
-other_undue t (Mmap addr len prot flags file off) other = refl
-other_undue t (Munmap addr len) other = refl
-other_undue t (Mprotect addr len prot) other = refl
-other_undue t (LoadOf addr) other = refl
-other_undue t (StoreOf addr byte) other = absurd (other addr byte refl)
-other_undue t (FetchOf addr) other = refl
 
 none_copied : (t : Plain) (request : Request) (y : Reply) → page_due t request ≡ None → page_copied t request y ≡ None
 none_copied t request (Mapped a) h = refl

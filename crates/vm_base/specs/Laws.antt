@@ -5,25 +5,26 @@ use Rattle.vm_base.specs.declared.replies.Reply.{Reply}
 use Rattle.vm_base.specs.Functions.{has}
 use Rattle.vm_base.specs.Pages.{page_of, pages_of}
 use Rattle.vm_base.specs.Plain.{Plain}
-use Rattle.vm_base.specs.Apply.{Applies, FirstApplies}
-use Rattle.vm_base.specs.Answers.{FirstAnswers}
+use Rattle.vm_base.specs.Apply.{Applies}
+use Rattle.vm_base.specs.Answers.{Answers}
+use Rattle.vm_base.specs.Places.{IsPlace, IsFirstPlace}
 
 -- two first answers to a request are the same one, and they leave the same state
 abbrev pub EachRequestHasOneFirstAnswer : Type 0
 EachRequestHasOneFirstAnswer =
     (t u v : Plain) (core : ℕ) (request : Request) (y z : Reply)
-    → FirstApplies t core request y u → FirstApplies t core request z v → (y ≡ z) × (u ≡ v)
+    → Applies IsFirstPlace t core request y u → Applies IsFirstPlace t core request z v → (y ≡ z) × (u ≡ v)
 
 -- each request has a first answer, after the copy that is due before it
 abbrev pub EachRequestIsAnswered : Type 0
 EachRequestIsAnswered = (t : Plain) (core : ℕ) (request : Request) → (y : Reply) × (u : Plain)
-    × FirstAnswers t core request y u
+    × Answers IsFirstPlace t core request y u
 
 -- a first answer is an answer
 abbrev pub FirstAnswersAreAnswers : Type 0
 FirstAnswersAreAnswers =
     (t u : Plain) (core : ℕ) (request : Request) (y : Reply)
-    → FirstApplies t core request y u → Applies t core request y u
+    → Applies IsFirstPlace t core request y u → Applies IsPlace t core request y u
 
 -- a byte of addr up to addr + len lies in the page
 abbrev pub HasByte : ℕ → ℕ → ℕ → Type 0

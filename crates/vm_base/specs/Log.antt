@@ -13,7 +13,8 @@ use Rattle.vm_base.specs.Pages.{page_of}
 use Rattle.vm_base.specs.Rights.{is_allowed}
 use Rattle.vm_base.specs.Plain.{File, Entry as PageEntry, Plain, bytes_of}
 use Rattle.vm_base.specs.Apply.{Applies, detached}
-use Rattle.vm_base.specs.Answers.{FirstAnswers}
+use Rattle.vm_base.specs.Copies.{page_copied, with_copy}
+use Rattle.vm_base.specs.Places.{PlaceRule, IsPlace}
 use Rattle.vm_base.specs.declared.log.Entry.{Entry}
 use Rattle.vm_base.specs.declared.log.Entry.TheVariants.{Answer, Detach}
 
@@ -34,19 +35,17 @@ IsServable t _ = ⊥
 
 -- ---- entries
 
--- A core's request may be answered y, and leaves u. NoFrame answers only an access that would be
--- served, and NoMemory any request; both change nothing. Every other reply, and what it leaves, is
--- the plain page map's.
-abbrev pub Stands : Plain → ℕ → Request → Reply → Plain → Type 0
-Stands t core request NoFrame u = IsServable t request × (u ≡ t)
-Stands t core request NoMemory u = u ≡ t
-Stands t core request y u = Applies t core request y u
+-- A core's request may be answered y, and leaves u, where places go by the rule. NoFrame answers only
+-- an access that would be served, and NoMemory any request; both change nothing. Every other reply,
+-- and what it leaves, is the plain page map's.
+abbrev pub Stands : PlaceRule → Plain → ℕ → Request → Reply → Plain → Type 0
+Stands rule t core request NoFrame u = IsServable t request × (u ≡ t)
+Stands rule t core request NoMemory u = u ≡ t
+Stands rule t core request y u = Applies rule t core request y u
 
--- The first of these, in the state before the copy of the page of a store
-abbrev pub FirstReplies : Plain → ℕ → Request → Reply → Plain → Type 0
-FirstReplies t core request NoFrame u = IsServable t request × (u ≡ t)
-FirstReplies t core request NoMemory u = u ≡ t
-FirstReplies t core request y u = FirstAnswers t core request y u
+-- The same after the copy that is due before it, if one is
+abbrev pub RepliesBy : PlaceRule → Plain → ℕ → Request → Reply → Plain → Type 0
+RepliesBy rule t core request y u = Stands rule (with_copy t (page_copied t request y)) core request y u
 
 -- the n-th of a list, from 1
 abbrev pub nth : {A : Type 0} → List A → ℕ → Option A
@@ -57,7 +56,7 @@ nth xs (suc n) = slice_get xs n
 -- where it is a private page that shows its file's bytes, and a store to it is allowed.
 abbrev pub EntryLeads : List Request → Plain → Entry → Plain → Type 0
 EntryLeads requests t (Answer step call core reply) u =
-    (request : Request) × (nth requests call ≡ Some request) × Stands t core request reply u
+    (request : Request) × (nth requests call ≡ Some request) × Stands IsPlace t core request reply u
 EntryLeads requests t (Detach step call page) u =
     CanAccess t.file (t.entry page) Store × (detached t page ≡ Some u)
 

@@ -1,4 +1,5 @@
-//! What a page has.
+//! What a page has: its backing and rights (`Meta`), and its frame and recorded cores once it is used
+//! (`PageInfo`).
 ghost use Rattle.std.specs.Prelude.{◌≡◌, ℕ, ◌+◌, ◌<◌, ◌^◌, ◌↔◌, IsTrue, false};
 ghost use Rattle.vm_base.specs.Info.{advance, file_page, info_file_page, info_from, unused};
 ghost use Rattle.vm_base.specs.Cores.{members};

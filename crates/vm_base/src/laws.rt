@@ -1,4 +1,4 @@
-//! What follows from the definitions in specs/.
+//! Theorems on the definitions in specs/, as contracts of functions that do nothing.
 ghost use Rattle.vm_base.specs.Laws.{EachRequestHasOneFirstAnswer, EachRequestIsAnswered};
 ghost use Rattle.vm_base.specs.Laws.{FirstAnswersAreAnswers, PagesHaveBytes};
 

@@ -1,4 +1,4 @@
-//! The log of a machine.
+//! The entries of a machine's log.
 use crate::cores::CoreId;
 use crate::replies::Reply;
 

@@ -1,9 +1,6 @@
 -- Unmapped pages of a range
-use Rattle.std.proofs.Common.{◌≡◌, ℕ, ◌⊎◌, inl, inr, true, false, not, Option, Some, None, is_some, refl, ◌∙◌, ap}
-use Rattle.vm_base.specs.declared.page.PageRange.{PageRange}
-use Rattle.vm_base.specs.declared.info.PageInfo.{PageInfo}
-use Rattle.vm_base.specs.Functions.{has}
-use Rattle.vm_base.specs.Apply.{HasPage, is_absent}
+use Rattle.slot_lock.proofs.Words.{◌≡◌, ℕ, ◌⊎◌, inl, inr, true, false, not, Option, Some, None, is_some, refl, ◌∙◌, ap, PageRange, PageInfo, has, HasPage}
+use Rattle.slot_lock.proofs.Words.{is_absent}
 use Rattle.slot_lock.specs.Slots.{Slots, AllMapped}
 use Rattle.vm_calls.specs.Decisions.{entries, entry_of}
 use Rattle.vm_calls.proofs.Seeking.{seek}

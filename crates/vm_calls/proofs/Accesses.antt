@@ -1,21 +1,11 @@
 -- What the check answers, and what it lets through as an access, in the plain page map
-use Rattle.std.proofs.Common.{◌≡◌, ℕ, ◌↔◌, Bool, true, false, Option, Some, None, Result, Ok, Err, refl, sym, ◌∙◌, ap, subst}
-use Rattle.std.specs.Prelude.{if◌then◌else◌}
-use Rattle.std.proofs.Math.Path.{fun_ext}
-use Rattle.vm_base.specs.declared.requests.Request.{Request}
-use Rattle.vm_base.specs.declared.requests.Request.TheVariants.{Mmap, Munmap, Mprotect}
+use Rattle.slot_lock.proofs.Words.{◌≡◌, ℕ, ◌↔◌, Bool, true, false, Option, Some, None, Result, Ok, Err, refl, sym, ◌∙◌, ap, subst, if◌then◌else◌, fun_ext}
+use Rattle.slot_lock.proofs.Words.{Request, Mmap, Munmap, Mprotect, Access, Load, Store, Fetch, Mode, Reply, Mapped, Done, Byte, Refused, Segv, Bus, NoFrame}
+use Rattle.slot_lock.proofs.Words.{NoMemory, MapErr, is_page, page_of, pages_of, File, Plain, mode_of, refusal, meta_of, AppliesAfter, entry_reply, Applies}
 use Rattle.vm_base.specs.declared.requests.Request.TheVariants.{Load as LoadOf, Store as StoreOf, Fetch as FetchOf}
-use Rattle.vm_base.specs.declared.rights.Access.{Access}
-use Rattle.vm_base.specs.declared.rights.Access.TheVariants.{Load, Store, Fetch}
-use Rattle.vm_base.specs.declared.rights.Mode.{Mode}
-use Rattle.vm_base.specs.declared.replies.Reply.{Reply}
-use Rattle.vm_base.specs.declared.replies.Reply.TheVariants.{Mapped, Done, Byte, Refused, Segv, Bus, NoFrame, NoMemory}
-use Rattle.vm_base.specs.declared.replies.SegvCode.TheVariants.{MapErr}
-use Rattle.vm_base.specs.Pages.{is_page, page_of, offset_of, pages_of}
-use Rattle.vm_base.specs.Plain.{File, Plain, mode_of}
+use Rattle.vm_base.specs.Pages.{offset_of}
 use Rattle.vm_base.specs.Places.{IsPlace}
-use Rattle.vm_base.specs.Refusals.{refusal}
-use Rattle.vm_base.specs.Apply.{meta_of, Applies, AppliesAfter, Performs, Accesses, accessed, access_reply, entry_reply}
+use Rattle.vm_base.specs.Apply.{Performs, Accesses, accessed, access_reply}
 use Rattle.slot_lock.specs.declared.plan.Change.TheVariants.{Put}
 use Rattle.slot_lock.specs.declared.plan.Plan.{Plan}
 use Rattle.slot_lock.specs.declared.plan.Plan.TheVariants as PlanOf
@@ -54,7 +44,7 @@ no-access true x y touch f g is = f cc
 no-access false x y touch f g is = g cc
 
 plan-answered : (t : Plain) (core : ℕ) (request : Request) (touch : Touch) → plan_of core request ≡ Ok (PlanOf.Touch touch)
-    → (y : Reply) (u : Plain) → Applies t core request y u ↔ EntryAnswers t touch y u
+    → (y : Reply) (u : Plain) → Applies IsPlace t core request y u ↔ EntryAnswers t touch y u
 plan-answered t core (Mmap addr len prot flags file off) touch is y u =
     absurd (no-access flags.fixed (PlanOf.Change (Put (pages_of addr len) (meta_of prot flags file off)))
     (PlanOf.Place (place_of core addr len (meta_of prot flags file off))) touch (λ e. absurd cc) (λ e. absurd cc) is)
@@ -66,7 +56,7 @@ plan-answered t core (FetchOf addr) touch is y u = same-answer t addr 0 Fetch (P
 
 pub access_answered : (t : Plain) (modes : ℕ → Option Mode) (core : ℕ) (request : Request) (touch : Touch)
     → checked modes core request ≡ Ok (PlanOf.Touch touch) → (y : Reply) (u : Plain)
-    → Applies t core request y u ↔ EntryAnswers t touch y u
+    → Applies IsPlace t core request y u ↔ EntryAnswers t touch y u
 access_answered t modes core request touch is y u = plan-answered t core request touch
     (passed (refusal modes request) (plan_of core request) (PlanOf.Touch touch) is).1 y u
 
@@ -102,7 +92,7 @@ plan-refused t core (StoreOf addr byte) reply is = no-page t addr byte Store rep
 plan-refused t core (FetchOf addr) reply is = no-page t addr 0 Fetch reply is
 
 pub refusal_answered : (t : Plain) (files : ℕ → Option File) (core : ℕ) (request : Request) (reply : Reply) → HasModes t files
-    → checked (λ n. mode_of (files n)) core request ≡ Err reply → Applies t core request reply t
+    → checked (λ n. mode_of (files n)) core request ≡ Err reply → Applies IsPlace t core request reply t
 refusal_answered t files core request reply h is =
     let modes : (λ n. mode_of (files n)) ≡ (λ n. mode_of (t.file n)) = sym (fun_ext h) in
     go (refusal (λ n. mode_of (t.file n)) request) (ap (λ (m : ℕ → Option Mode). checked m core request) (sym modes) ∙ is)

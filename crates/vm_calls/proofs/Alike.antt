@@ -1,11 +1,6 @@
 -- A decision looks at the pages of its footprint alone
-use Rattle.std.proofs.Common.{ℕ, Bool, is_some, Option, sym, ◌∙◌, ap}
-use Rattle.vm_base.specs.declared.page.PageRange.{PageRange}
-use Rattle.vm_base.specs.declared.info.PageInfo.{PageInfo}
-use Rattle.vm_base.specs.declared.rights.Prot.{Prot}
-use Rattle.vm_base.specs.Info.{is_recorded}
-use Rattle.vm_base.specs.Plain.{File, Entry, is_mapped}
-use Rattle.vm_base.specs.Apply.{HasPage, is_absent, is_read_only}
+use Rattle.slot_lock.proofs.Words.{ℕ, Bool, is_some, Option, sym, ◌∙◌, ap, PageRange, PageInfo, Prot, is_recorded, File, Entry, is_mapped, HasPage, is_absent}
+use Rattle.slot_lock.proofs.Words.{is_read_only}
 use Rattle.slot_lock.specs.declared.plan.Change.{Change}
 use Rattle.slot_lock.specs.declared.plan.Change.TheVariants.{Put, Clear, Protect}
 use Rattle.slot_lock.specs.declared.plan.Place.{Place}

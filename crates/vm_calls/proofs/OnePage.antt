@@ -1,15 +1,6 @@
 -- Decisions of a change of one page, by what the page has
-use Rattle.std.proofs.Common.{◌≡◌, ℕ, ◌+◌, Bool, true, false, not, is_some, Option, Some, None, refl, sym, subst, ap, ◌∙◌, arith}
-use Rattle.vm_base.specs.declared.info.PageInfo.{PageInfo}
-use Rattle.vm_base.specs.declared.page.PageRange.{PageRange}
-use Rattle.vm_base.specs.declared.rights.Prot.{Prot}
-use Rattle.vm_base.specs.declared.replies.Errno.TheVariants.{ENOMEM, EACCES}
-use Rattle.vm_base.specs.Apply.{HasPage, is_absent, is_read_only}
-use Rattle.vm_base.specs.Cores.{members}
-use Rattle.vm_base.specs.Functions.{has}
-use Rattle.vm_base.specs.Info.{is_recorded}
-use Rattle.vm_base.specs.Plain.{Entry, File}
-use Rattle.vm_base.proofs.Functions.{has_in, in_has}
+use Rattle.slot_lock.proofs.Words.{◌≡◌, ℕ, ◌+◌, Bool, true, false, not, is_some, Option, Some, None, refl, sym, subst, ap, ◌∙◌, arith, PageInfo, PageRange}
+use Rattle.slot_lock.proofs.Words.{Prot, ENOMEM, EACCES, HasPage, is_absent, is_read_only, members, has, is_recorded, Entry, File, has_in, in_has}
 use Rattle.slot_lock.specs.declared.plan.Change.{Change}
 use Rattle.slot_lock.specs.declared.plan.Change.TheVariants.{Put, Clear, Protect}
 use Rattle.slot_lock.specs.Plan.{range_of}

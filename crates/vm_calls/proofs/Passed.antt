@@ -1,30 +1,19 @@
 -- Plans that passed the check of their arguments
-use Rattle.std.proofs.Common.{◌≡◌, ℕ, ◌+◌, ◌-◌, ◌/◌, ◌^◌, ◌<◌, ◌≤◌, ◌==◌, ◌&&◌, ◌||◌, nat_lt, not, Bool}
-use Rattle.std.proofs.Common.{true, false, Option, Some, None, Result, Ok, Err, refl, ap, subst, arith}
-use Rattle.std.specs.Prelude.{if◌then◌else◌}
-use Rattle.std.proofs.lemmas.Bool.Decides.{nat_tests}
+use Rattle.slot_lock.proofs.Words.{◌≡◌, ℕ, ◌+◌, ◌-◌, ◌/◌, ◌^◌, ◌<◌, ◌≤◌, ◌==◌, ◌||◌, nat_lt, not, Bool, true, false, Option, Some, None, Result, Ok, Err}
+use Rattle.slot_lock.proofs.Words.{refl, ap, subst, arith, if◌then◌else◌, nat_tests, Meta, Flags, Request, Mmap, Munmap, Mprotect, Access, Load, Store, Fetch}
+use Rattle.slot_lock.proofs.Words.{Mode, Prot, ENOMEM, Reply, Segv, Done, MapErr, file_page, IsPageRange, is_page, are_pages, page_of, page_count, pages_of}
+use Rattle.slot_lock.proofs.Words.{pages_from, refusal, meta_of}
+use Rattle.std.proofs.Common.{◌&&◌}
 use Rattle.vm_base.specs.declared.info.Back.TheVariants as BackOf
-use Rattle.vm_base.specs.declared.info.Meta.{Meta}
-use Rattle.vm_base.specs.declared.requests.Flags.{Flags}
-use Rattle.vm_base.specs.declared.requests.Request.{Request}
-use Rattle.vm_base.specs.declared.requests.Request.TheVariants.{Mmap, Munmap, Mprotect}
 use Rattle.vm_base.specs.declared.requests.Request.TheVariants.{Load as LoadOf, Store as StoreOf, Fetch as FetchOf}
-use Rattle.vm_base.specs.declared.rights.Access.{Access}
-use Rattle.vm_base.specs.declared.rights.Access.TheVariants.{Load, Store, Fetch}
-use Rattle.vm_base.specs.declared.rights.Mode.{Mode}
-use Rattle.vm_base.specs.declared.rights.Prot.{Prot}
-use Rattle.vm_base.specs.declared.replies.Errno.TheVariants.{EINVAL, ENOMEM, EOVERFLOW}
-use Rattle.vm_base.specs.declared.replies.Reply.{Reply}
-use Rattle.vm_base.specs.declared.replies.Reply.TheVariants.{Segv, Done}
-use Rattle.vm_base.specs.declared.replies.SegvCode.TheVariants.{MapErr}
-use Rattle.vm_base.specs.Info.{file_page}
-use Rattle.vm_base.specs.Pages.{IsPageRange, is_page, are_pages, is_aligned, page_of, page_count, pages_of, pages_from}
-use Rattle.vm_base.specs.Refusals.{answer, refusal, is_one_kind, mmap_refusal, munmap_refusal, mprotect_refusal, file_refusal}
-use Rattle.vm_base.specs.Apply.{meta_of, back_at}
+use Rattle.vm_base.specs.declared.replies.Errno.TheVariants.{EINVAL, EOVERFLOW}
+use Rattle.vm_base.specs.Pages.{is_aligned}
+use Rattle.vm_base.specs.Refusals.{answer, is_one_kind, mmap_refusal, munmap_refusal, mprotect_refusal, file_refusal}
+use Rattle.vm_base.specs.Apply.{back_at}
 use Rattle.slot_lock.specs.declared.plan.Change.TheVariants.{Put, Clear, Protect}
 use Rattle.slot_lock.specs.declared.plan.Plan.{Plan}
 use Rattle.slot_lock.specs.declared.plan.Plan.TheVariants as PlanOf
-use Rattle.slot_lock.specs.Plan.{IsSound, IsSoundPut, IsSoundPlace, IsSoundHint}
+use Rattle.slot_lock.specs.Plan.{IsSoundPlan, IsSoundPut, IsSoundPlace, IsSoundHint}
 use Rattle.vm_calls.specs.Checks.{checked, plan_of, unless_refused, touched, touch_of, placed_count, place_of}
 
 -- the arguments weren't refused, and make a plan
@@ -157,7 +146,7 @@ place-sound core addr len prot flags file off few h = record {
 
 mmap-sound : (core addr len : ℕ) (prot : Prot) (flags : Flags) (file off : ℕ) (plan : Plan)
     → core < 64 → Mappable addr len flags off
-    → plan_of core (Mmap addr len prot flags file off) ≡ Ok plan → IsSound plan
+    → plan_of core (Mmap addr len prot flags file off) ≡ Ok plan → IsSoundPlan plan
 mmap-sound core addr len prot flags file off plan few h is = go flags.fixed refl is
   where
     meta : Meta
@@ -167,13 +156,13 @@ mmap-sound core addr len prot flags file off plan few h is = go flags.fixed refl
         → ◌≡◌ {A = Result Plan Reply}
         (if b then Ok (PlanOf.Change (Put (pages_of addr len) meta)) else Ok (PlanOf.Place (place_of core addr len meta)))
         (Ok plan)
-        → IsSound plan
+        → IsSoundPlan plan
     go true e is =
         let same : PlanOf.Change (Put (pages_of addr len) meta) ≡ plan = cc in
-        subst IsSound same (change-sound addr len prot flags file off h e)
+        subst IsSoundPlan same (change-sound addr len prot flags file off h e)
     go false e is =
         let same : PlanOf.Place (place_of core addr len meta) ≡ plan = cc in
-        subst IsSound same (place-sound core addr len prot flags file off few h)
+        subst IsSoundPlan same (place-sound core addr len prot flags file off few h)
 
 -- ---- munmap and mprotect
 
@@ -205,30 +194,30 @@ touch-of addr byte access plan is = go (is_page (page_of addr)) refl is
     go true e is = (e, cc)
     go false e is = absurd cc
 
-touch-sound : (addr byte : ℕ) (access : Access) (plan : Plan) → touched addr access byte ≡ Ok plan → IsSound plan
+touch-sound : (addr byte : ℕ) (access : Access) (plan : Plan) → touched addr access byte ≡ Ok plan → IsSoundPlan plan
 touch-sound addr byte access plan is =
     let z = touch-of addr byte access plan is in
     let valid : is_page (page_of addr) ≡ true = z.0 in
-    subst IsSound z.1 (record { page = (grind (arith, nat_tests), grind (arith, nat_tests)); offset = omega arith })
+    subst IsSoundPlan z.1 (record { page = (grind (arith, nat_tests), grind (arith, nat_tests)); offset = omega arith })
 
 -- ---- every request
 
 plan-sound : (modes : ℕ → Option Mode) (core : ℕ) (request : Request) (plan : Plan) → core < 64
-    → refusal modes request ≡ None → plan_of core request ≡ Ok plan → IsSound plan
+    → refusal modes request ≡ None → plan_of core request ≡ Ok plan → IsSoundPlan plan
 plan-sound modes core (Mmap addr len prot flags file off) plan few ok is =
     mmap-sound core addr len prot flags file off plan few (mappable modes addr len prot flags file off ok) is
 plan-sound modes core (Munmap addr len) plan few ok is =
     let same : PlanOf.Change (Clear (pages_of addr len)) ≡ plan = cc in
-    subst IsSound same (clear-sound addr len ok)
+    subst IsSoundPlan same (clear-sound addr len ok)
 plan-sound modes core (Mprotect addr len prot) plan few ok is =
     let same : PlanOf.Change (Protect (pages_of addr len) prot) ≡ plan = cc in
-    subst IsSound same (protect-sound addr len ok)
+    subst IsSoundPlan same (protect-sound addr len ok)
 plan-sound modes core (LoadOf addr) plan few ok is = touch-sound addr 0 Load plan is
 plan-sound modes core (StoreOf addr byte) plan few ok is = touch-sound addr byte Store plan is
 plan-sound modes core (FetchOf addr) plan few ok is = touch-sound addr 0 Fetch plan is
 
 pub checked_is_sound : (modes : ℕ → Option Mode) (core : ℕ) (request : Request) (plan : Plan)
-    → core < 64 → checked modes core request ≡ Ok plan → IsSound plan
+    → core < 64 → checked modes core request ≡ Ok plan → IsSoundPlan plan
 checked_is_sound modes core request plan few is =
     let z = passed (refusal modes request) (plan_of core request) plan is in
     plan-sound modes core request plan few z.0 z.1

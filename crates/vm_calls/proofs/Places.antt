@@ -1,10 +1,6 @@
 -- Two maps with the same mapped pages in a range have the same rooms there
-use Rattle.std.proofs.Common.{◌≡◌, ℕ, ◌+◌, ◌<◌, ◌≤◌, Bool, true, Option, Some, None, sym, ◌∙◌, arith}
-use Rattle.vm_base.specs.declared.page.PageRange.{PageRange}
-use Rattle.vm_base.specs.Functions.{has}
-use Rattle.vm_base.specs.Pages.{pages_from}
-use Rattle.vm_base.specs.Places.{IsFree, IsRoom, IsLeastRoom}
-use Rattle.vm_base.proofs.Functions.{has_in, in_has}
+use Rattle.slot_lock.proofs.Words.{◌≡◌, ℕ, ◌+◌, ◌<◌, ◌≤◌, Bool, true, Option, Some, None, sym, ◌∙◌, arith, PageRange, has, pages_from, IsFree, IsRoom}
+use Rattle.slot_lock.proofs.Words.{IsLeastRoom, has_in, in_has}
 
 -- the same pages of the range are mapped
 abbrev pub Alike : (ℕ → Bool) → (ℕ → Bool) → PageRange → Type 0

@@ -1,34 +1,15 @@
 -- Decisions over slots are the plain page map's answers
-use Rattle.std.proofs.Common.{◌≡◌, ℕ, ◌+◌, ◌*◌, ◌^◌, ◌<◌, ◌≤◌, not, Bool, true, false, Option, Some, None, Result, Ok, is_some, refl, sym}
-use Rattle.std.proofs.Common.{◌∙◌, ap, subst, arith}
-use Rattle.std.specs.Prelude.{if◌then◌else◌}
-use Rattle.std.proofs.Math.Path.{fun_ext}
-use Rattle.std.proofs.lemmas.Bool.Decides.{nat_tests}
-use Rattle.vm_base.specs.declared.page.PageRange.{PageRange}
-use Rattle.vm_base.specs.declared.info.Back.{Back}
-use Rattle.vm_base.specs.declared.info.Back.TheVariants.{Anon, Shared, Private}
-use Rattle.vm_base.specs.declared.info.Meta.{Meta}
-use Rattle.vm_base.specs.declared.info.PageInfo.{PageInfo}
-use Rattle.vm_base.specs.declared.requests.Flags.{Flags}
-use Rattle.vm_base.specs.declared.requests.Request.{Request}
-use Rattle.vm_base.specs.declared.requests.Request.TheVariants.{Mmap, Munmap, Mprotect}
+use Rattle.slot_lock.proofs.Words.{◌≡◌, ℕ, ◌+◌, ◌*◌, ◌^◌, ◌<◌, ◌≤◌, not, Bool, true, false, Option, Some, None, Result, Ok, is_some, refl, sym, ◌∙◌, ap}
+use Rattle.slot_lock.proofs.Words.{subst, arith, if◌then◌else◌, fun_ext, nat_tests, PageRange, Back, Anon, Shared, Private, Meta, PageInfo, Flags, Request}
+use Rattle.slot_lock.proofs.Words.{Mmap, Munmap, Mprotect, Mode, Prot, Access, Load, Store, Fetch, ENOMEM, EACCES, Reply, Mapped, Done, Refused, has}
+use Rattle.slot_lock.proofs.Words.{are_pages, page_of, page_count, pages_of, pages_from, window_of, File, Entry, Plain, mode_of, is_mapped, refusal, IsFree}
+use Rattle.slot_lock.proofs.Words.{IsRoom, IsLeastRoom, meta_of, AppliesAfter, HasPage, is_absent, is_read_only, Applies}
 use Rattle.vm_base.specs.declared.requests.Request.TheVariants.{Load as LoadOf, Store as StoreOf, Fetch as FetchOf}
-use Rattle.vm_base.specs.declared.rights.Mode.{Mode}
-use Rattle.vm_base.specs.declared.rights.Prot.{Prot}
-use Rattle.vm_base.specs.declared.rights.Access.{Access}
-use Rattle.vm_base.specs.declared.rights.Access.TheVariants.{Load, Store, Fetch}
-use Rattle.vm_base.specs.declared.replies.Errno.TheVariants.{ENOMEM, EACCES}
-use Rattle.vm_base.specs.declared.replies.Reply.{Reply}
-use Rattle.vm_base.specs.declared.replies.Reply.TheVariants.{Mapped, Done, Refused}
 use Rattle.vm_base.specs.Rights.{can_write}
-use Rattle.vm_base.specs.Functions.{has}
-use Rattle.vm_base.specs.Pages.{are_pages, page_of, page_count, pages_of, pages_from, window_of}
-use Rattle.vm_base.specs.Plain.{File, Entry, Plain, mode_of, is_mapped}
-use Rattle.vm_base.specs.Refusals.{refusal}
-use Rattle.vm_base.specs.Places.{IsFree, IsRoom, IsLeastRoom, IsPlace}
+use Rattle.vm_base.specs.Places.{IsPlace}
 use Rattle.vm_base.specs.Runs.{LiesIn}
 use Rattle.vm_base.specs.Places.IsPlace.{at_hint, in_window, nowhere}
-use Rattle.vm_base.specs.Apply.{meta_of, Applies, AppliesAfter, Performs, Protects, MapsAt, HasPage, is_absent, is_read_only}
+use Rattle.vm_base.specs.Apply.{Performs, Protects, MapsAt}
 use Rattle.vm_base.specs.Apply.{is_read_only_back, forbids_write, after_mapping, after_unmapping, after_protecting}
 use Rattle.vm_base.specs.Apply.Protects.{no_page, no_write, done}
 use Rattle.slot_lock.specs.declared.plan.Change.{Change}
@@ -107,7 +88,7 @@ performed t core request y u None e p = p
 performed t core request y u (Some r) e p = absurd cc
 
 applied : (t : Plain) (core : ℕ) (request : Request) (y : Reply) (u : Plain) → refusal (λ n. mode_of (t.file n)) request ≡ None
-    → Performs IsPlace t core request y u → Applies t core request y u
+    → Performs IsPlace t core request y u → Applies IsPlace t core request y u
 applied t core request y u ok p = performed t core request y u (refusal (λ n. mode_of (t.file n)) request) ok p
 
 -- ---- mprotect

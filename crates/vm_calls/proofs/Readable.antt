@@ -1,9 +1,5 @@
 -- Every slot map can be read at the pages of a goal
-use Rattle.std.proofs.Common.{◌≡◌, ℕ, ◌<◌, ◌≤◌, true, arith}
-use Rattle.vm_base.specs.declared.page.PageRange.{PageRange}
-use Rattle.vm_base.specs.Functions.{has}
-use Rattle.vm_base.specs.Pages.{IsPage, IsPageRange}
-use Rattle.vm_base.proofs.Functions.{has_in}
+use Rattle.slot_lock.proofs.Words.{◌≡◌, ℕ, ◌<◌, ◌≤◌, true, arith, PageRange, has, IsPage, IsPageRange, has_in}
 use Rattle.slot_lock.specs.declared.plan.Goal.{Goal}
 use Rattle.slot_lock.specs.Plan.{IsSoundGoal, goal_range}
 use Rattle.slot_lock.specs.Slots.{Slots, IsSlotMap}

@@ -1,13 +1,7 @@
 -- Free runs of slots are the rooms of the plain map
-use Rattle.std.proofs.Common.{◌≡◌, ℕ, ◌+◌, ◌-◌, ◌<◌, ◌≤◌, ◌⊎◌, inl, inr, true, false, Option, Some, None, is_some, refl, ap, arith}
-use Rattle.std.specs.Prelude.{IfSome, IfNone}
-use Rattle.vm_base.specs.declared.page.PageRange.{PageRange}
-use Rattle.vm_base.specs.declared.info.PageInfo.{PageInfo}
-use Rattle.vm_base.specs.Functions.{has}
-use Rattle.vm_base.specs.Pages.{pages_from}
-use Rattle.vm_base.specs.Plain.{is_mapped}
-use Rattle.vm_base.specs.Places.{IsFree, IsRoom, IsLeastRoom}
-use Rattle.vm_base.proofs.Functions.{has_in, in_has}
+use Rattle.slot_lock.proofs.Words.{◌≡◌, ℕ, ◌+◌, ◌-◌, ◌<◌, ◌≤◌, ◌⊎◌, inl, inr, true, false, Option, Some, None, is_some, refl, ap, arith, IfSome, PageRange}
+use Rattle.slot_lock.proofs.Words.{PageInfo, has, pages_from, is_mapped, IsFree, IsRoom, IsLeastRoom, has_in, in_has}
+use Rattle.std.specs.Prelude.{IfNone}
 use Rattle.slot_lock.specs.Slots.{Slots, IsFreeRun}
 use Rattle.vm_calls.specs.Decisions.{HasMapped, entries, entry_of}
 use Rattle.vm_calls.proofs.Seeking.{seek}

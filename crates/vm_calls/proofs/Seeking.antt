@@ -1,11 +1,6 @@
 -- Whether some page of a range passes a test is found by going through it
-use Rattle.std.proofs.Common.{◌≡◌, ℕ, zero, suc, ◌+◌, ◌-◌, ◌<◌, ◌≤◌, ◌⊎◌, inl, inr, Bool, true, false, Option, refl, arith}
-use Rattle.std.proofs.lemmas.Bool.{cases_lt}
-use Rattle.vm_base.specs.declared.page.PageRange.{PageRange}
-use Rattle.vm_base.specs.Functions.{has}
-use Rattle.vm_base.specs.Plain.{Entry}
-use Rattle.vm_base.specs.Apply.{HasPage}
-use Rattle.vm_base.proofs.Functions.{has_in, in_has}
+use Rattle.slot_lock.proofs.Words.{◌≡◌, ℕ, zero, suc, ◌+◌, ◌-◌, ◌<◌, ◌≤◌, ◌⊎◌, inl, inr, Bool, true, false, Option, refl, arith, cases_lt, PageRange, has}
+use Rattle.slot_lock.proofs.Words.{Entry, HasPage, has_in, in_has}
 
 abbrev Found : (ℕ → Bool) → ℕ → ℕ → Type 0
 Found test first n = (p : ℕ) × (first ≤ p) × (p < first + n) × (test p ≡ true)

@@ -1,15 +1,8 @@
 -- Steps from slot to slot, with one page of each looked at
-use Rattle.std.proofs.Common.{◌≡◌, ℕ, zero, suc, ◌+◌, ◌-◌, ◌<◌, ◌≤◌, ◌⊎◌, inl, inr, true, false, Option, Some, None, refl, ◌∙◌, ap, arith}
-use Rattle.std.proofs.lemmas.Bool.{cases_lt}
-use Rattle.vm_base.specs.declared.page.PageRange.{PageRange}
-use Rattle.vm_base.specs.declared.info.Back.{Back}
-use Rattle.vm_base.specs.declared.info.Back.TheVariants.{Anon, Shared, Private}
-use Rattle.vm_base.specs.declared.info.PageInfo.{PageInfo}
-use Rattle.vm_base.specs.Functions.{has}
-use Rattle.vm_base.specs.Info.{info_from, advance_back}
-use Rattle.vm_base.specs.Plain.{File}
-use Rattle.vm_base.specs.Apply.{is_read_only, is_read_only_back, HasPage}
-use Rattle.vm_base.proofs.Functions.{has_in, in_has}
+use Rattle.slot_lock.proofs.Words.{◌≡◌, ℕ, zero, suc, ◌+◌, ◌-◌, ◌<◌, ◌≤◌, ◌⊎◌, inl, inr, true, false, Option, Some, None, refl, ◌∙◌, ap, arith, cases_lt}
+use Rattle.slot_lock.proofs.Words.{PageRange, Back, Anon, Shared, Private, PageInfo, has, info_from, advance_back, File, is_read_only, HasPage, has_in}
+use Rattle.slot_lock.proofs.Words.{in_has}
+use Rattle.vm_base.specs.Apply.{is_read_only_back}
 use Rattle.slot_lock.specs.Slots.{Slots, IsSlot}
 use Rattle.vm_calls.specs.Decisions.{IsReadable, entries, entry_of}
 

@@ -1,7 +1,5 @@
 -- Goals whose target is of their mapping: their pages are valid, and so is what they act on
-use Rattle.std.proofs.Common.{◌≡◌, ◌+◌, ◌≤◌, Option, Some, None, refl, sym, subst, arith}
-use Rattle.vm_base.specs.declared.page.PageRange.{PageRange}
-use Rattle.vm_base.specs.Pages.{IsPageRange, pages_from}
+use Rattle.slot_lock.proofs.Words.{◌≡◌, ◌+◌, ◌≤◌, Option, Some, None, refl, sym, subst, arith, PageRange, IsPageRange, pages_from}
 use Rattle.slot_lock.specs.declared.plan.Change.TheVariants.{Put, Clear, Protect}
 use Rattle.slot_lock.specs.declared.plan.Place.{Place}
 use Rattle.slot_lock.specs.declared.plan.Target.{Target}

@@ -8,19 +8,20 @@ use Rattle.vm_base.specs.declared.replies.Reply.TheVariants.{Mapped, Done, Refus
 use Rattle.vm_base.specs.declared.rights.Mode.{Mode}
 use Rattle.vm_base.specs.Functions.{has}
 use Rattle.vm_base.specs.Plain.{File, Entry, Plain, mode_of}
-use Rattle.vm_base.specs.Apply.{Applies, after_mapping, after_unmapping, after_protecting, entry_reply, stored_entry}
+use Rattle.vm_base.specs.Apply.{after_mapping, after_unmapping, after_protecting, entry_reply, stored_entry, Applies}
 use Rattle.slot_lock.specs.declared.plan.Change.TheVariants.{Put, Clear, Protect}
 use Rattle.slot_lock.specs.declared.plan.Touch.{Touch}
 use Rattle.slot_lock.specs.declared.plan.Plan.{Plan}
 use Rattle.slot_lock.specs.declared.plan.Plan.TheVariants as PlanOf
 use Rattle.slot_lock.specs.declared.plan.Goal.{Goal}
 use Rattle.slot_lock.specs.declared.plan.Goal.TheVariants as To
-use Rattle.slot_lock.specs.Plan.{IsSound, HasTarget, goal_range, goal_plan}
+use Rattle.slot_lock.specs.Plan.{IsSoundPlan, HasTarget, goal_range, goal_plan}
 use Rattle.slot_lock.specs.Slots.{Slots}
 use Rattle.vm_calls.specs.declared.decision.Decision.{Decision}
 use Rattle.vm_calls.specs.declared.decision.Decision.TheVariants.{Refuse, Act, Again}
 use Rattle.vm_calls.specs.Checks.{checked, HasModes}
 use Rattle.vm_calls.specs.Decisions.{Decides, HasMapped, IsNoAccess, AreAlike}
+use Rattle.vm_base.specs.Places.{IsPlace}
 
 -- the plain map has the page as the slot shows it: backed and protected alike, with whatever own
 -- bytes
@@ -55,9 +56,9 @@ left_by t (To.Access touch) range = t
 -- The decision is the plain map's answer to the request; a call that looks elsewhere has none yet,
 -- and some page of its target is mapped.
 abbrev pub IsPlain : Plain → ℕ → Request → Goal → Decision → Type 0
-IsPlain t core request goal (Refuse e) = Applies t core request (Refused e) t
+IsPlain t core request goal (Refuse e) = Applies IsPlace t core request (Refused e) t
 IsPlain t core request goal (Act range shoot) =
-    Applies t core request (answer_to goal range) (left_by t goal range)
+    Applies IsPlace t core request (answer_to goal range) (left_by t goal range)
 IsPlain t core request goal Again = HasMapped t.entry (goal_range goal)
 
 abbrev pub DecisionsArePlain : Type 0
@@ -81,14 +82,14 @@ DecisionsLookAtFootprints =
 abbrev pub CheckedPlansAreSound : Type 0
 CheckedPlansAreSound =
     (modes : ℕ → Option Mode) (core : ℕ) (request : Request) (plan : Plan)
-    → core < 64 → checked modes core request ≡ Ok plan → IsSound plan
+    → core < 64 → checked modes core request ≡ Ok plan → IsSoundPlan plan
 
 -- what the check answers is the plain map's answer, which it leaves as it is
 abbrev pub RefusalsArePlain : Type 0
 RefusalsArePlain =
     (t : Plain) (files : ℕ → Option File) (core : ℕ) (request : Request) (reply : Reply)
     → HasModes t files → checked (λ n. mode_of (files n)) core request ≡ Err reply
-    → Applies t core request reply t
+    → Applies IsPlace t core request reply t
 
 -- ---- accesses
 
@@ -108,4 +109,4 @@ abbrev pub AccessesArePlain : Type 0
 AccessesArePlain =
     (t : Plain) (modes : ℕ → Option Mode) (core : ℕ) (request : Request) (touch : Touch)
     → checked modes core request ≡ Ok (PlanOf.Touch touch)
-    → (y : Reply) (u : Plain) → Applies t core request y u ↔ EntryAnswers t touch y u
+    → (y : Reply) (u : Plain) → Applies IsPlace t core request y u ↔ EntryAnswers t touch y u

@@ -1,10 +1,11 @@
-//! The check of a request's arguments.
+//! The check of a request's arguments: it is refused at once, or becomes the plan of its call.
 ghost use Rattle.std.specs.Prelude.{◌≡◌, ◌≤◌, ◌^◌, IfOk, IfErr, false, true, is_some};
 ghost use Rattle.vm_base.specs.Pages.{page_of};
 ghost use Rattle.vm_base.specs.Plain.{Plain, mode_of};
 ghost use Rattle.vm_base.specs.Refusals.{refusal};
 ghost use Rattle.vm_base.specs.Apply.{Applies, back_at};
-ghost use Rattle.slot_lock.specs.Plan.{IsSound};
+ghost use Rattle.vm_base.specs.Places.{IsPlace};
+ghost use Rattle.slot_lock.specs.Plan.{IsSoundPlan};
 ghost use Rattle.backing.specs.Files.{files_of};
 ghost use Rattle.vm_calls.specs.Checks.{checked, HasModes, placed_count, hint_at, place_of, touched};
 
@@ -101,9 +102,9 @@ pub fn check<A: Allocator>(
     request: Request,
 ) -> Result<Plan, Reply>
     ensures value { result ≡ checked (λ file. mode_of (files_of objects.now file)) core request }
-    ensures sound { IfOk result (λ plan. IsSound plan) }
+    ensures sound { IfOk result (λ plan. IsSoundPlan plan) }
     ensures plain { IfErr result (λ reply. (t : Plain) → HasModes t (files_of objects.now)
-        → Applies t core request reply t) }
+        → Applies IsPlace t core request reply t) }
 {
     if let Some(reply) = refused(objects, request) {
         return Err(reply);

@@ -1,4 +1,4 @@
-//! The decision of a call that holds its pages.
+//! The decision of a call that holds its pages: its plan is refused, or changes a range.
 ghost use Rattle.std.specs.Prelude.{◌≡◌, ℕ, ◌+◌, ◌^◌, ◌<◌, ◌≤◌, ◌↔◌, IsTrue, IfErr, IfOk, true, Option};
 ghost use Rattle.vm_base.specs.Functions.{has};
 ghost use Rattle.vm_base.specs.Pages.{IsPageRange};

@@ -1,4 +1,4 @@
-//! What an access finds at its page.
+//! What an access finds at its page: a fault, a frame, or where its frame is to come from.
 ghost use Rattle.std.specs.Prelude.{◌≡◌, ℕ, Option};
 ghost use Rattle.vm_base.specs.Plain.{File, Entry};
 ghost use Rattle.vm_base.specs.Apply.{entry_reply, is_anonymous};

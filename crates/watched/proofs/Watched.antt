@@ -1,13 +1,8 @@
 -- Runs that are watched, one after another and step by step
-use Rattle.std.proofs.Common.{◌≡◌, ◌≢◌, ℕ, zero, suc, ◌+◌, ◌<◌, List, [], ◌∷◌, ◌++◌, refl, sym, ap, subst, add-one, Bool}
+use Rattle.machine_laws.proofs.Words.{◌≡◌, ◌≢◌, ℕ, zero, suc, ◌+◌, ◌<◌, List, [], ◌∷◌, ◌++◌, refl, sym, ap, subst, Bool, Request, Event, Call, Go, Outcome}
+use Rattle.machine_laws.proofs.Words.{Stepped, Wait, Idle, Answered, Full, World, Step, StepsTo}
+use Rattle.std.proofs.Common.{add-one}
 use Rattle.std.specs.Prelude.{replicate}
-use Rattle.vm_base.specs.declared.requests.Request.{Request}
-use Rattle.machine_model.specs.declared.event.Event.{Event}
-use Rattle.machine_model.specs.declared.event.Event.TheVariants.{Call, Go}
-use Rattle.machine_model.specs.declared.event.Outcome.{Outcome}
-use Rattle.machine_model.specs.declared.event.Outcome.TheVariants.{Stepped, Wait, Idle, Answered, Full}
-use Rattle.machine_model.specs.World.{World}
-use Rattle.machine_model.specs.Step.{Step, StepsTo}
 use Rattle.core_steps.specs.declared.machine.Finished.{Finished}
 use Rattle.core_steps.specs.declared.machine.Finished.TheVariants.{Last, Stuck}
 use Rattle.core_steps.specs.Finishing.{Calls, Finishes, FinishesAfter, IsCallRefused, IsRefused, finish_limit}

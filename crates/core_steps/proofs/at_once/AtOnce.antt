@@ -1,44 +1,25 @@
 -- Steps of a call one after another, between which its core's phase isn't written: in general, those that lock or let go slots one after
 -- another, and those at pages that are one slot
-use Rattle.std.proofs.Common.{◌≡◌, ℕ, zero, suc, ◌+◌, ◌<◌, ◌≤◌, ◌==◌, nat_le, nat_lt, Bool, true, false, cond, Option, Some, None, [], ◌∷◌, ◌++◌}
-use Rattle.std.proofs.Common.{refl, sym, subst, ap, ◌∙◌, arith, add-one}
-use Rattle.std.specs.Prelude.{◌≢◌, if◌then◌else◌}
-use Rattle.std.proofs.lemmas.Bool.Decides.{nat_tests}
-use Rattle.vm_base.specs.declared.requests.Request.{Request}
-use Rattle.vm_base.proofs.Functions.{put_same, has_in, in_has}
-use Rattle.machine_model.specs.declared.event.Event.{Event}
-use Rattle.machine_model.specs.declared.event.Event.TheVariants.{Call, Go}
-use Rattle.machine_model.specs.declared.event.Outcome.TheVariants.{Stepped}
+use Rattle.machine_laws.proofs.Words.{◌≡◌, ℕ, zero, suc, ◌+◌, ◌<◌, ◌≤◌, ◌==◌, Bool, true, false, cond, Option, Some, None, [], ◌∷◌, ◌++◌, refl, sym, subst}
+use Rattle.machine_laws.proofs.Words.{ap, ◌∙◌, arith, if◌then◌else◌, nat_tests, Request, put_same, has_in, in_has, Event, Call, Go, Stepped, Outcome, core_of}
+use Rattle.machine_laws.proofs.Words.{Phase, to, after_reply, let_go, World, Memory, Acts, Goes, Step, event_limit, is_here, with_event, StepsTo, fun_ext}
+use Rattle.machine_laws.proofs.Words.{PageInfo, PageRange, Reply, has, Goal, Touch, Locked, goal_range, IsSlot, Slots, Unlocks, between, with_owner, Locks}
+use Rattle.machine_laws.proofs.Words.{Answer, Lock, Release, Try, Unlock, page_of_touch, all_locked, locking, held_after, locked_to}
+use Rattle.std.proofs.Common.{nat_le, nat_lt}
+use Rattle.std.proofs.Common.{add-one}
+use Rattle.std.specs.Prelude.{◌≢◌}
 use Rattle.machine_sound.specs.Sound.{IsReached}
 use Rattle.core_steps.specs.declared.machine.Finished.TheVariants.{Last}
 use Rattle.core_steps.specs.Finishing.{Calls}
-use Rattle.machine_model.specs.declared.event.Outcome.{Outcome}
-use Rattle.machine_model.specs.Events.{core_of}
-use Rattle.machine_model.specs.declared.phase.Phase.{Phase}
-use Rattle.machine_model.specs.Actions.{to, after_reply, let_go}
-use Rattle.machine_model.specs.World.{World, Memory}
-use Rattle.machine_model.specs.Step.{Acts, Goes, Step, event_limit, is_here, with_event, StepsTo}
 use Rattle.core_steps.specs.Moving.{IsAt}
 use Rattle.core_steps.specs.OnePage.{Passes, later, logged_later}
 use Rattle.core_steps.proofs.engine.Each.{put_id, put_twice}
 use Rattle.core_steps.proofs.Reached.{steps_join, steps_reached, well}
 use Rattle.core_steps.proofs.rows.Known.{is_at, is_left}
 use Rattle.core_steps.proofs.rows.Rows.{if_true}
-use Rattle.std.proofs.Math.Path.{fun_ext}
 use Rattle.vm_base.specs.declared.log.Entry.TheVariants as EntryOf
-use Rattle.vm_base.specs.declared.info.PageInfo.{PageInfo}
-use Rattle.vm_base.specs.declared.page.PageRange.{PageRange}
-use Rattle.vm_base.specs.declared.replies.Reply.{Reply}
-use Rattle.vm_base.specs.Functions.{has}
 use Rattle.vm_base.specs.Runs.{NoneIn}
-use Rattle.slot_lock.specs.declared.plan.Goal.{Goal}
-use Rattle.slot_lock.specs.declared.plan.Touch.{Touch}
-use Rattle.slot_lock.specs.declared.slot_map.Got.TheVariants.{Locked}
-use Rattle.slot_lock.specs.Plan.{goal_range}
-use Rattle.slot_lock.specs.Slots.{IsFreeSlot, IsSlot, Slots, Unlocks, between, with_owner, Locks}
-use Rattle.machine_model.specs.declared.phase.Phase.TheVariants.{Answer, Lock, Release, Try, Unlock}
-use Rattle.machine_model.specs.Holding.{page_of_touch}
-use Rattle.machine_model.specs.Locks.{all_locked, locking, held_after, locked_to}
+use Rattle.slot_lock.specs.Slots.{IsFreeSlot}
 use Rattle.slot_lock.specs.SlotRuns.{OneByOne}
 use Rattle.core_steps.proofs.rows.Changing.{unlock_range}
 

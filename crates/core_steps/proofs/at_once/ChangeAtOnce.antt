@@ -1,38 +1,15 @@
 -- The steps of a change of one page, made at once: the states that they pass, and the one that is left
-use Rattle.std.proofs.Common.{◌≡◌, ℕ, ◌+◌, ◌-◌, ◌≤◌, [], ◌∷◌, true, false, Bool, List, Option, Some, None, inl, refl, sym}
-use Rattle.std.proofs.Common.{subst, ap, ◌∙◌, arith}
-use Rattle.std.specs.Prelude.{IfSome}
-use Rattle.std.proofs.Math.Logic.{∥∥₁_elim}
-use Rattle.std.proofs.Props.{props}
-use Rattle.vm_base.specs.declared.page.PageRange.{PageRange}
-use Rattle.vm_base.specs.declared.replies.Errno.{Errno}
-use Rattle.vm_base.specs.declared.replies.Reply.{Reply}
-use Rattle.vm_base.specs.declared.replies.Reply.TheVariants.{Refused}
-use Rattle.vm_base.specs.Cores.{members}
-use Rattle.vm_base.specs.Functions.{has, put}
-use Rattle.vm_base.specs.Info.{frame_of, is_recorded}
-use Rattle.vm_base.proofs.CoreSets.{members-empty}
-use Rattle.slot_lock.specs.declared.plan.Change.{Change}
-use Rattle.slot_lock.specs.declared.plan.Change.TheVariants.{Put}
+use Rattle.machine_laws.proofs.Words.{◌≡◌, ℕ, ◌+◌, ◌-◌, ◌≤◌, [], ◌∷◌, true, false, Bool, List, Option, Some, None, inl, refl, sym, subst, ap, ◌∙◌, arith}
+use Rattle.machine_laws.proofs.Words.{IfSome, ∥∥₁_elim, props, PageRange, Errno, Reply, Refused, members, has, put, frame_of, is_recorded, members-empty}
+use Rattle.machine_laws.proofs.Words.{Change, Put, range_of, Slots, Decision, Act, Refuse, Counts, Translation, TlbEntry, Acks, Decide, Lock, Post, Hardware}
+use Rattle.machine_laws.proofs.Words.{World, after_reply, to, AwaitsNobody, reply_to, slots_after, frame_lost, locking, StepsTo, event_limit, with_event}
+use Rattle.machine_laws.proofs.Words.{after_shot, with_hardware}
 use Rattle.slot_lock.specs.declared.plan.Goal.TheVariants as To
 use Rattle.slot_lock.specs.declared.slot_map.FreePage.{FreePage}
-use Rattle.slot_lock.specs.Plan.{range_of}
-use Rattle.slot_lock.specs.Slots.{IsFreePage, Slots}
-use Rattle.vm_calls.specs.declared.decision.Decision.{Decision}
-use Rattle.vm_calls.specs.declared.decision.Decision.TheVariants.{Act, Refuse}
+use Rattle.slot_lock.specs.Slots.{IsFreePage}
 use Rattle.vm_calls.specs.Decisions.{DecidesPage}
-use Rattle.refcache.specs.Counts.{Counts}
-use Rattle.mmu.specs.declared.entry.Translation.{Translation}
-use Rattle.mmu.specs.declared.tlb.TlbEntry.{TlbEntry}
-use Rattle.machine_model.specs.declared.phase.Phase.TheVariants.{Acks, Decide, Lock, Post}
-use Rattle.machine_model.specs.World.{Hardware, World}
-use Rattle.machine_model.specs.Actions.{after_reply, to}
-use Rattle.machine_model.specs.Changes.{AwaitsNobody, reply_to, slots_after}
-use Rattle.machine_model.specs.Counting.{CountsDown, frame_lost}
-use Rattle.machine_model.specs.Locks.{locking}
-use Rattle.machine_model.specs.Step.{StepsTo, event_limit, with_event}
-use Rattle.machine_model.specs.Translating.{after_shot, with_hardware}
-use Rattle.machine_coherence.specs.Coherent.{Every, HasDropped, IsSoundEntry}
+use Rattle.machine_model.specs.Counting.{CountsDown}
+use Rattle.machine_invariants.specs.Coherent.{Every, HasDropped, IsSoundEntry}
 use Rattle.machine_sound.specs.Invariant.{IsWellFormed}
 use Rattle.core_steps.specs.Moving.{IsAt}
 use Rattle.core_steps.specs.OnePage.{later, replied}

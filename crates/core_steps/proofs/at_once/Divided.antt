@@ -1,22 +1,12 @@
 -- Steps of a call after which slots begin where they began divide none, and so they divide as any map does
-use Rattle.std.proofs.Common.{◌≡◌, ℕ, zero, suc, ◌+◌, Bool, true, false, nat_lt, cond, refl, sym, subst, ap, ◌∙◌, arith, ◌⊎◌, inl, inr, Ok, Some}
+use Rattle.machine_laws.proofs.Words.{◌≡◌, ℕ, zero, suc, ◌+◌, Bool, true, false, cond, refl, sym, subst, ap, ◌∙◌, arith, ◌⊎◌, inl, inr, Ok, Some, fun_ext}
+use Rattle.machine_laws.proofs.Words.{add-one, PageRange, Request, Locked, Held, goal_range, Slots, Divides, Locks, Call, Go, Outcome, Full, Stepped, Phase}
+use Rattle.machine_laws.proofs.Words.{Idles, World, Goes, Step, StepsTo, event_limit, is_here, with_event}
+use Rattle.std.proofs.Common.{nat_lt}
 use Rattle.std.specs.Prelude.{◌≢◌}
-use Rattle.std.proofs.Math.Path.{fun_ext}
-use Rattle.std.proofs.Math.Numerals.{add-one}
-use Rattle.vm_base.specs.declared.page.PageRange.{PageRange}
-use Rattle.vm_base.specs.declared.requests.Request.{Request}
-use Rattle.slot_lock.specs.declared.slot_map.Got.TheVariants.{Split, Locked, Held}
+use Rattle.slot_lock.specs.declared.slot_map.Got.TheVariants.{Split}
 use Rattle.slot_lock.specs.declared.slot_map.Fit.TheVariants as fit
-use Rattle.slot_lock.specs.Plan.{goal_range}
-use Rattle.slot_lock.specs.Slots.{Slots, Divides, Locks}
-use Rattle.machine_model.specs.declared.event.Event.TheVariants.{Call, Go}
-use Rattle.machine_model.specs.declared.event.Outcome.{Outcome}
-use Rattle.machine_model.specs.declared.event.Outcome.TheVariants.{Full, Stepped}
-use Rattle.machine_model.specs.declared.phase.Phase.{Phase}
 use Rattle.machine_model.specs.declared.phase.Phase.TheVariants as At
-use Rattle.machine_model.specs.Actions.{Idles}
-use Rattle.machine_model.specs.World.{World}
-use Rattle.machine_model.specs.Step.{Goes, Step, StepsTo, event_limit, is_here, with_event}
 use Rattle.core_steps.specs.declared.machine.Finished.TheVariants.{Last}
 use Rattle.core_steps.specs.declared.at_once.starting.Started.{Started}
 use Rattle.core_steps.specs.declared.at_once.starting.Started.TheVariants.{Begun, Ended}

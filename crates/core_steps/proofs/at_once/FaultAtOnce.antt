@@ -1,40 +1,18 @@
 -- A fault whose page is a slot of its own that nobody holds, made at once: the states that it passes, and the one that is left
-use Rattle.std.proofs.Common.{◌≡◌, ℕ, suc, ◌+◌, ◌-◌, ◌<◌, ◌≤◌, ◌&&◌, ◌||◌, Bool, false, Option, Some, None, Err, refl, sym}
-use Rattle.std.proofs.Common.{subst, ap, ◌∙◌, arith, inl, inr, ◌⊎◌}
-use Rattle.std.specs.Prelude.{if◌then◌else◌}
+use Rattle.machine_laws.proofs.Words.{◌≡◌, ℕ, suc, ◌+◌, ◌-◌, ◌<◌, ◌≤◌, Bool, false, Option, Some, None, Err, refl, sym, subst, ap, ◌∙◌, arith, inl, inr, ◌⊎◌}
+use Rattle.machine_laws.proofs.Words.{if◌then◌else◌, Back, Anon, Shared, Private, PageInfo, Reply, Access, is_anonymous, put, frame_of, info_with_core}
+use Rattle.machine_laws.proofs.Words.{info_with_frame, is_allowed, by_test, put_same, Touch, with_info, Translated, Settled, is_cached, is_private_store}
+use Rattle.machine_laws.proofs.Words.{settled, source, Go, Stepped, Phase, Answer, Fill, Install, Release, Settle, Try, Want, Hardware, Memory, World}
+use Rattle.machine_laws.proofs.Words.{after_finding, found_at, is_past_end, memory_after, reply_of, answer_entry, to, with_entry, back_of, file_frame}
+use Rattle.machine_laws.proofs.Words.{FillsBacked, FillsFromFile, page_of_touch, locking, Step, StepsTo, event_limit, with_event, after_translating}
+use Rattle.machine_laws.proofs.Words.{entry_of_page, frame_reached, translated_by, with_hardware, with_table}
+use Rattle.std.proofs.Common.{◌&&◌, ◌||◌}
 use Rattle.std.proofs.lemmas.Bool.{or_parts}
-use Rattle.vm_base.specs.declared.info.Back.{Back}
-use Rattle.vm_base.specs.declared.info.Back.TheVariants.{Anon, Shared, Private}
-use Rattle.vm_base.specs.declared.info.PageInfo.{PageInfo}
-use Rattle.vm_base.specs.declared.replies.Reply.{Reply}
-use Rattle.vm_base.specs.declared.rights.Access.{Access}
 use Rattle.vm_base.specs.declared.rights.Access.TheVariants.{Store}
-use Rattle.vm_base.specs.Apply.{is_anonymous}
-use Rattle.vm_base.specs.Functions.{put}
-use Rattle.vm_base.specs.Info.{frame_of, info_with_core, info_with_frame}
-use Rattle.vm_base.specs.Rights.{is_allowed}
-use Rattle.vm_base.proofs.Functions.{by_test, put_same}
 use Rattle.slot_lock.specs.declared.plan.Goal.TheVariants as To
-use Rattle.slot_lock.specs.declared.plan.Touch.{Touch}
-use Rattle.slot_lock.specs.Slots.{with_info}
-use Rattle.mmu.specs.declared.translated.Translated.{Translated}
 use Rattle.mmu.specs.declared.translated.Translated.TheVariants as By
-use Rattle.vm_calls.specs.declared.fault.Settled.{Settled}
 use Rattle.vm_calls.specs.declared.fault.Settled.TheVariants as Found
-use Rattle.vm_calls.specs.Settling.{is_cached, is_private_store, settled, source}
-use Rattle.machine_model.specs.declared.event.Event.TheVariants.{Go}
-use Rattle.machine_model.specs.declared.event.Outcome.TheVariants.{Stepped}
-use Rattle.machine_model.specs.declared.phase.Phase.{Phase}
-use Rattle.machine_model.specs.declared.phase.Phase.TheVariants.{Answer, Fill, Install, Release, Settle, Try, Want}
-use Rattle.machine_model.specs.World.{Hardware, Memory, World}
-use Rattle.machine_model.specs.Accesses.{after_finding, after_translation, after_try, found_at, is_past_end, memory_after, reply_of}
-use Rattle.machine_model.specs.Actions.{answer_entry, to, with_entry}
-use Rattle.machine_model.specs.Files.{back_of, file_frame}
-use Rattle.machine_model.specs.Filling.{FillsBacked, FillsFromFile}
-use Rattle.machine_model.specs.Holding.{page_of_touch}
-use Rattle.machine_model.specs.Locks.{locking}
-use Rattle.machine_model.specs.Step.{Step, StepsTo, event_limit, with_event}
-use Rattle.machine_model.specs.Translating.{after_translating, entry_of_page, frame_reached, translated_by, with_hardware, with_table}
+use Rattle.machine_model.specs.Accesses.{after_translation, after_try}
 use Rattle.core_steps.specs.declared.at_once.fault.Source.{Source}
 use Rattle.core_steps.specs.declared.at_once.fault.Source.TheVariants.{Own, Cached, Free}
 use Rattle.core_steps.specs.Moving.{CanTry, IsAt, tried_to}

@@ -1,24 +1,10 @@
 -- The first events of a call, made at once: the states that it passes, and the one that is left
-use Rattle.std.proofs.Common.{◌≡◌, ℕ, suc, ◌+◌, ◌-◌, ◌<◌, ◌≤◌, Bool, not, length, Option, None, Result, Ok, Err, refl, sym, subst, ap, ◌∙◌, arith}
-use Rattle.std.proofs.Math.Logic.{∥∥₁_map}
-use Rattle.vm_base.specs.declared.page.PageRange.{PageRange}
-use Rattle.vm_base.specs.declared.replies.Reply.{Reply}
-use Rattle.vm_base.specs.declared.requests.Request.{Request}
-use Rattle.vm_base.proofs.Functions.{put_same}
+use Rattle.machine_laws.proofs.Words.{◌≡◌, ℕ, suc, ◌+◌, ◌-◌, ◌<◌, ◌≤◌, Bool, not, length, Option, None, Result, Ok, Err, refl, sym, subst, ap, ◌∙◌, arith}
+use Rattle.machine_laws.proofs.Words.{∥∥₁_map, PageRange, Reply, Request, put_same, Plan, Touch, Call, Go, Answered, Stepped, Phase, Answer, Check, Free, Try}
+use Rattle.machine_laws.proofs.Words.{World, answer_entry, to, with_entry, after_check, after_plan, checked_by, locking, placing, Step, StepsTo, after_call}
+use Rattle.machine_laws.proofs.Words.{event_limit, with_event}
 use Rattle.slot_lock.specs.declared.plan.Goal.TheVariants as To
-use Rattle.slot_lock.specs.declared.plan.Plan.{Plan}
 use Rattle.slot_lock.specs.declared.plan.Plan.TheVariants as PlanOf
-use Rattle.slot_lock.specs.declared.plan.Touch.{Touch}
-use Rattle.machine_model.specs.declared.event.Event.TheVariants.{Call, Go}
-use Rattle.machine_model.specs.declared.event.Outcome.TheVariants.{Answered, Stepped}
-use Rattle.machine_model.specs.declared.phase.Phase.{Phase}
-use Rattle.machine_model.specs.declared.phase.Phase.TheVariants.{Answer, Check, Free, Try}
-use Rattle.machine_model.specs.World.{World}
-use Rattle.machine_model.specs.Actions.{answer_entry, to, with_entry}
-use Rattle.machine_model.specs.Changes.{after_check, after_plan, checked_by}
-use Rattle.machine_model.specs.Locks.{locking}
-use Rattle.machine_model.specs.Placing.{placing}
-use Rattle.machine_model.specs.Step.{Step, StepsTo, after_call, event_limit, with_event}
 use Rattle.machine_laws.specs.Orderly.{answer_count}
 use Rattle.machine_sound.specs.Sound.{IsReached}
 use Rattle.machine_sound.proofs.Kept.{reached_step}

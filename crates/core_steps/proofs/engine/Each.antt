@@ -1,21 +1,15 @@
 -- What is read of each core, after one core changed
-use Rattle.std.proofs.Common.{◌≡◌, ℕ, zero, suc, ◌<◌, Bool, true, false, List, [], ◌∷◌, ◌++◌, length, map, get_or, refl, sym, ap, subst, ◌∙◌, Option, None}
-use Rattle.std.specs.Prelude.{slice_set, if◌then◌else◌}
-use Rattle.std.proofs.Math.Path.{fun_ext}
-use Rattle.std.proofs.lemmas.List.{map-set, length-map, get_or-map}
-use Rattle.vm_base.specs.declared.page.PageRange.{PageRange}
-use Rattle.vm_base.specs.Cores.{members}
-use Rattle.vm_base.specs.Functions.{has, over, put}
-use Rattle.vm_base.proofs.Functions.{over_all, put_all, put_both, put_other}
-use Rattle.mmu.specs.declared.entry.Translation.{Translation}
-use Rattle.mmu.specs.declared.tlb.TlbEntry.{TlbEntry}
-use Rattle.mmu.specs.Tlb.{tlb_without, is_at}
-use Rattle.shootdown.specs.declared.message.Message.{Message}
-use Rattle.shootdown.specs.Messages.{InboxOf, posted}
+use Rattle.machine_laws.proofs.Words.{◌≡◌, ℕ, zero, suc, ◌<◌, Bool, true, false, List, [], ◌∷◌, ◌++◌, length, map, get_or, refl, sym, ap, subst, ◌∙◌, Option}
+use Rattle.machine_laws.proofs.Words.{None, slice_set, if◌then◌else◌, fun_ext, length-map, PageRange, members, has, over, put, over_all, put_all, put_both}
+use Rattle.machine_laws.proofs.Words.{put_other, Translation, TlbEntry, tlb_without, Message, posted, Hardware, with_table, tables_cleared, tlb_invalidated}
+use Rattle.machine_laws.proofs.Words.{after_eviction, after_shot}
+use Rattle.std.proofs.lemmas.List.{map-set, get_or-map}
+use Rattle.mmu.specs.Tlb.{is_at}
+use Rattle.shootdown.specs.Messages.{InboxOf}
 use Rattle.shootdown.specs.Inboxes.{inbox, sent}
-use Rattle.machine_model.specs.World.{Hardware, no_translations}
-use Rattle.machine_model.specs.Translating.{with_table, with_tlb, tables_cleared, tlb_invalidated, after_eviction, after_shot}
-use Rattle.machine_coherence.specs.Coherent.{Every, HasDropped}
+use Rattle.machine_model.specs.World.{no_translations}
+use Rattle.machine_model.specs.Translating.{with_tlb}
+use Rattle.machine_invariants.specs.Coherent.{Every, HasDropped}
 use Rattle.core_steps.specs.Cores.{of_each, parts_of}
 use Rattle.core_steps.specs.PageChange.{IsAlone}
 use Rattle.core_steps.proofs.engine.Lists.{set_is_put}

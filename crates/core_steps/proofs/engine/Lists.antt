@@ -1,12 +1,7 @@
 -- Lists that are changed at one place, seen as functions, and the state of which they are a part
-use Rattle.std.proofs.Common.{◌≡◌, ℕ, ◌+◌, ◌<◌, List, [], ◌∷◌, ◌++◌, length, length-append}
-use Rattle.std.proofs.Common.{get_or, OnOk, OnErr, Result, Ok, Err, ap, arith, ◌∙◌}
-use Rattle.std.specs.Prelude.{slice_set}
-use Rattle.std.proofs.Math.Path.{fun_ext}
-use Rattle.std.proofs.lemmas.List.{get_or-set_same, get_or-set_other}
-use Rattle.vm_base.specs.Functions.{put}
-use Rattle.vm_base.proofs.Functions.{put_all}
-use Rattle.vm_base.specs.declared.log.Entry.{Entry}
+use Rattle.machine_laws.proofs.Words.{◌≡◌, ℕ, ◌+◌, ◌<◌, List, [], ◌∷◌, ◌++◌, length, length-append, get_or, OnOk, Result, Ok, Err, ap, arith, ◌∙◌, slice_set}
+use Rattle.machine_laws.proofs.Words.{fun_ext, get_or-set_same, get_or-set_other, put, put_all, Entry}
+use Rattle.std.proofs.Common.{OnErr}
 use Rattle.machine_laws.specs.Orderly.{answer_count}
 use Rattle.machine_laws.proofs.Moves.{answers_more}
 use Rattle.core_steps.specs.State.{number_at}

@@ -1,12 +1,9 @@
 -- A new engine has the state of a new machine
-use Rattle.std.proofs.Common.{◌≡◌, List, length, nat_lt, None, refl}
-use Rattle.vm_base.specs.Plain.{zeros}
-use Rattle.slot_lock.specs.Slots.{Slots}
+use Rattle.machine_laws.proofs.Words.{◌≡◌, List, length, None, refl, zeros, Slots, given_files, Counts, no_counts, Hardware, new_world}
+use Rattle.std.proofs.Common.{nat_lt}
 use Rattle.backing.specs.Files.{FileParts, files_of, cached_in}
-use Rattle.backing.specs.Given.{given_files}
 use Rattle.frames.specs.Parts.{FrameParts, frame_bytes, free_frames}
-use Rattle.refcache.specs.Counts.{Counts, no_counts}
-use Rattle.machine_model.specs.World.{Hardware, new_world, no_calls, no_translations}
+use Rattle.machine_model.specs.World.{no_calls, no_translations}
 use Rattle.core_steps.specs.declared.engine.calls.CallTable.{CallTable}
 use Rattle.core_steps.specs.declared.ledger.Ledger.{Ghosts as LedgerGhosts}
 use Rattle.core_steps.specs.declared.setup.Setup.{Setup}

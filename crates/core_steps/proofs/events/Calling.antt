@@ -1,17 +1,9 @@
 -- A call that begins
-use Rattle.std.proofs.Common.{◌≡◌, ℕ, suc, ◌+◌, ◌<◌, Bool, true, false, not, nat_lt, List, [], ◌∷◌, ◌++◌, length, refl, arith}
-use Rattle.std.specs.Prelude.{slice_set}
-use Rattle.vm_base.specs.declared.requests.Request.{Request}
-use Rattle.slot_lock.specs.Slots.{Slots}
+use Rattle.machine_laws.proofs.Words.{◌≡◌, ℕ, suc, ◌+◌, ◌<◌, Bool, true, false, not, List, [], ◌∷◌, ◌++◌, length, refl, arith, slice_set, Request, Slots}
+use Rattle.machine_laws.proofs.Words.{Counts, Stepped, Entry, Phase, Free, World, Hardware, Begins, after_call}
+use Rattle.std.proofs.Common.{nat_lt}
 use Rattle.backing.specs.Files.{FileParts}
 use Rattle.frames.specs.Parts.{FrameParts}
-use Rattle.refcache.specs.Counts.{Counts}
-use Rattle.machine_model.specs.declared.event.Outcome.TheVariants.{Stepped}
-use Rattle.vm_base.specs.declared.log.Entry.{Entry}
-use Rattle.machine_model.specs.declared.phase.Phase.{Phase}
-use Rattle.machine_model.specs.declared.phase.Phase.TheVariants.{Free}
-use Rattle.machine_model.specs.World.{World, Hardware}
-use Rattle.machine_model.specs.Step.{Begins, after_call}
 use Rattle.core_steps.specs.AtOnce.{with_call}
 use Rattle.core_steps.specs.State.{phase_at, number_at, world_with}
 use Rattle.core_steps.proofs.engine.Lists.{number_set}

@@ -1,25 +1,13 @@
 -- What the pages that are held let a call change
-use Rattle.std.proofs.Common.{◌≡◌, ℕ, true, not, is_some, Some, None, Option, refl, sym, subst}
-use Rattle.std.proofs.Math.Logic.{∥∥₁_elim}
-use Rattle.std.proofs.Props.{props}
-use Rattle.vm_base.specs.declared.info.PageInfo.{PageInfo}
-use Rattle.vm_base.specs.declared.page.PageRange.{PageRange}
-use Rattle.vm_base.specs.declared.replies.Reply.{Reply}
-use Rattle.vm_base.specs.Pages.{IsPageRange}
-use Rattle.vm_base.specs.Plain.{File}
-use Rattle.slot_lock.specs.declared.plan.Change.{Change}
-use Rattle.slot_lock.specs.declared.plan.Change.TheVariants.{Protect}
-use Rattle.slot_lock.specs.declared.plan.Goal.{Goal}
+use Rattle.machine_laws.proofs.Words.{◌≡◌, ℕ, true, not, Some, None, Option, refl, sym, subst, ∥∥₁_elim, props, PageInfo, PageRange, Reply, IsPageRange, File}
+use Rattle.machine_laws.proofs.Words.{Change, Protect, Goal, range_of, IsSoundGoal, Slots, Act, entry_of, no_page, no_write, Unlock, World}
+use Rattle.std.proofs.Common.{is_some}
 use Rattle.slot_lock.specs.declared.plan.Goal.TheVariants as To
 use Rattle.slot_lock.specs.Changes.{IsMappedFor}
-use Rattle.slot_lock.specs.Plan.{range_of, IsSoundChange, IsSoundGoal}
-use Rattle.slot_lock.specs.Slots.{Slots}
-use Rattle.vm_calls.specs.declared.decision.Decision.TheVariants.{Act}
-use Rattle.vm_calls.specs.Decisions.{DecidesChange, entry_of}
-use Rattle.vm_calls.specs.Decisions.DecidesProtect.{no_page, no_write, acts}
+use Rattle.slot_lock.specs.Plan.{IsSoundChange}
+use Rattle.vm_calls.specs.Decisions.{DecidesChange}
+use Rattle.vm_calls.specs.Decisions.DecidesProtect.{acts}
 use Rattle.vm_calls.proofs.Targets.{place-act}
-use Rattle.machine_model.specs.declared.phase.Phase.TheVariants.{Unlock}
-use Rattle.machine_model.specs.World.{World}
 use Rattle.machine_laws.specs.Orderly.{IsChosen, IsChangeOf}
 use Rattle.machine_laws.proofs.Moves.{call_at}
 use Rattle.core_steps.specs.Moving.{IsAt}

@@ -1,37 +1,19 @@
 -- What the code learns of a page that is to get a frame
-use Rattle.std.proofs.Common.{◌≡◌, ℕ, zero, suc, ◌<◌, ◌≤◌, ◌^◌, Bool, true, false, not, List, length, get_or, Option, None, Some}
-use Rattle.std.proofs.Common.{is_some, inl, inr, refl, sym, ap, subst, arith, ◌∙◌, pos, ◌+ℤ◌, ◌<ℤ◌, ◌==◌}
-use Rattle.std.specs.Prelude.{IfSome, if◌then◌else◌, nat_lt}
-use Rattle.std.proofs.Math.Logic.{∥∥₁_elim}
-use Rattle.std.proofs.Props.{props}
+use Rattle.machine_laws.proofs.Words.{◌≡◌, ℕ, zero, suc, ◌<◌, ◌≤◌, ◌^◌, Bool, true, false, not, List, length, get_or, Option, None, Some, inl, inr, refl, sym}
+use Rattle.machine_laws.proofs.Words.{ap, subst, arith, ◌∙◌, pos, ◌+ℤ◌, ◌<ℤ◌, ◌==◌, IfSome, if◌then◌else◌, nat_lt, ∥∥₁_elim, props, ints, Back, Anon, Shared}
+use Rattle.machine_laws.proofs.Words.{Private, PageInfo, Access, put, frame_of, info_with_copy, info_with_frame, Bytes, File, bytes_in, Touch, with_info}
+use Rattle.machine_laws.proofs.Words.{Counts, true_count, Takes, Begin, true_counts_move, Outcome, Stepped, Phase, Free, Fill, Install, to, with_entry}
+use Rattle.machine_laws.proofs.Words.{detach_entry, back_of, bytes_shown, file_frame, page_now, with_cached, FillsBacked, FillsFromFile, after_copy}
+use Rattle.machine_laws.proofs.Words.{after_first_copy, after_zeros, World, Memory}
+use Rattle.std.proofs.Common.{is_some}
 use Rattle.std.proofs.lemmas.Bool.{cond_both, not-false}
-use Rattle.std.proofs.lemmas.Int.{ints}
 use Rattle.std.proofs.lemmas.List.{get_or_read}
-use Rattle.vm_base.specs.declared.info.Back.{Back}
-use Rattle.vm_base.specs.declared.info.Back.TheVariants.{Anon, Shared, Private}
-use Rattle.vm_base.specs.declared.info.PageInfo.{PageInfo}
-use Rattle.vm_base.specs.declared.rights.Access.{Access}
-use Rattle.vm_base.specs.Functions.{put}
-use Rattle.vm_base.specs.Info.{frame_of, info_with_copy, info_with_frame}
-use Rattle.vm_base.specs.Plain.{Bytes, File, bytes_in, file_bytes}
-use Rattle.slot_lock.specs.declared.plan.Touch.{Touch}
-use Rattle.slot_lock.specs.Slots.{with_info}
+use Rattle.vm_base.specs.Plain.{file_bytes}
 use Rattle.backing.specs.Files.{bytes_now}
-use Rattle.refcache.specs.Counts.{Counts, true_count}
-use Rattle.refcache.specs.Steps.{Takes, Begin}
-use Rattle.refcache.proofs.Moves.{true_counts_move}
-use Rattle.machine_model.specs.declared.event.Outcome.{Outcome}
-use Rattle.machine_model.specs.declared.event.Outcome.TheVariants.{Stepped}
-use Rattle.machine_model.specs.declared.phase.Phase.{Phase}
-use Rattle.machine_model.specs.declared.phase.Phase.TheVariants.{Free, Fill, Install}
 use Rattle.machine_model.specs.Accesses.{lies_past_end}
-use Rattle.machine_model.specs.Actions.{to, with_entry, detach_entry}
-use Rattle.machine_model.specs.Files.{back_of, bytes_shown, file_frame, page_now, with_cached}
-use Rattle.machine_model.specs.Filling.{FillsBacked, FillsFrame, FillsFromFile, FillsOwn}
-use Rattle.machine_model.specs.Filling.{after_copy, after_first_copy, after_zeros}
-use Rattle.machine_model.specs.World.{World, Memory}
-use Rattle.machine_counting.specs.Counted.{FilePage, is_frame, one_if, pages_with}
-use Rattle.machine_counting.proofs.Kept.{cached_positive}
+use Rattle.machine_model.specs.Filling.{FillsFrame, FillsOwn}
+use Rattle.machine_invariants.specs.Counted.{FilePage, is_frame, one_if, pages_with}
+use Rattle.machine_invariants.proofs.CountsKept.{cached_positive}
 use Rattle.machine_laws.specs.Orderly.{IsUsable}
 use Rattle.machine_laws.proofs.Moves.{call_at}
 use Rattle.machine_sound.specs.Invariant.{IsWellFormed}

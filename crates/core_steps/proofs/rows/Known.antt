@@ -1,63 +1,35 @@
 -- What the code learns of the core that is to make a step: it knows only that the state is one that runs reach
-use Rattle.std.proofs.Common.{◌≡◌, ◌≢◌, ℕ, ◌+◌, ◌<◌, Bool, true, false, List, [], ◌∷◌, Option, Some, None}
-use Rattle.std.proofs.Common.{is_some, refl, sym, subst, ap, arith, cond, ◌∙◌, ◌&&◌, nat_lt}
-use Rattle.std.specs.Prelude.{if◌then◌else◌, IfSome, ◌↔◌}
-use Rattle.std.proofs.Math.Logic.{∥∥₁_elim, ∥∥₁_map}
-use Rattle.std.proofs.Props.{props}
-use Rattle.std.proofs.lemmas.Bool.{or_left, or_right}
-use Rattle.std.proofs.lemmas.Bool.Decides.{nat_tests}
-use Rattle.vm_base.specs.declared.info.PageInfo.{PageInfo}
-use Rattle.vm_base.specs.declared.page.PageRange.{PageRange}
-use Rattle.vm_base.specs.declared.rights.Access.{Access}
+use Rattle.machine_laws.proofs.Words.{◌≡◌, ◌≢◌, ℕ, ◌+◌, ◌<◌, Bool, true, false, List, [], ◌∷◌, Option, Some, None, refl, sym, subst, ap, arith, cond, ◌∙◌}
+use Rattle.machine_laws.proofs.Words.{if◌then◌else◌, IfSome, ◌↔◌, ∥∥₁_elim, ∥∥₁_map, props, or_right, nat_tests, PageInfo, PageRange, Access, Prot, members}
+use Rattle.machine_laws.proofs.Words.{IsPage, IsPageRange, are_pages, is_page, frame_of, File, is_allowed, has_in, in_has, Change, Put, Clear, Protect, Plan}
+use Rattle.machine_laws.proofs.Words.{Touch, Goal, goal_plan, goal_range, range_of, HasTarget, IsSoundGoal, IsSoundTouch, Slots, IsUser, between, Act}
+use Rattle.machine_laws.proofs.Words.{no_page, no_write, Translation, has_right, Message, Took, asked, Counts, Takes, Reviewing, IsUnused, reached_is_orderly}
+use Rattle.machine_laws.proofs.Words.{Phase, Free, Check, Lock, Guess, Find, Cut, Acks, Unlock, Answer, Try, Settle, Want, Fill, CopyPost, CopyAcks, Install}
+use Rattle.machine_laws.proofs.Words.{Release, World, AwaitsNobody, is_private, shows_some, prot_shown, prot_installed, awaits_in, is_open, page_of_touch}
+use Rattle.machine_laws.proofs.Words.{range_held, some_has, taken_in, translated_by, frame_reached, sound_pages}
+use Rattle.std.proofs.Common.{is_some, ◌&&◌, nat_lt}
+use Rattle.std.proofs.lemmas.Bool.{or_left}
 use Rattle.vm_base.specs.declared.rights.Access.TheVariants.{Load, Store, Fetch}
-use Rattle.vm_base.specs.declared.rights.Prot.{Prot}
-use Rattle.vm_base.specs.Cores.{members}
-use Rattle.vm_base.specs.Pages.{IsPage, IsPageRange, are_pages, is_page}
-use Rattle.vm_base.specs.Info.{frame_of}
-use Rattle.vm_base.specs.Plain.{File}
-use Rattle.vm_base.specs.Rights.{is_allowed}
-use Rattle.vm_base.proofs.Functions.{has_in, in_has}
-use Rattle.slot_lock.specs.declared.plan.Change.{Change}
-use Rattle.slot_lock.specs.declared.plan.Change.TheVariants.{Put, Clear, Protect}
-use Rattle.slot_lock.specs.declared.plan.Plan.{Plan}
 use Rattle.slot_lock.specs.declared.plan.Plan.TheVariants as PlanOf
-use Rattle.slot_lock.specs.declared.plan.Touch.{Touch}
-use Rattle.slot_lock.specs.declared.plan.Goal.{Goal}
 use Rattle.slot_lock.specs.declared.plan.Goal.TheVariants as To
-use Rattle.slot_lock.specs.Plan.{goal_plan, goal_range, range_of, HasTarget, IsSound, IsSoundGoal, IsSoundTouch}
-use Rattle.slot_lock.specs.Slots.{Slots, IsHeld, IsUser, between}
+use Rattle.slot_lock.specs.Plan.{IsSoundPlan}
+use Rattle.slot_lock.specs.Slots.{IsHeld}
 use Rattle.slot_lock.proofs.Divisions.{slot_by}
-use Rattle.vm_calls.specs.declared.decision.Decision.TheVariants.{Act}
 use Rattle.vm_calls.specs.Decisions.{DecidesChange}
-use Rattle.vm_calls.specs.Decisions.DecidesProtect.{no_page, no_write, acts}
+use Rattle.vm_calls.specs.Decisions.DecidesProtect.{acts}
 use Rattle.vm_calls.proofs.Passed.{checked_is_sound}
-use Rattle.mmu.specs.declared.entry.Translation.{Translation}
-use Rattle.mmu.specs.Entry.{has_right}
-use Rattle.shootdown.specs.declared.message.Message.{Message}
-use Rattle.shootdown.specs.declared.message.Took.{Took}
 use Rattle.shootdown.specs.declared.message.Took.TheVariants as TookOf
-use Rattle.shootdown.specs.Messages.{asked}
 use Rattle.refcache.specs.declared.reports.Review.TheVariants as review
-use Rattle.refcache.specs.Counts.{Counts}
 use Rattle.refcache.specs.Sound.{AreReached}
-use Rattle.refcache.specs.Steps.{Takes, Reviewing, IsUnused}
-use Rattle.refcache.proofs.Reached.{reached_is_orderly}
-use Rattle.machine_model.specs.declared.phase.Phase.{Phase}
-use Rattle.machine_model.specs.declared.phase.Phase.TheVariants.{Free, Check, Lock, Guess, Find, Back, Cut, Acks, Unlock, Answer, Try}
-use Rattle.machine_model.specs.declared.phase.Phase.TheVariants.{Settle, Want, Fill, CopyPost, CopyAcks, Install, Release}
-use Rattle.machine_model.specs.World.{World}
-use Rattle.machine_model.specs.Changes.{AwaitsNobody}
-use Rattle.machine_model.specs.Files.{is_private, shows_some, prot_shown, prot_installed}
-use Rattle.machine_model.specs.Holding.{awaits_in, is_open, page_of_touch, range_held, some_has, taken_in}
-use Rattle.machine_model.specs.Translating.{translated_by, frame_reached}
-use Rattle.machine_counting.proofs.Kept.{counted_positive}
+use Rattle.machine_model.specs.declared.phase.Phase.TheVariants.{Back}
+use Rattle.machine_invariants.proofs.CountsKept.{counted_positive}
 use Rattle.machine_laws.specs.Orderly.{IsOrderly, IsAsked, IsCutFor, IsUsable, Serves, answer_count}
-use Rattle.machine_laws.proofs.Deciding.{acts_in, acts_valid, sound_range}
+use Rattle.machine_laws.proofs.Deciding.{acts_in, acts_valid}
 use Rattle.machine_laws.proofs.Going.{call_sound, page_range}
 use Rattle.machine_laws.proofs.Moves.{call_at, IsCallOf}
 use Rattle.machine_laws.proofs.OpenCalls.{one, open_put}
-use Rattle.machine_coherence.specs.Coherent.{AreAsked}
-use Rattle.machine_coherence.proofs.Lists.{none_sent}
+use Rattle.machine_invariants.specs.Coherent.{AreAsked}
+use Rattle.machine_invariants.proofs.Lists.{none_sent}
 use Rattle.machine_sound.specs.Invariant.{IsWellFormed}
 use Rattle.machine_sound.proofs.Reaching.{backs, reaches}
 use Rattle.core_steps.specs.Filling.{IsAloneAt}
@@ -76,7 +48,7 @@ if_some (Some x) P h = h x refl
 
 -- a call's plan passed the check of the arguments, and so is sound
 served : (w : World) (c : ℕ) (plan : Plan) → IsOrderly w → c < w.made.cores
-    → Serves w.made w.calls.requests c (w.calls.number c) plan → IsSound plan
+    → Serves w.made w.calls.requests c (w.calls.number c) plan → IsSoundPlan plan
 served w c plan g here s = let few = g.few in checked_is_sound _ c s.request plan (omega (arith, few, here)) s.passed
 
 pub core_counted : (w : World) (c : ℕ) → ∥ IsWellFormed w ∥₁ → c < w.made.cores → c < w.memory.counts.cores
@@ -110,7 +82,7 @@ module _ (w : World) (c : ℕ) (here : c < w.made.cores) (fine : ∥ IsWellForme
       let room = g.order.room in let limit = g.order.limit in omega (arith, was, put, room, limit))
 
   sound : (phase : Phase) (plan : Plan) → w.calls.phase c ≡ phase
-      → (IsAsked w.made w.calls.requests c (w.calls.number c) phase → Serves w.made w.calls.requests c (w.calls.number c) plan) → IsSound plan
+      → (IsAsked w.made w.calls.requests c (w.calls.number c) phase → Serves w.made w.calls.requests c (w.calls.number c) plan) → IsSoundPlan plan
   sound phase plan e serves = sound_if plan (∥∥₁_map fine (λ g. served w c plan g.order here (serves (call_at w c phase e g.order).asked)))
 
   -- and so is its goal, where its target is of its mapping
@@ -135,7 +107,7 @@ module _ (w : World) (c : ℕ) (here : c < w.made.cores) (fine : ∥ IsWellForme
   goals (Try touch) e = tt
   goals phase e = aims phase _ e (λ h. h) (λ call. tt)
 
-  plans : (phase : Phase) → w.calls.phase c ≡ phase → IfSome (plan_in phase) IsSound
+  plans : (phase : Phase) → w.calls.phase c ≡ phase → IfSome (plan_in phase) IsSoundPlan
   plans (Guess place) e = sound (Guess place) _ e (λ h. h)
   plans (Back place target held) e = sound (Back place target held) _ e (λ h. h)
   plans (Try touch) e = sound (Try touch) _ e (λ h. h)
@@ -229,7 +201,7 @@ module _ (w : World) (c : ℕ) (here : c < w.made.cores) (fine : ∥ IsWellForme
       let call = call_at w c (Acks goal change) e g.order in
       let acts = call.ready.2 in
       let sound = act_sound w goal change (goals (Acks goal change) e) call.ready.1 acts in
-      let pages = sound_range change sound in
+      let pages = sound_pages change sound in
       let cut = call.cut_out pages.some in
       record {
         sound = sound;
@@ -343,7 +315,7 @@ pub valid_range : (range : PageRange) → IsPageRange range → are_pages range 
 valid_range range h = let low = h.low in let high = h.high in grind (arith, nat_tests, low, high)
 
 pub change_pages : (change : Change) → IsSoundGoal (To.Change change) → are_pages (range_of change) ≡ true
-change_pages change sound = valid_range (range_of change) (sound_range change sound.plan)
+change_pages change sound = valid_range (range_of change) (sound_pages change sound.plan)
 
 -- the oldest message is of valid pages
 abbrev pub IsValidAsked : Took → Type 0

@@ -1,22 +1,13 @@
 -- Frames that are counted down, page by page
-use Rattle.std.proofs.Common.{◌≡◌, ℕ, ◌+◌, ◌-◌, ◌<◌, ◌≤◌, List, ◌∷◌, drop, length, get_or, Option, Some, sym, subst, refl, arith, ◌∙◌}
-use Rattle.std.specs.Prelude.{IfSome}
-use Rattle.std.proofs.Math.Logic.{∥∥₁_elim}
-use Rattle.std.proofs.Props.{props}
+use Rattle.machine_laws.proofs.Words.{◌≡◌, ℕ, ◌+◌, ◌-◌, ◌<◌, ◌≤◌, List, ◌∷◌, drop, length, get_or, Option, Some, sym, subst, refl, arith, ◌∙◌, IfSome}
+use Rattle.machine_laws.proofs.Words.{∥∥₁_elim, props, PageInfo, frame_of, Change, Protect, frames_in, Slots, Counts, Takes, Dec, CountsOne, frame_lost}
+use Rattle.machine_laws.proofs.Words.{World}
 use Rattle.std.proofs.lemmas.List.{drop_all, drop_more}
-use Rattle.vm_base.specs.declared.info.PageInfo.{PageInfo}
-use Rattle.vm_base.specs.Info.{frame_of}
 use Rattle.slot_lock.specs.declared.framed.Framed.{Framed}
-use Rattle.slot_lock.specs.declared.plan.Change.{Change}
-use Rattle.slot_lock.specs.declared.plan.Change.TheVariants.{Protect}
-use Rattle.slot_lock.specs.Framed.{ListsFrames, frames_in}
-use Rattle.slot_lock.specs.Slots.{Slots}
-use Rattle.refcache.specs.Counts.{Counts}
-use Rattle.refcache.specs.Steps.{Takes, Dec}
-use Rattle.machine_model.specs.Counting.{CountsOne, CountsDown, frame_lost}
-use Rattle.machine_model.specs.World.{World}
+use Rattle.slot_lock.specs.Framed.{ListsFrames}
+use Rattle.machine_model.specs.Counting.{CountsDown}
 use Rattle.machine_laws.proofs.Counted.{counts_down}
-use Rattle.machine_counting.proofs.CountingDown.{CountsUpTo, counted_still, counts_next, counts_past}
+use Rattle.machine_invariants.proofs.CountingDown.{CountsUpTo, counted_still, counts_next, counts_past}
 use Rattle.core_steps.specs.Taking.{AreCounted, IsCounted}
 
 -- ---- one page

@@ -1,32 +1,15 @@
 -- Rows of the model that turn on one test
-use Rattle.std.proofs.Common.{◌≡◌, ℕ, Bool, true, false, not, ◌&&◌, List, [], ◌∷◌, Option, None, Some}
-use Rattle.std.proofs.Common.{is_some, cond, refl, sym, ap, subst}
-use Rattle.std.proofs.Math.Numerals.{add-one}
+use Rattle.machine_laws.proofs.Words.{◌≡◌, ℕ, Bool, true, false, not, List, [], ◌∷◌, Option, None, Some, cond, refl, sym, ap, subst, add-one, if◌then◌else◌}
+use Rattle.machine_laws.proofs.Words.{put, Touch, Translation, TlbEntry, tlb_walked, tlb_at, Message, asked, remaining, Event, Outcome, Idle, Acts}
+use Rattle.machine_laws.proofs.Words.{with_event, Release, World, Hardware, PageInfo, with_info, after_install, info_with_core, to, after_walk, can_walk}
+use Rattle.machine_laws.proofs.Words.{with_inbox, with_table, entry_of_page}
+use Rattle.std.proofs.Common.{◌&&◌}
+use Rattle.std.proofs.Common.{is_some}
 use Rattle.std.proofs.lemmas.Bool.{and_right}
-use Rattle.std.specs.Prelude.{if◌then◌else◌, ◌+◌}
-use Rattle.vm_base.specs.Functions.{put}
-use Rattle.slot_lock.specs.declared.plan.Touch.{Touch}
-use Rattle.mmu.specs.declared.entry.Translation.{Translation}
-use Rattle.mmu.specs.declared.tlb.TlbEntry.{TlbEntry}
-use Rattle.mmu.specs.Tables.{tlb_walked}
-use Rattle.mmu.specs.Tlb.{tlb_at}
-use Rattle.shootdown.specs.declared.message.Message.{Message}
+use Rattle.std.specs.Prelude.{◌+◌}
 use Rattle.shootdown.specs.declared.message.Took.TheVariants as TookOf
-use Rattle.shootdown.specs.Messages.{asked, remaining}
-use Rattle.machine_model.specs.declared.event.Event.{Event}
-use Rattle.machine_model.specs.declared.event.Outcome.{Outcome}
-use Rattle.machine_model.specs.declared.event.Outcome.TheVariants.{Idle}
-use Rattle.machine_model.specs.Step.{Acts, with_event}
-use Rattle.machine_model.specs.declared.phase.Phase.TheVariants.{Release}
-use Rattle.machine_model.specs.World.{World, Hardware}
-use Rattle.vm_base.specs.declared.info.PageInfo.{PageInfo}
-use Rattle.slot_lock.specs.Slots.{with_info}
-use Rattle.machine_model.specs.Accesses.{after_install}
-use Rattle.vm_base.specs.Info.{info_with_core}
-use Rattle.machine_model.specs.Actions.{to}
 use Rattle.core_steps.specs.OnePage.{with_translation}
-use Rattle.machine_model.specs.Translating.{Walks, after_walk, can_walk}
-use Rattle.machine_model.specs.Translating.{with_inbox, with_table, entry_of_page}
+use Rattle.machine_model.specs.Translating.{Walks}
 use Rattle.core_steps.proofs.engine.Each.{put_id}
 
 pub if_true : (b : Bool) (x y : Type 0) → b ≡ true → x → cond b x y

@@ -1,16 +1,10 @@
 -- Soundness of plans and goals is read off a state of which only its being reached is known
-use Rattle.std.proofs.Common.{ℕ, Option, Some, None}
-use Rattle.std.proofs.Math.Logic.{∥∥₁_elim, ∥∥₁_map}
-use Rattle.std.proofs.Props.{props}
-use Rattle.vm_base.specs.declared.page.PageRange.{PageRange}
-use Rattle.slot_lock.specs.declared.plan.Change.TheVariants.{Put, Clear, Protect}
-use Rattle.slot_lock.specs.declared.plan.Goal.{Goal}
+use Rattle.machine_laws.proofs.Words.{ℕ, Option, Some, None, ∥∥₁_elim, ∥∥₁_map, props, PageRange, Put, Clear, Protect, Goal, Place, Plan, Hint, goal_plan}
+use Rattle.machine_laws.proofs.Words.{HasTarget, IsSoundGoal, IsSoundPlace}
 use Rattle.slot_lock.specs.declared.plan.Goal.TheVariants as To
-use Rattle.slot_lock.specs.declared.plan.Place.{Place}
-use Rattle.slot_lock.specs.declared.plan.Plan.{Plan}
 use Rattle.slot_lock.specs.declared.plan.Plan.TheVariants as PlanOf
-use Rattle.slot_lock.specs.declared.plan.Target.TheVariants.{Hint, Run}
-use Rattle.slot_lock.specs.Plan.{goal_plan, HasTarget, IsSound, IsSoundGoal, IsSoundHint, IsSoundPlace}
+use Rattle.slot_lock.specs.declared.plan.Target.TheVariants.{Run}
+use Rattle.slot_lock.specs.Plan.{IsSoundPlan, IsSoundHint}
 
 hint_if : (hint : Option PageRange) (count : ℕ) → ∥ IsSoundHint hint count ∥₁ → IsSoundHint hint count
 hint_if None count t = tt
@@ -24,7 +18,7 @@ place_if place t = record {
   fits = ∥∥₁_elim t (hlevel props) (λ h. h.fits);
 }
 
-pub sound_if : (plan : Plan) → ∥ IsSound plan ∥₁ → IsSound plan
+pub sound_if : (plan : Plan) → ∥ IsSoundPlan plan ∥₁ → IsSoundPlan plan
 sound_if (PlanOf.Place place) t = place_if place t
 sound_if (PlanOf.Change (Put range meta)) t = ∥∥₁_elim t (hlevel props) (λ h. h)
 sound_if (PlanOf.Change (Clear range)) t = ∥∥₁_elim t (hlevel props) (λ h. h)

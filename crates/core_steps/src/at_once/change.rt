@@ -15,7 +15,7 @@ ghost use Rattle.core_steps.specs.State.{world};
 use crate::engine::Engine;
 use crate::ledger::Ledger;
 use crate::rows::commit::count_page;
-use access_answers::reply_to;
+use machine_model::answers::reply_to;
 use mmu::Hardware;
 use slot_lock::{Change, FreePage, SlotMap};
 use std::alloc::Allocator;

@@ -1,4 +1,4 @@
-//! The table of the calls as it is made.
+//! The making of the engine's table of calls, which `calls` has.
 ghost use Rattle.std.specs.Prelude.{◌≡◌, ◌≤◌, length, IfOk, true};
 ghost use Rattle.machine_model.specs.World.{no_calls};
 ghost use Rattle.core_steps.specs.Setups.{most_calls};

@@ -1,4 +1,4 @@
-//! Where the call of each core stands, the calls begun, and the log.
+//! The engine's calls: where that of each core stands, the calls begun, and the log.
 ghost use Rattle.std.specs.Prelude.{◌≡◌, ◌+◌, ◌≤◌, length};
 ghost use Rattle.machine_laws.specs.Orderly.{answer_count};
 

@@ -1,4 +1,4 @@
-//! The open files, the frames and their counts as they are made.
+//! The making of the engine's stores: the open files, the frames and their counts.
 ghost use Rattle.std.specs.Prelude.{◌≡◌, ◌≤◌, ◌^◌, ℕ, IfOk, None, length, nat_lt};
 ghost use Rattle.vm_base.specs.Plain.{zeros};
 ghost use Rattle.backing.specs.Files.{files_of, cached_in};

@@ -1,4 +1,4 @@
-//! How frames come back, and slots are joined.
+//! The events by which frames come back, a flush and a review, and the one by which slots are joined.
 ghost use Rattle.std.specs.Prelude.{◌≡◌, true, false};
 ghost use Rattle.machine_model.specs.Counting.{FlushesOnce, ReviewsOnce};
 ghost use Rattle.machine_model.specs.Locks.{FoldsAt};

@@ -1,4 +1,4 @@
-//! A call that is given up for want of memory.
+//! The event that gives a call up for want of memory, while that may still be.
 ghost use Rattle.std.specs.Prelude.{◌≡◌, IfSome};
 ghost use Rattle.vm_base.specs.declared.page.PageRange.{PageRange};
 ghost use Rattle.slot_lock.specs.Plan.{IsSoundGoal};
@@ -10,7 +10,7 @@ ghost use Rattle.core_steps.specs.Moving.{AwaitsCopy, IsOf, goal_in, is_copy_due
 use crate::engine::Engine;
 use crate::ledger::Ledger;
 use crate::rows::filling::give_back;
-use access_answers::page_of_touch;
+use machine_model::answers::page_of_touch;
 use machine_model::{Outcome, Phase};
 use mmu::Hardware;
 use slot_lock::SlotMap;

@@ -1,4 +1,4 @@
-//! Which pages the next step of a call may change.
+//! What is asked before an event: which pages the next step of a call may change.
 ghost use Rattle.std.specs.Prelude.{◌≡◌, IfSome};
 ghost use Rattle.slot_lock.specs.Plan.{IsSoundGoal};
 ghost use Rattle.machine_model.specs.Holding.{page_of_touch};
@@ -9,8 +9,8 @@ ghost use Rattle.core_steps.specs.State.{world};
 
 use crate::engine::Engine;
 use crate::ledger::Ledger;
-use access_answers::page_of_touch;
 use machine_model::Phase;
+use machine_model::answers::page_of_touch;
 use mmu::Hardware;
 use slot_lock::SlotMap;
 use std::alloc::Allocator;

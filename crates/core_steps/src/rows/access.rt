@@ -1,4 +1,4 @@
-//! The access of a byte.
+//! The step that tries an access: the core translates its page, and the byte is read or written.
 ghost use Rattle.std.specs.Prelude.{◌≡◌, ◌<◌, length};
 ghost use Rattle.slot_lock.specs.declared.plan.Goal.TheVariants as To;
 ghost use Rattle.slot_lock.specs.Plan.{IsSoundGoal};
@@ -13,7 +13,7 @@ ghost use Rattle.core_steps.specs.OnePage.{Passes};
 use crate::engine::Engine;
 use crate::ledger::Ledger;
 use crate::rows::acquire::locking;
-use access_answers::byte_reply;
+use machine_model::answers::byte_reply;
 use machine_model::{Outcome, Phase};
 use mmu::{Hardware, Translated};
 use slot_lock::{Goal, SlotMap, Touch};

@@ -1,4 +1,4 @@
-//! Locking all pages of a call, slot by slot from left to right.
+//! The step that locks the pages of a call, slot by slot from left to right.
 ghost use Rattle.std.specs.Prelude.{◌≡◌, ◌<◌, ◌≤◌, IfOk};
 ghost use Rattle.slot_lock.specs.Plan.{IsSoundGoal, goal_range};
 ghost use Rattle.machine_model.specs.Locks.{all_locked, locked_to, locking};

@@ -1,4 +1,4 @@
-//! A call begins, and its arguments are checked.
+//! The first steps of a call: it gets its number, and its arguments are checked.
 ghost use Rattle.std.specs.Prelude.{◌≡◌, ◌<◌, length};
 ghost use Rattle.machine_model.specs.Step.{Goes};
 ghost use Rattle.machine_laws.specs.Orderly.{answer_count};

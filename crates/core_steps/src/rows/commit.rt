@@ -1,4 +1,4 @@
-//! The change of the pages, once no core that was told is awaited any more.
+//! The step that makes a change, once no core that was told is awaited any more.
 ghost use Rattle.std.specs.Prelude.{◌≡◌, ℕ, ◌-◌, ◌<◌, IfSome, Option};
 ghost use Rattle.vm_base.specs.declared.info.PageInfo.{PageInfo};
 ghost use Rattle.vm_base.specs.Info.{frame_of};
@@ -16,7 +16,7 @@ ghost use Rattle.core_steps.specs.Taking.{AreCounted, IsCounted};
 
 use crate::engine::Engine;
 use crate::ledger::Ledger;
-use access_answers::reply_to;
+use machine_model::answers::reply_to;
 use machine_model::{Blocker, Outcome, Phase};
 use mmu::Hardware;
 use refcache::Refcache;

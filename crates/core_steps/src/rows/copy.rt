@@ -8,7 +8,7 @@ ghost use Rattle.core_steps.specs.Moving.{IsAt, Tries, WantsMemory};
 
 use crate::engine::Engine;
 use crate::ledger::Ledger;
-use access_answers::page_of_touch;
+use machine_model::answers::page_of_touch;
 use machine_model::{Blocker, Outcome, Phase};
 use mmu::Hardware;
 use slot_lock::{SlotMap, Touch};

@@ -19,7 +19,7 @@ ghost use Rattle.core_steps.specs.OnePage.{after_settling, with_translation};
 use crate::engine::Engine;
 use crate::ledger::Ledger;
 use crate::rows::file_pages::{file_frame, prot_installed};
-use access_answers::{back_of, is_past_end, page_of_touch};
+use machine_model::answers::{back_of, is_past_end, page_of_touch};
 use machine_model::{Outcome, Phase};
 use mmu::Hardware;
 use slot_lock::{SlotMap, Touch};

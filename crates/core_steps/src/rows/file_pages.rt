@@ -4,8 +4,8 @@ ghost use Rattle.std.specs.Prelude.{◌≡◌};
 ghost use Rattle.backing.specs.Files.{cached_in};
 ghost use Rattle.machine_model.specs.Files.{file_frame, prot_installed};
 
-use access_answers::prot_with;
 use backing::Objects;
+use machine_model::answers::prot_with;
 use std::alloc::Allocator;
 use vm_base::{Back, PageInfo, Prot};
 

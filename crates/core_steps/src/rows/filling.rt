@@ -17,8 +17,8 @@ ghost use Rattle.core_steps.specs.Moving.{IsAt, Tries, WantsMemory};
 
 use crate::engine::Engine;
 use crate::ledger::Ledger;
-use access_answers::back_of;
 use frames::Frames;
+use machine_model::answers::back_of;
 use machine_model::{Outcome, Phase};
 use mmu::Hardware;
 use slot_lock::{SlotMap, Touch};

@@ -1,5 +1,4 @@
-use Rattle.std.proofs.Common.{◌≡◌, ◌<◌, ◌≤◌, ◌∙◌, ⊎_elim, ap, arith, refl, sym, subst}
-use Rattle.std.proofs.lemmas.Bool.{cases_lt}
+use Rattle.slot_lock.proofs.Words.{◌≡◌, ◌<◌, ◌≤◌, ◌∙◌, ⊎_elim, ap, arith, refl, sym, subst, cases_lt}
 use Rattle.frames.specs.Parts.{free_frames}
 use Rattle.slot_lock.specs.Framed.{frames_in}
 use Rattle.slot_lock.proofs.Listing.{list_moves, list_whole}

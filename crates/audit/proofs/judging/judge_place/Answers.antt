@@ -1,7 +1,6 @@
-use Rattle.std.proofs.Common.{◌≡◌, ◌∙◌, Some, sym, subst, ap, true, false, refl}
+use Rattle.slot_lock.proofs.Words.{◌≡◌, ◌∙◌, Some, sym, subst, ap, true, false, refl, is_mapped}
 use Rattle.backing.specs.Files.{cached_in}
 use Rattle.audit.specs.Placing.{IsAllowed}
-use Rattle.vm_base.specs.Plain.{is_mapped}
 use Rattle.vm_calls.specs.Decisions.{entries}
 use Rattle.audit.proofs.Concluded.{place_made, place_nowhere, place_unsaid, place_wrong}
 use Rattle.audit.proofs.Kept.{kept_none}

@@ -1,9 +1,8 @@
-use Rattle.std.proofs.Common.{◌≡◌, ◌≢◌, ◌∙◌, List, Some, true, false, refl, subst, sym}
+use Rattle.slot_lock.proofs.Words.{◌≡◌, ◌≢◌, ◌∙◌, List, Some, true, false, refl, subst, sym, Done}
 use Rattle.backing.specs.Files.{FileParts, cached_in}
 use Rattle.frames.specs.Parts.{FrameParts}
 use Rattle.audit.specs.declared.judging.Verdict.TheVariants.{Legal, Illegal}
 use Rattle.audit.proofs.Kept.{kept_same}
-use Rattle.vm_base.specs.declared.replies.Reply.TheVariants.{Done}
 use Rattle.audit.proofs.Concluded.{done_bytes, due_kept, frame_within, left_alone, left_stored, touch_judged, unmapped_judged}
 use Rattle.audit.specs.Keeping.{Keeps, plain_kept}
 use Rattle.audit.proofs.judging.judge_touch.Goals as goal

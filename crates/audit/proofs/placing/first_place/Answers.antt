@@ -1,5 +1,4 @@
-use Rattle.std.proofs.Common.{◌≡◌, inr, sym, subst, true, false}
-use Rattle.vm_base.specs.Plain.{is_mapped}
+use Rattle.slot_lock.proofs.Words.{◌≡◌, inr, sym, subst, true, false, is_mapped}
 use Rattle.vm_calls.specs.Decisions.{entries}
 use Rattle.vm_calls.proofs.Rooms.{least-room}
 use Rattle.audit.specs.Placing.{IsHintTaken}

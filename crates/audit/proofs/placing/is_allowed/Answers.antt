@@ -1,6 +1,5 @@
-use Rattle.std.proofs.Common.{Bool, sym, subst}
-use Rattle.std.specs.Prelude.{◌↔◌, IsTrue}
-use Rattle.vm_base.specs.Plain.{is_mapped}
+use Rattle.slot_lock.proofs.Words.{Bool, sym, subst, IsTrue, is_mapped}
+use Rattle.std.specs.Prelude.{◌↔◌}
 use Rattle.vm_calls.specs.Decisions.{entries}
 use Rattle.audit.specs.Placing.{IsAllowed, IsFirst}
 use Rattle.audit.proofs.Placed.{first_one}

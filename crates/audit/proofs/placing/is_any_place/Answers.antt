@@ -1,6 +1,5 @@
-use Rattle.std.proofs.Common.{Option, ℕ, sym, subst}
-use Rattle.std.specs.Prelude.{◌↔◌, IsTrue}
-use Rattle.vm_base.specs.Plain.{is_mapped}
+use Rattle.slot_lock.proofs.Words.{Option, ℕ, sym, subst, IsTrue, is_mapped}
+use Rattle.std.specs.Prelude.{◌↔◌}
 use Rattle.vm_calls.specs.Decisions.{entries}
 use Rattle.audit.specs.Placing.{IsAnyPlace, all_pages}
 use Rattle.audit.proofs.placing.is_any_place.Goals as goal

@@ -1,7 +1,7 @@
 use Rattle.std.proofs.Common.{inr, refl, sym, subst, arith}
-use Rattle.map_list.proofs.Lists.{lists_end, lists_more}
-use Rattle.map_list.specs.Lines.{ListsLines}
-use Rattle.map_list.specs.Walked.{slot_metas}
+use Rattle.slot_lock.proofs.MapLists.{lists_end, lists_more}
+use Rattle.slot_lock.specs.MapList.{ListsLines}
+use Rattle.slot_lock.specs.MapWalks.{slot_metas}
 use Rattle.audit_text.proofs.AroundLemmas.{longer}
 use Rattle.audit_text.proofs.around.mappings_around.Goals as goal
 

@@ -1,6 +1,6 @@
 use Rattle.std.proofs.Common.{◌≡◌, ◌-◌, ◌^◌, ◌≤◌, ◌⊎◌, length}
-use Rattle.map_list.specs.Lines.{GoesOn, ListsLines}
-use Rattle.map_list.specs.Walked.{slot_metas}
+use Rattle.slot_lock.specs.MapList.{GoesOn, ListsLines}
+use Rattle.slot_lock.specs.MapWalks.{slot_metas}
 use Rattle.audit_text.proofs.around.mappings_around.Given as goal
 
 -- those from the first page up to this one

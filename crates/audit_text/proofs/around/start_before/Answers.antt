@@ -1,5 +1,5 @@
 use Rattle.std.proofs.Common.{inr, refl, arith}
-use Rattle.map_list.proofs.Lists.{to_first}
+use Rattle.slot_lock.proofs.MapLists.{to_first}
 use Rattle.audit_text.proofs.around.start_before.Goals as goal
 
 pub lines-init : goal.lines-init

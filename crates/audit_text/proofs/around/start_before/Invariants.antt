@@ -1,6 +1,6 @@
 use Rattle.std.proofs.Common.{◌≡◌, ◌-◌, ◌^◌, ◌≤◌, ◌⊎◌}
-use Rattle.map_list.specs.Lines.{GoesOn}
-use Rattle.map_list.specs.Walked.{slot_metas}
+use Rattle.slot_lock.specs.MapList.{GoesOn}
+use Rattle.slot_lock.specs.MapWalks.{slot_metas}
 use Rattle.audit_text.proofs.around.start_before.Given as goal
 
 abbrev pub invariant-lines : goal.invariant-lines

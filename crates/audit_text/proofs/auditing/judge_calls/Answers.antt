@@ -1,7 +1,7 @@
 use Rattle.std.proofs.Common.{rules, ap, ◌∙◌, subst}
 use Rattle.std.proofs.lemmas.Result.{err_from_is_err_and}
 use Rattle.vm_base.specs.Plain.{nothing_mapped}
-use Rattle.map_list.specs.Walked.{slot_metas}
+use Rattle.slot_lock.specs.MapWalks.{slot_metas}
 use Rattle.audit.specs.Auditor.{plain_of}
 use Rattle.audit_text.specs.Ends.{IsAtFault}
 use Rattle.audit_text.specs.Steps.{IsFound, declared_of}

@@ -1,5 +1,4 @@
-use Rattle.std.proofs.Common.{rules, refl, subst}
-use Rattle.machine_model.specs.declared.event.Outcome.{Outcome}
+use Rattle.machine_laws.proofs.Words.{rules, refl, subst, Outcome}
 use Rattle.core_steps.specs.Machine.{state}
 use Rattle.certifier.specs.Following.{Leads}
 use Rattle.certifier.proofs.following.take_note.Goals as goal

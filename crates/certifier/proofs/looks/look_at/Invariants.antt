@@ -1,5 +1,4 @@
-use Rattle.std.proofs.Common.{◌≡◌, ℕ, ◌+◌, ◌-◌, ◌≤◌, cond, Option}
-use Rattle.vm_base.specs.declared.info.PageInfo.{PageInfo}
+use Rattle.machine_laws.proofs.Words.{◌≡◌, ℕ, ◌+◌, ◌-◌, ◌≤◌, cond, Option, PageInfo}
 use Rattle.core_steps.specs.Machine.{state}
 use Rattle.certifier.specs.Looks.{IsLooked}
 use Rattle.certifier.proofs.looks.look_at.Given as goal

@@ -1,8 +1,9 @@
 use Rattle.std.proofs.Common.{arith, refl, ap, Ok, ◌∙◌, inr}
+use Rattle.trace_io.proofs.IoLemmas.{reads_some}
 use Rattle.trace_io.proofs.LineLemmas.{reads_none, reads_then}
 use Rattle.trace_io.specs.Window.{left}
 use Rattle.trace.proofs.RunLemmas.{mark_kept, fault_kept}
-use Rattle.command_line.proofs.EchoLemmas.{reads_some, echoed_none, echoed_more, echoed_fails, echoed_ends, end_not_read, end_not_write}
+use Rattle.command_line.proofs.EchoLemmas.{echoed_none, echoed_more, echoed_fails, echoed_ends, end_not_read, end_not_write}
 use Rattle.command_line.proofs.echo.echo_lines.Goals as goal
 
 pub lines-init : goal.lines-init
@@ -16,7 +17,7 @@ pub lines-preserved : goal.lines-preserved
 lines-preserved g c =
     let turns = rw c.in-Ok-true.field-0-test at c.in-Ok-true.ensures.turns in
     let less = c.in-Ok-true.ensures.budget c.in-Ok-true.field-0-test in
-    let kept = mark_kept _ _ _ _ (ap Ok c.in-Ok-true.field-0-test) c.in-Ok-true.ensures.kept ∙ c.lines.invariant.kept in
+    let kept = mark_kept _ _ _ _ (ap Ok c.in-Ok-true.field-0-test) c.in-Ok-true.ensures.told.kept ∙ c.lines.invariant.kept in
     record {
       budget = omega (arith, less, c.lines.invariant.budget);
       kept = kept;
@@ -29,22 +30,24 @@ returns-in-Ok-false-clause-ends g c =
     λ limit start. reads_then _ _ _ _ _ _ (c.lines.invariant.ran limit start) turns
     (λ xs ys zs k h a. echoed_ends limit xs _ _ _ _ _ h a c.finish.ensures.ok c.finish.ensures.err)
 
-pub returns-in-Ok-false-clause-read : goal.returns-in-Ok-false-clause-read
-returns-in-Ok-false-clause-read g c e =
+pub returns-in-Ok-false-clause-told : goal.returns-in-Ok-false-clause-told
+returns-in-Ok-false-clause-told g c =
     let turns = rw c.in-Ok-false.field-0-test at c.in-Ok-false.ensures.turns in
-    reads_some _ _ _ turns (λ xs ys v. end_not_read _ _ _ v c.finish.ensures.err e)
-
-pub returns-in-Ok-false-clause-write : goal.returns-in-Ok-false-clause-write
-returns-in-Ok-false-clause-write g c e =
-    let turns = rw c.in-Ok-false.field-0-test at c.in-Ok-false.ensures.turns in
-    reads_some _ _ _ turns (λ xs ys v. end_not_write _ _ _ v c.finish.ensures.err e)
-
-pub returns-in-Ok-false-clause-kept : goal.returns-in-Ok-false-clause-kept
-returns-in-Ok-false-clause-kept g c = inr (mark_kept _ _ _ _ refl c.in-Ok-false.ensures.kept ∙ c.lines.invariant.kept)
+    record {
+      read = λ e. reads_some _ _ _ turns (λ xs ys v. end_not_read _ _ _ v c.finish.ensures.err e);
+      write = λ e. reads_some _ _ _ turns (λ xs ys v. end_not_write _ _ _ v c.finish.ensures.err e);
+      kept = inr (mark_kept _ _ _ _ refl c.in-Ok-false.ensures.told.kept ∙ c.lines.invariant.kept);
+    }
 
 pub returns-in-Err-clause-ends : goal.returns-in-Err-clause-ends
 returns-in-Err-clause-ends g c = λ limit start.
-    reads_then _ _ _ _ _ _ (c.lines.invariant.ran limit start) c.in-Err.ensures.turns (λ xs ys zs k h a. echoed_fails limit xs _ _ _ _ _ h a)
+    reads_then _ _ _ _ _ _ (c.lines.invariant.ran limit start) c.in-Err.ensures.turns (λ xs ys zs k h a. echoed_fails limit _ c.requires.keeps xs _ _ _ _ _ h a)
 
-pub returns-in-Err-clause-kept : goal.returns-in-Err-clause-kept
-returns-in-Err-clause-kept g c = fault_kept _ _ _ _ _ _ refl refl c.in-Err.ensures.kept c.lines.invariant.kept
+pub returns-in-Err-clause-told : goal.returns-in-Err-clause-told
+returns-in-Err-clause-told g c =
+    let told = c.in-Err.ensures.told in
+    record {
+      read = λ e. told.read (cc);
+      write = λ e. told.write (cc);
+      kept = fault_kept _ _ _ _ _ _ refl refl told.kept c.lines.invariant.kept;
+    }

@@ -9,8 +9,7 @@ returns-in-Ok-clause-ends g c = (
   c.draw_trace-drawn.result,
   c.tell_end.ensures.value,
   reads_map _ _ _ _ c.draw_trace-drawn.ensures.ends (λ xs ys k h. picture_kept c.args.drawing xs ys _ _ _ c.draw_trace-drawn.result h c.flush.ensures.bytes),
-  told_kept c.draw_trace-drawn.result _ _ _ _ _ _ c.draw_trace-drawn.ensures.read c.draw_trace-drawn.ensures.write c.draw_trace-drawn.ensures.kept
-      c.in-Ok.ensures.ok c.in-Ok.ensures.out,
+  told_kept c.draw_trace-drawn.result _ _ _ c.draw_trace-drawn.ensures.told c.in-Ok.ensures.ok refl c.in-Ok.ensures.out,
 )
 
 pub returns-in-Err-clause-ends : goal.returns-in-Err-clause-ends
@@ -18,5 +17,5 @@ returns-in-Err-clause-ends g c = (
   Err WriteFailed,
   c.tell_end-in-Err.ensures.value,
   reads_map _ _ _ _ c.draw_trace-drawn.ensures.ends (λ xs ys k h. picture_lost c.args.drawing xs ys _ _ _ c.draw_trace-drawn.result h c.flush.ensures.bytes),
-  told_lost (Err WriteFailed) _ _ _ _ _ refl c.in-Err.ensures.err,
+  told_lost (Err WriteFailed) _ _ refl c.in-Err.ensures.err,
 )

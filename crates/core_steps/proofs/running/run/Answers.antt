@@ -1,9 +1,7 @@
-use Rattle.std.proofs.Common.{◌≡◌, ◌<◌, ℕ, zero, suc, true, false, inl, inr, refl, subst, arith}
+use Rattle.machine_laws.proofs.Words.{◌≡◌, ◌<◌, ℕ, zero, suc, true, false, inl, inr, refl, subst, arith, new_world, Run}
 use Rattle.core_steps.specs.Running.{IsRefusedAt, RunsAsMap}
 use Rattle.core_steps.specs.Setups.{made_of}
 use Rattle.core_steps.specs.State.{world}
-use Rattle.machine_model.specs.World.{new_world}
-use Rattle.machine_model.specs.Step.{Run}
 use Rattle.core_steps.proofs.Reached.{few_cores}
 use Rattle.core_steps.proofs.Runs.{plainly}
 use Rattle.machine_laws.proofs.Bracketed.{bracketed}

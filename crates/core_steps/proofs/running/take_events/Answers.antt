@@ -1,7 +1,5 @@
-use Rattle.std.proofs.Common.{◌≡◌, take, refl, rules, subst}
+use Rattle.machine_laws.proofs.Words.{◌≡◌, take, refl, rules, subst, Run, take_all}
 use Rattle.core_steps.specs.State.{world}
-use Rattle.machine_model.specs.Step.{Run}
-use Rattle.std.proofs.lemmas.List.{take_all}
 use Rattle.core_steps.specs.Running.{RunsAsMap}
 use Rattle.core_steps.proofs.Runs.{next_run, next_as_map, refused_next}
 use Rattle.core_steps.proofs.running.take_events.Goals as goal

@@ -1,7 +1,5 @@
-use Rattle.std.proofs.Common.{◌≡◌, length, ◌≤◌, take}
-use Rattle.std.specs.Prelude.{vec_len, vec_capacity}
+use Rattle.machine_laws.proofs.Words.{◌≡◌, length, ◌≤◌, take, vec_len, vec_capacity, Run}
 use Rattle.core_steps.specs.State.{world}
-use Rattle.machine_model.specs.Step.{Run}
 use Rattle.core_steps.specs.Running.{RunsAsMap}
 use Rattle.core_steps.proofs.running.take_events.Given as goal
 

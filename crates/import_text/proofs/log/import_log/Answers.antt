@@ -1,29 +1,29 @@
-use Rattle.std.proofs.Common.{Err, ap, sym, subst, ◌∙◌}
+use Rattle.std.proofs.Common.{Err, ap, refl, sym, subst, ◌∙◌}
+use Rattle.trace_io.proofs.IoLemmas.{tells_unread}
 use Rattle.trace_io.proofs.LineLemmas.{reads_map}
-use Rattle.import_text.specs.Ends.{ImportEnds}
+use Rattle.import_text.specs.Ends.{ImportEnds, made_text}
 use Rattle.import_text.specs.Taking.{so_far}
-use Rattle.import_text.proofs.EndLemmas.{stopped, tells_unread}
+use Rattle.import_text.proofs.EndLemmas.{stopped}
 use Rattle.import_text.proofs.log.import_log.Goals as goal
 
 pub returns-in-Ok-clause-ends : goal.returns-in-Ok-clause-ends
 returns-in-Ok-clause-ends g c =
     let old = g.W.Sink.contents c.args.writer.now in
     let new = g.W.Sink.contents c.write_import.new.writer in
-    reads_map _ _ _ _ c.in-Ok.ensures.log
+    reads_map _ _ _ _ c.in-Ok.ensures.text
     (λ xs ys k e. subst (λ i. ImportEnds (so_far c.args.start.now) c.args.thread i old new c.write_import.result)
     (c.as_slice.ensures.value ∙ sym e) c.write_import.ensures.ends)
 
 pub returns-in-Err-clause-ends : goal.returns-in-Err-clause-ends
-returns-in-Err-clause-ends g c = stopped _ _ (so_far c.args.start.now) c.args.thread (g.W.Sink.contents c.args.writer.now) c.in-Err.fault
+returns-in-Err-clause-ends g c =
+    stopped _ _ (made_text (so_far c.args.start.now) c.args.thread) (g.W.Sink.contents c.args.writer.now) c.in-Err.fault
     (λ e. c.in-Err.ensures.write (ap Err e)) c.in-Err.ensures.kept
 
 pub returns-in-Ok-clause-told : goal.returns-in-Ok-clause-told
-returns-in-Ok-clause-told g c = record {
-  read = λ e. absurd (c.write_import.ensures.read e);
-  write = c.write_import.ensures.write;
-  kept = c.write_import.ensures.kept;
-  out = c.write_import.ensures.out;
-}
+returns-in-Ok-clause-told g c =
+    let wrote = c.write_import.ensures in
+    record { read = λ e. absurd (wrote.read e); write = wrote.write; kept = wrote.kept; out = wrote.out }
 
 pub returns-in-Err-clause-told : goal.returns-in-Err-clause-told
-returns-in-Err-clause-told g c = tells_unread c.in-Err.fault _ _ _ _ c.in-Err.ensures.read c.in-Err.ensures.write
+returns-in-Err-clause-told g c =
+    tells_unread (λ f. f) (λ f. f) (λ f. refl) _ _ refl c.in-Err.fault c.in-Err.ensures.read c.in-Err.ensures.write

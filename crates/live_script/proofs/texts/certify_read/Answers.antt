@@ -1,5 +1,5 @@
 use Rattle.std.proofs.Common.{refl}
-use Rattle.notes_text.proofs.VerdictLemmas.{keeps_same}
+use Rattle.trace_io.proofs.IoLemmas.{keeps_same}
 use Rattle.live_script.specs.Texts.{unrun, unwritten}
 use Rattle.live_script.proofs.TextLemmas.{verdict_given}
 use Rattle.live_script.proofs.texts.certify_read.Goals as goal
@@ -9,4 +9,4 @@ returns-in-Err-clause-ends g c = let (fault, fails, is) = c.in-Err.ensures.fault
 
 pub returns-in-Err-send_verdict-clause-ends : goal.returns-in-Err-send_verdict-clause-ends
 returns-in-Err-send_verdict-clause-ends g c =
-    unwritten refl _ _ (verdict_given _ _ _ _ c.in-Ok.verdict c.in-Ok.ensures.judged) c.in-Err-send_verdict.ensures.front
+    unwritten refl _ _ (verdict_given _ _ _ _ c.in-Ok.verdict c.in-Ok.ensures.judged) c.in-Err-send_verdict.ensures.wrote.front

@@ -1,8 +1,8 @@
 use Rattle.std.proofs.Common.{refl, inl, inr}
+use Rattle.trace_io.proofs.IoLemmas.{keeps_same, reads_some}
 use Rattle.trace_io.proofs.LineLemmas.{reads_map, reads_none}
 use Rattle.trace.specs.declared.fault.TraceFault.TheVariants as Of
 use Rattle.notes_text.specs.Scripts.{unmade}
-use Rattle.notes_text.proofs.VerdictLemmas.{keeps_same, reads_any}
 use Rattle.live_script.proofs.TextLemmas.{ends_as_yields, unread_own}
 use Rattle.live_script.proofs.texts.certify_run.Goals as goal
 
@@ -15,7 +15,7 @@ returns-in-Err-clause-ends g c = reads_map _ _ _ _ c.in-Err.ensures.reads (λ xs
 pub returns-in-Err-clause-told : goal.returns-in-Err-clause-told
 returns-in-Err-clause-told g c = record {
   read = λ e. c.in-Err.ensures.read (cc);
-  write = λ e. let (xs, ys, p) = reads_any _ _ _ c.in-Err.ensures.reads in unread_own xs ys _ p (cc);
+  write = λ e. reads_some _ _ _ c.in-Err.ensures.reads (λ xs ys p. unread_own xs ys _ p (cc));
   kept = inr refl;
   out = tt;
 }

@@ -1,5 +1,5 @@
 use Rattle.std.proofs.Common.{refl}
-use Rattle.notes_text.proofs.VerdictLemmas.{keeps_same}
+use Rattle.trace_io.proofs.IoLemmas.{keeps_same}
 use Rattle.live_script.specs.Texts.{unrun}
 use Rattle.live_script.specs.declared.fault.RunFault.TheVariants as Run
 use Rattle.live_script.proofs.TextLemmas.{notes_unwritten, notes_written, same_notes}

@@ -1,7 +1,7 @@
 use Rattle.std.proofs.Common.{◌≡◌, ◌+◌, ◌-◌, ◌≤◌, length}
 use Rattle.std.specs.Prelude.{vec_capacity}
 use Rattle.std.specs.Arc.{arc_value}
-use Rattle.tickets.specs.Tickets.{IsNew}
+use Rattle.seats.specs.Tickets.{IsNew}
 use Rattle.live_space.specs.Space.{AreFresh}
 use Rattle.live_space.proofs.making.new_seats.Given as goal
 

@@ -1,5 +1,4 @@
-use Rattle.std.proofs.Common.{◌≡◌, map, take, drop, ◌++◌}
-use Rattle.std.specs.Prelude.{All, IsSome}
+use Rattle.slot_lock.proofs.Words.{◌≡◌, map, take, drop, ◌++◌, All, IsSome}
 use Rattle.live_tree.specs.Guards.{slot_of}
 use Rattle.live_tree.specs.Held.{committed}
 use Rattle.live_tree.proofs.held.commit_all.Given as goal

@@ -1,6 +1,7 @@
 use Rattle.std.proofs.Common.{refl, inl, inr}
 use Rattle.trace_io.proofs.LineLemmas.{reads_map}
-use Rattle.notes_text.proofs.VerdictLemmas.{keeps_same, reads_any, unjudged_own}
+use Rattle.trace_io.proofs.IoLemmas.{keeps_same, reads_some}
+use Rattle.notes_text.proofs.VerdictLemmas.{unjudged_own}
 use Rattle.notes_text.proofs.certifying.certify_lines.Goals as goal
 
 pub returns-in-Err-clause-ends : goal.returns-in-Err-clause-ends
@@ -8,4 +9,4 @@ returns-in-Err-clause-ends g c = reads_map _ _ _ _ c.in-Err.ensures.finds (λ xs
 
 pub returns-in-Err-clause-write : goal.returns-in-Err-clause-write
 returns-in-Err-clause-write g c e =
-    let (xs, ys, p) = reads_any _ _ _ c.in-Err.ensures.finds in unjudged_own xs ys _ p (cc)
+    reads_some _ _ _ c.in-Err.ensures.finds (λ xs ys p. unjudged_own xs ys _ p (cc))

@@ -5,6 +5,3 @@ use Rattle.notes_text.proofs.collecting.collect.Goals as goal
 
 pub returns-in_default-clause-err : goal.returns-in_default-clause-err
 returns-in_default-clause-err g c = reads_none _ _ (λ xs. unmade refl refl)
-
-pub returns-in_default-new-clause-err : goal.returns-in_default-new-clause-err
-returns-in_default-new-clause-err g c = reads_none _ _ (λ xs. unmade refl refl)

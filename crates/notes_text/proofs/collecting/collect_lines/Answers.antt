@@ -1,8 +1,9 @@
 use Rattle.std.proofs.Common.{arith, ap}
+use Rattle.std.proofs.lemmas.Result.{IfErr-weaker}
 use Rattle.trace_io.proofs.LineLemmas.{reads_none, reads_then}
 use Rattle.trace_io.specs.Window.{left}
 use Rattle.notes_text.proofs.CollectLemmas.{collected_none, collected_more, collected_fails, collected_ends, collected_stops}
-use Rattle.notes_text.proofs.CollectLemmas.{on_ok_then, if_err_then, end_not_read, some_asked}
+use Rattle.notes_text.proofs.CollectLemmas.{on_ok_then, end_not_read, some_asked}
 use Rattle.notes_text.proofs.collecting.collect_lines.Goals as goal
 
 pub lines-init : goal.lines-init
@@ -29,8 +30,7 @@ returns-in-Ok-false-clause-ok g c =
 pub returns-in-Ok-false-clause-err : goal.returns-in-Ok-false-clause-err
 returns-in-Ok-false-clause-err g c =
     let turns = rw c.in-Ok-false.field-0-test at c.in-Ok-false.ensures.turns in
-    if_err_then _ _ _ c.finish.ensures.err (λ f x. reads_then _ _ _ _ _ _ c.lines.invariant.ran turns (λ xs ys zs k h a.
-    collected_stops _ _ xs _ _ _ f h a x))
+    IfErr-weaker _ _ _ (λ f x. reads_then _ _ _ _ _ _ c.lines.invariant.ran turns (λ xs ys zs k h a. collected_stops _ _ xs _ _ _ f h a x)) c.finish.ensures.err
 
 pub returns-in-Ok-false-clause-read : goal.returns-in-Ok-false-clause-read
 returns-in-Ok-false-clause-read g c e = end_not_read _ _ c.finish.ensures.err e

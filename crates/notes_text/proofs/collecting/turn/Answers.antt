@@ -31,7 +31,7 @@ pub returns-in-Err-clause-turns : goal.returns-in-Err-clause-turns
 returns-in-Err-clause-turns g c =
     let given = c.in-Ok-Line.ensures in
     let found = rw c.in-Ok-Line.field-0-is at given.found in
-    reads_map _ _ _ _ found (λ xs ys k p. line_refused _ _ _ _ _ _ _ _ _ p.0 p.1 p.2 (given.few, refl) c.line.ensures c.in-Err.ensures.err)
+    reads_map _ _ _ _ found (λ xs ys k p. line_refused _ _ _ _ _ _ _ _ _ p (given.few, refl) c.line.ensures c.in-Err.ensures.err)
 
 pub returns-in-Err-clause-read : goal.returns-in-Err-clause-read
 returns-in-Err-clause-read g c e = not_read _ _ _ _ _ _ c.in-Err.ensures.err (cc)
@@ -39,4 +39,4 @@ returns-in-Err-clause-read g c e = not_read _ _ _ _ _ _ c.in-Err.ensures.err (cc
 pub returns-in_default-clause-turns : goal.returns-in_default-clause-turns
 returns-in_default-clause-turns g c =
     let found = rw c.in-Ok-Line.field-0-is at c.in-Ok-Line.ensures.found in
-    reads_map _ _ _ _ found (λ xs ys k p. line_advances _ _ _ _ _ _ p.0 p.1 p.2 c.line.ensures c.in_default.ensures.ok)
+    reads_map _ _ _ _ found (λ xs ys k p. line_advances _ _ _ _ _ _ p c.line.ensures c.in_default.ensures.ok)

@@ -1,5 +1,5 @@
 use Rattle.std.proofs.Common.{arith, sym, ◌∙◌}
-use Rattle.notes_text.proofs.OutcomeLemmas.{acks_stuck, acks_low, acks_more, acks_done, begun_words, fewer_words}
+use Rattle.notes_text.proofs.OutcomeLemmas.{acks_stuck, acks_low, acks_done, begun_words}
 use Rattle.notes_text.proofs.outcome_words.read_acks.Goals as goal
 
 pub returns-in_err-core : goal.returns-in_err-core

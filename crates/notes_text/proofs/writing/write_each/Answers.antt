@@ -1,6 +1,7 @@
 use Rattle.std.proofs.Common.{arith, refl, ◌∙◌}
 use Rattle.notes_text.specs.Written.{note_text}
-use Rattle.notes_text.proofs.PieceLemmas.{each_front, each_wrote, nothing_yet}
+use Rattle.trace_io.proofs.IoLemmas.{each_front, each_wrote}
+use Rattle.notes_text.proofs.PieceLemmas.{nothing_yet}
 use Rattle.notes_text.proofs.writing.write_each.Goals as goal
 
 pub notes-init : goal.notes-init
@@ -13,6 +14,7 @@ notes-preserved g c = record {
   kept = c.in_default.ensures.kept ∙ c.notes.invariant.kept;
 }
 
-pub returns-in-Err-clause-front : goal.returns-in-Err-clause-front
-returns-in-Err-clause-front g c =
-    each_front note_text _ _ _ _ _ _ c.notes-test.true c.index-notes-at.is c.notes.invariant.written c.in-Err.ensures.front
+pub returns-in-Err : goal.returns-in-Err
+returns-in-Err g c =
+    let front = each_front note_text _ _ _ _ _ _ c.notes-test.true c.index-notes-at.is c.notes.invariant.written c.in-Err.ensures.front in
+    record { ok = tt; kept = tt; front = front; err = c.in-Err.ensures.err }

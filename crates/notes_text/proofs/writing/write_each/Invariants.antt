@@ -1,6 +1,4 @@
-use Rattle.std.proofs.Common.{length, take, ◌-◌, ◌≡◌, ◌≤◌}
-use Rattle.std.specs.List.{flat_map}
-use Rattle.std.specs.Io.KnownBytes.{Appends}
+use Rattle.machine_laws.proofs.Words.{length, take, ◌-◌, ◌≡◌, ◌≤◌, flat_map, Appends}
 use Rattle.notes_text.specs.Written.{note_text}
 use Rattle.notes_text.proofs.writing.write_each.Given as goal
 

@@ -1,5 +1,4 @@
-use Rattle.std.proofs.Common.{arith, refl, subst, ◌∙◌}
-use Rattle.std.specs.Io.KnownBytes.{Appends}
+use Rattle.machine_laws.proofs.Words.{arith, refl, subst, ◌∙◌, Appends}
 use Rattle.trace_io.specs.Sink.{AppendsFront}
 use Rattle.notes_text.proofs.PieceLemmas.{files_front, files_wrote, nothing_yet}
 use Rattle.notes_text.proofs.writing.write_files.Goals as goal
@@ -16,7 +15,9 @@ files-preserved g c =
       kept = c.in_default.ensures.kept ∙ c.files.invariant.kept;
     }
 
-pub returns-in-Err-clause-front : goal.returns-in-Err-clause-front
-returns-in-Err-clause-front g c =
+pub returns-in-Err : goal.returns-in-Err
+returns-in-Err g c =
     let line = c.as_bytes.ensures.value ∙ c.as_str.ensures.value ∙ c.put_file.ensures in
-    files_front _ _ _ _ _ _ _ c.files-test.true refl c.files.invariant.written (subst (AppendsFront _ _) line c.in-Err.ensures.front)
+    let front = subst (AppendsFront _ _) line c.in-Err.ensures.front in
+    let all = files_front _ _ _ _ _ _ _ c.files-test.true refl c.files.invariant.written front in
+    record { ok = tt; kept = tt; front = all; err = c.in-Err.ensures.err }

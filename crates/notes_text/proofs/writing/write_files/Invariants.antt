@@ -1,5 +1,4 @@
-use Rattle.std.proofs.Common.{length, take, ◌-◌, ◌≡◌, ◌≤◌}
-use Rattle.std.specs.Io.KnownBytes.{Appends}
+use Rattle.machine_laws.proofs.Words.{length, take, ◌-◌, ◌≡◌, ◌≤◌, Appends}
 use Rattle.notes_text.specs.Written.{files_text}
 use Rattle.notes_text.proofs.writing.write_files.Given as goal
 

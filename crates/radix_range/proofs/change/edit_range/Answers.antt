@@ -1,9 +1,8 @@
-use Rattle.std.proofs.Common.{◌≡◌, ◌+◌, ◌-◌, ◌*◌, ◌<◌, ◌≤◌, ◌^◌, refl, sym, ap, ◌∙◌, subst, arith}
-use Rattle.radix_node.specs.Run.{width_of}
+use Rattle.std.proofs.Common.{arith}
 use Rattle.radix_node.specs.Node.{runs}
-use Rattle.radix_node.specs.Edit.{CanEdit}
 use Rattle.radix_range.proofs.Walks.{of_root}
-use Rattle.radix_range.proofs.Edits.{IsEdited, begins_at, edited_slots, edited_radix}
+use Rattle.radix_range.proofs.Edits.{begins_at, edited_slots}
+use Rattle.radix_range.proofs.TreeLaws.{still_radix}
 use Rattle.radix_range.proofs.change.edit_range.Goals as goal
 
 pub edit-requires-clause-within : goal.edit-requires-clause-within
@@ -17,8 +16,8 @@ edit-requires-clause-ends g c = begins_at c.args.root.now c.args.range.end c.req
 
 pub returns-clause-tree : goal.returns-clause-tree
 returns-clause-tree g c =
-    edited_radix c.args.root.now c.edit.new.self c.requires.tree c.args.range c.args.edit.now c.requires.pages
-    (record { inside = c.edit.ensures.inside; outside = c.edit.ensures.outside }) c.edit.ensures.level c.edit.ensures.whole
+    still_radix c.args.root.now c.edit.new.self c.requires.tree c.args.range.first c.args.range.end c.requires.pages.low c.requires.pages.high
+    c.edit.ensures.outside c.edit.ensures.level c.edit.ensures.whole
 
 pub returns-clause-slots : goal.returns-clause-slots
 returns-clause-slots g c =

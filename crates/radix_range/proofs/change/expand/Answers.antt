@@ -1,6 +1,6 @@
 use Rattle.std.proofs.Common.{arith}
 use Rattle.radix_node.specs.Node.{runs}
-use Rattle.radix_node.proofs.Folds.{ok_along}
+use Rattle.slot_lock.proofs.Facts.{ok_along}
 use Rattle.radix_range.proofs.Expansions.{several, tree_expanded, expanded-IsRadix, divides_at, divides_as, same_or_expanded}
 use Rattle.radix_range.proofs.change.expand.Goals as goal
 

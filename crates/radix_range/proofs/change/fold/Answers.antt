@@ -1,7 +1,7 @@
-use Rattle.std.proofs.Common.{◌↔◌, Bool, true, false, refl, arith}
-use Rattle.std.specs.Prelude.{IsTrue}
+use Rattle.std.proofs.Common.{arith}
 use Rattle.radix_range.proofs.Expansions.{tree_folded, folded-IsRadix, folded-Joins}
 use Rattle.radix_range.proofs.NodeFolds.{folds_node, can_join}
+use Rattle.slot_lock.proofs.Facts.{by_answer, is_answer}
 use Rattle.radix_range.proofs.change.fold.Goals as goal
 
 pub returns-clause-tree : goal.returns-clause-tree
@@ -11,13 +11,6 @@ returns-clause-tree g c = by_answer c.fold_at.result
     (omega (arith, c.requires.page.1)) c.fold_at.ensures.level c.fold_at.ensures.whole (c.fold_at.ensures.folded yes))
     c.fold_at.ensures.level c.fold_at.ensures.whole)
     (λ no. rw (c.fold_at.ensures.same no) c.requires.tree)
-  where
-    no_true : IsTrue false → ⊥
-    no_true h = cc
-
-    by_answer : {R : Type 0} (b : Bool) → (IsTrue b → R) → (¬ IsTrue b → R) → R
-    by_answer true f g = f refl
-    by_answer false f g = g no_true
 
 pub returns-clause-joined : goal.returns-clause-joined
 returns-clause-joined g c = λ yes.
@@ -34,15 +27,8 @@ returns-clause-exact g c = λ yes.
     (omega (arith, c.requires.page.1)) c.fold_at.ensures.level c.fold_at.ensures.whole (c.fold_at.ensures.folded yes))
 
 pub returns-clause-can : goal.returns-clause-can
-returns-clause-can g c = by_answer c.fold_at.result
+returns-clause-can g c = is_answer c.fold_at.result
     (λ yes. (folds_node c.args.root.now c.fold_at.new.self c.args.page (c.fold_at.ensures.folded yes).plain
     (tree_folded c.args.root.now c.fold_at.new.self c.requires.tree c.args.page
     (omega (arith, c.requires.page.1)) c.fold_at.ensures.level c.fold_at.ensures.whole (c.fold_at.ensures.folded yes))).could)
     (λ no can. c.fold_at.ensures.only no (can_join c.args.root.now c.requires.tree c.args.page can))
-  where
-    no_true : IsTrue false → ⊥
-    no_true h = cc
-
-    by_answer : {P : Type 0} (b : Bool) → (IsTrue b → P) → (¬ IsTrue b → P → ⊥) → IsTrue b ↔ P
-    by_answer true f g = (f, λ _. refl)
-    by_answer false f g = ((λ h. absurd (no_true h)), λ p. absurd (g no_true p))

@@ -1,6 +1,6 @@
 use Rattle.std.proofs.Common.{◌∙◌, Some}
 use Rattle.radix_node.specs.declared.edit.Edit.TheVariants.{Put}
-use Rattle.slot_lock.specs.ListLaws.{info_from_zero}
+use Rattle.slot_lock.proofs.ListLaws.{info_from_zero}
 use Rattle.radix_range.specs.Tree.{tree_slots}
 use Rattle.radix_range.proofs.Edits.{edited_one}
 use Rattle.radix_range.proofs.change.set_info.Goals as goal

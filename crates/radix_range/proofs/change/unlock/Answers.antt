@@ -1,4 +1,4 @@
-use Rattle.std.proofs.Common.{◌≡◌, ◌+◌, None, sym, ap, ◌∙◌, arith}
+use Rattle.std.proofs.Common.{◌+◌, None, sym, ap, ◌∙◌, arith}
 use Rattle.radix_range.proofs.Locking.{found_here, owned_radix, owned_slots}
 use Rattle.radix_range.proofs.change.unlock.Goals as goal
 

@@ -1,5 +1,4 @@
-use Rattle.std.proofs.Common.{◌≡◌, ◌+◌, ◌-◌, ◌*◌, ◌<◌, ◌^◌, sym, ap, ◌∙◌, subst, rules, arith}
-use Rattle.radix_range.specs.TreeLaws.{is_found, pages_are}
+use Rattle.radix_range.proofs.TreeLaws.{is_found}
 use Rattle.radix_range.proofs.slot.slot_at.Goals as goal
 
 pub returns : goal.returns

@@ -1,5 +1,4 @@
-use Rattle.std.proofs.Common.{◌≡◌, ℕ, ◌<◌, ◌≤◌, arith}
-use Rattle.slot_lock.specs.Slots.{IsFreeRun, between}
+use Rattle.std.proofs.Common.{arith}
 use Rattle.radix_range.specs.Tree.{tree_slots}
 use Rattle.radix_range.proofs.Mapped.{least_in_front, only_in_rest, least_in_rest, none_in_rest}
 use Rattle.radix_range.proofs.walk.first_free_run.Goals as goal

@@ -1,9 +1,6 @@
-use Rattle.std.proofs.Common.{◌≡◌, ◌+◌, ◌*◌, ◌<◌, ◌≤◌, ◌^◌, ◌↔◌, true, refl, sym, ap, ◌∙◌, subst, rules, arith}
-use Rattle.vm_base.specs.Cores.{members}
-use Rattle.radix_node.specs.Run.{width_of}
+use Rattle.slot_lock.proofs.Words.{arith, members}
 use Rattle.radix_node.specs.Node.{runs}
-use Rattle.radix_node.specs.Walk.{Finds}
-use Rattle.radix_range.proofs.Walks.{of_root, users_are, free_run_found, free_run_least, free_run_none}
+use Rattle.radix_range.proofs.Walks.{of_root, users_are}
 use Rattle.radix_range.proofs.walk.recorded.Goals as goal
 
 pub recorded-requires-clause-within : goal.recorded-requires-clause-within

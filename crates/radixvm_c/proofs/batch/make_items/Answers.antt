@@ -1,5 +1,4 @@
-use Rattle.std.proofs.Common.{refl, ◌∙◌}
-use Rattle.std.proofs.lemmas.List.{length-set}
+use Rattle.machine_laws.proofs.Words.{refl, ◌∙◌, length-set}
 use Rattle.radixvm_c.proofs.Batching.{makes_none, makes_more, makes_still}
 use Rattle.radixvm_c.proofs.batch.make_items.Goals as goal
 

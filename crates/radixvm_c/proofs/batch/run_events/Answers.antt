@@ -1,5 +1,4 @@
-use Rattle.std.proofs.Common.{refl, ◌∙◌}
-use Rattle.std.proofs.lemmas.List.{length-set}
+use Rattle.machine_laws.proofs.Words.{refl, ◌∙◌, length-set}
 use Rattle.radixvm_c.proofs.Batching.{runs_none, runs_more, runs_still, stops_at}
 use Rattle.radixvm_c.proofs.batch.run_events.Goals as goal
 

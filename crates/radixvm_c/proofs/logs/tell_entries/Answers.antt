@@ -1,6 +1,4 @@
-use Rattle.std.proofs.Common.{ap, ◌∙◌}
-use Rattle.std.specs.Prelude.{slice_set}
-use Rattle.std.proofs.lemmas.List.{length-set}
+use Rattle.machine_laws.proofs.Words.{ap, ◌∙◌, slice_set, length-set}
 use Rattle.radixvm_c.specs.Logs.{entry_code}
 use Rattle.radixvm_c.proofs.Listing.{one_more_of, below_both}
 use Rattle.radixvm_c.proofs.logs.tell_entries.Goals as goal

@@ -1,6 +1,4 @@
-use Rattle.std.proofs.Common.{ap, ◌∙◌}
-use Rattle.std.specs.Prelude.{slice_set}
-use Rattle.std.proofs.lemmas.List.{length-set}
+use Rattle.machine_laws.proofs.Words.{ap, ◌∙◌, slice_set, length-set}
 use Rattle.radixvm_c.specs.Maps.{line_code}
 use Rattle.radixvm_c.proofs.Listing.{one_more, below_both}
 use Rattle.radixvm_c.proofs.maps.tell_lines.Goals as goal

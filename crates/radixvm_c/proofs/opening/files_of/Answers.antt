@@ -1,5 +1,4 @@
-use Rattle.std.proofs.Common.{◌++◌, ◌∷◌, [], rules, subst, sym}
-use Rattle.std.proofs.lemmas.List.{take_more}
+use Rattle.machine_laws.proofs.Words.{◌++◌, ◌∷◌, [], rules, subst, sym, take_more}
 use Rattle.radixvm_c.specs.Opening.{AreFiles}
 use Rattle.radixvm_c.proofs.Openings.{files_more, first_missing}
 use Rattle.radixvm_c.proofs.opening.files_of.Goals as goal

@@ -1,5 +1,4 @@
-use Rattle.std.proofs.Common.{◌≡◌, ◌≤◌, take, length}
-use Rattle.std.specs.Prelude.{vec_len, vec_capacity}
+use Rattle.machine_laws.proofs.Words.{◌≡◌, ◌≤◌, take, length, vec_len, vec_capacity}
 use Rattle.radixvm_c.specs.Opening.{AreFiles}
 use Rattle.radixvm_c.proofs.opening.files_of.Given as goal
 

@@ -1,8 +1,8 @@
 use Rattle.std.proofs.Common.{◌≡◌, ◌<◌, length, ap, arith}
 use Rattle.slot_lock.specs.declared.slot.Slot.{Slot}
 use Rattle.slot_lock.specs.SlotList.{get_slot}
-use Rattle.slot_lock.specs.Places.{read_slot}
-use Rattle.slot_lock.specs.ListLaws.{edge_at}
+use Rattle.slot_lock.proofs.Places.{read_slot}
+use Rattle.slot_lock.proofs.ListLaws.{edge_at}
 use Rattle.slot_lock.proofs.Adding.{edge_there}
 use Rattle.slot_lock.proofs.lent.begin.Goals as goal
 

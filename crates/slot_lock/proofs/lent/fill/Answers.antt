@@ -1,6 +1,6 @@
 use Rattle.std.proofs.Common.{◌≡◌, arith}
 use Rattle.slot_lock.specs.SlotList.{get_slot}
-use Rattle.slot_lock.specs.Places.{read_slot}
+use Rattle.slot_lock.proofs.Places.{read_slot}
 use Rattle.slot_lock.proofs.Adding.{filled-IsSlotList, slots_of-filled}
 use Rattle.slot_lock.proofs.lent.fill.Goals as goal
 

@@ -1,8 +1,9 @@
 use Rattle.std.proofs.Common.{◌≡◌, ◌+◌, ◌-◌, length, sym, ◌∙◌, ap, arith}
 use Rattle.slot_lock.specs.declared.slot.Slot.{Slot}
 use Rattle.slot_lock.specs.SlotList.{get_slot}
-use Rattle.slot_lock.specs.Places.{read_slot}
-use Rattle.slot_lock.proofs.Adding.{rest_owner, rest_info, rest, no_some, none_of}
+use Rattle.slot_lock.proofs.Places.{read_slot}
+use Rattle.slot_lock.proofs.Adding.{rest_owner, rest_info, rest}
+use Rattle.slot_lock.proofs.Facts.{no_some, none_of}
 use Rattle.slot_lock.proofs.lent.rest_of.Goals as goal
 
 pub returns-then-is_some-clause-none : goal.returns-then-is_some-clause-none

@@ -1,6 +1,6 @@
 use Rattle.std.proofs.Common.{◌≡◌, ◌+◌, ◌<◌, length, arith}
 use Rattle.slot_lock.specs.SlotList.{get_slot}
-use Rattle.slot_lock.specs.Places.{read_slot, start_most}
+use Rattle.slot_lock.proofs.Places.{read_slot, start_most}
 use Rattle.slot_lock.proofs.slot.can_join.Goals as goal
 
 pub joins-requires-clause-fits : goal.joins-requires-clause-fits

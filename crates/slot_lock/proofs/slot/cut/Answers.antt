@@ -1,6 +1,6 @@
 use Rattle.std.proofs.Common.{◌≡◌, ◌+◌, refl, arith}
 use Rattle.slot_lock.specs.SlotList.{get_slot}
-use Rattle.slot_lock.specs.Places.{start_most, read_slot}
+use Rattle.slot_lock.proofs.Places.{start_most, read_slot}
 use Rattle.slot_lock.proofs.Cuts.{cut_list-IsSlotList, cut_list-Divides, cut_list-DividesAs}
 use Rattle.slot_lock.proofs.slot.cut.Goals as goal
 

@@ -1,7 +1,8 @@
-use Rattle.std.proofs.Common.{◌≡◌, Bool, true, false, ◌+◌}
+use Rattle.std.proofs.Common.{true, false, ◌+◌}
 use Rattle.slot_lock.specs.SlotList.{get_slot, IsJoint}
-use Rattle.slot_lock.specs.Places.{after_first}
+use Rattle.slot_lock.proofs.Places.{after_first}
 use Rattle.slot_lock.proofs.Joins.{joined-IsSlotList, slots_of-joined, joint-CanJoin, CanJoin-joint}
+use Rattle.slot_lock.proofs.Facts.{two}
 use Rattle.slot_lock.proofs.slot.fold.Goals as goal
 
 pub returns-clause-list : goal.returns-clause-list
@@ -31,6 +32,3 @@ returns-then-not-can_join-clause-only g c = λ _ end can.
     let joint = CanJoin-joint _ c.requires.list _ _ end c.requires.page.1 at can in
     let is = c.can_join.ensures.1 (rw c.deref-2.ensures.value joint) in
     two _ c.if-not-can_join.true is
-  where
-    two : (b : Bool) → b ≡ false → b ≡ true → ⊥
-    two b e f = cc

@@ -1,6 +1,6 @@
 use Rattle.std.proofs.Common.{◌≡◌, arith}
 use Rattle.slot_lock.specs.SlotList.{get_slot}
-use Rattle.slot_lock.specs.Places.{read_slot}
+use Rattle.slot_lock.proofs.Places.{read_slot}
 use Rattle.slot_lock.proofs.Changes.{informed-IsSlotList, slots_of-informed}
 use Rattle.slot_lock.proofs.slot.set_info.Goals as goal
 

@@ -1,6 +1,4 @@
-use Rattle.std.proofs.Common.{◌≡◌, ◌≤◌, length, map, take}
-use Rattle.std.specs.Prelude.{vec_len, vec_capacity}
-use Rattle.vm_base.specs.Plain.{file_with}
+use Rattle.machine_laws.proofs.Words.{◌≡◌, ◌≤◌, length, map, take, vec_len, vec_capacity, file_with}
 use Rattle.trace.specs.Declarations.{bytes_of}
 use Rattle.trace.proofs.declaration.specs_of.Given as goal
 

@@ -18,7 +18,7 @@ pub lines-preserved : goal.lines-preserved
 lines-preserved g c =
     let turns = rw c.in-Ok-true.field-0-test at c.in-Ok-true.ensures.turns in
     let less = c.in-Ok-true.ensures.budget c.in-Ok-true.field-0-test in
-    let kept = mark_kept _ _ _ _ (ap Ok c.in-Ok-true.field-0-test) c.in-Ok-true.ensures.kept ∙ c.lines.invariant.kept in
+    let kept = mark_kept _ _ _ _ (ap Ok c.in-Ok-true.field-0-test) c.in-Ok-true.ensures.told.kept ∙ c.lines.invariant.kept in
     record {
       budget = omega (arith, less, c.lines.invariant.budget);
       kept = kept;
@@ -38,14 +38,14 @@ returns-in-Ok-false-clause-ends g c =
 
 pub returns-in-Err-clause-ends : goal.returns-in-Err-clause-ends
 returns-in-Err-clause-ends g c = λ limit start.
-    reads_then _ _ _ _ _ _ (c.lines.invariant.ran limit start) c.in-Err.ensures.turns (λ xs ys zs k h a. run_fails limit _ xs _ _ _ _ _ h a)
+    reads_then _ _ _ _ _ _ (c.lines.invariant.ran limit start) c.in-Err.ensures.turns (λ xs ys zs k h a. run_fails limit _ _ c.requires.keeps xs _ _ _ _ _ h a)
 
 pub returns-in-Ok-false-clause-kept : goal.returns-in-Ok-false-clause-kept
 returns-in-Ok-false-clause-kept g c =
-    mark_then _ _ _ _ c.close.ensures.kept (mark_kept _ _ _ _ refl c.in-Ok-false.ensures.kept ∙ c.lines.invariant.kept)
+    mark_then _ _ _ _ c.close.ensures.kept (mark_kept _ _ _ _ refl c.in-Ok-false.ensures.told.kept ∙ c.lines.invariant.kept)
 
 pub returns-in-Err-clause-kept : goal.returns-in-Err-clause-kept
-returns-in-Err-clause-kept g c = fault_kept _ _ _ _ _ _ refl refl c.in-Err.ensures.kept c.lines.invariant.kept
+returns-in-Err-clause-kept g c = fault_kept _ _ _ _ _ _ refl refl c.in-Err.ensures.told.kept c.lines.invariant.kept
 
 pub returns-in-Ok-false-clause-seen : goal.returns-in-Ok-false-clause-seen
 returns-in-Ok-false-clause-seen g c =

@@ -1,5 +1,4 @@
-use Rattle.std.proofs.Common.{subst}
-use Rattle.std.specs.Prelude.{IfOk}
+use Rattle.machine_laws.proofs.Words.{subst, IfOk}
 use Rattle.trace_io.specs.Source.{Reads}
 use Rattle.watched.specs.Sums.{summed}
 use Rattle.trace.specs.Seen.{IsSeen}

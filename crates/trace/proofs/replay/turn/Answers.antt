@@ -1,7 +1,8 @@
-use Rattle.std.proofs.Common.{refl}
+use Rattle.std.proofs.Common.{inr, refl}
+use Rattle.trace_io.proofs.IoLemmas.{reads_some}
 use Rattle.trace_io.proofs.LineLemmas.{reads_map}
 use Rattle.trace.specs.Turns.{read_fails, unsent, too_long}
-use Rattle.trace.proofs.TurnLemmas.{not_read, not_write, act_fails, text_lost, line_told}
+use Rattle.trace.proofs.TurnLemmas.{act_fails, line_told, not_read, not_write, text_lost}
 use Rattle.trace.proofs.Seeing.{line_seen}
 use Rattle.trace.proofs.replay.turn.Goals as goal
 
@@ -30,29 +31,33 @@ pub returns-in-Err-clause-turns : goal.returns-in-Err-clause-turns
 returns-in-Err-clause-turns g c =
     let given = c.in-Ok-Line.ensures in
     let found = rw c.in-Ok-Line.field-0-is at given.found in
-    reads_map _ _ _ _ found (λ xs ys k p. act_fails _ _ _ _ _ _ _ _ _ c.requires.keeps given.written p.0 p.1 p.2
-    (given.few, refl) c.line.ensures c.in-Err.ensures.err)
+    reads_map _ _ _ _ found (λ xs ys k p. act_fails _ (g.H.Showing.shown c.args.show.now) _ _ _ _ _ _ _ given.written p (given.few, refl)
+    c.line-line.ensures c.in-Err.ensures.err)
 
-pub returns-in-Err-clause-read : goal.returns-in-Err-clause-read
-returns-in-Err-clause-read g c e = not_read _ _ _ _ _ c.in-Err.ensures.err (cc)
+pub returns-in-Err-clause-told : goal.returns-in-Err-clause-told
+returns-in-Err-clause-told g c =
+    let fails = c.in-Err.ensures.err in
+    record { read = λ e. not_read _ _ _ _ _ fails (cc); write = λ e. not_write _ _ _ _ _ fails (cc); kept = inr c.in-Ok-Line.ensures.ok }
 
-pub returns-in-Err-clause-write : goal.returns-in-Err-clause-write
-returns-in-Err-clause-write g c e = not_write _ _ _ _ _ c.in-Err.ensures.err (cc)
-
-pub returns-in-Err-write_told-clause-turns : goal.returns-in-Err-write_told-clause-turns
-returns-in-Err-write_told-clause-turns g c =
+pub write_line-requires : goal.write_line-requires
+write_line-requires g c =
     let found = rw c.in-Ok-Line.field-0-is at c.in-Ok-Line.ensures.found in
-    reads_map _ _ _ _ found (λ xs ys k p. text_lost _ _ _ _ _ _ _ _ p.0 p.1 p.2 c.line.ensures c.in_default.ensures.ok c.in-Ok-Line.ensures.written
-    c.in-Err-write_told.ensures.front)
+    reads_some _ _ _ found (λ xs ys p. rw c.line-line.ensures p.short)
 
-pub returns-in_default-write_told-clause-turns : goal.returns-in_default-write_told-clause-turns
-returns-in_default-write_told-clause-turns g c =
+pub returns-in-Err-write_line-clause-turns : goal.returns-in-Err-write_line-clause-turns
+returns-in-Err-write_line-clause-turns g c =
     let found = rw c.in-Ok-Line.field-0-is at c.in-Ok-Line.ensures.found in
-    reads_map _ _ _ _ found (λ xs ys k p. line_told _ _ _ _ _ _ _ p.0 p.1 p.2 c.line.ensures c.in_default.ensures.ok c.in-Ok-Line.ensures.written
-    c.in_default-write_told.ensures.ok)
+    reads_map _ _ _ _ found (λ xs ys k p. text_lost _ (g.H.Showing.shown c.args.show.now) _ _ _ _ _ _ _ p c.line-line.ensures
+    c.in_default.ensures.ok c.in-Ok-Line.ensures.written c.in-Err-write_line.ensures.front)
 
-pub returns-in_default-write_told-clause-seen : goal.returns-in_default-write_told-clause-seen
-returns-in_default-write_told-clause-seen g c =
+pub returns-in_default-write_line-clause-turns : goal.returns-in_default-write_line-clause-turns
+returns-in_default-write_line-clause-turns g c =
     let found = rw c.in-Ok-Line.field-0-is at c.in-Ok-Line.ensures.found in
-    λ e. reads_map _ _ _ _ found (λ xs ys k p. line_seen g.R.Staged.saw c.args.show c.args.replayer.now c.act.new.self _ _ _ _ _ _ p.0 p.1 p.2 c.line.ensures
-    c.in_default.ensures.ok c.in-Ok-Line.ensures.written c.in_default-write_told.ensures.ok c.in_default.ensures.seen)
+    reads_map _ _ _ _ found (λ xs ys k p. line_told (g.H.Showing.shown c.args.show.now) _ _ _ _ _ _ p c.line-line.ensures
+    c.in_default.ensures.ok c.in-Ok-Line.ensures.written c.in_default-write_line.ensures.ok)
+
+pub returns-in_default-write_line-clause-seen : goal.returns-in_default-write_line-clause-seen
+returns-in_default-write_line-clause-seen g c =
+    let found = rw c.in-Ok-Line.field-0-is at c.in-Ok-Line.ensures.found in
+    λ e. reads_map _ _ _ _ found (λ xs ys k p. line_seen g.R.Staged.saw (g.H.Showing.shown c.args.show.now) c.args.replayer.now c.act.new.self
+    _ _ _ _ _ _ p c.line-line.ensures c.in_default.ensures.ok c.in-Ok-Line.ensures.written c.in_default-write_line.ensures.ok c.in_default.ensures.seen)

@@ -1,5 +1,4 @@
-use Rattle.std.proofs.Common.{arith, refl, subst, ◌∙◌}
-use Rattle.std.specs.Io.KnownBytes.{Appends}
+use Rattle.machine_laws.proofs.Words.{arith, refl, subst, ◌∙◌, Appends}
 use Rattle.trace_io.specs.Sink.{AppendsFront}
 use Rattle.trace.proofs.ShownLemmas.{handed_all, handed_front, handed_more, handed_none}
 use Rattle.trace.proofs.shown.write_log.Goals as goal
@@ -14,13 +13,21 @@ entries-preserved g c = record {
   kept = c.in_default.ensures.kept ∙ c.entries.invariant.kept;
 }
 
-pub returns-in-Err-clause-front : goal.returns-in-Err-clause-front
-returns-in-Err-clause-front g c = handed_front _ _ _ _ _ _ c.entries.invariant.handed c.in-Err.ensures.front
+pub returns-in-Err : goal.returns-in-Err
+returns-in-Err g c =
+    record { ok = tt; kept = tt; front = handed_front _ _ _ _ _ _ c.entries.invariant.handed c.in-Err.ensures.front; err = c.in-Err.ensures.err }
 
-pub returns-in-Err-write_all-clause-front : goal.returns-in-Err-write_all-clause-front
-returns-in-Err-write_all-clause-front g c =
-    handed_front _ _ _ _ _ _ c.entries.invariant.handed (subst (AppendsFront _ _) c.as_bytes.ensures c.in-Err-write_all.ensures.front)
+pub returns-in-Err-write_all : goal.returns-in-Err-write_all
+returns-in-Err-write_all g c =
+    let front = subst (AppendsFront _ _) c.as_bytes.ensures c.in-Err-write_all.ensures.front in
+    record { ok = tt; kept = tt; front = handed_front _ _ _ _ _ _ c.entries.invariant.handed front; err = c.in-Err-write_all.ensures.err }
 
-pub returns-clause-ok : goal.returns-clause-ok
-returns-clause-ok g c =
-    handed_all _ _ _ _ _ _ c.entries-test.false c.entries.invariant.handed (subst (Appends _ _) c.as_bytes.ensures c.in_default-write_all.ensures.ok)
+pub returns : goal.returns
+returns g c =
+    let all = subst (Appends _ _) c.as_bytes.ensures c.in_default-write_all.ensures.ok in
+    record {
+      ok = handed_all _ _ _ _ _ _ c.entries-test.false c.entries.invariant.handed all;
+      kept = c.in_default-write_all.ensures.kept ∙ c.entries.invariant.kept;
+      front = tt;
+      err = tt;
+    }

@@ -1,5 +1,4 @@
-use Rattle.std.proofs.Common.{ℕ, Some, None, refl, ap}
-use Rattle.vm_base.specs.Pages.{pages_from}
+use Rattle.slot_lock.proofs.Words.{ℕ, Some, None, refl, ap, pages_from}
 use Rattle.vm_calls.specs.declared.decision.Decision.TheVariants.{Act}
 use Rattle.vm_calls.proofs.Rooms.{least-room}
 use Rattle.vm_calls.proofs.decision.decide_window.Goals as goal

@@ -1,6 +1,4 @@
-use Rattle.std.proofs.Common.{sym, ◌∙◌, ap, Option}
-use Rattle.vm_base.specs.declared.info.PageInfo.{PageInfo}
-use Rattle.vm_base.specs.Apply.{is_read_only}
+use Rattle.slot_lock.proofs.Words.{sym, ◌∙◌, ap, Option, PageInfo, is_read_only}
 use Rattle.backing.specs.Files.{files_of}
 use Rattle.vm_calls.specs.Decisions.{entry_of}
 use Rattle.vm_calls.proofs.Steps.{passed-slot}

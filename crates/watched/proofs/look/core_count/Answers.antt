@@ -1,5 +1,4 @@
-use Rattle.std.proofs.Common.{◌≡◌, arith, sym, true, false}
-use Rattle.vm_base.specs.Cores.{members}
+use Rattle.machine_laws.proofs.Words.{◌≡◌, arith, sym, true, false, members}
 use Rattle.watched.proofs.Counting.{count_at, count_none}
 use Rattle.watched.proofs.look.core_count.Goals as goal
 use Rattle.watched.proofs.look.core_count.Goals.{then-contains, else-contains}

@@ -1,5 +1,4 @@
-use Rattle.std.proofs.Common.{◌≡◌, ◌≤◌}
-use Rattle.vm_base.specs.Cores.{members}
+use Rattle.machine_laws.proofs.Words.{◌≡◌, ◌≤◌, members}
 use Rattle.frames.specs.Bits.{count_below}
 use Rattle.watched.proofs.look.core_count.Given as goal
 

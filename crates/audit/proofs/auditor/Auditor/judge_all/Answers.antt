@@ -1,7 +1,7 @@
-use Rattle.std.proofs.Common.{◌∙◌, Bool, subst}
+use Rattle.slot_lock.proofs.Words.{◌∙◌, Bool, subst, Answers}
 use Rattle.audit.specs.declared.judging.Verdict.{Verdict}
 use Rattle.audit.specs.Auditor.{plain_of}
-use Rattle.audit.specs.Judging.{Answers, Judges}
+use Rattle.audit.specs.Judging.{Judges}
 use Rattle.audit.specs.Placing.{rule_of}
 use Rattle.audit.proofs.Sequences.{replies_more}
 use Rattle.audit.proofs.auditor.Auditor.judge_all.Goals as goal

@@ -1,5 +1,4 @@
-use Rattle.std.proofs.Common.{inl, refl}
-use Rattle.machine_model.specs.declared.event.Event.TheVariants.{Call}
+use Rattle.machine_laws.proofs.Words.{inl, refl, Call}
 use Rattle.core_steps.specs.State.{world}
 use Rattle.core_steps.proofs.at_once.AtOnce.{not_begun}
 use Rattle.core_steps.proofs.Reached.{well, kept_by}

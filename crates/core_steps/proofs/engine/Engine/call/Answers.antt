@@ -1,6 +1,4 @@
-use Rattle.std.proofs.Common.{◌≡◌, sym, ap, ◌∙◌, rules}
-use Rattle.machine_model.specs.declared.phase.Phase.TheVariants.{Check, Free}
-use Rattle.machine_model.specs.Actions.{to}
+use Rattle.machine_laws.proofs.Words.{◌≡◌, sym, ap, ◌∙◌, rules, Check, Free, to}
 use Rattle.core_steps.specs.State.{phase_at}
 use Rattle.core_steps.proofs.events.Calling.{begun}
 use Rattle.core_steps.proofs.engine.Engine.call.Goals as goal

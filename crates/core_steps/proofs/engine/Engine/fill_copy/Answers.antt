@@ -1,8 +1,5 @@
-use Rattle.std.proofs.Common.{refl, sym, subst, ap, inr, ◌∙◌}
-use Rattle.machine_model.specs.declared.event.Outcome.TheVariants.{Stepped}
-use Rattle.machine_model.specs.Filling.{FillsOwn, after_first_copy}
-use Rattle.machine_model.specs.declared.phase.Phase.TheVariants.{Install}
-use Rattle.machine_model.specs.Actions.{to}
+use Rattle.machine_laws.proofs.Words.{refl, sym, subst, ap, inr, ◌∙◌, Stepped, after_first_copy, Install, to}
+use Rattle.machine_model.specs.Filling.{FillsOwn}
 use Rattle.core_steps.specs.State.{world}
 use Rattle.core_steps.proofs.rows.Framing.{cached_below, fill_within, first_copied, filled_bytes}
 use Rattle.core_steps.proofs.engine.Engine.fill_copy.Goals as goal

@@ -1,11 +1,6 @@
-use Rattle.std.proofs.Common.{◌≡◌, ℕ, Ok, Result, refl, rules, sym, subst, ap, ◌∙◌}
-use Rattle.vm_base.specs.declared.replies.Reply.{Reply}
-use Rattle.vm_base.specs.declared.requests.Request.{Request}
-use Rattle.slot_lock.specs.declared.plan.Plan.{Plan}
+use Rattle.machine_laws.proofs.Words.{◌≡◌, ℕ, Ok, Result, refl, rules, sym, subst, ap, ◌∙◌, Reply, Request, Plan, to, after_check, after_plan, checked_by}
+use Rattle.machine_laws.proofs.Words.{World}
 use Rattle.slot_lock.specs.declared.plan.Plan.TheVariants as PlanOf
-use Rattle.machine_model.specs.Actions.{to}
-use Rattle.machine_model.specs.Changes.{after_check, after_plan, checked_by}
-use Rattle.machine_model.specs.World.{World}
 use Rattle.core_steps.specs.State.{world}
 use Rattle.core_steps.proofs.engine.Engine.go_check.Goals as goal
 use Rattle.core_steps.proofs.engine.Engine.go_check.Goals.{in-Ok-Change, in-Ok-Touch, in-Ok-Place, in-Err}

@@ -1,7 +1,5 @@
-use Rattle.std.proofs.Common.{refl, sym, ap, ◌∙◌}
+use Rattle.machine_laws.proofs.Words.{refl, sym, ap, ◌∙◌, Release, to}
 use Rattle.core_steps.specs.State.{world}
-use Rattle.machine_model.specs.declared.phase.Phase.TheVariants.{Release}
-use Rattle.machine_model.specs.Actions.{to}
 use Rattle.core_steps.proofs.rows.Rows.{installed}
 use Rattle.core_steps.proofs.rows.Known.{install_right}
 use Rattle.core_steps.proofs.engine.Engine.go_install.Goals as goal

@@ -1,6 +1,4 @@
-use Rattle.std.proofs.Common.{Some, inl, inr, refl, ap, ◌∙◌, rules}
-use Rattle.machine_model.specs.Actions.{after_reply}
-use Rattle.vm_base.specs.declared.replies.Reply.TheVariants.{NoFrame}
+use Rattle.machine_laws.proofs.Words.{Some, inl, inr, refl, ap, ◌∙◌, rules, after_reply, NoFrame}
 use Rattle.core_steps.specs.State.{world}
 use Rattle.core_steps.proofs.engine.Engine.go_want.Goals as goal
 use Rattle.core_steps.proofs.engine.Engine.go_want.Goals.{in-None, in-Some}

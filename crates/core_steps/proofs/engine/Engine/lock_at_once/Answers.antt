@@ -1,6 +1,5 @@
-use Rattle.std.proofs.Common.{◌∙◌, ap, refl}
+use Rattle.machine_laws.proofs.Words.{◌∙◌, ap, refl, Lock}
 use Rattle.slot_lock.specs.declared.plan.Goal.TheVariants as To
-use Rattle.machine_model.specs.declared.phase.Phase.TheVariants.{Lock}
 use Rattle.core_steps.proofs.rows.Known.{only_page}
 use Rattle.core_steps.proofs.engine.Engine.lock_at_once.Goals as goal
 

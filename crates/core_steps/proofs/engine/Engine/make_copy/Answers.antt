@@ -1,7 +1,4 @@
-use Rattle.std.proofs.Common.{refl, ap, ◌∙◌}
-use Rattle.vm_base.specs.Info.{frame_of}
-use Rattle.machine_model.specs.declared.phase.Phase.TheVariants.{Install}
-use Rattle.machine_model.specs.Actions.{to}
+use Rattle.machine_laws.proofs.Words.{refl, ap, ◌∙◌, frame_of, Install, to}
 use Rattle.core_steps.specs.State.{world}
 use Rattle.core_steps.proofs.rows.Framing.{copied_page, page_frame_used}
 use Rattle.core_steps.proofs.engine.Engine.make_copy.Goals as goal

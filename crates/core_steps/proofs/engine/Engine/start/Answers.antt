@@ -1,5 +1,4 @@
-use Rattle.std.proofs.Common.{ap, rules, ◌∙◌}
-use Rattle.machine_model.specs.Changes.{after_check}
+use Rattle.machine_laws.proofs.Words.{ap, rules, ◌∙◌, after_check}
 use Rattle.core_steps.specs.OnePage.{later}
 use Rattle.core_steps.specs.State.{world}
 use Rattle.core_steps.proofs.at_once.Divided.{starts_undivided}

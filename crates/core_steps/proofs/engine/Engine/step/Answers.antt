@@ -1,6 +1,5 @@
-use Rattle.std.proofs.Common.{◌≡◌, ◌+◌, ◌<◌, ◌^◌, true, nat_lt, arith, rules}
-use Rattle.machine_model.specs.Events.{core_of}
-use Rattle.machine_model.specs.Step.{event_limit, is_here}
+use Rattle.machine_laws.proofs.Words.{◌≡◌, ◌+◌, ◌<◌, ◌^◌, true, arith, rules, core_of, event_limit, is_here}
+use Rattle.std.proofs.Common.{nat_lt}
 use Rattle.core_steps.specs.State.{world}
 use Rattle.core_steps.proofs.at_once.AtOnce.{less}
 use Rattle.core_steps.proofs.rows.Rows.{counted, if_true}

@@ -1,6 +1,4 @@
-use Rattle.std.proofs.Common.{inr}
-use Rattle.std.proofs.lemmas.Result.{IfOk-weaker, on_err_weaker}
-use Rattle.machine_model.specs.declared.event.Outcome.TheVariants.{Stepped}
+use Rattle.machine_laws.proofs.Words.{inr, IfOk-weaker, on_err_weaker, Stepped}
 use Rattle.core_steps.proofs.Reached.{legal}
 use Rattle.core_steps.proofs.machine.Machine.call.Goals as goal
 

@@ -1,6 +1,5 @@
-use Rattle.std.proofs.Common.{◌≡◌, ◌<◌, ◌+◌, ◌^◌, arith, rules, subst, sym}
+use Rattle.machine_laws.proofs.Words.{◌≡◌, ◌<◌, ◌+◌, ◌^◌, arith, rules, subst, sym, Stepped}
 use Rattle.std.specs.Prelude.{◌≢◌}
-use Rattle.machine_model.specs.declared.event.Outcome.TheVariants.{Stepped}
 use Rattle.core_steps.proofs.Reached.{legal, refused_at, steps_end, steps_join, steps_more}
 use Rattle.core_steps.proofs.at_once.Divided.{as_map_join, as_map_more, none_divided}
 use Rattle.core_steps.specs.Dividing.{StepsAsMap}

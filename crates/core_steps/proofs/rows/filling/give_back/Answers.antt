@@ -1,5 +1,5 @@
-use Rattle.std.proofs.Common.{subst}
-use Rattle.std.specs.Prelude.{◌<◌, ◌≡◌, IfSome, false}
+use Rattle.machine_laws.proofs.Words.{subst, IfSome}
+use Rattle.std.specs.Prelude.{◌<◌, ◌≡◌, false}
 use Rattle.frames.specs.Parts.{free_frames}
 use Rattle.core_steps.proofs.rows.filling.give_back.Goals as goal
 

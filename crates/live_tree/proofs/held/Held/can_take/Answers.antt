@@ -1,5 +1,4 @@
-use Rattle.std.proofs.Common.{◌↔◌, subst}
-use Rattle.std.specs.Prelude.{All, IsTrue}
+use Rattle.slot_lock.proofs.Words.{◌↔◌, subst, All, IsTrue}
 use Rattle.live_tree.specs.Held.{CanTake, HeldView}
 use Rattle.live_tree.proofs.held.Held.can_take.Goals as goal
 

@@ -1,5 +1,4 @@
-use Rattle.std.proofs.Common.{◌≡◌, ◌<◌, ◌≤◌, map, ap, sym, subst, ◌∙◌}
-use Rattle.std.specs.Prelude.{All}
+use Rattle.slot_lock.proofs.Words.{◌<◌, ◌≤◌, map, ap, sym, subst, ◌∙◌, All}
 use Rattle.slot_lock.specs.Plan.{range_of}
 use Rattle.live_tree.specs.Guards.{slot_of}
 use Rattle.slot_lock.specs.Changes.{changed}

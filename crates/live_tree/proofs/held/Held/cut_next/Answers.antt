@@ -1,7 +1,5 @@
-use Rattle.std.proofs.Common.{rules, ◌≡◌, ◌+◌, List, Option, Some, map, get_or, ap, subst, ◌∙◌, arith}
-use Rattle.std.specs.Prelude.{All, IsSome, IsTrue}
-use Rattle.std.specs.Sync.Mutex.{mutex_guard_value}
-use Rattle.std.specs.declared.sync.MutexGuard.{MutexGuard}
+use Rattle.slot_lock.proofs.Words.{rules, ◌≡◌, ◌+◌, List, Option, Some, map, get_or, ap, subst, ◌∙◌, arith, All, IsSome, IsTrue, mutex_guard_value}
+use Rattle.slot_lock.proofs.Words.{MutexGuard}
 use Rattle.live_levels.specs.Slots.{SlotView}
 use Rattle.live_tree.specs.Cutting.{AddsSlots, CutsFirst, IsFirstCrossing}
 use Rattle.live_tree.specs.Guards.{slot_of}

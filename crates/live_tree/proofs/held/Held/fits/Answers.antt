@@ -1,5 +1,4 @@
-use Rattle.std.proofs.Common.{rules, map, subst, sym}
-use Rattle.std.specs.Prelude.{All}
+use Rattle.slot_lock.proofs.Words.{rules, map, subst, sym, All}
 use Rattle.live_tree.specs.Guards.{slot_of}
 use Rattle.live_tree.specs.Held.{CrossesNoEdge, HeldView}
 use Rattle.live_tree.proofs.Cuts.{not_all_fit}

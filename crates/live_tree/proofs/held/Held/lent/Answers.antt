@@ -1,5 +1,4 @@
-use Rattle.std.proofs.Common.{rules, subst}
-use Rattle.std.specs.Prelude.{IsTrue}
+use Rattle.slot_lock.proofs.Words.{rules, subst, IsTrue}
 use Rattle.slot_lock.specs.ListedSlots.{slots_of}
 use Rattle.live_tree.specs.Held.{HeldView}
 use Rattle.live_tree.specs.Shown.{Lends}

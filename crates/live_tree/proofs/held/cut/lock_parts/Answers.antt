@@ -1,6 +1,4 @@
-use Rattle.std.proofs.Common.{rules, ◌≡◌, ◌+◌, [], ◌∷◌, Some, length, ap, arith}
-use Rattle.std.specs.Sync.Mutex.{mutex_guard_value}
-use Rattle.std.proofs.lemmas.List.{length-append}
+use Rattle.slot_lock.proofs.Words.{rules, ◌≡◌, ◌+◌, [], ◌∷◌, Some, length, ap, arith, mutex_guard_value, length-append}
 use Rattle.live_tree.specs.Cutting.{IsOwnedBy}
 use Rattle.live_tree.proofs.Cuts.{adds_more}
 use Rattle.live_tree.proofs.held.cut.lock_parts.Goals as goal

@@ -1,6 +1,4 @@
-use Rattle.std.proofs.Common.{rules, ◌≡◌, ◌+◌, ◌-◌, ◌<◌, length, ap, ◌∙◌, arith}
-use Rattle.std.specs.List.{remove}
-use Rattle.std.proofs.lemmas.List.{length-append}
+use Rattle.slot_lock.proofs.Words.{rules, ◌≡◌, ◌+◌, ◌-◌, ◌<◌, length, ap, ◌∙◌, arith, remove, length-append}
 use Rattle.live_tree.proofs.Cuts.{in_place}
 use Rattle.live_tree.proofs.Refilled.{refilled}
 use Rattle.live_tree.proofs.held.cut.put_in_place.Goals as goal

@@ -1,5 +1,4 @@
-use Rattle.std.proofs.Common.{rules, ◌≡◌, ◌+◌, ◌≤◌, List, Option, Some, map, length, ap, subst, sym, arith}
-use Rattle.std.specs.declared.sync.MutexGuard.{MutexGuard}
+use Rattle.slot_lock.proofs.Words.{rules, ◌≡◌, ◌+◌, ◌≤◌, List, Option, Some, map, length, ap, subst, sym, arith, MutexGuard}
 use Rattle.slot_lock.specs.Adding.{with_slot}
 use Rattle.slot_lock.specs.ListedSlots.{slots_of}
 use Rattle.live_levels.specs.Slots.{SlotView}

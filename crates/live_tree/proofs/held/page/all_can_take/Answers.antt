@@ -1,6 +1,4 @@
-use Rattle.std.proofs.Common.{rules, List, Option, map, subst, sym, arith}
-use Rattle.std.specs.Prelude.{All}
-use Rattle.std.specs.declared.sync.MutexGuard.{MutexGuard}
+use Rattle.slot_lock.proofs.Words.{rules, List, Option, map, subst, sym, arith, All, MutexGuard}
 use Rattle.live_levels.specs.Slots.{SlotView}
 use Rattle.live_tree.specs.Guards.{slot_of}
 use Rattle.live_tree.specs.Held.{CanTake}

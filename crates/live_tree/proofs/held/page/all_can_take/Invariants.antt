@@ -1,5 +1,4 @@
-use Rattle.std.proofs.Common.{map, take}
-use Rattle.std.specs.Prelude.{All}
+use Rattle.slot_lock.proofs.Words.{map, take, All}
 use Rattle.live_tree.specs.Guards.{slot_of}
 use Rattle.live_tree.specs.Held.{CanTake}
 use Rattle.live_tree.proofs.held.page.all_can_take.Given as goal

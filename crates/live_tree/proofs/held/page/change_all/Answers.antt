@@ -1,10 +1,9 @@
-use Rattle.std.proofs.Common.{rules, ◌≡◌, ◌<◌, List, map, length, arith, ap, sym, ◌∙◌}
-use Rattle.std.specs.Prelude.{All, IsSome}
+use Rattle.slot_lock.proofs.Words.{◌<◌, List, map, length, arith, ap, sym, ◌∙◌, All, IsSome, All-set}
 use Rattle.live_levels.specs.Replay.{dated}
 use Rattle.live_levels.specs.Slots.{SlotView, changed}
 use Rattle.live_tree.specs.Guards.{slot_of}
 use Rattle.live_tree.specs.Held.{CanTake}
-use Rattle.live_tree.proofs.Along.{one_more, holds_still, All-set}
+use Rattle.live_tree.proofs.Along.{one_more, holds_still}
 use Rattle.live_tree.proofs.held.page.change_all.Goals as goal
 
 pub change_at-requires-clause-each : goal.change_at-requires-clause-each
@@ -24,5 +23,5 @@ guards-preserved g c =
       slots = one_more slot_of h c.guards.guard-items (map slot_of c.as_mut_slice-guard-items.result.now) c.guards.guard-index
           c.guard-item.result c.change_at.new.guard
           c.guards.invariant.slots lt c.guard-item.is (c.change_at.ensures.slot ∙ ap (λ z. h (slot_of z)) (sym c.guard-item.is));
-      some = All-set IsSome c.guards.guard-items c.guards.guard-index c.change_at.new.guard c.guards.invariant.some c.change_at.ensures.some;
+      some = All-set IsSome c.guards.guard-items c.guards.guard-index c.change_at.new.guard c.change_at.ensures.some c.guards.invariant.some;
     }

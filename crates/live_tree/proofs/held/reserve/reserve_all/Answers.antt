@@ -1,11 +1,7 @@
-use Rattle.std.proofs.Common.{rules, ◌≡◌, ℕ, ◌+◌, ◌<◌, List, Option, map, length, take, set, refl, ap, sym, subst, ◌∙◌, arith}
-use Rattle.std.specs.Prelude.{All, IsSome}
-use Rattle.std.specs.declared.sync.MutexGuard.{MutexGuard}
-use Rattle.std.proofs.lemmas.List.{length-set, take_all}
+use Rattle.slot_lock.proofs.Words.{rules, ◌≡◌, ◌<◌, List, map, length, set, refl, ap, sym, subst, ◌∙◌, arith, All, IsSome, length-set, take_all, All-set}
 use Rattle.live_levels.specs.Slots.{SlotView}
 use Rattle.live_tree.specs.Guards.{slot_of}
-use Rattle.live_tree.specs.Held.{AreAlike, HasRoom, without_room}
-use Rattle.live_tree.proofs.Along.{All-set}
+use Rattle.live_tree.specs.Held.{HasRoom, without_room}
 use Rattle.live_tree.proofs.Refilled.{refilled}
 use Rattle.live_tree.proofs.Rooms.{All-take-set, alike_length, one_alike}
 use Rattle.live_tree.proofs.held.reserve.reserve_all.Goals as goal
@@ -24,7 +20,7 @@ returns-in_err-reserve_at-clause-some g c =
     let same : length (set items c.guards.guard-index new) ≡ length c.args.guards.now.items =
     length-set items c.guards.guard-index new ∙ (alike_length items _ c.guards.invariant.same ∙ ap length c.as_mut_slice-guard-items.ensures.value) in
     rw (refilled c.args.guards.now.items (set items c.guards.guard-index new) same)
-    (All-set IsSome items c.guards.guard-index new c.guards.invariant.some c.reserve_at.ensures.some)
+    (All-set IsSome items c.guards.guard-index new c.reserve_at.ensures.some c.guards.invariant.some)
 
 pub returns-in_err-reserve_at-clause-same : goal.returns-in_err-reserve_at-clause-same
 returns-in_err-reserve_at-clause-same g c =
@@ -47,7 +43,7 @@ guards-preserved g c =
       same = one_alike items _ i c.guard-item.result new lt c.guard-item.is (c.reserve_at.ensures.same
           ∙ ap (λ z. without_room (slot_of z)) (sym c.guard-item.is)) c.guards.invariant.same;
       room = All-take-set slot_of (HasRoom c.args.range) items i new lt c.guards.invariant.room (search rules);
-      some = All-set IsSome items i new c.guards.invariant.some c.reserve_at.ensures.some;
+      some = All-set IsSome items i new c.reserve_at.ensures.some c.guards.invariant.some;
     }
 
 pub returns-clause-room : goal.returns-clause-room

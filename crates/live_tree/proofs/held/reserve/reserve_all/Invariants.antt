@@ -1,5 +1,4 @@
-use Rattle.std.proofs.Common.{map, take}
-use Rattle.std.specs.Prelude.{All, IsSome}
+use Rattle.slot_lock.proofs.Words.{map, take, All, IsSome}
 use Rattle.live_tree.specs.Guards.{slot_of}
 use Rattle.live_tree.specs.Held.{AreAlike, HasRoom}
 use Rattle.live_tree.proofs.held.reserve.reserve_all.Given as goal

@@ -1,12 +1,10 @@
-use Rattle.std.proofs.Common.{ℕ, ◌≡◌, ◌+◌, ◌*◌, ◌-◌, ◌<◌, ◌≤◌, ◌^◌, refl, sym, ap, ◌∙◌, subst, rules, get_or, arith}
-use Rattle.radix_node.specs.Run.{width_of, cell_at, IsWhole}
-use Rattle.radix_node.specs.Node.{Parts, runs, flatten}
-use Rattle.radix_node.specs.Slots.{parts_of, IsNode}
-use Rattle.radix_node.specs.Edit.{CanEdit, edited_cell}
-use Rattle.radix_node.proofs.Divided.{part_ends}
-use Rattle.radix_node.proofs.Flat.{IsPlace, whole-node, child_level, child_pages, child_node}
-use Rattle.radix_node.proofs.Walks.{Along, IsPart, along_below, along_done, along_next, slot_small}
-use Rattle.radix_node.proofs.Edits.{Edits, edits_none, own_within, own_node, edits_own, edits_child, child_begins, child_ends, can_fewer}
+use Rattle.std.proofs.Common.{◌≡◌, ◌+◌, ◌*◌, ◌-◌, ◌<◌, ◌≤◌, ◌^◌, refl, sym, ap, ◌∙◌, subst, rules, arith}
+use Rattle.radix_node.specs.Run.{width_of, cell_at}
+use Rattle.radix_node.specs.Node.{Parts, runs}
+use Rattle.radix_node.specs.Edit.{CanEdit}
+use Rattle.radix_node.proofs.Flat.{whole-node, child_level, child_pages, child_node}
+use Rattle.radix_node.proofs.Walks.{along_below, along_done, along_next, slot_small, along_in, along_part, along_down}
+use Rattle.radix_node.proofs.Edits.{edits_none, own_within, own_node, edits_own, edits_child, child_begins, child_ends, can_fewer}
 use Rattle.radix_node.proofs.Edits.{InSlot, Narrow, own_narrow, child_narrow, child_uncrossed}
 use Rattle.radix_node.proofs.node.Node.+edit.Goals as goal
 use Rattle.radix_node.proofs.node.Node.+edit.Goals.{Joined-index_mut, in-Own, in-Child, in-Own-index_mut, in-Child-index_mut}
@@ -38,29 +36,16 @@ edit-requires-in-Child-index_mut g t c κs within =
     let l = c.slots.invariant.0 in
     let n = c.slots.invariant.1 in
     let h = c.slots.invariant.3 in
-    let low = along_below l c.slots-test.true in
-    let is_in : c.slots.k < 512 = omega (arith, l.last, c.slots-test.true) in
-    let kw : c.slots.k * c.slot_pages-width.result ≡ c.slots.k * width_of c.slots.self-inside.level =
-    ap (λ n. c.slots.k * n) l.width_is in
-    let part : IsPart c.args.first c.args.end (c.slots.k * width_of c.slots.self-inside.level)
-    (width_of c.slots.self-inside.level) c.part_in-part.result.first c.part_in-part.result.end =
-    subst
-    (λ n. IsPart c.args.first c.args.end (c.slots.k * n) n c.part_in-part.result.first c.part_in-part.result.end)
-    l.width_is
-    (record { first_is = c.part_in-part.ensures.first; end_is = c.part_in-part.ensures.end }) in
+    let is_in = along_in l c.slots-test.true in
+    let part = along_part l c.part_in-part.ensures.first c.part_in-part.ensures.end in
     let is = sym c.in-Child-index_mut.is ∙ c.index_mut-in-slots.ensures.value in
     let e = c.deref_mut-in-Child-index_mut.ensures.value in
-    let w =
-    child_pages _ c.in-Child-index_mut.node c.deref_mut-in-Child-index_mut.result.now n is_in is e
-    in
-    let lower =
-    child_level _ c.in-Child-index_mut.node c.deref_mut-in-Child-index_mut.result.now n is_in is e
-    in
-    let here = c.slots.invariant.2 in
     let p = c.part_in-part.ensures in
-    let wide = l.width_is in
-    let within' : c.part_in-part.result.end ≤ 512 * width_of c.deref_mut-in-Child-index_mut.result.now.level =
-    omega (arith, p.within, w, wide) in
+    let down =
+    along_down _ c.in-Child-index_mut.node c.deref_mut-in-Child-index_mut.result.now l c.slots-test.true n is e p.within in
+    let lower = down.falls in
+    let last = down.within in
+    let here = c.slots.invariant.2 in
     let begins =
     child_begins _ c.in-Child-index_mut.node c.deref_mut-in-Child-index_mut.result.now
     (runs c.args.self.now) c.args.first c.args.end c.part_in-part.result.first
@@ -90,15 +75,10 @@ slots-preserved g t c =
     let n = c.slots.invariant.1 in
     let h = c.slots.invariant.3 in
     let low = along_below l c.slots-test.true in
-    let is_in : c.slots.k < 512 = omega (arith, l.last, c.slots-test.true) in
+    let is_in = along_in l c.slots-test.true in
     let kw : c.slots.k * c.slot_pages-width.result ≡ c.slots.k * width_of c.slots.self-inside.level =
     ap (λ n. c.slots.k * n) l.width_is in
-    let part : IsPart c.args.first c.args.end (c.slots.k * width_of c.slots.self-inside.level)
-    (width_of c.slots.self-inside.level) c.part_in-part.result.first c.part_in-part.result.end =
-    subst
-    (λ n. IsPart c.args.first c.args.end (c.slots.k * n) n c.part_in-part.result.first c.part_in-part.result.end)
-    l.width_is
-    (record { first_is = c.part_in-part.ensures.first; end_is = c.part_in-part.ensures.end }) in
+    let part = along_part l c.part_in-part.ensures.first c.part_in-part.ensures.end in
     let p = c.part_in-part.ensures in
     let old = runs c.args.self.now in
     elim c.match-index_mut-2.branch [

@@ -1,10 +1,11 @@
-use Rattle.std.proofs.Common.{◌≡◌, ◌*◌, ◌<◌, sym, ap, ◌∙◌, subst, rules, get_or, arith}
+use Rattle.std.proofs.Common.{◌<◌, sym, ap, ◌∙◌, subst, rules}
 use Rattle.radix_node.specs.declared.node.Slot.TheVariants.{Child}
-use Rattle.radix_node.specs.Run.{Cell, width_of, cell_at, in_parts}
+use Rattle.radix_node.specs.Run.{Cell, cell_at, in_parts}
 use Rattle.radix_node.specs.Node.{Parts, runs}
 use Rattle.radix_node.specs.Slots.{parts_of}
 use Rattle.radix_node.proofs.Flat.{IsPlace, cell_at-Own, cell_at-Child, child_level, child_pages, child_node, runs-Child, whole-node, same_slots, same_child}
-use Rattle.radix_node.proofs.Folds.{runs-Expands, own_is_own, large_level, ok_along, err_along}
+use Rattle.radix_node.proofs.Folds.{runs-Expands, own_is_own, large_level}
+use Rattle.slot_lock.proofs.Facts.{ok_along, err_along}
 use Rattle.radix_node.proofs.node.Node.+expand_at.Goals as goal
 
 pub expand_at-requires : goal.expand_at-requires

@@ -1,4 +1,4 @@
-use Rattle.std.proofs.Common.{◌≡◌, ◌*◌, ◌<◌, ◌≤◌, sym, ap, ◌∙◌, subst, rules, get_or, arith}
+use Rattle.std.proofs.Common.{◌<◌, ◌≤◌, sym, ap, ◌∙◌, rules, arith}
 use Rattle.radix_node.specs.declared.node.Slot.TheVariants.{Child}
 use Rattle.radix_node.specs.Run.{width_of, cell_at}
 use Rattle.radix_node.specs.Node.{Parts, runs}

@@ -1,12 +1,11 @@
-use Rattle.std.proofs.Common.{◌≡◌, ℕ, ◌+◌, ◌*◌, ◌<◌, ◌≤◌, ◌↔◌, true, false, is_some, ◌-◌, ◌^◌, refl, sym, ap, ◌∙◌, subst, rules, get_or, arith}
-use Rattle.radix_node.specs.State.{state_of}
+use Rattle.std.proofs.Common.{◌≡◌, ◌+◌, ◌*◌, ◌<◌, ◌≤◌, true, false, ◌-◌, ◌^◌, refl, sym, ap, ◌∙◌, subst, rules, arith}
 use Rattle.radix_node.specs.Run.{width_of}
 use Rattle.radix_node.specs.Node.{Parts, runs, flatten}
 use Rattle.radix_node.specs.Slots.{parts_of}
-use Rattle.radix_node.specs.Walk.{Finds, IsFree, IsOpen}
+use Rattle.radix_node.specs.Walk.{FindsRun, HasFreeRun, IsOpen}
 use Rattle.radix_node.proofs.Divided.{part_ends}
-use Rattle.radix_node.proofs.Walks.{Along, along_in, along_part, along_down, IsPart, FreeTo, reach_high, free_before, along_below}
-use Rattle.radix_node.proofs.Walks.{along_done, along_next, slot_small, free_mapped, free_on, free_found, free_child, free_found_below}
+use Rattle.radix_node.proofs.Walks.{along_in, along_part, along_down, FreeTo, reach_high, free_before, along_below}
+use Rattle.radix_node.proofs.Walks.{along_done, along_next, free_mapped, free_on, free_found, free_child, free_found_below}
 use Rattle.radix_node.proofs.Walks.{free_open}
 use Rattle.radix_node.proofs.node.Node.+free_run.Goals as goal
 use Rattle.radix_node.proofs.node.Node.+free_run.Goals.{in-Own+then-is_mapped, in-Own+else-is_mapped+else-n-slot, in-Child+in-Open}
@@ -91,7 +90,7 @@ slots-preserved g t c =
                 c.args.n c.slots.open_from w.in-Open.still)
                 l.width_is
                 (subst
-                (λ r. Finds (runs w.deref.result.now) (c.args.base + c.slots.k * c.slot_pages-width.result) c.part_in-part.result.first
+                (λ r. FindsRun (runs w.deref.result.now) (c.args.base + c.slots.k * c.slot_pages-width.result) c.part_in-part.result.first
                 c.part_in-part.result.end c.args.n c.slots.open_from r)
                 w.in-Open.is w.free_run.ensures)) f)
           ]),
@@ -126,11 +125,11 @@ returns-in-Found g t c =
     c.in-Found.found c.self.invariant is_in (sym c.in-Child.is ∙ c.index.ensures) c.deref.ensures
     part
     (subst
-    (λ n. IsFree (runs c.deref.result.now) (c.args.base + c.slots.k * n) c.part_in-part.result.first c.part_in-part.result.end c.args.n
+    (λ n. HasFreeRun (runs c.deref.result.now) (c.args.base + c.slots.k * n) c.part_in-part.result.first c.part_in-part.result.end c.args.n
     c.slots.open_from c.in-Found.found)
     l.width_is
     (subst
-    (λ r. Finds (runs c.deref.result.now) (c.args.base + c.slots.k * c.slot_pages-width.result) c.part_in-part.result.first
+    (λ r. FindsRun (runs c.deref.result.now) (c.args.base + c.slots.k * c.slot_pages-width.result) c.part_in-part.result.first
     c.part_in-part.result.end c.args.n c.slots.open_from r)
     c.in-Found.is c.free_run.ensures)) f)
 

@@ -1,14 +1,11 @@
-use Rattle.std.proofs.Common.{◌≡◌, ℕ, ◌+◌, ◌*◌, ◌<◌, ◌≤◌, ◌^◌, ◌++◌, ◌∷◌, [], None, Some, refl, sym, ap, ◌∙◌, subst, rules, get_or, arith}
-use Rattle.vm_base.specs.Info.{frame_of}
-use Rattle.slot_lock.specs.declared.framed.Framed.{Framed}
+use Rattle.std.proofs.Common.{◌+◌, ◌*◌, ◌≤◌, ◌^◌, ◌++◌, ◌∷◌, [], refl, sym, ap, ◌∙◌, subst, rules, arith}
 use Rattle.slot_lock.specs.Framed.{AddsFrames}
-use Rattle.radix_node.specs.State.{state_of}
 use Rattle.radix_node.specs.Run.{width_of}
 use Rattle.radix_node.specs.Node.{Parts, runs, flatten}
 use Rattle.radix_node.specs.Slots.{parts_of}
 use Rattle.radix_node.specs.Walk.{frames_from}
 use Rattle.radix_node.proofs.Divided.{part_ends}
-use Rattle.radix_node.proofs.Walks.{Along, along_in, along_part, along_down, along_below, along_next}
+use Rattle.radix_node.proofs.Walks.{along_in, along_part, along_down, along_below, along_next}
 use Rattle.radix_node.proofs.Listing.{ListsTo, is_one, list_none, list_one, list_full, list_below, list_child}
 use Rattle.radix_node.proofs.node.Node.+list_frames.Goals as goal
 use Rattle.radix_node.proofs.node.Node.+list_frames.Goals.{in-Own+in-Some+else-is_full, in-Own+in_default, in-Child+else-upto-slot}

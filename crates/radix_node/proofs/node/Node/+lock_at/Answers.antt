@@ -1,7 +1,7 @@
-use Rattle.std.proofs.Common.{◌≡◌, ℕ, ◌*◌, ◌<◌, sym, ap, ◌∙◌, subst, rules, get_or, arith}
+use Rattle.std.proofs.Common.{ℕ, ◌*◌, ◌<◌, sym, ap, ◌∙◌, subst, rules}
 use Rattle.radix_node.specs.declared.node.Slot.TheVariants.{Own}
 use Rattle.radix_node.specs.State.{State, state_of}
-use Rattle.radix_node.specs.Run.{Cell, width_of, cell_at, in_state, with_run, IsSound, IsWhole}
+use Rattle.radix_node.specs.Run.{Cell, width_of, cell_at, in_state, with_run, FitsWidth}
 use Rattle.radix_node.specs.Node.{Parts, runs, flatten}
 use Rattle.radix_node.specs.Slots.{parts_of}
 use Rattle.radix_node.specs.Lock.{Meets, after_lock}
@@ -29,11 +29,11 @@ invariant_of-self g t c =
     let cell = cell_at-Own _ c.in-Own.own c.self.invariant at is in
     let within = subst (λ (l : ℕ). c.args.page < 512 * width_of l) (sym here) c.requires in
     let was =
-    subst (λ (x : Cell). IsSound x.width x.state) cell
+    subst (λ (x : Cell). FitsWidth x.width x.state) cell
     ((whole-node _ _ c.self.invariant).cells c.args.page within).sound in
     is_node-set c.self.inside.level c.place_of-place.result.slot c.self.inside.slots.items
     (Own c.lock.new.self) c.self.invariant tt
-    (subst (λ (s : State). IsSound (width_of c.self.inside.level) s) (sym c.lock.ensures.state)
+    (subst (λ (s : State). FitsWidth (width_of c.self.inside.level) s) (sym c.lock.ensures.state)
     (lock_sound _ c.args.core c.lock.result _ was))
 
 pub returns-in-Own-clause-whole : goal.returns-in-Own-clause-whole

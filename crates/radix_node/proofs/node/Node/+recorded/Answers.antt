@@ -1,10 +1,7 @@
-use Rattle.std.proofs.Common.{◌≡◌, ◌+◌, ◌*◌, ◌||◌, ◌↔◌, true, refl, sym, ap, ◌∙◌, subst, rules, get_or, arith}
-use Rattle.vm_base.specs.Cores.{members}
-use Rattle.radix_node.specs.State.{state_of}
-use Rattle.radix_node.specs.Run.{width_of}
+use Rattle.slot_lock.proofs.Words.{◌≡◌, ◌||◌, ◌↔◌, true, refl, sym, ap, ◌∙◌, subst, rules, arith, members}
 use Rattle.radix_node.specs.Node.{Parts, runs}
 use Rattle.radix_node.specs.Walk.{HasUser}
-use Rattle.radix_node.proofs.Walks.{Along, along_in, along_part, along_down, IsPart, Users, along_below, along_done, along_next, slot_small}
+use Rattle.radix_node.proofs.Walks.{along_in, along_part, along_down, along_below, along_done, along_next, slot_small}
 use Rattle.radix_node.proofs.Walks.{users_own, users_child, users_all}
 use Rattle.radix_node.proofs.node.Node.+recorded.Goals as goal
 use Rattle.radix_node.proofs.node.Node.+recorded.Goals.{in-Own, in-Child}

@@ -1,4 +1,4 @@
-use Rattle.std.proofs.Common.{◌≡◌, ◌*◌}
+use Rattle.std.proofs.Common.{◌*◌}
 use Rattle.radix_node.specs.Run.{width_of}
 use Rattle.radix_node.specs.Node.{flatten}
 use Rattle.radix_node.specs.Slots.{parts_of}

@@ -1,8 +1,7 @@
-use Rattle.std.proofs.Common.{◌≡◌, ◌*◌, ◌<◌, sym, ap, ◌∙◌, rules, get_or, arith}
-use Rattle.radix_node.specs.State.{state_of}
-use Rattle.radix_node.specs.Run.{Cell, width_of, cell_at}
-use Rattle.radix_node.specs.Node.{Parts, runs}
-use Rattle.radix_node.proofs.Flat.{IsPlace, cell_at-Own, cell_at-Child, child_level, child_pages}
+use Rattle.std.proofs.Common.{sym, ap, ◌∙◌, arith}
+use Rattle.radix_node.specs.Run.{Cell, cell_at}
+use Rattle.radix_node.specs.Node.{runs}
+use Rattle.radix_node.proofs.Flat.{IsPlace, cell_at-Own, cell_at-Child, child_pages}
 use Rattle.radix_node.proofs.node.Node.descend.Goals as goal
 
 pub levels-preserved : goal.levels-preserved

@@ -1,5 +1,4 @@
-use Rattle.std.proofs.Common.{◌≡◌, ◌+◌, ◌*◌, ◌++◌, ◌∷◌, [], sym, ap, ◌∙◌, arith}
-use Rattle.radix_node.specs.declared.node.Slot.TheVariants.{Own as OwnSlot}
+use Rattle.std.proofs.Common.{◌+◌, ◌*◌, ap, ◌∙◌, arith}
 use Rattle.radix_node.specs.State.{state_of, state_from}
 use Rattle.radix_node.specs.Run.{width_of}
 use Rattle.radix_node.proofs.Flat.{whole-node}

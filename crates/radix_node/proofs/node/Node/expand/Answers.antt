@@ -1,7 +1,7 @@
-use Rattle.std.proofs.Common.{◌≡◌, ◌+◌, ◌-◌, ◌*◌, refl, sym, ap, ◌∙◌, arith, subst, rules}
+use Rattle.std.proofs.Common.{◌-◌, ◌*◌, sym, ap, ◌∙◌, arith}
 use Rattle.radix_node.specs.State.{state_of}
 use Rattle.radix_node.specs.Run.{width_of, IsWhole}
-use Rattle.radix_node.specs.Node.{Parts, runs, node_of, Expands}
+use Rattle.radix_node.specs.Node.{Parts, runs}
 use Rattle.radix_node.proofs.Flat.{whole-node}
 use Rattle.radix_node.proofs.Folds.{can_divide, new_child, expands}
 use Rattle.radix_node.proofs.node.Node.expand.Goals as goal

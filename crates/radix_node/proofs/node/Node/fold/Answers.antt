@@ -1,4 +1,4 @@
-use Rattle.std.proofs.Common.{◌≡◌, ◌*◌, sym, ap, ◌∙◌, subst, rules, get_or, arith}
+use Rattle.std.proofs.Common.{sym, ◌∙◌}
 use Rattle.radix_node.proofs.Flat.{whole-node}
 use Rattle.radix_node.proofs.Folds.{own_no_fold, child_carried, fold_node, folds_slot}
 use Rattle.radix_node.proofs.node.Node.fold.Goals as goal

@@ -1,8 +1,8 @@
-use Rattle.std.proofs.Common.{◌≡◌, ℕ, ◌+◌, ◌*◌, sym, ap, ◌∙◌, get_or, subst, arith, rules}
+use Rattle.std.proofs.Common.{◌*◌, sym, ap, ◌∙◌, subst, arith, rules}
 use Rattle.radix_node.specs.State.{state_of, state_from, IsPlain}
 use Rattle.radix_node.specs.Run.{width_of, IsCarried}
 use Rattle.radix_node.specs.Node.{Parts, Own, runs}
-use Rattle.radix_node.proofs.Joined.{no_child, not_plain, first_fits, goes_on_all, joins-all, joined_sound, joins-next}
+use Rattle.radix_node.proofs.Joined.{no_child, not_plain, first_fits, goes_on_all, joins-all, joined_sound}
 use Rattle.radix_node.proofs.node.Node.joined.Goals as goal
 
 pub returns-in-Child-clause-none : goal.returns-in-Child-clause-none

@@ -1,7 +1,5 @@
-use Rattle.std.proofs.Common.{◌≡◌, ◌+◌, ◌*◌, ◌^◌, ◌≤◌, sym, ap, ◌∙◌, arith, rules}
-use Rattle.vm_base.specs.Info.{info_file_page}
+use Rattle.slot_lock.proofs.Words.{ap, arith, info_file_page}
 use Rattle.radix_node.specs.State.{State}
-use Rattle.radix_node.specs.Run.{width_of}
 use Rattle.radix_node.proofs.Joined.{width_most}
 use Rattle.radix_node.proofs.node.Node.new.Goals as goal
 

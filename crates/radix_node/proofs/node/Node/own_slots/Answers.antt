@@ -1,17 +1,15 @@
-use Rattle.std.proofs.Common.{◌≡◌, ◌<◌, true, false, refl, sym, ap, subst, arith}
+use Rattle.std.proofs.Common.{◌<◌, true, refl, sym, ap, subst, arith}
 use Rattle.radix_node.specs.Node.{Parts, runs}
 use Rattle.radix_node.specs.Slots.{IsNode}
 use Rattle.radix_node.proofs.Flat.{same_slots}
 use Rattle.radix_node.proofs.OwnedRuns.{one_more}
 use Rattle.radix_node.proofs.Written.{whole_written}
+use Rattle.slot_lock.proofs.Facts.{two}
 use Rattle.radix_node.proofs.node.Node.own_slots.Goals as goal
-
-clash : false ≡ true → ⊥
-clash e = cc
 
 pub returns-then-not-hand_over-clause-whole : goal.returns-then-not-hand_over-clause-whole
 returns-then-not-hand_over-clause-whole g c =
-    let same = c.if-not-hand_over.ensures.same clash in
+    let same = c.if-not-hand_over.ensures.same (two _ refl) in
     whole_written c.self.inside.slots _ (ap (λ (v : Parts). v.level) c.self.view_is) c.self.invariant
     (subst (IsNode c.args.self.now.level) (sym (same_slots c.slots.k c.slots.slots _ c.hand_over.new.self same)) c.slots.invariant.2)
 

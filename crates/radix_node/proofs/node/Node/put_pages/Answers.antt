@@ -1,6 +1,5 @@
-use Rattle.std.proofs.Common.{◌≡◌, ◌+◌, ◌-◌, get_or, refl, ap, rules, ◌∙◌, Some}
+use Rattle.slot_lock.proofs.Words.{◌≡◌, ◌+◌, ◌-◌, get_or, refl, ap, rules, ◌∙◌, Some, info_from}
 use Rattle.radix_node.specs.declared.edit.Edit.TheVariants.{Put}
-use Rattle.vm_base.specs.Info.{info_from}
 use Rattle.radix_node.specs.State.{State}
 use Rattle.radix_node.specs.declared.node.Slot.TheVariants.{Own}
 use Rattle.radix_node.specs.Node.{Parts, runs}

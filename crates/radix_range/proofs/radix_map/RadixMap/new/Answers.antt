@@ -1,6 +1,4 @@
-use Rattle.std.proofs.Common.{◌≡◌, ℕ, true, arith}
-use Rattle.vm_base.specs.Functions.{has}
-use Rattle.vm_base.proofs.Functions.{has_in}
+use Rattle.slot_lock.proofs.Words.{◌≡◌, ℕ, true, arith, has, has_in}
 use Rattle.radix_range.proofs.New.{new_radix, is_new, root_edged}
 use Rattle.radix_range.proofs.radix_map.RadixMap.new.Goals as goal
 

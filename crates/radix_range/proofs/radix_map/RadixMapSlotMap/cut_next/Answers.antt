@@ -1,8 +1,7 @@
-use Rattle.std.proofs.Common.{◌≡◌, ◌-◌, ◌^◌, inl, inr, true, Some, sym, ap, ◌∙◌, arith}
+use Rattle.std.proofs.Common.{◌≡◌, ◌-◌, ◌^◌, inl, inr, true, Some, sym, ap, ◌∙◌, arith, refl}
 use Rattle.slot_lock.proofs.Divisions.{cuts, at_first, at_end}
 use Rattle.slot_lock.proofs.Steps.{slot_by_edge}
 use Rattle.radix_range.specs.Tree.{tree_slots}
-use Rattle.radix_range.specs.TreeLaws.{tree-is_slot_map}
 use Rattle.radix_range.specs.Found.{in_512}
 use Rattle.radix_range.proofs.Mapped.{expanded}
 use Rattle.radix_range.proofs.radix_map.RadixMapSlotMap.cut_next.Goals as goal
@@ -20,7 +19,7 @@ pub expand-requires-then-slot_at-range-2-clause-page : goal.expand-requires-then
 expand-requires-then-slot_at-range-2-clause-page g c =
     let found = c.slot_at-2.ensures in
     let limit = slot_by_edge (tree_slots c.args.self.now.root) _ _ (2 ^ 35) found.slot
-    (tree-is_slot_map c.args.self.now.root c.args.self.now.ok).limit (omega (arith, c.if-slot_at-range-2.true, c.requires.range.high))
+    (c.args.self.now.ok.laws _ refl).limit (omega (arith, c.if-slot_at-range-2.true, c.requires.range.high))
     in
     (omega (arith, c.requires.range.some), omega (arith, found.high))
 

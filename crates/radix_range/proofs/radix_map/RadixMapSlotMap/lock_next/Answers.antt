@@ -1,10 +1,8 @@
-use Rattle.std.proofs.Common.{◌≡◌, ℕ, ◌^◌, inl, inr, false, sym, ap, ◌∙◌, subst, arith}
-use Rattle.vm_base.specs.Pages.{IsPage}
+use Rattle.slot_lock.proofs.Words.{ℕ, ◌^◌, inl, inr, ap, ◌∙◌, subst, arith, refl, IsPage}
 use Rattle.slot_lock.specs.Slots.{Slots, Divides, DividesAs, between}
 use Rattle.slot_lock.proofs.Divisions.{splits, at_first, at_end}
 use Rattle.slot_lock.proofs.Steps.{slot_by_edge}
 use Rattle.radix_range.specs.Tree.{tree_slots}
-use Rattle.radix_range.specs.TreeLaws.{tree-is_slot_map}
 use Rattle.radix_range.specs.Found.{in_512}
 use Rattle.radix_range.proofs.Mapped.{expanded, same_slots, same_info}
 use Rattle.radix_range.proofs.radix_map.RadixMapSlotMap.lock_next.Goals as goal
@@ -27,7 +25,7 @@ pub expand-requires-in-Beyond-clause-page : goal.expand-requires-in-Beyond-claus
 expand-requires-in-Beyond-clause-page g c =
     let past = c.in-Beyond.ensures.tries.0 in
     let limit = slot_by_edge (tree_slots c.args.self.now.root) _ _ (2 ^ 35) past.slot
-    (tree-is_slot_map c.args.self.now.root c.args.self.now.ok).limit (omega (arith, c.requires.ordered, c.requires.valid.1)) in
+    (c.args.self.now.ok.laws _ refl).limit (omega (arith, c.requires.ordered, c.requires.valid.1)) in
     (omega (arith, c.requires.ordered), omega (arith, past.past, limit))
 
 pub expand-requires-in-Beyond-clause-crossed : goal.expand-requires-in-Beyond-clause-crossed

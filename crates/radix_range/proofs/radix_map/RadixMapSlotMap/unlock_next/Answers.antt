@@ -1,14 +1,13 @@
-use Rattle.std.proofs.Common.{◌∙◌, ap, arith}
+use Rattle.std.proofs.Common.{◌∙◌, ap, arith, refl}
 use Rattle.slot_lock.proofs.SlotLaws.{held_page}
 use Rattle.slot_lock.proofs.Steps.{slot_by_edge}
 use Rattle.radix_range.specs.Tree.{tree_slots}
-use Rattle.radix_range.specs.TreeLaws.{tree-is_slot_map}
 use Rattle.radix_range.proofs.Mapped.{same_info}
 use Rattle.slot_lock.specs.Slots.{Slots}
 use Rattle.radix_range.proofs.radix_map.RadixMapSlotMap.unlock_next.Goals as goal
 
 pub unlock-requires-clause-page : goal.unlock-requires-clause-page
-unlock-requires-clause-page g c = held_page (tree_slots c.args.self.now.root) (tree-is_slot_map c.args.self.now.root c.args.self.now.ok)
+unlock-requires-clause-page g c = held_page (tree_slots c.args.self.now.root) (c.args.self.now.ok.laws _ refl)
     c.args.cursor c.args.core c.requires.held
 
 pub returns : goal.returns

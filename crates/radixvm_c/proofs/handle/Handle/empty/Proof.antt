@@ -1,5 +1,5 @@
 -- `empty` makes a handle without a machine. Assumes `Logic`.
-use Rattle.std.proofs.Common.{◌≡◌, List, [], ◌∷◌, ◌++◌, refl, sym, subst}
+use Rattle.machine_laws.proofs.Words.{◌≡◌, List, [], ◌∷◌, ◌++◌, refl, sym, subst, proved_at, leaves}
 use Rattle.std.specs.Prelude.{Option, None}
 use mir.Syntax.{Fn}
 use mir.Val.{Val}
@@ -19,7 +19,6 @@ use denote.Steps.{nothing}
 use denote.Triple.Entry.{alive}
 use denote.Triple.Walked.{Stays, stay_dropped, walk_of, Goes-dropped}
 use Rattle.core.proofs.alloc.Calls.{handle_tells}
-use Rattle.std.proofs.raw_atomic.Walks.{proved_at, leaves}
 use Rattle.std.specs.contracts.alloc.Global as heap
 use Rattle.radixvm_c.proofs.Values.{both, R, handled_al, handled_good, handle_in}
 use Rattle.radixvm_c.specs.contracts.handle.Handle.empty.{ended, clauses}

@@ -1,6 +1,5 @@
 -- `get_mut` lends the machine behind the pointer, and the handle follows it. Assumes `Logic`.
-use Rattle.std.proofs.Common.{◌≡◌, ℕ, List, [], ◌∷◌, refl, sym}
-use Rattle.std.specs.Prelude.{IsSome}
+use Rattle.machine_laws.proofs.Words.{◌≡◌, ℕ, List, [], ◌∷◌, refl, sym, IsSome, ghosts}
 use Rattle.std.proofs.raw_atomic.Walks.{proved}
 use base.Fraction.{full_share}
 use base.Logic.{SProp, ent, sep, id⊢}
@@ -28,7 +27,6 @@ use denote.Follow.{follows, Part, lends_Part}
 use denote.Triple.Walked.{says, Stays, stay_dropped, walk_of, ends_at, Goes-spent_ref}
 use Rattle.std.proofs.VecSteps.Shapes.{after}
 use Rattle.std.specs.contracts.alloc.Global as heap
-use Rattle.std.specs.contracts.impls.GlobalAllocator.TheImpl.{ghosts}
 use Rattle.radixvm_c.specs.Handles.{with_value}
 use Rattle.radixvm_c.proofs.Values.{both, owned, Handled, R, handle_opens, handle_in, held_out}
 use Rattle.radixvm_c.specs.contracts.handle.Handle.get_mut as f

@@ -1,6 +1,6 @@
 -- `into_loose` takes the handle apart. Assumes `Logic`.
-use Rattle.std.proofs.Common.{◌≡◌, List, [], ◌∷◌, ◌++◌, refl, sym, ap, ◌∙◌, subst}
-use Rattle.std.specs.Prelude.{Some, IsSome}
+use Rattle.machine_laws.proofs.Words.{◌≡◌, List, [], ◌∷◌, ◌++◌, refl, sym, ap, ◌∙◌, subst, IsSome, proved_at, leaves, ghosts}
+use Rattle.std.specs.Prelude.{Some}
 use mir.Syntax.{Fn}
 use mir.Val.{Val, vptr}
 use base.Logic.{SProp, ent, emp, id⊢}
@@ -19,10 +19,8 @@ use denote.Steps.{nothing, heard}
 use denote.Triple.Entry.{alive}
 use denote.Triple.Walked.{Stays, stay_dropped, walk_of}
 use Rattle.core.proofs.alloc.Calls.{Goes-blank}
-use Rattle.std.proofs.raw_atomic.Walks.{proved_at, leaves}
 use Rattle.std.specs.contracts.alloc.Global as heap
 use Rattle.std.proofs.alloc.Global.TheLaws as heap_laws
-use Rattle.std.specs.contracts.impls.GlobalAllocator.TheImpl.{ghosts}
 use Rattle.radixvm_c.proofs.Values.{both, Handled, R, loose_good, loose_in, handle_out, held_out}
 use Rattle.radixvm_c.specs.contracts.handle.Handle.into_loose.{ended, clauses}
 use Rattle.radixvm_c.specs.contracts.handle.Handle.into_loose.Key.{name as #self}

@@ -1,5 +1,5 @@
 -- `of` makes the handle. Assumes `Logic`.
-use Rattle.std.proofs.Common.{◌≡◌, List, [], ◌∷◌, ◌++◌, refl, sym, subst}
+use Rattle.machine_laws.proofs.Words.{◌≡◌, List, [], ◌∷◌, ◌++◌, refl, sym, subst, proved_at, leaves, ghosts}
 use Rattle.std.specs.Prelude.{Some}
 use mir.Syntax.{Fn}
 use mir.Val.{Val, vptr}
@@ -19,10 +19,8 @@ use denote.Steps.{nothing}
 use denote.Triple.Entry.{alive}
 use denote.Triple.Walked.{Stays, stay_dropped, walk_of}
 use Rattle.core.proofs.alloc.Calls.{Goes-blank}
-use Rattle.std.proofs.raw_atomic.Walks.{proved_at, leaves}
 use Rattle.std.specs.contracts.alloc.Global as heap
 use Rattle.std.proofs.alloc.Global.TheLaws as heap_laws
-use Rattle.std.specs.contracts.impls.GlobalAllocator.TheImpl.{ghosts}
 use Rattle.radixvm_c.proofs.Values.{both, Loose, R, loose_good, loose_out, handle_in}
 use Rattle.radixvm_c.specs.contracts.handle.Handle.of.{ended, clauses}
 use Rattle.radixvm_c.specs.contracts.handle.Handle.of.Key.{name as #self}

@@ -1,5 +1,5 @@
 use Rattle.std.proofs.Common.{◌≤◌, ◌∙◌, ℕ, ap, sym, subst, arith}
-use Rattle.tickets.specs.Tickets.{TicketerView}
+use Rattle.seats.specs.Tickets.{TicketerView}
 use Rattle.seats.specs.Notes.{noted}
 use Rattle.seats.specs.declared.noted.Noted.{Noted}
 use Rattle.seats.proofs.Rising.{tickets_next, rises_next}

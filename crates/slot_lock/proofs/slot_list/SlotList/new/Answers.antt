@@ -1,6 +1,7 @@
 use Rattle.std.proofs.Common.{refl}
 use Rattle.slot_lock.proofs.Steps.{new_list, new_list-IsSlotList, new_list-IsNew}
 use Rattle.slot_lock.proofs.Adding.{rest}
+use Rattle.slot_lock.proofs.ListLaws.{list_laws}
 use Rattle.slot_lock.proofs.slot_list.SlotList.new.Goals as goal
 
 pub returns-clause-new : goal.returns-clause-new
@@ -10,3 +11,8 @@ pub returns-clause-rest : goal.returns-clause-rest
 returns-clause-rest g c =
     rw (c.in_ok-push-3.ensures.items, c.in_ok-push-2.ensures.items, c.in_ok-push.ensures.items, c.in_ok-slots.ensures.items)
     (rest new_list new_list-IsSlotList 1 refl refl refl)
+
+pub invariant_of-result-clause-laws : goal.invariant_of-result-clause-laws
+invariant_of-result-clause-laws g c =
+    rw (c.in_ok-push-3.ensures.items, c.in_ok-push-2.ensures.items, c.in_ok-push.ensures.items, c.in_ok-slots.ensures.items)
+    (list_laws new_list new_list-IsSlotList)

@@ -1,8 +1,10 @@
 use Rattle.std.proofs.Common.{◌-◌, sym, ◌∙◌, refl, inl, inr, arith}
-use Rattle.slot_lock.specs.Places.{read_slot}
+use Rattle.slot_lock.proofs.Places.{read_slot}
 use Rattle.slot_lock.specs.ListedSlots.{two_parts}
 use Rattle.slot_lock.proofs.Divisions.{cuts, at_first, at_end}
-use Rattle.slot_lock.proofs.Steps.{below_limit, owner_before, owner_at, edge_of, no_edge, on_err}
+use Rattle.slot_lock.proofs.Steps.{below_limit, owner_before, owner_at, edge_of, no_edge}
+use Rattle.slot_lock.proofs.Facts.{on_err}
+use Rattle.slot_lock.proofs.ListLaws.{list_laws}
 use Rattle.slot_lock.proofs.slot_list.SlotListSlotMap.cut_next.Goals as goal
 
 pub returns-then-index-range-clause-step : goal.returns-then-index-range-clause-step
@@ -70,3 +72,9 @@ returns-in_err-cut-2-clause-err_only g c =
     let slot = read_slot c.args.self.now.slots.items c.place-j.result c.index-2.result.now at.within c.index-2.ensures in
     let inside = rw slot at c.if-index-range-2.true in
     on_err _ (inr (no_edge _ c.args.self.now.ok _ _ at inside))
+
+pub invariant_of-self : goal.invariant_of-self
+invariant_of-self g c = record { ok = c.cut.ensures.list; laws = list_laws _ c.cut.ensures.list }
+
+pub invariant_of-self-then-index-range-2 : goal.invariant_of-self-then-index-range-2
+invariant_of-self-then-index-range-2 g c = record { ok = c.cut-then-index-range-2.ensures.list; laws = list_laws _ c.cut-then-index-range-2.ensures.list }

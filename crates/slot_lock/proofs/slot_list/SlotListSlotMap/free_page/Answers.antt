@@ -1,7 +1,7 @@
 use Rattle.std.proofs.Common.{◌+◌, arith, ap, ◌∙◌, sym}
 use Rattle.slot_lock.specs.declared.slot.Slot.{Slot}
-use Rattle.slot_lock.specs.Places.{read_slot, before_last}
-use Rattle.slot_lock.proofs.Adding.{no_some, none_of}
+use Rattle.slot_lock.proofs.Places.{read_slot, before_last}
+use Rattle.slot_lock.proofs.Facts.{no_some, none_of}
 use Rattle.slot_lock.proofs.Steps.{free_page, free_slot}
 use Rattle.slot_lock.proofs.slot_list.SlotListSlotMap.free_page.Goals.{then-is_some-via-then-is_some}
 use Rattle.slot_lock.proofs.slot_list.SlotListSlotMap.free_page.Goals.{then-is_some-via-else-is_some+then-slot-page}

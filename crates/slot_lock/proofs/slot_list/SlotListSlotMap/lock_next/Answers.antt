@@ -1,11 +1,13 @@
 use Rattle.std.proofs.Common.{◌≡◌, inl, ◌<◌, ◌+◌, ◌^◌, Some, sym, ◌∙◌, ap, refl, arith}
 use Rattle.slot_lock.specs.declared.slot.Slot.{Slot}
 use Rattle.slot_lock.specs.SlotList.{get_slot}
-use Rattle.slot_lock.specs.Places.{read_slot, before_last, start_most}
+use Rattle.slot_lock.proofs.Places.{read_slot, before_last, start_most}
 use Rattle.slot_lock.specs.ListedSlots.{two_parts}
 use Rattle.slot_lock.specs.Slots.{between}
 use Rattle.slot_lock.proofs.Divisions.{splits, at_first, at_end}
-use Rattle.slot_lock.proofs.Steps.{read_at, edge_of, no_edge, locks, crosses_end, crosses_start, on_err_both}
+use Rattle.slot_lock.proofs.Steps.{read_at, edge_of, no_edge, locks, crosses_end, crosses_start}
+use Rattle.slot_lock.proofs.Facts.{on_err_both}
+use Rattle.slot_lock.proofs.ListLaws.{list_laws}
 use Rattle.slot_lock.proofs.slot_list.SlotListSlotMap.lock_next.Goals as goal
 
 pub returns-in-Some-clause-step : goal.returns-in-Some-clause-step
@@ -100,3 +102,12 @@ returns-in_err-cut-2-clause-err_only g c =
     (read_at c.args.self.now.slots.items c.args.self.now.ok c.args.cursor c.place-i.result c.index-slot.result.now at
     c.index-slot.ensures)) ∙ c.in_default.is)
     (crosses_end _ c.args.self.now.ok c.place-i.result c.args.cursor c.args.end last begins past)
+
+pub invariant_of-self : goal.invariant_of-self
+invariant_of-self g c = record { ok = c.cut.ensures.list; laws = list_laws _ c.cut.ensures.list }
+
+pub invariant_of-self-then-end-slot_end : goal.invariant_of-self-then-end-slot_end
+invariant_of-self-then-end-slot_end g c = record { ok = c.cut-then-end-slot_end.ensures.list; laws = list_laws _ c.cut-then-end-slot_end.ensures.list }
+
+pub invariant_of-self-2 : goal.invariant_of-self-2
+invariant_of-self-2 g c = record { ok = c.set_owner.ensures.list; laws = list_laws _ c.set_owner.ensures.list }

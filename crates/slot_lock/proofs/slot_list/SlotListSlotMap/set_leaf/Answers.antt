@@ -1,11 +1,9 @@
-use Rattle.std.proofs.Common.{◌≡◌, ◌-◌, ◌+◌, sym, ◌∙◌, ap, subst, arith, Option}
-use Rattle.vm_base.specs.declared.info.PageInfo.{PageInfo}
-use Rattle.vm_base.specs.Info.{info_from}
+use Rattle.slot_lock.proofs.Words.{◌≡◌, ◌-◌, ◌+◌, sym, ◌∙◌, ap, subst, arith, Option, PageInfo, info_from}
 use Rattle.slot_lock.specs.declared.slot.Slot.{Slot}
 use Rattle.slot_lock.specs.SlotList.{get_slot}
 use Rattle.slot_lock.specs.Slots.{HasMeta}
-use Rattle.slot_lock.specs.Places.{slot_at_is}
-use Rattle.slot_lock.specs.ListLaws.{info_from_zero}
+use Rattle.slot_lock.proofs.Places.{slot_at_is}
+use Rattle.slot_lock.proofs.ListLaws.{info_from_zero, list_laws}
 use Rattle.slot_lock.proofs.Steps.{one_page}
 use Rattle.slot_lock.proofs.slot_list.SlotListSlotMap.set_leaf.Goals as goal
 
@@ -31,3 +29,6 @@ returns g c =
     let at = rw c.deref.ensures.value at c.place-i.ensures in
     let one = one_page _ c.args.self.now.ok _ _ at c.requires.alone c.requires.valid.1 in
     rw one.0 at c.set_info.ensures.slots
+
+pub invariant_of-self : goal.invariant_of-self
+invariant_of-self g c = record { ok = c.set_info.ensures.list; laws = list_laws _ c.set_info.ensures.list }

@@ -1,5 +1,4 @@
-use Rattle.std.proofs.Common.{◌-◌, ap, ◌∙◌}
-use Rattle.vm_base.specs.Info.{info_from}
+use Rattle.slot_lock.proofs.Words.{◌-◌, ap, ◌∙◌, info_from}
 use Rattle.slot_lock.specs.declared.slot.Slot.{Slot}
 use Rattle.slot_lock.proofs.Steps.{read_at}
 use Rattle.slot_lock.proofs.slot_list.SlotListSlotRead.page.Goals as goal

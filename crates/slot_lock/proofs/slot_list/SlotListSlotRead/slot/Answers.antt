@@ -1,6 +1,6 @@
 use Rattle.std.proofs.Common.{◌+◌}
-use Rattle.slot_lock.specs.Places.{read_slot, before_last}
-use Rattle.slot_lock.specs.ListLaws.{is_slot}
+use Rattle.slot_lock.proofs.Places.{read_slot, before_last}
+use Rattle.slot_lock.proofs.ListLaws.{is_slot}
 use Rattle.slot_lock.proofs.slot_list.SlotListSlotRead.slot.Goals as goal
 
 pub returns-clause-slot : goal.returns-clause-slot

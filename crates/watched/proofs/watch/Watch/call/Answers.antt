@@ -1,7 +1,5 @@
-use Rattle.std.proofs.Common.{◌≡◌, rules}
-use Rattle.std.proofs.lemmas.Result.{IfOk-weaker, on_err_weaker}
+use Rattle.machine_laws.proofs.Words.{◌≡◌, rules, IfOk-weaker, on_err_weaker, Stepped}
 use Rattle.std.specs.Prelude.{◌≢◌}
-use Rattle.machine_model.specs.declared.event.Outcome.TheVariants.{Stepped}
 use Rattle.core_steps.specs.Machine.{state}
 use Rattle.watched.proofs.Watched.{call_finished, call_not_begun, call_refused, call_watched, call_watched_end}
 use Rattle.watched.proofs.watch.Watch.call.Goals as goal

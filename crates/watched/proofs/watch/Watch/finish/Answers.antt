@@ -1,6 +1,5 @@
-use Rattle.std.proofs.Common.{◌≡◌, ◌^◌, arith, refl, rules}
+use Rattle.machine_laws.proofs.Words.{◌≡◌, ◌^◌, arith, refl, rules, Stepped}
 use Rattle.std.specs.Prelude.{◌≢◌}
-use Rattle.machine_model.specs.declared.event.Outcome.TheVariants.{Stepped}
 use Rattle.core_steps.proofs.Reached.{refused_at, steps_end, steps_more}
 use Rattle.watched.proofs.Watched.{steps_watched_end, steps_watched_more, steps_watched_stuck}
 use Rattle.watched.proofs.watch.Watch.finish.Goals as goal

@@ -1,5 +1,4 @@
-use Rattle.std.proofs.Common.{◌-◌, ◌≤◌, ◌^◌}
-use Rattle.machine_model.specs.Step.{StepsTo}
+use Rattle.machine_laws.proofs.Words.{◌-◌, ◌≤◌, ◌^◌, StepsTo}
 use Rattle.core_steps.specs.Machine.{state}
 use Rattle.watched.proofs.Watched.{WatchesSteps}
 use Rattle.watched.proofs.watch.Watch.finish.Given as goal

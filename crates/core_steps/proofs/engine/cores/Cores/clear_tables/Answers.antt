@@ -1,5 +1,4 @@
-use Rattle.std.proofs.Common.{None}
-use Rattle.vm_base.specs.Functions.{over, has}
+use Rattle.machine_laws.proofs.Words.{None, over, has}
 use Rattle.core_steps.proofs.engine.Each.{table_set}
 use Rattle.core_steps.proofs.engine.cores.Cores.clear_tables.Goals as goal
 

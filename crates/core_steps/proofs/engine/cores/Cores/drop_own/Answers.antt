@@ -1,5 +1,4 @@
-use Rattle.std.proofs.Common.{ap, ◌∙◌}
-use Rattle.machine_model.specs.Translating.{tlb_invalidated}
+use Rattle.machine_laws.proofs.Words.{ap, ◌∙◌, tlb_invalidated}
 use Rattle.core_steps.proofs.engine.cores.Cores.drop_own.Goals as goal
 
 pub returns-clause-after : goal.returns-clause-after

@@ -1,5 +1,4 @@
-use Rattle.vm_base.specs.Functions.{has}
-use Rattle.mmu.specs.Tlb.{tlb_without}
+use Rattle.machine_laws.proofs.Words.{has, tlb_without}
 use Rattle.core_steps.proofs.engine.Each.{tlb_set}
 use Rattle.core_steps.proofs.engine.cores.Cores.invalidate.Goals as goal
 

@@ -1,5 +1,4 @@
-use Rattle.std.proofs.Common.{None, [], rules}
-use Rattle.std.proofs.Math.Path.{fun_ext}
+use Rattle.machine_laws.proofs.Words.{None, [], rules, fun_ext}
 use Rattle.core_steps.proofs.engine.Each.{bare_parts, one_more}
 use Rattle.core_steps.proofs.engine.cores.Cores.new.Goals as goal
 

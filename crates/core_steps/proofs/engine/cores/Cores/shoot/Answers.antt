@@ -1,7 +1,4 @@
-use Rattle.std.proofs.Common.{◌≡◌, ◌<◌, true, false, ap, sym, subst, ◌∙◌}
-use Rattle.vm_base.specs.Cores.{members}
-use Rattle.vm_base.proofs.Functions.{put_all, put_same}
-use Rattle.shootdown.specs.Inboxes.{awaited}
+use Rattle.machine_laws.proofs.Words.{◌≡◌, ◌<◌, true, false, ap, sym, subst, ◌∙◌, members, put_all, put_same, awaited}
 use Rattle.core_steps.specs.Parts.{parts}
 use Rattle.core_steps.proofs.engine.Each.{shot_set}
 use Rattle.core_steps.proofs.engine.cores.Cores.shoot.Goals as goal

@@ -1,6 +1,5 @@
-use Rattle.std.proofs.Common.{ap, ◌∙◌}
-use Rattle.mmu.specs.Tables.{translated, tlb_after}
-use Rattle.mmu.specs.Tlb.{tlb_at}
+use Rattle.machine_laws.proofs.Words.{ap, ◌∙◌, translated, tlb_at}
+use Rattle.mmu.specs.Tables.{tlb_after}
 use Rattle.core_steps.proofs.engine.Each.{tlb_set}
 use Rattle.core_steps.proofs.engine.cores.Cores.translate.Goals as goal
 

@@ -1,2 +1,0 @@
-mod ListLemmas
-mod MapLemmas

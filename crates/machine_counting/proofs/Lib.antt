@@ -1,4 +1,0 @@
-pub mod Pages
-pub mod Kept
-pub mod CountingDown
-mod Examples

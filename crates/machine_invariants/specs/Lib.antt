@@ -1,0 +1,2 @@
+pub mod Coherent
+pub mod Counted

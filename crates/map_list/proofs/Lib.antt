@@ -1,3 +1,0 @@
-pub mod Walks
-pub mod Lists
-pub mod OneList

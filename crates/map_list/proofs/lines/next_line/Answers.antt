@@ -1,7 +1,0 @@
-use Rattle.map_list.proofs.Walks.{line_is}
-use Rattle.map_list.proofs.lines.next_line.Goals as goal
-
-pub returns-clause-some : goal.returns-clause-some
-returns-clause-some g c =
-    line_is _ c.args.from c.in-Some.first c.in-Some.meta c.run_end-end.result c.requires.from c.requires.begins c.in-Some.ensures.some
-    c.run_end-end.ensures.run c.run_end-end.ensures.ends

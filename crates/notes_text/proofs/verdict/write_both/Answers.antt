@@ -1,0 +1,10 @@
+use Rattle.trace_io.proofs.IoLemmas.{front_longer, written_then}
+use Rattle.notes_text.proofs.verdict.write_both.Goals as goal
+
+pub returns-in-Err : goal.returns-in-Err
+returns-in-Err g c = record { ok = tt; kept = tt; front = front_longer _ _ _ _ c.in-Err.ensures.front; err = c.in-Err.ensures.err }
+
+pub returns : goal.returns
+returns g c =
+    let w = c.write_all-2.ensures in
+    written_then _ _ _ _ _ _ _ _ _ _ c.in_default.ensures.ok c.in_default.ensures.kept (record { ok = w.ok; kept = w.kept; front = w.front; err = w.err })

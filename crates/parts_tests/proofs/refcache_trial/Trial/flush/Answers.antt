@@ -1,7 +1,0 @@
-use Rattle.parts_tests.proofs.Tried.{trial_flushed}
-use Rattle.parts_tests.proofs.refcache_trial.Trial.flush.Goals as goal
-
-pub invariant_of-self : goal.invariant_of-self
-invariant_of-self g c =
-    trial_flushed c.self.inside.counts c.flush-report.new.self c.new.result c.flush-report.result c.self.inside.cores
-    c.self.inside.trues.items c.self.inside.fresh c.self.invariant c.flush-report.ensures.step

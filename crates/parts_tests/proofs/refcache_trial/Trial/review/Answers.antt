@@ -1,7 +1,0 @@
-use Rattle.parts_tests.proofs.Tried.{trial_reviewed}
-use Rattle.parts_tests.proofs.refcache_trial.Trial.review.Goals as goal
-
-pub invariant_of-self : goal.invariant_of-self
-invariant_of-self g c =
-    trial_reviewed c.self.inside.counts c.review-report.new.self c.new.result c.review-report.result c.self.inside.cores
-    c.self.inside.trues.items c.self.inside.fresh c.self.invariant c.review-report.ensures.step

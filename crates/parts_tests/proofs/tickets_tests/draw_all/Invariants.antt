@@ -1,8 +1,0 @@
-use Rattle.std.proofs.Common.{◌≡◌, length}
-use Rattle.parts_tests.proofs.tickets_tests.draw_all.Given as goal
-
-abbrev pub invariant-draws : goal.invariant-draws
-invariant-draws l = record {
-  word : l.lane.ticketer.word ≡ l.tickets;
-  drawn : length l.lane.ticketer.tickets ≡ l.counter;
-}

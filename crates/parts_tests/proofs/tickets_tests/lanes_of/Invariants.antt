@@ -1,8 +1,0 @@
-use Rattle.std.proofs.Common.{◌≡◌, []}
-use Rattle.std.specs.Prelude.{All}
-use Rattle.parts_tests.proofs.tickets_tests.lanes_of.Given as goal
-
-abbrev pub invariant-lanes : goal.invariant-lanes
-invariant-lanes l = record {
-  new : All (λ n. (n.ticketer.word ≡ l.word) × (n.ticketer.tickets ≡ [])) l.lanes.items;
-}

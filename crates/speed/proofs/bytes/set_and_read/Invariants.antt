@@ -1,5 +1,0 @@
-use Rattle.std.proofs.Common.{◌≡◌, ◌<◌}
-use Rattle.speed.proofs.bytes.set_and_read.Given as goal
-
-abbrev pub invariant-rounds : goal.invariant-rounds
-invariant-rounds l = (l.frames.count ≡ 1024) × (l.frame < 1024)

@@ -1,6 +1,0 @@
-use Rattle.radix_range.specs.Tree.{tree_slots}
-use Rattle.slot_lock.specs.Slots.{OwnsAll}
-use Rattle.speed.proofs.ranges.is_held.Given as goal
-
-abbrev pub invariant-pages : goal.invariant-pages
-invariant-pages l = OwnsAll (tree_slots l.map.root) l.core l.fn.range.first l.page

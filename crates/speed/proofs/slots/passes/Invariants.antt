@@ -1,6 +1,0 @@
-use Rattle.std.proofs.Common.{◌<◌}
-use Rattle.speed.specs.Free.{IsFree}
-use Rattle.speed.proofs.slots.passes.Given as goal
-
-abbrev pub invariant-rounds : goal.invariant-rounds
-invariant-rounds g l = IsFree (g.M.SlotRead.slots l.map) × (l.place < l.pages)
