@@ -18,7 +18,7 @@ import sys
 ROOT = os.path.dirname(os.path.dirname(os.path.abspath(__file__)))
 DEFINES = (
     re.compile(r'^\s*(?:abbrev|unfoldable|reducible)\s+pub\s+(\S+)\s*:'),
-    re.compile(r'^(?:pub )?(?:record|data)\s+(\S+)'),
+    re.compile(r'^(?:\s*pub )?(?:record|data)\s+(\S+)'),
     re.compile(r'^\s*(?:abbrev|unfoldable)\s+(\S+)\s*:'),
 )
 NAMED = re.compile(r'^use Rattle\.(\w+)\.specs\.([\w.]+)\.\{([^}]*)\}', re.M | re.S)

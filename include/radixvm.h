@@ -1,9 +1,11 @@
 /* RadixVM, verified: one virtual address space that 1 to 64 modelled cores share, as a library.
  *
  * A batch makes a new machine, gives it events or whole calls one after another, and writes what each
- * came to; a machine that is kept takes them as they come. What is proved is that the outcomes are a run
- * of the abstract machine whose log is that of a plain page map (POSIX.1-2017 mmap, munmap, mprotect):
- * the contracts of crates/radixvm_c/src/lib.rt.
+ * came to; a machine that is kept takes them as they come. What is proved, by the contracts of
+ * crates/radixvm_c/src/lib.rt: of radixvm_run, that the outcomes are a run of the abstract machine whose
+ * log is that of a plain page map (POSIX.1-2017 mmap, munmap, mprotect); of radixvm_calls and of a machine
+ * that is kept, that each call or event comes to what the abstract machine's steps give from the state
+ * before it, and that the state it leaves is one that a run leads to, with the log of a plain page map.
  *
  * Units: addresses, lengths and offsets are bytes; a page or frame is 4096 bytes, and is named by its
  * number (page = address / 4096). Buffers are the caller's, each with its number of items; the library

@@ -1,8 +1,8 @@
 -- What the judge finds, by what was found in the slots and the bytes that are kept
 use Rattle.slot_lock.proofs.Words.{◌≡◌, ◌≢◌, ℕ, ◌<◌, Bool, true, false, List, Option, Some, None, Result, Ok, Err, is_some, refl, sym, ◌∙◌, ap, subst, OnOk}
 use Rattle.slot_lock.proofs.Words.{IfSome, if◌then◌else◌, PageInfo, PageRange, Mode, Request, Reply, Mapped, Done, Byte, Refused, Segv, Bus, NoFrame}
-use Rattle.slot_lock.proofs.Words.{NoMemory, MapErr, pages_from, Access, frame_of, Bytes, Plain, bytes_of, is_mapped, mode_of, entry_reply, Applies}
-use Rattle.std.specs.Prelude.{IfOk}
+use Rattle.slot_lock.proofs.Words.{NoMemory, MapErr, pages_from, Access, frame_of, Bytes, Plain, bytes_of, is_mapped, mode_of, entry_reply, Answers, Applies}
+use Rattle.std.specs.Prelude.{IfOk, OnErr}
 use Rattle.vm_base.specs.declared.replies.Errno.{Errno}
 use Rattle.vm_base.specs.declared.replies.SegvCode.TheVariants.{AccErr}
 use Rattle.vm_base.specs.Rights.{is_allowed}
@@ -26,13 +26,13 @@ use Rattle.vm_calls.specs.Plainly.{answer_to, left_by}
 use Rattle.vm_calls.proofs.Plainly.{plain}
 use Rattle.audit.specs.declared.judging.Verdict.{Verdict}
 use Rattle.audit.specs.declared.judging.Verdict.TheVariants.{Legal, Illegal}
-use Rattle.audit.specs.Judging.{Compares, Judges, JudgesPlan, after_copy, stored, touched_after}
+use Rattle.audit.specs.Judging.{Compares, GivesPlan, Judges, JudgesPlan, after_copy, stored, touched_after}
 use Rattle.audit.specs.Keeping.{Keeps, entry_kept, files_kept, own_kept, plain_kept}
 use Rattle.audit.specs.Storing.{HasBytes}
 use Rattle.audit.specs.Placing.{IsAllowed, IsFirst, place_said, reply_at, rule_of}
 use Rattle.audit.proofs.Changed.{has_modes, mapped_kept, modes_kept, plain_changed, shown_kept}
 use Rattle.audit.proofs.Judged.{HasOneAnswer, judged_compared, judged_illegal, judged_legal}
-use Rattle.audit.proofs.Judged.{one_changed, one_refused, one_touched, place_answers, place_illegal}
+use Rattle.audit.proofs.Judged.{one_changed, one_refused, one_touched, place_answers, place_illegal, placed_map}
 use Rattle.audit.proofs.Placed.{said_reply}
 use Rattle.vm_base.specs.Places.{IsPlace}
 
@@ -204,6 +204,40 @@ place_made any s t o f g place reply first said h info bytes c request few is =
     (place_answers any (plain_kept s o f) c request place (Some first) few is
     (subst (λ m. IsAllowed any m place (Some first)) (sym (mapped_kept s o f)) h)))
 
+-- ---- replies for which memory is wanted
+
+pub act_given : (s : Slots) (o : List FileParts) (f : FrameParts) (change : Change) (reply due : Reply) (range : PageRange) (shoot : ℕ)
+    → Decides (files_of o) s (To.Change change) (Act range shoot) → range ≡ range_of change
+    → due ≡ answer_to (To.Change change) (range_of change) → reply ≡ due
+    → (any : Bool) → GivesPlan any (plain_kept s o f) (PlanOf.Change change) reply
+act_given s o f change reply due range shoot d same is_due replied any c request few is =
+    let u = left_by (plain_kept s o f) (To.Change change) (range_of change) in (
+      u,
+      subst (λ y. Answers (rule_of any) (plain_kept s o f) c request y u) (sym (replied ∙ is_due))
+          ((acted s o f change range shoot d same c request few is).answers any),
+    )
+
+pub touch_given : (t : Plain) (touch : Touch) (reply due : Reply)
+    → due ≡ after_copy (entry_reply t.file (t.entry touch.page) touch.access touch.offset) → reply ≡ due
+    → (any : Bool) → GivesPlan any t (PlanOf.Touch touch) reply
+touch_given t touch reply due is_due same any c request few is =
+    let u = touched_after t touch due in (
+      u,
+      subst (λ y. Answers (rule_of any) t c request y u) (sym same)
+          ((one_touched t (λ n. mode_of (t.file n)) c request touch due is is_due).answers any),
+    )
+
+pub place_given : (any : Bool) (s : Slots) (o : List FileParts) (f : FrameParts) (place : Place) (reply : Reply) (first : ℕ)
+    → place_said reply ≡ Some (Some first) → IsAllowed any (is_mapped (entries s)) place (Some first)
+    → GivesPlan any (plain_kept s o f) (PlanOf.Place place) reply
+place_given any s o f place reply first said h c request few is =
+    let u = placed_map (plain_kept s o f) place (Some first) in (
+      u,
+      subst (λ y. Answers (rule_of any) (plain_kept s o f) c request y u) (sym (said_reply reply (Some first) said))
+          (place_answers any (plain_kept s o f) c request place (Some first) few is
+          (subst (λ m. IsAllowed any m place (Some first)) (sym (mapped_kept s o f)) h)),
+    )
+
 -- ---- what the arguments refuse
 
 pub refused_judged : (any : Bool) (s : Slots) (o : List FileParts) (f : FrameParts) (c : ℕ) (request : Request) (reply due : Reply) (verdict : Verdict)
@@ -222,3 +256,7 @@ on_ok_map (Err e) X Y x f = tt
 pub if_ok_map : {T E : Type 0} (r : Result T E) (P Q : T → Type 0) → IfOk r P → ((v : T) → P v → Q v) → IfOk r Q
 if_ok_map (Ok v) P Q x f = f v x
 if_ok_map (Err e) P Q x f = tt
+
+pub on_err_map : {T E : Type 0} (r : Result T E) (X Y : Type 0) → OnErr r X → (X → Y) → OnErr r Y
+on_err_map (Ok v) X Y x f = tt
+on_err_map (Err e) X Y x f = f x

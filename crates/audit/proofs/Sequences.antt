@@ -1,12 +1,12 @@
 -- Calls one after another
-use Rattle.slot_lock.proofs.Words.{◌≡◌, ℕ, zero, suc, ◌+◌, ◌<◌, Bool, List, [], ◌∷◌, ◌++◌, Some, length, take, refl, sym, ◌∙◌, ap, subst, take_more, Plain}
+use Rattle.slot_lock.proofs.Words.{◌≡◌, ℕ, zero, suc, ◌+◌, ◌<◌, Bool, List, [], ◌∷◌, ◌++◌, Some, length, take, refl, sym, ◌∙◌, ap, subst, arith, take_more, Plain}
 use Rattle.slot_lock.proofs.Words.{Answers}
 use Rattle.std.proofs.Common.{slice_get}
 use Rattle.std.specs.Prelude.{get_or}
 use Rattle.vm_base.specs.Places.{PlaceRule}
 use Rattle.audit.specs.declared.auditor.Call.{Call}
 use Rattle.audit.specs.declared.auditor.Wrong.{Wrong}
-use Rattle.audit.specs.Judging.{AreReplies, IsFirstWrong}
+use Rattle.audit.specs.Judging.{AreReplies, IsFirstWrong, IsGiven, IsWanting}
 use Rattle.audit.specs.Placing.{rule_of}
 use Rattle.audit.proofs.Judged.{one_left}
 
@@ -20,6 +20,23 @@ pub replies_more : (rule : PlaceRule) (t m u : Plain) (cs : List Call) (at : ℕ
     → AreReplies rule t (take at cs) m → Answers rule m c.core c.request c.reply u → AreReplies rule t (take (at + 1) cs) u
 replies_more rule t m u cs at c l is h a =
     subst (λ xs. AreReplies rule t xs u) (sym (take_more cs at c l ∙ ap (λ x. take at cs ++ x ∷ []) (sym is))) (replies_push rule t m u (take at cs) c h a)
+
+-- the call at a place
+call_at : (cs : List Call) (at : ℕ) (c : Call) → at < length cs → c ≡ get_or cs at c → slice_get cs at ≡ Some c
+call_at [] at c l is = absurd (omega (arith, l))
+call_at (d ∷ cs) zero c l is = ap Some (sym is)
+call_at (d ∷ cs) (suc at) c l is = call_at cs at c (omega (arith, l)) is
+
+-- memory is wanted for the next call
+pub wants_next : (rule : PlaceRule) (t m u : Plain) (cs : List Call) (at : ℕ) (c : Call) → at < length cs → c ≡ get_or cs at c → u ≡ m
+    → AreReplies rule t (take at cs) m → IsGiven rule m c.core c.request c.reply → IsWanting rule t cs u
+wants_next rule t m u cs at c l is stays h given = record {
+  at = at;
+  call = c;
+  is_call = call_at cs at c l is;
+  before = subst (AreReplies rule t (take at cs)) (sym stays) h;
+  given = subst (λ x. IsGiven rule x c.core c.request c.reply) (sym stays) given;
+}
 
 -- the calls lead to one map
 pub one_map : (any : Bool) (t u v : Plain) (cs : List Call) → AreReplies (rule_of any) t cs u → AreReplies (rule_of any) t cs v → u ≡ v

@@ -25,6 +25,10 @@ Judges rule t core request y (Illegal first) u =
     ((v : Plain) → ¬ Answers rule t core request y v)
     × ((v : Plain) × Answers IsFirstPlace t core request first v) × (u ≡ t)
 
+-- some plain map gives this reply
+abbrev pub IsGiven : PlaceRule → Plain → ℕ → Request → Reply → Type 0
+IsGiven rule t core request y = (u : Plain) × Answers rule t core request y u
+
 -- The replies of the calls, one after another, are the plain map's, from t on, and leave u.
 abbrev pub AreReplies : PlaceRule → Plain → List Call → Plain → Type 0
 AreReplies rule t [] u = u ≡ t
@@ -41,11 +45,24 @@ pub record IsFirstWrong (rule : PlaceRule) (t : Plain) (calls : List Call) (wron
   pub none : (v : Plain) → ¬ Answers rule u call.core call.request call.reply v
   pub due : (v : Plain) × Answers IsFirstPlace u call.core call.request wrong.due v
 
+-- The replies of so many calls are, and leave u; memory was wanting for the next, whose reply some plain map gives.
+pub record IsWanting (rule : PlaceRule) (t : Plain) (calls : List Call) (u : Plain) : Type 0 where
+  pub at : ℕ
+  pub call : Call
+  pub is_call : slice_get calls at ≡ Some call
+  pub before : AreReplies rule t (take at calls) u
+  pub given : IsGiven rule u call.core call.request call.reply
+
 -- the same of each request that makes this plan
 abbrev pub JudgesPlan : Bool → Plain → PlanOf → Reply → Verdict → Plain → Type 0
 JudgesPlan any_place t plan y verdict u = (core : ℕ) (request : Request) → core < 64
     → checked (λ n. mode_of (t.file n)) core request ≡ Ok plan
     → Judges (rule_of any_place) t core request y verdict u
+
+abbrev pub GivesPlan : Bool → Plain → PlanOf → Reply → Type 0
+GivesPlan any_place t plan y = (core : ℕ) (request : Request) → core < 64
+    → checked (λ n. mode_of (t.file n)) core request ≡ Ok plan
+    → IsGiven (rule_of any_place) t core request y
 
 -- where this reply is due
 abbrev pub Compares : Reply → Reply → Verdict → Type 0

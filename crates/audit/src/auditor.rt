@@ -81,7 +81,7 @@ impl<M: SlotMap + Drop, A: Allocator + Clone + Drop> Auditor<M, A> {
 impl<M: SlotMap, A: Allocator> Auditor<M, A> {
     ghost use Rattle.std.specs.Prelude.{◌≡◌, IfOk, OnErr};
     ghost use Rattle.audit.specs.Auditor.{plain_of};
-    ghost use Rattle.audit.specs.Judging.{Judges};
+    ghost use Rattle.audit.specs.Judging.{IsGiven, Judges};
     ghost use Rattle.audit.specs.Placing.{rule_of};
 
     /// The slots that say what each page is mapped to.
@@ -95,8 +95,8 @@ impl<M: SlotMap, A: Allocator> Auditor<M, A> {
     /// the plain page map's, which goes on from there; after another one the map is as it was. Each
     /// request has a legal reply (POSIX.1-2017, mmap, munmap and mprotect; loads, stores and fetches of
     /// one byte with the bytes of pages and of files). A private page that shows its file's gets a copy
-    /// before a store that is done. Where memory is wanting, or bytes of more than 65,536 pages would be
-    /// kept, nothing changes.
+    /// before a store that is done. Memory is wanted only for a legal reply. Where it is wanting, or bytes of
+    /// more than 65,536 pages would be kept, nothing changes.
     pub fn judge(
         &mut self,
         core: CoreId,
@@ -106,6 +106,7 @@ impl<M: SlotMap, A: Allocator> Auditor<M, A> {
         ensures judged { IfOk result (λ verdict. Judges (rule_of self.old.any_place)
             (plain_of self.old) core request reply verdict (plain_of self.new)) }
         ensures err { OnErr result (plain_of self.new ≡ plain_of self.old) }
+        ensures legal { OnErr result (IsGiven (rule_of self.old.any_place) (plain_of self.old) core request reply) }
         ensures any_place { self.new.any_place ≡ self.old.any_place }
     {
         // this says that the core is one of 64
@@ -125,21 +126,20 @@ impl<M: SlotMap, A: Allocator> Auditor<M, A> {
 }
 
 impl<M: SlotMap, A: Allocator> Auditor<M, A> {
-    ghost use Rattle.std.specs.Prelude.{◌≡◌, ℕ, take, IfOk, IfNone, IfSome, OnErr};
+    ghost use Rattle.std.specs.Prelude.{◌≡◌, IfOk, IfNone, IfSome, OnErr};
     ghost use Rattle.audit.specs.Auditor.{plain_of};
-    ghost use Rattle.audit.specs.Judging.{AreReplies, IsFirstWrong};
+    ghost use Rattle.audit.specs.Judging.{AreReplies, IsFirstWrong, IsWanting};
     ghost use Rattle.audit.specs.Placing.{rule_of};
 
     /// Judges the replies of calls, which come one after another behind those judged before: none is
     /// wrong exactly where they are the plain page map's, and else the first one is told, before which
-    /// it has stopped. Where memory is wanting it has stopped somewhere, at a legal reply.
+    /// it has stopped. Memory is wanted only for a legal reply, before which it has then stopped.
     pub fn judge_all(&mut self, calls: &[Call]) -> Result<Option<Wrong>, NoMemory>
         ensures legal { IfOk result (λ found. IfNone found (AreReplies (rule_of self.old.any_place)
             (plain_of self.old) calls.now (plain_of self.new))) }
         ensures wrong { IfOk result (λ found. IfSome found (λ wrong. IsFirstWrong
             (rule_of self.old.any_place) (plain_of self.old) calls.now wrong (plain_of self.new))) }
-        ensures err { OnErr result ((n : ℕ) × AreReplies (rule_of self.old.any_place) (plain_of self.old)
-            (take n calls.now) (plain_of self.new)) }
+        ensures err { OnErr result (IsWanting (rule_of self.old.any_place) (plain_of self.old) calls.now (plain_of self.new)) }
         ensures any_place { self.new.any_place ≡ self.old.any_place }
     {
         for at in 0..calls.len() {

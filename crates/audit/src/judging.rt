@@ -8,7 +8,7 @@ ghost use Rattle.slot_lock.specs.Plan.{range_of};
 ghost use Rattle.slot_lock.specs.Slots.{IsFreePage};
 ghost use Rattle.backing.specs.Files.{cached_in};
 ghost use Rattle.audit.specs.Keeping.{Keeps, NobodyHolds, plain_kept};
-ghost use Rattle.audit.specs.Judging.{Compares, JudgesPlan};
+ghost use Rattle.audit.specs.Judging.{Compares, GivesPlan, JudgesPlan};
 
 use crate::bytes::access_reply;
 use crate::changing::{change_alone, free_alone, make_change};
@@ -115,6 +115,8 @@ fn judge_change<M: SlotMap, A: Allocator>(
         (plain_kept (M.slots map.new) objects.now frames.new)) }
     ensures err { OnErr result (plain_kept (M.slots map.new) objects.now frames.new
         ≡ plain_kept (M.slots map.old) objects.now frames.old) }
+    ensures legal { OnErr result ((any_place : Bool) → GivesPlan any_place
+        (plain_kept (M.slots map.old) objects.now frames.old) (PlanOf.Change change) reply) }
     ensures free { NobodyHolds (M.slots map.new) }
     ensures kept { Keeps (M.slots map.new) (cached_in objects.now) frames.new }
 {
@@ -151,6 +153,8 @@ fn judge_touch<M: SlotMap, A: Allocator>(
         (plain_kept (M.slots map.new) objects.new frames.new)) }
     ensures err { OnErr result (plain_kept (M.slots map.new) objects.new frames.new
         ≡ plain_kept (M.slots map.old) objects.old frames.old) }
+    ensures legal { OnErr result ((any_place : Bool) → GivesPlan any_place
+        (plain_kept (M.slots map.old) objects.old frames.old) (PlanOf.Touch touch) reply) }
     ensures free { NobodyHolds (M.slots map.new) }
     ensures kept { Keeps (M.slots map.new) (cached_in objects.new) frames.new }
 {
@@ -185,6 +189,8 @@ fn judge_place<M: SlotMap, A: Allocator>(
         (plain_kept (M.slots map.new) objects.now frames.new)) }
     ensures err { OnErr result (plain_kept (M.slots map.new) objects.now frames.new
         ≡ plain_kept (M.slots map.old) objects.now frames.old) }
+    ensures legal { OnErr result (GivesPlan any_place
+        (plain_kept (M.slots map.old) objects.now frames.old) (PlanOf.Place place) reply) }
     ensures free { NobodyHolds (M.slots map.new) }
     ensures kept { Keeps (M.slots map.new) (cached_in objects.now) frames.new }
 {
@@ -224,6 +230,8 @@ pub fn judge_plan<M: SlotMap, A: Allocator>(
         (plain_kept (M.slots map.new) objects.new frames.new)) }
     ensures err { OnErr result (plain_kept (M.slots map.new) objects.new frames.new
         ≡ plain_kept (M.slots map.old) objects.old frames.old) }
+    ensures legal { OnErr result (GivesPlan any_place
+        (plain_kept (M.slots map.old) objects.old frames.old) plan reply) }
     ensures free { NobodyHolds (M.slots map.new) }
     ensures kept { Keeps (M.slots map.new) (cached_in objects.new) frames.new }
 {

@@ -1,18 +1,18 @@
 -- What hearing a line comes to.
 use Rattle.std.proofs.Common.{◌≡◌, ℕ, zero, suc, ◌+◌, arith, Bool, true, false, cond, List, [], ◌∷◌, ◌++◌, Option, Some, None, is_some}
-use Rattle.std.proofs.Common.{refl, sym, ap, ◌∙◌, subst}
+use Rattle.std.proofs.Common.{refl, sym, ap, ◌∙◌, subst, Result, Ok, Err, OnErr}
 use Rattle.std.specs.Prelude.{option_map, replicate, set}
 use Rattle.vm_base.specs.Plain.{Plain}
 use Rattle.vm_base.specs.declared.replies.Reply.{Reply}
 use Rattle.vm_base.specs.declared.requests.Request.{Request}
 use Rattle.audit.proofs.Sequences.{replies_push}
-use Rattle.audit.specs.Judging.{AreReplies, Judges}
+use Rattle.audit.specs.Judging.{AreReplies, IsGiven, Judges}
 use Rattle.audit.specs.Placing.{rule_of}
 use Rattle.audit.specs.declared.auditor.Call.{Call}
 use Rattle.audit.specs.declared.judging.Verdict.{Verdict}
 use Rattle.audit.specs.declared.judging.Verdict.TheVariants.{Legal as Right, Illegal as Wrong}
 use Rattle.audit_text.specs.Heard.{Heard, call_to, call_told, one_passed, waits, with_call}
-use Rattle.audit_text.specs.Steps.{Hears, JudgesCall, Passes, with_answer}
+use Rattle.audit_text.specs.Steps.{Hears, JudgesCall, MayWant, Passes, with_answer}
 use Rattle.audit_text.specs.declared.hearing.Turn.{Turn}
 use Rattle.audit_text.specs.declared.hearing.Turn.TheVariants.{Legal, Bad, Illegal}
 use Rattle.audit_text.specs.declared.reading.Said.TheVariants as Of
@@ -64,6 +64,12 @@ pub answered_bad : (any : Bool) (h k : Heard) (t u : Plain) (call : Call) → is
     → Hears any h t (Of.Answered call) Bad k u
 answered_bad any h k t u call busy = ap (λ b. option_map (with_call h (Of.Answered call)) (cond b None (Some call))) busy
 
+-- memory is wanted for it
+pub answered_wants : {T E : Type 0} (r : Result T E) (any : Bool) (h : Heard) (t : Plain) (call : Call) → is_some (waits h call.core) ≡ false
+    → OnErr r (IsGiven (rule_of any) t call.core call.request call.reply) → OnErr r (MayWant any h t (Of.Answered call))
+answered_wants (Ok x) any h t call idle given = tt
+answered_wants (Err e) any h t call idle given = (call, ap (λ b. cond b None (Some call)) idle, given)
+
 -- one that waited
 pub ended_hears : (any : Bool) (h g k : Heard) (t u : Plain) (core : ℕ) (reply : Reply) (request : Request) (turn : Turn)
     → waits h core ≡ Some request → g ≡ record h { waiting = set h.waiting core None } → JudgesCall any g t (call_to core reply request) turn k u
@@ -77,6 +83,12 @@ ended_hears any h g k t u core reply request Legal waited after (is, answers) =
 ended_hears any h g k t u core reply request Bad waited after j = absurd j
 ended_hears any h g k t u core reply request (Illegal c due) waited after (is, same, refused) =
     (ap (option_map (call_to core reply)) waited ∙ ap Some (sym is), same, refused)
+
+pub ended_wants : {T E : Type 0} (r : Result T E) (any : Bool) (h : Heard) (t : Plain) (core : ℕ) (reply : Reply) (request : Request)
+    → waits h core ≡ Some request → OnErr r (IsGiven (rule_of any) t core request reply) → OnErr r (MayWant any h t (Of.Ends core reply))
+ended_wants (Ok x) any h t core reply request waited given = tt
+ended_wants (Err e) any h t core reply request waited given =
+    (call_to core reply request, ap (option_map (call_to core reply)) waited, given)
 
 pub ended_bad : (any : Bool) (h k : Heard) (t u : Plain) (core : ℕ) (reply : Reply) → waits h core ≡ None → Hears any h t (Of.Ends core reply) Bad k u
 ended_bad any h k t u core reply idle = ap (λ o. option_map (with_call h (Of.Ends core reply)) (option_map (call_to core reply) o)) idle

@@ -11,7 +11,7 @@ use Rattle.audit_text.specs.Faults.{SaysNothing}
 use Rattle.audit_text.specs.Grammar.{Tells}
 use Rattle.audit_text.specs.Heard.{Declared, Heard, Stage, Front, Behind, Leads, behind, stage_after, undeclared}
 use Rattle.audit_text.specs.Legal.{Follows, IsLegal, IsPlace, IsWrong, first_map, heard_in}
-use Rattle.audit_text.specs.Steps.{EndsFront, HasEnded, Hears, IsAtLine, IsCall, IsFound, IsRefused, TurnsOut}
+use Rattle.audit_text.specs.Steps.{EndsFront, HasEnded, Hears, IsAtLine, IsCall, IsFound, IsRefused, IsWanting, MayWant, TurnsOut}
 use Rattle.audit_text.specs.declared.hearing.Turn.TheVariants.{Legal, Illegal}
 use Rattle.audit_text.specs.declared.input.AuditFault.{AuditFault}
 use Rattle.audit_text.specs.declared.input.AuditFault.TheVariants.{BadLine, TooLong, Io}
@@ -188,7 +188,26 @@ turn_fault any lines more d h k t u said n (BadLine m) c turns =
 turn_fault any lines more d h k t u said n (Io NoMemory) c turns = tt
 turn_fault any lines more d h k t u said n f c turns = absurd turns
 
+-- memory was wanted
+turn_wants : (any : Bool) (lines more : List (List ℕ)) (d : Declared) (h k : Heard) (t u : Plain) (said : Said) (n : ℕ) (f : AuditFault)
+    → IsCall any lines d h t said n more → TurnsOut any h t said n (Err f) k u → f ≡ Io NoMemory → IsWanting any lines
+turn_wants any lines more d h k t u said n f c turns is = record {
+  stage = c.stage;
+  number = n;
+  said = said;
+  more = more;
+  plain = t;
+  at = c.at;
+  follows = c.follows;
+  may = subst (λ (e : Heard). MayWant any e t said) (sym c.heard) (subst (λ (x : AuditFault). TurnsOut any h t said n (Err x) k u) is turns);
+}
+
 -- ---- the same of a turn whose rule is known by an equation
+
+pub turn_wants_by : (b any : Bool) → b ≡ any → (lines more : List (List ℕ)) (d : Declared) (h k : Heard) (t u : Plain) (said : Said) (n : ℕ)
+    (f : AuditFault) → IsCall any lines d h t said n more → TurnsOut b h t said n (Err f) k u → f ≡ Io NoMemory → IsWanting any lines
+turn_wants_by b any e lines more d h k t u said n f c turns is =
+    turn_wants any lines more d h k t u said n f c (subst (λ (x : Bool). TurnsOut x h t said n (Err f) k u) e turns) is
 
 pub turn_fault_by : (b any : Bool) → b ≡ any → (lines more : List (List ℕ)) (d : Declared) (h k : Heard) (t u : Plain) (said : Said) (n : ℕ)
     (f : AuditFault) → IsCall any lines d h t said n more → TurnsOut b h t said n (Err f) k u → IsAtFault any lines f

@@ -6,7 +6,7 @@ use Rattle.slot_lock.specs.declared.slot_map.SlotRead.{Ghosts as ReadGhosts}
 use Rattle.backing.specs.declared.file_spec.FileSpec.{FileSpec}
 use Rattle.vm_base.specs.Answers.{Answers}
 use Rattle.vm_base.specs.Plain.{File, Plain, file_with}
-use Rattle.audit.specs.Judging.{AreReplies}
+use Rattle.audit.specs.Judging.{AreReplies, IsGiven}
 use Rattle.audit.specs.Placing.{rule_of}
 use Rattle.audit_text.specs.Grammar.{Tells}
 use Rattle.audit_text.specs.Heard.{Declared, Heard, Stage, Front, behind, call_told, heard_after, nothing, one_passed, stage_after}
@@ -77,6 +77,11 @@ JudgesCall any h t call Legal k u = (k ≡ with_answer h call) × Answers (rule_
 JudgesCall any h t call Bad k u = ⊥
 JudgesCall any h t call (Illegal c due) k u = (c ≡ call) × (u ≡ t) × IsRefused any t (Illegal c due)
 
+-- Memory may be wanted for what the line says: it tells a call whose reply is a plain page map's.
+abbrev pub MayWant : Bool → Heard → Plain → Said → Type 0
+MayWant any h t said =
+    (call : Call) × (call_told h said ≡ Some call) × IsGiven (rule_of any) t call.core call.request call.reply
+
 -- a line is passed over, if it may be
 abbrev pub Passes : Bool → Heard → Turn → Heard → Type 0
 Passes may h Legal k = (may ≡ true) × (k ≡ one_passed h)
@@ -117,8 +122,19 @@ TurnsOut any h t said line (Ok None) k u = Hears any h t said Legal k u
 TurnsOut any h t said line (Ok (Some (Of.Legal calls passed))) k u = ⊥
 TurnsOut any h t said line (Ok (Some (Of.Illegal n call due))) k u = (n ≡ line) × Hears any h t said (Illegal call due) k u
 TurnsOut any h t said line (Err (BadLine n)) k u = (n ≡ line) × (heard_after h said ≡ None)
-TurnsOut any h t said line (Err (Io NoMemory)) k u = ⊤
+TurnsOut any h t said line (Err (Io NoMemory)) k u = MayWant any h t said
 TurnsOut any h t said line (Err _) k u = ⊥
+
+-- memory may be wanted for a line behind legal ones
+pub record IsWanting (any : Bool) (lines : List (List ℕ)) : Type 0 where
+  pub stage : Stage
+  pub number : ℕ
+  pub said : Said
+  pub more : List (List ℕ)
+  pub plain : Plain
+  pub at : IsAtLine lines number said more stage
+  pub follows : Follows any stage plain
+  pub may : MayWant any (heard_in stage) plain said
 
 -- the verdict, without the mappings around
 abbrev pub IsFound : Bool → List (List ℕ) → Verdict → Plain → Type 0

@@ -86,10 +86,12 @@ impl<M: SlotMap + Drop, A: Allocator + Clone + Drop> Hearing<M, A> {
 }
 
 impl<M: SlotMap + Drop, A: Allocator + Drop> Hearing<M, A> {
-    ghost use Rattle.std.specs.Prelude.{◌≡◌, ◌+◌, ◌≤◌, ◌<◌, ◌^◌, IfOk, OnOk};
+    ghost use Rattle.std.specs.Prelude.{◌≡◌, ◌+◌, ◌≤◌, ◌<◌, ◌^◌, IfOk, OnErr, OnOk};
     ghost use Rattle.audit.specs.Auditor.{plain_of};
+    ghost use Rattle.audit.specs.Judging.{IsGiven};
+    ghost use Rattle.audit.specs.Placing.{rule_of};
     ghost use Rattle.audit_text.specs.Heard.{waits};
-    ghost use Rattle.audit_text.specs.Steps.{Hears, IsCounted, JudgesCall, Passes, heard_of};
+    ghost use Rattle.audit_text.specs.Steps.{Hears, IsCounted, JudgesCall, MayWant, Passes, heard_of};
     ghost use Rattle.audit_text.specs.declared.reading.Said.TheVariants as Of;
 
     // Judges a call.
@@ -99,6 +101,8 @@ impl<M: SlotMap + Drop, A: Allocator + Drop> Hearing<M, A> {
         requires room { self.old.judged + self.old.passed + 1 < 2 ^ 64 }
         ensures judged { IfOk result (λ turn. JudgesCall self.old.auditor.any_place (heard_of self.old) (plain_of self.old.auditor) call
             turn (heard_of self.new) (plain_of self.new.auditor)) }
+        ensures legal { OnErr result (IsGiven (rule_of self.old.auditor.any_place) (plain_of self.old.auditor) call.core call.request
+            call.reply) }
         ensures any_place { self.new.auditor.any_place ≡ self.old.auditor.any_place }
         ensures counted { OnOk result (IsCounted self.new) }
         ensures few { OnOk result (self.new.judged + self.new.passed ≤ self.old.judged + self.old.passed + 1) }
@@ -122,12 +126,13 @@ impl<M: SlotMap + Drop, A: Allocator + Drop> Hearing<M, A> {
     }
 
     // Judges a call of a core none of whose calls waits.
-    #[tactic(auto, using(crate::proofs::HeardLemmas::answered_hears, crate::proofs::HeardLemmas::answered_bad))]
+    #[tactic(auto, using(crate::proofs::HeardLemmas::answered_hears, crate::proofs::HeardLemmas::answered_bad, crate::proofs::HeardLemmas::answered_wants))]
     fn answer(&mut self, call: Call) -> Result<Turn, NoMemory>
         requires counted { IsCounted self.old }
         requires room { self.old.judged + self.old.passed + 1 < 2 ^ 64 }
         ensures hears { IfOk result (λ turn. Hears self.old.auditor.any_place (heard_of self.old) (plain_of self.old.auditor) (Of.Answered call)
             turn (heard_of self.new) (plain_of self.new.auditor)) }
+        ensures want { OnErr result (MayWant self.old.auditor.any_place (heard_of self.old) (plain_of self.old.auditor) (Of.Answered call)) }
         ensures any_place { self.new.auditor.any_place ≡ self.old.auditor.any_place }
         ensures counted { OnOk result (IsCounted self.new) }
         ensures few { OnOk result (self.new.judged + self.new.passed ≤ self.old.judged + self.old.passed + 1) }
@@ -157,12 +162,13 @@ impl<M: SlotMap + Drop, A: Allocator + Drop> Hearing<M, A> {
     }
 
     // Judges the call of a core that waited.
-    #[tactic(auto, using(crate::proofs::HeardLemmas::ended_hears, crate::proofs::HeardLemmas::ended_bad))]
+    #[tactic(auto, using(crate::proofs::HeardLemmas::ended_hears, crate::proofs::HeardLemmas::ended_bad, crate::proofs::HeardLemmas::ended_wants))]
     fn end(&mut self, core: CoreId, reply: Reply) -> Result<Turn, NoMemory>
         requires counted { IsCounted self.old }
         requires room { self.old.judged + self.old.passed + 1 < 2 ^ 64 }
         ensures hears { IfOk result (λ turn. Hears self.old.auditor.any_place (heard_of self.old) (plain_of self.old.auditor) (Of.Ends core reply)
             turn (heard_of self.new) (plain_of self.new.auditor)) }
+        ensures want { OnErr result (MayWant self.old.auditor.any_place (heard_of self.old) (plain_of self.old.auditor) (Of.Ends core reply)) }
         ensures any_place { self.new.auditor.any_place ≡ self.old.auditor.any_place }
         ensures counted { OnOk result (IsCounted self.new) }
         ensures few { OnOk result (self.new.judged + self.new.passed ≤ self.old.judged + self.old.passed + 1) }
@@ -194,13 +200,14 @@ impl<M: SlotMap + Drop, A: Allocator + Drop> Hearing<M, A> {
         Turn::Legal
     }
 
-    /// Hears what a line says.
+    /// Hears what a line says. Memory is wanted only for a legal reply.
     #[tactic(auto, using(crate::proofs::HeardLemmas::still_hears, crate::proofs::HeardLemmas::passes_hears))]
     pub(crate) fn hear(&mut self, said: Said) -> Result<Turn, NoMemory>
         requires counted { IsCounted self.old }
         requires room { self.old.judged + self.old.passed + 1 < 2 ^ 64 }
         ensures hears { IfOk result (λ turn. Hears self.old.auditor.any_place (heard_of self.old) (plain_of self.old.auditor) said
             turn (heard_of self.new) (plain_of self.new.auditor)) }
+        ensures want { OnErr result (MayWant self.old.auditor.any_place (heard_of self.old) (plain_of self.old.auditor) said) }
         ensures any_place { self.new.auditor.any_place ≡ self.old.auditor.any_place }
         ensures counted { OnOk result (IsCounted self.new) }
         ensures few { OnOk result (self.new.judged + self.new.passed ≤ self.old.judged + self.old.passed + 1) }

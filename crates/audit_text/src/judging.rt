@@ -1,10 +1,10 @@
 //! The lines of a text, heard one after another, up to the first reply that no plain page map gives.
-ghost use Rattle.std.specs.Prelude.{◌≡◌, ◌+◌, ◌≤◌, ◌<◌, ◌^◌, List, ℕ, IfErr, IfOk, OnOk, length};
+ghost use Rattle.std.specs.Prelude.{◌≡◌, ◌+◌, ◌≤◌, ◌<◌, ◌^◌, Err, List, ℕ, IfErr, IfOk, OnOk, length};
 ghost use Rattle.trace_io.specs.Lines.{lines_of};
 ghost use Rattle.audit.specs.Auditor.{plain_of};
 ghost use Rattle.audit_text.specs.Ends.{IsAtFault};
 ghost use Rattle.audit_text.specs.Heard.{Declared};
-ghost use Rattle.audit_text.specs.Steps.{IsCall, IsCounted, IsFound, TurnsOut, heard_of};
+ghost use Rattle.audit_text.specs.Steps.{IsCall, IsCounted, IsFound, IsWanting, TurnsOut, heard_of};
 
 use crate::hearing::{Hearing, Turn};
 use crate::input::{AuditFault, said_at};
@@ -37,7 +37,7 @@ pub enum Verdict {
     },
 }
 
-// Hears what the line with this number says. A verdict is that its reply is none.
+// Hears what the line with this number says. A verdict is that its reply is none. Memory is wanted only for a legal reply.
 fn turn<M: SlotMap + Drop, A: Allocator + Drop>(
     hearing: &mut Hearing<M, A>,
     said: Said,
@@ -59,7 +59,7 @@ fn turn<M: SlotMap + Drop, A: Allocator + Drop>(
     }
 }
 
-/// Hears what the line with this number says, and then the lines behind it.
+/// Hears what the line with this number says, and then the lines behind it. Memory is wanted only for a legal reply.
 pub(crate) fn hear_lines<M: SlotMap + Drop, A: Allocator + Drop>(
     hearing: &mut Hearing<M, A>,
     first: Said,
@@ -75,6 +75,9 @@ pub(crate) fn hear_lines<M: SlotMap + Drop, A: Allocator + Drop>(
     ensures err { IfErr result (λ f. (lines : List (List ℕ)) (d : Declared)
         → IsCall hearing.old.auditor.any_place lines d (heard_of hearing.old) (plain_of hearing.old.auditor) first number (lines_of text.now)
         → IsAtFault hearing.old.auditor.any_place lines f) }
+    ensures want { result ≡ Err (AuditFault.Io IoFault.NoMemory) → (lines : List (List ℕ)) (d : Declared)
+        → IsCall hearing.old.auditor.any_place lines d (heard_of hearing.old) (plain_of hearing.old.auditor) first number (lines_of text.now)
+        → IsWanting hearing.old.auditor.any_place lines }
 {
     let mut said = first;
     let mut line = number;

@@ -190,7 +190,9 @@ pub fn time_notes<R: Threads + Wait + Clock + Sync>(
     let ran = run_script(rt, alloc, script).ok()?;
     let (count, took, certified) = time_ran(rt, alloc, script, &ran)?;
     let start = Instant::now(rt).ok()?;
-    let told = certify_ran(alloc, script, ran);
+    let ended = ran.end().ok()?;
+    let notes = ended.notes(alloc).ok()?;
+    let told = certify_ran(alloc, script, notes.as_slice(), &ended.histories);
     if told.is_err() {
         return None;
     }

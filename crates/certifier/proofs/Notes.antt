@@ -3,7 +3,7 @@ use Rattle.machine_laws.proofs.Words.{◌≡◌, ◌≢◌, ℕ, ◌+◌, ◌<�
 use Rattle.machine_laws.proofs.Words.{map, Some, None, Option, add-one, get_or_default, filter-append, Slots, Event, Outcome, World, new_world, Step, Run}
 use Rattle.machine_laws.proofs.Words.{PageRange}
 use Rattle.std.proofs.Common.{filter}
-use Rattle.std.specs.Prelude.{count_by}
+use Rattle.std.specs.Prelude.{count_by, IfErr, IfNone, Result, Ok, Err}
 use Rattle.std.proofs.lemmas.List.{map-append, length-append}
 use Rattle.std.proofs.lemmas.List.Sums.{length-filter}
 use Rattle.machine_sound.proofs.Kept.{run_more}
@@ -17,7 +17,9 @@ use Rattle.seats.specs.declared.noted.Noted.{Noted}
 use Rattle.certifier.specs.declared.order.Place.{Place}
 use Rattle.certifier.specs.declared.order.Standing.{Standing}
 use Rattle.certifier.specs.declared.order.Standing.TheVariants.{No, Once}
-use Rattle.certifier.specs.Following.{events_of, outcomes_of, event_of, outcome_of, answers_call, one_if, DiffersAt, IsNewTree}
+use Rattle.certifier.specs.declared.result.CertifyFault.{CertifyFault}
+use Rattle.certifier.specs.declared.result.CertifyFault.TheVariants.{Setup as OfSetup, Ticket, Differs, Slot, NoMemory}
+use Rattle.certifier.specs.Following.{ComesNumbered, events_of, outcomes_of, event_of, outcome_of, answers_call, one_if, DiffersAt, IsNewTree}
 use Rattle.certifier.specs.Order.{AreNumbered, IsFirstAmiss, all_notes, in_order, note_at, with_ticket}
 use Rattle.certifier.specs.Standings.{AreStandings, IsPlace, Stands, is_once}
 use Rattle.certifier.proofs.Standing.{no_more, not_once, once, place_within}
@@ -55,6 +57,24 @@ numbered seats ss h all t lt =
     let count = h.count in
     let within : t < length ss = omega (arith, count, lt) in
     once seats (get_or ss t No) (with_ticket t (all_notes seats)) (all t within) (h.each t within)
+
+-- since none doesn't
+pub all_numbered : (seats : List (List Noted)) (ss : List Standing) (first : Option ℕ) → AreStandings seats ss
+    → IfNone first ((t : ℕ) → t < length ss → is_once (get_or ss t No) ≡ true) → first ≡ None → AreNumbered (all_notes seats)
+all_numbered seats ss None h all e = numbered seats ss h all
+all_numbered seats ss (Some t) h all e = absurd (cc)
+
+-- so that any fault may come
+comes : (notes : List Noted) → AreNumbered notes → (fault : CertifyFault) → ComesNumbered notes fault
+comes notes all (OfSetup f) = all
+comes notes all (Ticket t) = tt
+comes notes all (Differs t noted expected) = all
+comes notes all (Slot page) = all
+comes notes all NoMemory = all
+
+pub any_numbered : {U : Type 0} (r : Result U CertifyFault) (notes : List Noted) → AreNumbered notes → IfErr r (ComesNumbered notes)
+any_numbered (Ok u) notes all = tt
+any_numbered (Err fault) notes all = comes notes all fault
 
 -- the first that doesn't
 pub amiss : (seats : List (List Noted)) (ss : List Standing) (t : ℕ) → AreStandings seats ss → t < length ss → is_once (get_or ss t No) ≡ false

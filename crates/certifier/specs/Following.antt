@@ -166,6 +166,11 @@ Fails parts CanFold Folds setup notes histories (By.Slot page) =
     × GoesAstray parts CanFold Folds setup notes histories page
 Fails parts CanFold Folds setup notes histories By.NoMemory = fault_of setup ≡ None
 
+-- a fault but that of a ticket comes only where each ticket stands once
+abbrev pub ComesNumbered : List Noted → CertifyFault → Type 0
+ComesNumbered notes (By.Ticket t) = Unit {0}
+ComesNumbered notes fault = AreNumbered notes
+
 -- the histories of the slots, or none
 abbrev pub slots_in : {A : Type 0} → Option (Histories A) → List (SlotHistory A)
 slots_in None = []

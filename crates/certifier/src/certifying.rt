@@ -1,11 +1,13 @@
 //! The face of the crate: whether the notes of all seats are a run of the machine.
-ghost use Rattle.std.specs.Prelude.{◌≡◌, IfOk, IfErr, map, option_copied};
-ghost use Rattle.certifier.specs.Following.{IsCertified, Fails, slots_in};
+ghost use Rattle.std.specs.Prelude.{◌≡◌, IfOk, IfErr, None, map, option_copied};
+ghost use Rattle.core_steps.specs.Setups.{fault_of};
+ghost use Rattle.certifier.specs.Following.{ComesNumbered, IsCertified, Fails, slots_in};
 ghost use Rattle.certifier.specs.Histories.{AreInOrder};
 ghost use Rattle.certifier.specs.Order.{all_notes};
+ghost use Rattle.certifier.specs.Standings.{AreStandings};
 
 use crate::following::follow;
-use crate::order::{first_amiss, standings};
+use crate::order::{Standing, first_amiss, standings};
 use crate::result::{Certified, CertifyFault};
 use core_steps::{Forgotten, Setup};
 use live_levels::close::SlotHistory;
@@ -26,6 +28,41 @@ fn slots_of<A: Allocator>(histories: Option<&Histories<A>>) -> &[SlotHistory<A>]
     }
 }
 
+/// What `certify` comes to for a setup without a fault, where it is known how each ticket stands. So a ticket that doesn't
+/// stand once is always told: memory is wanted for a run alone.
+#[tactic(auto, using(crate::proofs::Notes::amiss, crate::proofs::Notes::all_numbered, crate::proofs::Notes::any_numbered))]
+pub fn certify_standing<A: Allocator + Clone + Drop>(
+    alloc: A,
+    setup: Setup<A>,
+    seats: &[&[Noted]],
+    standings: &[Standing],
+    slots: Option<&Histories<A>>,
+) -> Result<Certified, CertifyFault>
+    requires sound { fault_of setup ≡ None }
+    requires standings { AreStandings (map (λ s. s.now) seats.now) standings.now }
+    ensures ok { IfOk result (λ done. IsCertified ⟦<RadixMap<A> as SlotMap>⟧.parts
+        ⟦<RadixMap<A> as SlotMap>⟧.can_fold
+        ⟦<RadixMap<A> as SlotMap>⟧.folds setup (all_notes (map (λ s. s.now) seats.now))
+        (slots_in (option_copied slots.entry)) done.calls) }
+    ensures err { IfErr result (λ fault. Fails ⟦<RadixMap<A> as SlotMap>⟧.parts
+        ⟦<RadixMap<A> as SlotMap>⟧.can_fold
+        ⟦<RadixMap<A> as SlotMap>⟧.folds setup (all_notes (map (λ s. s.now) seats.now))
+        (slots_in (option_copied slots.entry)) fault) }
+    ensures numbered { IfErr result (ComesNumbered (all_notes (map (λ s. s.now) seats.now))) }
+{
+    if let Some(ticket) = first_amiss(standings) {
+        return Err(CertifyFault::Ticket(ticket));
+    }
+    let Ok(for_map) = alloc.clone() else {
+        return Err(CertifyFault::NoMemory);
+    };
+    let Ok(map) = RadixMap::new(for_map) else {
+        return Err(CertifyFault::NoMemory);
+    };
+    let histories = slots_of(slots);
+    follow::<RadixMap<A>, A, Forgotten>(alloc, map, setup, seats, standings, histories)
+}
+
 /// Certifies the notes of all seats of a space: in order of their tickets, which are those below their
 /// number, each once, they are a run of the machine over the tree of slots that comes to just the
 /// noted outcomes. So what holds of all runs holds of them: their log is that of a plain page map
@@ -39,7 +76,6 @@ fn slots_of<A: Allocator>(histories: Option<&Histories<A>>) -> &[SlotHistory<A>]
 /// A setup that makes no machine is told first, then a ticket that doesn't stand once, then an
 /// outcome that differs, and then a slot. Besides the notes it takes 12 bytes a note, a look of some
 /// 80 bytes for each slot that has a history, and the machine.
-#[tactic(auto, using(crate::proofs::Notes::amiss))]
 pub fn certify<A: Allocator + Clone + Drop>(
     alloc: A,
     setup: Setup<A>,
@@ -64,15 +100,5 @@ pub fn certify<A: Allocator + Clone + Drop>(
     let Ok(standings) = standings(for_order, seats) else {
         return Err(CertifyFault::NoMemory);
     };
-    if let Some(ticket) = first_amiss(&standings) {
-        return Err(CertifyFault::Ticket(ticket));
-    }
-    let Ok(for_map) = alloc.clone() else {
-        return Err(CertifyFault::NoMemory);
-    };
-    let Ok(map) = RadixMap::new(for_map) else {
-        return Err(CertifyFault::NoMemory);
-    };
-    let histories = slots_of(slots);
-    follow::<RadixMap<A>, A, Forgotten>(alloc, map, setup, seats, &standings, histories)
+    certify_standing(alloc, setup, seats, &standings, slots)
 }

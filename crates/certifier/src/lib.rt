@@ -8,5 +8,5 @@ pub mod order;
 pub mod result;
 pub mod visits;
 
-pub use certifying::certify;
+pub use certifying::{certify, certify_standing};
 pub use result::{Certified, CertifyFault};

@@ -17,89 +17,89 @@ use Rattle.command_line.specs.Echo.{echo, Echoes}
 use Rattle.command_line.specs.Echo.{EchoFront, EchoStops, reading, unmade, wanting, overlong, refusing, unopened, writing, EchoEnds}
 
 -- one line more
-echoes-snoc : (s m n : Stage) (ls : List (List ℕ)) (l t shown : List ℕ) → Echoes s ls m shown → length l ≤ 256 → Acts m l n t
-    → Echoes s (ls ++ l ∷ []) n (shown ++ echo l t)
-echoes-snoc s m n [] l t shown e p a =
-    (n, t, [], p, subst (λ x. Acts x l n t) e.0 a, (refl, refl), ap (λ x. x ++ echo l t) e.1 ∙ sym (append-nil (echo l t)))
-echoes-snoc s m n (k ∷ ks) l t shown e p a =
-    (e.0, e.1, e.2 ++ echo l t, e.3, e.4, echoes-snoc e.0 m n ks l t e.2 e.5 p a, ap (λ x. x ++ echo l t) e.6 ∙ append_assoc (echo k e.1) e.2 (echo l t))
+echoes-snoc : (coloured : Bool) (s m n : Stage) (ls : List (List ℕ)) (l t shown : List ℕ) → Echoes coloured s ls m shown → length l ≤ 256 → Acts m l n t
+    → Echoes coloured s (ls ++ l ∷ []) n (shown ++ echo coloured l t)
+echoes-snoc coloured s m n [] l t shown e p a =
+    (n, t, [], p, subst (λ x. Acts x l n t) e.0 a, (refl, refl), ap (λ x. x ++ echo coloured l t) e.1 ∙ sym (append-nil (echo coloured l t)))
+echoes-snoc coloured s m n (k ∷ ks) l t shown e p a =
+    (e.0, e.1, e.2 ++ echo coloured l t, e.3, e.4, echoes-snoc coloured e.0 m n ks l t e.2 e.5 p a, ap (λ x. x ++ echo coloured l t) e.6 ∙ append_assoc (echo coloured k e.1) e.2 (echo coloured l t))
 
 -- the lines so far were acted on and shown
-pub record HasEchoed (limit : CallLimit) (input : List ℕ) (old : Option (List ℕ)) (now : Scene) (number : ℕ) : Type 0 where
+pub record HasEchoed (coloured : Bool) (limit : CallLimit) (input : List ℕ) (old : Option (List ℕ)) (now : Scene) (number : ℕ) : Type 0 where
   pub at : HasTaken input now.left number
   pub shown : List ℕ
-  pub echoes : Echoes (Start limit) at.done now.stage shown
+  pub echoes : Echoes coloured (Start limit) at.done now.stage shown
   pub appends : Appends old now.written shown
 
 -- nothing has been read yet
-pub echoed_none : (limit : CallLimit) (input : List ℕ) (old : Option (List ℕ)) (now : Scene) → now.left ≡ input → now.stage ≡ Start limit → now.written ≡ old
-    → HasEchoed limit input old now 0
+pub echoed_none : (coloured : Bool) (limit : CallLimit) (input : List ℕ) (old : Option (List ℕ)) (now : Scene) → now.left ≡ input → now.stage ≡ Start limit → now.written ≡ old
+    → HasEchoed coloured limit input old now 0
 unfolding none_taken
-echoed_none limit input old now e s w = record {
+echoed_none coloured limit input old now e s w = record {
   at = none_taken input now.left e;
   shown = [];
   echoes = (s, refl);
   appends = subst (λ o. Appends old o []) (sym w) (Appends-nil old);
 }
 
-pub echoed_more : (limit : CallLimit) (input : List ℕ) (old : Option (List ℕ)) (now next : Scene) (number : ℕ) → HasEchoed limit input old now number
-    → Advances echo now next
-    → HasEchoed limit input old next (number + 1)
+pub echoed_more : (coloured : Bool) (limit : CallLimit) (input : List ℕ) (old : Option (List ℕ)) (now next : Scene) (number : ℕ) → HasEchoed coloured limit input old now number
+    → Advances (echo coloured) now next
+    → HasEchoed coloured limit input old next (number + 1)
 unfolding line_taken
-echoed_more limit input old now next number h a = record {
+echoed_more coloured limit input old now next number h a = record {
   at = line_taken input now.left a.line next.left number h.at a.takes.unbroken a.takes.first;
-  shown = h.shown ++ echo a.line a.text;
-  echoes = echoes-snoc (Start limit) now.stage next.stage h.at.done a.line a.text h.shown h.echoes a.takes.short a.acts;
+  shown = h.shown ++ echo coloured a.line a.text;
+  echoes = echoes-snoc coloured (Start limit) now.stage next.stage h.at.done a.line a.text h.shown h.echoes a.takes.short a.acts;
   appends = Appends-trans _ _ _ _ _ h.appends a.appends;
 }
 
 -- what was acted on so far
-front_of : (limit : CallLimit) (input : List ℕ) (old : Option (List ℕ)) (now : Scene) (number : ℕ) → HasEchoed limit input old now number
-    → EchoFront limit input
-front_of limit input old now number h =
+front_of : (coloured : Bool) (limit : CallLimit) (input : List ℕ) (old : Option (List ℕ)) (now : Scene) (number : ℕ) → HasEchoed coloured limit input old now number
+    → EchoFront coloured limit input
+front_of coloured limit input old now number h =
     record { done = h.at.done; more = lines_of now.left; stage = now.stage; shown = h.shown; lines = h.at.lines; echoes = h.echoes }
 
-pub echoed_fails : (limit : CallLimit) (keeps : Bool) → keeps ≡ false → (input : List ℕ) (old : Option (List ℕ)) (now next : Scene) (number : ℕ) (f : TraceFault)
-    → HasEchoed limit input old now number
-    → Fails keeps echo now next number f → EchoStops limit input old next.written f
+pub echoed_fails : (coloured : Bool) (limit : CallLimit) (keeps : Bool) → keeps ≡ false → (input : List ℕ) (old : Option (List ℕ)) (now next : Scene) (number : ℕ) (f : TraceFault)
+    → HasEchoed coloured limit input old now number
+    → Fails keeps (echo coloured) now next number f → EchoStops coloured limit input old next.written f
 unfolding front_of line_taken
-echoed_fails limit keeps rule input old now next number f h (read_fails e held u l m k) = reading e (front_of limit input old now number h) (Appends-kept _ _ _ _ h.appends k)
-echoed_fails limit keeps rule input old now next number f h (unsent e k) =
-    writing e (front_of limit input old now number h) (whole_front _ _ _ (Appends-kept _ _ _ _ h.appends k))
-echoed_fails limit keeps rule input old now next number f h (too_long e b k) =
+echoed_fails coloured limit keeps rule input old now next number f h (read_fails e held u l m k) = reading e (front_of coloured limit input old now number h) (Appends-kept _ _ _ _ h.appends k)
+echoed_fails coloured limit keeps rule input old now next number f h (unsent e k) =
+    writing e (front_of coloured limit input old now number h) (whole_front _ _ _ (Appends-kept _ _ _ _ h.appends k))
+echoed_fails coloured limit keeps rule input old now next number f h (too_long e b k) =
     let l = long_first 256 now.left b.0 b.1 in
-    overlong (front_of limit input old now number h) l.line l.others l.lines l.long (e ∙ ap (λ n. TooLong (n + 1)) h.at.count)
+    overlong (front_of coloured limit input old now number h) l.line l.others l.lines l.long (e ∙ ap (λ n. TooLong (n + 1)) h.at.count)
     (Appends-kept _ _ _ _ h.appends k)
-echoed_fails limit keeps rule input old now next number f h (no_memory e line held t l w k) =
-    wanting e (front_of limit input old now number h) line (lines_of next.left) (lines-first now.left line next.left t.unbroken t.first)
+echoed_fails coloured limit keeps rule input old now next number f h (no_memory e line held t l w k) =
+    wanting e (front_of coloured limit input old now number h) line (lines_of next.left) (lines-first now.left line next.left t.unbroken t.first)
     (subst (λ b. LineWants b now.stage line) rule w) (Appends-kept _ _ _ _ h.appends k)
-echoed_fails limit keeps rule input old now next number f h (refused line t b k) =
-    refusing (front_of limit input old now number h) line (lines_of next.left) (lines-first now.left line next.left t.unbroken t.first)
+echoed_fails coloured limit keeps rule input old now next number f h (refused line t b k) =
+    refusing (front_of coloured limit input old now number h) line (lines_of next.left) (lines-first now.left line next.left t.unbroken t.first)
     (subst (λ n. LineFails now.stage (n + 1) line f) h.at.count b) (Appends-kept _ _ _ _ h.appends k)
-echoed_fails limit keeps rule input old now next number f h (unwritten e line text t a w) =
+echoed_fails coloured limit keeps rule input old now next number f h (unwritten e line text t a w) =
     writing e (record {
       done = h.at.done ++ line ∷ [];
       more = lines_of next.left;
       stage = next.stage;
-      shown = h.shown ++ echo line text;
+      shown = h.shown ++ echo coloured line text;
       lines = (line_taken input now.left line next.left number h.at t.unbroken t.first).lines;
-      echoes = echoes-snoc (Start limit) now.stage next.stage h.at.done line text h.shown h.echoes t.short a;
+      echoes = echoes-snoc coloured (Start limit) now.stage next.stage h.at.done line text h.shown h.echoes t.short a;
     }) (front_more old now.written next.written _ _ h.appends w)
 
 -- the text has ended
-pub echoed_ends : {T : Type 0} (limit : CallLimit) (input : List ℕ) (old : Option (List ℕ)) (now next : Scene) (n : ℕ) (r : Result T TraceFault)
-    → HasEchoed limit input old now n → IsOver now next → OnOk r (CanOpen next.stage) → IfErr r (λ f. OpenFails next.stage f)
-    → EchoEnds limit input old next.written r
+pub echoed_ends : {T : Type 0} (coloured : Bool) (limit : CallLimit) (input : List ℕ) (old : Option (List ℕ)) (now next : Scene) (n : ℕ) (r : Result T TraceFault)
+    → HasEchoed coloured limit input old now n → IsOver now next → OnOk r (CanOpen next.stage) → IfErr r (λ f. OpenFails next.stage f)
+    → EchoEnds coloured limit input old next.written r
 unfolding front_of
-echoed_ends limit input old now next n (Ok x) h v o e = record {
+echoed_ends coloured limit input old now next n (Ok x) h v o e = record {
   stage = now.stage;
   shown = h.shown;
-  echoes = subst (λ ls. Echoes (Start limit) ls now.stage h.shown) (sym (all_taken input now.left n h.at v.ended)) h.echoes;
+  echoes = subst (λ ls. Echoes coloured (Start limit) ls now.stage h.shown) (sym (all_taken input now.left n h.at v.ended)) h.echoes;
   opens = subst CanOpen v.stage o;
   appends = Appends-kept _ _ _ _ h.appends v.written;
 }
-echoed_ends limit input old now next n (Err f) h v o e =
-    unopened (front_of limit input old now n h) (ap lines_of v.ended) (subst (λ s. OpenFails s f) v.stage e)
+echoed_ends coloured limit input old now next n (Err f) h v o e =
+    unopened (front_of coloured limit input old now n h) (ap lines_of v.ended) (subst (λ s. OpenFails s f) v.stage e)
     (Appends-kept _ _ _ _ h.appends v.written)
 
 -- the end is neither the reader's fault nor the writer's
@@ -116,43 +116,43 @@ end_not_write now next (Err f) v h e = Own.end_not_write next.stage f h (cc)
 -- ---- the flush behind
 
 -- a flush keeps what was written
-pub stops_kept : (limit : CallLimit) (input : List ℕ) (a b c : Option (List ℕ)) (f : TraceFault) → EchoStops limit input a b f → Keeps b c
-    → EchoStops limit input a c f
-stops_kept limit input a b c f (reading e p w) k = reading e p (Appends-kept _ _ _ _ w k)
-stops_kept limit input a b c f (unmade e w) k = unmade e (Appends-kept _ _ _ _ w k)
-stops_kept limit input a b c f (wanting e p line others m n w) k = wanting e p line others m n (Appends-kept _ _ _ _ w k)
-stops_kept limit input a b c f (overlong p line others e l q w) k = overlong p line others e l q (Appends-kept _ _ _ _ w k)
-stops_kept limit input a b c f (refusing p line others e l w) k = refusing p line others e l (Appends-kept _ _ _ _ w k)
-stops_kept limit input a b c f (unopened p e q w) k = unopened p e q (Appends-kept _ _ _ _ w k)
-stops_kept limit input a b c f (writing e p w) k = writing e p (front_kept _ _ _ _ w k)
+pub stops_kept : (coloured : Bool) (limit : CallLimit) (input : List ℕ) (a b c : Option (List ℕ)) (f : TraceFault) → EchoStops coloured limit input a b f → Keeps b c
+    → EchoStops coloured limit input a c f
+stops_kept coloured limit input a b c f (reading e p w) k = reading e p (Appends-kept _ _ _ _ w k)
+stops_kept coloured limit input a b c f (unmade e w) k = unmade e (Appends-kept _ _ _ _ w k)
+stops_kept coloured limit input a b c f (wanting e p line others m n w) k = wanting e p line others m n (Appends-kept _ _ _ _ w k)
+stops_kept coloured limit input a b c f (overlong p line others e l q w) k = overlong p line others e l q (Appends-kept _ _ _ _ w k)
+stops_kept coloured limit input a b c f (refusing p line others e l w) k = refusing p line others e l (Appends-kept _ _ _ _ w k)
+stops_kept coloured limit input a b c f (unopened p e q w) k = unopened p e q (Appends-kept _ _ _ _ w k)
+stops_kept coloured limit input a b c f (writing e p w) k = writing e p (front_kept _ _ _ _ w k)
 
-pub ends_kept : {T : Type 0} (limit : CallLimit) (input : List ℕ) (a b c : Option (List ℕ)) (r : Result T TraceFault) → EchoEnds limit input a b r → Keeps b c
-    → EchoEnds limit input a c r
-ends_kept limit input a b c (Ok x) h k = record {
+pub ends_kept : {T : Type 0} (coloured : Bool) (limit : CallLimit) (input : List ℕ) (a b c : Option (List ℕ)) (r : Result T TraceFault) → EchoEnds coloured limit input a b r → Keeps b c
+    → EchoEnds coloured limit input a c r
+ends_kept coloured limit input a b c (Ok x) h k = record {
   stage = h.stage;
   shown = h.shown;
   echoes = h.echoes;
   opens = h.opens;
   appends = Appends-kept _ _ _ _ h.appends k;
 }
-ends_kept limit input a b c (Err f) h k = stops_kept limit input a b c f h k
+ends_kept coloured limit input a b c (Err f) h k = stops_kept coloured limit input a b c f h k
 
-nothing_shown : (limit : CallLimit) (input : List ℕ) → EchoFront limit input
-nothing_shown limit input = record { done = []; more = lines_of input; stage = Start limit; shown = []; lines = refl; echoes = (refl, refl) }
+nothing_shown : (coloured : Bool) (limit : CallLimit) (input : List ℕ) → EchoFront coloured limit input
+nothing_shown coloured limit input = record { done = []; more = lines_of input; stage = Start limit; shown = []; lines = refl; echoes = (refl, refl) }
 
-stops_lost : (limit : CallLimit) (input : List ℕ) (a b : Option (List ℕ)) (f : TraceFault) → EchoStops limit input a b f → EchoStops limit input a b WriteFailed
+stops_lost : (coloured : Bool) (limit : CallLimit) (input : List ℕ) (a b : Option (List ℕ)) (f : TraceFault) → EchoStops coloured limit input a b f → EchoStops coloured limit input a b WriteFailed
 unfolding nothing_shown
-stops_lost limit input a b f (reading e p w) = writing refl p (whole_front _ _ _ w)
-stops_lost limit input a b f (unmade e w) = writing refl (nothing_shown limit input) (whole_front _ _ _ w)
-stops_lost limit input a b f (wanting e p line others m n w) = writing refl p (whole_front _ _ _ w)
-stops_lost limit input a b f (overlong p line others e l q w) = writing refl p (whole_front _ _ _ w)
-stops_lost limit input a b f (refusing p line others e l w) = writing refl p (whole_front _ _ _ w)
-stops_lost limit input a b f (unopened p e q w) = writing refl p (whole_front _ _ _ w)
-stops_lost limit input a b f (writing e p w) = writing refl p w
+stops_lost coloured limit input a b f (reading e p w) = writing refl p (whole_front _ _ _ w)
+stops_lost coloured limit input a b f (unmade e w) = writing refl (nothing_shown coloured limit input) (whole_front _ _ _ w)
+stops_lost coloured limit input a b f (wanting e p line others m n w) = writing refl p (whole_front _ _ _ w)
+stops_lost coloured limit input a b f (overlong p line others e l q w) = writing refl p (whole_front _ _ _ w)
+stops_lost coloured limit input a b f (refusing p line others e l w) = writing refl p (whole_front _ _ _ w)
+stops_lost coloured limit input a b f (unopened p e q w) = writing refl p (whole_front _ _ _ w)
+stops_lost coloured limit input a b f (writing e p w) = writing refl p w
 
-pub ends_lost : {T : Type 0} (limit : CallLimit) (input : List ℕ) (a b : Option (List ℕ)) (r : Result T TraceFault) → EchoEnds limit input a b r
-    → EchoStops limit input a b WriteFailed
-ends_lost limit input a b (Ok x) h = writing refl (record {
+pub ends_lost : {T : Type 0} (coloured : Bool) (limit : CallLimit) (input : List ℕ) (a b : Option (List ℕ)) (r : Result T TraceFault) → EchoEnds coloured limit input a b r
+    → EchoStops coloured limit input a b WriteFailed
+ends_lost coloured limit input a b (Ok x) h = writing refl (record {
   done = lines_of input;
   more = [];
   stage = h.stage;
@@ -160,4 +160,4 @@ ends_lost limit input a b (Ok x) h = writing refl (record {
   lines = sym (append-nil (lines_of input));
   echoes = h.echoes;
 }) (whole_front _ _ _ h.appends)
-ends_lost limit input a b (Err f) h = stops_lost limit input a b f h
+ends_lost coloured limit input a b (Err f) h = stops_lost coloured limit input a b f h

@@ -19,11 +19,11 @@ use Rattle.trace.specs.Ends.{Ends, TellsFaults, fault_named}
 use Rattle.trace.specs.Seen.{IsSeen}
 use Rattle.command_line.specs.declared.picturing.Drawing.{Drawing}
 use Rattle.command_line.specs.declared.picturing.Drawing.TheVariants.{Steps, Lives}
-use Rattle.command_line.specs.Picture.{Draws, Fails, PictureEnds, Records, TextEnds}
+use Rattle.command_line.specs.Picture.{Draws, Fails, PictureEnds, Records, ShowsText, TextEnds}
 
--- what one who watches is after each step
-abbrev After : Type 0 → Type 0
-After S = S → World → Event → Outcome → World → S
+-- what one who watches may be after each step
+abbrev After : Type 0 → Type 1
+After S = S → World → Event → Outcome → World → S → Type 0
 
 -- all lines were watched
 pub all_recorded : {S T : Type 0} (s t : Stream) (after : After S) (one r : S) (ended : Result T TraceFault) (x : T) → ended ≡ Ok x
@@ -39,53 +39,62 @@ none_recorded s t ended f e h =
     reads_map s t _ _ (subst (λ r. Reads s t (λ input unread. Ends Usual Outcomes input unread None None r)) e h) (λ xs ys k w. inl w)
 
 -- the text was written, or wasn't
-drawn : {S T : Type 0} (after : After S) (one : S) (text : S → List ℕ) (input unread : List ℕ) (old new : Option (List ℕ)) (r : S) (ended : Result T TraceFault)
-    → Records after one input unread (Ok r) → OnOk ended (Appends old new (text r))
+drawn : {S : Type 0} (after : After S) (one : S) (lacks : S → Option ℕ) (text : S → List ℕ) (input unread : List ℕ) (old new : Option (List ℕ)) (r : S)
+    (ended : Result (Option ℕ) TraceFault)
+    → Records after one input unread (Ok r) → IfOk ended (λ x. (x ≡ lacks r) × ShowsText x (text r) old new)
     → IfErr ended (λ f. ((f ≡ NoMemory) × Keeps old new) ⊎ ((f ≡ WriteFailed) × AppendsFront old new (text r)))
-    → TextEnds after one text input unread old new ended
-drawn after one text input unread old new r (Ok x) h w e = (r, h, w)
-drawn after one text input unread old new r (Err f) h w (inl (none, kept)) = inl (inr none, kept)
-drawn after one text input unread old new r (Err f) h w (inr (failed, front)) = inr (failed, inr (r, h, front))
+    → TextEnds after one lacks text input unread old new ended
+drawn after one lacks text input unread old new r (Ok x) h (is, w) e = (r, h, is, w)
+drawn after one lacks text input unread old new r (Err f) h w (inl (none, kept)) = inl (inr none, kept)
+drawn after one lacks text input unread old new r (Err f) h w (inr (failed, front)) = inr (failed, inr (r, h, front))
 
 -- of what was recorded by one who began so
-pub all_drawn : {S T : Type 0} (s t : Stream) (after : After S) (made one : S) (text : S → List ℕ) (old new : Option (List ℕ)) (r : S)
-    (ended : Result T TraceFault) → made ≡ one → Reads s t (λ input unread. Records after made input unread (Ok r)) → OnOk ended (Appends old new (text r))
+pub all_drawn : {S : Type 0} (s t : Stream) (after : After S) (made one : S) (lacks : S → Option ℕ) (text : S → List ℕ) (old new : Option (List ℕ)) (r : S)
+    (ended : Result (Option ℕ) TraceFault) → made ≡ one → Reads s t (λ input unread. Records after made input unread (Ok r))
+    → IfOk ended (λ x. (x ≡ lacks r) × ShowsText x (text r) old new)
     → IfErr ended (λ f. ((f ≡ NoMemory) × Keeps old new) ⊎ ((f ≡ WriteFailed) × AppendsFront old new (text r)))
-    → Reads s t (λ input unread. TextEnds after one text input unread old new ended)
-all_drawn s t after made one text old new r ended is h w e =
+    → Reads s t (λ input unread. TextEnds after one lacks text input unread old new ended)
+all_drawn s t after made one lacks text old new r ended is h w e =
     reads_map s t _ _ (subst (λ m. Reads s t (λ input unread. Records after m input unread (Ok r))) is h)
-    (λ xs ys k seen. drawn after one text xs ys old new r ended seen w e)
+    (λ xs ys k seen. drawn after one lacks text xs ys old new r ended seen w e)
 
 -- after a fault nothing was
-pub none_drawn : {S : Type 0} (s t : Stream) (after : After S) (one : S) (text : S → List ℕ) (old : Option (List ℕ)) (f : TraceFault)
-    → Reads s t (λ input unread. Fails input unread f) → Reads s t (λ input unread. TextEnds {T = Unit} after one text input unread old old (Err f))
-none_drawn s t after one text old f h = reads_map s t _ _ h (λ xs ys k why. inl (why, Keeps-refl old))
+pub none_drawn : {S : Type 0} (s t : Stream) (after : After S) (one : S) (lacks : S → Option ℕ) (text : S → List ℕ) (old : Option (List ℕ)) (f : TraceFault)
+    → Reads s t (λ input unread. Fails input unread f) → Reads s t (λ input unread. TextEnds after one lacks text input unread old old (Err f))
+none_drawn s t after one lacks text old f h = reads_map s t _ _ h (λ xs ys k why. inl (why, Keeps-refl old))
 
 -- a flush keeps what was written
-text_kept : {S T : Type 0} (after : After S) (one : S) (text : S → List ℕ) (input unread : List ℕ) (a b c : Option (List ℕ)) (ended : Result T TraceFault)
-    → TextEnds after one text input unread a b ended → Keeps b c → TextEnds after one text input unread a c ended
-text_kept after one text input unread a b c (Ok x) (r, h, w) k = (r, h, Appends-kept a b c _ w k)
-text_kept after one text input unread a b c (Err f) (inl (why, kept)) k = inl (why, Keeps-trans a b c kept k)
-text_kept after one text input unread a b c (Err f) (inr (failed, inl kept)) k = inr (failed, inl (Keeps-trans a b c kept k))
-text_kept after one text input unread a b c (Err f) (inr (failed, inr (r, h, front))) k = inr (failed, inr (r, h, front_kept a b c _ front k))
+shows_kept : (x : Option ℕ) (text : List ℕ) (a b c : Option (List ℕ)) → ShowsText x text a b → Keeps b c → ShowsText x text a c
+shows_kept None text a b c w k = Appends-kept a b c _ w k
+shows_kept (Some steps) text a b c w k = Keeps-trans a b c w k
 
-pub picture_kept : {T : Type 0} (drawing : Drawing) (input unread : List ℕ) (a b c : Option (List ℕ)) (ended : Result T TraceFault)
+text_kept : {S : Type 0} (after : After S) (one : S) (lacks : S → Option ℕ) (text : S → List ℕ) (input unread : List ℕ) (a b c : Option (List ℕ))
+    (ended : Result (Option ℕ) TraceFault)
+    → TextEnds after one lacks text input unread a b ended → Keeps b c → TextEnds after one lacks text input unread a c ended
+text_kept after one lacks text input unread a b c (Ok x) (r, h, is, w) k = (r, h, is, shows_kept x _ a b c w k)
+text_kept after one lacks text input unread a b c (Err f) (inl (why, kept)) k = inl (why, Keeps-trans a b c kept k)
+text_kept after one lacks text input unread a b c (Err f) (inr (failed, inl kept)) k = inr (failed, inl (Keeps-trans a b c kept k))
+text_kept after one lacks text input unread a b c (Err f) (inr (failed, inr (r, h, front))) k = inr (failed, inr (r, h, front_kept a b c _ front k))
+
+pub picture_kept : (drawing : Drawing) (input unread : List ℕ) (a b c : Option (List ℕ)) (ended : Result (Option ℕ) TraceFault)
     → PictureEnds drawing input unread a b ended → Keeps b c → PictureEnds drawing input unread a c ended
-picture_kept (Steps steps) input unread a b c ended h k = text_kept _ _ _ input unread a b c ended h k
-picture_kept Lives input unread a b c ended h k = text_kept _ _ _ input unread a b c ended h k
+picture_kept (Steps steps) input unread a b c ended h k = text_kept _ _ _ _ input unread a b c ended h k
+picture_kept Lives input unread a b c ended h k = text_kept _ _ _ _ input unread a b c ended h k
 
 -- a flush that failed may have lost it
-text_lost : {S T : Type 0} (after : After S) (one : S) (text : S → List ℕ) (input unread : List ℕ) (a b c : Option (List ℕ)) (ended : Result T TraceFault)
-    → TextEnds after one text input unread a b ended → Keeps b c → TextEnds {T = T} after one text input unread a c (Err WriteFailed)
-text_lost after one text input unread a b c (Ok x) (r, h, w) k = inr (refl, inr (r, h, whole_front a c _ (Appends-kept a b c _ w k)))
-text_lost after one text input unread a b c (Err f) (inl (why, kept)) k = inr (refl, inl (Keeps-trans a b c kept k))
-text_lost after one text input unread a b c (Err f) (inr (failed, inl kept)) k = inr (refl, inl (Keeps-trans a b c kept k))
-text_lost after one text input unread a b c (Err f) (inr (failed, inr (r, h, front))) k = inr (refl, inr (r, h, front_kept a b c _ front k))
+text_lost : {S : Type 0} (after : After S) (one : S) (lacks : S → Option ℕ) (text : S → List ℕ) (input unread : List ℕ) (a b c : Option (List ℕ))
+    (ended : Result (Option ℕ) TraceFault)
+    → TextEnds after one lacks text input unread a b ended → Keeps b c → TextEnds after one lacks text input unread a c (Err WriteFailed)
+text_lost after one lacks text input unread a b c (Ok None) (r, h, is, w) k = inr (refl, inr (r, h, whole_front a c _ (Appends-kept a b c _ w k)))
+text_lost after one lacks text input unread a b c (Ok (Some steps)) (r, h, is, w) k = inr (refl, inl (Keeps-trans a b c w k))
+text_lost after one lacks text input unread a b c (Err f) (inl (why, kept)) k = inr (refl, inl (Keeps-trans a b c kept k))
+text_lost after one lacks text input unread a b c (Err f) (inr (failed, inl kept)) k = inr (refl, inl (Keeps-trans a b c kept k))
+text_lost after one lacks text input unread a b c (Err f) (inr (failed, inr (r, h, front))) k = inr (refl, inr (r, h, front_kept a b c _ front k))
 
-pub picture_lost : {T : Type 0} (drawing : Drawing) (input unread : List ℕ) (a b c : Option (List ℕ)) (ended : Result T TraceFault)
-    → PictureEnds drawing input unread a b ended → Keeps b c → PictureEnds {T = T} drawing input unread a c (Err WriteFailed)
-picture_lost (Steps steps) input unread a b c ended h k = text_lost _ _ _ input unread a b c ended h k
-picture_lost Lives input unread a b c ended h k = text_lost _ _ _ input unread a b c ended h k
+pub picture_lost : (drawing : Drawing) (input unread : List ℕ) (a b c : Option (List ℕ)) (ended : Result (Option ℕ) TraceFault)
+    → PictureEnds drawing input unread a b ended → Keeps b c → PictureEnds drawing input unread a c (Err WriteFailed)
+picture_lost (Steps steps) input unread a b c ended h k = text_lost _ _ _ _ input unread a b c ended h k
+picture_lost Lives input unread a b c ended h k = text_lost _ _ _ _ input unread a b c ended h k
 
 -- what is told after a flush
 pub told_kept : {T : Type 0} (r : Result T TraceFault) (text : ReadFrom) (old new : WrittenTo) → TellsIo fault_named r text old

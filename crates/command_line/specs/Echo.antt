@@ -1,5 +1,5 @@
 -- A replay that shows each line beside what it gives, and how it ends
-use Rattle.std.specs.Prelude.{◌≡◌, ℕ, ◌+◌, ◌<◌, ◌≤◌, List, [], ◌∷◌, ◌++◌, false, Option, None, Some, Result, Ok, Err, codes, length}
+use Rattle.std.specs.Prelude.{◌≡◌, ℕ, ◌+◌, ◌<◌, ◌≤◌, List, [], ◌∷◌, ◌++◌, false, Option, None, Some, Result, Ok, Err, codes, length, Bool, true}
 use Rattle.std.specs.Io.KnownBytes.{Appends}
 use Rattle.trace_io.specs.Lines.{lines_of}
 use Rattle.trace_io.specs.Sink.{AppendsFront}
@@ -24,55 +24,61 @@ echo_of (Some (Fold page)) line text = line ++ codes " = " ++ text
 echo_of (Some (Finish core)) line text = line ++ codes " = " ++ text
 echo_of (Some (Now core request)) line text = line ++ codes " = " ++ text
 
+-- A line as it is shown: with colours faint, between the terminal's words for that and for all as usual (ECMA-48, select graphic
+-- rendition: escape, `[2m` and `[0m`), and else as it is.
+abbrev pub shaded : Bool → List ℕ → List ℕ
+shaded true line = (27 ∷ codes "[2m") ++ line ++ (27 ∷ codes "[0m")
+shaded false line = line
+
 -- a line beside its outcome, or a line without an outcome by itself
-abbrev pub echo : List ℕ → List ℕ → List ℕ
-echo line text = echo_of (line_of line) line text
+abbrev pub echo : Bool → List ℕ → List ℕ → List ℕ
+echo coloured line text = echo_of (line_of line) (shaded coloured line) text
 
 -- the lines, none of them too long, are acted on in order, and this is shown of them
-abbrev pub Echoes : Stage → List (List ℕ) → Stage → List ℕ → Type 0
-Echoes old [] new shown = (new ≡ old) × (shown ≡ [])
-Echoes old (l ∷ ls) new shown = (mid : Stage) × (text : List ℕ) × (rest : List ℕ) × (length l ≤ 256)
-    × Acts old l mid text × Echoes mid ls new rest × (shown ≡ echo l text ++ rest)
+abbrev pub Echoes : Bool → Stage → List (List ℕ) → Stage → List ℕ → Type 0
+Echoes coloured old [] new shown = (new ≡ old) × (shown ≡ [])
+Echoes coloured old (l ∷ ls) new shown = (mid : Stage) × (text : List ℕ) × (rest : List ℕ) × (length l ≤ 256)
+    × Acts old l mid text × Echoes coloured mid ls new rest × (shown ≡ echo coloured l text ++ rest)
 
 -- ---- the end
 
 -- all lines were acted on, a machine could be made, and all that they show was written
-pub record EchoesAll (limit : CallLimit) (input : List ℕ) (old new : Option (List ℕ)) : Type 0 where
+pub record EchoesAll (coloured : Bool) (limit : CallLimit) (input : List ℕ) (old new : Option (List ℕ)) : Type 0 where
   pub stage : Stage
   pub shown : List ℕ
-  pub echoes : Echoes (Start limit) (lines_of input) stage shown
+  pub echoes : Echoes coloured (Start limit) (lines_of input) stage shown
   pub opens : CanOpen stage
   pub appends : Appends old new shown
 
 -- the first lines, and what they show
-pub record EchoFront (limit : CallLimit) (input : List ℕ) : Type 0 where
+pub record EchoFront (coloured : Bool) (limit : CallLimit) (input : List ℕ) : Type 0 where
   pub done : List (List ℕ)
   pub more : List (List ℕ)
   pub stage : Stage
   pub shown : List ℕ
   pub lines : lines_of input ≡ done ++ more
-  pub echoes : Echoes (Start limit) done stage shown
+  pub echoes : Echoes coloured (Start limit) done stage shown
 
 -- After a fault just what the lines before it show has gone out; after a failed write a front of it.
-pub data EchoStops (limit : CallLimit) (input : List ℕ) (old new : Option (List ℕ)) (f : TraceFault) : Type 0 where
-  reading : f ≡ ReadFailed → (p : EchoFront limit input) → Appends old new p.shown → EchoStops limit input old new f
-  unmade : f ≡ NoMemory → Appends old new [] → EchoStops limit input old new f
-  wanting : f ≡ NoMemory → (p : EchoFront limit input) (line : List ℕ) (others : List (List ℕ))
+pub data EchoStops (coloured : Bool) (limit : CallLimit) (input : List ℕ) (old new : Option (List ℕ)) (f : TraceFault) : Type 0 where
+  reading : f ≡ ReadFailed → (p : EchoFront coloured limit input) → Appends old new p.shown → EchoStops coloured limit input old new f
+  unmade : f ≡ NoMemory → Appends old new [] → EchoStops coloured limit input old new f
+  wanting : f ≡ NoMemory → (p : EchoFront coloured limit input) (line : List ℕ) (others : List (List ℕ))
       → p.more ≡ line ∷ others → LineWants false p.stage line → Appends old new p.shown
-      → EchoStops limit input old new f
-  overlong : (p : EchoFront limit input) (line : List ℕ) (others : List (List ℕ)) → p.more ≡ line ∷ others
+      → EchoStops coloured limit input old new f
+  overlong : (p : EchoFront coloured limit input) (line : List ℕ) (others : List (List ℕ)) → p.more ≡ line ∷ others
       → 256 < length line → f ≡ TooLong (length p.done + 1) → Appends old new p.shown
-      → EchoStops limit input old new f
-  refusing : (p : EchoFront limit input) (line : List ℕ) (others : List (List ℕ)) → p.more ≡ line ∷ others
+      → EchoStops coloured limit input old new f
+  refusing : (p : EchoFront coloured limit input) (line : List ℕ) (others : List (List ℕ)) → p.more ≡ line ∷ others
       → LineFails p.stage (length p.done + 1) line f → Appends old new p.shown
-      → EchoStops limit input old new f
-  unopened : (p : EchoFront limit input) → p.more ≡ [] → OpenFails p.stage f → Appends old new p.shown
-      → EchoStops limit input old new f
-  writing : f ≡ WriteFailed → (p : EchoFront limit input) → AppendsFront old new p.shown
-      → EchoStops limit input old new f
+      → EchoStops coloured limit input old new f
+  unopened : (p : EchoFront coloured limit input) → p.more ≡ [] → OpenFails p.stage f → Appends old new p.shown
+      → EchoStops coloured limit input old new f
+  writing : f ≡ WriteFailed → (p : EchoFront coloured limit input) → AppendsFront old new p.shown
+      → EchoStops coloured limit input old new f
 
 -- how an echoing replay ends
-abbrev pub EchoEnds : {T : Type 0} → CallLimit → List ℕ → Option (List ℕ) → Option (List ℕ) → Result T TraceFault
+abbrev pub EchoEnds : {T : Type 0} → Bool → CallLimit → List ℕ → Option (List ℕ) → Option (List ℕ) → Result T TraceFault
     → Type 0
-EchoEnds limit input old new (Ok x) = EchoesAll limit input old new
-EchoEnds limit input old new (Err f) = EchoStops limit input old new f
+EchoEnds coloured limit input old new (Ok x) = EchoesAll coloured limit input old new
+EchoEnds coloured limit input old new (Err f) = EchoStops coloured limit input old new f

@@ -1,19 +1,22 @@
 -- Which text each topic of the help has.
 use Rattle.std.specs.Prelude.{ℕ, List}
 use Rattle.command_line.specs.declared.help.TheConstants as Text
+use Rattle.command_line.specs.declared.help.traces.TheConstants as OfTraces
+use Rattle.command_line.specs.declared.help.texts.TheConstants as OfTexts
 use Rattle.command_line.specs.declared.help.Topic.{Topic}
-use Rattle.command_line.specs.declared.help.Topic.TheVariants.{Overview, Trace, Outcomes, Log, Maps, Faults, Cores, Notes, Threads, Import, Audit, Picture}
+use Rattle.command_line.specs.declared.help.Topic.TheVariants.{Overview, Run, Trace, Outcomes, Log, Maps, Faults, Cores, Notes, Threads, Import, Audit, Picture}
 
 abbrev pub page_of : Topic → List ℕ
 page_of Overview = Text.OVERVIEW.now
-page_of Trace = Text.TRACE.now
-page_of Outcomes = Text.OUTCOMES.now
-page_of Log = Text.LOG.now
-page_of Maps = Text.MAPS.now
-page_of Faults = Text.FAULTS.now
-page_of Cores = Text.CORES.now
-page_of Notes = Text.NOTES.now
-page_of Threads = Text.THREADS.now
-page_of Import = Text.IMPORT.now
-page_of Audit = Text.AUDIT.now
-page_of Picture = Text.PICTURE.now
+page_of Run = OfTraces.RUN.now
+page_of Trace = OfTraces.TRACE.now
+page_of Outcomes = OfTraces.OUTCOMES.now
+page_of Log = OfTraces.LOG.now
+page_of Maps = OfTraces.MAPS.now
+page_of Faults = OfTraces.FAULTS.now
+page_of Cores = OfTraces.CORES.now
+page_of Notes = OfTexts.NOTES.now
+page_of Threads = OfTexts.THREADS.now
+page_of Import = OfTexts.IMPORT.now
+page_of Audit = OfTexts.AUDIT.now
+page_of Picture = OfTexts.PICTURE.now

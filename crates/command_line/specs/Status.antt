@@ -1,14 +1,14 @@
 -- The status that the program ends with.
-use Rattle.std.specs.Prelude.{ℕ, Bool, true, false, Result, Ok, Err}
+use Rattle.std.specs.Prelude.{ℕ, Bool, true, false, Option, None, Some, Result, Ok, Err}
 use Rattle.audit_text.specs.declared.input.AuditFault.{AuditFault}
 use Rattle.audit_text.specs.declared.input.AuditFault.TheVariants as For
 use Rattle.audit_text.specs.declared.judging.Verdict.{Verdict}
 use Rattle.audit_text.specs.declared.judging.Verdict.TheVariants.{Legal, Illegal}
 use Rattle.live_script.specs.declared.texts.TextFault.{TextFault}
 use Rattle.live_script.specs.declared.texts.TextFault.TheVariants.{Text, Live}
-use Rattle.command_line.specs.declared.command.WordsFault.{WordsFault}
-use Rattle.command_line.specs.declared.command.WordsFault.TheVariants as OutOf
-use Rattle.command_line.specs.declared.command.WordsFault.TheVariants.{NotUtf8}
+use Rattle.command_line.specs.declared.telling.WordsFault.{WordsFault}
+use Rattle.command_line.specs.declared.telling.WordsFault.TheVariants as OutOf
+use Rattle.command_line.specs.declared.telling.WordsFault.TheVariants.{NotUtf8}
 use Rattle.trace.specs.Status.{fault_status}
 use Rattle.trace.specs.declared.fault.TraceFault.{TraceFault}
 use Rattle.trace_io.specs.declared.fault.IoFault.{IoFault}
@@ -18,6 +18,12 @@ abbrev pub certified_status : Result Bool TraceFault → ℕ
 certified_status (Ok true) = 0
 certified_status (Ok false) = 1
 certified_status (Err f) = fault_status f
+
+-- of a picture: 2 where the trace ends before the first step that is asked for
+abbrev pub picture_status : Result (Option ℕ) TraceFault → ℕ
+picture_status (Ok None) = 0
+picture_status (Ok (Some steps)) = 2
+picture_status (Err f) = fault_status f
 
 -- of a script: 3 where a task of a core couldn't begin
 abbrev pub script_status : TextFault → ℕ

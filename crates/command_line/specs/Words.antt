@@ -3,9 +3,9 @@ use Rattle.std.specs.Prelude.{◌≡◌, ℕ, Bool, List, Option, Result}
 use Rattle.audit_text.specs.Ends.{AuditEnds, TellsAudit}
 use Rattle.command_line.specs.Echo.{EchoEnds}
 use Rattle.command_line.specs.Picture.{PictureEnds}
-use Rattle.command_line.specs.Status.{audit_status, certified_live_status, certified_status, import_status, live_status}
-use Rattle.command_line.specs.declared.command.Work.{Work}
-use Rattle.command_line.specs.declared.command.Work.TheVariants as For
+use Rattle.command_line.specs.Status.{audit_status, certified_live_status, certified_status, import_status, live_status, picture_status}
+use Rattle.command_line.specs.declared.words.Work.{Work}
+use Rattle.command_line.specs.declared.words.Work.TheVariants as For
 use Rattle.command_line.specs.declared.job.Shows.{Shows}
 use Rattle.command_line.specs.declared.picturing.Drawing.{Drawing}
 use Rattle.core_steps.specs.declared.setup.CallLimit.{CallLimit}
@@ -36,9 +36,10 @@ EndsInOneWay {R} status Ended Tells text out n = (r : R) × (n ≡ status r)
 abbrev pub ReplaysTrace : Shows → ReadFrom → WrittenTo → ℕ → Type 0
 ReplaysTrace shows text out n = EndsInOneWay status_of (Ends {T = Unit} (limit_for shows.show shows.limit) shows.show) TellsFaults text out n
 
--- a replay that shows each line beside its outcome
-abbrev pub EchoesTrace : CallLimit → ReadFrom → WrittenTo → ℕ → Type 0
-EchoesTrace limit text out n = EndsInOneWay status_of (λ input unread. EchoEnds {T = Unit} limit input) TellsFaults text out n
+-- a replay that shows each line beside its outcome, in colours or without
+abbrev pub EchoesTrace : Bool → CallLimit → ReadFrom → WrittenTo → ℕ → Type 0
+EchoesTrace coloured limit text out n =
+    EndsInOneWay status_of (λ input unread. EchoEnds {T = Unit} coloured limit input) TellsFaults text out n
 
 -- the certificate of notes
 abbrev pub CertifiesNotes : Type 0 → (PageRange → ℕ → ℕ → Bool) → (Slots → ℕ → Type 0) → (Slots → Slots → ℕ → Type 0)
@@ -72,13 +73,13 @@ AuditsReplies any text out n = EndsInOneWay audit_status (λ input unread. Audit
 
 -- a picture of a trace, of its steps or of lives
 abbrev pub PicturesTrace : Drawing → ReadFrom → WrittenTo → ℕ → Type 0
-PicturesTrace drawing text out n = EndsInOneWay status_of (PictureEnds {T = Unit} drawing) TellsFaults text out n
+PicturesTrace drawing text out n = EndsInOneWay picture_status (PictureEnds drawing) TellsFaults text out n
 
 -- what the words ask for: an import reads a list besides, the others none
 abbrev pub DoesWork : Type 0 → (PageRange → ℕ → ℕ → Bool) → (Slots → ℕ → Type 0) → (Slots → Slots → ℕ → Type 0)
     → Work → ReadFrom → ReadFrom → WrittenTo → ℕ → Type 0
 DoesWork A parts CanFold Folds (For.Replay shows) list text out n = ReplaysTrace shows text out n
-DoesWork A parts CanFold Folds (For.Echo limit explains) list text out n = EchoesTrace limit text out n
+DoesWork A parts CanFold Folds (For.Echo limit coloured) list text out n = EchoesTrace coloured limit text out n
 DoesWork A parts CanFold Folds For.Certify list text out n = CertifiesNotes A parts CanFold Folds text out n
 DoesWork A parts CanFold Folds For.Live list text out n = RunsScript text out n
 DoesWork A parts CanFold Folds For.CertifyLive list text out n = CertifiesRun A parts CanFold Folds text out n

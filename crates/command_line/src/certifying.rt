@@ -3,6 +3,7 @@ ghost use Rattle.std.specs.Prelude.{◌≤◌};
 ghost use Rattle.command_line.specs.Words.{CertifiesNotes};
 ghost use Rattle.trace_io.specs.Io.{read_from, written_to};
 
+use crate::ended::{Ended, Trouble};
 use notes_text::certify_text;
 use radix_range::RadixMap;
 use slot_lock::SlotMap;
@@ -19,18 +20,27 @@ pub fn certify<A: Allocator + Clone + Drop, S: Source, W: Sink, E: Write>(
     reader: &mut S,
     out: &mut W,
     errors: &mut E,
-) -> u8
+) -> Ended
     ensures ends { CertifiesNotes A
         ⟦<RadixMap<A> as SlotMap>⟧.parts ⟦<RadixMap<A> as SlotMap>⟧.can_fold ⟦<RadixMap<A> as SlotMap>⟧.folds
-        (read_from S.Source reader.old reader.new) (written_to W.Sink out.old out.new) result }
-    ensures within { result ≤ 3 }
+        (read_from S.Source reader.old reader.new) (written_to W.Sink out.old out.new) result.status }
+    ensures within { result.status ≤ 3 }
 {
     match certify_text(alloc, reader, out) {
-        Ok(true) => 0,
-        Ok(false) => 1,
+        Ok(true) => Ended {
+            status: 0,
+            trouble: Trouble::Nothing,
+        },
+        Ok(false) => Ended {
+            status: 1,
+            trouble: Trouble::Nothing,
+        },
         Err(fault) => {
             let _ = writeln!(errors, "radixvm: {fault}");
-            status_of_fault(fault)
+            Ended {
+                status: status_of_fault(fault),
+                trouble: Trouble::Fault(fault),
+            }
         }
     }
 }

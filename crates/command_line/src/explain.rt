@@ -1,227 +1,34 @@
-//! What is told of a fault beside its text: the line, a caret below the place where it goes wrong,
-//! and what was expected there. The grammar isn't told anew: the reader of lines is asked whether
-//! some line goes on from the first words.
-ghost use Rattle.std.specs.Prelude.{◌≡◌, ◌<◌, ◌≤◌, ◌⊎◌, length};
+//! What is told of a fault beside its text: the line, a caret below the place where it goes wrong, and what was expected there.
+ghost use Rattle.std.specs.Prelude.{◌≡◌, ◌≤◌, ◌⊎◌, length};
 ghost use Rattle.std.specs.Io.KnownBytes.{Keeps};
 ghost use Rattle.trace.specs.declared.fault.TraceFault.TheVariants as Of;
 
-use arrayvec::ArrayVec;
+use crate::forms::{Kind, add_expected, is_line, reach};
+use crate::keeping::Kept;
+use crate::outcomes::explain_outcome;
+use crate::pointing::{
+    Text, behind, expect, front, point, word_at, word_start, words_in, write_text,
+};
 use core_steps::{CallLimit, SetupFault};
 use std::io::Write;
 use trace::fault::TraceFault;
-use trace_text::words::next_word;
+use trace_text::number::read_number;
 use trace_text::{Line, is_printable, read_line};
 
-// A line of what is told, or a line that is tried. A line of a trace has at most 256 bytes.
-type Text = ArrayVec<u8, 320>;
-
-// The lines of a trace: the names of their words as help has them, and such a line.
-const FORMS: &str = "\
-vm CORES FRAMES CALLS = vm 1 1 1
-file N MODE LEN SEED = file 0 r 0 0
-fold ADDR = fold 0
-cC! mmap ADDR LEN PROT FLAGS FILE OFF = c0! mmap 0 0 --- - 0 0
-cC! munmap ADDR LEN = c0! munmap 0 0
-cC! mprotect ADDR LEN PROT = c0! mprotect 0 0 ---
-cC! load ADDR = c0! load 0
-cC! store ADDR BYTE = c0! store 0 0
-cC! fetch ADDR = c0! fetch 0
-cC call mmap ADDR LEN PROT FLAGS FILE OFF = c0 call mmap 0 0 --- - 0 0
-cC call munmap ADDR LEN = c0 call munmap 0 0
-cC call mprotect ADDR LEN PROT = c0 call mprotect 0 0 ---
-cC call load ADDR = c0 call load 0
-cC call store ADDR BYTE = c0 call store 0 0
-cC call fetch ADDR = c0 call fetch 0
-cC go = c0 go
-cC finish = c0 finish
-cC take = c0 take
-cC flush = c0 flush
-cC review = c0 review
-cC walk ADDR = c0 walk 0
-cC evict ADDR = c0 evict 0
-cC frame F = c0 frame 0
-cC guess ADDR = c0 guess 0
-cC whole = c0 whole
-cC giveup = c0 giveup";
-
-// How many words a line has at most.
-const MOST_WORDS: usize = 9;
-
-// What the names of words stand for, where the name isn't the word.
-const MEANINGS: &str = "\
-CORES: a number below 2^64, decimal, or hexadecimal after 0x
-FRAMES: a number below 2^64, decimal, or hexadecimal after 0x
-CALLS: a number below 2^64, decimal, or hexadecimal after 0x
-N: the file's number, decimal, or hexadecimal after 0x
-MODE: r, w or rw
-LEN: a number below 2^64, decimal, or hexadecimal after 0x
-SEED: a number up to 255
-cC: C is a core's number, 0 to 63, without leading zeros
-ADDR: a number below 2^64, decimal, or hexadecimal after 0x
-PROT: rwx, with - in place of each right that isn't given
-FLAGS: - or letters of p, s, f and a, each at most once
-FILE: a file's number; only where FLAGS has a may FILE and OFF be left out
-OFF: a number below 2^64, decimal, or hexadecimal after 0x
-BYTE: a number up to 255
-F: a frame's number, decimal, or hexadecimal after 0x";
-
-// Where the word with this index begins, counted from 0; the length where there are fewer words.
-fn word_start(line: &[u8], index: usize) -> usize
-    ensures { result ≤ length line.now }
-{
-    let mut before = index;
-    let mut inside = false;
-    for (at, byte) in line.iter().enumerate() {
-        if *byte == b' ' {
-            inside = false;
-        } else if !inside {
-            if before == 0 {
-                return at;
-            }
-            before -= 1;
-            inside = true;
-        }
-    }
-    line.len()
+/// What a text is read as, and how more is told of it.
+#[derive(Clone, Copy, Debug, PartialEq, Eq)]
+pub struct Manner {
+    /// Which lines it has.
+    pub kind: Kind,
+    /// How many calls it may ask for.
+    pub limit: CallLimit,
+    /// Whether the word has a flag by which it may ask for more.
+    pub may_be_long: bool,
+    /// Whether the caret is coloured.
+    pub coloured: bool,
 }
 
-// The word with this index; empty where there are fewer.
-fn word_at(line: &[u8], index: usize) -> &[u8] {
-    let (_, rest) = line.split_at(word_start(line, index));
-    match next_word(rest) {
-        Some((word, _)) => word,
-        None => b"",
-    }
-}
-
-// Whether the first words are those of some line: the example's other words are put behind them.
-fn goes_on(line: &[u8], count: usize, example: &[u8]) -> bool {
-    let (front, _) = line.split_at(word_start(line, count));
-    let (_, behind) = example.split_at(word_start(example, count));
-    let mut text = Text::new();
-    let is_whole = text.try_extend_from_slice(front).is_ok()
-        && text.try_push(b' ').is_ok()
-        && text.try_extend_from_slice(behind).is_ok();
-    is_whole && read_line(&text).is_some()
-}
-
-// The names and the example of a form.
-fn parts_of(form: &str) -> (&[u8], &[u8]) {
-    match form.split_once(" = ") {
-        Some((names, example)) => (names.as_bytes(), example.as_bytes()),
-        None => (b"", b""),
-    }
-}
-
-// Whether the word with this index may stand in the form: one that has no other name is the form's own.
-fn fits(line: &[u8], index: usize, names: &[u8], example: &[u8]) -> bool
-    requires { index < 9 }
-{
-    let word = word_at(line, index);
-    let shown = word_at(example, index);
-    let is_own = word_at(names, index) == shown;
-    !word.is_empty()
-        && !shown.is_empty()
-        && (!is_own || word == shown)
-        && goes_on(line, index + 1, example)
-}
-
-// How many of the first words are right in this form.
-fn reach_of(line: &[u8], form: &str) -> usize
-    ensures { result ≤ 9 }
-{
-    let (names, example) = parts_of(form);
-    for index in 0..MOST_WORDS {
-        if !fits(line, index, names, example) {
-            return index;
-        }
-    }
-    MOST_WORDS
-}
-
-// How many of the first words are right.
-fn reach(line: &[u8]) -> usize {
-    let mut most = 0;
-    for form in FORMS.split('\n') {
-        most = most.max(reach_of(line, form));
-    }
-    most
-}
-
-// The name, and what it stands for.
-fn meaning_of(name: &[u8]) -> &[u8] {
-    if name.is_empty() {
-        return b"no more words";
-    }
-    for row in MEANINGS.split('\n') {
-        if row.as_bytes().starts_with(name) && row.as_bytes().get(name.len()) == Some(&b':') {
-            return row.as_bytes();
-        }
-    }
-    name
-}
-
-// Adds what may stand in place of the word with this index, each but once.
-fn add_expected(text: &mut Text, line: &[u8], index: usize) {
-    let mut is_first = true;
-    for form in FORMS.split('\n') {
-        let (names, _) = parts_of(form);
-        let meaning = meaning_of(word_at(names, index));
-        if reach_of(line, form) == index && !text.ends_with(meaning) {
-            if !is_first {
-                let _ = text.try_extend_from_slice(b", ");
-            }
-            let _ = text.try_extend_from_slice(meaning);
-            is_first = false;
-        }
-    }
-}
-
-// Writes a line. A line that can't be written isn't told of: the fault itself was.
-fn write_text<E: Write>(text: &mut Text, errors: &mut E) {
-    let _ = text.try_push(b'\n');
-    let _ = errors.write_all(text);
-}
-
-// Writes what was expected.
-fn expect<E: Write>(what: &str, errors: &mut E) {
-    let mut text = Text::new();
-    let _ = text.try_extend_from_slice(b"  expected ");
-    let _ = text.try_extend_from_slice(what.as_bytes());
-    write_text(&mut text, errors);
-}
-
-// Writes the line, each byte that can't be shown as a question mark.
-fn show_line<E: Write>(line: &[u8], errors: &mut E) {
-    let mut text = Text::new();
-    let _ = text.try_extend_from_slice(b"  ");
-    for byte in line {
-        let shown = if *byte >= 0x20 && *byte <= 0x7e {
-            *byte
-        } else {
-            b'?'
-        };
-        let _ = text.try_push(shown);
-    }
-    write_text(&mut text, errors);
-}
-
-// Writes a caret below this place of the line.
-fn show_caret<E: Write>(at: usize, errors: &mut E) {
-    let mut text = Text::new();
-    let _ = text.try_extend_from_slice(b"  ");
-    for _ in 0..at {
-        let _ = text.try_push(b' ');
-    }
-    let _ = text.try_push(b'^');
-    write_text(&mut text, errors);
-}
-
-// Writes the line, with a caret below this place.
-fn point<E: Write>(line: &[u8], at: usize, errors: &mut E) {
-    show_line(line, errors);
-    show_caret(at, errors);
-}
+// ---- bytes that may not stand in a text
 
 // Where the first byte stands that isn't printable; the length where all are.
 fn first_unprintable(line: &[u8]) -> usize
@@ -235,7 +42,7 @@ fn first_unprintable(line: &[u8]) -> usize
     line.len()
 }
 
-// What is told of a byte that may not stand in a trace.
+// What is told of a byte that may not stand in a text.
 fn byte_rule(byte: Option<&u8>) -> &'static str {
     match byte {
         Some(b'\t') => "spaces and visible ASCII: here is a tab",
@@ -245,12 +52,34 @@ fn byte_rule(byte: Option<&u8>) -> &'static str {
     }
 }
 
-// Tells of a bad line whose words are no line's.
-fn explain_words<E: Write>(line: &[u8], errors: &mut E) {
-    let count = reach(line);
-    let start = word_start(line, count);
-    point(line, start, errors);
-    if line.get(start) == Some(&b'#') {
+// ---- words that are no line's
+
+// Where the event of a line begins: behind the ticket of a note.
+fn event_start(kind: Kind, line: &[u8]) -> usize {
+    match kind {
+        Kind::Notes => word_start(line, 1),
+        Kind::Trace | Kind::Script | Kind::Replies => 0,
+    }
+}
+
+// Where the sign `=` stands that divides a line last; the length where none does.
+fn sign_at(line: &[u8]) -> usize {
+    let mut sign = line.len();
+    for (at, byte) in line.iter().enumerate() {
+        if *byte == b'=' {
+            sign = at;
+        }
+    }
+    sign
+}
+
+// Tells of the words of a line, from this place on to this one, of which not all are right.
+fn explain_part<E: Write>(manner: Manner, line: &[u8], (from, to): (usize, usize), errors: &mut E) {
+    let part = behind(front(line, to), from);
+    let count = reach(manner.kind, part);
+    let start = word_start(part, count);
+    point(line, from.saturating_add(start), manner.coloured, errors);
+    if part.get(start) == Some(&b'#') {
         expect(
             "no more words: a comment is a line whose first byte is #",
             errors,
@@ -259,51 +88,140 @@ fn explain_words<E: Write>(line: &[u8], errors: &mut E) {
     }
     let mut text = Text::new();
     let _ = text.try_extend_from_slice(b"  expected ");
-    add_expected(&mut text, line, count);
+    add_expected(&mut text, manner.kind, part, count);
     write_text(&mut text, errors);
 }
 
+// Tells of the line of an event with what it came to.
+fn explain_event<E: Write>(manner: Manner, line: &[u8], errors: &mut E) {
+    if manner.kind == Kind::Notes && read_number(word_at(line, 0)).is_none() {
+        point(line, word_start(line, 0), manner.coloured, errors);
+        expect(
+            "a ticket, which is a number below 2^64, before the event",
+            errors,
+        );
+        return;
+    }
+    let from = event_start(manner.kind, line);
+    let sign = sign_at(line);
+    if is_line(manner.kind, behind(front(line, sign), from)) {
+        explain_outcome(manner.kind, line, sign, manner.coloured, errors);
+    } else {
+        explain_part(manner, line, (from, sign), errors);
+    }
+}
+
+// Tells of a bad line whose words are no line's of the text.
+fn explain_words<E: Write>(manner: Manner, line: &[u8], errors: &mut E) {
+    let is_declaration = matches!(word_at(line, 0), b"vm" | b"file");
+    match manner.kind {
+        Kind::Notes | Kind::Replies if !is_declaration => explain_event(manner, line, errors),
+        Kind::Notes => {
+            let declaring = Manner {
+                kind: Kind::Trace,
+                ..manner
+            };
+            explain_part(declaring, line, (0, line.len()), errors);
+        }
+        _ => explain_part(manner, line, (0, line.len()), errors),
+    }
+}
+
+// ---- lines that say something, and not at this place
+
+// Tells of a `vm` line: a second one, or one of notes without CALLS.
+fn explain_space<E: Write>(manner: Manner, line: &[u8], errors: &mut E) {
+    if manner.kind == Kind::Notes && words_in(line) == 3 {
+        point(line, line.len(), manner.coloured, errors);
+        expect("CALLS, which the vm line of notes always has", errors);
+        return;
+    }
+    point(line, word_start(line, 0), manner.coloured, errors);
+    expect("one vm line, before all others", errors);
+}
+
 // Tells of a line that says something, and not at this place.
-fn explain_place<E: Write>(said: Line, line: &[u8], errors: &mut E) {
+fn explain_place<E: Write>(manner: Manner, said: Line, line: &[u8], errors: &mut E) {
     match said {
+        Line::Space { .. } => explain_space(manner, line, errors),
         Line::File { .. } => {
-            point(line, word_start(line, 1), errors);
+            point(line, word_start(line, 1), manner.coloured, errors);
             expect(
                 "the files' numbers to be 0, 1, 2 and so on, all before the first event",
                 errors,
             );
         }
-        _ => {
-            point(line, word_start(line, 0), errors);
-            expect("one vm line, before all others", errors);
+        _ if is_line(manner.kind, line) && manner.kind == Kind::Script => {
+            point(line, word_start(line, 0), manner.coloured, errors);
+            expect("a core of the vm line, whose cores are c0 and on", errors);
         }
+        _ => explain_words(manner, line, errors),
     }
 }
 
 // Tells of a bad line.
-fn explain_bad<E: Write>(line: &[u8], errors: &mut E) {
+fn explain_bad<E: Write>(manner: Manner, line: &[u8], errors: &mut E) {
     if !is_printable(line) {
         let at = first_unprintable(line);
-        point(line, at, errors);
+        point(line, at, manner.coloured, errors);
         expect(byte_rule(line.get(at)), errors);
         return;
     }
     match read_line(line) {
-        Some(said) => explain_place(said, line, errors),
-        None => explain_words(line, errors),
+        Some(said) => explain_place(manner, said, line, errors),
+        None => explain_words(manner, line, errors),
     }
 }
 
-// Tells of a first line with words that isn't the vm line. A text without words has none.
-fn explain_first<E: Write>(line: &[u8], errors: &mut E) {
-    if read_line(line) != Some(Line::Blank) {
-        point(line, word_start(line, 0), errors);
+// ---- the vm line and the lines of files
+
+// The line of the text that comes behind so many whose first word is this.
+fn line_of<'a>(text: &'a [u8], name: &[u8], before: u64) -> Option<&'a [u8]> {
+    let mut count = 0u64;
+    for line in text.split(|byte| *byte == b'\n') {
+        if word_at(line, 0) == name {
+            if count == before {
+                return Some(line);
+            }
+            count = count.saturating_add(1);
+        }
+    }
+    None
+}
+
+// The first line of a file that is longer than it may be.
+fn long_file(text: &[u8]) -> Option<&[u8]> {
+    for line in text.split(|byte| *byte == b'\n') {
+        if word_at(line, 0) == b"file".as_slice()
+            && let Some(len) = read_number(word_at(line, 3))
+            && len > 1_048_576
+        {
+            return Some(line);
+        }
+    }
+    None
+}
+
+// Tells that no line is the first with words, or of the one that is and isn't the vm line.
+fn explain_first<E: Write>(manner: Manner, text: &[u8], errors: &mut E) {
+    for line in text.split(|byte| *byte == b'\n') {
+        if read_line(line) != Some(Line::Blank) {
+            point(line, word_start(line, 0), manner.coloured, errors);
+            break;
+        }
+    }
+    if manner.kind == Kind::Notes {
+        expect("vm CORES FRAMES CALLS as the first line with words", errors);
+        return;
     }
     expect(
         "vm CORES FRAMES, or vm CORES FRAMES CALLS, as the first line with words",
         errors,
     );
 }
+
+// How many calls may be asked for with --long.
+const MOST_CALLS: u64 = 1_099_511_627_776;
 
 // What the vm line and the lines of files may ask for.
 fn setup_rule(fault: SetupFault, limit: CallLimit) -> &'static str {
@@ -320,18 +238,58 @@ fn setup_rule(fault: SetupFault, limit: CallLimit) -> &'static str {
     }
 }
 
-/// Writes what is known of a fault beside its text: the line that was read last, a caret below the
-/// place where it goes wrong, and what was expected, of calls within this limit. Nothing for a
-/// read, a write or memory that failed.
-pub fn explain<E: Write>(fault: TraceFault, limit: CallLimit, line: &[u8], errors: &mut E)
+// The line that the fault is of, and the word of it that asks for too much.
+fn setup_place(fault: SetupFault, text: &[u8]) -> (Option<&[u8]>, usize) {
+    match fault {
+        SetupFault::Cores => (line_of(text, b"vm", 0), 1),
+        SetupFault::Frames => (line_of(text, b"vm", 0), 2),
+        SetupFault::Calls => (line_of(text, b"vm", 0), 3),
+        SetupFault::TooManyFiles => (line_of(text, b"file", 16), 0),
+        SetupFault::FileTooLong => (long_file(text), 3),
+        SetupFault::NoMemory => (line_of(text, b"vm", 0), 0),
+    }
+}
+
+// Tells of what the vm line and the lines of files ask for.
+fn explain_setup<E: Write>(manner: Manner, fault: SetupFault, text: &[u8], errors: &mut E) {
+    let rule = setup_rule(fault, manner.limit);
+    let (Some(line), index) = setup_place(fault, text) else {
+        expect(rule, errors);
+        return;
+    };
+    point(line, word_start(line, index), manner.coloured, errors);
+    match str::from_utf8(word_at(line, index)) {
+        Ok(asked) if index > 0 => {
+            let _ = writeln!(errors, "  expected {rule}, and not {asked}");
+        }
+        _ => expect(rule, errors),
+    }
+    let asked = read_number(word_at(line, index)).unwrap_or(0);
+    if fault == SetupFault::Calls && manner.may_be_long && asked <= MOST_CALLS {
+        let _ = writeln!(errors, "  with --long it may be up to {MOST_CALLS}");
+    }
+}
+
+// ---- all faults
+
+/// Writes what is known of a fault beside its text, of which this is kept: the line, a caret below the place where it goes wrong,
+/// and what was expected. Nothing for a read, a write or memory that failed.
+pub(crate) fn explain<E: Write>(fault: TraceFault, manner: Manner, kept: &Kept, errors: &mut E)
     ensures quiet { (fault ≡ Of.ReadFailed) ⊎ (fault ≡ Of.NoMemory) ⊎ (fault ≡ Of.WriteFailed)
         → Keeps (E.contents errors.old) (E.contents errors.new) }
 {
     match fault {
-        TraceFault::BadLine(_) => explain_bad(line, errors),
-        TraceFault::NoVmLine => explain_first(line, errors),
+        TraceFault::BadLine(number) => {
+            if let Some(line) = kept.line(number) {
+                explain_bad(manner, line, errors);
+            }
+        }
+        TraceFault::NoVmLine => explain_first(manner, kept.text(), errors),
+        TraceFault::TooLong(_) if manner.kind == Kind::Replies => {
+            expect("at most 512 bytes in a line", errors);
+        }
         TraceFault::TooLong(_) => expect("at most 256 bytes in a line", errors),
-        TraceFault::Setup(fault) => expect(setup_rule(fault, limit), errors),
+        TraceFault::Setup(fault) => explain_setup(manner, fault, kept.text(), errors),
         TraceFault::ReadFailed | TraceFault::NoMemory | TraceFault::WriteFailed => {}
     }
 }

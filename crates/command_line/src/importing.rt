@@ -5,6 +5,7 @@ ghost use Rattle.import_text.specs.Counts.{total};
 ghost use Rattle.command_line.specs.Words.{ImportsAccesses, ImportsLog};
 ghost use Rattle.trace_io.specs.Io.{read_from, written_to};
 
+use crate::ended::{Ended, Trouble};
 use import_lackey::traced::trace_log;
 use import_maps::entries::Entries;
 use import_maps::mapped::import_mapped;
@@ -104,11 +105,14 @@ fn tell_counts<E: Write>(counts: &Counts, errors: &mut E)
 }
 
 // Prints the fault as `radixvm: ` and its text, and answers the status.
-fn tell_fault<E: Write>(fault: IoFault, errors: &mut E) -> u8
-    ensures { result ≡ 3 }
+fn tell_fault<E: Write>(fault: IoFault, errors: &mut E) -> Ended
+    ensures { result.status ≡ 3 }
 {
     let _ = writeln!(errors, "radixvm: {fault}");
-    3
+    Ended {
+        status: 3,
+        trouble: Trouble::Nothing,
+    }
 }
 
 /// Makes a trace of a list of mappings and of a log of strace, of the process of this thread or of
@@ -121,16 +125,19 @@ pub fn import<L: Source, S: Source, W: Sink, E: Write>(
     out: &mut W,
     errors: &mut E,
     thread: Option<u64>,
-) -> u8
+) -> Ended
     ensures ends { ImportsLog thread (read_from L.Source list.old list.new)
-        (read_from S.Source reader.old reader.new) (written_to W.Sink out.old out.new) result }
-    ensures within { result ≤ 3 }
+        (read_from S.Source reader.old reader.new) (written_to W.Sink out.old out.new) result.status }
+    ensures within { result.status ≤ 3 }
 {
     match import_mapped(alloc, list, reader, out, thread) {
         Ok(told) => {
             tell_entries(&told.entries, errors);
             tell_counts(&told.counts, errors);
-            0
+            Ended {
+                status: 0,
+                trouble: Trouble::Nothing,
+            }
         }
         Err(fault) => tell_fault(fault, errors),
     }
@@ -143,15 +150,18 @@ pub fn import_accesses<S: Source, W: Sink, E: Write>(
     reader: &mut S,
     out: &mut W,
     errors: &mut E,
-) -> u8
+) -> Ended
     ensures ends { ImportsAccesses
-        (read_from S.Source reader.old reader.new) (written_to W.Sink out.old out.new) result }
-    ensures within { result ≤ 3 }
+        (read_from S.Source reader.old reader.new) (written_to W.Sink out.old out.new) result.status }
+    ensures within { result.status ≤ 3 }
 {
     match trace_log(alloc, reader, out) {
         Ok(counts) => {
             tell_counts(&counts, errors);
-            0
+            Ended {
+                status: 0,
+                trouble: Trouble::Nothing,
+            }
         }
         Err(fault) => tell_fault(fault, errors),
     }

@@ -5,7 +5,7 @@ ghost use Rattle.trace.specs.Status.{status_of};
 ghost use Rattle.trace_io.specs.Io.{read_from, written_to};
 
 use crate::echo::replay_echoing;
-use crate::explain::explain;
+use crate::ended::{Ended, Trouble};
 use crate::summing::tell_summary;
 use core_steps::CallLimit;
 use std::alloc::Allocator;
@@ -23,30 +23,21 @@ pub struct Shows {
     pub show: Show,
     /// How many calls the trace may ask for, where its log isn't shown.
     pub limit: CallLimit,
-    /// Whether more is told of a fault than its text.
-    pub explains: bool,
     /// Whether the numbers of the run are told, where no fault ended it.
     pub sums: bool,
 }
 
-// Prints the replay's fault, and what is known of it where that is asked for, and answers the status.
-fn tell_end<A: Allocator, E: Write>(
-    replayed: &Replayed<A>,
-    limit: CallLimit,
-    explains: bool,
-    errors: &mut E,
-) -> u8
-    ensures value { result ≡ status_of replayed.now.ended }
-    ensures within { result ≤ 3 }
+/// Prints the replay's fault, and answers the status.
+pub(crate) fn tell_end<A: Allocator, E: Write>(replayed: &Replayed<A>, errors: &mut E) -> Ended
+    ensures value { result.status ≡ status_of replayed.now.ended }
+    ensures within { result.status ≤ 3 }
 {
     let status = replayed.tell(errors);
-    if explains
-        && let Err(fault) = replayed.ended
-        && let Some(lines) = &replayed.lines
-    {
-        explain(fault, limit, lines.line(), errors);
-    }
-    status
+    let trouble = match replayed.ended {
+        Ok(()) => Trouble::Nothing,
+        Err(fault) => Trouble::Fault(fault),
+    };
+    Ended { status, trouble }
 }
 
 // As `run`, step by step, and prints the numbers of the run behind it.
@@ -56,39 +47,39 @@ fn run_summing<A: Allocator + Clone + Drop, S: Source, W: Sink, E: Write>(
     out: &mut W,
     errors: &mut E,
     shows: Shows,
-) -> u8
+) -> Ended
     ensures ends { ReplaysTrace shows
-        (read_from S.Source reader.old reader.new) (written_to W.Sink out.old out.new) result }
-    ensures within { result ≤ 3 }
+        (read_from S.Source reader.old reader.new) (written_to W.Sink out.old out.new) result.status }
+    ensures within { result.status ≤ 3 }
 {
     let mut summary = Summary::new();
     let replayed = replay_summing(alloc, reader, out, shows.show, shows.limit, &mut summary);
-    let status = tell_end(&replayed, shows.limit, shows.explains, errors);
-    if status == 0 {
+    let ended = tell_end(&replayed, errors);
+    if ended.status == 0 {
         tell_summary(&summary, errors);
     }
-    status
+    ended
 }
 
 /// Replays the trace, showing what is asked for, prints a fault as `radixvm: ` and its
-/// text, behind it, where that is asked for, what is known of it, and answers the status: 0,
-/// or that of the fault. Where that is asked for, the numbers of a run without fault come behind it.
+/// text, and answers the status: 0, or that of the fault. Where that is asked for, the numbers of a
+/// run without fault come behind it.
 pub fn run<A: Allocator + Clone + Drop, S: Source, W: Sink, E: Write>(
     alloc: A,
     reader: &mut S,
     out: &mut W,
     errors: &mut E,
     shows: Shows,
-) -> u8
+) -> Ended
     ensures ends { ReplaysTrace shows
-        (read_from S.Source reader.old reader.new) (written_to W.Sink out.old out.new) result }
-    ensures within { result ≤ 3 }
+        (read_from S.Source reader.old reader.new) (written_to W.Sink out.old out.new) result.status }
+    ensures within { result.status ≤ 3 }
 {
     if shows.sums {
         return run_summing(alloc, reader, out, errors, shows);
     }
     let replayed = replay_telling(alloc, reader, out, shows.show, shows.limit);
-    tell_end(&replayed, shows.limit, shows.explains, errors)
+    tell_end(&replayed, errors)
 }
 
 /// As `run`, of outcomes, and shows each line of an event beside its outcome, with the `vm` and
@@ -99,12 +90,12 @@ pub fn run_echoing<A: Allocator + Clone + Drop, S: Source, W: Sink, E: Write>(
     out: &mut W,
     errors: &mut E,
     limit: CallLimit,
-    explains: bool,
-) -> u8
-    ensures ends { EchoesTrace limit
-        (read_from S.Source reader.old reader.new) (written_to W.Sink out.old out.new) result }
-    ensures within { result ≤ 3 }
+    coloured: bool,
+) -> Ended
+    ensures ends { EchoesTrace coloured limit
+        (read_from S.Source reader.old reader.new) (written_to W.Sink out.old out.new) result.status }
+    ensures within { result.status ≤ 3 }
 {
-    let replayed = replay_echoing(alloc, reader, out, limit);
-    tell_end(&replayed, limit, explains, errors)
+    let replayed = replay_echoing(alloc, reader, out, limit, coloured);
+    tell_end(&replayed, errors)
 }

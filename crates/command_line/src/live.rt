@@ -4,6 +4,7 @@ ghost use Rattle.command_line.specs.Status.{script_status};
 ghost use Rattle.command_line.specs.Words.{CertifiesRun, RunsScript};
 ghost use Rattle.trace_io.specs.Io.{read_from, written_to};
 
+use crate::ended::{Ended, Trouble};
 use live_script::Runner;
 use live_script::texts::{TextFault, certify_run, run_text};
 use radix_range::RadixMap;
@@ -18,14 +19,20 @@ use trace_io::source::Source;
 
 // Prints the fault as `radixvm: ` and its text, and answers the status that it ends the program with: 3 where a task of a core
 // couldn't begin, else that of its text's fault.
-fn tell_fault<E: Write>(fault: TextFault, errors: &mut E) -> u8
-    ensures value { result ≡ script_status fault }
-    ensures within { result ≤ 3 }
+fn tell_fault<E: Write>(fault: TextFault, errors: &mut E) -> Ended
+    ensures value { result.status ≡ script_status fault }
+    ensures within { result.status ≤ 3 }
 {
     let _ = writeln!(errors, "radixvm: {fault}");
     match fault {
-        TextFault::Text(fault) => status_of_fault(fault),
-        TextFault::Live(_) => 3,
+        TextFault::Text(fault) => Ended {
+            status: status_of_fault(fault),
+            trouble: Trouble::Fault(fault),
+        },
+        TextFault::Live(_) => Ended {
+            status: 3,
+            trouble: Trouble::Nothing,
+        },
     }
 }
 
@@ -38,12 +45,15 @@ pub fn live<
     S: Source,
     W: Sink,
     E: Write,
->(rt: &T, runner: &R, alloc: A, reader: &mut S, out: &mut W, errors: &mut E) -> u8
-    ensures ends { RunsScript (read_from S.Source reader.old reader.new) (written_to W.Sink out.old out.new) result }
-    ensures within { result ≤ 3 }
+>(rt: &T, runner: &R, alloc: A, reader: &mut S, out: &mut W, errors: &mut E) -> Ended
+    ensures ends { RunsScript (read_from S.Source reader.old reader.new) (written_to W.Sink out.old out.new) result.status }
+    ensures within { result.status ≤ 3 }
 {
     match run_text(rt, runner, alloc, reader, out) {
-        Ok(()) => 0,
+        Ok(()) => Ended {
+            status: 0,
+            trouble: Trouble::Nothing,
+        },
         Err(fault) => tell_fault(fault, errors),
     }
 }
@@ -57,15 +67,21 @@ pub fn certify_live<
     S: Source,
     W: Sink,
     E: Write,
->(rt: &T, runner: &R, alloc: A, reader: &mut S, out: &mut W, errors: &mut E) -> u8
+>(rt: &T, runner: &R, alloc: A, reader: &mut S, out: &mut W, errors: &mut E) -> Ended
     ensures ends { CertifiesRun A
         ⟦<RadixMap<A> as SlotMap>⟧.parts ⟦<RadixMap<A> as SlotMap>⟧.can_fold ⟦<RadixMap<A> as SlotMap>⟧.folds
-        (read_from S.Source reader.old reader.new) (written_to W.Sink out.old out.new) result }
-    ensures within { result ≤ 3 }
+        (read_from S.Source reader.old reader.new) (written_to W.Sink out.old out.new) result.status }
+    ensures within { result.status ≤ 3 }
 {
     match certify_run(rt, runner, alloc, reader, out) {
-        Ok(true) => 0,
-        Ok(false) => 1,
+        Ok(true) => Ended {
+            status: 0,
+            trouble: Trouble::Nothing,
+        },
+        Ok(false) => Ended {
+            status: 1,
+            trouble: Trouble::Nothing,
+        },
         Err(fault) => tell_fault(fault, errors),
     }
 }

@@ -1,18 +1,20 @@
 //! What the word `picture` does.
-ghost use Rattle.std.specs.Prelude.{◌≡◌, ◌≢◌, ◌≤◌, ◌⊎◌, Err, IfErr, None, OnOk, true};
+ghost use Rattle.std.specs.Prelude.{◌≡◌, ◌≢◌, ◌≤◌, ◌⊎◌, Err, IfErr, IfOk, None, OnOk, true};
 ghost use Rattle.std.specs.Io.KnownBytes.{Appends, Keeps};
-ghost use Rattle.command_line.specs.Picture.{PictureEnds, Records, TextEnds, lives_of, picture_of};
+ghost use Rattle.command_line.specs.Picture.{PictureEnds, Records, ShowsText, TextEnds, lacking, lacking_none, lives_of, picture_of};
 ghost use Rattle.command_line.specs.Words.{PicturesTrace};
-ghost use Rattle.recorder.specs.Changes.{changes_recorded, nothing_changed};
+ghost use Rattle.recorder.specs.Changes.{ChangesRecorded, nothing_changed};
 ghost use Rattle.recorder.specs.Looking.{recorded};
 ghost use Rattle.recorder.specs.Recording.{nothing_recorded};
 ghost use Rattle.trace.specs.Ends.{fault_named};
-ghost use Rattle.trace.specs.Status.{status_of};
+ghost use Rattle.command_line.specs.Status.{picture_status};
 ghost use Rattle.trace.specs.declared.fault.TraceFault.TheVariants as Of;
 ghost use Rattle.trace_io.specs.Io.{TellsIo, read_from, written_to};
 ghost use Rattle.trace_io.specs.Sink.{AppendsFront};
 ghost use Rattle.trace_io.specs.Source.{HasStopped, Reads};
+ghost use Rattle.watched.specs.Watching.{makes};
 
+use crate::ended::{Ended, Trouble};
 use core_steps::CallLimit;
 use lives::drawing::draw_lives;
 use picture::canvas::draw;
@@ -20,8 +22,8 @@ use picture::places::view_of;
 use recorder::{ChangeRecorder, Recorder};
 use std::alloc::Global;
 use std::io::Write;
-use trace::fault::TraceFault;
-use trace::replay::{Replayed, replay_watched};
+use trace::fault::{TraceFault, status_of_fault};
+use trace::replay::replay_watched;
 use trace::shown::Show;
 use trace_io::sink::{Nowhere, Sink, write_all};
 use trace_io::source::Source;
@@ -97,8 +99,18 @@ fn write_picture<W: Sink>(
     Ok(())
 }
 
-// Says which steps are shown, where that isn't all of those that are asked for, or how many there
-// are, where it is none.
+// How many steps there are, where the first that is asked for is behind them all.
+fn lacking(recorder: &Recorder<Global>, first: u64) -> Option<u64>
+    ensures { result ≡ lacking first recorder.now }
+{
+    let all = recorder.steps();
+    if first > 1 && all < first {
+        return Some(all);
+    }
+    None
+}
+
+// Says which steps are shown, where that isn't all of those that are asked for, or that there are none.
 fn tell_steps<E: Write>(recorder: &Recorder<Global>, steps: Steps, errors: &mut E) {
     let all = recorder.steps();
     let first = steps.first;
@@ -110,16 +122,43 @@ fn tell_steps<E: Write>(recorder: &Recorder<Global>, steps: Steps, errors: &mut 
     }
 }
 
-// Replays the trace, says on `errors` which steps are shown where that is due, and writes their picture.
+// Writes the picture of what was recorded in these steps, and says on `errors` which they are where that is due; or tells how many
+// there are, where the first is behind them all.
+fn show_steps<W: Sink, E: Write>(
+    alloc: Global,
+    recorder: &Recorder<Global>,
+    steps: Steps,
+    out: &mut W,
+    errors: &mut E,
+) -> Result<Option<u64>, TraceFault>
+    ensures ok { IfOk result (λ x. (x ≡ lacking steps.first recorder.now)
+        × ShowsText x (picture_of steps.first steps.last recorder.now) (W.contents out.old) (W.contents out.new)) }
+    ensures err { IfErr result (λ f. ((f ≡ Of.NoMemory) × Keeps (W.contents out.old) (W.contents out.new))
+        ⊎ ((f ≡ Of.WriteFailed) × AppendsFront (W.contents out.old) (W.contents out.new)
+        (picture_of steps.first steps.last recorder.now))) }
+    ensures write { result ≡ Err Of.WriteFailed → W.failed out.new ≡ true }
+    ensures kept { (result ≡ Err Of.WriteFailed) ⊎ (W.failed out.new ≡ W.failed out.old) }
+{
+    if let Some(all) = lacking(recorder, steps.first) {
+        return Ok(Some(all));
+    }
+    tell_steps(recorder, steps, errors);
+    match write_picture(alloc, recorder, steps, out) {
+        Ok(()) => Ok(None),
+        Err(fault) => Err(fault),
+    }
+}
+
+// Replays the trace, and writes the picture of these steps, as `show_steps`.
 fn draw_steps<S: Source, W: Sink, E: Write>(
     alloc: Global,
     reader: &mut S,
     out: &mut W,
     errors: &mut E,
     steps: Steps,
-) -> Result<(), TraceFault>
+) -> Result<Option<u64>, TraceFault>
     ensures ends { Reads (S.stream reader.old) (S.stream reader.new) (λ input unread.
-        TextEnds recorded (nothing_recorded steps.first steps.last) (picture_of steps.first steps.last)
+        TextEnds (makes recorded) (nothing_recorded steps.first steps.last) (lacking steps.first) (picture_of steps.first steps.last)
         input unread (W.contents out.old) (W.contents out.new) result) }
     ensures told { TellsIo fault_named result (read_from S.Source reader.old reader.new) (written_to W.Sink out.old out.new) }
 {
@@ -127,21 +166,19 @@ fn draw_steps<S: Source, W: Sink, E: Write>(
         return Err(TraceFault::NoMemory);
     };
     match record(alloc, reader, recorder) {
-        Ok(recorder) => {
-            tell_steps(&recorder, steps, errors);
-            write_picture(alloc, &recorder, steps, out)
-        }
+        Ok(recorder) => show_steps(alloc, &recorder, steps, out, errors),
         Err(fault) => Err(fault),
     }
 }
 
-// Writes the lives of what was mapped in the run.
+// Writes the lives of what was mapped in the run. No step is lacking.
 fn write_lives<W: Sink>(
     alloc: Global,
     recorder: &ChangeRecorder<Global>,
     out: &mut W,
-) -> Result<(), TraceFault>
-    ensures ok { OnOk result (Appends (W.contents out.old) (W.contents out.new) (lives_of recorder.now)) }
+) -> Result<Option<u64>, TraceFault>
+    ensures ok { IfOk result (λ x. (x ≡ lacking_none recorder.now)
+        × ShowsText x (lives_of recorder.now) (W.contents out.old) (W.contents out.new)) }
     ensures err { IfErr result (λ f. ((f ≡ Of.NoMemory) × Keeps (W.contents out.old) (W.contents out.new))
         ⊎ ((f ≡ Of.WriteFailed)
         × AppendsFront (W.contents out.old) (W.contents out.new) (lives_of recorder.now))) }
@@ -157,7 +194,7 @@ fn write_lives<W: Sink>(
     if write_all(out, text.as_slice()).is_err() {
         return Err(TraceFault::WriteFailed);
     }
-    Ok(())
+    Ok(None)
 }
 
 // Replays the trace, and writes the lives of its mappings.
@@ -165,9 +202,9 @@ fn draw_all_lives<S: Source, W: Sink>(
     alloc: Global,
     reader: &mut S,
     out: &mut W,
-) -> Result<(), TraceFault>
+) -> Result<Option<u64>, TraceFault>
     ensures ends { Reads (S.stream reader.old) (S.stream reader.new) (λ input unread.
-        TextEnds changes_recorded nothing_changed lives_of
+        TextEnds ChangesRecorded nothing_changed lacking_none lives_of
         input unread (W.contents out.old) (W.contents out.new) result) }
     ensures told { TellsIo fault_named result (read_from S.Source reader.old reader.new) (written_to W.Sink out.old out.new) }
 {
@@ -185,7 +222,7 @@ fn draw_trace<S: Source, W: Sink, E: Write>(
     out: &mut W,
     errors: &mut E,
     drawing: Drawing,
-) -> Result<(), TraceFault>
+) -> Result<Option<u64>, TraceFault>
     ensures ends { Reads (S.stream reader.old) (S.stream reader.new) (λ input unread.
         PictureEnds drawing input unread (W.contents out.old) (W.contents out.new) result) }
     ensures told { TellsIo fault_named result (read_from S.Source reader.old reader.new) (written_to W.Sink out.old out.new) }
@@ -196,29 +233,50 @@ fn draw_trace<S: Source, W: Sink, E: Write>(
     }
 }
 
-// Prints the fault that there is, and answers the status.
-fn tell_end<E: Write>(ended: Result<(), TraceFault>, errors: &mut E) -> u8
-    ensures value { result ≡ status_of ended }
-    ensures within { result ≤ 3 }
+// Prints the fault that there is, or that the steps asked for are lacking, and answers the status.
+fn tell_end<E: Write>(ended: Result<Option<u64>, TraceFault>, errors: &mut E) -> Ended
+    ensures value { result.status ≡ picture_status ended }
+    ensures within { result.status ≤ 3 }
 {
-    let replayed = Replayed::<Global> { ended, lines: None };
-    replayed.tell(errors)
+    match ended {
+        Ok(None) => Ended {
+            status: 0,
+            trouble: Trouble::Nothing,
+        },
+        Ok(Some(all)) => {
+            let _ = writeln!(
+                errors,
+                "radixvm: the trace has {all} steps: --from is behind them"
+            );
+            Ended {
+                status: 2,
+                trouble: Trouble::Nothing,
+            }
+        }
+        Err(fault) => {
+            let _ = writeln!(errors, "radixvm: {fault}");
+            Ended {
+                status: status_of_fault(fault),
+                trouble: Trouble::Fault(fault),
+            }
+        }
+    }
 }
 
 /// Replays the trace, and writes a picture of it: of what happened in these steps, or in the first
 /// 2,000 of them, which is then said on `errors`; or of the lives of mappings over all steps. Prints
 /// a fault, of which there is no picture, as `radixvm: ` and its text, and answers the status: 0, or
-/// that of the fault.
+/// that of the fault. A trace that ends before the first of the steps has no picture either: that is told, and the status is 2.
 pub fn picture<S: Source, W: Sink, E: Write>(
     alloc: Global,
     reader: &mut S,
     out: &mut W,
     errors: &mut E,
     drawing: Drawing,
-) -> u8
+) -> Ended
     ensures ends { PicturesTrace drawing
-        (read_from S.Source reader.old reader.new) (written_to W.Sink out.old out.new) result }
-    ensures within { result ≤ 3 }
+        (read_from S.Source reader.old reader.new) (written_to W.Sink out.old out.new) result.status }
+    ensures within { result.status ≤ 3 }
 {
     let drawn = draw_trace(alloc, reader, out, errors, drawing);
     match out.flush() {

@@ -1,6 +1,11 @@
 pub mod AllSeen
 pub mod Ending
+pub mod FilePages
 pub mod HeldFrames
 pub mod Noting
+pub mod OneCore
+pub mod Posting
+pub mod Reaching
+pub mod Searching
 pub mod Targets
 pub mod Wanted

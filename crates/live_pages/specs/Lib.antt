@@ -1,9 +1,12 @@
 pub mod Bytes
+pub mod Cached
 pub mod Counts
 pub mod Ending
 pub mod Frames
 pub mod HeldFrames
 pub mod Locking
+pub mod OneCore
 pub mod Posting
+pub mod Reaching
 pub mod Steps
 pub mod Targets

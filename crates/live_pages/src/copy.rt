@@ -1,12 +1,14 @@
-//! The copy of a private page that shows its file page, for a store: no core may go on translating it
-//! by the old frame.
-ghost use Rattle.std.specs.Prelude.{◌≡◌, true, false};
+//! The copy of a private page that shows its file page, for a store: no core may go on translating
+//! it by the old frame.
+ghost use Rattle.std.specs.Prelude.{◌≡◌, ◌≢◌, All, false, neg_ℤ, pos, true};
 ghost use Rattle.live_levels.specs.declared.act.Act.TheVariants.{Copy};
 ghost use Rattle.seats.specs.Notes.{CanNote};
+ghost use Rattle.live_tree.specs.Held.{CanTake};
+ghost use Rattle.live_pages.specs.HeldFrames.{CanMakeWay, CountsCopied, IsHeld};
 ghost use Rattle.live_pages.specs.Steps.{Stays, StepsWith};
 
-use crate::frames_held::lock_these;
-use crate::pieces::{Pieces, number_of};
+use crate::frames_held::{FramesHeld, lock_these};
+use crate::pieces::{CoreState, Pieces, number_of};
 use live_levels::act::Act;
 use live_levels::level::Stepper;
 use live_tree::held::Held;
@@ -14,11 +16,11 @@ use seats::Seat;
 use std::alloc::Allocator;
 use std::sync::Wait;
 
-/// The held page, which has the frame `shown`, gets a copy of it in the frame that the call took, and
-/// no core is recorded on it any more; the old frame is counted down by the core. It is one step,
-/// under the locks of the core and of the frames, taken once all cores that were told have
-/// acknowledged. False, and then nothing was noted and the slots stay, where a frame is missing or a
-/// count can't be taken, which never comes.
+/// The held page, which has the frame `shown`, gets a copy of it in the frame that the call took,
+/// and no core is recorded on it any more; the old frame is counted down by the core. It is one
+/// step, under the locks of the core and of the frames, taken once all cores that were told have
+/// acknowledged. False, and then nothing was noted and the slots stay, where a frame is missing or
+/// a count can't be taken, which never comes.
 pub fn copy_page<R: Wait, A: Allocator + Clone>(
     rt: &R,
     pieces: &Pieces<'_, A>,
@@ -31,6 +33,9 @@ pub fn copy_page<R: Wait, A: Allocator + Clone>(
     ensures done { result ≡ true → StepsWith (Copy own) seat.old held.old seat.new held.new }
     ensures not { result ≡ false → Stays seat.old held.old seat.new held.new }
 {
+    if shown == own {
+        return false;
+    }
     let Some(place) = pieces.cores.get(seat.core().index() as usize) else {
         return false;
     };
@@ -43,9 +48,41 @@ pub fn copy_page<R: Wait, A: Allocator + Clone>(
         return false;
     }
     let epochs = pieces.epoch_for(rt, evicted);
-    let ticket = seat.step();
-    let _is_copied = frames.copy(shown, own);
-    let _is_counted = frames.count(&mut core, shown, -1, number_of(&epochs));
-    held.change_each(ticket, Act::Copy(own));
+    give_copied(
+        &mut core,
+        &mut frames,
+        seat,
+        held,
+        shown,
+        own,
+        number_of(&epochs),
+    );
     true
+}
+
+// The step: a locked frame gets the bytes of the shown one and is counted once, the core counts
+// that one down, it is noted, and the held page gets the copy.
+fn give_copied<A: Allocator + Clone>(
+    core: &mut CoreState<A>,
+    frames: &mut FramesHeld<'_, A>,
+    seat: &mut Seat<A>,
+    held: &mut Held<'_, A>,
+    shown: u32,
+    own: u32,
+    epoch: u64,
+)
+    requires step { CanNote seat.old }
+    requires each { All (CanTake (Copy own)) held.old.slots }
+    requires way { CanMakeWay shown (neg_ℤ (pos 1)) core.old.counts frames.old }
+    requires source { IsHeld shown frames.old }
+    requires target { IsHeld own frames.old }
+    requires other { shown ≢ own }
+    ensures step { StepsWith (Copy own) seat.old held.old seat.new held.new }
+    ensures counts { CountsCopied shown own epoch core.old.counts core.new.counts frames.old frames.new }
+    ensures rest { core.new ≡ record core.old { counts = core.new.counts } }
+{
+    let ticket = seat.step();
+    frames.copy(shown, own);
+    frames.count(core, shown, -1, epoch);
+    held.change_each(ticket, Act::Copy(own));
 }

@@ -1,17 +1,23 @@
 //! How a page gets its frame: a new one of zeros, the one that caches its file page, or a new one
 //! with the bytes of its file page.
-ghost use Rattle.std.specs.Prelude.{◌≡◌, ◌≤◌, ◌^◌, None, Some, IfSome};
+ghost use Rattle.std.specs.Prelude.{◌≡◌, ◌≢◌, None, Some, All, IfSome, is_some, pos, true};
+ghost use Rattle.vm_base.specs.Plain.{file_bytes, zeros};
+ghost use Rattle.backing.specs.Files.{files_of};
 ghost use Rattle.live_levels.specs.declared.act.Act.TheVariants.{Frame};
 ghost use Rattle.seats.specs.Notes.{CanNote};
 ghost use Rattle.machine_model.specs.Files.{back_of};
+ghost use Rattle.live_tree.specs.Held.{CanTake};
 ghost use Rattle.live_tree.specs.Shown.{shown};
+ghost use Rattle.live_pages.specs.Counts.{Begins, BeginsFrom};
 ghost use Rattle.live_pages.specs.Frames.{MayGet};
+ghost use Rattle.live_pages.specs.HeldFrames.{CanMakeWay, Copies, CountsShown, GivesOwn, IsHeld, state_in};
 ghost use Rattle.live_pages.specs.Steps.{Stays, StepsWith};
 
-use crate::beginning::{begin_bytes, begin_zeros};
-use crate::frames_held::lock_these;
-use crate::pieces::{Pieces, number_of};
+use crate::beginning::{begin_page, begin_zeros};
+use crate::frames_held::{FramesHeld, Place, lock_frame, lock_these};
+use crate::pieces::{CoreState, Pieces, number_of};
 use crate::settling::place_of;
+use backing::{CachedFrame, Objects};
 use live_levels::act::Act;
 use live_levels::level::Stepper;
 use live_tree::held::Held;
@@ -23,10 +29,10 @@ use std::sync::Wait;
 use vm_base::{Access, Back};
 
 /// The page, which is held, gets its frame, by what backs it and by the access: one step, under the
-/// locks of its file page, of the core and of the frames. The frame `own` is one that the call took,
-/// if it took one; where another one caches the page's file page, `own` is given back. Answers the
-/// page's frame; `None`, and then nothing was noted and the slots stay, where a frame is missing or
-/// a count can't be taken, which never comes.
+/// locks of its file page, of the core and of the frames. The frame `own` is one that the call
+/// took, if it took one; where another one caches the page's file page, `own` is given back.
+/// Answers the page's frame; `None`, and then nothing was noted and the slots stay, where a frame
+/// is missing or a count can't be taken, which never comes.
 pub fn fill<R: Wait, A: Allocator + Clone>(
     rt: &R,
     pieces: &Pieces<'_, A>,
@@ -67,17 +73,33 @@ fn fill_zeros<R: Wait, A: Allocator + Clone>(
     let Some(number) = own else {
         return None;
     };
-    let Some(place) = pieces.frames.get(number as usize) else {
+    let Some(mut place) = lock_frame(rt, pieces.frames, number) else {
         return None;
     };
-    let mut frame = place.lock(rt);
+    let number = place.number;
     if !held.can_take(Act::Frame(number)) {
         return None;
     }
-    let ticket = seat.step();
-    begin_zeros(&mut frame);
-    held.change_each(ticket, Act::Frame(number));
+    give_zeros(&mut place, seat, held);
     Some(number)
+}
+
+// The step: the locked frame gets zeros and is counted once, it is noted, and the held page gets
+// the frame.
+fn give_zeros<A: Allocator + Clone>(
+    place: &mut Place<'_, A>,
+    seat: &mut Seat<A>,
+    held: &mut Held<'_, A>,
+)
+    requires step { CanNote seat.old }
+    requires each { All (CanTake (Frame place.old.number)) held.old.slots }
+    ensures step { StepsWith (Frame place.old.number) seat.old held.old seat.new held.new }
+    ensures number { place.new.number ≡ place.old.number }
+    ensures frame { Begins zeros 1 (state_in place.old) (state_in place.new) }
+{
+    let ticket = seat.step();
+    begin_zeros(&mut place.frame);
+    held.change_each(ticket, Act::Frame(place.number));
 }
 
 // The page shows its file page, by the frame that caches it, or else by the one that the call took,
@@ -100,15 +122,9 @@ fn show<R: Wait, A: Allocator + Clone>(
         return None;
     };
     let mut cached = place.lock(rt);
-    if let Some(shown) = cached.get() {
-        return share(rt, pieces, seat, held, own, shown);
-    }
-    match fill_bytes(rt, pieces, seat, held, own, file, page, 2) {
-        Some(number) => {
-            cached.set(number);
-            Some(number)
-        }
-        None => None,
+    match cached.get() {
+        Some(shown) => share(rt, pieces, seat, held, own, shown),
+        None => cache(rt, pieces, seat, held, own, &mut cached, file, page),
     }
 }
 
@@ -134,12 +150,12 @@ fn fill_copy<R: Wait, A: Allocator + Clone>(
     let cached = place.lock(rt);
     match cached.get() {
         Some(shown) => copy_shown(rt, pieces, seat, held, own, shown),
-        None => fill_bytes(rt, pieces, seat, held, own, file, page, 1),
+        None => fill_bytes(rt, pieces, seat, held, own, file, page),
     }
 }
 
-// The page gets the frame that the call took, with the file's own bytes and counted so often. The
-// file page is locked, and no frame caches it.
+// The page gets the frame that the call took, with the file's own bytes. The file page is locked,
+// and no frame caches it.
 fn fill_bytes<R: Wait, A: Allocator + Clone>(
     rt: &R,
     pieces: &Pieces<'_, A>,
@@ -148,33 +164,125 @@ fn fill_bytes<R: Wait, A: Allocator + Clone>(
     own: Option<u32>,
     file: u32,
     page: u64,
-    count: u64,
 ) -> Option<u32>
     requires step { CanNote seat.old }
-    requires count { count ≤ 2 ^ 40 }
     ensures some { IfSome result (λ f. StepsWith (Frame f) seat.old held.old seat.new held.new) }
     ensures own { IfSome result (λ f. own ≡ Some f) }
     ensures none { result ≡ None → Stays seat.old held.old seat.new held.new }
 {
-    let Some(number) = own else {
+    let Some(mut place) = lock_own(rt, pieces, held, own, file, page) else {
         return None;
     };
-    if pieces.objects.is_past_end(file, page) || !held.can_take(Act::Frame(number)) {
-        return None;
-    }
-    let Some(place) = pieces.frames.get(number as usize) else {
-        return None;
-    };
-    let bytes = pieces.objects.first_bytes(file, page);
-    let mut frame = place.lock(rt);
-    let ticket = seat.step();
-    begin_bytes(&mut frame, bytes, count);
-    held.change_each(ticket, Act::Frame(number));
+    let number = place.number;
+    give_bytes(&mut place, pieces.objects, seat, held, file, page);
     Some(number)
 }
 
-// The page gets the frame that the call took, with the bytes of the frame that caches its file page,
-// which is locked.
+// The same, and the frame caches the file page from then on.
+fn cache<R: Wait, A: Allocator + Clone>(
+    rt: &R,
+    pieces: &Pieces<'_, A>,
+    seat: &mut Seat<A>,
+    held: &mut Held<'_, A>,
+    own: Option<u32>,
+    cached: &mut CachedFrame,
+    file: u32,
+    page: u64,
+) -> Option<u32>
+    requires step { CanNote seat.old }
+    requires new { cached.old ≡ None }
+    ensures some { IfSome result (λ f. StepsWith (Frame f) seat.old held.old seat.new held.new) }
+    ensures own { IfSome result (λ f. own ≡ Some f) }
+    ensures cached { cached.new ≡ result }
+    ensures none { result ≡ None → Stays seat.old held.old seat.new held.new }
+{
+    let Some(mut place) = lock_own(rt, pieces, held, own, file, page) else {
+        return None;
+    };
+    let number = place.number;
+    give_cached(&mut place, cached, pieces.objects, seat, held, file, page);
+    Some(number)
+}
+
+// The frame that the call took, which is locked. None where it took none, the file doesn't have the
+// page, or the held page can't take the frame.
+fn lock_own<'a, R: Wait, A: Allocator + Clone>(
+    rt: &R,
+    pieces: &Pieces<'a, A>,
+    held: &Held<'_, A>,
+    own: Option<u32>,
+    file: u32,
+    page: u64,
+) -> Option<Place<'a, A>>
+    ensures own { IfSome result (λ p. own ≡ Some p.number) }
+    ensures each { IfSome result (λ p. All (CanTake (Frame p.number)) held.now.slots) }
+    ensures page { IfSome result
+        (λ p. is_some (file_bytes (files_of pieces.now.objects.now file) page) ≡ true) }
+{
+    let Some(number) = own else {
+        return None;
+    };
+    if pieces.objects.is_past_end(file, page) {
+        return None;
+    }
+    let Some(place) = lock_frame(rt, pieces.frames, number) else {
+        return None;
+    };
+    if !held.can_take(Act::Frame(place.number)) {
+        return None;
+    }
+    Some(place)
+}
+
+// The step: the locked frame gets the file's own bytes of the page and is counted once, it is
+// noted, and the held page gets the frame.
+fn give_bytes<A: Allocator + Clone>(
+    place: &mut Place<'_, A>,
+    objects: &Objects<A>,
+    seat: &mut Seat<A>,
+    held: &mut Held<'_, A>,
+    file: u32,
+    page: u64,
+)
+    requires step { CanNote seat.old }
+    requires each { All (CanTake (Frame place.old.number)) held.old.slots }
+    requires page { is_some (file_bytes (files_of objects.now file) page) ≡ true }
+    ensures step { StepsWith (Frame place.old.number) seat.old held.old seat.new held.new }
+    ensures number { place.new.number ≡ place.old.number }
+    ensures frame { BeginsFrom (files_of objects.now) file page 1 (state_in place.old) (state_in place.new) }
+{
+    let ticket = seat.step();
+    begin_page(&mut place.frame, objects, file, page, 1);
+    held.change_each(ticket, Act::Frame(place.number));
+}
+
+// The same with a frame that caches the file page from then on, and so is counted twice.
+fn give_cached<A: Allocator + Clone>(
+    place: &mut Place<'_, A>,
+    cached: &mut CachedFrame,
+    objects: &Objects<A>,
+    seat: &mut Seat<A>,
+    held: &mut Held<'_, A>,
+    file: u32,
+    page: u64,
+)
+    requires step { CanNote seat.old }
+    requires each { All (CanTake (Frame place.old.number)) held.old.slots }
+    requires page { is_some (file_bytes (files_of objects.now file) page) ≡ true }
+    requires new { cached.old ≡ None }
+    ensures step { StepsWith (Frame place.old.number) seat.old held.old seat.new held.new }
+    ensures number { place.new.number ≡ place.old.number }
+    ensures frame { BeginsFrom (files_of objects.now) file page 2 (state_in place.old) (state_in place.new) }
+    ensures cached { cached.new ≡ Some place.old.number }
+{
+    let ticket = seat.step();
+    begin_page(&mut place.frame, objects, file, page, 2);
+    cached.set(place.number);
+    held.change_each(ticket, Act::Frame(place.number));
+}
+
+// The page gets the frame that the call took, with the bytes of the frame that caches its file
+// page, which is locked.
 fn copy_shown<R: Wait, A: Allocator + Clone>(
     rt: &R,
     pieces: &Pieces<'_, A>,
@@ -191,20 +299,40 @@ fn copy_shown<R: Wait, A: Allocator + Clone>(
     let Some(number) = own else {
         return None;
     };
-    if !held.can_take(Act::Frame(number)) {
+    if number == shown || !held.can_take(Act::Frame(number)) {
         return None;
     }
-    let Some(mut frames) = lock_these(rt, pieces, &[own, Some(shown)]) else {
+    let Some(mut frames) = lock_these(rt, pieces, &[Some(number), Some(shown)]) else {
         return None;
     };
-    let ticket = seat.step();
-    let _is_copied = frames.copy(shown, number);
-    held.change_each(ticket, Act::Frame(number));
+    give_copy(&mut frames, seat, held, shown, number);
     Some(number)
 }
 
-// The page shows the frame that caches its file page, which is locked, and is counted there; a frame
-// that the call took goes back.
+// The step: a locked frame gets the bytes of another one and is counted once, it is noted, and the
+// held page gets the frame.
+fn give_copy<A: Allocator + Clone>(
+    frames: &mut FramesHeld<'_, A>,
+    seat: &mut Seat<A>,
+    held: &mut Held<'_, A>,
+    from: u32,
+    to: u32,
+)
+    requires step { CanNote seat.old }
+    requires each { All (CanTake (Frame to)) held.old.slots }
+    requires source { IsHeld from frames.old }
+    requires target { IsHeld to frames.old }
+    requires other { from ≢ to }
+    ensures step { StepsWith (Frame to) seat.old held.old seat.new held.new }
+    ensures frames { Copies from to frames.old frames.new }
+{
+    let ticket = seat.step();
+    frames.copy(from, to);
+    held.change_each(ticket, Act::Frame(to));
+}
+
+// The page shows the frame that caches its file page, which is locked, and is counted there; a
+// frame that the call took goes back.
 fn share<R: Wait, A: Allocator + Clone>(
     rt: &R,
     pieces: &Pieces<'_, A>,
@@ -229,11 +357,49 @@ fn share<R: Wait, A: Allocator + Clone>(
         return None;
     }
     let epochs = pieces.epoch_for(rt, evicted);
-    let ticket = seat.step();
-    let _is_counted = frames.count(&mut core, shown, 1, number_of(&epochs));
-    if let Some(number) = own {
-        let _is_given = frames.give(number);
-    }
-    held.change_each(ticket, Act::Frame(shown));
+    give_shown(
+        &mut core,
+        &mut frames,
+        seat,
+        held,
+        own,
+        shown,
+        number_of(&epochs),
+    );
     Some(shown)
+}
+
+// The step: the core counts the shown frame up, and the frame that the call took, if it took one,
+// goes back; it is noted, and the held page gets the shown frame.
+fn give_shown<A: Allocator + Clone>(
+    core: &mut CoreState<A>,
+    frames: &mut FramesHeld<'_, A>,
+    seat: &mut Seat<A>,
+    held: &mut Held<'_, A>,
+    own: Option<u32>,
+    shown: u32,
+    epoch: u64,
+)
+    requires step { CanNote seat.old }
+    requires each { All (CanTake (Frame shown)) held.old.slots }
+    requires way { CanMakeWay shown (pos 1) core.old.counts frames.old }
+    requires own { IfSome own (λ number. IsHeld number frames.old) }
+    ensures step { StepsWith (Frame shown) seat.old held.old seat.new held.new }
+    ensures counts { CountsShown own shown epoch core.old.counts core.new.counts frames.old frames.new }
+    ensures rest { core.new ≡ record core.old { counts = core.new.counts } }
+{
+    let ticket = seat.step();
+    frames.count(core, shown, 1, epoch);
+    give_back(frames, own);
+    held.change_each(ticket, Act::Frame(shown));
+}
+
+// The frame of this number is given back, if there is a number.
+fn give_back<A: Allocator + Clone>(frames: &mut FramesHeld<'_, A>, own: Option<u32>)
+    requires { IfSome own (λ number. IsHeld number frames.old) }
+    ensures { GivesOwn own frames.old frames.new }
+{
+    if let Some(number) = own {
+        frames.give(number);
+    }
 }

@@ -4,9 +4,12 @@ ghost use Rattle.std.specs.Prelude.{length};
 ghost use Rattle.machine_model.specs.declared.event.Event.TheVariants.{GiveUp};
 ghost use Rattle.machine_model.specs.declared.event.Outcome.TheVariants.{Stepped};
 ghost use Rattle.seats.specs.Notes.{CanNote, noted, with_note};
+ghost use Rattle.frames.specs.Parts.{cell_bytes};
 ghost use Rattle.live_pages.specs.Frames.{IsTaken};
+ghost use Rattle.live_pages.specs.HeldFrames.{IsGiven, frame_at};
 ghost use Rattle.live_pages.specs.Steps.{Takes, Wants};
 
+use crate::frames_held::{Place, lock_frame};
 use crate::pieces::{FrameState, Pieces};
 use live_levels::level::Stepper;
 use machine_model::{Event, Outcome};
@@ -121,6 +124,7 @@ fn take_free<A: Allocator>(frame: &mut FrameState<A>, seat: &mut Seat<A>, number
     ensures taken { result ≡ true → Takes seat.old number seat.new }
     ensures not { result ≡ false → seat.new ≡ seat.old }
     ensures free { frame.new.cell.is_free ≡ false }
+    ensures rest { (cell_bytes frame.new.cell ≡ cell_bytes frame.old.cell) × (frame.new.count ≡ frame.old.count) }
 {
     if !frame.cell.is_free() {
         return false;
@@ -253,14 +257,21 @@ pub fn give_up_with<R: Wait, A: Allocator + Clone>(
     ensures { (ticket : ℕ) × (seat.new
         ≡ with_note seat.old (noted ticket (GiveUp seat.old.core) Stepped)) }
 {
-    match pieces.frames.get(own as usize) {
-        Some(place) => {
-            let mut frame = place.lock(rt);
-            let _ticket = seat.note(Event::GiveUp(seat.core()), Outcome::Stepped);
-            frame.cell.give();
-        }
+    match lock_frame(rt, pieces.frames, own) {
+        Some(mut place) => give_up_in(&mut place, seat),
         None => {
             let _ticket = seat.note(Event::GiveUp(seat.core()), Outcome::Stepped);
         }
     }
+}
+
+// The step: the locked frame is free again, and it is noted that the call is given up.
+fn give_up_in<A: Allocator>(place: &mut Place<'_, A>, seat: &mut Seat<A>)
+    requires { CanNote seat.old }
+    ensures noted { (ticket : ℕ) × (seat.new
+        ≡ with_note seat.old (noted ticket (GiveUp seat.old.core) Stepped)) }
+    ensures frame { IsGiven (frame_at place.old) (frame_at place.new) }
+{
+    let _ticket = seat.note(Event::GiveUp(seat.core()), Outcome::Stepped);
+    place.frame.cell.give();
 }

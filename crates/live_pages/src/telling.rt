@@ -1,54 +1,76 @@
 //! Cores that are told to drop their translations of a range, and their takes.
-ghost use Rattle.std.specs.Prelude.{◌≡◌, ◌+◌, ◌*◌, ◌≤◌, cond, IfSome};
+ghost use Rattle.std.specs.Prelude.{◌≡◌, ◌+◌, ◌*◌, ◌≤◌, [], ◌∷◌, ◌++◌, ℕ, cond, false, map, true, All, Some};
+ghost use Rattle.std.specs.Prelude.{IfSome, IsSome, IsTrue, is_some};
 ghost use Rattle.vm_base.specs.Cores.{members};
+ghost use Rattle.vm_base.specs.Pages.{are_pages};
+ghost use Rattle.machine_model.specs.Translating.{after_shot};
+ghost use Rattle.machine_model.specs.declared.event.Event.TheVariants.{Take};
+ghost use Rattle.machine_model.specs.declared.event.Outcome.TheVariants.{Stepped};
+ghost use Rattle.shootdown.specs.Messages.{asked, message_of, oldest_of};
+ghost use Rattle.live_pages.specs.OneCore.{after_on, after_take, one_core};
+ghost use Rattle.live_pages.specs.Posting.{AreLocked, CanBeTold, LocksCore, core_of, inbox_of, number_of, told};
 ghost use Rattle.live_pages.specs.Targets.{count_below};
-ghost use Rattle.live_pages.specs.Posting.{telling_view};
 ghost use Rattle.seats.specs.Growing.{Grew, Steps};
-ghost use Rattle.seats.specs.Notes.{CanNote};
+ghost use Rattle.seats.specs.Notes.{CanNote, noted, with_note};
 
 use crate::pieces::CoreState;
 use crossbeam_utils::CachePadded;
 use live_levels::level::Stepper;
 use machine_model::{Event, Outcome};
-use mmu::Hardware;
+use mmu::{Cpu, Hardware};
 use seats::Seat;
-use shootdown::Took;
+use shootdown::{Inbox, Took};
 use smallvec::SmallVec;
 use std::alloc::Allocator;
 use std::marker::Model;
 use std::sync::{Mutex, MutexGuard, Wait};
 use vm_base::{CoreId, CoreSet, PageRange};
 
-/// How many takes of a core may come before it has acknowledged a message: two of each message of its
-/// inbox.
+/// How many takes of a core may come before it has acknowledged a message: two of each message of
+/// its inbox.
 pub const TAKES: usize = 126;
 
 /// Cores are numbered below this.
 const CORES: u8 = 64;
 
-// The cores that one step holds, ascending.
-type CoreGuards<'a, A> = SmallVec<Option<MutexGuard<'a, CoreState<A>>>, 8, &'a A>;
+// A locked core, with its number.
+#[derive(Drop)]
+pub(crate) struct LockedCore<'a, A: Allocator + Clone> {
+    number: CoreId,
+    state: MutexGuard<'a, CoreState<A>>,
+}
 
-/// Cores that are locked, ascending, to be told by one of them to drop their translations of a range. Each is there, and
-/// none has a message of that one, so that all of them can be told.
+// The cores that one step holds, ascending. Each is there.
+type Places<'a, A> = SmallVec<Option<LockedCore<'a, A>>, 8, &'a A>;
+
+/// The cores of a set, which are locked to be told by one of them to drop their translations of a
+/// range. Just those are locked, each under its own number, and none has a message of that one, so
+/// that all of them can be told.
 #[derive(Drop)]
 pub struct Telling<'a, A: Allocator + Clone> {
-    guards: CoreGuards<'a, A>,
+    places: Places<'a, A>,
     core: CoreId,
+    set: CoreSet,
     range: PageRange,
 }
 
 impl<'a, A: Allocator + Clone> Model for Telling<'a, A> {
-    ghost use Rattle.live_pages.specs.Posting.{TellingView, telling_view};
+    ghost use Rattle.std.specs.Prelude.{◌≡◌, true};
+    ghost use Rattle.vm_base.specs.Pages.{are_pages};
+    ghost use Rattle.live_pages.specs.Posting.{AreLocked, TellingView};
 
     ghost Value = { TellingView };
 
-    ghost view = { λ t. telling_view t.core t.range };
+    ghost view = { λ t. record { core = t.core; set = t.set; range = t.range } };
+
+    ghost invariant = { λ t. AreLocked t.core t.set 64 t.places.items × (are_pages t.range ≡ true) };
 }
 
 impl<'a, A: Allocator + Clone> Telling<'a, A> {
-    /// Locks the core and each other one of the set. None where one isn't there or can't be told, or
-    /// memory is wanting; then nobody is told.
+    ghost use Rattle.vm_base.specs.Cores.{with_member};
+
+    /// Locks the core and each other one of the set. None where one isn't there or can't be told,
+    /// or memory is wanting; then nobody is told.
     pub fn of<R: Wait>(
         rt: &R,
         alloc: &'a A,
@@ -57,97 +79,203 @@ impl<'a, A: Allocator + Clone> Telling<'a, A> {
         set: CoreSet,
         range: PageRange,
     ) -> Option<Telling<'a, A>>
-        ensures { IfSome result (λ telling. telling ≡ telling_view core range) }
+        ensures { IfSome result (λ telling. telling
+            ≡ record { core = core; set = with_member set core; range = range }) }
     {
-        let mut guards: CoreGuards<'a, A> = SmallVec::new(alloc);
-        if !lock_set(rt, cores, &mut guards, set.with(core)) {
+        if !range.is_valid() {
             return None;
         }
-        if !range.is_valid() || !can_tell_all(&guards, core) {
+        let set = set.with(core);
+        let mut places: Places<'a, A> = SmallVec::new(alloc);
+        if !lock_set(rt, cores, &mut places, core, set) {
             return None;
         }
         Some(Telling {
-            guards,
+            places,
             core,
+            set,
             range,
         })
     }
 
-    /// The core drops its own translations of the range, and each other one is told to drop its own:
-    /// one step, under the locks of all of them. Answers its ticket.
+    /// The core drops its own translations of the range, and each other one is told to drop its
+    /// own: one step, under the locks of all of them. Answers its ticket.
     pub fn post(self, seat: &mut Seat<A>) -> u64
         requires { CanNote seat.old }
         ensures { Steps seat.old result seat.new }
     {
         let Telling {
-            mut guards,
+            mut places,
             core,
             range,
+            ..
         } = self;
-        let ticket = seat.step();
-        'cores: for guard in guards.as_mut_slice().iter_mut() {
-            tell(guard, core, range);
-        }
-        ticket
+        post_to(&mut places, seat, core, range)
     }
 }
 
-// Locks the cores of the set, ascending, and tells whether all of them are there.
+// Locks the cores of the set, ascending. False where one of them isn't there or can't be told by
+// the core, or memory is wanting.
 fn lock_set<'a, R: Wait, A: Allocator + Clone>(
     rt: &R,
     cores: &'a [CachePadded<Mutex<CoreState<A>>>],
-    guards: &mut CoreGuards<'a, A>,
+    places: &mut Places<'a, A>,
+    core: CoreId,
     set: CoreSet,
-) -> bool {
-    let mut rest = set;
-    'cores: for _turn in 0..64u8 {
-        let Some(core) = rest.first() else {
-            return true;
-        };
-        let Some(place) = cores.get(core.index() as usize) else {
-            return false;
-        };
-        if guards.push(Some(place.lock(rt))).is_err() {
-            return false;
-        }
-        rest = rest.without(core);
-    }
-    rest.first().is_none()
-}
-
-// Tells whether each of them has no message of the core.
-fn can_tell_all<A: Allocator + Clone>(guards: &CoreGuards<'_, A>, core: CoreId) -> bool {
-    'cores: for guard in guards.as_slice() {
-        if let Some(state) = guard
-            && state.inbox.has_of(core)
-        {
+) -> bool
+    requires { places.old.items ≡ [] }
+    ensures { result ≡ true → AreLocked core set 64 places.new.items }
+{
+    'cores: for index in 0..CORES {
+        if !lock_member(rt, cores, places, core, set, CoreId::new(index)) {
             return false;
         }
     }
     true
 }
 
-fn tell<A: Allocator + Clone>(
-    guard: &mut Option<MutexGuard<'_, CoreState<A>>>,
+// Locks the core of that number, where it is in the set.
+fn lock_member<'a, R: Wait, A: Allocator + Clone>(
+    rt: &R,
+    cores: &'a [CachePadded<Mutex<CoreState<A>>>],
+    places: &mut Places<'a, A>,
+    core: CoreId,
+    set: CoreSet,
+    number: CoreId,
+) -> bool
+    ensures member { result ≡ true → members set number ≡ true
+        → LocksCore core number places.old.items places.new.items }
+    ensures other { members set number ≡ false → places.new ≡ places.old }
+{
+    if !set.contains(number) {
+        return true;
+    }
+    lock_core(rt, cores, places, core, number)
+}
+
+// Locks the core of that number. False where it isn't there or can't be told by the other one, or
+// memory is wanting.
+fn lock_core<'a, R: Wait, A: Allocator + Clone>(
+    rt: &R,
+    cores: &'a [CachePadded<Mutex<CoreState<A>>>],
+    places: &mut Places<'a, A>,
+    core: CoreId,
+    number: CoreId,
+) -> bool
+    ensures { result ≡ true → LocksCore core number places.old.items places.new.items }
+{
+    let Some(place) = cores.get(number.index() as usize) else {
+        return false;
+    };
+    let state = place.lock(rt);
+    if !can_be_told(&state.inbox, core, number) {
+        return false;
+    }
+    push(places, number, state)
+}
+
+// One locked core more. False where memory is wanting.
+fn push<'a, A: Allocator + Clone>(
+    places: &mut Places<'a, A>,
+    number: CoreId,
+    state: MutexGuard<'a, CoreState<A>>,
+) -> bool
+    ensures { result ≡ true → places.new.items
+        ≡ places.old.items ++ Some (record { number = number; state = state.entry }) ∷ [] }
+{
+    places.push(Some(LockedCore { number, state })).is_ok()
+}
+
+// Tells whether the inbox is that of the core of that number, and has no message of the core.
+fn can_be_told(inbox: &Inbox, core: CoreId, number: CoreId) -> bool
+    ensures { result ≡ true → CanBeTold core (record { number = number; inbox = inbox.now }) }
+{
+    inbox.core().index() == number.index() && !inbox.has_of(core)
+}
+
+// The step of a post: it is noted, and each locked core drops its translations of the range or is
+// told to.
+fn post_to<'a, A: Allocator + Clone>(
+    places: &mut Places<'a, A>,
+    seat: &mut Seat<A>,
     core: CoreId,
     range: PageRange,
-) {
-    if let Some(state) = guard {
-        tell_one(state, core, range);
+) -> u64
+    requires step { CanNote seat.old }
+    requires some { All IsSome places.old.items }
+    requires ready { All (λ p. CanBeTold core (inbox_of p)) places.old.items }
+    requires pages { are_pages range ≡ true }
+    ensures step { Steps seat.old result seat.new }
+    ensures told { (set : ℕ) → All (λ p. members set (number_of p) ≡ true) places.old.items
+        → map (core_of ⟦<Cpu<A> as Hardware>⟧.table ⟦<Cpu<A> as Hardware>⟧.tlb) places.new.items
+        ≡ map (told core set range)
+        (map (core_of ⟦<Cpu<A> as Hardware>⟧.table ⟦<Cpu<A> as Hardware>⟧.tlb) places.old.items) }
+{
+    let ticket = seat.step();
+    'places: for place in places.as_mut_slice().iter_mut() {
+        tell(place, core, range);
+    }
+    ticket
+}
+
+// The locked core, which is there, drops its translations of the range or is told to.
+fn tell<A: Allocator + Clone>(place: &mut Option<LockedCore<'_, A>>, core: CoreId, range: PageRange)
+    requires some { IsSome place.old }
+    requires ready { CanBeTold core (inbox_of place.old) }
+    requires pages { are_pages range ≡ true }
+    ensures some { IsSome place.new }
+    ensures told { (set : ℕ) → members set (number_of place.old) ≡ true
+        → core_of ⟦<Cpu<A> as Hardware>⟧.table ⟦<Cpu<A> as Hardware>⟧.tlb place.new
+        ≡ told core set range (core_of ⟦<Cpu<A> as Hardware>⟧.table ⟦<Cpu<A> as Hardware>⟧.tlb place.old) }
+{
+    match place {
+        Some(place) => {
+            let number = place.number;
+            tell_one(&mut place.state, number, core, range);
+        }
+        None => unreachable!(),
     }
 }
 
-// The core itself drops its translations; another gets a message.
-fn tell_one<A: Allocator + Clone>(state: &mut CoreState<A>, core: CoreId, range: PageRange) {
-    if state.inbox.core().index() == core.index() {
-        if range.is_valid() {
-            state.cpu.clear_tables(range);
-        }
-        state.cpu.invalidate(range);
-        return;
-    }
-    if !state.inbox.has_of(core) {
-        state.inbox.post(core, range);
+// The same of a core by itself, which has this number.
+fn tell_one<A: Allocator + Clone>(
+    state: &mut CoreState<A>,
+    number: CoreId,
+    core: CoreId,
+    range: PageRange,
+)
+    requires ready { CanBeTold core (record { number = number; inbox = state.old.inbox }) }
+    requires pages { are_pages range ≡ true }
+    ensures told { (set : ℕ) → members set number ≡ true
+        → one_core (⟦<Cpu<A> as Hardware>⟧.table state.new.cpu)
+        (⟦<Cpu<A> as Hardware>⟧.tlb state.new.cpu) state.new.inbox
+        ≡ after_on number (λ h. after_shot h core set range)
+        (one_core (⟦<Cpu<A> as Hardware>⟧.table state.old.cpu)
+        (⟦<Cpu<A> as Hardware>⟧.tlb state.old.cpu) state.old.inbox) }
+    ensures counts { state.new.counts ≡ state.old.counts }
+{
+    tell_core(&mut state.cpu, &mut state.inbox, number, core, range);
+}
+
+// The core that posts drops its translations of the range; another one gets its message.
+fn tell_core<H: Hardware>(
+    cpu: &mut H,
+    inbox: &mut Inbox,
+    number: CoreId,
+    core: CoreId,
+    range: PageRange,
+)
+    requires ready { CanBeTold core (record { number = number; inbox = inbox.old }) }
+    requires pages { are_pages range ≡ true }
+    ensures { (set : ℕ) → members set number ≡ true → one_core (H.table cpu.new) (H.tlb cpu.new) inbox.new
+        ≡ after_on number (λ h. after_shot h core set range)
+        (one_core (H.table cpu.old) (H.tlb cpu.old) inbox.old) }
+{
+    if number.index() == core.index() {
+        cpu.clear_tables(range);
+        cpu.invalidate(range);
+    } else {
+        inbox.post(core, range);
     }
 }
 
@@ -205,7 +333,6 @@ fn take_of<R: Wait, A: Allocator + Clone>(
 
 /// The takes of a target, under its lock, until it has acknowledged the core's message. Each is a
 /// step of its own.
-#[tactic(auto, using(seats::proofs::Growing::grew_trans))]
 pub(crate) fn take_until_told<R: Wait, A: Allocator + Clone>(
     rt: &R,
     place: &CachePadded<Mutex<CoreState<A>>>,
@@ -216,31 +343,63 @@ pub(crate) fn take_until_told<R: Wait, A: Allocator + Clone>(
     ensures grew { Grew seat.old seat.new }
     ensures room { seat.old.room ≤ seat.new.room + 126 }
 {
-    let core = seat.core();
     let mut state = place.lock(rt);
+    take_each(&mut state, seat, target);
+}
+
+// The takes of a target, which is locked.
+#[tactic(auto, using(seats::proofs::Growing::grew_trans, seats::proofs::Growing::grew_note))]
+fn take_each<A: Allocator + Clone>(state: &mut CoreState<A>, seat: &mut Seat<A>, target: CoreId)
+    requires room { 126 ≤ seat.old.room }
+    ensures grew { Grew seat.old seat.new }
+    ensures room { seat.old.room ≤ seat.new.room + 126 }
+{
+    let core = seat.core();
     'takes: for _turn in 0..TAKES {
-        if !state.inbox.has_of(core) || state.inbox.oldest().is_none() {
+        if !is_awaited(&state.inbox, core) {
             return;
         }
-        take_one(&mut state, seat, target);
+        take_one(state, seat, target);
     }
 }
 
-// One take of the target.
-#[tactic(auto, using(seats::proofs::Growing::grew_note))]
+// Tells whether a message of the core is there, and the oldest one is of pages.
+fn is_awaited(inbox: &Inbox, core: CoreId) -> bool
+    ensures awaited { IsTrue result → is_some (message_of inbox.now.messages core) ≡ true }
+    ensures oldest { IsTrue result → IfSome (oldest_of inbox.now.messages) (λ m. are_pages m.range ≡ true) }
+{
+    match inbox.oldest() {
+        Some(message) => inbox.has_of(core) && message.range.is_valid(),
+        None => false,
+    }
+}
+
+// One take of the target: it is noted, and the target acts on its oldest message.
 fn take_one<A: Allocator + Clone>(state: &mut CoreState<A>, seat: &mut Seat<A>, target: CoreId)
-    requires { CanNote seat.old }
-    ensures grew { Grew seat.old seat.new }
-    ensures room { seat.new.room + 1 ≡ seat.old.room }
+    requires step { CanNote seat.old }
+    requires oldest { IfSome (oldest_of state.old.inbox.messages) (λ m. are_pages m.range ≡ true) }
+    ensures noted { (ticket : ℕ) × (seat.new ≡ with_note seat.old (noted ticket (Take target) Stepped)) }
+    ensures took { one_core (⟦<Cpu<A> as Hardware>⟧.table state.new.cpu)
+        (⟦<Cpu<A> as Hardware>⟧.tlb state.new.cpu) state.new.inbox ≡ after_on target (after_take target (asked state.old.inbox.messages))
+        (one_core (⟦<Cpu<A> as Hardware>⟧.table state.old.cpu)
+        (⟦<Cpu<A> as Hardware>⟧.tlb state.old.cpu) state.old.inbox) }
+    ensures counts { state.new.counts ≡ state.old.counts }
 {
     let _ticket = seat.note(Event::Take(target), Outcome::Stepped);
-    match state.inbox.take() {
-        Took::Clear(range) => {
-            if range.is_valid() {
-                state.cpu.clear_tables(range);
-            }
-        }
-        Took::Invalidate(range) => state.cpu.invalidate(range),
+    act_on_oldest(&mut state.cpu, &mut state.inbox);
+}
+
+// The core acts on its oldest message, if there is one: first its tables are cleared, then its TLB
+// is invalidated.
+fn act_on_oldest<H: Hardware>(cpu: &mut H, inbox: &mut Inbox)
+    requires { IfSome (oldest_of inbox.old.messages) (λ m. are_pages m.range ≡ true) }
+    ensures { (c : ℕ) → one_core (H.table cpu.new) (H.tlb cpu.new) inbox.new
+        ≡ after_on c (after_take c (asked inbox.old.messages))
+        (one_core (H.table cpu.old) (H.tlb cpu.old) inbox.old) }
+{
+    match inbox.take() {
+        Took::Clear(range) => cpu.clear_tables(range),
+        Took::Invalidate(range) => cpu.invalidate(range),
         Took::Idle => {}
     }
 }

@@ -1,46 +1,59 @@
 -- What certifying a script's notes comes to
-use Rattle.std.proofs.Common.{◌≡◌, ℕ, Bool, List, map, ap, ◌∙◌, subst}
-use Rattle.std.specs.Prelude.{None}
+use Rattle.std.proofs.Common.{◌≡◌, ℕ, ◌^◌, Bool, List, map, ap, ◌∙◌, subst}
+use Rattle.std.specs.Prelude.{All, None}
 use Rattle.vm_base.specs.declared.page.PageRange.{PageRange}
 use Rattle.slot_lock.specs.Slots.{Slots}
 use Rattle.live_levels.specs.declared.close.SlotHistory.{SlotHistory}
 use Rattle.core_steps.specs.declared.setup.Setup.{Setup}
 use Rattle.core_steps.specs.Setups.{fault_of, made_of}
-use Rattle.seats.specs.Notes.{SeatView}
 use Rattle.seats.specs.declared.noted.Noted.{Noted}
 use Rattle.certifier.specs.declared.result.CertifyFault.{CertifyFault}
 use Rattle.certifier.specs.declared.result.CertifyFault.TheVariants.{Setup as OfSetup, Ticket, Differs, Slot, NoMemory}
 use Rattle.certifier.specs.Following.{IsCertified, Fails}
-use Rattle.certifier.specs.Order.{all_notes}
 use Rattle.trace.specs.Declarations.{Asked, asked_fault, made_by}
 use Rattle.notes_text.specs.Verdicts.{Made}
-use Rattle.live_script.specs.Certified.{IsCertifiedRun, FailsRun}
+use Rattle.notes_text.specs.Scripts.{Scripted}
+use Rattle.notes_text.specs.declared.verdict.Verdict.{Verdict}
+use Rattle.live_levels.specs.Histories.{Chain}
+use Rattle.live_space.specs.Space.{LiveView}
+use Rattle.seats.specs.Notes.{SeatView}
+use Rattle.certifier.specs.Order.{all_notes}
+use Rattle.live_script.specs.Certified.{AreRising, IsCertifiedRun, FailsRun}
+use Rattle.live_script.specs.Runs.{RunsAll}
+use Rattle.live_script.specs.Texts.{JudgedRun, JudgesRun}
 
 module _ {A : Type 0} (parts : PageRange → ℕ → ℕ → Bool) (CanFold : Slots → ℕ → Type 0) (Folds : Slots → Slots → ℕ → Type 0)
-    (asked declared : Asked) (seats : List SeatView) (setup : Setup A) (all : List (List Noted)) (slots : List (SlotHistory A))
-    (read : declared ≡ asked) (made : made_of setup ≡ made_by declared) (same : all ≡ map (λ s. s.notes) seats) where
+    (asked declared : Asked) (setup : Setup A) (notes : List Noted) (slots : List (SlotHistory A))
+    (read : declared ≡ asked) (made : made_of setup ≡ made_by declared) where
   is_made : Made A asked
   is_made = record { setup = setup; made = made ∙ ap made_by read }
 
-  pub certified_run : (calls : ℕ) → IsCertified parts CanFold Folds setup (all_notes all) slots calls
-      → IsCertifiedRun A parts CanFold Folds asked seats calls
+  pub certified_run : (calls : ℕ) → IsCertified parts CanFold Folds setup notes slots calls
+      → IsCertifiedRun A parts CanFold Folds asked notes slots calls
   unfolding is_made
-  certified_run calls h = record {
-    made = is_made;
-    slots = slots;
-    certified = subst (λ notes. IsCertified parts CanFold Folds setup (all_notes notes) slots calls) same h;
-  }
-
-  fails_so : (fault : CertifyFault) → Fails parts CanFold Folds setup (all_notes all) slots fault
-      → Fails parts CanFold Folds setup (all_notes (map (λ s. s.notes) seats)) slots fault
-  fails_so fault h = subst (λ notes. Fails parts CanFold Folds setup (all_notes notes) slots fault) same h
+  certified_run calls h = record { made = is_made; certified = h }
 
   -- the setup has no fault
   pub failed_run : asked_fault declared ≡ None → fault_of setup ≡ None → (fault : CertifyFault)
-      → Fails parts CanFold Folds setup (all_notes all) slots fault → FailsRun A parts CanFold Folds asked seats fault
+      → Fails parts CanFold Folds setup notes slots fault → FailsRun A parts CanFold Folds asked notes slots fault
   unfolding is_made
   failed_run sound none (OfSetup f) h = absurd (cc)
-  failed_run sound none (Ticket t) h = (is_made, slots, fails_so (Ticket t) h)
-  failed_run sound none (Differs t noted expected) h = (is_made, slots, fails_so (Differs t noted expected) h)
-  failed_run sound none (Slot page) h = (is_made, slots, fails_so (Slot page) h)
+  failed_run sound none (Ticket t) h = (is_made, h)
+  failed_run sound none (Differs t noted expected) h = (is_made, h)
+  failed_run sound none (Slot page) h = (is_made, h)
   failed_run sound none NoMemory h = subst (λ a. asked_fault a ≡ None) read sound
+
+-- what certifying what a script's seats noted beside histories of all pages comes to
+pub judged_run : {A : Type 0} (parts : PageRange → ℕ → ℕ → Bool) (CanFold : Slots → ℕ → Type 0) (Folds : Slots → Slots → ℕ → Type 0) (script : Scripted)
+    (live : LiveView) (seats : List SeatView) (slots : List (SlotHistory A)) (all : List (List Noted)) (verdict : Verdict) → RunsAll script live seats
+    → ∥ Chain 0 (2 ^ 36) slots ∥₁ → all ≡ map (λ s. s.notes) seats → All AreRising all → JudgesRun A parts CanFold Folds script.asked (all_notes all) slots verdict
+    → JudgedRun A parts CanFold Folds script verdict
+judged_run {A} parts CanFold Folds script live seats slots all verdict runs chain same rising h = record {
+  live = live;
+  seats = seats;
+  runs = runs;
+  rising = subst (λ l. All AreRising l) same rising;
+  slots = slots;
+  all_pages = chain;
+  judges = subst (λ ls. JudgesRun A parts CanFold Folds script.asked (all_notes ls) slots verdict) same h;
+}

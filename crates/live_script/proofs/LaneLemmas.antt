@@ -1,7 +1,8 @@
 -- What lanes come to, all together
 use Rattle.std.proofs.Common.{◌≡◌, ℕ, zero, suc, ◌/◌, ◌<◌, List, [], ◌∷◌, ◌++◌, length, map, take, drop, get_or, append-nil}
 use Rattle.std.proofs.Common.{arith, refl, sym, ap, ◌∙◌, subst}
-use Rattle.std.proofs.lemmas.List.{drop_all, get_or-map, length-map, take_all}
+use Rattle.std.proofs.lemmas.List.{drop_all, get_or-map, length-map, map-append, take_all}
+use Rattle.std.proofs.lemmas.List.Elements.{All-append}
 use Rattle.std.specs.Prelude.{All, Option, None, Some}
 use Rattle.core_steps.specs.declared.setup.Setup.{Setup}
 use Rattle.core_steps.specs.Setups.{made_of}
@@ -14,6 +15,7 @@ use Rattle.live_space.specs.declared.fault.LiveFault.{LiveFault}
 use Rattle.trace.specs.Declarations.{Asked, asked_fault, made_by}
 use Rattle.notes_text.specs.Scripts.{Scripted}
 use Rattle.live_script.specs.declared.lane.Lane.{Lane}
+use Rattle.live_script.specs.Certified.{AreRising}
 use Rattle.live_script.specs.Tasks.{EndsAs}
 use Rattle.live_script.specs.Runs.{EndEach, HasDone, HasStopped, IsBegun, IsLeastStop, RanView, RunsAll, first_fault}
 
@@ -210,3 +212,18 @@ pub notes_in_ran : {A X : Type 0} (f : X → List Noted) (ran : RanView) (l : Li
     → ran_of l items ≡ ran → lanes ≡ items → given ≡ all → map f all ≡ map (λ lane. lane.seat.notes) lanes → map f given ≡ map (λ s. s.notes) ran.seats
 notes_in_ran f ran l items lanes given all view same are e =
     ap (map f) are ∙ e ∙ ap (λ ls. map (λ lane. lane.seat.notes) ls) same ∙ notes_of_seats items ∙ ap (λ (r : RanView). map (λ s. s.notes) r.seats) view
+
+-- of a space that ended
+pub notes_in_ended : {A X : Type 0} (f : X → List Noted) (seats : List SeatView) (lanes : List (Lane A)) (given all : List X)
+    → map (λ lane. lane.seat) lanes ≡ seats → given ≡ all → map f all ≡ map (λ lane. lane.seat.notes) lanes → map f given ≡ map (λ s. s.notes) seats
+notes_in_ended f seats lanes given all same are e = ap (map f) are ∙ e ∙ notes_of_seats lanes ∙ ap (map (λ s. s.notes)) same
+
+-- with the notes of one seat more
+pub rising_more : {X : Type 0} (f : X → List Noted) (new all : List X) (x : X) → new ≡ all ++ x ∷ [] → All AreRising (map f all) → AreRising (f x)
+    → All AreRising (map f new)
+rising_more f new all x is rising one =
+    subst (λ ls. All AreRising ls) (sym (ap (map f) is ∙ map-append f all (x ∷ []))) (All-append AreRising (map f all) (f x ∷ []) rising last)
+  where
+    last : All AreRising (f x ∷ [])
+    last zero d lt = one
+    last (suc k) d lt = absurd (omega arith)

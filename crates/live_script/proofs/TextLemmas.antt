@@ -1,6 +1,7 @@
 -- What is written of a script's text
 use Rattle.std.proofs.Common.{◌≡◌, ◌⊎◌, inl, inr, ℕ, Bool, List, Option, Some, None, Result, Ok, Err, refl, sym, ap, ◌∙◌, subst, map, Bor}
 use Rattle.std.specs.Io.KnownBytes.{Keeps, Appends}
+use Rattle.std.specs.Prelude.{All}
 use Rattle.trace_io.specs.Sink.{AppendsFront}
 use Rattle.vm_base.specs.declared.page.PageRange.{PageRange}
 use Rattle.slot_lock.specs.Slots.{Slots}
@@ -18,7 +19,7 @@ use Rattle.notes_text.specs.WriteEnds.{Writes}
 use Rattle.notes_text.specs.Written.{notes_text}
 use Rattle.notes_text.specs.declared.verdict.Verdict.{Verdict}
 use Rattle.notes_text.proofs.CollectLemmas.{stops_own}
-use Rattle.live_script.specs.Certified.{notes_in}
+use Rattle.live_script.specs.Certified.{AreRising, notes_in}
 use Rattle.live_script.specs.Runs.{Fails, RunsAll}
 use Rattle.live_script.specs.Texts.{Ceases, unrun, unwritten, EndsText, IsNotesText, IsVerdictText, JudgedRun, Yields, fault_of_run}
 use Rattle.live_script.specs.declared.fault.RunFault.{RunFault}
@@ -50,15 +51,16 @@ same_notes lent all seats is same = subst (λ (l : List (Bor (List Noted))). map
 
 -- what was written of the notes is their text
 pub notes_written : {U : Type 0} (script : Scripted) (live : LiveView) (seats : List SeatView) (slices : List (List Noted)) (old new : Option (List ℕ))
-    (x : U) → RunsAll script live seats → slices ≡ map (λ s. s.notes) seats
+    (x : U) → RunsAll script live seats → slices ≡ map (λ s. s.notes) seats → All AreRising slices
     → (order : List Noted) × AreInOrder (all_notes slices) order × Appends old new (notes_text script.asked order)
     → Yields (λ script (done : U) text. IsNotesText script text) script old new (Ok x)
-notes_written script live seats slices old new x runs same (order, are, app) = (
+notes_written script live seats slices old new x runs same rising (order, are, app) = (
   notes_text script.asked order,
   record {
     live = live;
     seats = seats;
     runs = runs;
+    rising = subst (λ l. All AreRising l) same rising;
     order = order;
     in_order = subst (λ l. AreInOrder (all_notes l) order) same are;
     says = refl;
@@ -68,12 +70,12 @@ notes_written script live seats slices old new x runs same (order, are, app) = (
 
 -- notes that weren't written whole
 pub notes_unwritten : {U : Type 0} (script : Scripted) (live : LiveView) (seats : List SeatView) (slices : List (List Noted)) (old new : Option (List ℕ))
-    (x : U) (f : TraceFault) → RunsAll script live seats → slices ≡ map (λ s. s.notes) seats
+    (x : U) (f : TraceFault) → RunsAll script live seats → slices ≡ map (λ s. s.notes) seats → All AreRising slices
     → ((f ≡ Of.NoMemory) × Keeps old new)
     ⊎ ((f ≡ Of.WriteFailed) × ((order : List Noted) × AreInOrder (all_notes slices) order × AppendsFront old new (notes_text script.asked order)))
     → Ceases (λ script (done : U) text. IsNotesText script text) script old new (Text f)
-notes_unwritten script live seats slices old new x f runs same (inl (is, keeps)) = unrun NoMemory runs.declared.sound (ap Text is) keeps
-notes_unwritten script live seats slices old new x f runs same (inr (is, (order, are, front))) =
+notes_unwritten script live seats slices old new x f runs same rising (inl (is, keeps)) = unrun NoMemory runs.declared.sound (ap Text is) keeps
+notes_unwritten script live seats slices old new x f runs same rising (inr (is, (order, are, front))) =
     let (text, given, app) = given_text in unwritten (ap Text is) x text given app
   where
     given_text : (text : List ℕ) × IsNotesText script text × AppendsFront old new text
@@ -83,6 +85,7 @@ notes_unwritten script live seats slices old new x f runs same (inr (is, (order,
         live = live;
         seats = seats;
         runs = runs;
+        rising = subst (λ l. All AreRising l) same rising;
         order = order;
         in_order = subst (λ l. AreInOrder (all_notes l) order) same are;
         says = refl;
@@ -97,3 +100,7 @@ pub verdict_given : {A : Type 0} (parts : PageRange → ℕ → ℕ → Bool) (C
     (script : Scripted) (verdict : Verdict) → JudgedRun A parts CanFold Folds script verdict
     → IsVerdictText A parts CanFold Folds script (is_certified verdict) (verdict_text verdict)
 verdict_given parts CanFold Folds script verdict judged = record { verdict = verdict; judged = judged; certified = refl; says = refl }
+
+-- and it rises as what is lent does
+pub rising_lent : (lent all : List (Bor (List Noted))) → lent ≡ all → All AreRising (map (λ s. s.now) all) → All AreRising (map (λ s. s.now) lent)
+rising_lent lent all is h = subst (λ (l : List (Bor (List Noted))). All AreRising (map (λ s. s.now) l)) (sym is) h

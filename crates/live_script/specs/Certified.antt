@@ -1,9 +1,10 @@
--- What certifying a script's notes comes to
+-- What certifying notes of a script beside histories of slots comes to
 use Rattle.std.specs.Prelude.{◌≡◌, ℕ, Bool, List, map, None, Some}
 use Rattle.vm_base.specs.declared.page.PageRange.{PageRange}
 use Rattle.slot_lock.specs.Slots.{Slots}
 use Rattle.live_levels.specs.declared.close.SlotHistory.{SlotHistory}
-use Rattle.seats.specs.Notes.{SeatView}
+use Rattle.seats.specs.Notes.{SeatView, ticket_of}
+use Rattle.seats.specs.Tickets.{Rises}
 use Rattle.seats.specs.declared.noted.Noted.{Noted}
 use Rattle.certifier.specs.declared.result.CertifyFault.{CertifyFault}
 use Rattle.certifier.specs.declared.result.CertifyFault.TheVariants.{NoMemory, Setup}
@@ -16,17 +17,19 @@ use Rattle.notes_text.specs.Verdicts.{Made}
 abbrev pub notes_in : List SeatView → List Noted
 notes_in seats = all_notes (map (λ s. s.notes) seats)
 
--- the notes are certified beside the histories of slots
-pub record IsCertifiedRun (A : Type 0) (parts : PageRange → ℕ → ℕ → Bool) (CanFold : Slots → ℕ → Type 0)
-    (Folds : Slots → Slots → ℕ → Type 0) (asked : Asked) (seats : List SeatView) (calls : ℕ) : Type 0 where
-  pub made : Made A asked
-  pub slots : List (SlotHistory A)
-  pub certified : IsCertified parts CanFold Folds made.setup (notes_in seats) slots calls
+-- their tickets rise from note to note
+abbrev pub AreRising : List Noted → Type 0
+AreRising notes = Rises (map ticket_of notes)
 
--- Why they aren't: the declaration is at fault, or memory is wanting, or as certifying says beside histories of slots.
-abbrev pub FailsRun : Type 0 → (PageRange → ℕ → ℕ → Bool) → (Slots → ℕ → Type 0) → (Slots → Slots → ℕ → Type 0)
-    → Asked → List SeatView → CertifyFault → Type 0
-FailsRun A parts CanFold Folds asked seats (Setup fault) = asked_fault asked ≡ Some fault
-FailsRun A parts CanFold Folds asked seats NoMemory = asked_fault asked ≡ None
-FailsRun A parts CanFold Folds asked seats fault = (made : Made A asked) × (slots : List (SlotHistory A))
-    × Fails parts CanFold Folds made.setup (notes_in seats) slots fault
+-- in a space as it is asked for these notes are certified beside these histories
+pub record IsCertifiedRun (A : Type 0) (parts : PageRange → ℕ → ℕ → Bool) (CanFold : Slots → ℕ → Type 0)
+    (Folds : Slots → Slots → ℕ → Type 0) (asked : Asked) (notes : List Noted) (slots : List (SlotHistory A)) (calls : ℕ) : Type 0 where
+  pub made : Made A asked
+  pub certified : IsCertified parts CanFold Folds made.setup notes slots calls
+
+-- Why they aren't: the declaration is at fault, or memory is wanting, or as certifying says.
+abbrev pub FailsRun : (A : Type 0) → (PageRange → ℕ → ℕ → Bool) → (Slots → ℕ → Type 0) → (Slots → Slots → ℕ → Type 0)
+    → Asked → List Noted → List (SlotHistory A) → CertifyFault → Type 0
+FailsRun A parts CanFold Folds asked notes slots (Setup fault) = asked_fault asked ≡ Some fault
+FailsRun A parts CanFold Folds asked notes slots NoMemory = asked_fault asked ≡ None
+FailsRun A parts CanFold Folds asked notes slots fault = (made : Made A asked) × Fails parts CanFold Folds made.setup notes slots fault

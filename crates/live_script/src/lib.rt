@@ -12,6 +12,6 @@ pub mod texts;
 
 pub use certifying::certify_ran;
 pub use fault::RunFault;
-pub use ran::Ran;
+pub use ran::{Ended, Ran};
 pub use runner::{InTurn, OnThreads, Runner};
 pub use running::{begin, finish_in_turn, finish_side_by_side, run_in_turn, run_script};

@@ -120,11 +120,20 @@ fn judge_run<A: Allocator + Clone + Drop, T: Threads + Wait + Sync, R: Runner<A>
     let Ok(for_run) = alloc.clone() else {
         return Err(TextFault::Text(TraceFault::NoMemory));
     };
+    let Ok(for_notes) = alloc.clone() else {
+        return Err(TextFault::Text(TraceFault::NoMemory));
+    };
     let ran = match runner.run(rt, for_run, script) {
         Ok(ran) => ran,
         Err(fault) => return Err(fault_of_run(fault)),
     };
-    match certify_ran(alloc, script, ran) {
+    let Ok(ended) = ran.end() else {
+        return Err(TextFault::Text(TraceFault::NoMemory));
+    };
+    let Ok(notes) = ended.notes(for_notes) else {
+        return Err(TextFault::Text(TraceFault::NoMemory));
+    };
+    match certify_ran(alloc, script, notes.as_slice(), &ended.histories) {
         Ok(done) => Ok(Verdict::Certified(done.calls)),
         Err(CertifyFault::Ticket(ticket)) => Ok(Verdict::Ticket(ticket)),
         Err(

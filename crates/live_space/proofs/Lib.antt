@@ -1,7 +1,11 @@
+pub mod Counted
+pub mod Decided
 pub mod Ended
 mod Few
 pub mod Folding
 pub mod Fresh
+pub mod Going
+pub mod Lost
 pub mod Noted
 pub mod Own
 pub mod Places

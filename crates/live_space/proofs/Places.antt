@@ -1,5 +1,5 @@
 -- Placed mappings: where they go, and the slots that they cut or get room in
-use Rattle.std.proofs.Common.{◌≡◌, ℕ, zero, suc, List, [], ◌∷◌, length, map, Option, Some}
+use Rattle.std.proofs.Common.{◌≡◌, ◌≢◌, ℕ, zero, suc, List, [], ◌∷◌, length, map, Option, Some}
 use Rattle.std.proofs.Common.{None, arith, sym, ap, ◌∙◌, subst}
 use Rattle.std.specs.Prelude.{All}
 use Rattle.std.proofs.lemmas.List.{length-map}
@@ -14,6 +14,7 @@ use Rattle.slot_lock.specs.Slots.{Slots}
 use Rattle.live_levels.specs.Slots.{SlotView}
 use Rattle.live_tree.specs.Held.{AreAlike, CrossesNoEdge, without_room}
 use Rattle.vm_calls.specs.declared.decision.Decision.{Decision}
+use Rattle.vm_calls.specs.declared.decision.Decision.TheVariants.{Again}
 use Rattle.vm_calls.specs.Decisions.{DecidesPlace, DecidesRun, act_at, entries}
 use Rattle.vm_calls.specs.Decisions.DecidesRun.{free, taken}
 use Rattle.live_space.specs.Placing.{IsInside}
@@ -32,6 +33,16 @@ pub placed_inside : (s : Slots) (place : Place) (target : Target) (d : Decision)
 placed_inside s place (Hint range) d h = run_inside s range d h
 placed_inside s place (Run range) d h = run_inside s range d h
 placed_inside s place Window d h = subst (IsInside place.window) (sym h.2) (room_inside s place h.0 h.1)
+
+-- who holds the window never looks elsewhere
+pub last_settles : (s : Slots) (place : Place) (target : Target) (d : Decision) → DecidesPlace s place target d → target ≡ Window → d ≢ Again
+last_settles s place (Hint range) d h e = absurd cc
+last_settles s place (Run range) d h e = absurd cc
+last_settles s place Window d h e = acts_or_refuses h.0 place.count d h.2
+  where
+    acts_or_refuses : (found : Option ℕ) (n : ℕ) (d : Decision) → d ≡ act_at found n → d ≢ Again
+    acts_or_refuses None n d is again = absurd cc
+    acts_or_refuses (Some first) n d is again = absurd cc
 
 bare_edges : (r : PageRange) (ss : List SlotView) → All (CrossesNoEdge r) ss → All (CrossesNoEdge r) (map without_room ss)
 bare_edges r [] h k d lt = absurd (omega arith)

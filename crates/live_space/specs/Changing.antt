@@ -1,10 +1,11 @@
--- What a change of held slots needs, and how a call that holds slots can end
-use Rattle.std.specs.Prelude.{◌≡◌, ℕ, ◌+◌, ◌≤◌, Bool, true, false, Option, Some, None, length, All}
+-- What a change of held slots needs, and what it makes of them
+use Rattle.std.specs.Prelude.{◌≡◌, ℕ, map, All}
 use Rattle.vm_base.specs.Pages.{IsPageRange}
-use Rattle.vm_base.specs.declared.replies.Reply.{Reply}
 use Rattle.slot_lock.specs.declared.plan.Change.{Change}
 use Rattle.slot_lock.specs.Plan.{range_of}
-use Rattle.live_tree.specs.Held.{HeldView, Covers, CrossesNoEdge, HasRoom, FitsFiles}
+use Rattle.live_tree.specs.Held.{HeldView, Covers, CrossesNoEdge, HasRoom, FitsFiles, committed}
+use Rattle.live_tree.specs.Shown.{ChangesPages}
+use Rattle.seats.specs.Growing.{Steps}
 use Rattle.seats.specs.Notes.{SeatView}
 
 -- the change can be made in the held slots: they have its pages, none crosses an edge of them, their
@@ -16,13 +17,11 @@ pub record IsReady (h : HeldView) (change : Change) : Type 0 where
   pub room : All (HasRoom (range_of change)) h.slots
   pub files : FitsFiles change
 
--- there is room to let the slots go and to answer, and one more to give the call up where it has no
--- reply
-abbrev pub CanEnd : Option Reply → HeldView → SeatView → Type 0
-CanEnd (Some reply) h s = length h.slots + 1 ≤ s.room
-CanEnd None h s = length h.slots + 2 ≤ s.room
-
--- the same of a change that was made, or is to be given up
-abbrev pub CanEndIf : Bool → HeldView → SeatView → Type 0
-CanEndIf true h s = length h.slots + 1 ≤ s.room
-CanEndIf false h s = length h.slots + 2 ≤ s.room
+-- the last step that was noted is a plain one, and under its ticket the change was made in the held
+-- slots that lie in its range, and in no other
+pub record Made (change : Change) (h : HeldView) (t : SeatView) (k : HeldView) : Type 0 where
+  pub ticket : ℕ
+  pub before : SeatView
+  pub step : Steps before ticket t
+  pub slots : k ≡ record h { slots = map (committed ticket change) h.slots }
+  pub pages : ChangesPages change h k

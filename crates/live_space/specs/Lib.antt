@@ -1,5 +1,9 @@
 pub mod Calls
 pub mod Changing
 pub mod Counting
+pub mod CountingDown
+pub mod Endings
+pub mod InFlight
+pub mod Losing
 pub mod Placing
 pub mod Space

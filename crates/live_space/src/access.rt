@@ -1,19 +1,20 @@
 //! A load, a store or a fetch: it is tried, and after a fault its page is held while it gets a frame
 //! and an entry in the core's tables; then it is tried again.
-ghost use Rattle.std.specs.Prelude.{◌≡◌, ◌+◌, ◌*◌, ◌<◌, ◌≤◌, [], IfNone, IfSome, None, length};
+ghost use Rattle.std.specs.Prelude.{◌≡◌, ◌+◌, ◌*◌, ◌≤◌, []};
 ghost use Rattle.live_pages.specs.Ending.{Ends};
 ghost use Rattle.live_pages.specs.Targets.{count_below};
 ghost use Rattle.slot_lock.specs.Plan.{IsSoundTouch};
-ghost use Rattle.seats.specs.Growing.{Grew};
-ghost use Rattle.live_space.specs.Changing.{CanEnd};
+ghost use Rattle.live_space.specs.Endings.{EndsIf};
+ghost use Rattle.live_space.specs.InFlight.{GoesOn, HasStepsLeft};
 
+use crate::ending::{Ending, given_up_with};
 use crate::gate::{Gate, Point};
-use crate::giving_up::{end_given_up, give_up};
-use crate::locking::{let_go, reserve_steps};
+use crate::giving_up::end_given_up;
+use crate::in_call::InCall;
 use crate::space::Live;
 use live_pages::copy::copy_page;
 use live_pages::filling::fill;
-use live_pages::frame::{Wanted, give_up_with, want};
+use live_pages::frame::{Wanted, want};
 use live_pages::installing::install;
 use live_pages::settling::settle_page;
 use live_pages::telling::{TAKES, Telling, count_of, take_all};
@@ -39,7 +40,6 @@ struct Copying {
 
 impl<A: Allocator + Clone> Live<A> {
     /// The steps of an access, after its check.
-    #[tactic(auto, using(live_pages::proofs::Ending::ends_after, seats::proofs::Growing::grew_trans, seats::proofs::Growing::grew_none))]
     pub(crate) fn touch<R: Wait, G: Gate>(
         &self,
         rt: &R,
@@ -62,7 +62,6 @@ impl<A: Allocator + Clone> Live<A> {
 
     // One try, and after a fault the steps after which the next one may be served. None where it is
     // to be tried again, and else it is answered.
-    #[tactic(auto, using(live_pages::proofs::Ending::ends_after, live_pages::proofs::Ending::ends_next, seats::proofs::Growing::grew_trans, crate::proofs::Noted::grew_once, crate::proofs::Noted::room_once))]
     fn try_once<R: Wait, G: Gate>(
         &self,
         rt: &R,
@@ -72,11 +71,10 @@ impl<A: Allocator + Clone> Live<A> {
     ) -> Option<Reply>
         requires sound { IsSoundTouch touch }
         requires room { 2 ≤ seat.old.room }
-        ensures ends { IfSome result (λ reply. Ends seat.old reply seat.new) }
-        ensures again { IfNone result ((Grew seat.old seat.new) × (2 ≤ seat.new.room)) }
+        ensures { EndsIf seat.old result seat.new }
     {
         // for the step, to give up, and to answer
-        if !reserve_steps(seat, 0, 3) {
+        if !seat.reserve(3) {
             return Some(end_given_up(seat));
         }
         match try_touch(rt, &self.pieces(), seat, touch) {
@@ -87,7 +85,6 @@ impl<A: Allocator + Clone> Live<A> {
     }
 
     // The page is held until it has its frame and its entry, or the access its answer.
-    #[tactic(auto, using(live_pages::proofs::Ending::ends_after, seats::proofs::Growing::grew_trans))]
     fn fault<R: Wait, G: Gate>(
         &self,
         rt: &R,
@@ -97,303 +94,192 @@ impl<A: Allocator + Clone> Live<A> {
     ) -> Option<Reply>
         requires sound { IsSoundTouch touch }
         requires room { 2 ≤ seat.old.room }
-        ensures ends { IfSome result (λ reply. Ends seat.old reply seat.new) }
-        ensures again { IfNone result ((Grew seat.old seat.new) × (2 ≤ seat.new.room)) }
+        ensures { EndsIf seat.old result seat.new }
     {
-        let mut held = Held::new(self.tree.alloc(), touch.page);
-        let reply = self.lock_page(rt, seat, &mut held, touch, gate);
-        let_go(held, seat, reply);
-        reply
+        let mut call = InCall {
+            seat,
+            held: Held::new(self.tree.alloc(), touch.page),
+            space: self,
+            rt,
+            gate,
+        };
+        let ending = call.lock_page(touch);
+        let InCall {
+            seat,
+            held,
+            space: _,
+            rt: _,
+            gate: _,
+        } = call;
+        self.end(rt, seat, held, ending)
     }
+}
 
+impl<'c, R: Wait, G: Gate, A: Allocator + Clone> InCall<'c, '_, '_, '_, R, G, A> {
     // The page's slot is locked.
-    #[tactic(auto, using(seats::proofs::Growing::grew_trans))]
-    fn lock_page<'a, R: Wait, G: Gate>(
-        &'a self,
-        rt: &R,
-        seat: &mut Seat<A>,
-        held: &mut Held<'a, A>,
-        touch: Touch,
-        gate: &G,
-    ) -> Option<Reply>
+    #[tactic(auto, using(crate::proofs::Noted::steps))]
+    fn lock_page(&mut self, touch: Touch) -> Ending
         requires sound { IsSoundTouch touch }
-        requires room { 2 ≤ seat.old.room }
-        requires none { held.old.slots ≡ [] }
-        ensures grew { Grew seat.old seat.new }
-        ensures room { CanEnd result held.new seat.new }
+        requires none { self.old.held.slots ≡ [] }
+        ensures { GoesOn self.old.seat self.new.seat }
     {
-        if !self.lock_all(rt, seat, held, touch.page + 1, 2) {
-            return Some(give_up(seat));
+        if !self.lock_all(touch.page + 1, 2) {
+            return Ending::GiveUp;
         }
-        gate.at(rt, seat.core(), Point::Locked);
-        self.settle(rt, seat, held, touch, gate)
+        self.at(Point::Locked);
+        self.settle(touch)
     }
 
     // What the access finds at its page.
-    #[tactic(auto, using(seats::proofs::Growing::grew_trans, crate::proofs::Noted::grew_once, crate::proofs::Noted::room_once))]
-    fn settle<'a, R: Wait, G: Gate>(
-        &'a self,
-        rt: &R,
-        seat: &mut Seat<A>,
-        held: &mut Held<'a, A>,
-        touch: Touch,
-        gate: &G,
-    ) -> Option<Reply>
-        requires sound { IsSoundTouch touch }
-        requires room { length held.old.slots + 2 ≤ seat.old.room }
-        ensures grew { Grew seat.old seat.new }
-        ensures room { CanEnd result held.new seat.new }
+    #[tactic(auto, using(crate::proofs::Noted::steps))]
+    fn settle(&mut self, touch: Touch) -> Ending
+        requires { IsSoundTouch touch }
+        ensures { GoesOn self.old.seat self.new.seat }
     {
-        if !reserve_steps(seat, held.len(), 3) {
-            return Some(give_up(seat));
+        if !self.has_room(1) {
+            return Ending::GiveUp;
         }
-        let info = held.page(touch.page);
-        let settled = settle_page(rt, &self.pieces(), seat, touch, &info);
-        self.act_on(rt, seat, held, touch, settled, gate)
+        let info = self.held.page(touch.page);
+        let settled = settle_page(self.rt, &self.space.pieces(), self.seat, touch, &info);
+        self.act_on(touch, settled)
     }
 
     // The access is answered, or the page gets what it wants.
-    #[tactic(auto, using(seats::proofs::Growing::grew_none))]
-    fn act_on<'a, R: Wait, G: Gate>(
-        &'a self,
-        rt: &R,
-        seat: &mut Seat<A>,
-        held: &mut Held<'a, A>,
-        touch: Touch,
-        settled: Settled,
-        gate: &G,
-    ) -> Option<Reply>
-        requires sound { IsSoundTouch touch }
-        requires room { length held.old.slots + 2 ≤ seat.old.room }
-        ensures grew { Grew seat.old seat.new }
-        ensures room { CanEnd result held.new seat.new }
+    #[tactic(auto, using(crate::proofs::Noted::steps))]
+    fn act_on(&mut self, touch: Touch, settled: Settled) -> Ending
+        requires { IsSoundTouch touch }
+        ensures { GoesOn self.old.seat self.new.seat }
     {
         match settled {
-            Settled::MapErr => Some(Reply::Segv(SegvCode::MapErr)),
-            Settled::AccErr => Some(Reply::Segv(SegvCode::AccErr)),
-            Settled::Bus => Some(Reply::Bus),
-            Settled::Has(_) => self.install(rt, seat, held, touch, gate),
-            Settled::Copies(shown) => self.want(rt, seat, held, touch, Some(shown), gate),
-            Settled::Cached(_) => self.fill(rt, seat, held, touch, None, gate),
-            Settled::Wants => self.want(rt, seat, held, touch, None, gate),
+            Settled::MapErr => Ending::Answer(Reply::Segv(SegvCode::MapErr)),
+            Settled::AccErr => Ending::Answer(Reply::Segv(SegvCode::AccErr)),
+            Settled::Bus => Ending::Answer(Reply::Bus),
+            Settled::Has(_) => self.install(touch),
+            Settled::Copies(shown) => self.want(touch, Some(shown)),
+            Settled::Cached(_) => self.fill(touch, None),
+            Settled::Wants => self.want(touch, None),
         }
     }
 
     // A frame is taken, for the page or for a copy of the frame that it shows.
-    #[tactic(auto, using(seats::proofs::Growing::grew_trans, crate::proofs::Noted::grew_once, crate::proofs::Noted::room_once, live_pages::proofs::Noting::grew_takes, crate::proofs::Noted::room_takes))]
-    fn want<'a, R: Wait, G: Gate>(
-        &'a self,
-        rt: &R,
-        seat: &mut Seat<A>,
-        held: &mut Held<'a, A>,
-        touch: Touch,
-        shown: Option<u32>,
-        gate: &G,
-    ) -> Option<Reply>
-        requires sound { IsSoundTouch touch }
-        requires room { length held.old.slots + 2 ≤ seat.old.room }
-        ensures grew { Grew seat.old seat.new }
-        ensures room { CanEnd result held.new seat.new }
+    #[tactic(auto, using(crate::proofs::Noted::steps))]
+    fn want(&mut self, touch: Touch, shown: Option<u32>) -> Ending
+        requires { IsSoundTouch touch }
+        ensures { GoesOn self.old.seat self.new.seat }
     {
-        if !reserve_steps(seat, held.len(), 3) {
-            return Some(give_up(seat));
+        if !self.has_room(1) {
+            return Ending::GiveUp;
         }
-        match want(rt, &self.pieces(), seat) {
-            Wanted::Taken(own) => self.use_frame(rt, seat, held, touch, shown, own, gate),
-            Wanted::NoFrame => Some(Reply::NoFrame),
-            Wanted::NoMemory => Some(give_up(seat)),
+        match want(self.rt, &self.space.pieces(), self.seat) {
+            Wanted::Taken(own) => self.use_frame(touch, shown, own),
+            Wanted::NoFrame => Ending::Answer(Reply::NoFrame),
+            Wanted::NoMemory => Ending::GiveUp,
         }
     }
 
     // The frame is for the page, or for a copy of the frame that it shows.
-    fn use_frame<'a, R: Wait, G: Gate>(
-        &'a self,
-        rt: &R,
-        seat: &mut Seat<A>,
-        held: &mut Held<'a, A>,
-        touch: Touch,
-        shown: Option<u32>,
-        own: u32,
-        gate: &G,
-    ) -> Option<Reply>
-        requires sound { IsSoundTouch touch }
-        requires room { length held.old.slots + 2 ≤ seat.old.room }
-        ensures grew { Grew seat.old seat.new }
-        ensures room { CanEnd result held.new seat.new }
+    fn use_frame(&mut self, touch: Touch, shown: Option<u32>, own: u32) -> Ending
+        requires { IsSoundTouch touch }
+        ensures { GoesOn self.old.seat self.new.seat }
     {
         match shown {
-            Some(shown) => self.copy(rt, seat, held, touch, Copying { shown, own }, gate),
-            None => self.fill(rt, seat, held, touch, Some(own), gate),
+            Some(shown) => self.copy(touch, Copying { shown, own }),
+            None => self.fill(touch, Some(own)),
         }
     }
 
     // The page gets its frame.
-    #[tactic(auto, using(seats::proofs::Growing::grew_trans, crate::proofs::Noted::grew_with, crate::proofs::Noted::room_with, live_pages::proofs::Noting::same_count))]
-    fn fill<'a, R: Wait, G: Gate>(
-        &'a self,
-        rt: &R,
-        seat: &mut Seat<A>,
-        held: &mut Held<'a, A>,
-        touch: Touch,
-        own: Option<u32>,
-        gate: &G,
-    ) -> Option<Reply>
-        requires sound { IsSoundTouch touch }
-        requires room { length held.old.slots + 2 ≤ seat.old.room }
-        ensures grew { Grew seat.old seat.new }
-        ensures room { CanEnd result held.new seat.new }
+    #[tactic(auto, using(crate::proofs::Noted::steps))]
+    fn fill(&mut self, touch: Touch, own: Option<u32>) -> Ending
+        requires { IsSoundTouch touch }
+        ensures { GoesOn self.old.seat self.new.seat }
     {
-        if !reserve_steps(seat, held.len(), 3) {
-            return Some(self.give_up_own(rt, seat, own));
+        if !self.has_room(1) {
+            return given_up_with(own);
         }
-        match fill(rt, &self.pieces(), seat, held, touch, own) {
-            Some(_) => self.install(rt, seat, held, touch, gate),
-            None => Some(self.give_up_own(rt, seat, own)),
+        match fill(
+            self.rt,
+            &self.space.pieces(),
+            self.seat,
+            &mut self.held,
+            touch,
+            own,
+        ) {
+            Some(_) => self.install(touch),
+            None => given_up_with(own),
         }
     }
 
     // The other recorded cores of the page are told to drop the page, and then it gets a copy.
-    #[tactic(auto, using(seats::proofs::Growing::grew_trans, seats::proofs::Growing::grew_steps, crate::proofs::Few::few_targets))]
-    fn copy<'a, R: Wait, G: Gate>(
-        &'a self,
-        rt: &R,
-        seat: &mut Seat<A>,
-        held: &mut Held<'a, A>,
-        touch: Touch,
-        frames: Copying,
-        gate: &G,
-    ) -> Option<Reply>
-        requires sound { IsSoundTouch touch }
-        requires room { length held.old.slots + 2 ≤ seat.old.room }
-        ensures grew { Grew seat.old seat.new }
-        ensures room { CanEnd result held.new seat.new }
+    #[tactic(auto, using(crate::proofs::Noted::steps, crate::proofs::Few::few_targets))]
+    fn copy(&mut self, touch: Touch, frames: Copying) -> Ending
+        requires { IsSoundTouch touch }
+        ensures { GoesOn self.old.seat self.new.seat }
     {
-        let targets = recorded_cores(&held.page(touch.page)).without(seat.core());
-        // the takes of all that are told, the steps before and after them, to let the slot go, and to
-        // answer
-        let most = TAKES * count_of(targets);
-        if !reserve_steps(seat, held.len(), 4 + most) {
-            return Some(self.give_up_own(rt, seat, Some(frames.own)));
+        let core = self.seat.core();
+        let targets = recorded_cores(&self.held.page(touch.page)).without(core);
+        // the post, the takes of all that are told, and the copy
+        let most = 2 + TAKES * count_of(targets);
+        if !self.has_room(most) {
+            return Ending::GiveBack(frames.own);
         }
+        let space = self.space;
         let range = page_of_touch(touch);
         match Telling::of(
-            rt,
-            self.tree.alloc(),
-            &self.cores,
-            seat.core(),
+            self.rt,
+            space.tree.alloc(),
+            &space.cores,
+            core,
             targets,
             range,
         ) {
             Some(telling) => {
-                let _posted = telling.post(seat);
-                self.copy_told(rt, seat, held, touch, frames, targets, gate)
+                let _posted = telling.post(self.seat);
+                self.copy_told(touch, frames, targets)
             }
-            None => Some(self.give_up_own(rt, seat, Some(frames.own))),
+            None => Ending::GiveBack(frames.own),
         }
     }
 
-    // All cores that were told acknowledge, and the page gets its copy.
-    #[tactic(auto, using(seats::proofs::Growing::grew_trans))]
-    fn copy_told<'a, R: Wait, G: Gate>(
-        &'a self,
-        rt: &R,
-        seat: &mut Seat<A>,
-        held: &mut Held<'a, A>,
-        touch: Touch,
-        frames: Copying,
-        targets: CoreSet,
-        gate: &G,
-    ) -> Option<Reply>
+    // All cores that were told acknowledge. Then the page gets its copy, since no core translates it by
+    // the old frame any more.
+    #[tactic(auto, using(crate::proofs::Noted::steps))]
+    fn copy_told(&mut self, touch: Touch, frames: Copying, targets: CoreSet) -> Ending
         requires sound { IsSoundTouch touch }
-        requires room { length held.old.slots + 3 + 126 * count_below targets 64 ≤ seat.old.room }
-        ensures grew { Grew seat.old seat.new }
-        ensures room { CanEnd result held.new seat.new }
+        requires room { HasStepsLeft (1 + 126 * count_below targets 64) self.old.held self.old.seat.now }
+        ensures { GoesOn self.old.seat self.new.seat }
     {
-        take_all(rt, &self.cores, seat, targets);
-        self.make_copy(rt, seat, held, touch, frames, gate)
-    }
-
-    // The page gets its copy, which no core translates by the old frame any more.
-    #[tactic(auto, using(seats::proofs::Growing::grew_trans, crate::proofs::Noted::grew_with, crate::proofs::Noted::room_with, live_pages::proofs::Noting::same_count))]
-    fn make_copy<'a, R: Wait, G: Gate>(
-        &'a self,
-        rt: &R,
-        seat: &mut Seat<A>,
-        held: &mut Held<'a, A>,
-        touch: Touch,
-        frames: Copying,
-        gate: &G,
-    ) -> Option<Reply>
-        requires sound { IsSoundTouch touch }
-        requires room { length held.old.slots + 3 ≤ seat.old.room }
-        ensures grew { Grew seat.old seat.new }
-        ensures room { CanEnd result held.new seat.new }
-    {
-        if copy_page(rt, &self.pieces(), seat, held, frames.shown, frames.own) {
-            self.install(rt, seat, held, touch, gate)
+        let space = self.space;
+        let Copying { shown, own } = frames;
+        take_all(self.rt, &space.cores, self.seat, targets);
+        let pieces = space.pieces();
+        if copy_page(self.rt, &pieces, self.seat, &mut self.held, shown, own) {
+            self.install(touch)
         } else {
-            Some(self.give_up_own(rt, seat, Some(frames.own)))
+            Ending::GiveBack(own)
         }
     }
 
     // The core's tables get the page's entry. The access is to be tried again then.
-    #[tactic(auto, using(seats::proofs::Growing::grew_trans))]
-    fn install<'a, R: Wait, G: Gate>(
-        &'a self,
-        rt: &R,
-        seat: &mut Seat<A>,
-        held: &mut Held<'a, A>,
-        touch: Touch,
-        gate: &G,
-    ) -> Option<Reply>
-        requires sound { IsSoundTouch touch }
-        requires room { length held.old.slots + 2 ≤ seat.old.room }
-        ensures grew { Grew seat.old seat.new }
-        ensures room { CanEnd result held.new seat.new }
+    #[tactic(auto, using(crate::proofs::Noted::steps))]
+    fn install(&mut self, touch: Touch) -> Ending
+        requires { IsSoundTouch touch }
+        ensures { GoesOn self.old.seat self.new.seat }
     {
-        gate.at(rt, seat.core(), Point::Filled);
-        if self.has_entry(rt, seat, held, touch) {
-            None
+        self.at(Point::Filled);
+        if !self.has_room(1) {
+            return Ending::GiveUp;
+        }
+        if install(
+            self.rt,
+            &self.space.pieces(),
+            self.seat,
+            &mut self.held,
+            touch,
+        ) {
+            Ending::Again
         } else {
-            Some(give_up(seat))
-        }
-    }
-
-    // The core's tables get the page's entry; tells whether there was memory for it, and for its note.
-    #[tactic(auto, using(seats::proofs::Growing::grew_trans, crate::proofs::Noted::grew_with, crate::proofs::Noted::grew_stays, crate::proofs::Noted::room_with, live_pages::proofs::Noting::same_count))]
-    fn has_entry<'a, R: Wait>(
-        &'a self,
-        rt: &R,
-        seat: &mut Seat<A>,
-        held: &mut Held<'a, A>,
-        touch: Touch,
-    ) -> bool
-        requires sound { IsSoundTouch touch }
-        requires room { length held.old.slots + 2 ≤ seat.old.room }
-        ensures grew { Grew seat.old seat.new }
-        ensures room { length held.new.slots + 2 ≤ seat.new.room }
-    {
-        if !reserve_steps(seat, held.len(), 3) {
-            return false;
-        }
-        if !install(rt, &self.pieces(), seat, held, touch) {
-            return false;
-        }
-        true
-    }
-
-    // Gives the call up, and the frame back that it took, if it took one.
-    fn give_up_own<R: Wait>(&self, rt: &R, seat: &mut Seat<A>, own: Option<u32>) -> Reply
-        requires { 0 < seat.old.room }
-        ensures grew { Grew seat.old seat.new }
-        ensures room { seat.new.room + 1 ≡ seat.old.room }
-    {
-        match own {
-            Some(own) => {
-                give_up_with(rt, &self.pieces(), seat, own);
-                Reply::NoMemory
-            }
-            None => give_up(seat),
+            Ending::GiveUp
         }
     }
 }

@@ -83,15 +83,6 @@ impl<A: Allocator + Clone> Live<A> {
         }
         let _checked = seat.step();
         gate.at(rt, seat.core(), Point::Begun);
-        self.follow(rt, seat, plan, gate)
-    }
-
-    // The steps of a call whose arguments are sound, up to its answer.
-    fn follow<R: Wait, G: Gate>(&self, rt: &R, seat: &mut Seat<A>, plan: Plan, gate: &G) -> Reply
-        requires sound { IsSoundPlan plan }
-        requires room { 2 ≤ seat.old.room }
-        ensures { Ends seat.old result seat.new }
-    {
         match plan {
             Plan::Change(change) => self.change(rt, seat, change, gate),
             Plan::Place(place) => self.place(rt, seat, place, gate),

@@ -1,9 +1,18 @@
 //! What is decided of a change whose pages are held, and which frames they lose.
-ghost use Rattle.std.specs.Prelude.{◌≡◌, ◌+◌, ◌≤◌, ◌^◌, IfSome};
+ghost use Rattle.std.specs.Prelude.{◌≡◌, ℕ, ◌+◌, ◌++◌, [], false, IfSome, IsTrue, Option, None, map};
+ghost use Rattle.std.specs.Prelude.{option_to_list};
+ghost use Rattle.vm_base.specs.declared.info.PageInfo.{PageInfo};
+ghost use Rattle.vm_base.specs.Info.{frame_of};
 ghost use Rattle.vm_base.specs.Pages.{IsPageRange};
+ghost use Rattle.slot_lock.specs.declared.framed.Framed.{Framed};
+ghost use Rattle.slot_lock.specs.Framed.{frames_in};
 ghost use Rattle.slot_lock.specs.Plan.{IsSoundChange, IsSoundGoal, range_of};
 ghost use Rattle.backing.specs.Files.{files_of};
 ghost use Rattle.vm_calls.specs.Decisions.{Decides, IsNoAccess, IsSoundAct};
+ghost use Rattle.machine_model.specs.Counting.{frame_lost};
+ghost use Rattle.live_tree.specs.Held.{Covers};
+ghost use Rattle.live_tree.specs.Shown.{shown};
+ghost use Rattle.live_space.specs.Losing.{AreFrames, DecidesHeld, Loses};
 
 use backing::Objects;
 use live_tree::held::Held;
@@ -43,7 +52,9 @@ pub(crate) fn decide_held<'a, A: Allocator + Clone>(
     held: &Held<'_, A>,
     change: Change,
 ) -> Option<Decided<'a, A>>
-    requires { IsSoundChange change }
+    requires sound { IsSoundChange change }
+    requires covers { Covers held.now (range_of change) }
+    ensures { IfSome result (DecidesHeld (files_of objects.now) (shown held.now.slots) change) }
 {
     let range = change.range();
     if range.end - range.first == 1 {
@@ -53,10 +64,38 @@ pub(crate) fn decide_held<'a, A: Allocator + Clone>(
 }
 
 // Tells whether the change takes the frames of its pages.
-fn takes_frames(change: Change) -> bool {
+fn takes_frames(change: Change) -> bool
+    ensures yes { IsTrue result → (info : ℕ → Option PageInfo) → (p : ℕ)
+        → frame_lost change info p ≡ frame_of (info p) }
+    ensures no { result ≡ false → (info : ℕ → Option PageInfo) → (p : ℕ)
+        → frame_lost change info p ≡ None }
+{
     match change {
         Change::Put { .. } | Change::Clear { .. } => true,
         Change::Protect { .. } => false,
+    }
+}
+
+// The frame that a page, which has this, loses by the change.
+fn lost_by(change: Change, info: &Option<PageInfo>) -> Option<u32>
+    ensures { result ≡ frame_lost change (λ _. info.now) 0 }
+{
+    match change {
+        Change::Put { .. } | Change::Clear { .. } => match info {
+            Some(info) => info.frame,
+            None => None,
+        },
+        Change::Protect { .. } => None,
+    }
+}
+
+/// Adds the frame, if there is one. False where memory is wanting.
+pub(crate) fn add_frame<'a, A: Allocator>(frames: &mut Frames<'a, A>, frame: Option<u32>) -> bool
+    ensures { IsTrue result → frames.new.items ≡ frames.old.items ++ option_to_list frame }
+{
+    match frame {
+        Some(frame) => frames.push(frame).is_ok(),
+        None => true,
     }
 }
 
@@ -65,13 +104,12 @@ fn frame_lost<'a, A: Allocator>(
     alloc: &'a A,
     change: Change,
     info: &Option<PageInfo>,
-) -> Option<Frames<'a, A>> {
+) -> Option<Frames<'a, A>>
+    ensures { IfSome result (λ frames. frames.items
+        ≡ option_to_list (frame_lost change (λ _. info.now) 0)) }
+{
     let mut frames = SmallVec::new(alloc);
-    if let Some(info) = info
-        && let Some(frame) = info.frame
-        && takes_frames(change)
-        && frames.push(frame).is_err()
-    {
+    if !add_frame(&mut frames, lost_by(change, info)) {
         return None;
     }
     Some(frames)
@@ -85,6 +123,7 @@ fn decide_one<'a, A: Allocator + Clone>(
     change: Change,
 ) -> Option<Decided<'a, A>>
     requires { (range_of change).end ≡ (range_of change).first + 1 }
+    ensures { IfSome result (DecidesHeld (files_of objects.now) (shown held.now.slots) change) }
 {
     let info = held.page(change.range().first);
     let frames = frame_lost(alloc, change, &info)?;
@@ -102,20 +141,19 @@ fn decide_several<'a, A: Allocator + Clone>(
     held: &Held<'_, A>,
     change: Change,
 ) -> Option<Decided<'a, A>>
-    requires { IsSoundChange change }
+    requires sound { IsSoundChange change }
+    requires covers { Covers held.now (range_of change) }
+    ensures { IfSome result (DecidesHeld (files_of objects.now) (shown held.now.slots) change) }
 {
     let own = alloc.clone().ok()?;
     let lent = held.lent(own, core)?;
     match decide_over(&lent, objects, Goal::Change(change)) {
         Decision::Refuse(errno) => Some(Decided::Refuse(errno)),
         Decision::Act { shoot, .. } => {
-            let mut frames = SmallVec::new(alloc);
-            if takes_frames(change) && !add_frames(&lent, change.range(), &mut frames) {
-                return None;
-            }
+            let frames = frames_lost(&lent, alloc, change)?;
             Some(Decided::Act(Losses { shoot, frames }))
         }
-        Decision::Again => None,
+        Decision::Again => unreachable!(),
     }
 }
 
@@ -133,14 +171,36 @@ pub(crate) fn decide_over<M: SlotMap, A: Allocator>(
     decide(map, objects, goal)
 }
 
-// Adds the frames that pages of the range have, in order of pages, and tells whether memory was
+// The frames that pages lose by the change, in order of pages. None where memory is wanting.
+fn frames_lost<'a, M: SlotMap, A: Allocator>(
+    map: &M,
+    alloc: &'a A,
+    change: Change,
+) -> Option<Frames<'a, A>>
+    requires { IsSoundChange change }
+    ensures { IfSome result (λ frames. Loses (M.slots map.now) change frames.items) }
+{
+    let mut frames = SmallVec::new(alloc);
+    if !takes_frames(change) {
+        return Some(frames);
+    }
+    if !add_frames(map, change.range(), &mut frames) {
+        return None;
+    }
+    Some(frames)
+}
+
+// Lists the frames that pages of the range have, in order of pages, and tells whether memory was
 // there.
 fn add_frames<'a, M: SlotMap, A: Allocator>(
     map: &M,
     range: PageRange,
     frames: &mut Frames<'a, A>,
 ) -> bool
-    requires { IsPageRange range }
+    requires range { IsPageRange range }
+    requires none { frames.old.items ≡ [] }
+    ensures { IsTrue result
+        → AreFrames (frames_in (M.slots map.now)) range.first range.end frames.new.items }
 {
     let mut list = FramedPages::new();
     let mut from = range.first;
@@ -157,8 +217,11 @@ fn add_frames<'a, M: SlotMap, A: Allocator>(
     from >= range.end
 }
 
-// Adds the frames of the listed pages.
-fn add_list<'a, A: Allocator>(list: &[Framed], frames: &mut Frames<'a, A>) -> bool {
+// Adds the frames of the listed pages, and tells whether memory was there.
+fn add_list<'a, A: Allocator>(list: &[Framed], frames: &mut Frames<'a, A>) -> bool
+    ensures { IsTrue result
+        → frames.new.items ≡ frames.old.items ++ map (λ (x : Framed). x.frame) list.now }
+{
     'pages: for page in list {
         if frames.push(page.frame).is_err() {
             return false;

@@ -2,9 +2,10 @@
 ghost use Rattle.std.specs.Prelude.{◌≡◌, ◌+◌, ◌≤◌, [], IfNone, IfSome, length, IsTrue};
 ghost use Rattle.seats.specs.Growing.{Grew};
 ghost use Rattle.live_pages.specs.Ending.{Ends};
-ghost use Rattle.live_space.specs.Changing.{CanEnd};
+ghost use Rattle.live_space.specs.InFlight.{GoesOn};
 
-use crate::space::Live;
+use crate::gate::Gate;
+use crate::in_call::InCall;
 use live_levels::level::Stepper;
 use live_pages::answering::answer;
 use live_tree::held::{Got, Held};
@@ -15,55 +16,38 @@ use std::sync::Wait;
 use std::thread;
 use vm_base::Reply;
 
-impl<A: Allocator + Clone> Live<A> {
+impl<'c, R: Wait, G: Gate, A: Allocator + Clone> InCall<'c, '_, '_, '_, R, G, A> {
     /// Locks the slots up to the end, each with room for so many changes, and waits for those that
     /// other calls hold. False where the call is to be given up: memory, or room for its notes, is
     /// wanting, or a slot was in a wrong place, which never comes. What is held stays held.
-    #[tactic(auto, using(seats::proofs::Growing::grew_trans, seats::proofs::Growing::grew_steps, seats::proofs::Growing::grew_room))]
-    pub(crate) fn lock_all<'a, R: Wait>(
-        &'a self,
-        rt: &R,
-        seat: &mut Seat<A>,
-        held: &mut Held<'a, A>,
-        end: u64,
-        changes: usize,
-    ) -> bool
-        requires room { 2 ≤ seat.old.room }
-        requires none { held.old.slots ≡ [] }
-        ensures grew { Grew seat.old seat.new }
-        ensures room { length held.new.slots + 2 ≤ seat.new.room }
-        ensures first { held.new.first ≡ held.old.first }
-        ensures end { IsTrue result → end ≤ held.new.end }
+    #[tactic(auto, using(crate::proofs::Noted::steps))]
+    pub(crate) fn lock_all(&mut self, end: u64, changes: usize) -> bool
+        requires none { self.old.held.slots ≡ [] }
+        ensures goes { GoesOn self.old.seat self.new.seat }
+        ensures first { self.new.held.first ≡ self.old.held.first }
+        ensures end { IsTrue result → end ≤ self.new.held.end }
     {
-        let core = seat.core();
+        let rt = self.rt;
+        let space = self.space;
+        let core = self.seat.core();
         'slots: for _turn in rt.forever() {
-            if held.end() >= end {
+            if self.held.end() >= end {
                 return true;
             }
-            // for the step, to give up, to let the slot go, and to answer
-            if !seat.reserve(held.len() + 4) {
+            // for the step, and to let its slot go
+            if !self.has_room(2) {
                 return false;
             }
-            match held.lock_next(rt, &self.tree, seat, core, end, changes) {
+            match self
+                .held
+                .lock_next(rt, &space.tree, self.seat, core, end, changes)
+            {
                 Got::Locked | Got::Split => {}
                 Got::Owned(_) => thread::yield_now(),
                 Got::Unseen | Got::NoMemory | Got::Lost => return false,
             }
         }
         unreachable!()
-    }
-}
-
-/// Makes room to let so many slots go, and for so many notes more; tells whether it could.
-#[tactic(auto, using(seats::proofs::Growing::grew_none, seats::proofs::Growing::grew_room))]
-pub(crate) fn reserve_steps<A: Allocator>(seat: &mut Seat<A>, slots: usize, more: usize) -> bool
-    ensures grew { Grew seat.old seat.new }
-    ensures room { IsTrue result → slots + more ≤ seat.new.room }
-    ensures kept { seat.old.room ≤ seat.new.room }
-{
-    match slots.checked_add(more) {
-        Some(count) => seat.reserve(count),
-        None => false,
     }
 }
 
@@ -75,9 +59,10 @@ pub(crate) fn let_go<A: Allocator + Clone>(
     seat: &mut Seat<A>,
     reply: Option<Reply>,
 )
-    requires room { CanEnd reply held seat.old }
+    requires { length held.slots + 1 ≤ seat.old.room }
     ensures answered { IfSome reply (λ reply. Ends seat.old reply seat.new) }
-    ensures open { IfNone reply ((Grew seat.old seat.new) × (2 ≤ seat.new.room)) }
+    ensures again { IfNone reply ((Grew seat.old seat.new)
+        × (seat.new.room + length held.entry.slots ≡ seat.old.room)) }
 {
     let mut letting = held.letting();
     note_all(&mut letting, seat);

@@ -1,19 +1,23 @@
 //! A mapping without `MAP_FIXED` finds its place: at its hint, else at one run of its core's window
 //! that it guesses to be free, else at the least room of the window. It holds one of the three at a
 //! time, and maps no page that it doesn't hold.
-ghost use Rattle.std.specs.Prelude.{◌≡◌, ◌+◌, ◌<◌, ◌≤◌, [], IfNone, IfSome, IsTrue, length, All};
-ghost use Rattle.live_tree.specs.Held.{Covers, CrossesNoEdge, HasRoom};
+ghost use Rattle.std.specs.Prelude.{◌≡◌, ◌≢◌, ◌+◌, ◌<◌, ◌≤◌, [], IfSome, IsSome, IsTrue, All};
+ghost use Rattle.live_tree.specs.Held.{Covers, CrossesNoEdge};
 ghost use Rattle.seats.specs.Growing.{Grew};
 ghost use Rattle.live_pages.specs.Ending.{Ends};
 ghost use Rattle.slot_lock.specs.declared.plan.Goal.TheVariants as GoalOf;
+ghost use Rattle.slot_lock.specs.declared.plan.Target.TheVariants.{Window};
 ghost use Rattle.slot_lock.specs.Plan.{IsSoundGoal, IsSoundPlace, IsSoundPut, IsTarget, target_range};
+ghost use Rattle.vm_calls.specs.declared.decision.Decision.TheVariants.{Again};
 ghost use Rattle.vm_calls.specs.Decisions.{IsSoundAct};
-ghost use Rattle.live_space.specs.Changing.{CanEnd};
+ghost use Rattle.live_space.specs.Endings.{EndsIf, reply_of};
+ghost use Rattle.live_space.specs.InFlight.{GoesOn, HasStepsLeft};
 ghost use Rattle.live_space.specs.Placing.{IsInside, IsInWindow};
 
+use crate::ending::Ending;
 use crate::gate::{Gate, Point};
-use crate::giving_up::{end_given_up, give_up};
-use crate::locking::let_go;
+use crate::giving_up::end_given_up;
+use crate::in_call::InCall;
 use crate::space::Live;
 use backing::Objects;
 use live_levels::level::Stepper;
@@ -25,12 +29,11 @@ use slot_lock::{Change, Goal, Place, SlotMap, Target};
 use std::alloc::Allocator;
 use std::sync::Wait;
 use vm_base::page::PAGE_SIZE;
-use vm_base::{CoreId, Meta, PageRange, Reply};
+use vm_base::{Meta, PageRange, Reply};
 use vm_calls::{Decision, decide};
 
 impl<A: Allocator + Clone> Live<A> {
     // A placed mapping that passed the check of its arguments, up to its answer.
-    #[tactic(auto, using(live_pages::proofs::Ending::ends_after))]
     pub(crate) fn place<R: Wait, G: Gate>(
         &self,
         rt: &R,
@@ -43,17 +46,17 @@ impl<A: Allocator + Clone> Live<A> {
         ensures { Ends seat.old result seat.new }
     {
         let Some(hint) = place.hint else {
-            return self.place_at_guess(rt, seat, place, gate);
+            return self.place_in_window(rt, seat, place, gate);
         };
         match self.try_target(rt, seat, place, Target::Hint(hint), gate) {
             Some(reply) => reply,
-            None => self.place_at_guess(rt, seat, place, gate),
+            None => self.place_in_window(rt, seat, place, gate),
         }
     }
 
-    // It goes to a run of its window that it guesses to be free, or else to any room there.
-    #[tactic(auto, using(live_pages::proofs::Ending::ends_after, seats::proofs::Growing::grew_trans, seats::proofs::Growing::grew_room))]
-    fn place_at_guess<R: Wait, G: Gate>(
+    // It goes to a run of its window that it guesses to be free, or else to any room there, where it
+    // holds the window, or is refused where there is none.
+    fn place_in_window<R: Wait, G: Gate>(
         &self,
         rt: &R,
         seat: &mut Seat<A>,
@@ -69,46 +72,12 @@ impl<A: Allocator + Clone> Live<A> {
             return end_given_up(seat);
         }
         let target = self.guess(rt, seat, place);
-        self.place_at(rt, seat, place, target, gate)
-    }
-
-    // It goes to its target, or else to any room of its window.
-    #[tactic(auto, using(live_pages::proofs::Ending::ends_after))]
-    fn place_at<R: Wait, G: Gate>(
-        &self,
-        rt: &R,
-        seat: &mut Seat<A>,
-        place: Place,
-        target: Target,
-        gate: &G,
-    ) -> Reply
-        requires sound { IsSoundGoal (GoalOf.Place place target) }
-        requires room { 2 ≤ seat.old.room }
-        ensures { Ends seat.old result seat.new }
-    {
-        match self.try_target(rt, seat, place, target, gate) {
-            Some(reply) => reply,
-            None => self.place_in_window(rt, seat, place, gate),
+        if let Some(reply) = self.try_target(rt, seat, place, target, gate) {
+            return reply;
         }
-    }
-
-    // It goes to any room of its window, all of which it holds, or is refused where there is none.
-    #[tactic(auto, using(live_pages::proofs::Ending::ends_after))]
-    fn place_in_window<R: Wait, G: Gate>(
-        &self,
-        rt: &R,
-        seat: &mut Seat<A>,
-        place: Place,
-        gate: &G,
-    ) -> Reply
-        requires sound { IsSoundPlace place }
-        requires room { 2 ≤ seat.old.room }
-        ensures { Ends seat.old result seat.new }
-    {
         match self.try_target(rt, seat, place, Target::Window, gate) {
             Some(reply) => reply,
-            // (who holds the window never looks elsewhere)
-            None => end_given_up(seat),
+            None => unreachable!(),
         }
     }
 
@@ -156,7 +125,6 @@ impl<A: Allocator + Clone> Live<A> {
 
     // The mapping locks the pages of its target, goes to a place there if it may, lets them go, and is
     // answered. None where it looks elsewhere.
-    #[tactic(auto, using(live_pages::proofs::Ending::ends_after, seats::proofs::Growing::grew_trans))]
     fn try_target<R: Wait, G: Gate>(
         &self,
         rt: &R,
@@ -167,147 +135,126 @@ impl<A: Allocator + Clone> Live<A> {
     ) -> Option<Reply>
         requires sound { IsSoundGoal (GoalOf.Place place target) }
         requires room { 2 ≤ seat.old.room }
-        ensures ends { IfSome result (λ reply. Ends seat.old reply seat.new) }
-        ensures again { IfNone result ((Grew seat.old seat.new) × (2 ≤ seat.new.room)) }
+        ensures ended { EndsIf seat.old result seat.new }
+        ensures last { target ≡ Window → IsSome result }
     {
-        let mut held = Held::new(self.tree.alloc(), target.range(place).first);
-        let reply = self.try_locked(rt, seat, &mut held, place, target, gate);
-        let_go(held, seat, reply);
-        reply
+        let mut call = InCall {
+            seat,
+            held: Held::new(self.tree.alloc(), target.range(place).first),
+            space: self,
+            rt,
+            gate,
+        };
+        let ending = call.lock_target(place, target);
+        let InCall {
+            seat,
+            held,
+            space: _,
+            rt: _,
+            gate: _,
+        } = call;
+        self.end(rt, seat, held, ending)
     }
+}
 
+impl<'c, R: Wait, G: Gate, A: Allocator + Clone> InCall<'c, '_, '_, '_, R, G, A> {
     // The pages of the target are locked, and the mapping goes to a place there if it may.
-    #[tactic(auto, using(seats::proofs::Growing::grew_trans, seats::proofs::Growing::grew_room))]
-    fn try_locked<'a, R: Wait, G: Gate>(
-        &'a self,
-        rt: &R,
-        seat: &mut Seat<A>,
-        held: &mut Held<'a, A>,
-        place: Place,
-        target: Target,
-        gate: &G,
-    ) -> Option<Reply>
+    #[tactic(auto, using(crate::proofs::Noted::steps))]
+    fn lock_target(&mut self, place: Place, target: Target) -> Ending
         requires sound { IsSoundGoal (GoalOf.Place place target) }
-        requires none { held.old.slots ≡ [] }
-        requires first { held.old.first ≡ (target_range place target).first }
-        requires room { 2 ≤ seat.old.room }
-        ensures grew { Grew seat.old seat.new }
-        ensures room { CanEnd result held.new seat.new }
+        requires none { self.old.held.slots ≡ [] }
+        requires first { self.old.held.first ≡ (target_range place target).first }
+        ensures goes { GoesOn self.old.seat self.new.seat }
+        ensures last { target ≡ Window → IsSome (reply_of result) }
     {
-        if !self.lock_all(rt, seat, held, target.range(place).end, 0) {
-            return Some(give_up(seat));
+        if !self.lock_all(target.range(place).end, 0) {
+            return Ending::GiveUp;
         }
-        gate.at(rt, seat.core(), Point::Locked);
-        self.find(rt, seat, held, place, target, gate)
+        self.at(Point::Locked);
+        self.find(place, target)
     }
 
     // All pages of the target are held: the mapping goes to a place there, is refused, or looks
     // elsewhere.
-    #[tactic(auto, using(seats::proofs::Growing::grew_trans, seats::proofs::Growing::grew_steps))]
-    fn find<'a, R: Wait, G: Gate>(
-        &'a self,
-        rt: &R,
-        seat: &mut Seat<A>,
-        held: &mut Held<'a, A>,
-        place: Place,
-        target: Target,
-        gate: &G,
-    ) -> Option<Reply>
+    #[tactic(auto, using(crate::proofs::Noted::steps))]
+    fn find(&mut self, place: Place, target: Target) -> Ending
         requires sound { IsSoundGoal (GoalOf.Place place target) }
-        requires covers { Covers held.old (target_range place target) }
-        requires room { length held.old.slots + 2 ≤ seat.old.room }
-        ensures grew { Grew seat.old seat.new }
-        ensures room { CanEnd result held.new seat.new }
+        requires covers { Covers self.old.held (target_range place target) }
+        ensures goes { GoesOn self.old.seat self.new.seat }
+        ensures last { target ≡ Window → IsSome (reply_of result) }
     {
-        let Some(decision) = self.decide_place(held, seat.core(), place, target) else {
-            return Some(give_up(seat));
+        let Some(decision) = self.decide_place(place, target) else {
+            return Ending::GiveUp;
         };
-        if !seat.reserve(held.len().saturating_add(3)) {
-            return Some(give_up(seat));
+        if !self.has_room(1) {
+            return Ending::GiveUp;
         }
-        let _found = seat.step();
+        let _found = self.seat.step();
         match decision {
-            Decision::Act { range, .. } => {
-                Some(self.put(rt, seat, held, range, place.meta, gate))
-            }
-            Decision::Refuse(errno) => Some(Reply::Refused(errno)),
-            Decision::Again => None,
+            Decision::Act { range, .. } => self.put(range, place.meta),
+            Decision::Refuse(errno) => Ending::Answer(Reply::Refused(errno)),
+            Decision::Again => Ending::Again,
         }
     }
 
     // What a mapping decides that holds its target. None for want of memory.
-    fn decide_place<'a>(
-        &'a self,
-        held: &Held<'a, A>,
-        core: CoreId,
-        place: Place,
-        target: Target,
-    ) -> Option<Decision>
-        requires { IsSoundGoal (GoalOf.Place place target) }
+    fn decide_place(&self, place: Place, target: Target) -> Option<Decision>
+        requires sound { IsSoundGoal (GoalOf.Place place target) }
         ensures sound { IfSome result (IsSoundAct (GoalOf.Place place target)) }
         ensures inside { IfSome result (IsInside (target_range place target)) }
+        ensures last { IfSome result (λ decision. target ≡ Window → decision ≢ Again) }
     {
-        let Ok(own) = self.tree.alloc().clone() else {
+        let space = self.space;
+        let Ok(own) = space.tree.alloc().clone() else {
             return None;
         };
-        let lent = held.lent(own, core)?;
-        let decision = decide_place_over(&lent, &self.objects, place, target);
+        let lent = self.held.lent(own, self.seat.core())?;
+        let decision = decide_place_over(&lent, &space.objects, place, target);
         Some(decision)
     }
 
     // The pages of the range are to be mapped: the held slots that cross an edge of it are cut, and
-    // then the change is made.
-    #[tactic(auto, using(seats::proofs::Growing::grew_trans, seats::proofs::Growing::grew_steps))]
-    fn put<'a, R: Wait, G: Gate>(
-        &'a self,
-        rt: &R,
-        seat: &mut Seat<A>,
-        held: &mut Held<'a, A>,
-        range: PageRange,
-        meta: Meta,
-        gate: &G,
-    ) -> Reply
+    // then they are mapped in one step. Nothing was mapped there, so that no frame is counted down, and
+    // no other core is told.
+    #[tactic(auto, using(crate::proofs::Noted::steps))]
+    fn put(&mut self, range: PageRange, meta: Meta) -> Ending
         requires sound { IsSoundPut range meta }
-        requires covers { Covers held.old range }
-        requires room { length held.old.slots + 2 ≤ seat.old.room }
-        ensures grew { Grew seat.old seat.new }
-        ensures room { length held.new.slots + 1 ≤ seat.new.room }
+        requires covers { Covers self.old.held range }
+        ensures goes { GoesOn self.old.seat self.new.seat }
+        ensures ends { IsSome (reply_of result) }
     {
-        if !self.cut_all(rt, seat, held, range) {
-            return give_up(seat);
+        if !self.cut_all(range) {
+            return Ending::GiveUp;
         }
-        if held.reserve(range).is_err() {
-            return give_up(seat);
+        if self.held.reserve(range).is_err() {
+            return Ending::GiveUp;
         }
-        gate.at(rt, seat.core(), Point::Commit);
-        let _fits = seat.step();
-        commit_put(rt, seat, held, range, meta, gate)
+        self.at(Point::Commit);
+        let _fits = self.seat.step();
+        self.commit_slots(Change::Put { range, meta });
+        self.seat.set_next_page(range.end);
+        Ending::Answer(Reply::Mapped(range.first * PAGE_SIZE))
     }
 
     // Cuts the held slots that cross an edge of the range. False where the call is to be given up.
-    #[tactic(auto, using(seats::proofs::Growing::grew_trans, seats::proofs::Growing::grew_steps, seats::proofs::Growing::grew_room))]
-    fn cut_all<'a, R: Wait>(
-        &'a self,
-        rt: &R,
-        seat: &mut Seat<A>,
-        held: &mut Held<'a, A>,
-        range: PageRange,
-    ) -> bool
-        requires { length held.old.slots + 2 ≤ seat.old.room }
-        ensures grew { Grew seat.old seat.new }
-        ensures place { (held.new.first ≡ held.old.first) × (held.new.end ≡ held.old.end) }
-        ensures room { length held.new.slots + 2 ≤ seat.new.room }
-        ensures more { IsTrue result → length held.new.slots + 3 ≤ seat.new.room }
-        ensures edges { IsTrue result → All (CrossesNoEdge range) held.new.slots }
+    #[tactic(auto, using(crate::proofs::Noted::steps))]
+    fn cut_all(&mut self, range: PageRange) -> bool
+        ensures goes { GoesOn self.old.seat self.new.seat }
+        ensures place { (self.new.held.first ≡ self.old.held.first)
+            × (self.new.held.end ≡ self.old.held.end) }
+        ensures room { IsTrue result → HasStepsLeft 2 self.new.held self.new.seat.now }
+        ensures edges { IsTrue result → All (CrossesNoEdge range) self.new.held.slots }
     {
-        let core = seat.core();
+        let rt = self.rt;
+        let space = self.space;
+        let core = self.seat.core();
         'cuts: for _turn in rt.forever() {
-            // for the step and its 511 slots more, for the last step of the cuts and that of the
-            // commit, or to give up, to let go of all slots, and to answer
-            if !seat.reserve(held.len().saturating_add(516)) {
+            // for the step and its 511 slots more, and for the last step of the cuts and that of the
+            // commit
+            if !self.has_room(514) {
                 return false;
             }
-            match held.cut_next(rt, &self.tree, seat, core, range) {
+            match self.held.cut_next(rt, &space.tree, self.seat, core, range) {
                 Cutting::Cut => {}
                 Cutting::Fits => return true,
                 Cutting::Unseen | Cutting::NoMemory | Cutting::Lost => return false,
@@ -327,32 +274,7 @@ fn decide_place_over<M: SlotMap, A: Allocator>(
     requires { IsSoundGoal (GoalOf.Place place target) }
     ensures sound { IsSoundAct (GoalOf.Place place target) result }
     ensures inside { IsInside (target_range place target) result }
+    ensures last { target ≡ Window → result ≢ Again }
 {
     decide(map, objects, Goal::Place { place, target })
-}
-
-// The commit: the pages are mapped in one step. Nothing was mapped there, so that no frame is counted
-// down, and no other core was told.
-#[tactic(auto, using(seats::proofs::Growing::grew_trans, seats::proofs::Growing::grew_steps, seats::proofs::Growing::grew_next_page))]
-fn commit_put<R: Wait, A: Allocator + Clone, G: Gate>(
-    rt: &R,
-    seat: &mut Seat<A>,
-    held: &mut Held<'_, A>,
-    range: PageRange,
-    meta: Meta,
-    gate: &G,
-) -> Reply
-    requires sound { IsSoundPut range meta }
-    requires covers { Covers held.old range }
-    requires edges { All (CrossesNoEdge range) held.old.slots }
-    requires slots { All (HasRoom range) held.old.slots }
-    requires room { length held.old.slots + 2 ≤ seat.old.room }
-    ensures grew { Grew seat.old seat.new }
-    ensures room { length held.new.slots + 1 ≤ seat.new.room }
-{
-    let ticket = seat.step();
-    gate.at(rt, seat.core(), Point::Drawn);
-    held.commit(ticket, Change::Put { range, meta });
-    seat.set_next_page(range.end);
-    Reply::Mapped(range.first * PAGE_SIZE)
 }

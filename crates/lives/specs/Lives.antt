@@ -10,9 +10,9 @@ use Rattle.picture.specs.Drawing.{prot_class}
 use Rattle.picture.specs.Elements.{line_text, text_front}
 use Rattle.picture.specs.Parts.{span_text}
 use Rattle.picture.specs.Rows.{edges_of, first_stretches, rows_of}
+use Rattle.picture.specs.Style.{Shade, both_shade, exec_shade, nothing_shade, read_shade, shades, write_shade}
 use Rattle.picture.specs.declared.elements.Way.{Way}
 use Rattle.lives.specs.declared.drawing.Chart.{Chart}
-use Rattle.lives.specs.declared.drawing.TheConstants as Text
 use Rattle.picture.specs.declared.moments.Recorded.{Recorded}
 use Rattle.picture.specs.declared.shapes.Stretch.{Stretch}
 
@@ -41,6 +41,23 @@ plot_height chart = min (24 * chart.rows) 760
 -- behind the last step
 abbrev pub end_of : ℕ → ℕ
 end_of steps = min (steps + 1) (2 ^ 64 - 1)
+
+-- ---- colours
+
+-- the edge of a life, in the colour of what its pages allow
+abbrev pub edge_rule : Shade → List ℕ
+edge_rule shade = concat (codes "." ∷ shade.class ∷ codes "{stroke:" ∷ shade.edge ∷ codes "}" ∷ [])
+
+-- that colour, and behind it what they allow, at these places in a row
+abbrev pub key_text : List ℕ → List ℕ → Shade → List ℕ
+key_text x words shade = concat (codes "<rect x=\"" ∷ x ∷ codes "\" y=\"9\" width=\"14\" height=\"10\" class=\"" ∷ shade.class
+    ∷ codes "\"/><text class=\"note\" x=\"" ∷ words ∷ codes "\" y=\"18\">" ∷ shade.name ∷ codes "</text>\n" ∷ [])
+
+abbrev pub style_text : List ℕ
+style_text = concat (codes "<style>\nrect{stroke-width:.5px;vector-effect:non-scaling-stroke}\n" ∷ flat_map edge_rule shades ∷ codes "\n</style>\n"
+    ∷ key_text (codes "640") (codes "658") nothing_shade ∷ key_text (codes "740") (codes "758") read_shade
+    ∷ key_text (codes "810") (codes "828") write_shade ∷ key_text (codes "884") (codes "902") exec_shade
+    ∷ key_text (codes "970") (codes "988") both_shade ∷ [])
 
 -- ---- text
 
@@ -94,7 +111,7 @@ life_text chart life = concat (codes "<rect class=\"" ∷ prot_class life.prot �
     ∷ start_of life.pages.end ∷ codes " " ∷ rights_text life.prot ∷ span_text life.begin life.end ∷ codes "</title></rect>\n" ∷ [])
 
 unfoldable pub chart_text : Chart → List PageRange → Bool → List Stretch → List ℕ
-chart_text chart rows more lives = front_text 1360 (plot_height chart + 64) ++ Text.LIVES_STYLE.now ++ head_text chart more (length lives)
+chart_text chart rows more lives = front_text 1360 (plot_height chart + 64) ++ style_text ++ head_text chart more (length lives)
     ++ ticks_text chart 9 ++ pages_text chart rows (count_of chart) ++ frame_text chart ++ flat_map (life_text chart) lives ++ codes "</svg>\n</svg>\n"
 
 abbrev pub drawn_of : ℕ → List PageRange → List Stretch → List ℕ

@@ -9,6 +9,7 @@ pub mod OutcomeWritten
 pub mod ScriptLemmas
 pub mod NoteWritten
 pub mod PieceLemmas
+pub mod MergeLemmas
 pub mod TaskLemmas
 pub mod PrintableLemmas
 pub mod TextOnce

@@ -10,6 +10,7 @@ pub mod CertifyEnds
 pub mod Written
 pub mod WrittenLaws
 pub mod Ordered
+pub mod Merged
 pub mod WriteEnds
 pub mod Scripts
 pub mod TextLaws

@@ -1,8 +1,11 @@
 //! Whether the notes of a text are a run of the machine.
-ghost use Rattle.std.specs.Prelude.{◌≡◌, ◌⊎◌, Err, IfErr, IfOk, IsSomeAnd, None, option_copied, true};
+ghost use Rattle.std.specs.Prelude.{◌≡◌, ◌⊎◌, [], ◌∷◌, Err, IfErr, IfOk, IsSomeAnd, None, option_copied, true};
+ghost use Rattle.certifier.specs.Order.{AreNumbered};
+ghost use Rattle.certifier.specs.Standings.{AreStandings};
+ghost use Rattle.core_steps.specs.Setups.{fault_of, made_of};
 ghost use Rattle.trace_io.specs.Io.{read_from, written_to};
 ghost use Rattle.trace_io.specs.Source.{HasStopped, Reads};
-ghost use Rattle.trace.specs.Declarations.{Asked, asked_fault};
+ghost use Rattle.trace.specs.Declarations.{Asked, asked_fault, made_by};
 ghost use Rattle.trace.specs.Ends.{TellsFaults};
 ghost use Rattle.trace.specs.declared.fault.TraceFault.TheVariants.{ReadFailed, WriteFailed};
 ghost use Rattle.notes_text.specs.CertifyEnds.{Certifies, FindsVerdict};
@@ -11,7 +14,9 @@ ghost use Rattle.notes_text.specs.Verdicts.{Judges};
 use crate::collecting::collect;
 use crate::collector::Collector;
 use crate::verdict::{Verdict, write_verdict};
-use certifier::{CertifyFault, certify};
+use certifier::order::{Standing, standings};
+use certifier::{CertifyFault, certify_standing};
+use core_steps::Setup;
 use live_tree::histories::Histories;
 use radix_range::RadixMap;
 use seats::Noted;
@@ -30,23 +35,22 @@ fn no_histories<'a, A: Allocator>() -> Option<&'a Histories<A>>
     None
 }
 
-// What certifying the notes of a space with this declaration comes to.
+// What certifying these notes comes to, where it is known how each ticket stands. So memory is wanting only where each
+// stands once.
 fn judge<A: Allocator + Clone + Drop>(
     alloc: A,
-    declaration: &Declaration,
+    setup: Setup<A>,
     notes: &[Noted],
+    standings: &[Standing],
 ) -> Result<Verdict, NoMemory>
-    requires { asked_fault declaration.now ≡ None }
-    ensures { IfOk result (λ verdict. Judges A ⟦<RadixMap<A> as SlotMap>⟧.parts
-        ⟦<RadixMap<A> as SlotMap>⟧.can_fold ⟦<RadixMap<A> as SlotMap>⟧.folds declaration.now notes.now verdict) }
+    requires sound { fault_of setup ≡ None }
+    requires standings { AreStandings (notes.now ∷ []) standings.now }
+    ensures ok { IfOk result (λ verdict. (asked : Asked) → made_of setup ≡ made_by asked → Judges A
+        ⟦<RadixMap<A> as SlotMap>⟧.parts ⟦<RadixMap<A> as SlotMap>⟧.can_fold
+        ⟦<RadixMap<A> as SlotMap>⟧.folds asked notes.now verdict) }
+    ensures err { IfErr result (λ _. AreNumbered notes.now) }
 {
-    let Ok(for_files) = alloc.clone() else {
-        return Err(NoMemory);
-    };
-    let Ok(setup) = declaration.setup(for_files) else {
-        return Err(NoMemory);
-    };
-    match certify(alloc, setup, &[notes], no_histories()) {
+    match certify_standing(alloc, setup, &[notes], standings, no_histories()) {
         Ok(done) => Ok(Verdict::Certified(done.calls)),
         Err(CertifyFault::Ticket(ticket)) => Ok(Verdict::Ticket(ticket)),
         Err(
@@ -61,9 +65,38 @@ fn judge<A: Allocator + Clone + Drop>(
             expected,
         }),
         // (the setup has no fault, and no histories are handed in)
-        Err(CertifyFault::Setup(_))
-        | Err(CertifyFault::Slot { .. })
-        | Err(CertifyFault::NoMemory) => Err(NoMemory),
+        Err(CertifyFault::Setup(_)) => Err(NoMemory),
+        Err(CertifyFault::Slot { .. }) => Err(NoMemory),
+        Err(CertifyFault::NoMemory) => Err(NoMemory),
+    }
+}
+
+// What certifying the notes of a space with this declaration comes to. Memory is wanting for the setup, for how each
+// ticket stands, or as `judge` says.
+fn judge_declared<A: Allocator + Clone + Drop>(
+    alloc: A,
+    declaration: &Declaration,
+    notes: &[Noted],
+) -> Result<Verdict, NoMemory>
+    requires { asked_fault declaration.now ≡ None }
+    ensures { IfOk result (λ verdict. Judges A ⟦<RadixMap<A> as SlotMap>⟧.parts
+        ⟦<RadixMap<A> as SlotMap>⟧.can_fold ⟦<RadixMap<A> as SlotMap>⟧.folds declaration.now notes.now verdict) }
+{
+    let Ok(for_files) = alloc.clone() else {
+        return Err(NoMemory);
+    };
+    let Ok(setup) = declaration.setup(for_files) else {
+        return Err(NoMemory);
+    };
+    let Ok(for_order) = alloc.clone() else {
+        return Err(NoMemory);
+    };
+    let Ok(standings) = standings(for_order, &[notes]) else {
+        return Err(NoMemory);
+    };
+    match judge(alloc, setup, notes, &standings) {
+        Ok(verdict) => Ok(verdict),
+        Err(_) => Err(NoMemory),
     }
 }
 
@@ -82,7 +115,7 @@ fn judge_collected<A: Allocator + Clone + Drop>(
     let Some(declaration) = collected.declaration() else {
         return Err(TraceFault::NoMemory);
     };
-    match judge(alloc, declaration, collected.items()) {
+    match judge_declared(alloc, declaration, collected.items()) {
         Ok(verdict) => Ok(verdict),
         Err(_) => Err(TraceFault::NoMemory),
     }

@@ -1,13 +1,18 @@
 //! Notes as text: what is declared, and a line of each note, in order of tickets.
-ghost use Rattle.std.specs.Prelude.{◌≡◌, ◌+◌, ◌≤◌, ◌⊎◌, ◌∷◌, ◌++◌, [], Err, OnOk, decimal, length, map, true};
+ghost use Rattle.std.specs.Prelude.{◌≡◌, ◌+◌, ◌≤◌, ◌⊎◌, ◌∷◌, ◌++◌, [], All, Err, IfOk, List, OnOk, decimal, length, map, true};
 ghost use Rattle.std.specs.List.{flat_map};
+ghost use Rattle.std.specs.List.Sorted.{IsNonDecreasingBy};
 ghost use Rattle.trace_io.specs.Io.{IsWritten, written_to};
 ghost use Rattle.trace_text.specs.Spelling.{mode_text};
+ghost use Rattle.seats.specs.Notes.{ticket_of};
+ghost use Rattle.seats.specs.declared.noted.Noted.{Noted};
 ghost use Rattle.certifier.specs.Order.{all_notes};
+ghost use Rattle.notes_text.specs.Ordered.{AreInOrder};
 ghost use Rattle.notes_text.specs.Written.{declared_text, file_text, files_text, note_head, note_text, notes_text, space_text, spaced};
 ghost use Rattle.notes_text.specs.WriteEnds.{Writes};
 
 use crate::event_text::push_event;
+use crate::merging::{all_climb, least};
 use crate::ordering::in_order;
 use crate::script::Script;
 use crate::verdict::write_both;
@@ -18,7 +23,7 @@ use trace::fault::TraceFault;
 use trace::outcome_text::write_outcome;
 use trace_io::sink::{Sink, WriteFailed, write_all};
 use trace_text::{LineText, push_count, push_number, push_word};
-use vm_base::Mode;
+use vm_base::{Mode, NoMemory};
 
 // The word of what a file is open for.
 fn mode_word(mode: Mode) -> &'static str
@@ -90,6 +95,24 @@ fn write_note<W: Sink>(writer: &mut W, note: &Noted) -> Result<(), WriteFailed>
         head.as_str().as_bytes(),
         outcome.as_str().as_bytes(),
     )
+}
+
+// Writes a line of each note of lists in which the tickets don't fall, in order of tickets, and of those that have one ticket
+// in order of the lists. What was written is taken off the lists.
+fn write_merged<W: Sink>(writer: &mut W, lists: &mut [&[Noted]]) -> Result<(), WriteFailed>
+    requires { All (IsNonDecreasingBy ticket_of) (map (λ s. s.now) lists.old) }
+    ensures { (order : List Noted) × AreInOrder (all_notes (map (λ s. s.now) lists.old)) order
+        × IsWritten result (written_to W.Sink writer.old writer.new) (flat_map note_text order) }
+{
+    'notes: while let Some(head) = least(lists) {
+        let list = lists[head.at];
+        let note = list[0];
+        lists[head.at] = &list[1..];
+        if let Err(failed) = write_note(writer, &note) {
+            return Err(failed);
+        }
+    }
+    Ok(())
 }
 
 // Writes a line of each note.
@@ -165,10 +188,64 @@ fn write_out<W: Sink>(
     writer.flush()
 }
 
+// The same of notes that are merged, and a flush.
+fn merge_out<W: Sink>(
+    writer: &mut W,
+    declaration: &Declaration,
+    lists: &mut [&[Noted]],
+) -> Result<(), WriteFailed>
+    requires { All (IsNonDecreasingBy ticket_of) (map (λ s. s.now) lists.old) }
+    ensures wrote { (order : List Noted) × AreInOrder (all_notes (map (λ s. s.now) lists.old)) order
+        × IsWritten result (written_to W.Sink writer.old writer.new) (notes_text declaration.now order) }
+    ensures out { OnOk result (W.is_flushed writer.new ≡ true) }
+{
+    if let Err(failed) = write_declaration(writer, declaration) {
+        return Err(failed);
+    }
+    if let Err(failed) = write_merged(writer, lists) {
+        return Err(failed);
+    }
+    writer.flush()
+}
+
+// The lists, each where its notes begin.
+fn heads<'a, A: Allocator>(alloc: A, seats: &[&'a [Noted]]) -> Result<Vec<&'a [Noted], A>, NoMemory>
+    ensures { IfOk result (λ heads. map (λ s. s.now) heads.items ≡ map (λ s. s.now) seats.now) }
+{
+    let mut heads = Vec::new(alloc);
+    let Ok(()) = heads.extend_from_slice(seats) else {
+        return Err(NoMemory);
+    };
+    Ok(heads)
+}
+
+// The same of seats in each of which the tickets don't fall, which are merged.
+fn merge_notes<A: Allocator, W: Sink>(
+    alloc: A,
+    declaration: &Declaration,
+    seats: &[&[Noted]],
+    writer: &mut W,
+) -> Result<(), TraceFault>
+    requires { All (IsNonDecreasingBy ticket_of) (map (λ s. s.now) seats.now) }
+    ensures ends { Writes declaration.now (all_notes (map (λ s. s.now) seats.now)) (W.contents writer.old) (W.contents writer.new) result }
+    ensures out { OnOk result (W.is_flushed writer.new ≡ true) }
+    ensures kept { (result ≡ Err TraceFault.WriteFailed) ⊎ (W.failed writer.new ≡ W.failed writer.old) }
+    ensures write { result ≡ Err TraceFault.WriteFailed → W.failed writer.new ≡ true }
+{
+    let Ok(mut lists) = heads(alloc, seats) else {
+        return Err(TraceFault::NoMemory);
+    };
+    if let Err(_) = merge_out(writer, declaration, lists.as_mut_slice()) {
+        return Err(TraceFault::WriteFailed);
+    }
+    Ok(())
+}
+
 /// Writes the notes of all seats as text: the `vm` line, always with CALLS, and the `file` lines of what the script declares, and
 /// then of each note the line `TICKET EVENT = OUTCOME`. They stand in order of tickets, and notes that have one ticket in
-/// order of seats. What was written has gone out then. Memory for the order is taken from the script's allocator before anything is
-/// written; where it is refused, nothing is. At `WriteFailed` a front of the text was written.
+/// order of seats. What was written has gone out then. Where the tickets of no seat fall, the seats are merged: memory is taken
+/// for a list of the seats, and not for the notes. Else all notes are sorted. This memory is taken from the script's allocator
+/// before anything is written; where it is refused, nothing is. At `WriteFailed` a front of the text was written.
 #[tactic(auto, using(crate::proofs::PieceLemmas::wrote_all, crate::proofs::PieceLemmas::wrote_front, crate::proofs::PieceLemmas::wrote_none))]
 pub fn write_notes<A: Allocator + Clone + Drop, W: Sink>(
     script: &Script<A>,
@@ -183,6 +260,9 @@ pub fn write_notes<A: Allocator + Clone + Drop, W: Sink>(
     let Ok(for_order) = script.allocator().clone() else {
         return Err(TraceFault::NoMemory);
     };
+    if all_climb(seats) {
+        return merge_notes(for_order, script.declaration(), seats, writer);
+    }
     let Ok(order) = in_order(for_order, seats) else {
         return Err(TraceFault::NoMemory);
     };

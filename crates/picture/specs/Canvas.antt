@@ -8,7 +8,7 @@ use Rattle.picture.specs.Elements.{line_text, text_front}
 use Rattle.picture.specs.Places.{row_y, rows_y}
 use Rattle.picture.specs.Rows.{all_stretches, edges_of, row_at, rows_of}
 use Rattle.picture.specs.Shapes.{arrows_of, bars_of, marks_of}
-use Rattle.picture.specs.declared.drawing.TheConstants as Text
+use Rattle.picture.specs.Style.{legend_words, more_words, style_text}
 use Rattle.picture.specs.declared.elements.Way.{Way}
 use Rattle.picture.specs.declared.moments.Recorded.{Recorded}
 use Rattle.picture.specs.declared.places.View.{View}
@@ -28,7 +28,7 @@ height view rows = rows_y view + 24 * min rows 256 + 52
 -- the beginning of the text
 unfoldable pub front_text : ℕ → ℕ → List ℕ
 front_text w h = concat (codes "<svg xmlns=\"http://www.w3.org/2000/svg\" width=\"" ∷ decimal w ∷ codes "\" height=\"" ∷ decimal h
-    ∷ codes "\" viewBox=\"0 0 " ∷ decimal w ∷ codes " " ∷ decimal h ∷ codes "\">\n" ∷ Text.STYLE.now ∷ [])
+    ∷ codes "\" viewBox=\"0 0 " ∷ decimal w ∷ codes " " ∷ decimal h ∷ codes "\">\n" ∷ style_text ∷ [])
 
 -- a column's line, and the number of its step
 abbrev pub column_way : ℕ → ℕ → Way
@@ -76,8 +76,8 @@ unfoldable pub head_text : View → ℕ → List ℕ
 head_text view rows = text_front (codes "head") 8 (rows_y view - 10) ++ head_words rows
 
 unfoldable pub legend_text : ℕ → List ℕ
-legend_text bottom = concat (text_front (codes "note") 8 (bottom + 18) ∷ Text.LEGEND.now ∷ text_front (codes "note") 8 (bottom + 34)
-    ∷ Text.LEGEND_MORE.now ∷ [])
+legend_text bottom = concat (text_front (codes "note") 8 (bottom + 18) ∷ legend_words ∷ text_front (codes "note") 8 (bottom + 34)
+    ∷ more_words ∷ [])
 
 -- what shapes are drawn on
 unfoldable pub canvas_of : View → List PageRange → ℕ → ℕ → ℕ → List ℕ

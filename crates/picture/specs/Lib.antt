@@ -6,3 +6,4 @@ pub mod Parts
 pub mod Places
 pub mod Rows
 pub mod Shapes
+pub mod Style

@@ -2,8 +2,9 @@
 #![tactic(auto)]
 
 use command_line::command::{WordsFault, program, refuse_words};
+use command_line::terminals::Terminals;
 use live_script::OnThreads;
-use std::io::BufWriter;
+use std::io::{BufWriter, IsTerminal};
 use std::process::ExitCode;
 use trace_io::sink::Noted;
 
@@ -14,6 +15,11 @@ fn main(rt: HostRuntime) -> ExitCode {
         return ExitCode::from(refuse_words(WordsFault::NoMemory, &mut errors));
     };
     let mut out = Noted::new(buffer);
+    let terminals = Terminals {
+        input: rt.stdin().is_terminal(),
+        output: rt.stdout().is_terminal(),
+        errors: errors.is_terminal(),
+    };
     let status = program(
         &rt,
         &alloc,
@@ -22,6 +28,7 @@ fn main(rt: HostRuntime) -> ExitCode {
         rt.stdin(),
         &mut out,
         &mut errors,
+        terminals,
     );
     ExitCode::from(status)
 }

@@ -1,7 +1,7 @@
 //! Who watches a whole run and records the changes by which mappings begin and end.
 ghost use Rattle.std.specs.Prelude.{◌≡◌};
 ghost use Rattle.core_steps.specs.Machine.{state};
-ghost use Rattle.recorder.specs.Changes.{Changes, changes_recorded, stood};
+ghost use Rattle.recorder.specs.Changes.{Changes, ChangesRecorded, stood};
 
 use crate::looking::phase_in;
 use crate::recorder::moment_of;
@@ -16,7 +16,7 @@ use vm_base::NoMemory;
 use watched::Watch;
 
 /// Records each change of mappings in a whole run, as many as there are. Its memory grows with them. A clause sees it as
-/// `Changes`.
+/// `Changes`, and in them whether all memory was there.
 #[derive(Drop)]
 pub struct ChangeRecorder<A: Allocator> {
     steps: u64,
@@ -35,6 +35,7 @@ impl<A: Allocator> Model for ChangeRecorder<A> {
     ghost view = { λ r. record {
       steps = r.steps;
       moments = r.all.items;
+      is_whole = r.is_whole;
     } };
 
     ghost invariant = { λ r. r.is_whole ≡ true → r.kept.items ≡ r.all.items };
@@ -54,8 +55,8 @@ fn stood<M: SlotMap, A: Allocator + Clone, L: Ledger>(
 }
 
 impl<A: Allocator> ChangeRecorder<A> {
-    ghost use Rattle.std.specs.Prelude.{◌≡◌, IfOk};
-    ghost use Rattle.recorder.specs.Changes.{advanced, change_noted, nothing_changed, step_noted};
+    ghost use Rattle.std.specs.Prelude.{◌≡◌, IfOk, OnErr, OnOk, false, true};
+    ghost use Rattle.recorder.specs.Changes.{ChangeNoted, StepNoted, advanced, nothing_changed};
 
     /// A recorder before the first step of a run.
     pub fn new(alloc: A) -> ChangeRecorder<A>
@@ -76,9 +77,11 @@ impl<A: Allocator> ChangeRecorder<A> {
         self.steps
     }
 
-    /// All changes, in order. An error says that memory was refused for one of them.
+    /// All changes, in order. An error says that memory was refused for one of them; none is wanted here.
     pub fn moments(&self) -> Result<&[Recorded], AllocError>
-        ensures { IfOk result (λ moments. moments.now ≡ self.now.moments) }
+        ensures moments { IfOk result (λ moments. moments.now ≡ self.now.moments) }
+        ensures whole { OnOk result (self.now.is_whole ≡ true) }
+        ensures refused { OnErr result (self.now.is_whole ≡ false) }
     {
         if self.is_whole {
             Ok(self.kept.as_slice())
@@ -96,7 +99,7 @@ impl<A: Allocator> ChangeRecorder<A> {
 
     // The change is made in this step.
     fn note(&mut self, change: &Change)
-        ensures { self.new ≡ change_noted self.old change.now }
+        ensures { ChangeNoted self.old change.now self.new }
     {
         let recorded = Recorded {
             step: self.steps,
@@ -112,7 +115,7 @@ impl<A: Allocator> ChangeRecorder<A> {
 
     // A call that stood so came to this outcome.
     fn come(&mut self, phase: &Phase, outcome: &Outcome)
-        ensures { self.new ≡ step_noted self.old phase.now outcome.now }
+        ensures { StepNoted self.old phase.now outcome.now self.new }
     {
         if let Phase::Acks { change, .. } = phase {
             if *outcome == Outcome::Stepped {
@@ -123,7 +126,7 @@ impl<A: Allocator> ChangeRecorder<A> {
 }
 
 impl<B: Allocator> Watch for ChangeRecorder<B> {
-    ghost after = { changes_recorded };
+    ghost after = { ChangesRecorded };
 
     fn step<M: SlotMap, A: Allocator + Clone, L: Ledger>(
         &mut self,

@@ -2,6 +2,7 @@
 ghost use Rattle.std.specs.Prelude.{◌≡◌};
 ghost use Rattle.core_steps.specs.Machine.{state};
 ghost use Rattle.recorder.specs.Looking.{came, gone, idled, recorded, replied, stepped, taken, waited};
+ghost use Rattle.watched.specs.Watching.{makes};
 
 use crate::looking::{Before, awaited_by, look, pass_of};
 use crate::recorder::Recorder;
@@ -125,7 +126,7 @@ impl<B: Allocator> Recorder<B> {
 }
 
 impl<B: Allocator> Watch for Recorder<B> {
-    ghost after = { recorded };
+    ghost after = { makes recorded };
 
     fn step<M: SlotMap, A: Allocator + Clone, L: Ledger>(
         &mut self,

@@ -5,12 +5,13 @@ use Rattle.machine_model.specs.declared.event.Event.{Event}
 use Rattle.machine_model.specs.declared.event.Outcome.{Outcome}
 use Rattle.seats.specs.declared.noted.Noted.{Noted}
 
--- the word that the seat draws from and the tickets that it drew, its core, its notes, how many more
+-- the word that the seat draws from, the tickets that it drew and how many seats may still be split off from it, its core, its notes, how many more
 -- of them take no memory, how many calls it began, the event that a plain step notes, and from which
 -- frame and page on its core looks for a free one
 pub record SeatView : Type 0 where
   pub word : TableId
   pub tickets : List ℕ
+  pub spare : ℕ
   pub core : ℕ
   pub notes : List Noted
   pub room : ℕ

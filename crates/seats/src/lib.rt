@@ -1,11 +1,16 @@
 //! Seats: what a core's thread draws tickets with, and the steps that were noted under them.
+//! All seats of a space together have noted each ticket from 0 on once.
 //! `tickets` has the word from which threads draw the numbers of their steps, each once.
 #![tactic(auto)]
 
+mod gathering;
 mod noted;
 mod seat;
 mod tickets;
 
+pub use gathering::gather;
 pub use noted::Noted;
 pub use seat::Seat;
-pub use tickets::{Draw, Drawn, Once, SplitOff, Ticketer, Tickets, ticketers};
+pub use tickets::{
+    Count, Draw, Drawn, JoinUp, Joined, Once, SplitOff, Ticketer, Tickets, ticketers,
+};

@@ -45,6 +45,7 @@ impl<A: Allocator> Model for Seat<A> {
     ghost view = { λ s. record {
       word = s.ticketer.word;
       tickets = s.ticketer.tickets;
+      spare = s.ticketer.spare;
       core = s.core;
       notes = s.notes.items;
       room = min (vec_capacity s.notes - vec_len s.notes) (2 ^ 32 - vec_len s.notes);
@@ -60,6 +61,13 @@ impl<A: Allocator> Model for Seat<A> {
         × (is_between s.plain Stepped ≡ true) };
 }
 
+// What a seat is made of: the right to draw tickets, and what was noted under each that was drawn.
+#[derive(Drop)]
+pub(crate) struct Parts<A: Allocator> {
+    pub(crate) ticketer: Ticketer,
+    pub(crate) notes: Vec<Noted, A>,
+}
+
 impl<A: Allocator> Seat<A> {
     /// A seat of the core that has noted nothing, whose plain steps are those of the core's call.
     pub fn new(alloc: A, core: CoreId, tickets: Arc<Tickets<A>, A>, ticketer: Ticketer) -> Seat<A>
@@ -67,6 +75,7 @@ impl<A: Allocator> Seat<A> {
         requires new { ticketer.tickets ≡ [] }
         ensures word { (result.word ≡ ticketer.word) × (result.core ≡ core) }
         ensures nothing { (result.notes ≡ []) × (result.tickets ≡ []) × (result.begun ≡ 0) }
+        ensures spare { result.spare ≡ ticketer.spare }
         ensures plain { result.plain ≡ Go core }
         ensures next { (result.next_frame ≡ 0) × (result.next_page ≡ 0) }
     {
@@ -104,6 +113,21 @@ impl<A: Allocator> Seat<A> {
         ensures rising { Rises self.now.tickets }
     {
         self.notes.as_slice()
+    }
+
+    /// The right to draw tickets, and the notes so far.
+    pub(crate) fn into_parts(self) -> Parts<A>
+        ensures ticketer { result.ticketer
+            ≡ record { word = self.word; tickets = map ticket_of self.notes; spare = self.spare } }
+        ensures notes { result.notes.items ≡ self.notes }
+        ensures rising { Rises (map ticket_of self.notes) }
+    {
+        let Seat {
+            ticketer,
+            notes,
+            ..
+        } = self;
+        Parts { ticketer, notes }
     }
 
     /// Tells whether so many more notes stay within the limit of 2^32.

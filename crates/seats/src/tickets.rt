@@ -1,8 +1,8 @@
 //! Tickets: the numbers from 0 on, of which each is drawn once, by threads that share one word.
 ghost use Rattle.std.specs.Prelude.{◌≡◌, ℕ, ◌+◌, ◌-◌, ◌^◌, ◌<◌, ◌≤◌, [], ◌∷◌, ◌++◌, length, All, IfOk};
-ghost use Rattle.seats.specs.Tickets.{TicketerView, IsNew, Closed};
+ghost use Rattle.seats.specs.Tickets.{TicketerView, AreDealt, IsNew};
 
-use atomic_table::{Play, Seat, Split, Table, TableRule};
+use atomic_table::{Join, Play, Seat, Split, Table, TableRule};
 use std::alloc::{AllocError, Allocator};
 use std::collections::LinkedList;
 use std::marker::Model;
@@ -14,10 +14,10 @@ const MIDDLE: usize = 8;
 /// How many words the row has.
 const ROW: usize = 17;
 
-/// What a ticketer knows: the tickets that it drew, in order, and how many others it may still
-/// split off. No value of it is made.
+/// What a ticketer knows, or several that were joined: the tickets that each drew, in order, and how
+/// many others they may still split off. No value of it is made.
 pub struct Drawn {
-    pub tickets: LinkedList<u64>,
+    pub lists: LinkedList<LinkedList<u64>>,
     pub spare: u64,
 }
 
@@ -26,12 +26,12 @@ pub struct Drawn {
 pub struct Once;
 
 impl TableRule<(), Drawn, ()> for Once {
-    ghost use Rattle.std.specs.Prelude.{[]};
+    ghost use Rattle.std.specs.Prelude.{[], ◌∷◌};
     ghost use Rattle.seats.specs.Tickets.{Dealt, drawn};
 
     ghost holds = { λ _. Dealt };
 
-    ghost first = { λ _. drawn [] 63 };
+    ghost first = { λ _. drawn ([] ∷ []) 63 };
 }
 
 /// The step that draws.
@@ -47,12 +47,33 @@ impl Play<(), Drawn> for Draw {
 pub struct SplitOff;
 
 impl Split<Drawn> for SplitOff {
-    ghost use Rattle.std.specs.Prelude.{[], ◌-◌};
+    ghost use Rattle.std.specs.Prelude.{[], ◌∷◌, ◌-◌};
     ghost use Rattle.seats.specs.Tickets.{drawn};
 
-    ghost left = { λ v. drawn v.tickets (v.spare - 1) };
+    ghost left = { λ v. drawn v.lists (v.spare - 1) };
 
-    ghost right = { λ _. drawn [] 0 };
+    ghost right = { λ _. drawn ([] ∷ []) 0 };
+}
+
+/// The step that joins ticketers.
+pub struct JoinUp;
+
+impl Join<Drawn> for JoinUp {
+    ghost use Rattle.std.specs.Prelude.{[], ◌+◌, ◌++◌};
+    ghost use Rattle.seats.specs.Tickets.{drawn};
+
+    ghost both = { λ v w. drawn (v.lists ++ w.lists) (v.spare + w.spare) };
+
+    ghost spent = { drawn [] 0 };
+}
+
+/// The step that counts all tickets.
+pub struct Count;
+
+impl Play<(), Drawn> for Count {
+    ghost use Rattle.seats.specs.Tickets.{Counts};
+
+    ghost then = { Counts };
 }
 
 /// The right to draw tickets from one word. It has no bytes. A clause sees the word, the tickets
@@ -63,18 +84,50 @@ pub struct Ticketer {
 }
 
 impl Model for Ticketer {
-    ghost use Rattle.std.specs.Prelude.{◌≡◌, []};
-    ghost use Rattle.seats.specs.Tickets.{TicketerView};
+    ghost use Rattle.std.specs.Prelude.{◌≡◌, [], ◌∷◌};
+    ghost use Rattle.seats.specs.Tickets.{TicketerView, own};
 
     ghost Value = { TicketerView };
 
     ghost view = { λ t. record {
       word = t.seat.table_id;
-      tickets = t.seat.me.0.tickets;
+      tickets = own t.seat.me.0;
       spare = t.seat.me.0.spare;
     } };
 
-    ghost invariant = { λ t. t.seat.me.1 ≡ [] };
+    ghost invariant = { λ t. (t.seat.me.1 ≡ []) × (t.seat.me.0.lists ≡ own t.seat.me.0 ∷ []) };
+}
+
+/// Several ticketers of one word, which draw no more. It has no bytes. A clause sees the word, the
+/// tickets that each drew, and how many ticketers they may still split off.
+#[derive(Drop)]
+pub struct Joined {
+    seat: Seat<(), Drawn>,
+}
+
+impl Model for Joined {
+    ghost use Rattle.std.specs.Prelude.{◌≡◌, []};
+    ghost use Rattle.seats.specs.Tickets.{JoinedView};
+
+    ghost Value = { JoinedView };
+
+    ghost view = { λ j. record {
+      word = j.seat.table_id;
+      lists = j.seat.me.0.lists;
+      spare = j.seat.me.0.spare;
+    } };
+
+    ghost invariant = { λ j. j.seat.me.1 ≡ [] };
+}
+
+impl Ticketer {
+    /// The ticketer, to which others are joined.
+    pub fn into_joined(self) -> Joined
+        ensures { result ≡ record { word = self.word; lists = self.tickets ∷ []; spare = self.spare } }
+    {
+        let Ticketer { seat } = self;
+        Joined { seat }
+    }
 }
 
 /// The word from which all tickets of a space are drawn, in a cache line of its own. It is no lock: a
@@ -135,17 +188,30 @@ impl<A: Allocator> Tickets<A> {
         Ticketer { seat }
     }
 
-    /// How many tickets were drawn in all. Between any two steps, and so now, the rule holds, of
-    /// this ticketer among others.
-    pub fn close(self, ticketer: Ticketer) -> u64
-        requires here { ticketer.word ≡ self }
-        ensures { Closed result ticketer }
+    /// Joins a ticketer to others.
+    pub fn join(&self, joined: &mut Joined, ticketer: Ticketer)
+        requires here { joined.old.word ≡ self.now }
+        requires own { ticketer.word ≡ self.now }
+        ensures { joined.new ≡ record joined.old {
+          lists = joined.old.lists ++ ticketer.tickets ∷ [];
+          spare = joined.old.spare + ticketer.spare;
+        } }
     {
-        let Tickets { table } = self;
-        let closed = table.close_with(ticketer.seat);
-        let drawn = closed.word(MIDDLE);
-        closed.free();
-        drawn
+        let Ticketer { seat } = ticketer;
+        self.table
+            .shared
+            .join_seat::<JoinUp>(&mut joined.seat, seat);
+    }
+
+    /// How many tickets were drawn in all, where all ticketers of the word are joined: there are 64, with those that
+    /// they may still split off. Their tickets are the numbers below, each once.
+    pub fn count(&self, joined: &mut Joined) -> u64
+        requires here { joined.old.word ≡ self.now }
+        requires all { joined.old.spare + length joined.old.lists ≡ 64 }
+        ensures dealt { AreDealt result joined.old.lists }
+        ensures same { joined.new ≡ joined.old }
+    {
+        self.table.shared.load::<Count>(&mut joined.seat, MIDDLE)
     }
 }
 

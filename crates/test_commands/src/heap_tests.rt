@@ -41,7 +41,6 @@ certified 1";
 const LOGGED: Shows = Shows {
     show: Show::OutcomesAndLog,
     limit: CallLimit::Usual,
-    explains: false,
     sums: false,
 };
 
@@ -54,13 +53,14 @@ fn do_in<T: Threads + Wait + Sync>(
     out: &mut Noted<Filling, Global>,
     errors: &mut Vec<u8>,
 ) -> u8 {
-    match word {
+    let ended = match word {
         "run" => run(heap, reader, out, errors, LOGGED),
         "echo" => run_echoing(heap, reader, out, errors, CallLimit::Usual, false),
         "certify" => certify(heap, reader, out, errors),
         "live" => live(rt, &InTurn, heap, reader, out, errors),
         _ => certify_live(rt, &InTurn, heap, reader, out, errors),
-    }
+    };
+    ended.status
 }
 
 // What this word comes to in a heap of this size.

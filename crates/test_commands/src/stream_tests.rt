@@ -2,6 +2,7 @@
 //! what goes out where none fails.
 use crate::streams::{AMPLE, Limits, Ran, run_words, text_of};
 use command_line::help;
+use command_line::help::Topic;
 use command_line::input::Files;
 use std::alloc::Global;
 use std::sync::Wait;
@@ -68,6 +69,14 @@ fn tells(ran: &Ran, fault: &[u8], all: &Ran) -> bool {
     ran.errors.as_slice() == fault && ran.status == 3 && all.out.starts_with(&ran.out)
 }
 
+// What is told of a read that fails, which the streams let fail for no reason that has a name.
+fn read_failed(words: &str) -> &'static [u8] {
+    if words.ends_with("--explain") {
+        return b"radixvm: read failed\n  standard input: other error\n";
+    }
+    b"radixvm: read failed\n"
+}
+
 // Whether each read that fails is told, that of the end too.
 fn tells_of_reads<T: Files + Threads + Wait + Sync>(
     (alloc, rt): (Global, &T),
@@ -78,7 +87,7 @@ fn tells_of_reads<T: Files + Threads + Wait + Sync>(
     for reads in 0..=input.len() as u64 {
         let limits = Limits { reads, ..AMPLE };
         let ran = run_words((alloc, rt), &alloc, words, input, limits);
-        if !tells(&ran, b"radixvm: read failed\n", &all) {
+        if !tells(&ran, read_failed(words), &all) {
             return false;
         }
     }
@@ -151,7 +160,7 @@ fn help_unwritten(rt: HostRuntime) {
 
 fn is_narrow(page: &str) -> bool {
     for line in page.split('\n') {
-        if line.len() > 80 {
+        if line.len() > 79 {
             return false;
         }
     }
@@ -159,21 +168,22 @@ fn is_narrow(page: &str) -> bool {
 }
 
 #[test]
-fn help_fits_into_eighty_columns(rt: HostRuntime) {
-    for page in [
-        help::OVERVIEW,
-        help::TRACE,
-        help::OUTCOMES,
-        help::LOG,
-        help::MAPS,
-        help::FAULTS,
-        help::CORES,
-        help::NOTES,
-        help::THREADS,
-        help::IMPORT,
-        help::AUDIT,
-        help::PICTURE,
+fn help_fits_into_79_columns(rt: HostRuntime) {
+    for topic in [
+        Topic::Overview,
+        Topic::Run,
+        Topic::Trace,
+        Topic::Outcomes,
+        Topic::Log,
+        Topic::Maps,
+        Topic::Faults,
+        Topic::Cores,
+        Topic::Notes,
+        Topic::Threads,
+        Topic::Import,
+        Topic::Audit,
+        Topic::Picture,
     ] {
-        assert!(rt; is_narrow(page));
+        assert!(rt; is_narrow(help::page(topic)));
     }
 }

@@ -1,6 +1,7 @@
 //! Streams that fail, and the program over them.
 use command_line::command::program;
 use command_line::input::Files;
+use command_line::terminals::NO_TERMINALS;
 use live_script::InTurn;
 use std::alloc::{Allocator, Global};
 use std::env::{Env, FillError};
@@ -177,6 +178,7 @@ pub fn run_words<A: Allocator, T: Files + Threads + Wait + Sync>(
         dripping_of(input, limits),
         &mut out,
         &mut errors,
+        NO_TERMINALS,
     );
     ran_of(out, errors, status)
 }

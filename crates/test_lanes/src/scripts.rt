@@ -2,8 +2,9 @@
 //! replies of a core that is alone are those of a plain page map, which lets mappings have any place.
 use crate::script::setup_of;
 use audit::{Auditor, Call};
+use certifier::CertifyFault;
 use core_steps::Setup;
-use live_script::{OnThreads, Ran, Runner, certify_ran};
+use live_script::{OnThreads, Ran, Runner, begin, certify_ran, run_in_turn};
 use machine_model::{Event, Outcome};
 use notes_text::{Script, read_script};
 use radix_range::RadixMap;
@@ -181,7 +182,32 @@ fn is_certified(
     let calls = calls_of(alloc, &ran)?;
     let are_plain = are_plain(alloc, space, calls.as_slice())?;
     let is_right = are_plain && is_none_given_up(calls.as_slice());
-    Ok(is_right && certify_ran(alloc, script, ran).is_ok())
+    let ended = ran.end()?;
+    let notes = ended.notes(alloc)?;
+    Ok(is_right && certify_ran(alloc, script, notes.as_slice(), &ended.histories).is_ok())
+}
+
+/// The page of the slot that is refused where the notes of a script are certified beside the histories of another space of
+/// it, in which nothing was done; none where they are certified, or something else is refused.
+pub fn astray_beside_unused<R: Wait>(
+    rt: &R,
+    alloc: Global,
+    text: &str,
+) -> Result<Option<u64>, NoMemory> {
+    let script = script_of(alloc, text)?;
+    let Ok(ran) = run_in_turn(rt, alloc, &script) else {
+        return Err(NoMemory);
+    };
+    let Ok(unused) = begin(alloc, &script) else {
+        return Err(NoMemory);
+    };
+    let ended = ran.end()?;
+    let unused = unused.end()?;
+    let notes = ended.notes(alloc)?;
+    match certify_ran(alloc, &script, notes.as_slice(), &unused.histories) {
+        Err(CertifyFault::Slot { page }) => Ok(Some(page)),
+        _ => Ok(None),
+    }
 }
 
 /// The same of a script that looks random.

@@ -262,10 +262,13 @@ fn came_of_ran<'h>(
     script: &Script<&'h LocalHeap>,
     ran: Ran<&'h LocalHeap>,
 ) -> Came {
-    if ran.notes(heap).is_err() {
+    let Ok(ended) = ran.end() else {
         return Came::RefusedLate;
-    }
-    match certify_ran(heap, script, ran) {
+    };
+    let Ok(notes) = ended.notes(heap) else {
+        return Came::RefusedLate;
+    };
+    match certify_ran(heap, script, notes.as_slice(), &ended.histories) {
         Ok(_) => Came::Done,
         Err(CertifyFault::NoMemory) => Came::RefusedLate,
         Err(_) => Came::Otherwise,
@@ -351,40 +354,40 @@ fn done_once<R: Threads + Wait + Sync>(
     }
 }
 
-// When memory was refused, as rows name it.
-fn refused_at(early: bool, late: bool) -> &'static str {
-    if early && late {
-        "early and late"
-    } else if early {
-        "early"
-    } else if late {
-        "late"
+// Whether memory was refused when a row asks for it. `early` and `late` ask for no more than they name: how lists grow decides what else is refused.
+fn is_asked(asked: &str, early: bool, late: bool) -> bool {
+    if asked == "early and late" {
+        early && late
+    } else if asked == "early" {
+        early
+    } else if asked == "late" {
+        late
     } else {
-        "never"
+        asked == "never" && !early && !late
     }
 }
 
-/// When memory was refused to one of them, which is given more each time until it is done; nothing, where all else didn't go well.
-fn refused<R: Threads + Wait + Sync>(
+/// Whether one of them, which is given more each time until it is done, is refused memory when the row asks for it, and all else goes well.
+fn is_refused<R: Threads + Wait + Sync>(
     rt: &R,
     alloc: Global,
     line: &str,
     row: Row<'_>,
-) -> Result<&'static str, NoMemory> {
+) -> Result<bool, NoMemory> {
     let mut early = false;
     let mut late = false;
     for given in 0..MANY {
         match done_once(rt, alloc, line, row, given)? {
-            Came::Done => return Ok(refused_at(early, late)),
+            Came::Done => return Ok(is_asked(row.refused, early, late)),
             Came::Refused => early = true,
             Came::RefusedLate => late = true,
-            Came::Otherwise => return Ok("otherwise"),
+            Came::Otherwise => return Ok(false),
         }
     }
-    Ok("always")
+    Ok(false)
 }
 
-/// Appends the lines of a row to which memory is refused otherwise, and when.
+/// Appends the lines of a row that come to something else.
 fn push_wrong<R: Threads + Wait + Sync>(
     rt: &R,
     alloc: Global,
@@ -392,11 +395,9 @@ fn push_wrong<R: Threads + Wait + Sync>(
     wrong: &mut String<Global>,
 ) -> Result<(), NoMemory> {
     for line in row.starved.split(" / ") {
-        let when = refused(rt, alloc, line, row)?;
-        if when != row.refused {
+        if !is_refused(rt, alloc, line, row)? {
             push_line(row.before, wrong)?;
             push_line(line, wrong)?;
-            push_line(when, wrong)?;
         }
     }
     Ok(())

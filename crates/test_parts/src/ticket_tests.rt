@@ -1,7 +1,6 @@
 //! `tickets`: threads that draw side by side.
 ghost use Rattle.std.specs.Prelude.{◌≡◌, ℕ, ◌+◌, ◌-◌, ◌^◌, ◌<◌, ◌≤◌, [], length, All};
 ghost use Rattle.std.specs.Prelude.{IfOk, IfSome, slice_get};
-ghost use Rattle.seats.specs.Tickets.{Closed};
 
 use seats::{Ticketer, Tickets, ticketers};
 use std::alloc::{AllocError, Global};

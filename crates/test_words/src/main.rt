@@ -11,7 +11,8 @@
 //! - `-- status N`.
 //!
 //! In all of these `\xHH` is a byte, and `\.` nothing, so that `\.` alone is an empty line or word. A line that ends with `\c`
-//! has no newline. A line `\*N TEXT` is TEXT N times. Words name files of data/, too.
+//! has no newline. A line `\*N TEXT` is TEXT N times. Words name files of data/, too. Of the words, `@input`, `@output` and `@errors` aren't
+//! the program's: they say that standard input, output or error is a terminal, and `@NO_COLOR` that this variable is set.
 #![tactic(auto)]
 
 mod row;

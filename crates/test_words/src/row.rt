@@ -2,6 +2,7 @@
 use crate::text::{push_lines, push_text, push_words};
 use command_line::command::program;
 use command_line::input::Files;
+use command_line::terminals::Terminals;
 use live_script::OnThreads;
 use std::alloc::Global;
 use std::env::{Env, FillError};
@@ -10,10 +11,11 @@ use std::sync::Wait;
 use std::thread::Threads;
 use trace_io::sink::Noted;
 
-// The words of a command line, with a zero byte between them.
+// The words of a command line, with a zero byte between them, and whether `NO_COLOR` is set.
 #[derive(Drop)]
 struct Words<'a> {
     words: &'a [u8],
+    is_plain: bool,
 }
 
 impl Env for Words<'_> {
@@ -28,8 +30,15 @@ impl Env for Words<'_> {
         Ok(word.len())
     }
 
-    fn var(&self, _name: &str, _buffer: &mut [u8]) -> Result<usize, FillError> {
-        Err(FillError::NotPresent)
+    fn var(&self, name: &str, buffer: &mut [u8]) -> Result<usize, FillError> {
+        if name != "NO_COLOR" || !self.is_plain {
+            return Err(FillError::NotPresent);
+        }
+        if buffer.is_empty() {
+            return Err(FillError::TooLong);
+        }
+        buffer[0] = b'1';
+        Ok(1)
     }
 
     fn var_at(&self, _i: usize, _buffer: &mut [u8]) -> Result<usize, FillError> {
@@ -45,22 +54,36 @@ struct Came {
     status: u8,
 }
 
-// What the program comes to with these words and this input.
+// Which streams are terminals where these words are given: those whose names stand among them behind `@`.
+fn terminals_of(words: &str) -> Terminals {
+    Terminals {
+        input: words.contains(" @input "),
+        output: words.contains(" @output "),
+        errors: words.contains(" @errors "),
+    }
+}
+
+// What the program comes to with these words, which are those of a row, and this input.
 fn came_of<F: Files, T: Threads + Wait + Sync>(
     (files, rt, alloc): (&F, &T, Global),
+    row: &str,
     words: &[u8],
     input: &[u8],
 ) -> Came {
     let mut out = Noted::unbuffered(alloc, Vec::new(alloc));
     let mut errors = Vec::new(alloc);
     let status = program(
-        Words { words },
+        Words {
+            words,
+            is_plain: row.contains(" @NO_COLOR "),
+        },
         &alloc,
         alloc,
         (files, rt, &OnThreads),
         input,
         &mut out,
         &mut errors,
+        terminals_of(row),
     );
     Came {
         out: out.writer.into_parts().0,
@@ -161,7 +184,7 @@ fn is_right_with<F: Files, T: Threads + Wait + Sync, W: Write>(
     let mut input = Vec::new(alloc);
     push_words(&mut command, words)?;
     push_lines(&mut input, lines)?;
-    let came = came_of(host, &command, &input);
+    let came = came_of(host, words, &command, &input);
     if is_right(alloc, row, &came) {
         return Some(true);
     }

@@ -85,11 +85,11 @@ pub fn push_lines(bytes: &mut Vec<u8>, lines: &str) -> Option<()> {
     Some(())
 }
 
-/// Adds the program's name and these words, with a zero byte between them.
+/// Adds the program's name and these words, but those that begin with `@`, with a zero byte between them.
 pub fn push_words(bytes: &mut Vec<u8>, words: &str) -> Option<()> {
     push_all(bytes, b"radixvm")?;
     for word in words.split(' ') {
-        if !word.is_empty() {
+        if !word.is_empty() && !word.starts_with('@') {
             push_all(bytes, b"\0")?;
             push_text(bytes, word)?;
         }

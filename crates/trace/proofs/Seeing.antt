@@ -27,35 +27,35 @@ use Rattle.trace.proofs.TurnLemmas.{line_told}
 
 -- ---- what a line of an event asks for
 
-pub step_seen : {S : Type 0} (after : S → World → Event → Outcome → World → S) (e : Event) (o : Outcome) (one other : S) (w v : World) (text : List ℕ)
-    → Step w e o v → other ≡ after one w e o v → text ≡ outcome_text o → Sees after one w (AsksOne e) v other text
-step_seen after e o one other w v text s is t = (e ∷ [], o ∷ [], (o, refl, refl, t), (v, s, (refl, is)))
+pub step_seen : {S : Type 0} (after : S → World → Event → Outcome → World → S → Type 0) (e : Event) (o : Outcome) (one other : S) (w v : World) (text : List ℕ)
+    → Step w e o v → after one w e o v other → text ≡ outcome_text o → Sees after one w (AsksOne e) v other text
+step_seen after e o one other w v text s is t = (e ∷ [], o ∷ [], (o, refl, refl, t), (v, other, s, is, (refl, refl)))
 
-pub finish_seen : {S : Type 0} (after : S → World → Event → Outcome → World → S) (core : ℕ) (f : Finished) (one other : S) (w v : World) (text : List ℕ)
+pub finish_seen : {S : Type 0} (after : S → World → Event → Outcome → World → S → Type 0) (core : ℕ) (f : Finished) (one other : S) (w v : World) (text : List ℕ)
     → WatchesFinish after one w core f v other → text ≡ finished_text f → Sees after one w (AsksFinish core) v other text
 finish_seen after core f one other w v text h t = (h.1, h.2, (h.0, f, h.3, t), h.4)
 
-pub call_seen : {S : Type 0} (after : S → World → Event → Outcome → World → S) (core : ℕ) (request : Request) (f : Finished) (one other : S) (w v : World)
+pub call_seen : {S : Type 0} (after : S → World → Event → Outcome → World → S → Type 0) (core : ℕ) (request : Request) (f : Finished) (one other : S) (w v : World)
     (text : List ℕ) → WatchesCall after one w core request f v other → text ≡ finished_text f → Sees after one w (Asks (Now core request)) v other text
-call_seen {S} after core request f one other w v text (o, m, step, more) t = go o step more
+call_seen after core request f one other w v text (o, m, mid, step, made, more) t = go o step made more
   where
-    alone : (o : Outcome) (mid : S) → Step w (Ev.Call core request) o m → mid ≡ after one w (Ev.Call core request) o m → (v ≡ m) × (other ≡ mid) × (f ≡ Last o)
+    alone : (o : Outcome) → Step w (Ev.Call core request) o m → after one w (Ev.Call core request) o m mid → (v ≡ m) × (other ≡ mid) × (f ≡ Last o)
         → ((text ≡ outcome_text o) → AsksCall core request o (Ev.Call core request ∷ []) (o ∷ []) text)
         → Sees after one w (Asks (Now core request)) v other text
-    alone o mid step same (stays, is, last) asks =
-        (Ev.Call core request ∷ [], o ∷ [], (o, asks (t ∙ ap finished_text last)), (m, step, (stays, is ∙ same)))
+    alone o step made (stays, is, last) asks =
+        (Ev.Call core request ∷ [], o ∷ [], (o, asks (t ∙ ap finished_text last)), (m, mid, step, made, (stays, is)))
 
-    go : (o : Outcome) → Step w (Ev.Call core request) o m → WatchesAfter after (after one w (Ev.Call core request) o m) m core o f v other
+    go : (o : Outcome) → Step w (Ev.Call core request) o m → after one w (Ev.Call core request) o m mid → WatchesAfter after mid m core o f v other
         → Sees after one w (Asks (Now core request)) v other text
-    go Stepped step (n, es, os, goes, watches) =
-        (Ev.Call core request ∷ es, Stepped ∷ os, (Stepped, (es, os, (n, f, goes, t), refl, refl)), (m, step, watches))
-    go (Wait blocker) step r = alone (Wait blocker) _ step refl r (λ t. (refl, refl, t))
-    go Idle step r = alone Idle _ step refl r (λ t. (refl, refl, t))
-    go (Answered reply) step r = alone (Answered reply) _ step refl r (λ t. (refl, refl, t))
-    go Full step r = alone Full _ step refl r (λ t. (refl, refl, t))
+    go Stepped step made (n, es, os, goes, watches) =
+        (Ev.Call core request ∷ es, Stepped ∷ os, (Stepped, (es, os, (n, f, goes, t), refl, refl)), (m, mid, step, made, watches))
+    go (Wait blocker) step made r = alone (Wait blocker) step made r (λ t. (refl, refl, t))
+    go Idle step made r = alone Idle step made r (λ t. (refl, refl, t))
+    go (Answered reply) step made r = alone (Answered reply) step made r (λ t. (refl, refl, t))
+    go Full step made r = alone Full step made r (λ t. (refl, refl, t))
 
 -- of the machine that the line finds
-pub event_seen : {U S : Type 0} (r : Result U TraceFault) (after : S → World → Event → Outcome → World → S) (line : Option Line) (old : Stage) (w v : World)
+pub event_seen : {U S : Type 0} (r : Result U TraceFault) (after : S → World → Event → Outcome → World → S → Type 0) (line : Option Line) (old : Stage) (w v : World)
     (one other : S) (text : List ℕ) → Opens old w → OnOk r (IsSomeAnd line (λ l. Sees after one w (Asks l) v other text))
     → OnOk r (IsSomeAnd line (λ l. SeesEvent after old one l (Running v) other text))
 event_seen (Ok u) after (Some l) old w v one other text o h = (w, v, o, refl, h)
@@ -95,7 +95,7 @@ all_ask_more (l ∷ lines) line es fs os ps text more h a = record {
 }
 
 -- the run up to the machine that a line finds
-opened : {S : Type 0} (after : S → World → Event → Outcome → World → S) (first mid : S) (s : Stage) (w : World) (es : List Event) (os : List Outcome)
+opened : {S : Type 0} (after : S → World → Event → Outcome → World → S → Type 0) (first mid : S) (s : Stage) (w : World) (es : List Event) (os : List Outcome)
     → Leads after first s es os mid → Opens s w → (asked : Asked) × Watches after first (new_machine asked) es os w mid
 opened after first mid (Start limit) w es os r o = absurd o
 opened after first mid (Declared limit a) w es os r o = (
@@ -105,7 +105,7 @@ opened after first mid (Declared limit a) w es os r o = (
 )
 opened after first mid (Running m) w es os r o = (r.0, subst (λ x. Watches after first (new_machine r.0) es os x mid) (sym o) r.1)
 
-event_grows : {S : Type 0} (after : S → World → Event → Outcome → World → S) (first mid other : S) (old new : Stage) (lines : List (List ℕ))
+event_grows : {S : Type 0} (after : S → World → Event → Outcome → World → S → Type 0) (first mid other : S) (old new : Stage) (lines : List (List ℕ))
     (line before text : List ℕ) (l : Line) → line_of line ≡ Some l → SeesEvent after old mid l new other text → SeesAll after first old lines before mid
     → SeesAll after first new (lines ++ line ∷ []) (before ++ text) other
 event_grows after first mid other old new lines line before text l e (w, v, opens, is, (fs, ps, asks, watches)) (es, os, all, leads) =
@@ -118,7 +118,7 @@ event_grows after first mid other old new lines line before text l e (w, v, open
     )
 
 -- the line of an event, as it was read
-pub event_line_grows : {S : Type 0} (after : S → World → Event → Outcome → World → S) (first mid other : S) (old new : Stage) (lines : List (List ℕ))
+pub event_line_grows : {S : Type 0} (after : S → World → Event → Outcome → World → S → Type 0) (first mid other : S) (old new : Stage) (lines : List (List ℕ))
     (line before text : List ℕ) (said : Option Line) → said ≡ line_of line → IsSomeAnd said (λ l. SeesEvent after old mid l new other text)
     → SeesAll after first old lines before mid → SeesAll after first new (lines ++ line ∷ []) (before ++ text) other
 event_line_grows after first mid other old new lines line before text (Some l) e h s =
@@ -126,7 +126,7 @@ event_line_grows after first mid other old new lines line before text (Some l) e
 event_line_grows after first mid other old new lines line before text None e h s = absurd h
 
 -- a line that is none leads on from stage to stage
-quiet_grows : {S : Type 0} (after : S → World → Event → Outcome → World → S) (first mid : S) (old new : Stage) (lines : List (List ℕ))
+quiet_grows : {S : Type 0} (after : S → World → Event → Outcome → World → S → Type 0) (first mid : S) (old new : Stage) (lines : List (List ℕ))
     (line before text : List ℕ) (l : Line) → line_of line ≡ Some l → Asks l [] [] text
     → ((es : List Event) (os : List Outcome) → Leads after first old es os mid → Leads after first new es os mid)
     → SeesAll after first old lines before mid → SeesAll after first new (lines ++ line ∷ []) (before ++ text) mid
@@ -138,13 +138,13 @@ quiet_grows after first mid old new lines line before text l e asks leads (es, o
       (subst (λ x. Leads after first new es x mid) (sym (append-nil os)) (leads es os came)),
 )
 
-pub blank_grows : {S : Type 0} (after : S → World → Event → Outcome → World → S) (first mid : S) (stage : Stage) (lines : List (List ℕ))
+pub blank_grows : {S : Type 0} (after : S → World → Event → Outcome → World → S → Type 0) (first mid : S) (stage : Stage) (lines : List (List ℕ))
     (line before text : List ℕ) → line_of line ≡ Some Blank → text ≡ [] → SeesAll after first stage lines before mid
     → SeesAll after first stage (lines ++ line ∷ []) (before ++ text) mid
 blank_grows after first mid stage lines line before text e none s =
     quiet_grows after first mid stage stage lines line before text Blank e (refl, refl, none) (λ es os h. h) s
 
-pub space_grows : {S : Type 0} (after : S → World → Event → Outcome → World → S) (first mid other : S) (old new : Stage) (lines : List (List ℕ))
+pub space_grows : {S : Type 0} (after : S → World → Event → Outcome → World → S → Type 0) (first mid other : S) (old new : Stage) (lines : List (List ℕ))
     (line before text : List ℕ) (cores frames calls : ℕ) → line_of line ≡ Some (Space cores frames calls) → LineActs old (Space cores frames calls) new text
     → other ≡ mid → SeesAll after first old lines before mid → SeesAll after first new (lines ++ line ∷ []) (before ++ text) other
 space_grows after first mid other old new lines line before text cores frames calls e (limit, was, is, none) same s =
@@ -152,7 +152,7 @@ space_grows after first mid other old new lines line before text cores frames ca
     (quiet_grows after first mid old new lines line before text (Space cores frames calls) e (refl, refl, none)
     (λ es os h. subst (λ x. Leads after first x es os mid) (sym is) (subst (λ x. Leads after first x es os mid) was h)) s)
 
-pub file_grows : {S : Type 0} (after : S → World → Event → Outcome → World → S) (first mid other : S) (old new : Stage) (lines : List (List ℕ))
+pub file_grows : {S : Type 0} (after : S → World → Event → Outcome → World → S → Type 0) (first mid other : S) (old new : Stage) (lines : List (List ℕ))
     (line before text : List ℕ) (n : ℕ) (mode : Mode) (len seed : ℕ) → line_of line ≡ Some (File n mode len seed) → LineActs old (File n mode len seed) new text
     → other ≡ mid → SeesAll after first old lines before mid → SeesAll after first new (lines ++ line ∷ []) (before ++ text) other
 file_grows after first mid other old new lines line before text n mode len seed e (limit, a, was, next, is, none) same s =
@@ -225,7 +225,7 @@ writes_kept Holds stage show input a b c h k = record {
   appends = Appends-kept _ _ _ _ h.appends k;
 }
 
-pub seen_kept : {S : Type 0} (after : S → World → Event → Outcome → World → S) (one other : S) (show : Show) (input : List ℕ) (a b c : Option (List ℕ))
+pub seen_kept : {S : Type 0} (after : S → World → Event → Outcome → World → S → Type 0) (one other : S) (show : Show) (input : List ℕ) (a b c : Option (List ℕ))
     → IsSeen after one other show input a b → Keeps b c → IsSeen after one other show input a c
 seen_kept after one other show input a b c (stage, h) k = (stage, writes_kept _ stage show input a b c h k)
 
@@ -235,7 +235,7 @@ seen_over (Ok x) P Q f h = f h
 seen_over (Err e) P Q f h = tt
 
 -- who watched from the start to the end
-pub is_seen : {S : Type 0} (after : S → World → Event → Outcome → World → S) (one first last other : S) (stage : Stage) (show : Show) (input : List ℕ)
+pub is_seen : {S : Type 0} (after : S → World → Event → Outcome → World → S → Type 0) (one first last other : S) (stage : Stage) (show : Show) (input : List ℕ)
     (a b : Option (List ℕ)) → first ≡ one → other ≡ last → Writes (λ lines text. SeesAll after first stage lines text last) stage show input a b
     → IsSeen after one other show input a b
 is_seen after one first last other stage show input a b e f h = (

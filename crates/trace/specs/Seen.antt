@@ -18,19 +18,19 @@ use Rattle.trace.specs.Turns.{Advances, Scene}
 -- ---- lines
 
 -- the events that are asked for, whose text this is, are watched
-abbrev pub Sees : {S : Type 0} → (S → World → Event → Outcome → World → S) → S → World
+abbrev pub Sees : {S : Type 0} → (S → World → Event → Outcome → World → S → Type 0) → S → World
     → (List Event → List Outcome → List ℕ → Type 0) → World → S → List ℕ → Type 0
 Sees after one w Wanted v other text =
     (es : List Event) × (os : List Outcome) × Wanted es os text × Watches after one w es os v other
 
 -- those that a line of an event asks for, of the machine that it finds
-abbrev pub SeesEvent : {S : Type 0} → (S → World → Event → Outcome → World → S) → Stage → S → Line
+abbrev pub SeesEvent : {S : Type 0} → (S → World → Event → Outcome → World → S → Type 0) → Stage → S → Line
     → Stage → S → List ℕ → Type 0
 SeesEvent after old one line new other text =
     (w : World) × (v : World) × Opens old w × (new ≡ Running v) × Sees after one w (Asks line) v other text
 
 -- up to this stage these events came; up to the machine none did
-abbrev pub Leads : {S : Type 0} → (S → World → Event → Outcome → World → S) → S → Stage
+abbrev pub Leads : {S : Type 0} → (S → World → Event → Outcome → World → S → Type 0) → S → Stage
     → List Event → List Outcome → S → Type 0
 Leads after one (Start limit) es os other = (es ≡ []) × (os ≡ []) × (other ≡ one)
 Leads after one (Declared limit a) es os other = (es ≡ []) × (os ≡ []) × (other ≡ one)
@@ -38,7 +38,7 @@ Leads after one (Running w) es os other =
     (asked : Asked) × Watches after one (new_machine asked) es os w other
 
 -- the lines ask for the events that came up to this stage, and this is their text
-abbrev pub SeesAll : {S : Type 0} → (S → World → Event → Outcome → World → S) → S → Stage
+abbrev pub SeesAll : {S : Type 0} → (S → World → Event → Outcome → World → S → Type 0) → S → Stage
     → List (List ℕ) → List ℕ → S → Type 0
 SeesAll after one stage lines text other =
     (es : List Event) × (os : List Outcome) × AllAsk lines es os text × Leads after one stage es os other
@@ -67,7 +67,7 @@ pub record Writes (Holds : List (List ℕ) → List ℕ → Type 0) (stage : Sta
   pub appends : Appends old new (told show text ++ behind)
 
 -- all lines were acted on, and so one who was this before them is that behind them
-abbrev pub IsSeen : {S : Type 0} → (S → World → Event → Outcome → World → S) → S → S → Show
+abbrev pub IsSeen : {S : Type 0} → (S → World → Event → Outcome → World → S → Type 0) → S → S → Show
     → List ℕ → Option (List ℕ) → Option (List ℕ) → Type 0
 IsSeen after one other show input old new = (stage : Stage)
     × Writes (λ lines text. SeesAll after one stage lines text other) stage show input old new

@@ -10,6 +10,7 @@ ghost use Rattle.trace.specs.Stage.{Start};
 ghost use Rattle.trace.specs.Ends.{Ends, TellsFaults, fault_named};
 ghost use Rattle.trace.specs.Seen.{AdvancesSeen, IsSeen, Writes};
 ghost use Rattle.watched.specs.Sums.{nothing_counted, summed};
+ghost use Rattle.watched.specs.Watching.{makes};
 ghost use Rattle.trace.specs.Shown.{Closes, CloseFails, keeps_log, limit_for};
 ghost use Rattle.core_steps.specs.Setups.{Fits};
 ghost use Rattle.core_steps.specs.declared.setup.CallLimit.{CallLimit};
@@ -337,7 +338,7 @@ pub fn replay_summing<A: Allocator + Clone + Drop, S: Source, W: Sink>(
     ensures ends { Reads (S.stream reader.old) (S.stream reader.new) (λ input unread.
         Ends (limit_for show limit) show input unread (W.contents writer.old) (W.contents writer.new) result.ended) }
     ensures sums { IfOk result.ended (λ u. Reads (S.stream reader.old) (S.stream reader.new) (λ input unread.
-        IsSeen summed nothing_counted summary.new show input (W.contents writer.old) (W.contents writer.new))) }
+        IsSeen (makes summed) nothing_counted summary.new show input (W.contents writer.old) (W.contents writer.new))) }
     ensures told { TellsFaults result.ended (read_from S.Source reader.old reader.new) (written_to W.Sink writer.old writer.new) }
 {
     let beside = replay_watched(alloc, reader, writer, show, limit, Summary::new());

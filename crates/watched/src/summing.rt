@@ -1,5 +1,6 @@
 //! A summary watches each step.
 ghost use Rattle.watched.specs.Sums.{summed};
+ghost use Rattle.watched.specs.Watching.{makes};
 
 use crate::look::look;
 use crate::summary::Summary;
@@ -11,7 +12,7 @@ use std::alloc::Allocator;
 use vm_base::NoMemory;
 
 impl Watch for Summary {
-    ghost after = { summed };
+    ghost after = { makes summed };
 
     fn step<M: SlotMap, A: Allocator + Clone, L: Ledger>(
         &mut self,

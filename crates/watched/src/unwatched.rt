@@ -1,4 +1,5 @@
 //! A machine whose steps nobody watches.
+ghost use Rattle.std.specs.Prelude.{◌≡◌};
 
 use crate::watch::Watch;
 use core_steps::{Finished, Ledger, Machine};
@@ -12,7 +13,7 @@ use vm_base::{CoreId, NoMemory, Request};
 pub struct Unwatched;
 
 impl Watch for Unwatched {
-    ghost after = { λ one w e o v. one };
+    ghost after = { λ one w e o v other. other ≡ one };
 
     #[inline(always)]
     fn step<M: SlotMap, A: Allocator + Clone, L: Ledger>(

@@ -2,7 +2,8 @@ use Rattle.std.proofs.Common.{◌≡◌, true, false, refl}
 use Rattle.slot_lock.specs.declared.plan.Goal.TheVariants as To
 use Rattle.backing.specs.Files.{cached_in}
 use Rattle.vm_calls.proofs.Readable.{readable}
-use Rattle.audit.proofs.Concluded.{act_illegal, act_legal, refuse_judged}
+use Rattle.slot_lock.proofs.Facts.{on_err}
+use Rattle.audit.proofs.Concluded.{act_given, act_illegal, act_legal, refuse_judged}
 use Rattle.audit.proofs.Kept.{kept_none}
 use Rattle.audit.proofs.judging.judge_change.Goals as goal
 
@@ -37,3 +38,8 @@ returns-in_ok-make_change-in-Act-clause-judged g c =
     act_legal (g.M.SlotRead.slots c.args.map.now) (g.M.SlotRead.slots c.make_change.new.map) c.args.objects.now c.args.frames.now
     c.make_change.new.frames c.args.change c.args.reply c.change_reply-due.result _ _ c.in-Act.ensures.decision c.in-Act.ensures.sound.1
     c.change_reply-due.ensures ((c.if-not-is_same.ensures {u = tt}).0 refl) c.in_ok-make_change-in-Act.ensures.ok c.make_change.ensures.bytes
+
+pub returns-in_err-make_change-in-Act-clause-legal : goal.returns-in_err-make_change-in-Act-clause-legal
+returns-in_err-make_change-in-Act-clause-legal g c = on_err _
+    (act_given (g.M.SlotRead.slots c.args.map.now) c.args.objects.now c.args.frames.now c.args.change c.args.reply c.change_reply-due.result _ _
+    c.in-Act.ensures.decision c.in-Act.ensures.sound.1 c.change_reply-due.ensures ((c.if-not-is_same.ensures {u = tt}).0 refl))

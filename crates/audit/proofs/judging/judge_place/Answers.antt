@@ -2,7 +2,8 @@ use Rattle.slot_lock.proofs.Words.{◌≡◌, ◌∙◌, Some, sym, subst, ap, t
 use Rattle.backing.specs.Files.{cached_in}
 use Rattle.audit.specs.Placing.{IsAllowed}
 use Rattle.vm_calls.specs.Decisions.{entries}
-use Rattle.audit.proofs.Concluded.{place_made, place_nowhere, place_unsaid, place_wrong}
+use Rattle.slot_lock.proofs.Facts.{on_err}
+use Rattle.audit.proofs.Concluded.{place_given, place_made, place_nowhere, place_unsaid, place_wrong}
 use Rattle.audit.proofs.Kept.{kept_none}
 use Rattle.audit.proofs.judging.judge_place.Goals as goal
 
@@ -44,3 +45,10 @@ returns-clause-judged g c =
     (subst (IsAllowed c.args.any_place (is_mapped (entries (g.M.SlotRead.slots c.args.map.now))) c.args.place) c.in-Some-found.is
     ((c.if-not-is_allowed.ensures {u = tt}).0 refl))
     c.in_ok-make_change.ensures.ok c.make_change.ensures.bytes
+
+pub returns-in_err-make_change-clause-legal : goal.returns-in_err-make_change-clause-legal
+returns-in_err-make_change-clause-legal g c = on_err _
+    (place_given c.args.any_place (g.M.SlotRead.slots c.args.map.now) c.args.objects.now c.args.frames.now c.args.place c.args.reply
+    c.in-Some-found.first (sym c.place_said-said.ensures.value ∙ (c.in-Some.is ∙ ap Some c.in-Some-found.is))
+    (subst (IsAllowed c.args.any_place (is_mapped (entries (g.M.SlotRead.slots c.args.map.now))) c.args.place) c.in-Some-found.is
+    ((c.if-not-is_allowed.ensures {u = tt}).0 refl)))

@@ -1,9 +1,10 @@
 use Rattle.slot_lock.proofs.Words.{◌≡◌, ◌≢◌, ◌∙◌, List, Some, true, false, refl, subst, sym, Done}
+use Rattle.slot_lock.proofs.Facts.{on_err}
 use Rattle.backing.specs.Files.{FileParts, cached_in}
 use Rattle.frames.specs.Parts.{FrameParts}
 use Rattle.audit.specs.declared.judging.Verdict.TheVariants.{Legal, Illegal}
 use Rattle.audit.proofs.Kept.{kept_same}
-use Rattle.audit.proofs.Concluded.{done_bytes, due_kept, frame_within, left_alone, left_stored, touch_judged, unmapped_judged}
+use Rattle.audit.proofs.Concluded.{done_bytes, due_kept, frame_within, left_alone, left_stored, touch_given, touch_judged, unmapped_judged}
 use Rattle.audit.specs.Keeping.{Keeps, plain_kept}
 use Rattle.audit.proofs.judging.judge_touch.Goals as goal
 
@@ -74,3 +75,11 @@ returns-in_err-store-clause-kept g c =
     subst (λ (o : List FileParts). Keeps t (cached_in o) c.store.new.frames) (sym c.in_err-store.ensures.err_files)
     (subst (λ (f : FrameParts). Keeps t (cached_in c.args.objects.now) f) (sym c.in_err-store.ensures.err_frames)
     (kept_same s t (cached_in c.args.objects.now) c.args.frames.now c.in_err-store.ensures.err_info c.requires.kept))
+
+pub returns-in_err-store-clause-legal : goal.returns-in_err-store-clause-legal
+returns-in_err-store-clause-legal g c = on_err _
+    (touch_given (plain_kept (g.M.SlotRead.slots c.args.map.now) c.args.objects.now c.args.frames.now) c.args.touch c.args.reply
+    c.access_reply-due.result
+    (due_kept (g.M.SlotRead.slots c.args.map.now) c.args.objects.now c.args.frames.now c.args.touch c.in-Some.info c.access_reply-due.result
+    (sym c.page.ensures ∙ c.in-Some.is) c.access_reply-due.ensures)
+    ((c.if-not-is_same.ensures {u = tt}).0 refl))

@@ -2,7 +2,7 @@ use Rattle.std.proofs.Common.{◌+◌, arith, ◌∙◌, refl}
 use Rattle.std.proofs.lemmas.Result.{err_from_is_err_and}
 use Rattle.audit.specs.Auditor.{plain_of}
 use Rattle.audit_text.specs.Steps.{heard_of}
-use Rattle.audit_text.proofs.PlaceLemmas.{call_fault, call_last, call_next, hears_by, turn_fault_by, turn_verdict_by}
+use Rattle.audit_text.proofs.PlaceLemmas.{call_fault, call_last, call_next, hears_by, turn_fault_by, turn_verdict_by, turn_wants_by}
 use Rattle.audit_text.proofs.TextLemmas.{lines_empty, some_left}
 use Rattle.audit_text.proofs.judging.hear_lines.Goals as goal
 
@@ -29,6 +29,14 @@ returns-in_err-verdict-clause-err g c =
     (heard_of c.lines.hearing) (heard_of c.turn.new.hearing) (plain_of c.lines.hearing.auditor)
     (plain_of c.turn.new.hearing.auditor) c.lines.said c.lines.line
     c.in_err-verdict.field-0.0 (c.lines.invariant.call lines d k) c.in_err-verdict.ensures.turns))
+
+pub returns-in_err-verdict-clause-want : goal.returns-in_err-verdict-clause-want
+returns-in_err-verdict-clause-want g c =
+    let p = err_from_is_err_and c.from_residual.result c.from_residual.ensures.1 in
+    rw p.1 (rw p.2 (λ is lines d k. turn_wants_by c.lines.hearing.auditor.any_place c.args.hearing.now.auditor.any_place c.lines.invariant.any_place
+    lines _ d (heard_of c.lines.hearing) (heard_of c.turn.new.hearing) (plain_of c.lines.hearing.auditor)
+    (plain_of c.turn.new.hearing.auditor) c.lines.said c.lines.line c.in_err-verdict.field-0.0 (c.lines.invariant.call lines d k)
+    c.in_err-verdict.ensures.turns cc))
 
 pub returns-in-Some-clause-ok : goal.returns-in-Some-clause-ok
 returns-in-Some-clause-ok g c = λ lines d k. turn_verdict_by c.lines.hearing.auditor.any_place c.args.hearing.now.auditor.any_place

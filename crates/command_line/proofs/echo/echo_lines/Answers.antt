@@ -10,7 +10,7 @@ pub lines-init : goal.lines-init
 lines-init g c = record {
   budget = rw c.requires.fresh (omega arith);
   kept = refl;
-  ran = λ limit start. reads_none _ _ (λ xs. echoed_none limit xs _ _ (ap (left xs) c.requires.fresh) start refl);
+  ran = λ limit start. reads_none _ _ (λ xs. echoed_none _ limit xs _ _ (ap (left xs) c.requires.fresh) start refl);
 }
 
 pub lines-preserved : goal.lines-preserved
@@ -21,14 +21,14 @@ lines-preserved g c =
     record {
       budget = omega (arith, less, c.lines.invariant.budget);
       kept = kept;
-      ran = λ limit start. reads_then _ _ _ _ _ _ (c.lines.invariant.ran limit start) turns (λ xs ys zs k h a. echoed_more limit xs _ _ _ _ h a);
+      ran = λ limit start. reads_then _ _ _ _ _ _ (c.lines.invariant.ran limit start) turns (λ xs ys zs k h a. echoed_more _ limit xs _ _ _ _ h a);
     }
 
 pub returns-in-Ok-false-clause-ends : goal.returns-in-Ok-false-clause-ends
 returns-in-Ok-false-clause-ends g c =
     let turns = rw c.in-Ok-false.field-0-test at c.in-Ok-false.ensures.turns in
     λ limit start. reads_then _ _ _ _ _ _ (c.lines.invariant.ran limit start) turns
-    (λ xs ys zs k h a. echoed_ends limit xs _ _ _ _ _ h a c.finish.ensures.ok c.finish.ensures.err)
+    (λ xs ys zs k h a. echoed_ends _ limit xs _ _ _ _ _ h a c.finish.ensures.ok c.finish.ensures.err)
 
 pub returns-in-Ok-false-clause-told : goal.returns-in-Ok-false-clause-told
 returns-in-Ok-false-clause-told g c =
@@ -41,7 +41,7 @@ returns-in-Ok-false-clause-told g c =
 
 pub returns-in-Err-clause-ends : goal.returns-in-Err-clause-ends
 returns-in-Err-clause-ends g c = λ limit start.
-    reads_then _ _ _ _ _ _ (c.lines.invariant.ran limit start) c.in-Err.ensures.turns (λ xs ys zs k h a. echoed_fails limit _ c.requires.keeps xs _ _ _ _ _ h a)
+    reads_then _ _ _ _ _ _ (c.lines.invariant.ran limit start) c.in-Err.ensures.turns (λ xs ys zs k h a. echoed_fails _ limit _ c.requires.keeps xs _ _ _ _ _ h a)
 
 pub returns-in-Err-clause-told : goal.returns-in-Err-clause-told
 returns-in-Err-clause-told g c =

@@ -13,7 +13,7 @@ invariant-lines g l = record {
   budget : l.number + budget (g.S.Source.reads l.reader) l.lines ≤ 65536 * 2 ^ 32;
   kept : g.W.Sink.failed l.writer ≡ g.W.Sink.failed l.initial.writer;
   ran : (limit : CallLimit) → g.R.Staged.stage l.initial.replayer ≡ Start limit → Reads (g.S.Source.stream l.initial.reader) (g.S.Source.stream l.reader)
-      (λ input unread. HasEchoed limit input (g.W.Sink.contents l.initial.writer)
+      (λ input unread. HasEchoed l.fn.coloured limit input (g.W.Sink.contents l.initial.writer)
       (scene (left unread l.lines) unread (g.R.Staged.stage l.replayer) (g.W.Sink.contents l.writer)) l.number);
 }
 

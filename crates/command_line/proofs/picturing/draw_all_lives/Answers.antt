@@ -1,12 +1,12 @@
-use Rattle.recorder.specs.Changes.{changes_recorded, nothing_changed}
-use Rattle.command_line.specs.Picture.{lives_of}
+use Rattle.recorder.specs.Changes.{ChangesRecorded, nothing_changed}
+use Rattle.command_line.specs.Picture.{lacking_none, lives_of}
 use Rattle.command_line.proofs.PictureLemmas.{all_drawn, none_drawn}
 use Rattle.command_line.proofs.picturing.draw_all_lives.Goals as goal
 
 pub returns-in-Ok-clause-ends : goal.returns-in-Ok-clause-ends
 returns-in-Ok-clause-ends g c =
-    all_drawn _ _ changes_recorded c.new-recorder.result nothing_changed lives_of _ _ c.in-Ok.recorder c.write_lives.result c.new-recorder.ensures
+    all_drawn _ _ ChangesRecorded c.new-recorder.result nothing_changed lacking_none lives_of _ _ c.in-Ok.recorder c.write_lives.result c.new-recorder.ensures
     c.in-Ok.ensures.ends c.write_lives.ensures.ok c.write_lives.ensures.err
 
 pub returns-in-Err-clause-ends : goal.returns-in-Err-clause-ends
-returns-in-Err-clause-ends g c = none_drawn _ _ changes_recorded nothing_changed lives_of _ c.in-Err.fault c.in-Err.ensures.ends
+returns-in-Err-clause-ends g c = none_drawn _ _ ChangesRecorded nothing_changed lacking_none lives_of _ c.in-Err.fault c.in-Err.ensures.ends

@@ -1,5 +1,5 @@
 use Rattle.vm_calls.proofs.Readable.{readable}
-use Rattle.live_space.proofs.Places.{placed_inside}
+use Rattle.live_space.proofs.Places.{last_settles, placed_inside}
 use Rattle.live_space.proofs.placing.decide_place_over.Goals as goal
 
 pub decide-requires-clause-readable : goal.decide-requires-clause-readable
@@ -8,3 +8,6 @@ decide-requires-clause-readable g c =
 
 pub returns-clause-inside : goal.returns-clause-inside
 returns-clause-inside g c = placed_inside _ c.args.place c.args.target _ c.decide.ensures.decision
+
+pub returns-clause-last : goal.returns-clause-last
+returns-clause-last g c = last_settles _ c.args.place c.args.target _ c.decide.ensures.decision

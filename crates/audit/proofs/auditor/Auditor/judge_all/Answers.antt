@@ -1,9 +1,10 @@
 use Rattle.slot_lock.proofs.Words.{◌∙◌, Bool, subst, Answers}
+use Rattle.slot_lock.proofs.Facts.{on_err}
 use Rattle.audit.specs.declared.judging.Verdict.{Verdict}
 use Rattle.audit.specs.Auditor.{plain_of}
-use Rattle.audit.specs.Judging.{Judges}
+use Rattle.audit.specs.Judging.{IsGiven, Judges}
 use Rattle.audit.specs.Placing.{rule_of}
-use Rattle.audit.proofs.Sequences.{replies_more}
+use Rattle.audit.proofs.Sequences.{replies_more, wants_next}
 use Rattle.audit.proofs.auditor.Auditor.judge_all.Goals as goal
 
 pub loop-at-preserved : goal.loop-at-preserved
@@ -20,3 +21,12 @@ loop-at-preserved g c =
       legal = replies_more (rule_of c.args.self.now.any_place) (plain_of c.args.self.now) m u c.args.calls.now c.loop-at.at call c.loop-at-test.true
           c.index-calls-at.is c.loop-at.invariant.legal legal;
     }
+
+pub returns-in_err-judge-clause-err : goal.returns-in_err-judge-clause-err
+returns-in_err-judge-clause-err g c =
+    let call = c.index-calls-at.result in
+    let m = plain_of c.loop-at.self in
+    let wanted = c.in_err-judge.ensures {u = tt} in
+    on_err _ (wants_next (rule_of c.args.self.now.any_place) (plain_of c.args.self.now) m (plain_of c.judge.new.self) c.args.calls.now c.loop-at.at call
+    c.loop-at-test.true c.index-calls-at.is wanted.err c.loop-at.invariant.legal
+    (subst (λ (b : Bool). IsGiven (rule_of b) m call.core call.request call.reply) c.loop-at.invariant.any_place wanted.legal))

@@ -5,7 +5,7 @@ use Rattle.std.proofs.lemmas.Result.{IfOk-weaker}
 use Rattle.live_script.proofs.LaneLemmas.{notes_in_ran}
 use Rattle.live_script.proofs.ran.Ran.notes.Goals as goal
 
-pub returns : goal.returns
-returns g c = IfOk-weaker _ _ _ (λ (all : Vec (Bor (List Noted)) g.row.A.Denot) e.
+pub returns-clause-are : goal.returns-clause-are
+returns-clause-are g c = IfOk-weaker _ _ _ (λ (all : Vec (Bor (List Noted)) g.row.A.Denot) e.
     notes_in_ran (λ (s : Bor (List Noted)). s.now) c.args.self.now c.self.inside.live c.self.inside.lanes.items _ all.items all.items c.self.view_is
-    c.as_slice.ensures.value refl e) c.notes_of.ensures
+    c.as_slice.ensures.value refl e) c.notes_of.ensures.are

@@ -1,5 +1,9 @@
-use Rattle.live_space.proofs.Ended.{ends_if}
+use Rattle.std.proofs.Common.{rules}
+use Rattle.seats.specs.Notes.{SeatView}
+use Rattle.live_space.specs.Endings.{EndsIf}
+use Rattle.live_space.proofs.Ended.{at_last, ends_if}
 use Rattle.live_space.proofs.space.Live.fault.Goals as goal
 
-pub returns-clause-ends : goal.returns-clause-ends
-returns-clause-ends g c = ends_if _ _ _ c.lock_page-reply.result c.lock_page-reply.ensures.grew c.let_go.ensures.answered
+pub returns : goal.returns
+returns g c = at_last (λ (v : SeatView). EndsIf c.args.seat.now c.end.result v) c.end.new.seat _
+    (ends_if _ _ _ c.end.result c.lock_page-ending.ensures.grew c.end.ensures.ended) (search rules)

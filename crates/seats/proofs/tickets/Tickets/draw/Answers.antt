@@ -7,5 +7,5 @@ pub fetch_add-requires : goal.fetch_add-requires
 fetch_add-requires g c = (
   search rules,
   search rules,
-  draws _ _ _ (subst (λ (t : TicketerView). length t.tickets < 2 ^ 32) (sym c.ticketer.view_is) c.requires.room),
+  draws _ _ _ c.ticketer.invariant.1 (subst (λ (t : TicketerView). length t.tickets < 2 ^ 32) (sym c.ticketer.view_is) c.requires.room),
 )

@@ -1,7 +1,7 @@
 use Rattle.machine_laws.proofs.Words.{◌≡◌, rules, IfOk-weaker, on_err_weaker, Stepped}
 use Rattle.std.specs.Prelude.{◌≢◌}
 use Rattle.core_steps.specs.Machine.{state}
-use Rattle.watched.proofs.Watched.{call_finished, call_not_begun, call_refused, call_watched, call_watched_end}
+use Rattle.watched.proofs.Watched.{call_finished, call_not_begun, call_refused, call_watched, call_watched_end, call_watched_part}
 use Rattle.watched.proofs.watch.Watch.call.Goals as goal
 
 pub returns-then-ne-clause-ends : goal.returns-then-ne-clause-ends
@@ -33,3 +33,10 @@ returns-clause-watched g c =
     IfOk-weaker c.finish.result _ _ (λ f h. call_watched g.Self.Watch.after c.args.core c.args.request c.in-Ok.outcome f c.args.self.now c.step.new.self
     c.finish.new.self (state c.args.machine.now) (state c.step.new.machine)
     (state c.finish.new.machine) plain c.in-Ok.ensures.step c.in-Ok.ensures.watched h) c.finish.ensures.watched
+
+pub returns-clause-part : goal.returns-clause-part
+returns-clause-part g c =
+    let plain : c.in-Ok.outcome ≡ Stepped = search rules in
+    on_err_weaker c.finish.result (λ h. call_watched_part g.Self.Watch.after c.args.core c.args.request c.in-Ok.outcome c.args.self.now c.step.new.self
+    c.finish.new.self (state c.args.machine.now) (state c.step.new.machine)
+    (state c.finish.new.machine) plain c.in-Ok.ensures.step c.in-Ok.ensures.watched h) c.finish.ensures.part

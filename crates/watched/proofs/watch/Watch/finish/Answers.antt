@@ -1,7 +1,7 @@
 use Rattle.machine_laws.proofs.Words.{◌≡◌, ◌^◌, arith, refl, rules, Stepped}
 use Rattle.std.specs.Prelude.{◌≢◌}
 use Rattle.core_steps.proofs.Reached.{refused_at, steps_end, steps_more}
-use Rattle.watched.proofs.Watched.{steps_watched_end, steps_watched_more, steps_watched_stuck}
+use Rattle.watched.proofs.Watched.{steps_watched_end, steps_watched_more, steps_watched_part, steps_watched_stuck}
 use Rattle.watched.proofs.watch.Watch.finish.Goals as goal
 
 pub steps-init : goal.steps-init
@@ -42,3 +42,7 @@ returns-clause-watched g c =
     let few = c.steps.invariant.few in
     let all : c.steps.n ≡ 2 ^ 40 = omega (arith, c.steps-test.false, few) in
     steps_watched_stuck g.Self.Watch.after c.args.core c.steps.n _ _ _ _ all c.steps.invariant.watched
+
+pub returns-in-Err-clause-part : goal.returns-in-Err-clause-part
+returns-in-Err-clause-part g c =
+    steps_watched_part g.Self.Watch.after c.args.core c.steps.n _ _ _ _ _ _ c.in-Err.ensures.step.0 c.in-Err.ensures.unseen c.steps.invariant.watched

@@ -1,0 +1,23 @@
+//! How a word of the program ends.
+
+use trace::fault::TraceFault;
+
+/// What is wrong with a text, where more can be told of it.
+#[derive(Clone, Copy, Debug, PartialEq, Eq)]
+pub enum Trouble {
+    /// Nothing, or nothing more is known.
+    Nothing,
+    /// It isn't taken, for this fault of a line or of what it declares.
+    Fault(TraceFault),
+    /// The reply of the line with this number is none that a plain page map gives.
+    Illegal(u64),
+}
+
+/// How a word ended: with this status of the program, and, where more can be told of it, for this.
+#[derive(Clone, Copy, Debug, PartialEq, Eq)]
+pub struct Ended {
+    /// The program's status.
+    pub status: u8,
+    /// What more can be told of.
+    pub trouble: Trouble,
+}

@@ -1,0 +1,226 @@
+//! What is told of the other words, and of the texts that they read and write.
+
+/// What `certify` reads and writes.
+pub const NOTES: &str = "\
+certify reads notes, and certifies that they are a run of the machine, or
+refuses them. Notes say which steps were made, in which order, and what each
+came to: those of several cores may have been noted side by side. They begin as
+a trace does, with a vm line, here always with CALLS, and a line for each file.
+Each note is
+
+  TICKET EVENT = OUTCOME
+
+TICKET is the step's place in the order of all steps, from 0 on. EVENT is an
+event of help trace of one step: not cC!, and not cC finish. OUTCOME is what
+help outcomes says, but not stuck. Notes may stand in any order.
+
+certify gives the events to the machine in order of tickets, and writes a line:
+
+  certified CALLS    they are a run of it with just these outcomes, in which so
+                     many calls were answered; what holds of all runs holds of
+                     it: a plain page map can give these replies (help log)
+  refused C1 TICKET  of the tickets below the number of notes, this is the
+                     least that doesn't stand once
+  refused C2 TICKET: noted OUTCOME, expected OUTCOME
+                     the first step that comes to something else
+
+Example, a call and its two steps:
+  printf '%s\\n' 'vm 1 1 4' '0 c0 call load 0x0 = step' '1 c0 go = step' \\
+    '2 c0 go = segv maperr' | radixvm certify
+writes certified 1.
+
+Status: 0 where they are certified, 1 where they are refused. A fault is told
+as help faults says, and then nothing is written; with --explain more is told
+of it.
+";
+
+/// What `live` reads and writes.
+pub const THREADS: &str = "\
+live reads a script, and runs each core's lines, in their order, on a thread of
+the core's own, or one core after another where no thread can be made. All
+other words have one thread. A script has the vm and file lines of help trace,
+and of other lines these:
+
+  cC! REQ     core C makes a call
+  cC flush    core C flushes one count
+  cC review   core C reviews the first frame of its queue
+
+It is read whole before anything runs. Each core may begin CALLS divided by
+CORES calls, rounded down.
+
+What comes out are notes, as help notes says: a line for each step that a
+thread made, in the order of all steps. Which step comes first where cores meet
+is up to the threads, so two runs of one script may write other notes.
+
+  radixvm live FILE | radixvm certify
+
+certifies that they are a run of the machine, or refuses them. live --certify
+writes no notes, but that line, and looks besides at how each slot of the space
+went along:
+
+  refused C5 PAGE   the slot of this page, a number, went another way
+
+A core that can't begin a task stops, and its fault is told, that of the least
+core of several, with nothing on standard output:
+
+  live V1   it has begun its share of calls
+  live V2   of the 2^32 steps that it may note, fewer than three are left for
+            a call, or none for a flush or a review
+  live V3   no memory to begin
+
+Status: 0; 1 where notes are refused; 2 for a bad script or bad words; 3 where
+reading, writing or memory failed, or a core stopped. With --explain more is
+told of a bad script.
+";
+
+/// What `import` reads and writes.
+pub const IMPORT: &str = "\
+import reads a log that strace wrote of a program, and writes a trace of what
+the program asked of its address space:
+
+  strace -f -y -o LOG -e trace=memory,process PROGRAM
+  radixvm import LOG | radixvm run
+
+Give strace -o FILE: at a terminal it breaks lines where a thread begins.
+
+  --pid N        the process of thread N, where the log has several; else the
+                 process of the first line
+  --maps FILE    a copy of /proc/PID/maps, as it was where the trace begins: at
+                 the log's first line, or, where the log has an execve of the
+                 process, right behind it
+
+  --lackey       LOG is one of valgrind's lackey, with all accesses of memory
+                 (below); it goes beside neither --pid nor --maps
+
+A line of mmap, munmap or mprotect is kept with its numbers. A mapping stands
+where the kernel placed it, so it has the flag f, and its address is the one
+that the kernel answered. Each thread is a core, in the order of their first
+requests; the 65th shares core 0 with the first.
+
+A call that stands in two lines, <unfinished ...> and resumed, acts where it
+returns, but munmap where it begins: its pages are gone before it returns, and
+others may be mapped there before its second line.
+
+Changed, since a trace has no such lines:
+  brk            mmap or munmap of the pages between the heap's old end and
+                 new; the first brk only tells where the heap ends
+  mremap         munmap and mmap, or one of them where it stays in place: the
+                 new pages may be read and written, and their bytes are zero
+  a file         the first 16 files are files of the trace, by their paths, or
+                 without -y by their descriptors. A mapping of another file, or
+                 past a file's first 1048576 bytes, is one of zero bytes. What
+                 files hold isn't in a log: each can be read and written, is as
+                 long as its mappings reach, and begins with its number
+
+Left out: calls that failed, other calls and events, other processes (fork, and
+clone without CLONE_THREAD), what a process did before execve, huge pages and
+MAP_GROWSDOWN, and all else that isn't read. How many lines became what is told
+on standard error, and each line is counted once.
+
+What was mapped before the log begins isn't known without --maps: an mprotect
+of such pages is kept, and run answers enomem. Pages of the program's own file,
+its first stack and vdso are such pages, which execve maps. With --maps each
+line of the list is a mapping of core 0 before the log's first, with its
+numbers: of the file, if its path is as strace -y shows it the log's file too,
+or of zero bytes where there is no path ([heap], [stack]). Left out: the
+kernel's own pages ([vvar], [vdso]), and what isn't from 4096 up to 2^47
+([vsyscall]). [heap] tells where the heap ends.
+
+The trace has 256 frames, for lines with accesses that you may add. One of more
+than 1048576 requests wants run --long.
+
+A log with accesses is made and read so:
+
+  valgrind --tool=lackey --trace-mem=yes --trace-syscalls=yes --log-file=LOG \\
+    PROGRAM
+  radixvm import --lackey LOG | radixvm run --long --summary
+
+An access is a call of its first byte, I a fetch, L a load, S a store of 0, and
+M a load and a store; and one of the next page's first byte where it goes on
+there. Calls are kept, changed or left out as those of strace, and files known
+by descriptors. A page that is accessed and that no line has mapped was there
+before the log, and is mapped, rwx, right before that access. All is core 0's,
+since an access names neither thread nor process, and there are 65536 frames.
+
+Status: 0; 2 for bad words; 3 where reading, writing or memory failed. The log,
+what is taken of it and the trace are held in memory. With --explain it is told
+which of the two files couldn't be read, and why.
+";
+
+/// What `audit` reads and writes.
+pub const AUDIT: &str = "\
+audit reads calls with the replies that somebody's address space gave, a
+kernel's or a simulator's, in the order in which they happened, and says
+whether a plain page map gives them. It begins with a vm line and file lines,
+as a trace does (help trace). Then each line is
+
+  cC! REQ = REPLY      core C made this call, and had this reply
+  cC! REQ = wait ..    it didn't have it yet
+  cC finish = REPLY    core C's call that waited has it
+
+REQ is as in help trace, REPLY as in help outcomes. Lines of take, flush,
+review, walk, evict and fold, with = step or = idle behind them, and a finish
+that still waits, are passed over: just what run --echo writes. A line has at
+most 512 bytes. Calls take effect in the order of their replies: they may not
+have happened at the same time. Of threads whose calls do, a record of replies
+that are right may be judged illegal, since the order in which they were
+written need not be that in which the calls took effect.
+
+It writes one of these, and behind the second the mappings around the request,
+as help maps says, at most four. On standard error the request is shown that
+was judged, with its line's number:
+
+  legal CALLS          so many calls, and each reply is the plain page map's
+  illegal N: replied REPLY, due REPLY
+                       line N's reply isn't, and what it would give; the lines
+                       before it are legal, and none behind it is read
+
+A mmap without f is due its hint, if its pages are free, or else the first room
+in the core's window. With --any-place it may have any place where all pages
+are valid and free, as POSIX leaves it to an implementation. CORES, FRAMES and
+CALLS of the vm line bound nothing but the cores' numbers, which are 0 to 63.
+
+Example:
+  printf '%s\\n' 'vm 1 4' 'c0! mmap 0x10000 4096 rw- pfa = 0x10000' \\
+    'c0! store 0x10004 41 = done' 'c0! load 0x10004 = 40' | radixvm audit
+writes illegal 4: replied 40, due 41, and 0x10000-0x11000 rw- anon.
+
+Status: 0 where all replies are legal, 1 where one isn't. A fault is told as
+help faults says, and then nothing is written; with --explain more is told of
+it. The text is held in memory.
+";
+
+/// What `picture` shows.
+pub const PICTURE: &str = "\
+picture reads a trace, and writes a picture of what happened as one SVG text:
+
+  radixvm picture TRACE > trace.svg
+
+Each step has a column; of a call that goes on by itself (cC! REQ) each of its
+steps has one. Each core has a lane. In it lie
+
+  bars     a call each, from its begin to its answer, with the reply. A call
+           that isn't answered goes on to the last column, and one that began
+           before the first column begins there
+  arrows   from a call that tells other cores to drop their translations to
+           each core's first take, and back from its second, which acknowledges
+  marks    takes, walks, evictions, flushes, reviews, a call that waits, and a
+           core that looked for a message and had none
+
+Below, each row is of pages that are mapped and unmapped together, coloured by
+what may be done with them, from the step in which the change is made. What was
+mapped before the first column isn't shown. Point at a bar, a mark or a stretch
+to read what it is.
+
+  --from N  the first step that is shown: 1 where it is left out. Where the
+            trace has fewer there is no picture, and the status is 2
+  --to N    the last one, not below N of --from. 2000 steps are shown at most,
+            which is then said on standard error
+  --lives   in place of that the lives of mappings over the whole trace,
+            however long it is. A row is as above, and in it lies a rectangle
+            from each step in which its pages are mapped, or get other rights,
+            to the first that changes them. 2000 are shown at most, from the
+            lowest pages on, and the picture says so. Not beside --from or --to
+
+Status: as for run. After a fault there is no picture.
+";

@@ -1,0 +1,302 @@
+//! What is told of `run` and `maps`, of the traces that they read, and of what they write.
+
+/// What `run` does.
+pub const RUN: &str = "\
+run reads a trace, acts on each line as it is read, and writes a line for each
+line of an event: the reply of a call, or what became of a step.
+
+  radixvm run [--log | [--echo | --summary] [--long]] [--explain] [FILE]
+
+  FILE       the trace (help trace); without it, or for -, standard input
+  --log      writes the log behind these lines: when each call had its reply
+             (help log)
+  --echo     writes LINE = OUTCOME for a line of an event, and copies vm and
+             file lines
+  --summary  counts calls, faults, fills, shootdowns, frames and epochs, and
+             writes the numbers on standard error (help cores)
+  --long     lets the trace ask for up to 2^40 calls, but not beside --log
+  --explain  shows under a fault the line, the word and what was expected; it
+             is on where standard error is a terminal (help faults)
+
+help outcomes says what the lines say, and what to do at a wait.
+
+Example, of one core and four frames:
+  printf '%s\\n' 'vm 1 4' 'c0! mmap 0x10000 4096 rw- pfa' \\
+    'c0! store 0x10004 41' 'c0! load 0x10004' | radixvm run
+writes 0x10000, done and 41, each on a line of its own.
+
+Status: 0 where the text was replayed to its end; 2 for a bad text or bad
+words; 3 where reading, writing or memory failed.
+";
+
+/// What a trace may hold.
+pub const TRACE: &str = "\
+A trace is text. Its first line says how large the space is, then comes a line
+for each file, then a line for each event. The run ends where the text does:
+behind a pipe when it is closed, at a terminal by Ctrl-D.
+
+  vm CORES FRAMES [CALLS]  first, once: 1 to 64 cores, 0 to 65536 frames of
+                           4096 bytes, and how many calls may begin: 4096
+                           where it is left out, at most 1048576, or with
+                           --long 2^40
+  file N MODE LEN SEED     a file of the trace's own: N is 0, 1, 2 and so on up
+                           to 15, MODE is r, w or rw, and of the LEN bytes (at
+                           most 1048576) byte I is (SEED + I) modulo 256
+
+An event is one of these, on core C: c0, c1 and so on up to one below CORES.
+
+  cC! REQ                  core C makes a call, which goes on until it has its
+                           reply or has to wait
+  cC call REQ              core C begins a call, and does no step of it
+  cC go                    one step of core C's call
+  cC finish                the steps of core C's call, until it has its reply
+                           or has to wait
+  cC take                  core C acts on its oldest message (help cores)
+  cC flush                 core C flushes one count, or ends its part of the
+                           epoch
+  cC review                core C reviews the first frame of its queue
+  cC walk ADDR             core C's TLB gets ADDR's page from its tables
+  cC evict ADDR            core C's TLB drops ADDR's page
+  cC frame F               core C's call, which wants a frame, takes frame F if
+                           it is free; go and finish take the least free one
+  cC guess ADDR            core C's call, which looks for a place, guesses that
+                           there is room from ADDR's page on
+  cC whole                 core C's call, which looks for a place, locks all of
+                           its window
+  cC giveup                core C's call is given up, as for want of memory,
+                           and its finish gives nomemory; idle once its change
+                           is sure, or its reply. While a store waits for acks
+                           it is idle, and behind the takes it steps again
+  fold ADDR                slots are joined at ADDR's page; no content changes
+
+frame, guess and whole fit one moment of a call: begin it by cC call, and try
+them behind each cC go, until one of them isn't idle.
+
+REQ is one of these.
+
+  mmap ADDR LEN PROT FLAGS [FILE OFF]
+  munmap ADDR LEN          also of pages that aren't mapped
+  mprotect ADDR LEN PROT
+  load ADDR                reads a byte
+  store ADDR BYTE          writes it
+  fetch ADDR               reads it to execute it
+
+PROT is rwx, with - in place of each right that isn't given: rw-, r--, ---.
+FLAGS is - or these letters, each at most once, in any order:
+  p  private and s shared: mmap needs just one of the two
+  f  fixed: the mapping is at ADDR, and takes the place of others there
+  a  anonymous: bytes of zero, and no file; p and s are alike there
+FILE is the number of a file, OFF where the mapping begins in it. They may be
+left out where FLAGS has a, which doesn't look at them.
+
+Without f, ADDR is a hint: its page is the place if all pages are valid and
+free there. Else the place is the first room in the core's window, which is
+2^39 bytes from 0x8000000000 * (C + 1) on: 0x8000000000 for core 0.
+
+Addresses from 0x1000 up to 2^47 are valid. ADDR, LEN and OFF are in bytes. A
+page has 4096 of them, and a range takes each page that has some byte of it.
+BYTE and SEED are at most 255. A number is decimal, or hexadecimal after 0x,
+and below 2^64: there is no 4K and no 1,000. C is decimal, without leading
+zeros.
+
+A line has at most 256 bytes, which are spaces and visible ASCII (0x20 to
+0x7e): no tab, no carriage return, no letter beyond. Spaces divide words. An
+empty line, and one that begins with #, says nothing; # behind words begins no
+comment.
+";
+
+/// What comes out for each line of an event.
+pub const OUTCOMES: &str = "\
+Each line of an event gives one line of output, which goes out as soon as no
+whole line is left to read.
+
+  0x10000       the mmap is done: the mapping's address
+  done          the munmap, the mprotect or the store is done
+  41            the byte that was loaded or fetched, in decimal
+  einval        an argument is wrong: mmap or munmap of length 0, or of a page
+                outside the space in munmap; p and s both or neither; an ADDR
+                of munmap, mprotect or a fixed mmap, or an OFF, that begins no
+                page
+  enomem        a page of a fixed mmap or an mprotect is outside the space, one
+                of an mprotect isn't mapped, or no place is found without f
+  ebadf         there is no such file
+  eoverflow     the mapping would end past 2^47 in its file
+  eacces        the file isn't open for reading, or not for writing what is
+                shared and writable
+  segv maperr   no page is mapped there
+  segv accerr   the page's protection forbids it: a store needs w, a fetch x, a
+                load any of r, w and x
+  bus           the page lies past the end of its file
+  noframe       no frame is free
+  nomemory      the call was given up: by giveup, or by live for want of memory
+  step          a step was made, which answered no call
+  wait slot C   core C holds a page that the call needs
+  wait acks C.. the call waits for messages to be taken by these cores
+  idle          nothing was done: the core has no call to go on with, or has
+                one already, or isn't there; or there is nothing to take,
+                flush, review, walk, evict, fold, guess, give up, or no such
+                free frame
+  full          nothing was done: as many calls as the vm line allows have
+                begun
+  stuck         2^40 steps of one finish gave the call no reply
+
+Where the reply is none of the first three, the call changed no mapping and no
+byte; but a store that ends in segv accerr or nomemory may have given its
+private page its copy before, which stays.
+
+What to do where core 0 reads one of these:
+  wait acks 1   core 1 may still have a translation. Two takes drop it, one
+                from its tables, one from its TLB; then the call goes on:
+                  c1 take
+                  c1 take
+                  c0 finish
+                Where core 1 has older messages, it takes until it reads idle.
+  wait slot 1   let core 1's call end, which lets go of its pages:
+                  c1 finish
+                  c0 finish
+                Where core 1 waits, too, do first what its own wait asks for.
+  noframe       write more FRAMES on the vm line; or unmap an anonymous page
+                that has a frame, which comes back once two epochs have ended
+                and it was reviewed. With one core, which has no other count to
+                flush:
+                  c0 flush
+                  c0 flush
+                  c0 flush
+                  c0 review
+                With more cores each of them flushes until it reads idle, each
+                does so once more, and then each reviews until it reads idle.
+                A store or load that is made anew gets the frame.
+  idle          at cC! or cC call: end the core's last call by finish first
+  full          write more CALLS on the vm line
+";
+
+/// What `run --log` writes behind the outcomes.
+pub const LOG: &str = "\
+run --log writes the log behind the outcomes, a line for each entry, in order:
+
+  log STEP call CALL REPLY  from this step on call CALL has this reply
+  log STEP detach ADDR      from this step on the private page at ADDR has a
+                            copy of its own, and shows its file no longer
+
+STEP is the number of a step, from 1 on. cC! and cC finish may make several,
+any other line of an event makes one, an idle one too. CALL is the number of a
+call, in the order in which calls began, from 1 on. REPLY is what help
+outcomes says.
+
+The log tells the order in which calls took effect: a plain page map that does
+them in this order, one after another, can give these replies. After a fault no
+log comes.
+";
+
+/// What `maps` writes.
+pub const MAPS: &str = "\
+maps replays the trace, and writes the mappings at its end in order of
+addresses:
+
+  START-END PROT BACK
+
+START is the first address, and END the first after the last. PROT is rwx,
+with - in place of each right that isn't there. BACK is one of these:
+
+  anon              no file
+  shared FILE OFF   this file, from the offset OFF on; stores change it
+  private FILE OFF  this file, up to a page's first store, which gives it a
+                    copy
+
+Neighbouring pages of one protection stand in one line where they have no
+file, or where the second goes on in the file from the first. After a fault no
+mappings come.
+
+  --long     lets the trace ask for up to 2^40 calls
+  --explain  shows under a fault the line, the word and what was expected
+";
+
+/// What ends a replay early.
+pub const FAULTS: &str = "\
+A fault ends the replay. It is told on standard error, and all that the lines
+before it gave has gone out. Lines count from 1, with those that say nothing.
+
+  line N: bad line   it is no line of help trace, or not at this place
+  line N: too long   it has more than 256 bytes, or in audit more than 512
+  no vm line first   the first line with words isn't a vm line, or there is
+                     none
+  setup S1           CORES isn't 1 to 64
+  setup S2           FRAMES is above 65536
+  setup S3           there are more than 16 files
+  setup S4           a file has more than 1048576 bytes
+  setup S5           CALLS is above 1048576, or with --long above 2^40
+  setup S6           no memory for a space of that size
+  read failed        standard input or FILE can't be read, or FILE not opened
+  write failed       standard output can't be written
+  out of memory      a step found no memory; the steps before it stand
+
+With --explain, and without it where standard error is a terminal, the line
+comes under the fault, then a caret below the word that is wrong, and what was
+expected there; under read failed the file and the cause. Notes of what is
+taken and may be a mistake come behind the output: a core beyond the vm line,
+and an mmap whose FLAGS have neither p nor s.
+
+What a bad line often is: PROT of two letters (rw for rw-); 4K, 1_000 or 1,000
+for a number; a tab, a letter that isn't ASCII, or a carriage return, which
+ends the lines of Windows (tr -d '\\r' drops it); words behind the last one, as
+a comment; FILE and OFF left out without a in FLAGS; a file line behind the
+first event, or whose N isn't the next number; c0: or c00 or c64 for a core; a
+second vm line. A core that the vm line doesn't give is no bad line: it reads
+idle.
+
+Status: 0 where the text was replayed to its end, whatever its calls came to;
+2 for a bad text or bad words; 3 where reading, writing or memory failed, setup
+S6 included. certify, live and audit have these faults, too, and status 1: for
+notes that are refused, and for a reply that is illegal.
+";
+
+/// What a newcomer to the model needs of cores.
+pub const CORES: &str = "\
+Each core has tables of its own, four levels as on x86-64, and a TLB of 64
+pages, of which the oldest one filled goes first. A load, store or fetch that
+its TLB or its tables allow is done at once. Else the core's call faults: it
+locks the page, gives it a frame where it has none, notes on the page that
+this core uses it, and enters the page into its tables. walk and evict move
+TLB entries as a processor may by itself.
+
+Locks. Pages lie in slots, runs of neighbours that are locked together. A call
+that changes pages locks its slots from left to right, and lets go of them at
+its end. A call that meets a slot of another core's call reads wait slot C.
+A slot that crosses an edge of what a call asks for is cut into 512; fold joins
+these again, where no call holds one, none has a frame or a core that uses it,
+and all are unmapped or go on from one another.
+
+Shootdown. munmap, mprotect and an mmap over pages that are used clear them in
+the core's own tables and TLB, and send a message to the other cores that are
+recorded on these pages, and to no others. The call reads wait acks C.. until
+each has taken it twice: at the first take a core clears its tables, at the
+second its TLB, and acknowledges. Until then it may still read and write the
+old page. A core whose own call waits can take, walk, flush and review.
+
+Private pages show their file, until a store gives the page a copy. Other cores
+that are recorded on it have to take twice before, too.
+
+Frames are counted, one for each page that has the frame, and one more where
+it caches a page of a file. A core notes changes of a count for itself. flush
+hands on its change of one frame's count, the least frame's; where it has
+none, it ends the core's part of the epoch. An epoch ends when each core has
+ended its part. A frame whose count came to 0 is put into the queue of the
+core that flushed it, and review frees it if its count stayed 0, two epochs
+later. review reads idle before.
+
+Places. A call of mmap without f that looks for a place takes the first room
+of its window at the next go or finish; guess and whole choose for it. What
+another core maps there meanwhile sends it back, once, to lock all of its
+window.
+
+Numbers. run --summary writes these behind a run that no fault ended, each with
+its number on a line of standard error, and makes each step by itself:
+  calls REPLY    answered calls: mapped (an address), done, byte, refused
+                 (einval to eacces), segv, bus, noframe and nomemory
+  faults         accesses that neither the core's TLB nor its tables allowed
+  fills          pages that got a frame: of zeros, of their file, or a copy
+  shootdowns     messages to other cores; told N of M: how many cores they
+                 told, of all that there were beside their own
+  frames         the most that were in use at once
+  epochs         those that have ended
+";

@@ -1,0 +1,159 @@
+//! What is told of words that can't be acted on, and of files that can't be read.
+ghost use Rattle.std.specs.Prelude.{◌≡◌, ◌≤◌};
+ghost use Rattle.std.specs.Io.KnownBytes.{Appends};
+ghost use Rattle.command_line.specs.Help.{page_of};
+ghost use Rattle.command_line.specs.Status.{words_status};
+ghost use Rattle.command_line.specs.declared.help.Topic.{Topic};
+
+use crate::help;
+use crate::pointing::tell as tell_line;
+use crate::words::Told;
+use clap::Error;
+use clap::error::ErrorKind;
+use std::alloc::Global;
+use std::io;
+use std::io::Write;
+use trace_io::sink::{Sink, write_all};
+
+// Prints a text on standard output, and answers the status.
+fn show<W: Sink, E: Write>(text: &str, out: &mut W, errors: &mut E) -> u8
+    ensures shown { result ≡ 0 → Appends (W.contents out.old) (W.contents out.new) text.now }
+    ensures within { result ≤ 3 }
+{
+    if write_all(out, text.as_bytes()).is_ok() && out.flush().is_ok() {
+        return 0;
+    }
+    let _ = errors.write_all(b"radixvm: write failed\n");
+    3
+}
+
+/// Why the program's words can't be acted on, but for what they say.
+#[derive(Clone, Copy, Debug, PartialEq, Eq)]
+pub enum WordsFault {
+    /// A word isn't UTF-8.
+    NotUtf8,
+    /// The allocator refused.
+    NoMemory,
+}
+
+/// Prints the fault, and answers the status: 3 where memory was wanting, else 2.
+pub fn refuse_words<E: Write>(fault: WordsFault, errors: &mut E) -> u8
+    ensures { result ≡ words_status fault }
+{
+    let text = match fault {
+        WordsFault::NotUtf8 => "the words are not UTF-8",
+        WordsFault::NoMemory => "out of memory",
+    };
+    let _ = writeln!(errors, "radixvm: {text}");
+    match fault {
+        WordsFault::NotUtf8 => 2,
+        WordsFault::NoMemory => 3,
+    }
+}
+
+// The letters of a flag that is told of as unknown, of one hyphen: as `l` of `-l`.
+fn letters_told(text: &str) -> Option<&str> {
+    let (_, behind) = text.split_once("unexpected argument '-")?;
+    let (letters, _) = behind.split_once('\'')?;
+    if letters.is_empty() || letters.starts_with('-') {
+        return None;
+    }
+    Some(letters)
+}
+
+// Writes the flags of the usage that begin with these letters.
+fn tell_flags<E: Write>(letters: &str, usage: &str, errors: &mut E) {
+    let mut is_first = true;
+    for piece in usage.split("--") {
+        let end = piece.find(|letter: char| !letter.is_ascii_lowercase() && letter != '-');
+        let name = piece.get(..end.unwrap_or(piece.len())).unwrap_or("");
+        if name.starts_with(letters) {
+            let sign = if is_first {
+                "  tip: flags that begin so:"
+            } else {
+                ","
+            };
+            let _ = write!(errors, "{sign} '--{name}'");
+            is_first = false;
+        }
+    }
+    if !is_first {
+        let _ = errors.write_all(b"\n");
+    }
+}
+
+// Tells what is wrong with the words, as the parser says it, and behind it which flags begin so.
+fn tell_mistake<E: Write>(text: &str, errors: &mut E) {
+    let (first, rest) = text.split_once("\n\n").unwrap_or((text, ""));
+    let _ = write!(errors, "radixvm: {first}\n\n");
+    if let Some(letters) = letters_told(first)
+        && let Some((_, usage)) = rest.split_once("Usage: ")
+    {
+        tell_flags(letters, usage, errors);
+        if !rest.starts_with("  tip: ") {
+            let _ = errors.write_all(b"\n");
+        }
+    }
+    let _ = errors.write_all(rest.as_bytes());
+}
+
+// Tells why the words can't be acted on, or what they ask the parser for, and answers the status.
+fn tell_words<W: Sink, E: Write>(alloc: Global, error: &Error, out: &mut W, errors: &mut E) -> u8
+    ensures { result ≤ 3 }
+{
+    let Ok(text) = format!(in alloc; "{error}") else {
+        return refuse_words(WordsFault::NoMemory, errors);
+    };
+    match error.kind() {
+        ErrorKind::DisplayHelp | ErrorKind::DisplayVersion => show(text.as_str(), out, errors),
+        ErrorKind::OutOfMemory => refuse_words(WordsFault::NoMemory, errors),
+        _ => {
+            // One prefix is enough.
+            let text = text.as_str();
+            tell_mistake(text.strip_prefix("error: ").unwrap_or(text), errors);
+            2
+        }
+    }
+}
+
+/// Prints what is told in place of what is asked for, and answers the status.
+pub(crate) fn tell<W: Sink, E: Write>(alloc: Global, told: &Told, out: &mut W, errors: &mut E) -> u8
+    ensures page { (topic : Topic) → told.now ≡ Told.Page topic → result ≡ 0
+        → Appends (W.contents out.old) (W.contents out.new) (page_of topic) }
+    ensures within { result ≤ 3 }
+{
+    match told {
+        Told::Words(error) => tell_words(alloc, error, out, errors),
+        Told::Page(topic) => show(help::page(*topic), out, errors),
+        Told::NoSteps(steps) => {
+            let first = steps.first;
+            let last = steps.last;
+            let _ = writeln!(errors, "radixvm: --from {first} is behind --to {last}");
+            2
+        }
+    }
+}
+
+/// Tells which file it is that can't be read, and why.
+pub(crate) fn tell_cause<E: Write>(name: &str, cause: io::ErrorKind, errors: &mut E) {
+    let why = match cause {
+        io::ErrorKind::NotFound => "there is no such file",
+        io::ErrorKind::PermissionDenied => "it may not be read",
+        io::ErrorKind::IsADirectory => "it is a directory",
+        _ => "",
+    };
+    if why.is_empty() {
+        let _ = writeln!(errors, "  {name}: {cause}");
+    } else {
+        let _ = writeln!(errors, "  {name}: {why}");
+    }
+}
+
+/// Says that lines are read from the terminal, and shows one.
+pub(crate) fn tell_of_terminal<E: Write>(example: &str, errors: &mut E) {
+    let _ = writeln!(
+        errors,
+        "radixvm: reads lines from the terminal, up to Ctrl-D, such as"
+    );
+    tell_line(example, errors);
+}

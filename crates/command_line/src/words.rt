@@ -1,0 +1,317 @@
+//! The words of the command line: what they are, and what they ask for.
+ghost use Rattle.std.specs.Prelude.{◌≡◌, ℕ, Option};
+ghost use Rattle.command_line.specs.declared.job.Shows.{Shows};
+ghost use Rattle.core_steps.specs.declared.setup.CallLimit.{CallLimit};
+
+use crate::help;
+use crate::help::{Topic, page, topic_named};
+use crate::job::Shows;
+use crate::picturing::{Drawing, Steps};
+use clap::{Arg, ArgAction, ArgMatches, Command, Error, value_parser};
+use core_steps::CallLimit;
+use std::alloc::{AllocError, Allocator, Global};
+use trace::shown::Show;
+
+/// What is to be done with a text.
+#[derive(Clone, Copy)]
+pub(crate) enum Work {
+    /// A replay, which shows this.
+    Replay(Shows),
+    /// A replay that shows each line beside its outcome, within this limit, and in colours or without.
+    Echo { limit: CallLimit, coloured: bool },
+    /// The certificate of notes.
+    Certify,
+    /// A run of a script on threads, whose notes are written.
+    Live,
+    /// The certificate of such a run.
+    CertifyLive,
+    /// The trace of a log of strace, of the process of this thread or of the first line's.
+    Import(Option<u64>),
+    /// The trace of a log of lackey.
+    ImportAccesses,
+    /// The judgement of replies, at any place or at the first ones.
+    Audit(bool),
+    /// A picture of a trace, of its steps or of lives.
+    Picture(Drawing),
+}
+
+/// What is asked for.
+#[derive(Clone, Copy)]
+pub(crate) struct Task<'a> {
+    pub(crate) work: Work,
+    /// The text's file, where it isn't standard input.
+    pub(crate) file: Option<&'a str>,
+    /// The file of the list of mappings that an import begins with.
+    pub(crate) maps: Option<&'a str>,
+    /// Whether more is told of a fault than its text.
+    pub(crate) explains: bool,
+}
+
+/// What is printed in its place.
+#[derive(Drop)]
+pub(crate) enum Told {
+    /// Why the words are wrong, or what they ask for of the parser's own texts.
+    Words(Error),
+    /// A page of the help.
+    Page(Topic),
+    /// No step is from the first of these to the last.
+    NoSteps(Steps),
+}
+
+// ---- what they are
+
+// A word that may stand or not.
+fn flag<'a>(alloc: Global, name: &'static str) -> Arg<'a> {
+    Arg::new(alloc, name).long(name).action(ArgAction::SetTrue)
+}
+
+// A word behind which a number stands.
+fn number<'a>(alloc: Global, name: &'static str) -> Arg<'a> {
+    Arg::new(alloc, name)
+        .long(name)
+        .value_parser(value_parser!(u64))
+}
+
+// A word of the program that reads a text.
+fn reading<'a>(
+    alloc: Global,
+    name: &'static str,
+    usage: &'static str,
+) -> Result<Command<'a>, AllocError> {
+    Command::new(alloc, name)
+        .override_help(page(topic_named(name)))
+        .override_usage(usage)
+        .arg(flag(alloc, "explain"))?
+        .arg(Arg::new(alloc, "FILE"))
+}
+
+const RUN_USAGE: &str = "radixvm run [--log | [--echo | --summary] [--long]] [--explain] [FILE]";
+
+const MAPS_USAGE: &str = "radixvm maps [--long] [--explain] [FILE]";
+
+const CERTIFY_USAGE: &str = "radixvm certify [--explain] [FILE]";
+
+const LIVE_USAGE: &str = "radixvm live [--certify] [--explain] [FILE]";
+
+const IMPORT_USAGE: &str = "radixvm import [--lackey | [--pid N] [--maps FILE]] [--explain] [FILE]";
+
+const AUDIT_USAGE: &str = "radixvm audit [--any-place] [--explain] [FILE]";
+
+const PICTURE_USAGE: &str = "radixvm picture [--lives | [--from N] [--to N]] [--explain] [FILE]";
+
+// The word `run` with what may stand behind it.
+fn running<'a>(alloc: Global) -> Result<Command<'a>, AllocError> {
+    let echo = flag(alloc, "echo").conflicts_with("log")?;
+    let long = flag(alloc, "long").conflicts_with("log")?;
+    let summary = flag(alloc, "summary")
+        .conflicts_with("log")?
+        .conflicts_with("echo")?;
+    let command = reading(alloc, "run", RUN_USAGE)?
+        .arg(flag(alloc, "log"))?
+        .arg(echo)?
+        .arg(summary)?
+        .arg(long)?;
+    Ok(command)
+}
+
+// The word `picture` with what may stand behind it.
+fn picturing<'a>(alloc: Global) -> Result<Command<'a>, AllocError> {
+    let lives = flag(alloc, "lives")
+        .conflicts_with("from")?
+        .conflicts_with("to")?;
+    let command = reading(alloc, "picture", PICTURE_USAGE)?
+        .arg(number(alloc, "from"))?
+        .arg(number(alloc, "to"))?
+        .arg(lives)?;
+    Ok(command)
+}
+
+// The word `import` with what may stand behind it.
+fn import_word<'a>(alloc: Global) -> Result<Command<'a>, AllocError> {
+    let list = Arg::new(alloc, "maps").long("maps");
+    let lackey = flag(alloc, "lackey")
+        .conflicts_with("pid")?
+        .conflicts_with("maps")?;
+    let command = reading(alloc, "import", IMPORT_USAGE)?
+        .arg(number(alloc, "pid"))?
+        .arg(list)?
+        .arg(lackey)?;
+    Ok(command)
+}
+
+// The word `help` with what may stand behind it.
+fn help_word<'a>(alloc: Global) -> Result<Command<'a>, AllocError> {
+    let topic = Arg::new(alloc, "TOPIC").value_parser(help::TOPICS);
+    let command = Command::new(alloc, "help")
+        .override_help(help::OVERVIEW)
+        .override_usage("radixvm help [TOPIC]")
+        .arg(topic)?;
+    Ok(command)
+}
+
+// The program with its words that make a machine.
+fn machine_words<'a>(alloc: Global) -> Result<Command<'a>, AllocError> {
+    let maps = reading(alloc, "maps", MAPS_USAGE)?.arg(flag(alloc, "long"))?;
+    let certify = reading(alloc, "certify", CERTIFY_USAGE)?;
+    let live = reading(alloc, "live", LIVE_USAGE)?.arg(flag(alloc, "certify"))?;
+    let program = Command::new(alloc, "radixvm")
+        .override_help(help::OVERVIEW)
+        .override_usage(help::USAGE)
+        .version(help::VERSION)
+        .disable_help_subcommand(true)
+        .subcommand_required(true)
+        .subcommand(running(alloc)?)?
+        .subcommand(maps)?
+        .subcommand(certify)?
+        .subcommand(live)?;
+    Ok(program)
+}
+
+// The word `audit` with what may stand behind it.
+fn audit_word<'a>(alloc: Global) -> Result<Command<'a>, AllocError> {
+    reading(alloc, "audit", AUDIT_USAGE)?.arg(flag(alloc, "any-place"))
+}
+
+// The program with one word more.
+fn with_word<'a>(
+    program: Command<'a>,
+    word: Result<Command<'a>, AllocError>,
+) -> Result<Command<'a>, AllocError> {
+    let program = program.subcommand(word?)?;
+    Ok(program)
+}
+
+// The program's words.
+fn grammar<'a>(alloc: Global) -> Result<Command<'a>, AllocError> {
+    let program = with_word(machine_words(alloc)?, import_word(alloc))?;
+    let program = with_word(program, audit_word(alloc))?;
+    let program = with_word(program, picturing(alloc))?;
+    with_word(program, help_word(alloc))
+}
+
+// ---- what they ask for
+
+// How many calls these words let a trace ask for.
+fn limit_of<'a>(words: &ArgMatches<'a>) -> CallLimit {
+    if words.get_flag("long") {
+        CallLimit::Long
+    } else {
+        CallLimit::Usual
+    }
+}
+
+// This work with the text that the words name.
+fn working<'a>(work: Work, words: &ArgMatches<'a>) -> Task<'a>
+    ensures { result.work ≡ work }
+{
+    Task {
+        work,
+        file: words.get_str("FILE"),
+        maps: None,
+        explains: words.get_flag("explain"),
+    }
+}
+
+// What these words of a word that reads a trace ask for.
+fn replaying<'a>(show: Show, sums: bool, words: &ArgMatches<'a>) -> Task<'a>
+    ensures { (shows : Shows) × (result.work ≡ Work.Replay shows) × (shows.show ≡ show) × (shows.sums ≡ sums) }
+{
+    let limit = limit_of(words);
+    working(Work::Replay(Shows { show, limit, sums }), words)
+}
+
+// What these words of the word `picture` ask for: lives, or steps, from 1 on, and to the end, where none are named.
+fn drawing_of<'a>(words: &ArgMatches<'a>) -> Drawing {
+    if words.get_flag("lives") {
+        return Drawing::Lives;
+    }
+    Drawing::Steps(Steps {
+        first: words.get_one("from").unwrap_or(1).max(1),
+        last: words.get_one("to").unwrap_or(u64::MAX),
+    })
+}
+
+// An import, with the list of mappings that the words name.
+fn importing<'a>(words: &ArgMatches<'a>) -> Task<'a>
+    ensures { (thread : Option ℕ) × (result.work ≡ Work.Import thread) }
+{
+    Task {
+        work: Work::Import(words.get_one("pid")),
+        file: words.get_str("FILE"),
+        maps: words.get_str("maps"),
+        explains: words.get_flag("explain"),
+    }
+}
+
+// What the words behind `run` ask for, in colours or without.
+fn running_asked<'a>(words: &ArgMatches<'a>, coloured: bool) -> Task<'a> {
+    if words.get_flag("log") {
+        return replaying(Show::OutcomesAndLog, false, words);
+    }
+    if words.get_flag("echo") {
+        let limit = limit_of(words);
+        return working(Work::Echo { limit, coloured }, words);
+    }
+    replaying(Show::Outcomes, words.get_flag("summary"), words)
+}
+
+// The topic of the help that the words name.
+fn topic_of<'a>(words: &ArgMatches<'a>) -> Topic {
+    match words.get_str("TOPIC") {
+        Some(name) => topic_named(name),
+        None => Topic::Overview,
+    }
+}
+
+// What the words behind one of the program's own ask for, or the page of the help.
+fn asked<'a>(name: &str, words: &ArgMatches<'a>, coloured: bool) -> Result<Task<'a>, Topic> {
+    match name {
+        "run" => Ok(running_asked(words, coloured)),
+        "maps" => Ok(replaying(Show::Maps, false, words)),
+        "certify" => Ok(working(Work::Certify, words)),
+        "live" if words.get_flag("certify") => Ok(working(Work::CertifyLive, words)),
+        "live" => Ok(working(Work::Live, words)),
+        "import" if words.get_flag("lackey") => Ok(working(Work::ImportAccesses, words)),
+        "import" => Ok(importing(words)),
+        "audit" => Ok(working(Work::Audit(words.get_flag("any-place")), words)),
+        "picture" => Ok(working(Work::Picture(drawing_of(words)), words)),
+        _ => Err(topic_of(words)),
+    }
+}
+
+// Parses the words: what they ask for, or the page of the help.
+fn matched<'a, A: Allocator>(
+    alloc: Global,
+    words: &'a [String<A>],
+    coloured: bool,
+) -> Result<Result<Task<'a>, Topic>, Error> {
+    let program = grammar(alloc)?;
+    let matches = program.try_get_matches_from(words)?;
+    match matches.subcommand() {
+        Some((name, words)) => Ok(asked(name, words, coloured)),
+        None => Ok(Err(Topic::Overview)),
+    }
+}
+
+// The task, if a picture of steps has one that it may show.
+fn with_steps<'a>(task: Task<'a>) -> Result<Task<'a>, Told> {
+    match task.work {
+        Work::Picture(Drawing::Steps(steps)) if steps.last < steps.first => {
+            Err(Told::NoSteps(steps))
+        }
+        _ => Ok(task),
+    }
+}
+
+/// Parses the words: what they ask for, or what is printed in its place. What goes to standard output may have colours.
+pub(crate) fn parse<'a, A: Allocator>(
+    alloc: Global,
+    words: &'a [String<A>],
+    coloured: bool,
+) -> Result<Task<'a>, Told> {
+    match matched(alloc, words, coloured) {
+        Ok(Ok(task)) => with_steps(task),
+        Ok(Err(topic)) => Err(Told::Page(topic)),
+        Err(error) => Err(Told::Words(error)),
+    }
+}

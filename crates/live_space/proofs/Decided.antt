@@ -1,0 +1,65 @@
+-- What is decided of a change whose pages are held
+use Rattle.std.proofs.Common.{◌≡◌, ℕ, ◌+◌, ◌≤◌, ◌<◌, List, Option, true, arith, refl, sym, ap, ◌∙◌, subst}
+use Rattle.std.specs.Prelude.{option_to_list}
+use Rattle.vm_base.specs.declared.info.PageInfo.{PageInfo}
+use Rattle.vm_base.specs.declared.page.PageRange.{PageRange}
+use Rattle.vm_base.specs.Functions.{has}
+use Rattle.vm_base.specs.Info.{frame_of}
+use Rattle.vm_base.specs.Plain.{File}
+use Rattle.vm_base.proofs.Functions.{has_in}
+use Rattle.slot_lock.specs.declared.plan.Change.{Change}
+use Rattle.slot_lock.specs.declared.plan.Change.TheVariants.{Put, Clear, Protect}
+use Rattle.slot_lock.specs.Plan.{range_of}
+use Rattle.slot_lock.specs.Slots.{Slots}
+use Rattle.machine_model.specs.Counting.{frame_lost}
+use Rattle.vm_calls.specs.declared.decision.Decision.{Decision}
+use Rattle.vm_calls.specs.declared.decision.Decision.TheVariants.{Act}
+use Rattle.vm_calls.specs.Decisions.{AreAlike, DecidesChange}
+use Rattle.vm_calls.proofs.Alike.{change_alike}
+use Rattle.live_tree.specs.Held.{Covers, HeldView}
+use Rattle.live_tree.specs.Shown.{Lends, shown}
+use Rattle.live_space.specs.Losing.{Loses}
+use Rattle.live_space.proofs.Lost.{loses_alike, of_one}
+
+lost_same : (change : Change) (s : Slots) (p : ℕ) (info : Option PageInfo) → info ≡ s.info p → frame_lost change (λ q. info) 0 ≡ frame_lost change s.info p
+lost_same (Put range meta) s p info e = ap (λ (o : Option PageInfo). frame_of o) e
+lost_same (Clear range) s p info e = ap (λ (o : Option PageInfo). frame_of o) e
+lost_same (Protect range prot) s p info e = refl
+
+-- what a change of one page loses
+pub loses_one : (s : Slots) (change : Change) (info : Option PageInfo) (frames : List ℕ) → (range_of change).end ≡ (range_of change).first + 1
+    → info ≡ s.info (range_of change).first → frames ≡ option_to_list (frame_lost change (λ q. info) 0) → Loses s change frames
+loses_one s change info frames one is are = of_one (frame_lost change s.info) (range_of change).first (range_of change).end
+    (frame_lost change s.info (range_of change).first) frames one refl
+    (are ∙ ap option_to_list (lost_same change s (range_of change).first info is))
+
+-- lent slots are as the held ones in a range that is held
+lent_alike : (core : ℕ) (h : HeldView) (s : Slots) (r : PageRange) → Lends core h s → Covers h r → AreAlike r s (shown h.slots)
+lent_alike core h s r lends covers p inside =
+    let within = has_in r p inside in
+    let low = covers.0 in
+    let high = covers.1 in
+    let from = within.0 in
+    let upto = within.1 in
+    lends.info p (omega (arith, low, from)) (omega (arith, high, upto))
+
+pub decides_shown : (files : ℕ → Option File) (core : ℕ) (h : HeldView) (s : Slots) (change : Change) (d : Decision) → Lends core h s
+    → Covers h (range_of change) → DecidesChange files s change d → DecidesChange files (shown h.slots) change d
+decides_shown files core h s change d lends covers decides =
+    change_alike files s (shown h.slots) change d (lent_alike core h s (range_of change) lends covers) decides
+
+-- the range that is changed is the change's own
+pub acts_shown : (files : ℕ → Option File) (core : ℕ) (h : HeldView) (s : Slots) (change : Change) (range : PageRange) (shoot : ℕ) → Lends core h s
+    → Covers h (range_of change) → DecidesChange files s change (Act range shoot) → range ≡ range_of change
+    → DecidesChange files (shown h.slots) change (Act (range_of change) shoot)
+acts_shown files core h s change range shoot lends covers decides is =
+    decides_shown files core h s change (Act (range_of change) shoot) lends covers
+    (subst (λ (r : PageRange). DecidesChange files s change (Act r shoot)) is decides)
+
+pub loses_shown : (core : ℕ) (h : HeldView) (s : Slots) (change : Change) (frames : List ℕ) → Lends core h s → Covers h (range_of change)
+    → Loses s change frames → Loses (shown h.slots) change frames
+loses_shown core h s change frames lends covers loses =
+    let low = covers.0 in
+    let high = covers.1 in
+    loses_alike s (shown h.slots) change frames
+    (λ p from upto. sym (lends.info p (omega (arith, low, from)) (omega (arith, high, upto)))) loses

@@ -1,0 +1,20 @@
+use Rattle.std.proofs.Common.{refl, arith}
+use Rattle.seats.proofs.Growing.{grew_trans}
+use Rattle.live_space.proofs.Noted.{goes_before, left_after, one_if}
+use Rattle.live_space.proofs.in_call.InCall.copy_told.Goals as goal
+
+pub invariant_of-self : goal.invariant_of-self
+invariant_of-self g c =
+    let room = c.requires.room in
+    let taken = c.take_all.ensures.room in
+    record { room = left_after 0 _ _ _ _ (omega (arith, room, taken)) (one_if _ _ _ _ _ _ c.copy_page.ensures.done c.copy_page.ensures.not) }
+
+pub returns-then-copy_page : goal.returns-then-copy_page
+returns-then-copy_page g c = goes_before _ _ _ c.install.ensures refl
+    (grew_trans _ _ _ c.take_all.ensures.grew (one_if _ _ _ _ _ _ c.copy_page.ensures.done c.copy_page.ensures.not).grew)
+
+pub returns-else-copy_page : goal.returns-else-copy_page
+returns-else-copy_page g c = record {
+  same_reference = refl;
+  grew = grew_trans _ _ _ c.take_all.ensures.grew (one_if _ _ _ _ _ _ c.copy_page.ensures.done c.copy_page.ensures.not).grew;
+}

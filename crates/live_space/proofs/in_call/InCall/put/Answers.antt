@@ -1,0 +1,30 @@
+use Rattle.std.proofs.Common.{rules, arith, ap, refl}
+use Rattle.seats.specs.Notes.{SeatView}
+use Rattle.seats.proofs.Growing.{grew_steps}
+use Rattle.live_space.proofs.Noted.{goes_before, goes_then, goes_trans, grew_set_page}
+use Rattle.live_space.proofs.Places.{alike_count, alike_edges}
+use Rattle.live_space.proofs.in_call.InCall.put.Goals as goal
+
+pub commit_slots-requires : goal.commit_slots-requires
+commit_slots-requires g c = (
+  omega arith,
+  (
+    record {
+      pages = c.requires.sound.pages;
+      covers = search rules;
+      edges = alike_edges c.args.range _ _ c.reserve.ensures.same (c.cut_all.ensures.edges (search rules));
+      room = search rules;
+      files = c.requires.sound.fits;
+    },
+    omega (
+      arith,
+      alike_count _ _ c.reserve.ensures.same,
+      c.cut_all.ensures.room (search rules),
+      ap (λ (s : SeatView). s.room) c.step-fits.ensures.0,
+    ),
+  ),
+)
+
+pub returns-clause-goes : goal.returns-clause-goes
+returns-clause-goes g c = goes_then _ _ _ (goes_trans _ _ _ c.cut_all.ensures.goes
+    (goes_before _ _ _ c.commit_slots.ensures.goes refl (grew_steps _ _ _ c.step-fits.ensures))) refl (grew_set_page _ _ _ c.set_next_page.ensures)

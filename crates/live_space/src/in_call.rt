@@ -1,0 +1,44 @@
+//! A call in flight that holds slots: what its steps have in hand.
+ghost use Rattle.std.specs.Prelude.{◌≡◌, IsTrue};
+ghost use Rattle.live_space.specs.InFlight.{GoesOn, HasStepsLeft};
+
+use crate::gate::{Gate, Point};
+use crate::space::Live;
+use live_tree::held::Held;
+use seats::Seat;
+use std::alloc::Allocator;
+use std::sync::Wait;
+
+/// A call that holds slots, with all that its steps need. Its seat has room to note of each slot that
+/// it is let go, to give the call up, and to answer it.
+pub(crate) struct InCall<'c, 's, 'r, 'g, R, G, A: Allocator + Clone> {
+    /// Where its steps are noted.
+    pub seat: &'s mut Seat<A>,
+    /// The slots that it holds.
+    pub held: Held<'c, A>,
+    /// The space.
+    pub space: &'c Live<A>,
+    /// What waits for locks.
+    pub rt: &'r R,
+    /// Where a test may hold it.
+    pub gate: &'g G,
+    ghost room: { HasStepsLeft 0 held seat.now },
+}
+
+impl<'c, R: Wait, G: Gate, A: Allocator + Clone> InCall<'c, '_, '_, '_, R, G, A> {
+    /// The call has come to this point.
+    pub fn at(&self, point: Point) {
+        self.gate.at(self.rt, self.seat.core(), point);
+    }
+
+    /// Makes room for so many steps more; tells whether it could.
+    #[tactic(auto, using(seats::proofs::Growing::grew_room))]
+    pub fn has_room(&mut self, steps: usize) -> bool
+        ensures goes { GoesOn self.old.seat self.new.seat }
+        ensures held { self.new.held ≡ self.old.held }
+        ensures room { IsTrue result → HasStepsLeft steps self.new.held self.new.seat.now }
+    {
+        let count = self.held.len().saturating_add(2).saturating_add(steps);
+        self.seat.reserve(count)
+    }
+}

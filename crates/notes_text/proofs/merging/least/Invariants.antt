@@ -1,0 +1,7 @@
+use Rattle.std.proofs.Common.{map}
+use Rattle.notes_text.specs.Merged.{IsBest}
+use Rattle.notes_text.proofs.merging.least.Given as goal
+
+-- the least head of the first lists
+abbrev pub invariant-lists : goal.invariant-lists
+invariant-lists l = IsBest l.at (map (λ s. s.now) l.lists) l.best

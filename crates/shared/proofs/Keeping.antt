@@ -1,0 +1,545 @@
+-- Each step keeps the rule of the one history
+use Rattle.std.proofs.Common.{◌≡◌, ◌≢◌, ℕ, zero, suc, ◌+◌, ◌-◌, ◌<◌, ◌≤◌, eqb, cond, List, [], ◌∷◌, ◌++◌, length, get_or, set, refl}
+use Rattle.std.proofs.Common.{sym, ap, ◌∙◌, subst, ◌⊎◌, inl, inr, ⊎_elim, arith, eq-eqb, ne_eqb, length-set}
+use Rattle.std.specs.Prelude.{MatchBool, slice_get, slice_index, Some}
+use mathlib.Core.Bool.{Bool, true, false}
+use mathlib.Core.Option.{some, none, some-ne-none, some-injective}
+use lib.ListN.{get_elem?}
+use prog.Atomic.{either}
+use Rattle.atomic_table.specs.Table.{State, Me, step, keeps, takes, gives, stepped, put_back, Act, Valid, carried_after, opening, Allows, Splits, Joins, Seen, Final, rest}
+use Rattle.atomic_table.proofs.Lists.{at_set, set_again}
+use Rattle.atomic_table.specs.Seated.{TableId}
+use Rattle.vm_base.proofs.Functions.{eq_true}
+use Rattle.vm_base.specs.declared.requests.Request.{Request}
+use Rattle.std.proofs.Math.Logic.{∥∥₁_elim}
+use Rattle.std.proofs.Props.{props}
+use Rattle.machine_sound.proofs.Kept.{reached_fine}
+use Rattle.machine_model.specs.World.{World, Made}
+use Rattle.machine_alone.specs.Alone.{IsCalm}
+use Rattle.core_steps.specs.Machine.{IsLegal}
+use Rattle.shared.specs.declared.history.History.{History}
+use Rattle.shared.specs.declared.history.Replied.{Replied}
+use Rattle.shared.specs.declared.history.Told.{Told}
+use Rattle.shared.specs.declared.space.Answer.{Answer}
+use Rattle.shared.specs.declared.space.Known.{Known}
+use Rattle.shared.specs.declared.whole.Ended.{Ended}
+use Rattle.shared.specs.declared.whole.Ended.TheVariants as To
+use Rattle.shared.specs.Histories.{Adds, Begins, Ends, history_of, replied, replied_by}
+use Rattle.shared.specs.Cores.{Agrees, Answers, Extends, IsTold, history_first, made_of}
+use Rattle.shared.specs.Rules.{CanGive, Fits, Gives, Home, Kept, Learns, Makes, Out, Takes, Took, after, answer_of, first_known, history_carried, holding, known, spent_core, split_known, view_of, with_other, word_of}
+use Rattle.shared.proofs.Lists.{begins_self, begins_through}
+
+-- ---- lists of views
+
+module _ {A : Type 0} where
+  each_at : (P : ℕ → A → Type 0) (l : List A) (i : ℕ) (w : A) → ((k : ℕ) (v : A) → k ≢ i → get_elem? l k ≡ some v → P k v) → P i w
+      → (k : ℕ) (v : A) → get_elem? (set l i w) k ≡ some v → P k v
+  each_at P l i w others mine k v e = ⊎_elim (λ (t : (k ≡ i) × (w ≡ v)). subst (λ (x : ℕ × A). P x.0 x.1) (λ j. (sym t.0 j, t.1 j)) mine)
+      (λ (t : (k ≢ i) × (get_elem? l k ≡ some v)). others k v t.0 t.1) (at_set l i k w v e)
+
+  at_end : (l : List A) (a b : A) (j : ℕ) → get_elem? (l ++ a ∷ []) j ≡ some b → (get_elem? l j ≡ some b) ⊎ ((j ≡ length l) × (a ≡ b))
+  at_end [] a b zero e = inr (refl, some-injective a b e)
+  at_end [] a b (suc j) e = absurd (some-ne-none b (sym e))
+  at_end (x ∷ xs) a b zero e = inl e
+  at_end (x ∷ xs) a b (suc j) e = ⊎_elim (λ t. inl t) (λ t. inr (ap suc t.0, t.1)) (at_end xs a b j e)
+
+  each_end : (P : ℕ → A → Type 0) (l : List A) (a : A) → ((k : ℕ) (v : A) → get_elem? l k ≡ some v → P k v) → P (length l) a
+      → (k : ℕ) (v : A) → get_elem? (l ++ a ∷ []) k ≡ some v → P k v
+  each_end P l a old new k v e = ⊎_elim (λ t. old k v t) (λ (t : (k ≡ length l) × (a ≡ v)). subst (λ (x : ℕ × A). P x.0 x.1) (λ j. (sym t.0 j, t.1 j)) new) (at_end l a v k e)
+
+not_true : (b : Bool) → (b ≡ true → ⊥) → b ≡ false
+not_true true n = absurd (n refl)
+not_true false n = refl
+
+not_both : (b : Bool) → b ≡ false → b ≡ true → ⊥
+not_both b f t = cc (f, t)
+
+pub begins_again : (h : History) → Begins h h
+begins_again h = (begins_self h.requests, begins_self h.entries)
+
+module _ {S : Type 0} (state : S → World) (key : List S) where
+  -- ---- the start
+
+  pub opened : (d : S) → key ≡ d ∷ [] → IsLegal (state d) → IsCalm (state d) → 0 < (state d).made.cores
+      → Kept state key (opening (1 ∷ []) (d ∷ []) (first_known state key))
+  opened d is legal calm some_core =
+      let made : made_of state key ≡ (state d).made = ap (made_of state) is in
+      let first : history_first state key ≡ history_of (state d) = ap (history_first state) is in
+      let cores : (made_of state key).cores ≡ (state d).made.cores = ap (λ (m : Made). m.cores) made in
+      let v : Known S = first_known state key in
+      record {
+        history = history_first state key;
+        seat_of = λ _. 0;
+        gone = λ _. false;
+        left = (made_of state key).cores - 1;
+        few = omega (arith, cores, some_core);
+        each = each_end (λ id u. Fits state key (history_first state key) (λ _. 0) (λ _. false) ((made_of state key).cores - 1) id u) [] v
+            (λ k u e. absurd (some-ne-none u (sym e)))
+            (record {
+              seen = begins_again (history_first state key);
+              mine = λ _. refl;
+              seat = λ _. refl;
+              core = λ _. inl refl;
+              here = λ _. omega (arith, cores, some_core);
+              first = λ _. refl;
+              stays = λ _. refl;
+              spare = λ _. (refl, refl, refl);
+              told = λ k t e. absurd (some-ne-none t (sym e));
+            });
+        unborn = λ _ _ _. (refl, refl);
+        begun = begins_again (history_first state key);
+        place = inl (record {
+          machine = d;
+          word = 1;
+          words = refl;
+          homes = refl;
+          in_place = λ e. omega (arith, e);
+          calm = λ _. calm;
+          legal = legal;
+          made = sym made;
+          history = sym first;
+          none_holds = each_end (λ _ (u : Known S). u.holds ≡ false) [] v (λ k u e. absurd (some-ne-none u (sym e))) refl;
+        });
+      }
+
+  -- ---- the machine is taken
+
+  -- it wasn't there, or no call can begin
+  not_taken : (slots id : ℕ) (me : Me S (Known S)) (s : State S (Known S)) → Kept state key s → get_elem? s.views id ≡ some me.0 → (n : ℕ) → s.words ≡ n ∷ [] → eqb n 1 ≡ false
+      → (w : Known S) × (a : Act S) × Valid s.homes me.1 a
+      × Kept state key (stepped s 0 (either (eqb (slice_index s.words 0) 1) 0 (slice_index s.words 0)) id me.1 w a)
+      × Takes state (step slots 0 1 0 none) me (slice_index s.words 0) (w, carried_after me.1 a)
+  not_taken slots id me s k at n is other =
+      let there : slice_index s.words 0 ≡ n = ap (λ ws. slice_index ws 0) is in
+      let words : set s.words 0 (either (eqb (slice_index s.words 0) 1) 0 (slice_index s.words 0)) ≡ s.words =
+      ap (λ ws. set ws 0 (either (eqb (slice_index ws 0) 1) 0 (slice_index ws 0))) is ∙ (ap (λ b. either b 0 n ∷ []) other ∙ sym is) in
+      let views : set s.views id me.0 ≡ s.views = set_again s.views id me.0 at in (
+        me.0,
+        keeps,
+        tt,
+        subst (λ (x : List ℕ × List (Known S)). Kept state key record { words = x.0; homes = s.homes; views = x.1 }) (λ i. (sym words i, sym views i)) k,
+        subst (λ (b : Bool). Took state b me me) (sym (ap (λ m. eqb m 1) there ∙ other)) refl,
+      )
+
+  taken : (slots id : ℕ) (me : Me S (Known S)) (s : State S (Known S)) (k : Kept state key s) → get_elem? s.views id ≡ some me.0 → (f : Home state key s k.history) → f.word ≡ 1
+      → (w : Known S) × (a : Act S) × Valid s.homes me.1 a
+      × Kept state key (stepped s 0 (either (eqb (slice_index s.words 0) 1) 0 (slice_index s.words 0)) id me.1 w a)
+      × Takes state (step slots 0 1 0 none) me (slice_index s.words 0) (w, carried_after me.1 a)
+  taken slots id me s k at f home =
+      let d : S = f.machine in
+      let w : Known S = holding me.0 (history_of (state d)) in
+      let fits = k.each id me.0 at in
+      let me' : Me S (Known S) = (w, (0, d) ∷ me.1) in
+      let words : s.words ≡ 1 ∷ [] = f.words ∙ ap (λ n. n ∷ []) home in
+      let one : slice_index s.words 0 ≡ 1 = ap (λ ws. slice_index ws 0) words in
+      let seen : Begins me.0.seen (history_of (state d)) = subst (Begins me.0.seen) (sym f.history) fits.seen in
+      let learns : Learns state me.0 d = record {
+        seen = seen;
+        legal = f.legal;
+        calm = f.calm home;
+        made = λ live. f.made ∙ ap (made_of state) (sym (fits.first live));
+        here = λ live. subst (λ (m : Made). me.0.core < m.cores) (sym f.made) (fits.here live);
+        mine = λ live. ap (replied_by me.0.core) f.history ∙ fits.mine live;
+      } in (
+        w,
+        takes 0 d,
+        ap (λ h. get_elem? h 0) f.homes,
+        record {
+          history = k.history;
+          seat_of = k.seat_of;
+          gone = k.gone;
+          left = k.left;
+          few = k.few;
+          each = each_at (λ j v. Fits state key k.history k.seat_of k.gone k.left j v) s.views id w (λ j v _ e. k.each j v e)
+              (record {
+                seen = subst (λ h. Begins h k.history) (sym f.history) (begins_again k.history);
+                mine = fits.mine;
+                seat = fits.seat;
+                core = fits.core;
+                here = fits.here;
+                first = fits.first;
+                stays = fits.stays;
+                spare = fits.spare;
+                told = fits.told;
+              });
+          unborn = k.unborn;
+          begun = k.begun;
+          place = inr (record {
+            holder = id;
+            words = ap (λ ws. set ws 0 (either (eqb (slice_index ws 0) 1) 0 (slice_index ws 0))) words;
+            homes = ap (λ h. set h 0 none) f.homes;
+            one_holds = each_at (λ j (v : Known S). v.holds ≡ true → (j ≡ id) × (v.seen ≡ k.history)) s.views id w
+                (λ j v _ e yes. absurd (not_both v.holds (f.none_holds j v e) yes)) (λ _. (refl, f.history));
+          });
+        },
+        subst (λ (b : Bool). Took state b me me') (sym (ap (λ m. eqb m 1) one)) (d, refl, learns),
+      )
+
+  pub take_keeps : (slots id : ℕ) (me : Me S (Known S)) → Allows (Kept state key) slots id me 0 (λ n. either (eqb n 1) 0 n) (Takes state (step slots 0 1 0 none) me)
+  take_keeps slots id me s k wide at small = ⊎_elim
+      (λ (f : Home state key s k.history). at_home f (eqb f.word 1) refl)
+      (λ (o : Out state s k.history). not_taken slots id me s k at 0 o.words refl)
+      k.place
+    where
+      at_home : (f : Home state key s k.history) (b : Bool) → eqb f.word 1 ≡ b → (w : Known S) × (a : Act S) × Valid s.homes me.1 a
+          × Kept state key (stepped s 0 (either (eqb (slice_index s.words 0) 1) 0 (slice_index s.words 0)) id me.1 w a)
+          × Takes state (step slots 0 1 0 none) me (slice_index s.words 0) (w, carried_after me.1 a)
+      at_home f true e = taken slots id me s k at f (eq_true f.word 1 e)
+      at_home f false e = not_taken slots id me s k at f.word f.words e
+
+  -- ---- the machine is given back
+
+  pub give_keeps : (slots id : ℕ) (me : Me S (Known S)) (d : S) (word : ℕ) → me.1 ≡ (0, d) ∷ [] → CanGive state me.0 d word
+      → Allows (Kept state key) slots id me 0 (λ _. word) (λ _. Gives state (step slots 0 word 0 none) me word)
+  give_keeps slots id me d word has can s k wide at small = ⊎_elim
+      (λ (f : Home state key s k.history). absurd (not_both me.0.holds (f.none_holds id me.0 at) can.holds))
+      (λ (o : Out state s k.history).
+      let fits = k.each id me.0 at in
+      let here = o.one_holds id me.0 at can.holds in
+      let h : History = history_of (state d) in
+      let w : Known S = after me.0 (history_carried state me.1) in
+      let first : history_carried state me.1 ≡ h = ap (history_carried state) has in
+      let adds : Adds me.0.core can.adds.0 k.history h = subst (λ x. Adds me.0.core can.adds.0 x h) here.1 can.adds.1 in
+      let further : (x : History) → Begins x k.history → Begins x h = λ x b. begins_through x k.history h b adds.begins in
+      let told_more : (t : Told) → IsTold k.history t × (k.gone t.core ≡ true) → IsTold h t × (k.gone t.core ≡ true) = λ t old.
+      let differ : t.core ≢ me.0.core = λ same. not_both (k.gone t.core) (ap k.gone same ∙ fits.stays can.live) old.1 in
+      ((further t.seen old.0.0, adds.others t.core differ ∙ old.0.1), old.1) in (
+        w,
+        gives,
+        tt,
+        record {
+          history = h;
+          seat_of = k.seat_of;
+          gone = k.gone;
+          left = k.left;
+          few = k.few;
+          each = each_at (λ j v. Fits state key h k.seat_of k.gone k.left j v) s.views id w
+              (λ j v other there.
+              let old = k.each j v there in
+              let differ : v.live ≡ true → v.core ≢ me.0.core = λ lives same. other (sym (old.seat lives) ∙ (ap k.seat_of same ∙ fits.seat can.live)) in
+              record {
+                seen = further v.seen old.seen;
+                mine = λ lives. adds.others v.core (differ lives) ∙ old.mine lives;
+                seat = old.seat;
+                core = old.core;
+                here = old.here;
+                first = old.first;
+                stays = old.stays;
+                spare = old.spare;
+                told = λ n t e. told_more t (old.told n t e);
+              })
+              (record {
+                seen = subst (λ x. Begins x h) (sym first) (begins_again h);
+                mine = λ _. ap (replied_by me.0.core) (sym first);
+                seat = fits.seat;
+                core = fits.core;
+                here = fits.here;
+                first = fits.first;
+                stays = fits.stays;
+                spare = fits.spare;
+                told = λ n t e. told_more t (fits.told n t e);
+              });
+          unborn = λ c low high.
+              let differ : c ≢ me.0.core = λ same. ⊎_elim (λ (z : me.0.core ≡ 0). absurd (omega (arith, same ∙ z))) (λ (l : k.left < me.0.core). absurd (omega (arith, same)))
+              (fits.core can.live) in
+              (adds.others c differ ∙ (k.unborn c low high).0, (k.unborn c low high).1);
+          begun = further (history_first state key) k.begun;
+          place = inl (record {
+            machine = d;
+            word = word;
+            words = ap (λ ws. set ws 0 word) o.words;
+            homes = λ i. put_back (o.homes i) (has i);
+            in_place = can.in_place;
+            calm = can.calm;
+            legal = can.legal;
+            made = can.made ∙ ap (made_of state) (fits.first can.live);
+            history = refl;
+            none_holds = each_at (λ _ (v : Known S). v.holds ≡ false) s.views id w
+                (λ j v other there. not_true v.holds (λ yes. other ((o.one_holds j v there yes).0 ∙ sym here.0))) refl;
+          });
+        },
+        refl,
+      ))
+      k.place
+
+  -- ---- a core is split off
+
+  pub split_keeps : (id : ℕ) (v : Known S) → 0 < v.spare → Splits (Kept state key) id v (record v { spare = v.spare - 1 }) (split_known state v)
+  split_keeps id v some_spare s k at =
+      let fits = k.each id v at in
+      let is = fits.spare some_spare in
+      let l : Known S = record v { spare = v.spare - 1 } in
+      let r : Known S = split_known state v in
+      let vs : List (Known S) = set s.views id l in
+      let seat_of : ℕ → ℕ = λ c. cond (eqb c v.spare) (length vs) (k.seat_of c) in
+      let left : ℕ = k.left - 1 in
+      let is_left : v.spare ≡ k.left = is.2 in
+      let key_first : history_first state v.first ≡ history_first state key = ap (history_first state) (fits.first is.0) in
+      let apart : (c : ℕ) → (c ≡ 0) ⊎ (k.left < c) → c ≢ v.spare = λ c lies same. ⊎_elim (λ (z : c ≡ 0). absurd (omega (arith, some_spare, same, z))) (λ (m : k.left < c). absurd (omega (arith, same, is_left, m))) lies in
+      let stays : (c : ℕ) → (c ≡ 0) ⊎ (k.left < c) → seat_of c ≡ k.seat_of c = λ c lies. ap (λ b. cond b (length vs) (k.seat_of c)) (ne_eqb c v.spare (apart c lies)) in
+      let above : (c : ℕ) → (c ≡ 0) ⊎ (k.left < c) → (c ≡ 0) ⊎ (left < c) = λ c lies. ⊎_elim (λ z. inl z) (λ (m : k.left < c). inr (omega (arith, m))) lies in
+      let unborn = k.unborn v.spare (omega (arith, some_spare)) (omega (arith, is_left)) in
+      record {
+        history = k.history;
+        seat_of = seat_of;
+        gone = k.gone;
+        left = left;
+        few = let few = k.few in omega (arith, few);
+        each = each_end (λ j u. Fits state key k.history seat_of k.gone left j u) vs r
+            (each_at (λ j u. Fits state key k.history seat_of k.gone left j u) s.views id l
+            (λ j u other there.
+            let old = k.each j u there in
+            record {
+              seen = old.seen;
+              mine = old.mine;
+              seat = λ lives. stays u.core (old.core lives) ∙ old.seat lives;
+              core = λ lives. above u.core (old.core lives);
+              here = old.here;
+              first = old.first;
+              stays = old.stays;
+              spare = λ more. let o = old.spare more in absurd (other (sym (old.seat o.0) ∙ (ap k.seat_of (o.1 ∙ sym is.1) ∙ fits.seat is.0)));
+              told = old.told;
+            })
+            (record {
+              seen = fits.seen;
+              mine = fits.mine;
+              seat = λ lives. stays v.core (fits.core lives) ∙ fits.seat lives;
+              core = λ lives. above v.core (fits.core lives);
+              here = fits.here;
+              first = fits.first;
+              stays = fits.stays;
+              spare = λ _. (is.0, is.1, omega (arith, is_left));
+              told = fits.told;
+            }))
+            (record {
+              seen = subst (λ x. Begins x k.history) (sym key_first) k.begun;
+              mine = λ _. unborn.0 ∙ ap (replied_by v.spare) (sym key_first);
+              seat = λ _. ap (λ b. cond b (length vs) (k.seat_of v.spare)) (eq-eqb v.spare v.spare refl);
+              core = λ _. inr (omega (arith, is_left, some_spare));
+              here = λ _. let few = k.few in omega (arith, is_left, few);
+              first = λ _. fits.first is.0;
+              stays = λ _. unborn.1;
+              spare = λ more. absurd (omega (arith, more));
+              told = λ n t here. absurd (some-ne-none t (sym here));
+            });
+        unborn = λ c low high. k.unborn c low (omega (arith, high));
+        begun = k.begun;
+        place = ⊎_elim
+            (λ (f : Home state key s k.history). inl (record {
+              machine = f.machine;
+              word = f.word;
+              words = f.words;
+              homes = f.homes;
+              in_place = f.in_place;
+              calm = f.calm;
+              legal = f.legal;
+              made = f.made;
+              history = f.history;
+              none_holds = each_end (λ _ (u : Known S). u.holds ≡ false) vs r (each_at (λ _ (u : Known S). u.holds ≡ false) s.views id l (λ j u _ e. f.none_holds j u e) (f.none_holds id v at)) refl;
+            }))
+            (λ (o : Out state s k.history). inr (record {
+              holder = o.holder;
+              words = o.words;
+              homes = o.homes;
+              one_holds = each_end (λ j (u : Known S). u.holds ≡ true → (j ≡ o.holder) × (u.seen ≡ k.history)) vs r
+                  (each_at (λ j (u : Known S). u.holds ≡ true → (j ≡ o.holder) × (u.seen ≡ k.history)) s.views id l (λ j u _ e. o.one_holds j u e) (o.one_holds id v at))
+                  (λ yes. absurd (cc yes));
+            }))
+            k.place;
+      }
+
+  -- ---- a core is taken in
+
+  still : (b c : Bool) → c ≡ true → cond b true c ≡ true
+  still true c e = refl
+  still false c e = e
+
+  pub join_keeps : (id : ℕ) (v : Known S) (other : ℕ) (w : Known S) → v.live ≡ true → v.holds ≡ false → w.live ≡ true
+      → Joins (Kept state key) id v other w (with_other v w) spent_core
+  join_keeps id v other w lives idle lives' s k at apart there' =
+      let b : Known S = with_other v w in
+      let vs : List (Known S) = set s.views id b in
+      let there : get_elem? s.views other ≡ some w = ⊎_elim (λ (t : (other ≡ id) × (b ≡ w)). absurd (apart t.0)) (λ (t : (other ≢ id) × (get_elem? s.views other ≡ some w)). t.1) (at_set s.views id other b w there') in
+      let fits = k.each id v at in
+      let last = k.each other w there in
+      let gone : ℕ → Bool = λ c. cond (eqb c w.core) true (k.gone c) in
+      let still_here : (c : ℕ) → c ≢ w.core → k.gone c ≡ false → gone c ≡ false = λ c not e. ap (λ y. cond y true (k.gone c)) (ne_eqb c w.core not) ∙ e in
+      let told_still : (t : Told) → IsTold k.history t × (k.gone t.core ≡ true) → IsTold k.history t × (gone t.core ≡ true) = λ t old. (old.0, still (eqb t.core w.core) (k.gone t.core) old.1) in
+      let new : Told = record { core = w.core; seen = w.seen; mine = w.mine } in
+      record {
+        history = k.history;
+        seat_of = k.seat_of;
+        gone = gone;
+        left = k.left;
+        few = k.few;
+        each = each_at (λ j u. Fits state key k.history k.seat_of gone k.left j u) vs other spent_core
+            (λ j u far here. each_at (λ j u. j ≢ other → Fits state key k.history k.seat_of gone k.left j u) s.views id b
+            (λ j u _ here far.
+            let old = k.each j u here in
+            record {
+              seen = old.seen;
+              mine = old.mine;
+              seat = old.seat;
+              core = old.core;
+              here = old.here;
+              first = old.first;
+              stays = λ lives. still_here u.core (λ same. far (sym (old.seat lives) ∙ (ap k.seat_of same ∙ last.seat lives'))) (old.stays lives);
+              spare = old.spare;
+              told = λ n t e. told_still t (old.told n t e);
+            })
+            (λ _. record {
+              seen = fits.seen;
+              mine = fits.mine;
+              seat = fits.seat;
+              core = fits.core;
+              here = fits.here;
+              first = fits.first;
+              stays = λ _. still_here v.core (λ same. apart (sym (last.seat lives') ∙ (ap k.seat_of (sym same) ∙ fits.seat lives))) (fits.stays lives);
+              spare = fits.spare;
+              told = each_end (λ _ t. IsTold k.history t × (gone t.core ≡ true)) v.others new (λ n t e. told_still t (fits.told n t e))
+                  ((last.seen, last.mine lives'), ap (λ y. cond y true (k.gone w.core)) (eq-eqb w.core w.core refl));
+            }) j u here far)
+            (record {
+              seen = (refl, refl);
+              mine = λ yes. absurd (cc yes);
+              seat = λ yes. absurd (cc yes);
+              core = λ yes. absurd (cc yes);
+              here = λ yes. absurd (cc yes);
+              first = λ yes. absurd (cc yes);
+              stays = λ yes. absurd (cc yes);
+              spare = λ more. absurd (omega (arith, more));
+              told = λ n t e. absurd (some-ne-none t (sym e));
+            });
+        unborn = λ c low high.
+            let old = k.unborn c low high in
+            (old.0, still_here c (λ same. ⊎_elim (λ (z : w.core ≡ 0). absurd (omega (arith, same ∙ z))) (λ (m : k.left < w.core). absurd (omega (arith, same))) (last.core lives')) old.1);
+        begun = k.begun;
+        place = ⊎_elim
+            (λ (f : Home state key s k.history). inl (record {
+              machine = f.machine;
+              word = f.word;
+              words = f.words;
+              homes = f.homes;
+              in_place = f.in_place;
+              calm = f.calm;
+              legal = f.legal;
+              made = f.made;
+              history = f.history;
+              none_holds = each_at (λ _ (u : Known S). u.holds ≡ false) vs other spent_core (λ j u _ e. each_at (λ _ (u : Known S). u.holds ≡ false) s.views id b (λ j u _ e. f.none_holds j u e) idle j u e) refl;
+            }))
+            (λ (o : Out state s k.history). inr (record {
+              holder = o.holder;
+              words = o.words;
+              homes = o.homes;
+              one_holds = each_at (λ j (u : Known S). u.holds ≡ true → (j ≡ o.holder) × (u.seen ≡ k.history)) vs other spent_core
+                  (λ j u _ e. each_at (λ j (u : Known S). u.holds ≡ true → (j ≡ o.holder) × (u.seen ≡ k.history)) s.views id b (λ j u _ e. o.one_holds j u e) (λ yes. absurd (not_both v.holds idle yes)) j u e)
+                  (λ yes. absurd (cc yes));
+            }))
+            k.place;
+      }
+
+  -- ---- the end
+
+  -- where the word isn't 0, the machine that was at home has the history
+  pub closes : (space : TableId) (id : ℕ) (v : Known S) (ws : List ℕ) (xs : List S) (d : S) (word : ℕ) → v.live ≡ true → Final (Seen (Kept state key) id v) ws xs
+      → get_elem? ws 0 ≡ some word → word ≢ 0 → get_elem? xs 0 ≡ some d → Agrees state (state d) (view_of space v)
+  closes space id v ws xs d word lives end there home here =
+      let s = end.0 in
+      let k : Kept state key s = end.1.0 in
+      let fits = k.each id v end.1.1 in
+      let words : s.words ≡ ws = end.2 in
+      ⊎_elim
+      (λ (f : Home state key s k.history).
+      let same : f.machine ≡ d = sym (some-injective d f.machine (sym here ∙ end.4 0 f.machine (ap (λ h. get_elem? h 0) f.homes))) in
+      let back : k.history ≡ history_of (state d) = sym f.history ∙ ap (λ (x : S). history_of (state x)) same in
+      record {
+        legal = subst (λ (x : S). IsLegal (state x)) same f.legal;
+        made = sym (ap (λ (x : S). (state x).made) same) ∙ (f.made ∙ ap (made_of state) (sym (fits.first lives)));
+        own = (subst (Begins v.seen) back fits.seen, ap (replied_by v.core) (sym back) ∙ fits.mine lives);
+        others = λ n t e. subst (λ h. IsTold h t) back (fits.told n t (as_elem v.others n t e)).0;
+      })
+      (λ (o : Out state s k.history). absurd (let e : some 0 ≡ some word = ap (λ l. get_elem? l 0) (sym o.words ∙ words) ∙ there in home (sym (some-injective 0 word e))))
+      k.place
+    where
+      as_elem : (ts : List Told) (n : ℕ) (t : Told) → slice_get ts n ≡ Some t → get_elem? ts n ≡ some t
+      as_elem [] n t e = absurd cc
+      as_elem (x ∷ xs) zero t e = ap some cc
+      as_elem (x ∷ xs) (suc n) t e = as_elem xs n t e
+
+  -- ---- a call
+
+  -- the word was 1
+  pub took_home : (n : ℕ) (m w : Me S (Known S)) → n ≡ 1 → Took state (eqb n 1) m w
+      → (d : S) × (w ≡ (holding m.0 (history_of (state d)), (0, d) ∷ m.1)) × Learns state m.0 d
+  took_home n m w e t = subst (λ k. Took state (eqb k 1) m w) e t
+
+  what_added : (w : World) (core : ℕ) (request : Request) (ended : Ended) (v : World) → Ends w core request ended v
+      → (added : List Replied) × Adds core added (history_of w) (history_of v)
+  what_added w core request (To.Reply reply) v h = (replied request reply ∷ [], h.1)
+  what_added w core request To.Refused v h = ([], h.1)
+  what_added w core request To.Spent v h = h
+
+  is_calm_then : (w : World) (core : ℕ) (request : Request) (ended : Ended) (v : World) → Ends w core request ended v → word_of ended ≡ 1 → IsCalm v
+  is_calm_then w core request (To.Reply reply) v h e = h.0
+  is_calm_then w core request To.Refused v h e = h.0
+  is_calm_then w core request To.Spent v h e = absurd (omega (arith, e))
+
+  never_out : (ended : Ended) → word_of ended ≢ 0
+  never_out (To.Reply reply) e = omega (arith, e)
+  never_out To.Refused e = omega (arith, e)
+  never_out To.Spent e = omega (arith, e)
+
+  can_give : (v : Known S) (d e : S) (request : Request) (ended : Ended) → v.live ≡ true → Learns state v d → Ends (state d) v.core request ended (state e)
+      → (state e).made ≡ (state d).made → IsLegal (state e) → CanGive state (holding v (history_of (state d))) e (word_of ended)
+  can_give v d e request ended live learns ends made legal = record {
+    holds = refl;
+    live = live;
+    in_place = never_out ended;
+    calm = is_calm_then (state d) v.core request ended (state e) ends;
+    legal = legal;
+    made = made ∙ learns.made live;
+    adds = what_added (state d) v.core request ended (state e) ends;
+  }
+
+  -- after a call the machine can be given back
+  pub call_gives : (v now : Known S) (d : S) (number : ℕ) (request : Request) (ended : Ended) (carried : List (ℕ × S)) (word : ℕ) → v.live ≡ true → number ≡ v.core → Learns state v d
+      → Makes state d number request ended carried → now ≡ holding v (history_of (state d)) → word ≡ word_of ended
+      → (x : S) × (carried ≡ (0, x) ∷ []) × CanGive state now x word
+  call_gives v now d number request ended carried word live is learns makes same sent = (
+    makes.machine,
+    makes.has,
+    subst (λ (p : Known S × ℕ). CanGive state p.0 makes.machine p.1) (λ i. (sym same i, sym sent i))
+        (can_give v d makes.machine request ended live learns (subst (λ n. Ends (state d) n request ended (state makes.machine)) is makes.ends) makes.made makes.legal),
+  )
+
+  extends : (space : TableId) (v : Known S) (d e : S) (added : List Replied) → v.live ≡ true → Learns state v d → Adds v.core added (history_of (state d)) (history_of (state e))
+      → (state e).made ≡ (state d).made → IsLegal (state e)
+      → Extends state (view_of space v) added (view_of space (after (holding v (history_of (state d))) (history_of (state e))))
+  extends space v d e added live learns adds made legal = record {
+    seen = begins_through v.seen (history_of (state d)) (history_of (state e)) learns.seen adds.begins;
+    mine = adds.own ∙ ap (λ l. l ++ added) (learns.mine live);
+    own = refl;
+    legal = (state e, legal, made ∙ learns.made live, refl);
+    same = refl;
+  }
+
+  pub call_answers : (space other : TableId) (v w : Known S) (d : S) (number : ℕ) (request : Request) (ended : Ended) (answer : Answer) (carried : List (ℕ × S)) → other ≡ space → v.live ≡ true
+      → number ≡ v.core → Learns state v d → (makes : Makes state d number request ended carried)
+      → w ≡ after (holding v (history_of (state d))) (history_of (state makes.machine)) → answer ≡ answer_of ended
+      → Answers state (view_of space v) request answer (view_of other w)
+  call_answers space other v w d number request ended answer carried there live is learns makes same told =
+      subst (λ (p : TableId × (Known S × Answer)). Answers state (view_of space v) request p.1.1 (view_of p.0 p.1.0)) (λ i. (sym there i, (sym same i, sym told i)))
+      (go ended (subst (λ n. Ends (state d) n request ended (state makes.machine)) is makes.ends))
+    where
+      e : S
+      e = makes.machine
+
+      go : (ended : Ended) → Ends (state d) v.core request ended (state e)
+          → Answers state (view_of space v) request (answer_of ended) (view_of space (after (holding v (history_of (state d))) (history_of (state e))))
+      go (To.Reply reply) h = extends space v d e (replied request reply ∷ []) live learns h.1 makes.made makes.legal
+      go To.Refused h = inr ([], extends space v d e [] live learns h.1 makes.made makes.legal)
+      go To.Spent h = inr (h.0, extends space v d e h.0 live learns h.1 makes.made makes.legal)
+
+-- a legal machine has 64 cores at the most
+pub few_cores : (w : World) → IsLegal w → w.made.cores ≤ 64
+few_cores w legal = ∥∥₁_elim legal.reached (hlevel props) (λ r. (reached_fine w r).order.few)

@@ -1,0 +1,50 @@
+use Rattle.std.proofs.Common.{◌≡◌, [], ◌∷◌, ap, ◌∙◌, sym, subst}
+use Rattle.shared.specs.declared.space.Known.{Known}
+use Rattle.shared.specs.Histories.{history_of}
+use Rattle.shared.specs.Cores.{Answers, CoreView}
+use Rattle.shared.specs.Rules.{after, holding, view_of}
+use Rattle.shared.proofs.Keeping.{call_answers, call_gives, took_home}
+use Rattle.shared.proofs.space.Space.call.Goals as goal
+
+pub give-requires-clause-can : goal.give-requires-clause-can
+give-requires-clause-can g c =
+    let v = c.core.inside.seat.me in
+    let t = took_home g.S.Whole.state [] c.take-found.result v c.take-found.new.seat.me c.if-found-ne-HOME.false c.take-found.ensures.took in
+    let has = ap (λ m. m.1) t.1 ∙ ap (λ l. (0, t.0) ∷ l) c.core.invariant.0 in
+    call_gives g.S.Whole.state [] v.0 _ t.0 _ _ _ _ _ c.core.invariant.2 c.core.invariant.3 t.2 (c.make-ended.ensures.made t.0 has)
+    (c.make-ended.ensures.same.1 ∙ ap (λ m. m.0) t.1) c.word_of.ensures
+
+pub invariant_of-core-2 : goal.invariant_of-core-2
+invariant_of-core-2 g c =
+    let v = c.core.inside.seat.me in
+    let t = took_home g.S.Whole.state [] c.take-found.result v c.take-found.new.seat.me c.if-found-ne-HOME.false c.take-found.ensures.took in
+    let has = ap (λ m. m.1) t.1 ∙ ap (λ l. (0, t.0) ∷ l) c.core.invariant.0 in
+    let makes = c.make-ended.ensures.made t.0 has in
+    let me0 : c.make-ended.new.seat.me.0 ≡ holding v.0 (history_of (g.S.Whole.state t.0)) = c.make-ended.ensures.same.1 ∙ ap (λ m. m.0) t.1 in
+    let gave = c.give.ensures.gave makes.machine makes.has in
+    let same = ap (λ m. m.0) gave ∙ ap (λ (k : Known g.row.S.Denot). after k (history_of (g.S.Whole.state makes.machine))) me0 in (
+      ap (λ m. m.1) gave,
+      ap (λ (k : Known g.row.S.Denot). k.holds) same,
+      ap (λ (k : Known g.row.S.Denot). k.live) same ∙ c.core.invariant.2,
+      c.core.invariant.3 ∙ sym (ap (λ (k : Known g.row.S.Denot). k.core) same),
+      c.core.invariant.4 ∙ sym (ap (λ (k : Known g.row.S.Denot). k.spare) same),
+      c.core.invariant.5,
+    )
+
+pub returns-clause-answers : goal.returns-clause-answers
+returns-clause-answers g c =
+    let v = c.core.inside.seat.me in
+    let t = took_home g.S.Whole.state [] c.take-found.result v c.take-found.new.seat.me c.if-found-ne-HOME.false c.take-found.ensures.took in
+    let has = ap (λ m. m.1) t.1 ∙ ap (λ l. (0, t.0) ∷ l) c.core.invariant.0 in
+    let makes = c.make-ended.ensures.made t.0 has in
+    let me0 : c.make-ended.new.seat.me.0 ≡ holding v.0 (history_of (g.S.Whole.state t.0)) = c.make-ended.ensures.same.1 ∙ ap (λ m. m.0) t.1 in
+    let gave = c.give.ensures.gave makes.machine makes.has in
+    let same = ap (λ m. m.0) gave ∙ ap (λ (k : Known g.row.S.Denot). after k (history_of (g.S.Whole.state makes.machine))) me0 in
+    let space = c.give.ensures.same ∙ (c.make-ended.ensures.same.0 ∙ c.take-found.ensures.same.0) in
+    subst (λ x. Answers g.S.Whole.state x c.args.request c.answer_of.result (view_of c.give.new.seat.table_id c.give.new.seat.me.0)) c.core.view_is
+    (call_answers g.S.Whole.state [] c.core.inside.seat.table_id c.give.new.seat.table_id v.0 _ t.0 _ _ _ _ _ space c.core.invariant.2
+    c.core.invariant.3 t.2 makes same c.answer_of.ensures)
+
+pub returns-clause-here : goal.returns-clause-here
+returns-clause-here g c =
+    c.give.ensures.same ∙ (c.make-ended.ensures.same.0 ∙ c.take-found.ensures.same.0) ∙ ap (λ (x : CoreView g.row.S.Denot). x.space) c.core.view_is

@@ -1,0 +1,84 @@
+-- What clauses see of a core of a shared machine, and what its calls tell
+use Rattle.std.specs.Prelude.{◌≡◌, ℕ, ◌-◌, ◌<◌, ◌⊎◌, List, [], ◌∷◌, ◌++◌, None, slice_get, Some}
+use mathlib.Core.Option.{some}
+use lib.ListN.{get_elem?}
+use base.Stored.{Coded}
+use Rattle.atomic_table.specs.Seated.{TableId}
+use Rattle.vm_base.specs.declared.requests.Request.{Request}
+use Rattle.machine_model.specs.World.{World, Made}
+use Rattle.core_steps.specs.Machine.{IsLegal}
+use Rattle.shared.specs.declared.history.History.{History}
+use Rattle.shared.specs.declared.history.Replied.{Replied}
+use Rattle.shared.specs.declared.history.Told.{Told}
+use Rattle.shared.specs.declared.space.Known.{Known}
+use Rattle.shared.specs.declared.space.Answer.{Answer}
+use Rattle.shared.specs.declared.space.Answer.TheVariants as To
+use Rattle.shared.specs.Histories.{Begins, history_of, replied, replied_by}
+
+pub record CoreView (S : Type 0) : Type 0 where
+  pub space : TableId
+  pub core : ℕ
+  -- how many cores it may still split off
+  pub spare : ℕ
+  -- the machine, as it was shared
+  pub first : List S
+  -- the machine's history, as it was when this core's last call ended
+  pub seen : History
+  -- the calls of this core, each with the reply that it was told
+  pub mine : List Replied
+  -- what the cores knew that it took in
+  pub others : List Told
+
+abbrev pub told_of : {S : Type 0} → CoreView S → Told
+told_of c = record { core = c.core; seen = c.seen; mine = c.mine }
+
+-- the core's calls in the history are those of t, which saw how it began
+abbrev pub IsTold : History → Told → Type 0
+IsTold h t = Begins t.seen h × (replied_by t.core h ≡ t.mine)
+
+module _ {S : Type 0} (state : S → World) where
+  -- what the machine was made with
+  abbrev pub made_of : List S → Made
+  made_of [] = record { cores = 0; frames = 0; calls = 0; file = λ n. None }
+  made_of (x ∷ xs) = (state x).made
+
+  -- its history when it was shared
+  abbrev pub history_first : List S → History
+  history_first [] = record { requests = []; entries = [] }
+  history_first (x ∷ xs) = history_of (state x)
+
+  -- a core that has made no call since the machine was shared
+  abbrev pub new_core : TableId → ℕ → ℕ → List S → CoreView S
+  new_core space core spare first = record {
+    space = space;
+    core = core;
+    spare = spare;
+    first = first;
+    seen = history_first first;
+    mine = replied_by core (history_first first);
+    others = [];
+  }
+
+  -- calls of this core were replied: the history goes on from all that the core had seen, it is one
+  -- of the machine that was shared, and the core's calls in it are those that it made, in order
+  pub record Extends (v : CoreView S) (added : List Replied) (w : CoreView S) : Type 0 where
+    pub seen : Begins v.seen w.seen
+    pub mine : w.mine ≡ v.mine ++ added
+    pub own : replied_by w.core w.seen ≡ w.mine
+    pub legal : (u : World) × IsLegal u × (u.made ≡ made_of w.first) × (history_of u ≡ w.seen)
+    pub same : w ≡ record v { seen = w.seen; mine = w.mine }
+
+  -- The call was made and replied; or another core was in a call, and nothing was done; or a limit
+  -- of the machine is reached: no reply is told, but that of the last call may stand in the log.
+  abbrev pub Answers : CoreView S → Request → Answer → CoreView S → Type 0
+  Answers v request (To.Reply reply) w = Extends v (replied request reply ∷ []) w
+  Answers v request To.Busy w = w ≡ v
+  Answers v request To.Full w = (w ≡ v) ⊎ ((added : List Replied) × Extends v added w)
+
+  -- The machine is the one that was shared, in a legal state. The calls in its log of this core, and
+  -- of each that it took in, are those that the core made, in order, with the replies that it got.
+  pub record Agrees (u : World) (c : CoreView S) : Type 0 where
+    pub legal : IsLegal u
+    pub made : u.made ≡ made_of c.first
+    pub own : IsTold (history_of u) (told_of c)
+    pub others : (k : ℕ) (t : Told) → slice_get c.others k ≡ Some t → IsTold (history_of u) t

@@ -1,0 +1,55 @@
+-- What stands in the log of a machine of the calls of one core
+use Rattle.std.specs.Prelude.{◌≡◌, ◌≢◌, ℕ, ◌==◌, cond, List, [], ◌∷◌, ◌++◌, length, take, Option, None, Some}
+use Rattle.vm_base.specs.declared.requests.Request.{Request}
+use Rattle.vm_base.specs.declared.replies.Reply.{Reply}
+use Rattle.vm_base.specs.declared.log.Entry.{Entry}
+use Rattle.vm_base.specs.declared.log.Entry.TheVariants.{Answer, Detach}
+use Rattle.vm_base.specs.Log.{nth}
+use Rattle.machine_model.specs.World.{World, Made}
+use Rattle.machine_alone.specs.Alone.{IsCalm}
+use Rattle.core_steps.specs.Machine.{IsLegal}
+use Rattle.shared.specs.declared.history.History.{History}
+use Rattle.shared.specs.declared.history.Replied.{Replied}
+use Rattle.shared.specs.declared.whole.Ended.{Ended}
+use Rattle.shared.specs.declared.whole.Ended.TheVariants as To
+
+abbrev pub history_of : World → History
+history_of w = record { requests = w.calls.requests; entries = w.calls.log }
+
+abbrev pub replied : Request → Reply → Replied
+replied request reply = record { request = request; reply = reply }
+
+-- the call with its reply, if its request is known, before these
+abbrev pub with_reply : Option Request → Reply → List Replied → List Replied
+with_reply None reply rest = rest
+with_reply (Some request) reply rest = replied request reply ∷ rest
+
+-- the core's calls that the entries answer, each with its reply, in their order
+abbrev pub replied_in : ℕ → List Request → List Entry → List Replied
+replied_in core requests [] = []
+replied_in core requests (Answer step call by reply ∷ es) =
+    cond (by == core) (with_reply (nth requests call) reply (replied_in core requests es))
+    (replied_in core requests es)
+replied_in core requests (Detach step call page ∷ es) = replied_in core requests es
+
+abbrev pub replied_by : ℕ → History → List Replied
+replied_by core h = replied_in core h.requests h.entries
+
+-- h is how k began
+abbrev pub Begins : History → History → Type 0
+Begins h k = (take (length h.requests) k.requests ≡ h.requests)
+    × (take (length h.entries) k.entries ≡ h.entries)
+
+-- h went on to k, and of all cores only this one was replied to: to these calls
+pub record Adds (core : ℕ) (added : List Replied) (h k : History) : Type 0 where
+  pub begins : Begins h k
+  pub own : replied_by core k ≡ replied_by core h ++ added
+  pub others : (d : ℕ) → d ≢ core → replied_by d k ≡ replied_by d h
+
+-- a whole call was replied, which left no call in flight; or nothing was done; or it couldn't be ended
+abbrev pub Ends : World → ℕ → Request → Ended → World → Type 0
+Ends w core request (To.Reply reply) v =
+    IsCalm v × Adds core (replied request reply ∷ []) (history_of w) (history_of v)
+Ends w core request To.Refused v = IsCalm v × Adds core [] (history_of w) (history_of v)
+Ends w core request To.Spent v =
+    (added : List Replied) × Adds core added (history_of w) (history_of v)

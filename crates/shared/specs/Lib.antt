@@ -1,0 +1,4 @@
+pub mod Histories
+pub mod Calling
+pub mod Cores
+pub mod Rules

@@ -1,0 +1,173 @@
+-- The rule of the word and of the machine behind it, and what each step tells
+use Rattle.std.specs.Prelude.{Bool, ◌≡◌, ◌≢◌, ℕ, ◌-◌, ◌<◌, ◌≤◌, ◌==◌, ◌⊎◌, true, false, List, [], ◌∷◌, ◌++◌, MatchBool}
+use mathlib.Core.Option.{some, none}
+use lib.ListN.{get_elem?}
+use Rattle.atomic_table.specs.Table.{State, Me, Step, rest}
+use Rattle.atomic_table.specs.Seated.{TableId}
+use Rattle.vm_base.specs.declared.requests.Request.{Request}
+use Rattle.machine_model.specs.World.{World, Made}
+use Rattle.machine_alone.specs.Alone.{IsCalm}
+use Rattle.core_steps.specs.Machine.{IsLegal}
+use Rattle.shared.specs.declared.history.History.{History}
+use Rattle.shared.specs.declared.history.Replied.{Replied}
+use Rattle.shared.specs.declared.history.Told.{Told}
+use Rattle.shared.specs.declared.space.Answer.{Answer}
+use Rattle.shared.specs.declared.space.Answer.TheVariants as Tells
+use Rattle.shared.specs.declared.space.Known.{Known}
+use Rattle.shared.specs.declared.whole.Ended.{Ended}
+use Rattle.shared.specs.declared.whole.Ended.TheVariants as To
+use Rattle.shared.specs.Histories.{Adds, Begins, Ends, history_of, replied_by}
+use Rattle.shared.specs.Cores.{CoreView, IsTold, history_first, made_of}
+
+abbrev pub known : {S : Type 0} → ℕ → ℕ → List S → History → List Replied → Known S
+known core spare first seen mine = record {
+  core = core;
+  spare = spare;
+  first = first;
+  seen = seen;
+  mine = mine;
+  holds = false;
+  live = true;
+  others = [];
+}
+
+-- what is left of a core that was taken in
+abbrev pub spent_core : {S : Type 0} → Known S
+spent_core = record (known 0 0 [] (record { requests = []; entries = [] }) []) { live = false }
+
+abbrev pub with_other : {S : Type 0} → Known S → Known S → Known S
+with_other v w =
+    record v { others = v.others ++ (record { core = w.core; seen = w.seen; mine = w.mine }) ∷ [] }
+
+abbrev pub view_of : {S : Type 0} → TableId → Known S → CoreView S
+view_of space v = record {
+  space = space;
+  core = v.core;
+  spare = v.spare;
+  first = v.first;
+  seen = v.seen;
+  mine = v.mine;
+  others = v.others;
+}
+
+-- the core has the machine, and knows its history
+abbrev pub holding : {S : Type 0} → Known S → History → Known S
+holding v h = record v { seen = h; holds = true }
+
+-- the core gave it back with this history
+abbrev pub after : {S : Type 0} → Known S → History → Known S
+after v h = record v { seen = h; mine = replied_by v.core h; holds = false }
+
+module _ {S : Type 0} (state : S → World) where
+  -- what the first core knows
+  abbrev pub first_known : List S → Known S
+  first_known first = known 0 ((made_of state first).cores - 1) first (history_first state first)
+      (replied_by 0 (history_first state first))
+
+  -- what a core knows that is split off
+  abbrev pub split_known : Known S → Known S
+  split_known v = known v.spare 0 v.first (history_first state v.first)
+      (replied_by v.spare (history_first state v.first))
+
+  -- What a core knows is so, of the history h, of which core each seat has, and of the cores that are
+  -- gone and make no call any more. The cores from 1 to `left` have no seat yet.
+  pub record Fits (key : List S) (h : History) (seat_of : ℕ → ℕ) (gone : ℕ → Bool) (left id : ℕ)
+      (v : Known S) : Type 0 where
+    pub seen : Begins v.seen h
+    pub mine : v.live ≡ true → replied_by v.core h ≡ v.mine
+    pub seat : v.live ≡ true → seat_of v.core ≡ id
+    pub core : v.live ≡ true → (v.core ≡ 0) ⊎ (left < v.core)
+    pub here : v.live ≡ true → v.core < (made_of state key).cores
+    pub first : v.live ≡ true → v.first ≡ key
+    pub stays : v.live ≡ true → gone v.core ≡ false
+    pub spare : 0 < v.spare → (v.live ≡ true) × (v.core ≡ 0) × (v.spare ≡ left)
+    pub told : (k : ℕ) (t : Told) → get_elem? v.others k ≡ some t → IsTold h t × (gone t.core ≡ true)
+
+  -- the machine is at home, and nobody has it; where the word is 1, a call can begin
+  pub record Home (key : List S) (s : State S (Known S)) (h : History) : Type 0 where
+    pub machine : S
+    pub word : ℕ
+    pub words : s.words ≡ word ∷ []
+    pub homes : s.homes ≡ some machine ∷ []
+    pub in_place : word ≢ 0
+    pub calm : word ≡ 1 → IsCalm (state machine)
+    pub legal : IsLegal (state machine)
+    pub made : (state machine).made ≡ made_of state key
+    pub history : history_of (state machine) ≡ h
+    pub none_holds : (id : ℕ) (v : Known S) → get_elem? s.views id ≡ some v → v.holds ≡ false
+
+  -- one core has it, which knows the whole history
+  pub record Out (s : State S (Known S)) (h : History) : Type 0 where
+    pub holder : ℕ
+    pub words : s.words ≡ 0 ∷ []
+    pub homes : s.homes ≡ none ∷ []
+    pub one_holds : (id : ℕ) (v : Known S) → get_elem? s.views id ≡ some v → v.holds ≡ true
+        → (id ≡ holder) × (v.seen ≡ h)
+
+  pub record Kept (key : List S) (s : State S (Known S)) : Type 0 where
+    pub history : History
+    pub seat_of : ℕ → ℕ
+    pub gone : ℕ → Bool
+    pub left : ℕ
+    pub few : left < (made_of state key).cores
+    pub each : (id : ℕ) (v : Known S) → get_elem? s.views id ≡ some v
+        → Fits key history seat_of gone left id v
+    pub unborn : (core : ℕ) → 1 ≤ core → core ≤ left
+        → (replied_by core history ≡ replied_by core (history_first state key))
+        × (gone core ≡ false)
+    pub begun : Begins (history_first state key) history
+    pub place : Home key s history ⊎ Out s history
+
+  -- a core that takes the machine learns of it
+  pub record Learns (v : Known S) (d : S) : Type 0 where
+    pub seen : Begins v.seen (history_of (state d))
+    pub legal : IsLegal (state d)
+    pub calm : IsCalm (state d)
+    pub made : v.live ≡ true → (state d).made ≡ made_of state v.first
+    pub here : v.live ≡ true → v.core < (state d).made.cores
+    pub mine : v.live ≡ true → replied_by v.core (history_of (state d)) ≡ v.mine
+
+  -- the machine was taken, or it wasn't there
+  abbrev pub Took : Bool → Me S (Known S) → Me S (Known S) → Type 0
+  Took b m w = MatchBool b ((d : S)
+      × (w ≡ (holding m.0 (history_of (state d)), (0, d) ∷ m.1)) × Learns m.0 d) (w ≡ m)
+
+  abbrev pub Takes : Step S → Me S (Known S) → ℕ → Me S (Known S) → Type 0
+  Takes st m n w = Took (n == 1) m w
+
+  abbrev pub history_carried : List (ℕ × S) → History
+  history_carried [] = record { requests = []; entries = [] }
+  history_carried (x ∷ xs) = history_of (state x.1)
+
+  abbrev pub Gives : Step S → Me S (Known S) → ℕ → Me S (Known S) → Type 0
+  Gives st m n w = w ≡ (after m.0 (history_carried m.1), rest m.1)
+
+  -- the machine that a core has, after a call of it, can be given back with this word
+  pub record CanGive (v : Known S) (d : S) (word : ℕ) : Type 0 where
+    pub holds : v.holds ≡ true
+    pub live : v.live ≡ true
+    pub in_place : word ≢ 0
+    pub calm : word ≡ 1 → IsCalm (state d)
+    pub legal : IsLegal (state d)
+    pub made : (state d).made ≡ made_of state v.first
+    pub adds : (added : List Replied) × Adds v.core added v.seen (history_of (state d))
+
+  -- the machine d that a core has was called, and is e now
+  pub record Makes (d : S) (core : ℕ) (request : Request) (ended : Ended)
+      (carried : List (ℕ × S)) : Type 0 where
+    pub machine : S
+    pub has : carried ≡ (0, machine) ∷ []
+    pub ends : Ends (state d) core request ended (state machine)
+    pub made : (state machine).made ≡ (state d).made
+    pub legal : IsLegal (state machine)
+
+-- the word with which the machine is given back, after a call that came to this
+abbrev pub word_of : Ended → ℕ
+word_of (To.Reply reply) = 1
+word_of To.Refused = 1
+word_of To.Spent = 2
+
+-- what the caller is told then
+abbrev pub answer_of : Ended → Answer
+answer_of (To.Reply reply) = Tells.Reply reply
+answer_of _ = Tells.Full

@@ -1,0 +1,132 @@
+//! A whole call of a machine: the caller makes the takes of the cores that it waits for.
+ghost use Rattle.std.specs.Prelude.{◌≡◌, ◌<◌};
+ghost use Rattle.machine_alone.specs.Alone.{IsCalm};
+ghost use Rattle.core_steps.specs.Machine.{state, IsLegal};
+ghost use Rattle.shared.specs.Histories.{Ends};
+ghost use Rattle.shared.specs.Calling.{EndsCall, EndsSettled, KeepsCall, ended_by, is_answered};
+
+use crate::whole::Ended;
+use core_steps::{Finished, Ledger, Machine};
+use machine_model::{Event, Outcome, Phase};
+use slot_lock::SlotMap;
+use std::alloc::Allocator;
+use vm_base::{CoreId, CoreSet, Request};
+
+/// A call of this core, from its beginning to its reply. A call that is refused memory is given up:
+/// its reply is then that there was no memory.
+pub fn call_whole<M: SlotMap, A: Allocator + Clone, L: Ledger>(
+    machine: &mut Machine<M, A, L>,
+    core: CoreId,
+    request: Request,
+) -> Ended
+    requires here { core < (state machine.old).made.cores }
+    requires calm { IsCalm (state machine.old) }
+    ensures ends { Ends (state machine.old) core request result (state machine.new) }
+    ensures made { (state machine.new).made ≡ (state machine.old).made }
+    ensures legal { IsLegal (state machine.new) }
+{
+    match machine.call(core, request) {
+        Ok(finished) => call_settled(machine, core, finished),
+        Err(_) => call_given_up(machine, core),
+    }
+}
+
+// Ends a call that has come so far, if it isn't ended.
+fn call_settled<M: SlotMap, A: Allocator + Clone, L: Ledger>(
+    machine: &mut Machine<M, A, L>,
+    core: CoreId,
+    finished: Finished,
+) -> Ended
+    requires here { core < (state machine.old).made.cores }
+    requires legal { IsLegal (state machine.old) }
+    ensures ends { EndsSettled (state machine.old) core finished result (state machine.new) }
+    ensures legal { IsLegal (state machine.new) }
+{
+    if is_answered(&finished) {
+        return ended_by(finished);
+    }
+    if machine.phase(core) == Phase::Free {
+        return Ended::Refused;
+    }
+    call_waited(machine, core)
+}
+
+// Tells whether a reply was handed out.
+fn is_answered(finished: &Finished) -> bool
+    ensures { result ≡ is_answered finished.now }
+{
+    if let Finished::Last(Outcome::Answered(_)) = finished {
+        return true;
+    }
+    false
+}
+
+// Ends a call that waits for other cores, once these have taken what they were told.
+fn call_waited<M: SlotMap, A: Allocator + Clone, L: Ledger>(
+    machine: &mut Machine<M, A, L>,
+    core: CoreId,
+) -> Ended
+    ensures ends { EndsCall (state machine.old) core result (state machine.new) }
+    ensures legal { IsLegal (state machine.new) }
+{
+    take_all(machine, core);
+    match machine.finish(core) {
+        Ok(finished) => ended_by(finished),
+        Err(_) => call_given_up(machine, core),
+    }
+}
+
+// Ends a call that was refused memory.
+fn call_given_up<M: SlotMap, A: Allocator + Clone, L: Ledger>(
+    machine: &mut Machine<M, A, L>,
+    core: CoreId,
+) -> Ended
+    ensures ends { EndsCall (state machine.old) core result (state machine.new) }
+    ensures legal { IsLegal (state machine.new) }
+{
+    let _given_up = machine.step(Event::GiveUp(core));
+    match machine.finish(core) {
+        Ok(finished) => ended_by(finished),
+        Err(_) => Ended::Spent,
+    }
+}
+
+// What finishing a call came to.
+fn ended_by(finished: Finished) -> Ended
+    ensures { result ≡ ended_by finished }
+{
+    if let Finished::Last(Outcome::Answered(reply)) = finished {
+        return Ended::Reply(reply);
+    }
+    Ended::Spent
+}
+
+// The cores that the call waits for take what they were told.
+fn take_all<M: SlotMap, A: Allocator + Clone, L: Ledger>(
+    machine: &mut Machine<M, A, L>,
+    core: CoreId,
+)
+    ensures keeps { KeepsCall (state machine.old) core (state machine.new) }
+{
+    let awaited = machine.awaited(core);
+    'cores: for index in 0..64 {
+        let other = CoreId::new(index);
+        take_twice(machine, core, awaited, other);
+    }
+}
+
+// An awaited core takes both messages that a call has for it: it clears its tables, and then its TLB.
+fn take_twice<M: SlotMap, A: Allocator + Clone, L: Ledger>(
+    machine: &mut Machine<M, A, L>,
+    core: CoreId,
+    awaited: CoreSet,
+    other: CoreId,
+)
+    ensures keeps { KeepsCall (state machine.old) core (state machine.new) }
+{
+    if !awaited.contains(other) {
+        return;
+    }
+    let _tables = machine.step(Event::Take(other));
+    let _tlb = machine.step(Event::Take(other));
+}

@@ -1,0 +1,23 @@
+//! What cores know of the machine.
+use std::collections::LinkedList;
+use vm_base::{Entry, Reply, Request};
+
+/// The requests of the calls begun, and the entries of the log. No value of it is made.
+pub struct History {
+    pub requests: LinkedList<Request>,
+    pub entries: LinkedList<Entry>,
+}
+
+/// A call that was replied, with its reply.
+#[derive(Clone, Copy, Debug, PartialEq, Eq)]
+pub struct Replied {
+    pub request: Request,
+    pub reply: Reply,
+}
+
+/// What a core that was taken in had seen, and the calls that it had made. No value of it is made.
+pub struct Told {
+    pub core: u64,
+    pub seen: History,
+    pub mine: LinkedList<Replied>,
+}

@@ -1,0 +1,24 @@
+//! One machine for threads, each of which makes whole calls as a core of its own. No thread ever
+//! waits: who finds the machine out with another is told so.
+#![tactic(auto)]
+
+pub mod calling;
+pub mod history;
+pub mod machine;
+pub mod space;
+pub mod whole;
+
+pub use history::{History, Replied, Told};
+pub use space::{Answer, Core, Known, Refusal, Space, Unshared};
+pub use whole::{Ended, Whole};
+
+fn is_send<T: Send>(_one: &T) {}
+
+fn is_sync<T: Sync>(_one: &T) {}
+
+/// Threads may share the space, and a core may go to another thread, where the machine may.
+pub fn may_cross<S: Whole + Send>(space: &Space<S>, core: &Core<S>) {
+    is_send(space);
+    is_sync(space);
+    is_send(core);
+}

@@ -1,0 +1,36 @@
+//! A machine may be shared.
+ghost use Rattle.std.specs.Prelude.{◌≡◌, ℕ, ◌<◌};
+ghost use Rattle.core_steps.specs.Machine.{state};
+ghost use Rattle.shared.specs.Calling.{CalmBelow};
+
+use crate::calling::call_whole;
+use crate::whole::{Ended, Whole};
+use core_steps::{Ledger, Machine};
+use machine_model::Phase;
+use slot_lock::SlotMap;
+use std::alloc::Allocator;
+use vm_base::{CoreId, Request};
+
+impl<M: SlotMap, A: Allocator + Clone, L: Ledger> Whole for Machine<M, A, L> {
+    ghost use Rattle.core_steps.specs.Machine.{state as machine_state};
+
+    ghost state = { λ machine. machine_state machine };
+
+    fn core_count(&self) -> usize {
+        self.cores()
+    }
+
+    fn is_calm(&self) -> bool {
+        let count = self.cores();
+        'all: for index in 0..count {
+            if self.phase(CoreId::new(index as u8)) != Phase::Free {
+                return false;
+            }
+        }
+        true
+    }
+
+    fn call_whole(&mut self, core: CoreId, request: Request) -> Ended {
+        call_whole(self, core, request)
+    }
+}

@@ -1,0 +1,319 @@
+//! The space that threads share, and a core, with which one thread calls.
+ghost use Rattle.std.specs.Prelude.{◌≡◌, ◌≢◌, ℕ, ◌-◌, ◌<◌, ◌==◌, [], ◌∷◌, ◌++◌, IfOk, IfErr, IfSome, IfNone};
+ghost use Rattle.shared.specs.Histories.{history_of, replied_by, Ends};
+ghost use Rattle.shared.specs.Cores.{Answers, Agrees, made_of, new_core, told_of};
+ghost use Rattle.machine_alone.specs.Alone.{IsCalm};
+ghost use Rattle.shared.specs.Rules.{CanGive, Makes, Took, after, answer_of, word_of};
+
+use crate::history::{History, Replied, Told};
+use crate::whole::{Ended, Whole};
+use atomic_table::{Join, Play, Refused, Seat, Split, Table, TableRule};
+use ghost_list::GhostList;
+use std::alloc::Global;
+use std::collections::LinkedList;
+use std::marker::Model;
+use vm_base::{CoreId, Reply, Request};
+
+/// The word where the machine is at home, and a call can begin.
+const HOME: u64 = 1;
+
+/// The word where a core has the machine.
+const OUT: u64 = 0;
+
+/// The word where the machine is at home, and no call can begin any more.
+const SPENT: u64 = 2;
+
+/// What a core knows. No value of it is made.
+pub struct Known<S> {
+    pub core: u64,
+    pub spare: u64,
+    pub first: LinkedList<S>,
+    pub seen: History,
+    pub mine: LinkedList<Replied>,
+    pub holds: bool,
+    pub live: bool,
+    pub others: LinkedList<Told>,
+}
+
+/// What a call is answered.
+#[derive(Clone, Copy, Debug, PartialEq, Eq)]
+pub enum Answer {
+    /// It was made, and has this reply.
+    Reply(Reply),
+    /// Another core is in a call. Nothing was done.
+    Busy,
+    /// A limit of the machine is reached: that of calls, or that of events.
+    Full,
+}
+
+/// The rule, which holds between any two steps: there is one history, of which each core has seen a
+/// beginning, and in which each core's calls are those that it made.
+pub struct OneLog;
+
+impl<S: Whole> TableRule<S, Known<S>, GhostList<S>> for OneLog {
+    ghost use Rattle.shared.specs.Rules.{Kept, first_known};
+
+    ghost holds = { λ key. Kept S.state key.items };
+
+    ghost first = { λ key. first_known S.state key.items };
+}
+
+/// The step that takes the machine.
+pub struct Take;
+
+impl<S: Whole> Play<S, Known<S>> for Take {
+    ghost use Rattle.shared.specs.Rules.{Takes};
+
+    ghost then = { Takes S.state };
+}
+
+/// The step that gives it back.
+pub struct Give;
+
+impl<S: Whole> Play<S, Known<S>> for Give {
+    ghost use Rattle.shared.specs.Rules.{Gives};
+
+    ghost then = { Gives S.state };
+}
+
+/// The step that splits a core off.
+pub struct SplitOff;
+
+impl<S: Whole> Split<Known<S>> for SplitOff {
+    ghost use Rattle.std.specs.Prelude.{◌-◌};
+    ghost use Rattle.shared.specs.Rules.{split_known};
+
+    ghost left = { λ v. record v { spare = v.spare - 1 } };
+
+    ghost right = { split_known S.state };
+}
+
+/// The step that takes a core in, with what it knew.
+pub struct TakeIn;
+
+impl<S> Join<Known<S>> for TakeIn {
+    ghost use Rattle.shared.specs.Rules.{with_other, spent_core};
+
+    ghost both = { with_other };
+
+    ghost spent = { spent_core };
+}
+
+/// The right to call as one core.
+#[derive(Drop)]
+pub struct Core<S> {
+    number: CoreId,
+    left: u8,
+    seat: Seat<S, Known<S>>,
+}
+
+impl<S> Model for Core<S> {
+    ghost use Rattle.std.specs.Prelude.{◌≡◌, ◌<◌, true, false, []};
+    ghost use Rattle.shared.specs.Cores.{CoreView};
+    ghost use Rattle.shared.specs.Rules.{view_of};
+
+    ghost Value = { CoreView S };
+
+    ghost view = { λ c. view_of c.seat.table_id c.seat.me.0 };
+
+    ghost invariant = { λ c. (c.seat.me.1 ≡ []) × (c.seat.me.0.holds ≡ false)
+        × (c.seat.me.0.live ≡ true) × (c.number ≡ c.seat.me.0.core) × (c.left ≡ c.seat.me.0.spare)
+        × (c.left < 64) };
+}
+
+/// What all threads share: the machine, behind a word. It has no lock that waits.
+#[derive(Drop)]
+pub struct Space<S: Whole> {
+    table: Table<S, Known<S>, GhostList<S>, OneLog, Global>,
+    ghost one: { (table.shared.table_id.words ≡ 1) × (table.shared.table_id.slots ≡ 1) },
+}
+
+/// Why a machine can't be shared.
+#[derive(Clone, Copy, Debug, PartialEq, Eq)]
+pub enum Refusal {
+    /// There was no memory.
+    NoMemory,
+    /// A core has a call, or there is no core.
+    NotCalm,
+}
+
+/// A machine that wasn't shared, as it was.
+#[derive(Drop)]
+pub struct Unshared<S> {
+    pub machine: S,
+    pub why: Refusal,
+}
+
+impl<S: Whole + Drop> Space<S> {
+    /// A space, and core 0, which may split off the machine's other cores. No core may have a call.
+    pub fn new(alloc: Global, machine: S) -> Result<(Space<S>, Core<S>), Unshared<S>>
+        ensures ok { IfOk result (λ r. (r.1.first ≡ machine ∷ [])
+            × (r.1 ≡ new_core S.state r.0.table.shared.table_id 0 ((S.state machine).made.cores - 1) (machine ∷ []))) }
+        ensures err { IfErr result (λ r. r.machine ≡ machine) }
+    {
+        let cores = machine.core_count();
+        if cores == 0 || !machine.is_calm() {
+            return Err(Unshared {
+                machine,
+                why: Refusal::NotCalm,
+            });
+        }
+        let left = (cores - 1) as u8;
+        let Ok(mut slots) = Vec::with_capacity(alloc, 1) else {
+            return Err(Unshared {
+                machine,
+                why: Refusal::NoMemory,
+            });
+        };
+        let first = GhostList::new().and(&machine);
+        slots.push_reserved(machine);
+        match Table::new(alloc, &[HOME], slots, &first) {
+            Ok((table, seat)) => Ok((
+                Space { table },
+                Core {
+                    number: CoreId::new(0),
+                    left,
+                    seat,
+                },
+            )),
+            Err(Refused { slots }) => Err(Unshared {
+                machine: only(slots),
+                why: Refusal::NoMemory,
+            }),
+        }
+    }
+
+    // The word as it was found; where that is 1, the seat has the machine now.
+    fn take(&self, seat: &mut Seat<S, Known<S>>) -> u64
+        requires { seat.old.table_id ≡ self.now.table.shared.table_id }
+        ensures same { (seat.new.table_id ≡ seat.old.table_id) × (seat.new.id ≡ seat.old.id) }
+        ensures took { Took S.state (result == 1) seat.old.me seat.new.me }
+    {
+        self.table
+            .shared
+            .compare_exchange::<Take>(seat, 0, HOME, OUT)
+    }
+
+    // A whole call of the machine that the seat has.
+    fn make(&self, seat: &mut Seat<S, Known<S>>, core: CoreId, request: Request) -> Ended
+        requires here { seat.old.table_id ≡ self.now.table.shared.table_id }
+        requires has { (d : S) × (seat.old.me.1 ≡ (0, d) ∷ []) × (core < (S.state d).made.cores)
+            × IsCalm (S.state d) }
+        ensures same { (seat.new.table_id ≡ seat.old.table_id) × (seat.new.me.0 ≡ seat.old.me.0) }
+        ensures made { (d : S) → seat.old.me.1 ≡ (0, d) ∷ [] → Makes S.state d core request result seat.new.me.1 }
+    {
+        seat.slot_mut(&self.table.shared, 0)
+            .call_whole(core, request)
+    }
+
+    // Gives the machine back.
+    fn give(&self, seat: &mut Seat<S, Known<S>>, word: u64)
+        requires here { seat.old.table_id ≡ self.now.table.shared.table_id }
+        requires can { (d : S) × (seat.old.me.1 ≡ (0, d) ∷ []) × CanGive S.state seat.old.me.0 d word }
+        ensures same { seat.new.table_id ≡ seat.old.table_id }
+        ensures gave { (d : S) → seat.old.me.1 ≡ (0, d) ∷ []
+            → seat.new.me ≡ (after seat.old.me.0 (history_of (S.state d)), []) }
+    {
+        self.table.shared.store::<Give>(seat, 0, word);
+    }
+
+    /// A whole call of this core. Where another core is in one, nothing is done. What the core has
+    /// seen of the machine's history is a beginning of it, whose log is that of a plain page map
+    /// (POSIX.1-2017, mmap, munmap and mprotect), and in which this core's calls are just those that
+    /// it made, in order, each with the reply that it got.
+    pub fn call(&self, core: &mut Core<S>, request: Request) -> Answer
+        requires here { core.old.space ≡ self.now.table.shared.table_id }
+        ensures answers { Answers S.state core.old request result core.new }
+        ensures here { core.new.space ≡ core.old.space }
+    {
+        let found = self.take(&mut core.seat);
+        if found != HOME {
+            return if found == OUT {
+                Answer::Busy
+            } else {
+                Answer::Full
+            };
+        }
+        let ended = self.make(&mut core.seat, core.number, request);
+        self.give(&mut core.seat, word_of(ended));
+        answer_of(ended)
+    }
+
+    /// Splits off a core that has made no call since the machine was shared.
+    pub fn split(&self, core: &mut Core<S>) -> Option<Core<S>>
+        requires here { core.old.space ≡ self.now.table.shared.table_id }
+        ensures some { IfSome result (λ c. (0 < core.old.spare)
+            × (core.new ≡ record core.old { spare = core.old.spare - 1 })
+            × (c ≡ new_core S.state core.old.space core.old.spare 0 core.old.first)) }
+        ensures none { IfNone result ((core.old.spare ≡ 0) × (core.new ≡ core.old)) }
+    {
+        if core.left == 0 {
+            return None;
+        }
+        let number = CoreId::new(core.left);
+        let seat = self.table.shared.split_seat::<SplitOff>(&mut core.seat);
+        core.left -= 1;
+        Some(Core {
+            number,
+            left: 0,
+            seat,
+        })
+    }
+
+    /// Takes a core in: from now on this core knows what the other one knew.
+    pub fn take_in(&self, core: &mut Core<S>, other: Core<S>)
+        requires here { (core.old.space ≡ self.now.table.shared.table_id)
+            × (other.space ≡ self.now.table.shared.table_id) }
+        ensures { core.new ≡ record core.old { others = core.old.others ++ told_of other ∷ [] } }
+    {
+        self.table
+            .shared
+            .join_seat::<TakeIn>(&mut core.seat, other.seat);
+    }
+
+    /// Ends the space, and hands out the machine. Its log agrees with all that this core knows, of
+    /// itself and of those that it took in. `None`: a core that was let go amid a call had it.
+    pub fn close(self, core: Core<S>) -> Option<S>
+        requires here { core.space ≡ self.table.shared.table_id }
+        ensures { IfSome result (λ machine. Agrees S.state (S.state machine) core) }
+    {
+        let Space { table } = self;
+        let mut closed = table.close_with(core.seat);
+        let word = closed.word(0);
+        let machine = closed.take(0);
+        closed.free();
+        if word == OUT { None } else { Some(machine) }
+    }
+}
+
+// The only one of these.
+fn only<S>(mut slots: Vec<S, Global>) -> S
+    requires { (s : S) × (slots.items ≡ s ∷ []) }
+    ensures { slots.items ≡ result ∷ [] }
+{
+    let Some(one) = slots.pop() else {
+        unreachable!()
+    };
+    slots.destroy_empty();
+    one
+}
+
+// The word with which the machine is given back.
+fn word_of(ended: Ended) -> u64
+    ensures { result ≡ word_of ended }
+{
+    match ended {
+        Ended::Reply(_) | Ended::Refused => HOME,
+        Ended::Spent => SPENT,
+    }
+}
+
+// What the caller is told.
+fn answer_of(ended: Ended) -> Answer
+    ensures { result ≡ answer_of ended }
+{
+    match ended {
+        Ended::Reply(reply) => Answer::Reply(reply),
+        Ended::Refused | Ended::Spent => Answer::Full,
+    }
+}

@@ -1,0 +1,42 @@
+//! A machine whose calls are whole: none is in flight between two of them.
+ghost use Rattle.std.specs.Prelude.{◌≡◌, ◌<◌, IsTrue};
+ghost use Rattle.machine_model.specs.World.{World};
+ghost use Rattle.machine_alone.specs.Alone.{IsCalm};
+ghost use Rattle.core_steps.specs.Machine.{IsLegal};
+ghost use Rattle.shared.specs.Histories.{Ends};
+
+use vm_base::{CoreId, Reply, Request};
+
+/// What a whole call came to.
+#[derive(Clone, Copy, Debug, PartialEq, Eq)]
+pub enum Ended {
+    /// It was made, and has this reply.
+    Reply(Reply),
+    /// None could begin, and nothing was done.
+    Refused,
+    /// It couldn't be ended, so that no other can begin either.
+    Spent,
+}
+
+/// What threads may share: a machine, or one of several kinds of machine.
+pub trait Whole {
+    /// The state of the abstract machine that it has.
+    ghost state: { Self → World };
+
+    /// How many cores it has.
+    fn core_count(&self) -> usize
+        ensures cores { result ≡ (state self.now).made.cores }
+        ensures legal { IsLegal (state self.now) };
+
+    /// Tells whether no core has a call.
+    fn is_calm(&self) -> bool
+        ensures { IsTrue result → IsCalm (state self.now) };
+
+    /// Makes a call of this core, where no core has one, and leaves none.
+    fn call_whole(&mut self, core: CoreId, request: Request) -> Ended
+        requires here { core < (state self.old).made.cores }
+        requires calm { IsCalm (state self.old) }
+        ensures ends { Ends (state self.old) core request result (state self.new) }
+        ensures made { (state self.new).made ≡ (state self.old).made }
+        ensures legal { IsLegal (state self.new) };
+}
