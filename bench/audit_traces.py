@@ -69,17 +69,22 @@ def changed(rng, lines):
     return lines[:at] + [f"{asked} = {other}"] + lines[at + 1 :]
 
 
-counts = collections.Counter()
-for seed in range(FIRST_SEED, FIRST_SEED + TRACES):
-    rng = random.Random(seed)
-    legal = replies(rng)
-    for is_changed, lines in ((False, legal), (True, changed(rng, legal))):
-        for any_place in (False, True):
-            said = run(["audit", "--any-place"] if any_place else ["audit"], "\n".join(lines) + "\n")
-            want = judge(lines, any_place)
-            if said != want or (any_place and not is_changed and not said[0].startswith("legal ")):
-                sys.exit(f"seed {seed}, changed {is_changed}, any place {any_place}: {said}, expected {want}\n" + "\n".join(lines))
-            counts[is_changed, any_place, said[0].split()[0]] += 1
-            counts["calls"] += int(said[0].split()[1]) if said[0].startswith("legal ") and not is_changed and any_place else 0
-print(f"{TRACES} random traces, {counts['calls']} calls: all legal, and judged as by plain_map.py; by first places {counts[False, False, 'legal']} are legal,")
-print(f"with one reply changed {counts[True, False, 'legal']}, and by any places {counts[True, True, 'legal']}")
+def main():
+    counts = collections.Counter()
+    for seed in range(FIRST_SEED, FIRST_SEED + TRACES):
+        rng = random.Random(seed)
+        legal = replies(rng)
+        for is_changed, lines in ((False, legal), (True, changed(rng, legal))):
+            for any_place in (False, True):
+                said = run(["audit", "--any-place"] if any_place else ["audit"], "\n".join(lines) + "\n")
+                want = judge(lines, any_place)
+                if said != want or (any_place and not is_changed and not said[0].startswith("legal ")):
+                    sys.exit(f"seed {seed}, changed {is_changed}, any place {any_place}: {said}, expected {want}\n" + "\n".join(lines))
+                counts[is_changed, any_place, said[0].split()[0]] += 1
+                counts["calls"] += int(said[0].split()[1]) if said[0].startswith("legal ") and not is_changed and any_place else 0
+    print(f"{TRACES} random traces, {counts['calls']} calls: all legal, and judged as by plain_map.py; by first places {counts[False, False, 'legal']} are legal,")
+    print(f"with one reply changed {counts[True, False, 'legal']}, and by any places {counts[True, True, 'legal']}")
+
+
+if __name__ == "__main__":
+    main()

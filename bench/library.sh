@@ -5,6 +5,8 @@
 #   hit      a load of a page that the TLB has
 #   fault    the first load of each of 65,000 pages
 #   change   a page mapped, and unmapped, in turn
+# Then hits of a machine that threads share, by one thread and by four together, beside a pthread mutex around a machine that is kept; of what
+# one thread does, the medians of five runs again.
 # Usage: bench/library.sh; RADIXVM_LIBRARY names the folder of a libradixvm.a that was built already.
 set -eu
 cd "$(dirname "$0")/.."
@@ -14,3 +16,5 @@ library=${RADIXVM_LIBRARY:-crates/radixvm_c/out}
 [ -n "${RADIXVM_LIBRARY:-}" ] || ./radixvm --build-library
 rustc --edition 2021 -C opt-level=3 -L "native=$library" -l static=radixvm -o "$work/library" bench/library.rs
 "$work/library"
+rustc --edition 2021 -C opt-level=3 -L "native=$library" -l static=radixvm -o "$work/shared" bench/shared.rs
+"$work/shared"

@@ -3,13 +3,16 @@
 # sanitizers of addresses and of undefined behaviour, by gcc and by clang, and runs them: a page-table walker beside batches and beside a
 # machine that is kept, kept machines beside batches, logs beside what was told, a shadow checker with and without a bug, what is out of
 # range and memory that is refused, the worked rows of crates/test_words, examples/, random traces and their logs beside the program where it
-# is built, and the Rust crate's tests and its walkers where there is cargo. SEEDS, 20 where it isn't given, is how many walks, and how many
-# random traces of each kind, are made.
+# is built, and the Rust crate's tests and its walkers where there is cargo. 1 to 64 threads share a machine: each one's notes beside the log,
+# the log beside a new machine and beside `audit`, with memory refused, under valgrind where that is here, and under ThreadSanitizer where
+# bindings/tsan.py left an instrumented library. SEEDS, 20 where it isn't given, is how many walks, and how many random traces of each kind,
+# are made.
 # Usage: bindings/test.sh [--skip-without-compiler] [SEEDS]
 set -euo pipefail
 top=$(cd "$(dirname "$0")/.." && pwd)
 library=${RADIXVM_LIBRARY:-$top/crates/radixvm_c/out}
 program=${RADIXVM_PROGRAM:-$top/crates/radixvm/out/radixvm}
+include=${RADIXVM_INCLUDE:-$top/include}
 skip=
 if [ "${1:-}" = --skip-without-compiler ]; then
     skip=yes
@@ -34,19 +37,19 @@ printf '#include "radixvm.h"\nint main(void) { return radixvm_version() != RADIX
 cp "$work/header.c" "$work/header.cpp"
 for compiler in gcc clang; do
     command -v $compiler > /dev/null || continue
-    $compiler -std=c11 $warnings -I "$top/include" "$work/header.c" "$library/libradixvm.a" -o "$work/header" && "$work/header"
+    $compiler -std=c11 $warnings -I "$include" "$work/header.c" "$library/libradixvm.a" -o "$work/header" && "$work/header"
     echo "header, C11: $compiler"
 done
 for compiler in g++ clang++; do
     command -v $compiler > /dev/null || continue
-    $compiler -std=c++17 $warnings -I "$top/include" "$work/header.cpp" "$library/libradixvm.a" -o "$work/header" && "$work/header"
+    $compiler -std=c++17 $warnings -I "$include" "$work/header.cpp" "$library/libradixvm.a" -o "$work/header" && "$work/header"
     echo "header, C++17: $compiler"
 done
 
 compile() { # COMPILER NAME OUT FLAGS..
     local compiler=$1 name=$2 out=$3
     shift 3
-    $compiler -std=c11 -O1 -g -fsanitize=address,undefined -fno-sanitize-recover=all $warnings "$@" -I "$top/include" \
+    $compiler -std=c11 -O1 -g -pthread -fsanitize=address,undefined -fno-sanitize-recover=all $warnings "$@" -I "$include" \
         "$top/bindings/c/$name.c" "$library/libradixvm.a" -o "$work/$out"
 }
 
@@ -58,8 +61,9 @@ walk() { # NAME
 
 try_with() { # COMPILER
     echo "-- C programs by $1"
-    for name in walker beside kept log shadow bad trace; do compile "$1" $name $name; done
+    for name in walker beside kept log shadow bad trace seats threads; do compile "$1" $name $name; done
     compile "$1" bad refused -DREFUSE -Wno-pedantic -Wl,--wrap=malloc,--wrap=realloc
+    compile "$1" refused_threads refused_threads -Wno-pedantic -Wl,--wrap=malloc,--wrap=realloc
     walk walker
     walk beside
     walk kept
@@ -73,6 +77,20 @@ try_with() { # COMPILER
     echo "shadow: the bug was found, with the mappings around it"
     echo "out of range: $("$work/bad")"
     "$work/refused"
+    "$work/seats"
+    share threads
+    "$work/refused_threads"
+}
+
+# Runs the program NAME with each seed, as 1 to 64 threads, and as four times as many as there are processors.
+share() { # NAME
+    for seed in $(seq "$seeds"); do
+        for threads in 1 2 4 16 64 $(($(nproc) > 16 ? 64 : $(nproc) * 4)); do
+            "$work/$1" "$seed" $threads 300 > "$work/out" || { cat "$work/out"; exit 1; }
+        done
+    done
+    "$work/$1" 1 8 20000
+    echo "$1: $seeds seeds, 1 to 64 threads of 300 calls; each log has what the threads noted, and is replied again"
 }
 compilers=${CC:-$(for compiler in clang gcc; do command -v $compiler > /dev/null && echo $compiler; done)}
 for compiler in ${compilers:-cc}; do try_with $compiler; done
@@ -88,9 +106,35 @@ for name in $examples; do
 done
 echo "examples: the same text as in examples/ for $examples"
 if [ -x "$program" ]; then
+    for seed in $(seq "$seeds"); do
+        "$work/threads" "$seed" 8 1000 echo > "$work/log"
+        [ "$("$program" audit "$work/log")" = "legal 8000" ] || { echo "bindings/test.sh: a log of threads isn't legal, seed $seed" >&2; exit 1; }
+    done
+    echo "audit: $seeds logs of 8 threads, 8000 calls each, are a plain page map's"
     for way in "" steps kept "kept steps" log "log steps"; do python3 "$top/bindings/lists.py" "$seeds" "$program" "$work/trace" $way; done
 else
     echo "random traces: not compared, since the program isn't built ($program)"
+fi
+if command -v valgrind > /dev/null; then
+    ${CC:-cc} -std=c11 -O1 -g -pthread -I "$include" "$top/bindings/c/threads.c" "$library/libradixvm.a" -o "$work/plain"
+    valgrind -q --error-exitcode=1 --leak-check=full --fair-sched=yes "$work/plain" 1 8 200
+    echo "valgrind: no fault and no leak"
+else
+    echo "valgrind: it isn't here"
+fi
+if [ -f "$library/tsan/libradixvm.a" ]; then
+    for kind in tsan relaxed; do
+        gcc -std=c11 -O1 -g -fno-builtin -fsanitize=thread -I "$include" "$top/bindings/c/threads.c" "$top/bindings/c/tsan.c" \
+            "$library/$kind/libradixvm.a" -o "$work/$kind"
+    done
+    setarch -R "$work/tsan" 1 8 20000
+    if setarch -R "$work/relaxed" 1 8 2000 > "$work/out" 2>&1 || ! grep -q "data race" "$work/out"; then
+        echo "bindings/test.sh: ThreadSanitizer sees no race where the word is relaxed" >&2
+        exit 1
+    fi
+    echo "ThreadSanitizer: no race, and one where the word's two steps are relaxed"
+else
+    echo "ThreadSanitizer: bindings/tsan.py wasn't run"
 fi
 if command -v cargo > /dev/null; then
     (
@@ -101,6 +145,7 @@ if command -v cargo > /dev/null; then
             for seed in $(seq "$seeds"); do cargo run --offline -q --example $name "$seed" > "$work/out" || { cat "$work/out"; exit 1; }; done
             echo "Rust, $name: $seeds seeds, $(cat "$work/out") in each"
         done
+        for threads in 1 2 4 16 64; do cargo run --offline -q --example threads 1 $threads 300; done
     )
     echo "Rust: the crate's tests and those of its documentation passed"
 else

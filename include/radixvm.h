@@ -5,26 +5,34 @@
  * crates/radixvm_c/src/lib.rt: of radixvm_run, that the outcomes are a run of the abstract machine whose
  * log is that of a plain page map (POSIX.1-2017 mmap, munmap, mprotect); of radixvm_calls and of a machine
  * that is kept, that each call or event comes to what the abstract machine's steps give from the state
- * before it, and that the state it leaves is one that a run leads to, with the log of a plain page map.
+ * before it, and that the state it leaves is one that a run leads to, with the log of a plain page map; and
+ * of a machine that threads share, that for every schedule each seat got the replies of a plain page map, in
+ * one order that has each seat's calls in the order in which it made them (radixvm_share below).
  *
  * Units: addresses, lengths and offsets are bytes; a page or frame is 4096 bytes, and is named by its
  * number (page = address / 4096). Buffers are the caller's, each with its number of items; the library
  * keeps none of them, and frees what it takes from malloc before it returns, but for the machines that
- * are kept. It has no static state, so threads may call it side by side, each with buffers and machines
- * of its own: a machine is one thread's, the one that made it.
+ * are kept. It has no static state, so threads may call it side by side, each with buffers, machines and
+ * seats of its own. A machine, or a seat, may be handed to another thread as anything is that isn't atomic:
+ * by a lock, a thread's start or its end. Each is one call's at a time.
  *
  * Pointers: null is taken where its length is 0, and is told (RADIXVM_NULL) where it isn't. The buffers
  * must be as long as said, aligned, and not overlap; `outcomes` must be initialised memory. None of that
  * can be checked, but that a length above 2^32 is told (RADIXVM_TOO_LONG) before any memory is read. Nor
- * can it be told that a radixvm_machine was not begun as {0}, was copied and freed by the copy, or was
- * written by others: use one place for each machine, and give it to the functions below alone.
- * Don't call from a signal handler, nor in the forked child of a process with threads. */
+ * can it be told that a radixvm_machine or a radixvm_seat was not begun as {0}, was copied and freed by the
+ * copy, was written by others, or is in another call: use one place for each, and give it to the functions
+ * below alone. Don't call from a signal handler, nor in the forked child of a process with threads. */
 #ifndef RADIXVM_H
 #define RADIXVM_H
 #include <stddef.h>
 #include <stdint.h>
+#ifdef _WIN32
+#include <windows.h>
+#else
+#include <sched.h>
+#endif
 
-#define RADIXVM_VERSION 3 /* what radixvm_version() answers where it is the library of this header */
+#define RADIXVM_VERSION 4 /* what radixvm_version() answers where it is the library of this header */
 
 /* What a machine has. */
 typedef struct {
@@ -101,6 +109,11 @@ typedef struct {
     uint8_t *at;
 } radixvm_machine;
 
+/* The right to call as one core of a machine that threads share, or none: begin with {0}. */
+typedef struct {
+    uint8_t *at;
+} radixvm_seat;
+
 /* Neighbouring pages with the same protection, whose backing goes on from page to page. */
 typedef struct {
     uint64_t first, end; /* pages; `end` is the one behind the last */
@@ -136,12 +149,15 @@ enum {
     RADIXVM_TOO_LONG,      /* a length is above 2^32 */
     RADIXVM_BAD_FILE,      /* files[count]: no such mode, or its bytes don't lie in `bytes` */
     RADIXVM_NULL,          /* a null pointer whose length isn't 0 */
-    RADIXVM_EMPTY,         /* there is no machine in its place */
-    RADIXVM_IN_USE,        /* there is one already */
-    RADIXVM_ABSENT,        /* the machine has no such core, or no page has this number */
+    RADIXVM_EMPTY,         /* there is no machine, or no seat, in its place */
+    RADIXVM_IN_USE,        /* there is one already; or the machine has another seat */
+    RADIXVM_ABSENT,        /* the machine has no such core, or no more cores; or no page has this number */
     RADIXVM_NO_LOG,        /* the machine keeps no log */
     RADIXVM_BAD_CORES, RADIXVM_BAD_FRAMES, RADIXVM_TOO_MANY_FILES, RADIXVM_FILE_TOO_LONG, RADIXVM_BAD_CALLS,
-    RADIXVM_NO_MACHINE     /* malloc refused memory to the new machine */
+    RADIXVM_NO_MACHINE,    /* malloc refused memory to the new machine */
+    RADIXVM_BUSY,          /* another seat is in a call */
+    RADIXVM_IN_FLIGHT,     /* a core of the machine has a call that isn't at its end */
+    RADIXVM_LOST           /* the machine is gone with a seat that was freed amid its call */
 };
 
 #ifdef __cplusplus
@@ -266,34 +282,132 @@ static inline radixvm_done radixvm_calls_on(radixvm_machine *machine, const radi
         room);
 }
 /* How many cores it has; 0 where there is no machine. */
-static inline uint64_t radixvm_cores(radixvm_machine *machine) {
-    return machine ? radixvm_cores_held(machine) : 0;
+static inline uint64_t radixvm_cores(const radixvm_machine *machine) {
+    return machine ? radixvm_cores_held((radixvm_machine *)machine) : 0;
 }
 /* The entry that the core's page tables have for the page, as x86-64's hardware would read it (Intel SDM
  * volume 3A, 4-level paging, the entry of a 4 KiB page); 0 where they have none. A page is 1 to 2^35 - 1. */
-static inline uint32_t radixvm_entry(radixvm_machine *machine, uint32_t core, uint64_t page, uint64_t *word) {
+static inline uint32_t radixvm_entry(const radixvm_machine *machine, uint32_t core, uint64_t page, uint64_t *word) {
     if (!machine || !word) return RADIXVM_NULL;
-    return radixvm_entry_held(machine, core, page, word);
+    return radixvm_entry_held((radixvm_machine *)machine, core, page, word);
 }
 /* All mappings, in order of pages, as far as there is room: `count` is how many there are. The list takes
  * memory for a moment. */
-static inline radixvm_done radixvm_maps(radixvm_machine *machine, radixvm_line *lines, size_t room) {
+static inline radixvm_done radixvm_maps(const radixvm_machine *machine, radixvm_line *lines, size_t room) {
     radixvm_line no_line = {0, 0, 0, 0, 0, 0};
     if (!machine || (!lines && room)) {
         const radixvm_done null = {RADIXVM_NULL, 0};
         return null;
     }
-    return radixvm_maps_held(machine, lines ? lines : &no_line, room);
+    return radixvm_maps_held((radixvm_machine *)machine, lines ? lines : &no_line, room);
 }
 /* The log of a machine that keeps it, from its first entry on, as far as there is room: `count` is how many
  * entries it has. Each call's reply stands in it once, in the order in which a plain page map would answer. */
-static inline radixvm_done radixvm_log(radixvm_machine *machine, radixvm_log_entry *entries, size_t room) {
+static inline radixvm_done radixvm_log(const radixvm_machine *machine, radixvm_log_entry *entries, size_t room) {
     radixvm_log_entry no_entry = {0, 0, 0, 0, 0, {0, 0, 0, 0, 0, 0, 0, 0, 0}, {0, 0}};
     if (!machine || (!entries && room)) {
         const radixvm_done null = {RADIXVM_NULL, 0};
         return null;
     }
-    return radixvm_log_held(machine, entries ? entries : &no_entry, room);
+    return radixvm_log_held((radixvm_machine *)machine, entries ? entries : &no_entry, room);
+}
+
+/* ---- A machine that threads share. Each thread has a seat, which is one core's, and makes whole calls with it, side by
+ * side with the others. What is proved of it, for every schedule of any threads: what a seat has seen is a beginning of the
+ * machine's log, which is that of a plain page map (POSIX.1-2017 mmap, munmap, mprotect), and in which the seat's calls are
+ * just those that it made, in order, with the replies that it got. There is no certificate to check, and the log need not
+ * be kept. It isn't said that a call ever finds the machine free, nor in which order threads come to it.
+ *
+ * No function waits: where another seat is in a call, RADIXVM_BUSY is told, and nothing was done. A thread that dies inside a
+ * call leaves all other seats RADIXVM_BUSY for ever, and nothing wrong; so don't cancel one there (pthread_cancel of the
+ * asynchronous kind), and don't call from a signal handler. One call of a seat at a time, and no seat in two places.
+ * Each function changes nothing where its status isn't RADIXVM_OK, but for RADIXVM_LOST. */
+
+/* As those below, but that no pointer may be null. */
+uint32_t radixvm_share_held(radixvm_machine *machine, radixvm_seat *seat);
+uint32_t radixvm_split_seat(radixvm_seat *first, radixvm_seat *other);
+uint32_t radixvm_try_seat(radixvm_seat *seat, const radixvm_event *event, radixvm_outcome *outcome);
+uint32_t radixvm_return_seat(radixvm_seat *first, radixvm_seat *other);
+uint32_t radixvm_unshare_seat(radixvm_seat *seat, radixvm_machine *machine);
+void radixvm_free_seat(radixvm_seat *seat);
+
+/* The machine goes from its place into the seat, which is core 0's. RADIXVM_OUT_OF_MEMORY, RADIXVM_EMPTY: there is no machine;
+ * RADIXVM_IN_USE: there is a seat already; RADIXVM_IN_FLIGHT: a core has a call that isn't at its end. */
+static inline uint32_t radixvm_share(radixvm_machine *machine, radixvm_seat *seat) {
+    return machine && seat ? radixvm_share_held(machine, seat) : (uint32_t)RADIXVM_NULL;
+}
+/* One more seat, in an empty place, by core 0's. The first is the last core's, and so on down to core 1's; then RADIXVM_ABSENT. */
+static inline uint32_t radixvm_seat_split(radixvm_seat *first, radixvm_seat *other) {
+    return first && other ? radixvm_split_seat(first, other) : (uint32_t)RADIXVM_NULL;
+}
+/* A whole call of this seat's core, of the first six kinds (RADIXVM_BAD_EVENT: another); `event->core` isn't read. Its outcome
+ * is a reply, or RADIXVM_FULL: cores that the call waits for take what they are told by the way, and a call that malloc refuses
+ * memory to is answered RADIXVM_NO_MEMORY, so that none is left in flight. RADIXVM_BUSY: another seat is in a call. */
+static inline uint32_t radixvm_seat_try(radixvm_seat *seat, const radixvm_event *event, radixvm_outcome *outcome) {
+    return seat && event && outcome ? radixvm_try_seat(seat, event, outcome) : (uint32_t)RADIXVM_NULL;
+}
+/* Gives the processor's other thread, or another thread, its turn. */
+static inline void radixvm_relax(uint32_t tries) {
+#if defined(__GNUC__) && (defined(__x86_64__) || defined(__i386__))
+    if (tries < 20) {
+        __builtin_ia32_pause();
+        return;
+    }
+#else
+    (void)tries;
+#endif
+#ifdef _WIN32
+    SwitchToThread();
+#else
+    sched_yield();
+#endif
+}
+/* The same, tried until it isn't RADIXVM_BUSY: after 20 pauses other threads get their turn between tries. Under many threads
+ * a mutex of your own round radixvm_seat_try waits in the system's order instead; nothing that is proved rests on it. */
+static inline uint32_t radixvm_seat_call(radixvm_seat *seat, const radixvm_event *event, radixvm_outcome *outcome) {
+    uint32_t tries = 0, status = radixvm_seat_try(seat, event, outcome);
+    while (status == RADIXVM_BUSY) {
+        radixvm_relax(tries);
+        if (tries < 20) tries++;
+        status = radixvm_seat_try(seat, event, outcome);
+    }
+    return status;
+}
+/* The other seat's core is done; its place is left empty. Both seats are different ones of one machine, which can't be checked
+ * for you. What the other seat was told is then among what radixvm_unshare says of the log. */
+static inline uint32_t radixvm_seat_return(radixvm_seat *first, radixvm_seat *other) {
+    return first && other ? radixvm_return_seat(first, other) : (uint32_t)RADIXVM_NULL;
+}
+/* The machine goes from its last seat back into an empty place, with its log. RADIXVM_IN_USE: there is a machine, or another
+ * seat is left. RADIXVM_LOST: a seat was freed whose thread had died inside a call, and the machine is gone with it. */
+static inline uint32_t radixvm_unshare(radixvm_seat *seat, radixvm_machine *machine) {
+    return seat && machine ? radixvm_unshare_seat(seat, machine) : (uint32_t)RADIXVM_NULL;
+}
+/* Lets the seat go, if there is one, and with the last one the machine. Nobody else gets its core. */
+static inline void radixvm_seat_free(radixvm_seat *seat) {
+    if (seat) radixvm_free_seat(seat);
+}
+
+/* ---- Texts. */
+
+/* What a status says, in words; "unknown status" where it is none. */
+static inline const char *radixvm_text(uint32_t status) {
+    static const char *const texts[] = {"done", "the event is none: its kind, core, prot, flags or byte is out of range",
+        "malloc refused memory", "fewer outcomes than events", "a length is above 2^32",
+        "a file has no such mode, or its bytes don't lie in the buffer", "a null pointer", "there is no machine or seat in its place",
+        "there is one already, or the machine has another seat", "no such core or page", "the machine keeps no log",
+        "not 1 to 64 cores", "more than 65536 frames", "more than 16 files", "a file of more than 1048576 bytes",
+        "more calls than may begin", "malloc refused memory to the new machine", "another seat is in a call",
+        "a core has a call that isn't at its end", "the machine is gone with a seat that was freed amid its call"};
+    return status < sizeof texts / sizeof texts[0] ? texts[status] : "unknown status";
+}
+/* What the kind of an outcome says, in words; "unknown outcome" where it is none. */
+static inline const char *radixvm_outcome_text(uint32_t kind) {
+    static const char *const texts[] = {"unknown outcome", "a step was made", "waits for a core that holds a slot",
+        "waits for cores that are to take a message", "not possible now", "a limit is reached", "mapped", "done", "a byte",
+        "refused", "SIGSEGV: not mapped", "SIGSEGV: the protection forbids it", "SIGBUS: past the end of the file",
+        "no frame was free", "no memory", "not at its end after 2^40 steps"};
+    return kind < sizeof texts / sizeof texts[0] ? texts[kind] : texts[0];
 }
 #ifdef __cplusplus
 }

@@ -2,7 +2,7 @@
 //! (`crates/radixvm_c`). This crate isn't: it turns its own types into the structs of `include/radixvm.h`, and back.
 //!
 //! A batch makes a new machine, gives it what is asked for, and hands back what each came to. A [`Machine`] is kept, and takes
-//! events and calls as they come.
+//! events and calls as they come. [`Space::share`] gives each thread a [`Seat`] of it, with which it calls beside the others.
 //!
 //! ```
 //! use radixvm::{calls, Ask, Flags, Outcome, Prot, Reply, Request, Setup};
@@ -23,8 +23,10 @@ use std::ops::Range;
 
 mod machine;
 mod raw;
+mod seat;
 
 pub use machine::Machine;
+pub use seat::{Seat, Space, Unshared};
 
 /// For what a file is open.
 #[derive(Clone, Copy, Debug, PartialEq, Eq)]
@@ -251,6 +253,12 @@ pub enum Error {
     BadCalls,
     /// Memory was refused to the new machine.
     NoMachine,
+    /// Another seat is in a call, and nothing was done.
+    Busy,
+    /// A core has a call that isn't at its end.
+    InFlight,
+    /// The limit of calls or of events is reached.
+    Full,
     /// The library answered a code that isn't in its header, which this crate is for.
     UnknownCode(u32),
 }
@@ -269,6 +277,9 @@ impl fmt::Display for Error {
             Error::FileTooLong => write!(f, "a file of more than 1048576 bytes"),
             Error::BadCalls => write!(f, "more than 2^40 calls, or than 1048576 with a log"),
             Error::NoMachine => write!(f, "memory was refused to the new machine"),
+            Error::Busy => write!(f, "another seat is in a call"),
+            Error::InFlight => write!(f, "a core has a call that isn't at its end"),
+            Error::Full => write!(f, "the limit of calls or of events is reached"),
             Error::UnknownCode(code) => write!(f, "the library answered {code}, which its header doesn't have"),
         }
     }

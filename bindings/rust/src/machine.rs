@@ -1,9 +1,10 @@
 //! A machine that is kept.
 use crate::raw::{of_ask, of_event, Place, Way};
 use crate::{Ask, Entry, Error, Event, Line, Outcome, Request, Setup, Stopped};
+use std::fmt;
 
-/// A machine that takes events and calls as they come, and is freed when it is dropped. It is its thread's alone: it is
-/// neither `Send` nor `Sync`.
+/// A machine that takes events and calls as they come, and is freed when it is dropped. It may go to another thread, and isn't
+/// two threads' at once: it is `Send`, and not `Sync`. [`Space::share`](crate::Space::share) lets threads call it side by side.
 ///
 /// ```
 /// use radixvm::{Flags, Machine, Outcome, Prot, Reply, Request, Setup};
@@ -17,12 +18,32 @@ use crate::{Ask, Entry, Error, Event, Line, Outcome, Request, Setup, Stopped};
 /// # Ok::<(), radixvm::Error>(())
 /// ```
 ///
+/// ```
+/// use radixvm::{Machine, Outcome, Reply, Request, Setup};
+///
+/// let mut machine = Machine::new(&Setup::new(1, 4, 100))?;
+/// let request = Request::Load { addr: 0x10000 };
+/// let (machine, outcome) = std::thread::spawn(move || {
+///     let outcome = machine.call(0, request);
+///     (machine, outcome)
+/// }).join().unwrap();
+/// assert_eq!(outcome?, Outcome::Replied(Reply::MapErr));
+/// assert_eq!(format!("{machine:?}"), "Machine { cores: 1, .. }");
+/// # Ok::<(), radixvm::Error>(())
+/// ```
+///
 /// ```compile_fail
-/// fn is_send<T: Send>() {}
-/// is_send::<radixvm::Machine>();
+/// fn is_sync<T: Sync>() {}
+/// is_sync::<radixvm::Machine>();
 /// ```
 pub struct Machine {
-    place: Place,
+    pub(crate) place: Place,
+}
+
+impl fmt::Debug for Machine {
+    fn fmt(&self, f: &mut fmt::Formatter<'_>) -> fmt::Result {
+        f.debug_struct("Machine").field("cores", &self.cores()).finish_non_exhaustive()
+    }
 }
 
 impl Machine {
@@ -102,7 +123,7 @@ impl Machine {
     }
 
     /// How many cores it has.
-    pub fn cores(&mut self) -> u64 {
+    pub fn cores(&self) -> u64 {
         self.place.cores()
     }
 
@@ -118,7 +139,7 @@ impl Machine {
     /// assert_eq!(machine.entry(0, 0), Err(Error::Absent));
     /// # Ok::<(), radixvm::Error>(())
     /// ```
-    pub fn entry(&mut self, core: u32, page: u64) -> Result<u64, Error> {
+    pub fn entry(&self, core: u32, page: u64) -> Result<u64, Error> {
         self.place.entry(core, page)
     }
 
@@ -134,7 +155,7 @@ impl Machine {
     /// assert_eq!(machine.maps()?, [Line { pages: 16..17, prot, back: Back::Shared { file: 0, page: 1 } }]);
     /// # Ok::<(), radixvm::Error>(())
     /// ```
-    pub fn maps(&mut self) -> Result<Vec<Line>, Error> {
+    pub fn maps(&self) -> Result<Vec<Line>, Error> {
         self.place.maps()
     }
 
@@ -150,7 +171,7 @@ impl Machine {
     /// assert_eq!(Machine::new(&Setup::new(2, 4, 100))?.log(), Err(Error::NoLog));
     /// # Ok::<(), radixvm::Error>(())
     /// ```
-    pub fn log(&mut self) -> Result<Vec<Entry>, Error> {
+    pub fn log(&self) -> Result<Vec<Entry>, Error> {
         self.place.log()
     }
 }

@@ -50,6 +50,18 @@ pub struct Place {
     at: *mut u8,
 }
 
+// SAFETY: `crates/radixvm_c` proves that what lies behind it may go to another thread.
+unsafe impl Send for Place {}
+
+/// A seat, as C holds it: the library's pointer, null where there is none.
+#[repr(C)]
+pub struct SeatPlace {
+    at: *mut u8,
+}
+
+// SAFETY: as above; a call has it by `&mut`.
+unsafe impl Send for SeatPlace {}
+
 #[repr(C)]
 #[derive(Clone, Copy, Default)]
 struct RawLine {
@@ -99,10 +111,16 @@ extern "C" {
     fn radixvm_calls_held(
         machine: *mut Place, events: *const RawEvent, event_count: usize, outcomes: *mut RawOutcome, room: usize,
     ) -> RawDone;
-    fn radixvm_cores_held(machine: *mut Place) -> u64;
-    fn radixvm_entry_held(machine: *mut Place, core: u32, page: u64, word: *mut u64) -> u32;
-    fn radixvm_maps_held(machine: *mut Place, lines: *mut RawLine, room: usize) -> RawDone;
-    fn radixvm_log_held(machine: *mut Place, entries: *mut RawEntry, room: usize) -> RawDone;
+    fn radixvm_cores_held(machine: *const Place) -> u64;
+    fn radixvm_entry_held(machine: *const Place, core: u32, page: u64, word: *mut u64) -> u32;
+    fn radixvm_maps_held(machine: *const Place, lines: *mut RawLine, room: usize) -> RawDone;
+    fn radixvm_log_held(machine: *const Place, entries: *mut RawEntry, room: usize) -> RawDone;
+    fn radixvm_share_held(machine: *mut Place, seat: *mut SeatPlace) -> u32;
+    fn radixvm_split_seat(first: *mut SeatPlace, other: *mut SeatPlace) -> u32;
+    fn radixvm_try_seat(seat: *mut SeatPlace, event: *const RawEvent, outcome: *mut RawOutcome) -> u32;
+    fn radixvm_return_seat(first: *mut SeatPlace, other: *mut SeatPlace) -> u32;
+    fn radixvm_unshare_seat(seat: *mut SeatPlace, machine: *mut Place) -> u32;
+    fn radixvm_free_seat(seat: *mut SeatPlace);
 }
 
 /// What is added to a kind that is one step in a batch of calls.
@@ -237,6 +255,8 @@ fn error_of(status: u32, at: usize) -> Error {
         14 => Error::FileTooLong,
         15 => Error::BadCalls,
         16 => Error::NoMachine,
+        17 => Error::Busy,
+        18 => Error::InFlight,
         code => Error::UnknownCode(code),
     }
 }
@@ -324,12 +344,12 @@ impl Place {
         ended(&done, &told)
     }
 
-    pub fn cores(&mut self) -> u64 {
+    pub fn cores(&self) -> u64 {
         // SAFETY: the place is the library's own.
         unsafe { radixvm_cores_held(self) }
     }
 
-    pub fn entry(&mut self, core: u32, page: u64) -> Result<u64, Error> {
+    pub fn entry(&self, core: u32, page: u64) -> Result<u64, Error> {
         let mut word = 0;
         // SAFETY: as above.
         match unsafe { radixvm_entry_held(self, core, page, &mut word) } {
@@ -338,7 +358,7 @@ impl Place {
         }
     }
 
-    pub fn maps(&mut self) -> Result<Vec<Line>, Error> {
+    pub fn maps(&self) -> Result<Vec<Line>, Error> {
         let mut told = vec![RawLine::default(); 64];
         loop {
             // SAFETY: as above; the pointer is a slice's with its length.
@@ -354,7 +374,7 @@ impl Place {
 }
 
 impl Place {
-    pub fn log(&mut self) -> Result<Vec<Entry>, Error> {
+    pub fn log(&self) -> Result<Vec<Entry>, Error> {
         let mut told = Vec::new();
         loop {
             // SAFETY: as above; the pointer is a slice's with its length.
@@ -373,6 +393,64 @@ impl Drop for Place {
     fn drop(&mut self) {
         // SAFETY: as above; nothing has a copy of it.
         unsafe { radixvm_free_held(self) }
+    }
+}
+
+impl SeatPlace {
+    fn empty() -> SeatPlace {
+        SeatPlace { at: ptr::null_mut() }
+    }
+
+    /// The first seat of the machine, whose place is left empty; or the machine as it was.
+    pub fn share(mut machine: Place) -> Result<SeatPlace, (Place, Error)> {
+        let mut seat = SeatPlace::empty();
+        // SAFETY: both places are the library's own, and the seat's is empty.
+        match unsafe { radixvm_share_held(&mut machine, &mut seat) } {
+            0 => Ok(seat),
+            status => Err((machine, error_of(status, 0))),
+        }
+    }
+
+    /// One more seat, of the last core that has none.
+    pub fn split(&mut self) -> Result<SeatPlace, Error> {
+        let mut other = SeatPlace::empty();
+        // SAFETY: as above.
+        match unsafe { radixvm_split_seat(self, &mut other) } {
+            0 => Ok(other),
+            status => Err(error_of(status, 0)),
+        }
+    }
+
+    pub fn try_call(&mut self, request: &Request) -> Result<Outcome, Error> {
+        let mut told = RawOutcome::default();
+        // SAFETY: the place is the library's own, and all three are references.
+        match unsafe { radixvm_try_seat(self, &of_request(0, request), &mut told) } {
+            0 => outcome_of(&told).ok_or(Error::UnknownCode(told.kind)),
+            status => Err(error_of(status, 0)),
+        }
+    }
+
+    /// The other seat's core is done. Both are of one machine.
+    pub fn take_in(&mut self, mut other: SeatPlace) {
+        // SAFETY: as above; the caller has both of one machine.
+        unsafe { radixvm_return_seat(self, &mut other) };
+    }
+
+    /// The machine, if there is no other seat.
+    pub fn unshare(mut self) -> Result<Place, SeatPlace> {
+        let mut machine = Place { at: ptr::null_mut() };
+        // SAFETY: as above; the machine's place is empty.
+        match unsafe { radixvm_unshare_seat(&mut self, &mut machine) } {
+            0 => Ok(machine),
+            _ => Err(self),
+        }
+    }
+}
+
+impl Drop for SeatPlace {
+    fn drop(&mut self) {
+        // SAFETY: as above; nothing has a copy of it.
+        unsafe { radixvm_free_seat(self) }
     }
 }
 

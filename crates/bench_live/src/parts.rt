@@ -224,7 +224,7 @@ pub fn time_tree<R: Threads + Wait + Clock + Sync>(
 ) -> Option<u128>
     requires { (1 ≤ threads) × (threads ≤ 16) }
 {
-    let tree = SharedTree::new(alloc).ok()?;
+    let (tree, _first) = SharedTree::new(alloc).ok()?;
     // In cache lines of its own, since all threads read it.
     let tree = Box::new(alloc, CachePadded::new(tree)).ok()?;
     let (tickets, first) = Tickets::new(alloc).ok()?;

@@ -2,7 +2,7 @@
 use notes_text::collecting::collect;
 use notes_text::collector::Collector;
 use notes_text::{Script, read_script, write_notes};
-use seats::Noted;
+use seats::{Noted, Notes};
 use std::alloc::Global;
 use std::io::{BufWriter, Read, Write};
 use trace::declaration::Declaration;
@@ -37,6 +37,6 @@ pub fn rewrite<R: Read + Drop, W: Write + Drop>(alloc: Global, input: R, output:
         return false;
     };
     let mut writer = sink::Noted::new(buffer);
-    let notes = collected.items();
+    let notes = Notes::of(collected.items());
     write_notes(&script, &[notes], &mut writer).is_ok()
 }

@@ -7,7 +7,7 @@ use live_script::{Ran, begin, certify_ran, finish_in_turn, finish_side_by_side, 
 use machine_model::{Event, Outcome};
 use notes_text::{Script, Task};
 use radix_range::RadixMap;
-use seats::Noted;
+use seats::Notes;
 use std::alloc::Global;
 use std::rt::Clock;
 use std::sync::Wait;
@@ -27,8 +27,8 @@ fn is_served(outcome: Outcome) -> bool {
 fn if_served(alloc: Global, ran: &Ran<Global>, nanos: u128) -> Option<u128> {
     let seats = ran.notes(alloc).ok()?;
     for notes in seats.as_slice() {
-        for note in *notes {
-            if !is_served(note.outcome) {
+        for at in 0..notes.len() {
+            if !is_served(notes.get(at).outcome) {
                 return None;
             }
         }
@@ -118,14 +118,15 @@ pub fn time_machine(rt: &impl Clock, alloc: Global, script: &Script<Global>) -> 
 }
 
 /// The noted events in order of their tickets.
-fn events_of(alloc: Global, seats: &[&[Noted]]) -> Option<Vec<Event>> {
+fn events_of(alloc: Global, seats: &[Notes<'_>]) -> Option<Vec<Event>> {
     let mut count = 0usize;
     for notes in seats {
         count = count.saturating_add(notes.len());
     }
     let mut events = vec![in alloc; Event::Go(CoreId::new(0)); count].ok()?;
     for notes in seats {
-        for note in *notes {
+        for at in 0..notes.len() {
+            let note = notes.get(at);
             if let Some(event) = events.get_mut(note.ticket as usize) {
                 *event = note.event;
             }
@@ -154,7 +155,7 @@ fn time_certify(
     rt: &impl Clock,
     alloc: Global,
     script: &Script<Global>,
-    seats: &[&[Noted]],
+    seats: &[Notes<'_>],
 ) -> Option<u128> {
     let setup = setup_of(alloc, script)?;
     let start = Instant::now(rt).ok()?;
@@ -190,7 +191,7 @@ pub fn time_notes<R: Threads + Wait + Clock + Sync>(
     let ran = run_script(rt, alloc, script).ok()?;
     let (count, took, certified) = time_ran(rt, alloc, script, &ran)?;
     let start = Instant::now(rt).ok()?;
-    let ended = ran.end().ok()?;
+    let ended = ran.end(alloc).ok()?;
     let notes = ended.notes(alloc).ok()?;
     let told = certify_ran(alloc, script, notes.as_slice(), &ended.histories);
     if told.is_err() {

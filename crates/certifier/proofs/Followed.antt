@@ -11,6 +11,7 @@ use Rattle.core_steps.specs.Running.{RunsAsMap}
 use Rattle.core_steps.specs.Setups.{made_of}
 use Rattle.core_steps.proofs.Keeping.{keeps}
 use Rattle.core_steps.proofs.Reached.{few_cores}
+use Rattle.core_steps.proofs.Runs.{plainly}
 use Rattle.seats.specs.declared.noted.Noted.{Noted}
 use Rattle.certifier.specs.declared.looks.Look.{Look}
 use Rattle.certifier.specs.declared.result.CertifyFault.{CertifyFault}
@@ -166,17 +167,24 @@ module _ {A : Type 0} (P : PageRange → ℕ → ℕ → Bool) (C : Slots → �
       let es = events_of (in_order (length notes) notes) in
       let os = outcomes_of (in_order (length notes) notes) in
       record {
-        numbered = numbered;
+        plain = record {
+          numbered = numbered;
+          requests = w.calls.requests;
+          log = w.calls.log;
+          plain = plainly (made_of setup) o.slots es os w few o.new.new all.run;
+          brackets = bracketed (made_of setup) o.slots es os w few o.new.new all.run;
+          calls = all.calls;
+        };
         slots = o.slots;
         new = o.new;
         run = record {
           end = w;
           run = all.run;
           as_map = all.as_map;
-          brackets = bracketed (made_of setup) o.slots es os w few o.new.new all.run;
           sound = runs_sound (made_of setup) o.slots es os w few o.new.new all.run;
-          calls = all.calls;
         };
+        requests = refl;
+        log = refl;
         states = all.states;
         are_states = all.are_states;
         end = all.now;

@@ -5,3 +5,8 @@ pub mod Looked
 pub mod Walking
 pub mod Followed
 pub mod Chained
+pub mod OneSlots
+pub mod OneChoice
+pub mod OneCounts
+pub mod OneStep
+pub mod OneRun

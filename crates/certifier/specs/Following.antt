@@ -1,5 +1,9 @@
 -- Notes in order of their tickets as a run of the machine
 use Rattle.std.specs.Prelude.{◌≡◌, ◌≢◌, ℕ, ◌+◌, ◌<◌, Bool, true, false, List, [], ◌∷◌, map, length, count_by, Option, None, Some}
+use Rattle.vm_base.specs.declared.log.Entry.{Entry}
+use Rattle.vm_base.specs.declared.requests.Request.{Request}
+use Rattle.vm_base.specs.Plain.{File}
+use Rattle.backing.specs.Given.{given_files}
 use Rattle.slot_lock.specs.Slots.{Slots, IsNew}
 use Rattle.machine_model.specs.declared.event.Event.{Event}
 use Rattle.machine_model.specs.declared.event.Outcome.{Outcome}
@@ -12,7 +16,7 @@ use Rattle.core_steps.specs.declared.setup.Setup.{Setup}
 use Rattle.vm_base.specs.declared.page.PageRange.{PageRange}
 use Rattle.core_steps.specs.Dividing.{DividesAsMap}
 use Rattle.core_steps.specs.Moving.{JoinsAsMap}
-use Rattle.core_steps.specs.Running.{RunsAsMap}
+use Rattle.core_steps.specs.Running.{LogsPlainly, RunsAsMap}
 use Rattle.core_steps.specs.Setups.{fault_of, made_of}
 use Rattle.seats.specs.declared.noted.Noted.{Noted}
 use Rattle.certifier.specs.declared.result.CertifyFault.{CertifyFault}
@@ -50,17 +54,32 @@ abbrev pub one_if : Bool → ℕ
 one_if true = 1
 one_if false = 0
 
+-- the events of all notes in order of tickets, and what was noted of them
+abbrev pub events_in_order : List Noted → List Event
+events_in_order notes = events_of (in_order (length notes) notes)
+
+abbrev pub outcomes_in_order : List Noted → List Outcome
+outcomes_in_order notes = outcomes_of (in_order (length notes) notes)
+
+-- What a user reads of notes that are certified: they have the tickets below their number, each once. In order of
+-- tickets their log leads from no mappings and these files to a plain page map (POSIX.1-2017, mmap, munmap and
+-- mprotect), and each reply stands in it once, between its call and its answer. So many calls were answered.
+pub record ReadPlainly (file : ℕ → Option File) (notes : List Noted) (answered : ℕ) : Type 0 where
+  pub numbered : AreNumbered notes
+  pub requests : List Request
+  pub log : List Entry
+  pub plain : LogsPlainly file (events_in_order notes) (outcomes_in_order notes) log
+  pub brackets : IsBracketed (events_in_order notes) (outcomes_in_order notes) requests log
+  pub calls : answered ≡ count_by answers_call (in_order (length notes) notes)
+
 -- The notes, which stand in order, are a run of the machine with just the noted outcomes. Its folds
--- and divisions are the map's, each of its states is sound, and in its log each reply stands once, between its call
--- and its answer.
+-- and divisions are the map's, and each of its states is sound.
 pub record IsRunOfNotes (parts : PageRange → ℕ → ℕ → Bool) (CanFold : Slots → ℕ → Type 0) (Folds : Slots → Slots → ℕ → Type 0)
-    (new : World) (notes : List Noted) (answered : ℕ) : Type 0 where
+    (new : World) (notes : List Noted) : Type 0 where
   pub end : World
   pub run : Run new (events_of notes) (outcomes_of notes) end
   pub as_map : RunsAsMap parts CanFold Folds new (events_of notes) (outcomes_of notes) end
-  pub brackets : IsBracketed (events_of notes) (outcomes_of notes) end.calls.requests end.calls.log
   pub sound : SoundRun new (events_of notes) (outcomes_of notes) end
-  pub calls : answered ≡ count_by answers_call notes
 
 -- the event may lead from one state to the other with this outcome, as the map joins and divides slots
 pub record Leads (parts : PageRange → ℕ → ℕ → Bool) (CanFold : Slots → ℕ → Type 0)
@@ -109,16 +128,17 @@ pub record IsOpening {A : Type 0} (setup : Setup A) (w : World) : Type 0 where
   pub new : IsNewTree slots
   pub is : w ≡ new_world (made_of setup) slots
 
--- All these notes have the tickets below their number, each once, and in order of tickets they are a
--- run of a new machine, along which each of the slots went that has valid pages.
+-- A user reads the notes plainly, and in order of tickets they are a run of a new machine with that log, along which
+-- each of the slots went that has valid pages.
 pub record IsCertified {A : Type 0} (parts : PageRange → ℕ → ℕ → Bool) (CanFold : Slots → ℕ → Type 0)
     (Folds : Slots → Slots → ℕ → Type 0) (setup : Setup A) (notes : List Noted)
     (histories : List (SlotHistory A)) (answered : ℕ) : Type 0 where
-  pub numbered : AreNumbered notes
+  pub plain : ReadPlainly (given_files setup.files.items) notes answered
   pub slots : Slots
   pub new : IsNewTree slots
-  pub run : IsRunOfNotes parts CanFold Folds (new_world (made_of setup) slots)
-      (in_order (length notes) notes) answered
+  pub run : IsRunOfNotes parts CanFold Folds (new_world (made_of setup) slots) (in_order (length notes) notes)
+  pub requests : run.end.calls.requests ≡ plain.requests
+  pub log : run.end.calls.log ≡ plain.log
   pub states : ℕ → World
   pub are_states : AreStates parts CanFold Folds (new_world (made_of setup) slots) notes (length notes) states
   pub end : states (length notes) ≡ run.end

@@ -3,3 +3,4 @@ pub mod Standings
 pub mod Histories
 pub mod Looks
 pub mod Following
+pub mod Laws

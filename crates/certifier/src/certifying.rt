@@ -1,8 +1,11 @@
 //! The face of the crate: whether the notes of all seats are a run of the machine.
 ghost use Rattle.std.specs.Prelude.{◌≡◌, IfOk, IfErr, None, map, option_copied};
+ghost use Rattle.backing.specs.Given.{given_files};
 ghost use Rattle.core_steps.specs.Setups.{fault_of};
-ghost use Rattle.certifier.specs.Following.{ComesNumbered, IsCertified, Fails, slots_in};
+ghost use Rattle.seats.specs.Packing.{shown};
+ghost use Rattle.certifier.specs.Following.{ComesNumbered, IsCertified, Fails, ReadPlainly, slots_in};
 ghost use Rattle.certifier.specs.Histories.{AreInOrder};
+ghost use Rattle.certifier.specs.Laws.{RulesOut};
 ghost use Rattle.certifier.specs.Order.{all_notes};
 ghost use Rattle.certifier.specs.Standings.{AreStandings};
 
@@ -13,7 +16,7 @@ use core_steps::{Forgotten, Setup};
 use live_levels::close::SlotHistory;
 use live_tree::histories::Histories;
 use radix_range::RadixMap;
-use seats::Noted;
+use seats::Notes;
 use slot_lock::SlotMap;
 use std::alloc::Allocator;
 
@@ -34,21 +37,21 @@ fn slots_of<A: Allocator>(histories: Option<&Histories<A>>) -> &[SlotHistory<A>]
 pub fn certify_standing<A: Allocator + Clone + Drop>(
     alloc: A,
     setup: Setup<A>,
-    seats: &[&[Noted]],
+    seats: &[Notes<'_>],
     standings: &[Standing],
     slots: Option<&Histories<A>>,
 ) -> Result<Certified, CertifyFault>
     requires sound { fault_of setup ≡ None }
-    requires standings { AreStandings (map (λ s. s.now) seats.now) standings.now }
+    requires standings { AreStandings (map shown seats.now) standings.now }
     ensures ok { IfOk result (λ done. IsCertified ⟦<RadixMap<A> as SlotMap>⟧.parts
         ⟦<RadixMap<A> as SlotMap>⟧.can_fold
-        ⟦<RadixMap<A> as SlotMap>⟧.folds setup (all_notes (map (λ s. s.now) seats.now))
+        ⟦<RadixMap<A> as SlotMap>⟧.folds setup (all_notes (map shown seats.now))
         (slots_in (option_copied slots.entry)) done.calls) }
     ensures err { IfErr result (λ fault. Fails ⟦<RadixMap<A> as SlotMap>⟧.parts
         ⟦<RadixMap<A> as SlotMap>⟧.can_fold
-        ⟦<RadixMap<A> as SlotMap>⟧.folds setup (all_notes (map (λ s. s.now) seats.now))
+        ⟦<RadixMap<A> as SlotMap>⟧.folds setup (all_notes (map shown seats.now))
         (slots_in (option_copied slots.entry)) fault) }
-    ensures numbered { IfErr result (ComesNumbered (all_notes (map (λ s. s.now) seats.now))) }
+    ensures numbered { IfErr result (ComesNumbered (all_notes (map shown seats.now))) }
 {
     if let Some(ticket) = first_amiss(standings) {
         return Err(CertifyFault::Ticket(ticket));
@@ -74,22 +77,28 @@ pub fn certify_standing<A: Allocator + Clone + Drop>(
 /// its changes up to then come to. Page 0 and pages from 2^35 on aren't looked at.
 ///
 /// A setup that makes no machine is told first, then a ticket that doesn't stand once, then an
-/// outcome that differs, and then a slot. Besides the notes it takes 12 bytes a note, a look of some
-/// 80 bytes for each slot that has a history, and the machine.
+/// outcome that differs, and then a slot. What is told rules out what it says: notes of which an outcome
+/// differs are, in order of tickets, no run of such a machine, and histories of which a slot is told are
+/// those of none that they are. Besides the notes it takes 12 bytes a note, a look of some 80 bytes for
+/// each slot that has a history, and the machine.
 pub fn certify<A: Allocator + Clone + Drop>(
     alloc: A,
     setup: Setup<A>,
-    seats: &[&[Noted]],
+    seats: &[Notes<'_>],
     slots: Option<&Histories<A>>,
 ) -> Result<Certified, CertifyFault>
     ensures ok { IfOk result (λ done. IsCertified ⟦<RadixMap<A> as SlotMap>⟧.parts
         ⟦<RadixMap<A> as SlotMap>⟧.can_fold
-        ⟦<RadixMap<A> as SlotMap>⟧.folds setup (all_notes (map (λ s. s.now) seats.now))
+        ⟦<RadixMap<A> as SlotMap>⟧.folds setup (all_notes (map shown seats.now))
         (slots_in (option_copied slots.entry)) done.calls) }
     ensures err { IfErr result (λ fault. Fails ⟦<RadixMap<A> as SlotMap>⟧.parts
         ⟦<RadixMap<A> as SlotMap>⟧.can_fold
-        ⟦<RadixMap<A> as SlotMap>⟧.folds setup (all_notes (map (λ s. s.now) seats.now))
+        ⟦<RadixMap<A> as SlotMap>⟧.folds setup (all_notes (map shown seats.now))
         (slots_in (option_copied slots.entry)) fault) }
+    ensures plain { IfOk result (λ done. ReadPlainly (given_files setup.files.items)
+        (all_notes (map shown seats.now)) done.calls) }
+    ensures exact { IfErr result (RulesOut setup (all_notes (map shown seats.now))
+        (slots_in (option_copied slots.entry))) }
 {
     if let Some(fault) = setup.fault() {
         return Err(CertifyFault::Setup(fault));

@@ -5,6 +5,7 @@ ghost use Rattle.vm_base.specs.declared.info.PageInfo.{PageInfo};
 ghost use Rattle.core_steps.specs.Machine.{state};
 ghost use Rattle.core_steps.specs.declared.setup.Setup.{Setup};
 ghost use Rattle.core_steps.specs.Setups.{fault_of};
+ghost use Rattle.seats.specs.Packing.{shown};
 ghost use Rattle.certifier.specs.declared.order.Standing.TheVariants as StandingOf;
 ghost use Rattle.certifier.specs.Following.{IsCertified, IsNewTree, IsOpening, Fails, Leads, Refuses, answers_call, one_if};
 ghost use Rattle.certifier.specs.Histories.{AreInOrder};
@@ -19,7 +20,7 @@ use crate::visits::{first_astray, first_looks, look_before};
 use core_steps::{Ledger, Machine, Opening, Setup};
 use live_levels::close::SlotHistory;
 use machine_model::Outcome;
-use seats::Noted;
+use seats::{Noted, Notes};
 use slot_lock::SlotMap;
 use std::alloc::Allocator;
 
@@ -73,11 +74,11 @@ fn take_note<M: SlotMap, A: Allocator + Clone, L: Ledger>(
 fn follow_notes<M: SlotMap, A: Allocator + Clone, L: Ledger>(
     machine: &mut Machine<M, A, L>,
     looks: &mut Vec<Look, A>,
-    seats: &[&[Noted]],
+    seats: &[Notes<'_>],
     standings: &[Standing],
     histories: &[SlotHistory<A>],
 ) -> Result<Certified, CertifyFault>
-    requires standings { AreStandings (map (λ s. s.now) seats.now) standings.now }
+    requires standings { AreStandings (map shown seats.now) standings.now }
     requires once { (t : ℕ) → t < length standings.now
         → is_once (get_or standings.now t StandingOf.No) ≡ true }
     requires order { AreInOrder histories.now }
@@ -85,10 +86,10 @@ fn follow_notes<M: SlotMap, A: Allocator + Clone, L: Ledger>(
         → AreLooked (length standings.now) maps now 0 histories.now looks.old.items }
     ensures ok { IfOk result (λ done. (setup : Setup A) → IsOpening setup (state machine.old)
         → IsCertified M.parts M.can_fold M.folds setup
-        (all_notes (map (λ s. s.now) seats.now)) histories.now done.calls) }
+        (all_notes (map shown seats.now)) histories.now done.calls) }
     ensures err { IfErr result (λ fault. (setup : Setup A) → IsOpening setup (state machine.old)
         → Fails M.parts M.can_fold M.folds setup
-        (all_notes (map (λ s. s.now) seats.now)) histories.now fault) }
+        (all_notes (map shown seats.now)) histories.now fault) }
 {
     let mut calls = 0u64;
     'tickets: for at in 0..standings.len() {
@@ -116,20 +117,20 @@ pub fn follow<M: SlotMap + Drop, A: Allocator + Clone + Drop, L: Opening<A> + Dr
     alloc: A,
     slots: M,
     setup: Setup<A>,
-    seats: &[&[Noted]],
+    seats: &[Notes<'_>],
     standings: &[Standing],
     histories: &[SlotHistory<A>],
 ) -> Result<Certified, CertifyFault>
     requires new { IsNewTree (M.slots slots) }
     requires sound { fault_of setup ≡ None }
-    requires standings { AreStandings (map (λ s. s.now) seats.now) standings.now }
+    requires standings { AreStandings (map shown seats.now) standings.now }
     requires once { (t : ℕ) → t < length standings.now
         → is_once (get_or standings.now t StandingOf.No) ≡ true }
     requires order { AreInOrder histories.now }
     ensures ok { IfOk result (λ done. IsCertified M.parts M.can_fold M.folds setup
-        (all_notes (map (λ s. s.now) seats.now)) histories.now done.calls) }
+        (all_notes (map shown seats.now)) histories.now done.calls) }
     ensures err { IfErr result (λ fault. Fails M.parts M.can_fold M.folds setup
-        (all_notes (map (λ s. s.now) seats.now)) histories.now fault) }
+        (all_notes (map shown seats.now)) histories.now fault) }
 {
     let Ok(own) = alloc.clone() else {
         return Err(CertifyFault::NoMemory);

@@ -3,6 +3,7 @@
 
 pub mod certifying;
 pub mod following;
+pub mod laws;
 pub mod looks;
 pub mod order;
 pub mod result;

@@ -6,6 +6,8 @@ use Rattle.audit_text.specs.declared.judging.Verdict.{Verdict}
 use Rattle.audit_text.specs.declared.judging.Verdict.TheVariants.{Legal, Illegal}
 use Rattle.live_script.specs.declared.texts.TextFault.{TextFault}
 use Rattle.live_script.specs.declared.texts.TextFault.TheVariants.{Text, Live}
+use Rattle.shared_script.specs.declared.fault.SharedFault.{SharedFault}
+use Rattle.shared_script.specs.declared.fault.SharedFault.TheVariants as Of
 use Rattle.command_line.specs.declared.telling.WordsFault.{WordsFault}
 use Rattle.command_line.specs.declared.telling.WordsFault.TheVariants as OutOf
 use Rattle.command_line.specs.declared.telling.WordsFault.TheVariants.{NotUtf8}
@@ -40,6 +42,16 @@ abbrev pub certified_live_status : Result Bool TextFault → ℕ
 certified_live_status (Ok true) = 0
 certified_live_status (Ok false) = 1
 certified_live_status (Err f) = script_status f
+
+-- of a script on a machine that threads share: 3 where that is at a limit
+abbrev pub shared_status : SharedFault → ℕ
+shared_status (Of.Text f) = fault_status f
+shared_status Of.Full = 3
+
+-- of what was told on such a machine
+abbrev pub told_status : {T : Type 0} → Result T SharedFault → ℕ
+told_status (Ok x) = 0
+told_status (Err f) = shared_status f
 
 -- of words that can't be read
 abbrev pub words_status : WordsFault → ℕ

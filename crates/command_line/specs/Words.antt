@@ -3,7 +3,7 @@ use Rattle.std.specs.Prelude.{◌≡◌, ℕ, Bool, List, Option, Result}
 use Rattle.audit_text.specs.Ends.{AuditEnds, TellsAudit}
 use Rattle.command_line.specs.Echo.{EchoEnds}
 use Rattle.command_line.specs.Picture.{PictureEnds}
-use Rattle.command_line.specs.Status.{audit_status, certified_live_status, certified_status, import_status, live_status, picture_status}
+use Rattle.command_line.specs.Status.{audit_status, certified_live_status, certified_status, import_status, live_status, picture_status, told_status}
 use Rattle.command_line.specs.declared.words.Work.{Work}
 use Rattle.command_line.specs.declared.words.Work.TheVariants as For
 use Rattle.command_line.specs.declared.job.Shows.{Shows}
@@ -14,6 +14,7 @@ use Rattle.import_maps.specs.Mapped.{MapsEnds, TellsMaps}
 use Rattle.import_maps.specs.declared.mapped.Told.{Told}
 use Rattle.live_script.specs.Texts.{EndsText, IsNotesText, IsVerdictText, TellsText}
 use Rattle.notes_text.specs.CertifyEnds.{Certifies}
+use Rattle.shared_script.specs.Texts.{EndsShared, TellsShared}
 use Rattle.slot_lock.specs.Slots.{Slots}
 use Rattle.trace.specs.Ends.{Ends, TellsFaults}
 use Rattle.trace.specs.Shown.{limit_for}
@@ -56,6 +57,10 @@ abbrev pub CertifiesRun : Type 0 → (PageRange → ℕ → ℕ → Bool) → (S
 CertifiesRun A parts CanFold Folds text out n =
     EndsInOneWay certified_live_status (EndsText (IsVerdictText A parts CanFold Folds)) TellsText text out n
 
+-- a run of a script on threads over one machine, whose replies and log are written
+abbrev pub SharesScript : ReadFrom → WrittenTo → ℕ → Type 0
+SharesScript text out n = EndsInOneWay told_status (EndsShared {T = Unit}) TellsShared text out n
+
 -- the trace of a log of strace, of the process of this thread or of the first line's, behind that of a list of mappings
 abbrev pub ImportsLog : Option ℕ → ReadFrom → ReadFrom → WrittenTo → ℕ → Type 0
 ImportsLog thread list text out n = (r : Result Told IoFault) × (n ≡ import_status r)
@@ -83,6 +88,7 @@ DoesWork A parts CanFold Folds (For.Echo limit coloured) list text out n = Echoe
 DoesWork A parts CanFold Folds For.Certify list text out n = CertifiesNotes A parts CanFold Folds text out n
 DoesWork A parts CanFold Folds For.Live list text out n = RunsScript text out n
 DoesWork A parts CanFold Folds For.CertifyLive list text out n = CertifiesRun A parts CanFold Folds text out n
+DoesWork A parts CanFold Folds For.ShareLive list text out n = SharesScript text out n
 DoesWork A parts CanFold Folds (For.Import thread) list text out n = ImportsLog thread list text out n
 DoesWork A parts CanFold Folds For.ImportAccesses list text out n = ImportsAccesses text out n
 DoesWork A parts CanFold Folds (For.Audit any) list text out n = AuditsReplies any text out n

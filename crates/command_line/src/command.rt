@@ -12,7 +12,7 @@ use crate::importing::{import, import_accesses};
 use crate::input::{Files, input, list};
 use crate::job::{run, run_echoing};
 use crate::keeping::{Keeping, Keeps};
-use crate::live::{certify_live, live};
+use crate::live::{certify_live, live, share_live};
 use crate::noting::{show_request, tell_notes};
 use crate::picturing::picture;
 pub use crate::telling::{WordsFault, refuse_words};
@@ -73,6 +73,7 @@ fn act<T: Threads + Wait + Sync, R: Runner<Global>, L: Source, S: Source, W: Sin
             Work::Certify => certify(alloc, reader, out, errors),
             Work::Live => live(rt, runner, alloc, reader, out, errors),
             Work::CertifyLive => certify_live(rt, runner, alloc, reader, out, errors),
+            Work::ShareLive => share_live(rt, alloc, reader, out, errors),
             Work::Import(thread) => import(alloc, list, reader, out, errors, thread),
             Work::ImportAccesses => import_accesses(alloc, reader, out, errors),
             Work::Audit(any_place) => audit(alloc, reader, out, errors, any_place),
@@ -111,7 +112,9 @@ fn manner_of(work: Work, coloured: bool) -> Manner {
         Work::Replay(shows) => (Kind::Trace, shows.limit, shows.limit == CallLimit::Usual),
         Work::Echo { limit, .. } => (Kind::Trace, limit, limit == CallLimit::Usual),
         Work::Certify => (Kind::Notes, CallLimit::Usual, false),
-        Work::Live | Work::CertifyLive => (Kind::Script, CallLimit::Usual, false),
+        Work::Live | Work::CertifyLive | Work::ShareLive => {
+            (Kind::Script, CallLimit::Usual, false)
+        }
         Work::Audit(_) => (Kind::Replies, CallLimit::Usual, false),
         Work::Picture(_) | Work::Import(_) | Work::ImportAccesses => {
             (Kind::Trace, CallLimit::Usual, false)
@@ -133,6 +136,7 @@ fn example_of(work: Work) -> &'static str {
         Work::ImportAccesses => " L 04001000,8",
         Work::Live
         | Work::CertifyLive
+        | Work::ShareLive
         | Work::Replay(_)
         | Work::Echo { .. }
         | Work::Picture(_)

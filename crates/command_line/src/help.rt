@@ -17,7 +17,7 @@ pub const USAGE: &str = "\
 radixvm run [--log | [--echo | --summary] [--long]] [--explain] [FILE]
        radixvm maps [--long] [--explain] [FILE]
        radixvm certify [--explain] [FILE]
-       radixvm live [--certify] [--explain] [FILE]
+       radixvm live [--certify | --shared] [--explain] [FILE]
        radixvm import [--lackey | [--pid N] [--maps FILE]] [--explain] [FILE]
        radixvm audit [--any-place] [--explain] [FILE]
        radixvm picture [--lives | [--from N] [--to N]] [--explain] [FILE]
@@ -31,7 +31,7 @@ modelled cores, and replayed from a text, a trace, step by step.
 Usage: radixvm run [--log | [--echo | --summary] [--long]] [--explain] [FILE]
        radixvm maps [--long] [--explain] [FILE]
        radixvm certify [--explain] [FILE]
-       radixvm live [--certify] [--explain] [FILE]
+       radixvm live [--certify | --shared] [--explain] [FILE]
        radixvm import [--lackey | [--pid N] [--maps FILE]] [--explain] [FILE]
        radixvm audit [--any-place] [--explain] [FILE]
        radixvm picture [--lives | [--from N] [--to N]] [--explain] [FILE]
@@ -51,6 +51,8 @@ Words:
                  they are a run of the machine, or refuses them
   live           runs a script, each core on a thread, and writes their notes
   live --certify certifies these notes, or refuses them, in their place
+  live --shared  runs it on one machine for all threads, whose replies are
+                 proved, and writes each core's calls, and all in their order
   import         reads a log of strace, or with --lackey one of valgrind's, and
                  writes a trace of what a program did
   audit          reads calls with the replies that another address space gave,

@@ -1,15 +1,16 @@
 //! What the word `live` does: a script is run on threads.
 ghost use Rattle.std.specs.Prelude.{◌≡◌, ◌≤◌};
-ghost use Rattle.command_line.specs.Status.{script_status};
-ghost use Rattle.command_line.specs.Words.{CertifiesRun, RunsScript};
+ghost use Rattle.command_line.specs.Status.{script_status, shared_status};
+ghost use Rattle.command_line.specs.Words.{CertifiesRun, RunsScript, SharesScript};
 ghost use Rattle.trace_io.specs.Io.{read_from, written_to};
 
 use crate::ended::{Ended, Trouble};
 use live_script::Runner;
 use live_script::texts::{TextFault, certify_run, run_text};
 use radix_range::RadixMap;
+use shared_script::{SharedFault, share_text};
 use slot_lock::SlotMap;
-use std::alloc::Allocator;
+use std::alloc::{Allocator, Global};
 use std::io::Write;
 use std::sync::Wait;
 use std::thread::Threads;
@@ -83,5 +84,45 @@ pub fn certify_live<
             trouble: Trouble::Nothing,
         },
         Err(fault) => tell_fault(fault, errors),
+    }
+}
+
+// Prints the fault as `radixvm: ` and its text, and answers the status that it ends the program with: 3 where the machine is at a
+// limit, else that of its text's fault.
+fn tell_shared<E: Write>(fault: SharedFault, errors: &mut E) -> Ended
+    ensures value { result.status ≡ shared_status fault }
+    ensures within { result.status ≤ 3 }
+{
+    let _ = writeln!(errors, "radixvm: {fault}");
+    match fault {
+        SharedFault::Text(fault) => Ended {
+            status: status_of_fault(fault),
+            trouble: Trouble::Fault(fault),
+        },
+        SharedFault::Full => Ended {
+            status: 3,
+            trouble: Trouble::Nothing,
+        },
+    }
+}
+
+/// Runs the script on threads over one machine that all of them share, and writes what each core was told, and the log. Prints a
+/// fault as `radixvm: ` and its text, and answers the status: 0, or that of the fault.
+pub fn share_live<T: Threads + Wait + Sync, S: Source, W: Sink, E: Write>(
+    rt: &T,
+    alloc: Global,
+    reader: &mut S,
+    out: &mut W,
+    errors: &mut E,
+) -> Ended
+    ensures ends { SharesScript (read_from S.Source reader.old reader.new) (written_to W.Sink out.old out.new) result.status }
+    ensures within { result.status ≤ 3 }
+{
+    match share_text(rt, alloc, reader, out) {
+        Ok(()) => Ended {
+            status: 0,
+            trouble: Trouble::Nothing,
+        },
+        Err(fault) => tell_shared(fault, errors),
     }
 }

@@ -25,6 +25,8 @@ pub(crate) enum Work {
     Live,
     /// The certificate of such a run.
     CertifyLive,
+    /// A run of a script on threads over one machine, whose replies and log are written.
+    ShareLive,
     /// The trace of a log of strace, of the process of this thread or of the first line's.
     Import(Option<u64>),
     /// The trace of a log of lackey.
@@ -91,7 +93,7 @@ const MAPS_USAGE: &str = "radixvm maps [--long] [--explain] [FILE]";
 
 const CERTIFY_USAGE: &str = "radixvm certify [--explain] [FILE]";
 
-const LIVE_USAGE: &str = "radixvm live [--certify] [--explain] [FILE]";
+const LIVE_USAGE: &str = "radixvm live [--certify | --shared] [--explain] [FILE]";
 
 const IMPORT_USAGE: &str = "radixvm import [--lackey | [--pid N] [--maps FILE]] [--explain] [FILE]";
 
@@ -149,11 +151,20 @@ fn help_word<'a>(alloc: Global) -> Result<Command<'a>, AllocError> {
     Ok(command)
 }
 
+// The word `live` with what may stand behind it.
+fn living<'a>(alloc: Global) -> Result<Command<'a>, AllocError> {
+    let shared = flag(alloc, "shared").conflicts_with("certify")?;
+    let command = reading(alloc, "live", LIVE_USAGE)?
+        .arg(flag(alloc, "certify"))?
+        .arg(shared)?;
+    Ok(command)
+}
+
 // The program with its words that make a machine.
 fn machine_words<'a>(alloc: Global) -> Result<Command<'a>, AllocError> {
     let maps = reading(alloc, "maps", MAPS_USAGE)?.arg(flag(alloc, "long"))?;
     let certify = reading(alloc, "certify", CERTIFY_USAGE)?;
-    let live = reading(alloc, "live", LIVE_USAGE)?.arg(flag(alloc, "certify"))?;
+    let live = living(alloc)?;
     let program = Command::new(alloc, "radixvm")
         .override_help(help::OVERVIEW)
         .override_usage(help::USAGE)
@@ -270,6 +281,7 @@ fn asked<'a>(name: &str, words: &ArgMatches<'a>, coloured: bool) -> Result<Task<
         "maps" => Ok(replaying(Show::Maps, false, words)),
         "certify" => Ok(working(Work::Certify, words)),
         "live" if words.get_flag("certify") => Ok(working(Work::CertifyLive, words)),
+        "live" if words.get_flag("shared") => Ok(working(Work::ShareLive, words)),
         "live" => Ok(working(Work::Live, words)),
         "import" if words.get_flag("lackey") => Ok(working(Work::ImportAccesses, words)),
         "import" => Ok(importing(words)),

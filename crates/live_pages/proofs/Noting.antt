@@ -15,6 +15,7 @@ pub grew_takes : (s t : SeatView) (frame : ℕ) → Takes s frame t → Grew s t
 grew_takes s t frame h = record {
   same = record {
     word = ap (λ (v : SeatView). v.word) h.1;
+    spare = ap (λ (v : SeatView). v.spare) h.1;
     core = ap (λ (v : SeatView). v.core) h.1;
     plain = ap (λ (v : SeatView). v.plain) h.1;
   };

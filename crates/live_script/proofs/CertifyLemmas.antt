@@ -1,6 +1,6 @@
 -- What certifying a script's notes comes to
-use Rattle.std.proofs.Common.{◌≡◌, ℕ, ◌^◌, Bool, List, map, ap, ◌∙◌, subst}
-use Rattle.std.specs.Prelude.{All, None}
+use Rattle.std.proofs.Common.{◌≡◌, ℕ, Bool, List, map, ap, ◌∙◌, subst}
+use Rattle.std.specs.Prelude.{None}
 use Rattle.vm_base.specs.declared.page.PageRange.{PageRange}
 use Rattle.slot_lock.specs.Slots.{Slots}
 use Rattle.live_levels.specs.declared.close.SlotHistory.{SlotHistory}
@@ -14,11 +14,13 @@ use Rattle.trace.specs.Declarations.{Asked, asked_fault, made_by}
 use Rattle.notes_text.specs.Verdicts.{Made}
 use Rattle.notes_text.specs.Scripts.{Scripted}
 use Rattle.notes_text.specs.declared.verdict.Verdict.{Verdict}
-use Rattle.live_levels.specs.Histories.{Chain}
+use Rattle.live_tree.specs.Named.{AreOf}
+use Rattle.live_tree.specs.declared.histories.Histories.{Histories}
 use Rattle.live_space.specs.Space.{LiveView}
+use Rattle.seats.specs.Gathered.{AreWhole}
 use Rattle.seats.specs.Notes.{SeatView}
 use Rattle.certifier.specs.Order.{all_notes}
-use Rattle.live_script.specs.Certified.{AreRising, IsCertifiedRun, FailsRun}
+use Rattle.live_script.specs.Certified.{IsCertifiedRun, FailsRun}
 use Rattle.live_script.specs.Runs.{RunsAll}
 use Rattle.live_script.specs.Texts.{JudgedRun, JudgesRun}
 
@@ -43,17 +45,17 @@ module _ {A : Type 0} (parts : PageRange → ℕ → ℕ → Bool) (CanFold : Sl
   failed_run sound none (Slot page) h = (is_made, h)
   failed_run sound none NoMemory h = subst (λ a. asked_fault a ≡ None) read sound
 
--- what certifying what a script's seats noted beside histories of all pages comes to
+-- what certifying what a script's seats noted beside the histories of its space comes to
 pub judged_run : {A : Type 0} (parts : PageRange → ℕ → ℕ → Bool) (CanFold : Slots → ℕ → Type 0) (Folds : Slots → Slots → ℕ → Type 0) (script : Scripted)
-    (live : LiveView) (seats : List SeatView) (slots : List (SlotHistory A)) (all : List (List Noted)) (verdict : Verdict) → RunsAll script live seats
-    → ∥ Chain 0 (2 ^ 36) slots ∥₁ → all ≡ map (λ s. s.notes) seats → All AreRising all → JudgesRun A parts CanFold Folds script.asked (all_notes all) slots verdict
-    → JudgedRun A parts CanFold Folds script verdict
-judged_run {A} parts CanFold Folds script live seats slots all verdict runs chain same rising h = record {
+    (live : LiveView) (seats : List SeatView) (histories : Histories A) (left all : List (List Noted)) (verdict : Verdict) → RunsAll script live seats
+    → AreOf live.word histories → left ≡ map (λ s. s.notes) seats → AreWhole left → all ≡ left
+    → JudgesRun A parts CanFold Folds script.asked (all_notes all) histories.slots.items verdict → JudgedRun A parts CanFold Folds script verdict
+judged_run {A} parts CanFold Folds script live seats histories left all verdict runs own are whole same h = record {
   live = live;
   seats = seats;
   runs = runs;
-  rising = subst (λ l. All AreRising l) same rising;
-  slots = slots;
-  all_pages = chain;
-  judges = subst (λ ls. JudgesRun A parts CanFold Folds script.asked (all_notes ls) slots verdict) same h;
+  whole = subst AreWhole are whole;
+  histories = histories;
+  own = own;
+  judges = subst (λ ls. JudgesRun A parts CanFold Folds script.asked (all_notes ls) histories.slots.items verdict) (same ∙ are) h;
 }

@@ -51,13 +51,13 @@ some_first (Some f ∷ fs) fault e = record { at = zero; within = omega arith; i
 
 -- ---- lanes
 
-abbrev seat_of : {A : Type 0} → Lane A → SeatView
+abbrev pub seat_of : {A : Type 0} → Lane A → SeatView
 seat_of lane = lane.seat
 
 abbrev fault_of : {A : Type 0} → Lane A → Option LiveFault
 fault_of lane = lane.fault
 
-some_lane : {A : Type 0} (lanes : List (Lane A)) (k : ℕ) → k < length lanes → Lane A
+pub some_lane : {A : Type 0} (lanes : List (Lane A)) (k : ℕ) → k < length lanes → Lane A
 some_lane [] k lt = absurd (omega arith)
 some_lane (lane ∷ lanes) k lt = lane
 
@@ -164,7 +164,7 @@ begun_lanes asked declared setup l seats lanes read sound made h same =
 -- ---- a space with its seats
 
 -- as it is seen with these lanes
-abbrev ran_of : {A : Type 0} → LiveView → List (Lane A) → RanView
+abbrev pub ran_of : {A : Type 0} → LiveView → List (Lane A) → RanView
 ran_of live lanes = record { live = live; seats = map (λ lane. lane.seat) lanes }
 
 pub own_in : {A : Type 0} (asked : Asked) (ran : RanView) (l : LiveView) (items first : List (Lane A)) → ran_of l items ≡ ran
@@ -186,7 +186,7 @@ module _ {A : Type 0} (script : Scripted) (ran : RanView) (l : LiveView) (items 
   none_left : drop (length last) items ≡ []
   none_left = drop_all (length last) items (let e = ap length same in omega (arith, ends.count, e))
 
-  are_last : take n (last ++ drop (length last) items) ≡ last
+  pub are_last : take n (last ++ drop (length last) items) ≡ last
   are_last = ap (λ l. take n (last ++ l)) none_left ∙ ap (take n) (append-nil last) ∙ take_all n last (omega (arith, ends.count, len))
 
   module _ (seen : List (Lane A)) (fault : Option LiveFault) (are : seen ≡ take n (last ++ drop (length last) items))
@@ -212,11 +212,6 @@ pub notes_in_ran : {A X : Type 0} (f : X → List Noted) (ran : RanView) (l : Li
     → ran_of l items ≡ ran → lanes ≡ items → given ≡ all → map f all ≡ map (λ lane. lane.seat.notes) lanes → map f given ≡ map (λ s. s.notes) ran.seats
 notes_in_ran f ran l items lanes given all view same are e =
     ap (map f) are ∙ e ∙ ap (λ ls. map (λ lane. lane.seat.notes) ls) same ∙ notes_of_seats items ∙ ap (λ (r : RanView). map (λ s. s.notes) r.seats) view
-
--- of a space that ended
-pub notes_in_ended : {A X : Type 0} (f : X → List Noted) (seats : List SeatView) (lanes : List (Lane A)) (given all : List X)
-    → map (λ lane. lane.seat) lanes ≡ seats → given ≡ all → map f all ≡ map (λ lane. lane.seat.notes) lanes → map f given ≡ map (λ s. s.notes) seats
-notes_in_ended f seats lanes given all same are e = ap (map f) are ∙ e ∙ notes_of_seats lanes ∙ ap (map (λ s. s.notes)) same
 
 -- with the notes of one seat more
 pub rising_more : {X : Type 0} (f : X → List Noted) (new all : List X) (x : X) → new ≡ all ++ x ∷ [] → All AreRising (map f all) → AreRising (f x)

@@ -1,10 +1,10 @@
 -- What is written of a script's text
-use Rattle.std.proofs.Common.{◌≡◌, ◌⊎◌, inl, inr, ℕ, Bool, List, Option, Some, None, Result, Ok, Err, refl, sym, ap, ◌∙◌, subst, map, Bor}
+use Rattle.std.proofs.Common.{◌≡◌, ◌⊎◌, inl, inr, ℕ, Bool, List, Option, Some, None, Result, Ok, Err, refl, sym, ap, ◌∙◌, subst, map}
 use Rattle.std.specs.Io.KnownBytes.{Keeps, Appends}
-use Rattle.std.specs.Prelude.{All}
 use Rattle.trace_io.specs.Sink.{AppendsFront}
 use Rattle.vm_base.specs.declared.page.PageRange.{PageRange}
 use Rattle.slot_lock.specs.Slots.{Slots}
+use Rattle.seats.specs.Gathered.{AreWhole}
 use Rattle.seats.specs.Notes.{SeatView}
 use Rattle.seats.specs.declared.noted.Noted.{Noted}
 use Rattle.certifier.specs.Order.{all_notes}
@@ -12,6 +12,8 @@ use Rattle.live_space.specs.Space.{LiveView}
 use Rattle.trace.specs.Declarations.{Asked, asked_fault}
 use Rattle.trace.specs.declared.fault.TraceFault.{TraceFault}
 use Rattle.trace.specs.declared.fault.TraceFault.TheVariants as Of
+use Rattle.seats.specs.Packing.{shown}
+use Rattle.seats.specs.declared.note_list.Notes.{Notes}
 use Rattle.notes_text.specs.Ordered.{AreInOrder}
 use Rattle.notes_text.specs.Scripts.{ReadWhole, Scripted, Unread, unread_text, unmade, wanting}
 use Rattle.notes_text.specs.Verdicts.{is_certified, verdict_text}
@@ -19,7 +21,7 @@ use Rattle.notes_text.specs.WriteEnds.{Writes}
 use Rattle.notes_text.specs.Written.{notes_text}
 use Rattle.notes_text.specs.declared.verdict.Verdict.{Verdict}
 use Rattle.notes_text.proofs.CollectLemmas.{stops_own}
-use Rattle.live_script.specs.Certified.{AreRising, notes_in}
+use Rattle.live_script.specs.Certified.{notes_in}
 use Rattle.live_script.specs.Runs.{Fails, RunsAll}
 use Rattle.live_script.specs.Texts.{Ceases, unrun, unwritten, EndsText, IsNotesText, IsVerdictText, JudgedRun, Yields, fault_of_run}
 use Rattle.live_script.specs.declared.fault.RunFault.{RunFault}
@@ -45,22 +47,22 @@ module _ {T : Type 0} (Gives : Scripted → T → List ℕ → Type 0) (script :
 -- ---- notes
 
 -- what is lent of them is what the seats noted
-pub same_notes : (lent all : List (Bor (List Noted))) (seats : List SeatView) → lent ≡ all → map (λ s. s.now) all ≡ map (λ s. s.notes) seats
-    → map (λ s. s.now) lent ≡ map (λ s. s.notes) seats
-same_notes lent all seats is same = subst (λ (l : List (Bor (List Noted))). map (λ s. s.now) l ≡ map (λ s. s.notes) seats) (sym is) same
+pub lent_notes : {V : Type 0} (f : V → List Noted) (lent all : List Notes) (slice notes : List V) (seats : List SeatView) → lent ≡ all
+    → map shown all ≡ map f slice → slice ≡ notes → map f notes ≡ map (λ s. s.notes) seats → map shown lent ≡ map (λ s. s.notes) seats
+lent_notes f lent all slice notes seats is of same are = ap (map shown) is ∙ of ∙ ap (map f) same ∙ are
 
 -- what was written of the notes is their text
 pub notes_written : {U : Type 0} (script : Scripted) (live : LiveView) (seats : List SeatView) (slices : List (List Noted)) (old new : Option (List ℕ))
-    (x : U) → RunsAll script live seats → slices ≡ map (λ s. s.notes) seats → All AreRising slices
+    (x : U) → RunsAll script live seats → slices ≡ map (λ s. s.notes) seats → AreWhole (map (λ s. s.notes) seats)
     → (order : List Noted) × AreInOrder (all_notes slices) order × Appends old new (notes_text script.asked order)
     → Yields (λ script (done : U) text. IsNotesText script text) script old new (Ok x)
-notes_written script live seats slices old new x runs same rising (order, are, app) = (
+notes_written script live seats slices old new x runs same whole (order, are, app) = (
   notes_text script.asked order,
   record {
     live = live;
     seats = seats;
     runs = runs;
-    rising = subst (λ l. All AreRising l) same rising;
+    whole = whole;
     order = order;
     in_order = subst (λ l. AreInOrder (all_notes l) order) same are;
     says = refl;
@@ -70,12 +72,12 @@ notes_written script live seats slices old new x runs same rising (order, are, a
 
 -- notes that weren't written whole
 pub notes_unwritten : {U : Type 0} (script : Scripted) (live : LiveView) (seats : List SeatView) (slices : List (List Noted)) (old new : Option (List ℕ))
-    (x : U) (f : TraceFault) → RunsAll script live seats → slices ≡ map (λ s. s.notes) seats → All AreRising slices
+    (x : U) (f : TraceFault) → RunsAll script live seats → slices ≡ map (λ s. s.notes) seats → AreWhole (map (λ s. s.notes) seats)
     → ((f ≡ Of.NoMemory) × Keeps old new)
     ⊎ ((f ≡ Of.WriteFailed) × ((order : List Noted) × AreInOrder (all_notes slices) order × AppendsFront old new (notes_text script.asked order)))
     → Ceases (λ script (done : U) text. IsNotesText script text) script old new (Text f)
-notes_unwritten script live seats slices old new x f runs same rising (inl (is, keeps)) = unrun NoMemory runs.declared.sound (ap Text is) keeps
-notes_unwritten script live seats slices old new x f runs same rising (inr (is, (order, are, front))) =
+notes_unwritten script live seats slices old new x f runs same whole (inl (is, keeps)) = unrun NoMemory runs.declared.sound (ap Text is) keeps
+notes_unwritten script live seats slices old new x f runs same whole (inr (is, (order, are, front))) =
     let (text, given, app) = given_text in unwritten (ap Text is) x text given app
   where
     given_text : (text : List ℕ) × IsNotesText script text × AppendsFront old new text
@@ -85,7 +87,7 @@ notes_unwritten script live seats slices old new x f runs same rising (inr (is, 
         live = live;
         seats = seats;
         runs = runs;
-        rising = subst (λ l. All AreRising l) same rising;
+        whole = whole;
         order = order;
         in_order = subst (λ l. AreInOrder (all_notes l) order) same are;
         says = refl;
@@ -100,7 +102,3 @@ pub verdict_given : {A : Type 0} (parts : PageRange → ℕ → ℕ → Bool) (C
     (script : Scripted) (verdict : Verdict) → JudgedRun A parts CanFold Folds script verdict
     → IsVerdictText A parts CanFold Folds script (is_certified verdict) (verdict_text verdict)
 verdict_given parts CanFold Folds script verdict judged = record { verdict = verdict; judged = judged; certified = refl; says = refl }
-
--- and it rises as what is lent does
-pub rising_lent : (lent all : List (Bor (List Noted))) → lent ≡ all → All AreRising (map (λ s. s.now) all) → All AreRising (map (λ s. s.now) lent)
-rising_lent lent all is h = subst (λ (l : List (Bor (List Noted))). All AreRising (map (λ s. s.now) l)) (sym is) h

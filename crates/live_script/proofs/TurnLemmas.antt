@@ -1,6 +1,7 @@
 -- Lanes that are run one after another
 use Rattle.std.proofs.Common.{◌≡◌, ◌≢◌, ℕ, ◌+◌, ◌<◌, ◌≤◌, ◌⊎◌, inl, inr, List, [], length, get_or, set, arith, refl, sym, subst, ◌∙◌}
 use Rattle.std.proofs.lemmas.List.{get_or_default, get_or-set_same, get_or-set_other, length-set}
+use Rattle.std.specs.Prelude.{All}
 use Rattle.refcache.proofs.Sums.{same_or_not}
 use Rattle.notes_text.specs.declared.script.Task.{Task}
 use Rattle.live_script.specs.declared.lane.Lane.{Lane}
@@ -44,3 +45,13 @@ module _ {A : Type 0} (share : ℕ) (tasks : List (List Task)) (before now : Lis
     ended = λ k d e less low. ended_more k d e less low (same_or_not k n);
     rest = λ k d le. get_or-set_other now n k new d (λ e. absurd (omega (arith, e, le))) ∙ h.rest k d (omega (arith, le));
   }
+
+-- the next lane is as it was, so that what holds of all lanes holds of it
+pub next_is : {A : Type 0} (P : Lane A → Type 0) (share : ℕ) (tasks : List (List Task)) (before now : List (Lane A)) (n : ℕ) (d : Lane A)
+    → EndTo share tasks before now n → All P before → n < length before → P (get_or now n d)
+next_is P share tasks before now n d h all lt = subst P (sym (h.rest n d (omega arith))) (all n d lt)
+
+-- no lane is left
+pub all_end : {A : Type 0} (share : ℕ) (tasks : List (List Task)) (before now : List (Lane A)) (n : ℕ) → EndTo share tasks before now n
+    → length before ≤ n → EndEach share tasks before now
+all_end share tasks before now n h past = record { count = h.count; each = λ k d e lt. h.ended k d e (omega (arith, past, lt)) lt }

@@ -1,5 +1,5 @@
 -- What certifying notes of a script beside histories of slots comes to
-use Rattle.std.specs.Prelude.{◌≡◌, ℕ, Bool, List, map, None, Some}
+use Rattle.std.specs.Prelude.{◌≡◌, ℕ, Bool, List, map, ⊤, None, Some}
 use Rattle.vm_base.specs.declared.page.PageRange.{PageRange}
 use Rattle.slot_lock.specs.Slots.{Slots}
 use Rattle.live_levels.specs.declared.close.SlotHistory.{SlotHistory}
@@ -7,7 +7,7 @@ use Rattle.seats.specs.Notes.{SeatView, ticket_of}
 use Rattle.seats.specs.Tickets.{Rises}
 use Rattle.seats.specs.declared.noted.Noted.{Noted}
 use Rattle.certifier.specs.declared.result.CertifyFault.{CertifyFault}
-use Rattle.certifier.specs.declared.result.CertifyFault.TheVariants.{NoMemory, Setup}
+use Rattle.certifier.specs.declared.result.CertifyFault.TheVariants.{NoMemory, Setup, Ticket}
 use Rattle.certifier.specs.Following.{IsCertified, Fails}
 use Rattle.certifier.specs.Order.{all_notes}
 use Rattle.trace.specs.Declarations.{Asked, asked_fault}
@@ -26,6 +26,11 @@ pub record IsCertifiedRun (A : Type 0) (parts : PageRange → ℕ → ℕ → Bo
     (Folds : Slots → Slots → ℕ → Type 0) (asked : Asked) (notes : List Noted) (slots : List (SlotHistory A)) (calls : ℕ) : Type 0 where
   pub made : Made A asked
   pub certified : IsCertified parts CanFold Folds made.setup notes slots calls
+
+-- the fault isn't that of a ticket that doesn't stand once
+abbrev pub IsNoTicket : CertifyFault → Type 0
+IsNoTicket (Ticket t) = ⊥
+IsNoTicket fault = ⊤
 
 -- Why they aren't: the declaration is at fault, or memory is wanting, or as certifying says.
 abbrev pub FailsRun : (A : Type 0) → (PageRange → ℕ → ℕ → Bool) → (Slots → ℕ → Type 0) → (Slots → Slots → ℕ → Type 0)

@@ -1,10 +1,12 @@
 -- What is written of the text of a script
-use Rattle.std.specs.Prelude.{◌≡◌, ℕ, ◌^◌, ◌⊎◌, Bool, List, map, ⊤, Option, Result, Ok, Err, All}
+use Rattle.std.specs.Prelude.{◌≡◌, ℕ, ◌⊎◌, Bool, List, map, Option, Result, Ok, Err}
 use Rattle.std.specs.Io.KnownBytes.{Keeps, Appends}
 use Rattle.vm_base.specs.declared.page.PageRange.{PageRange}
 use Rattle.slot_lock.specs.Slots.{Slots}
-use Rattle.live_levels.specs.Histories.{Chain}
 use Rattle.live_levels.specs.declared.close.SlotHistory.{SlotHistory}
+use Rattle.live_tree.specs.Named.{AreOf}
+use Rattle.live_tree.specs.declared.histories.Histories.{Histories}
+use Rattle.seats.specs.Gathered.{AreWhole}
 use Rattle.seats.specs.Notes.{SeatView}
 use Rattle.seats.specs.declared.noted.Noted.{Noted}
 use Rattle.certifier.specs.declared.result.CertifyFault.TheVariants as By
@@ -21,7 +23,7 @@ use Rattle.notes_text.specs.Verdicts.{is_certified, verdict_text}
 use Rattle.notes_text.specs.Written.{notes_text}
 use Rattle.notes_text.specs.declared.verdict.Verdict.{Verdict}
 use Rattle.notes_text.specs.declared.verdict.Verdict.TheVariants.{Certified, Ticket, Differs, Slot}
-use Rattle.live_script.specs.Certified.{AreRising, FailsRun, IsCertifiedRun, notes_in}
+use Rattle.live_script.specs.Certified.{FailsRun, IsCertifiedRun, notes_in}
 use Rattle.live_script.specs.Runs.{Fails, RunsAll}
 use Rattle.live_script.specs.declared.fault.RunFault.{RunFault}
 use Rattle.live_script.specs.declared.fault.RunFault.TheVariants.{Setup, Live, NoMemory}
@@ -31,35 +33,37 @@ use Rattle.live_script.specs.declared.texts.TextFault.TheVariants.{Text}
 
 -- ---- what may be written of a script
 
--- it was run, and this is the text of what its seats noted, in order of tickets
+-- it was run, and this is the text of what its seats noted, with the tickets below the number of all notes, each once, in their
+-- order
 pub record IsNotesText (script : Scripted) (text : List ℕ) : Type 0 where
   pub live : LiveView
   pub seats : List SeatView
   pub runs : RunsAll script live seats
-  pub rising : All AreRising (map (λ s. s.notes) seats)
+  pub whole : AreWhole (map (λ s. s.notes) seats)
   pub order : List Noted
   pub in_order : AreInOrder (notes_in seats) order
   pub says : text ≡ notes_text script.asked order
 
--- what certifying notes beside histories of slots comes to
+-- What certifying all notes of a space beside histories of slots comes to: that a ticket doesn't stand once, it never does.
 abbrev pub JudgesRun : (A : Type 0) → (PageRange → ℕ → ℕ → Bool) → (Slots → ℕ → Type 0) → (Slots → Slots → ℕ → Type 0)
     → Asked → List Noted → List (SlotHistory A) → Verdict → Type 0
 JudgesRun A parts CanFold Folds asked notes slots (Certified calls) = IsCertifiedRun A parts CanFold Folds asked notes slots calls
-JudgesRun A parts CanFold Folds asked notes slots (Ticket t) = FailsRun A parts CanFold Folds asked notes slots (By.Ticket t)
+JudgesRun A parts CanFold Folds asked notes slots (Ticket t) = ⊥
 JudgesRun A parts CanFold Folds asked notes slots (Differs t noted expected) =
     FailsRun A parts CanFold Folds asked notes slots (By.Differs t noted expected)
 JudgesRun A parts CanFold Folds asked notes slots (Slot page) = FailsRun A parts CanFold Folds asked notes slots (By.Slot page)
 
--- the script was run, and this is what certifying what its seats noted beside the histories of all pages comes to
+-- the script was run, and this is what certifying what its seats noted beside the histories of all pages comes to, those of
+-- the same space
 pub record JudgedRun (A : Type 0) (parts : PageRange → ℕ → ℕ → Bool) (CanFold : Slots → ℕ → Type 0)
     (Folds : Slots → Slots → ℕ → Type 0) (script : Scripted) (verdict : Verdict) : Type 0 where
   pub live : LiveView
   pub seats : List SeatView
   pub runs : RunsAll script live seats
-  pub rising : All AreRising (map (λ s. s.notes) seats)
-  pub slots : List (SlotHistory A)
-  pub all_pages : ∥ Chain 0 (2 ^ 36) slots ∥₁
-  pub judges : JudgesRun A parts CanFold Folds script.asked (notes_in seats) slots verdict
+  pub whole : AreWhole (map (λ s. s.notes) seats)
+  pub histories : Histories A
+  pub own : AreOf live.word histories
+  pub judges : JudgesRun A parts CanFold Folds script.asked (notes_in seats) histories.slots.items verdict
 
 -- this is the line that tells it, of notes that are certified or not
 pub record IsVerdictText (A : Type 0) (parts : PageRange → ℕ → ℕ → Bool) (CanFold : Slots → ℕ → Type 0)

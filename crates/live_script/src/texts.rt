@@ -10,6 +10,7 @@ ghost use Rattle.live_script.specs.Texts.{EndsText, IsNotesText, IsVerdictText, 
 
 use crate::certifying::certify_ran;
 use crate::fault::RunFault;
+use crate::ran::lend;
 use crate::runner::Runner;
 use certifier::CertifyFault;
 use live_space::fault::LiveFault;
@@ -66,14 +67,20 @@ fn write_run<A: Allocator + Clone + Drop, T: Threads + Wait + Sync, R: Runner<A>
     let Ok(for_run) = alloc.clone() else {
         return Err(TextFault::Text(TraceFault::NoMemory));
     };
+    let Ok(for_notes) = alloc.clone() else {
+        return Err(TextFault::Text(TraceFault::NoMemory));
+    };
     let ran = match runner.run(rt, for_run, script) {
         Ok(ran) => ran,
         Err(fault) => return Err(fault_of_run(fault)),
     };
-    let Ok(notes) = ran.notes(alloc) else {
+    let Ok(notes) = ran.into_notes(for_notes) else {
         return Err(TextFault::Text(TraceFault::NoMemory));
     };
-    match write_notes(script, notes.as_slice(), writer) {
+    let Ok(lent) = lend(alloc, notes.as_slice()) else {
+        return Err(TextFault::Text(TraceFault::NoMemory));
+    };
+    match write_notes(script, lent.as_slice(), writer) {
         Ok(()) => Ok(()),
         Err(fault) => Err(TextFault::Text(fault)),
     }
@@ -127,7 +134,10 @@ fn judge_run<A: Allocator + Clone + Drop, T: Threads + Wait + Sync, R: Runner<A>
         Ok(ran) => ran,
         Err(fault) => return Err(fault_of_run(fault)),
     };
-    let Ok(ended) = ran.end() else {
+    let Ok(for_end) = alloc.clone() else {
+        return Err(TextFault::Text(TraceFault::NoMemory));
+    };
+    let Ok(ended) = ran.end(for_end) else {
         return Err(TextFault::Text(TraceFault::NoMemory));
     };
     let Ok(notes) = ended.notes(for_notes) else {
@@ -135,7 +145,8 @@ fn judge_run<A: Allocator + Clone + Drop, T: Threads + Wait + Sync, R: Runner<A>
     };
     match certify_ran(alloc, script, notes.as_slice(), &ended.histories) {
         Ok(done) => Ok(Verdict::Certified(done.calls)),
-        Err(CertifyFault::Ticket(ticket)) => Ok(Verdict::Ticket(ticket)),
+        // (the notes of all seats have the tickets below their number, each once)
+        Err(CertifyFault::Ticket(_)) => unreachable!(),
         Err(
             CertifyFault::Differs {
                 ticket,
@@ -192,9 +203,9 @@ fn certify_read<A: Allocator + Clone + Drop, T: Threads + Wait + Sync, R: Runner
     }
 }
 
-/// Reads a script, runs it, and writes what certifying its notes beside the histories of the space's slots comes to: a line as of
-/// `write_verdict`. Answers whether they are certified. Faults come as those of `run_text`; also where the space couldn't be
-/// ended, memory was wanting.
+/// Reads a script, runs it, and writes what certifying its notes beside the histories of the space's slots comes to: a
+/// line as of `write_verdict`, which is never `refused C1`. Answers whether they are certified. Faults come as those of
+/// `run_text`; also where the space couldn't be ended, memory was wanting.
 pub fn certify_run<
     A: Allocator + Clone + Drop,
     T: Threads + Wait + Sync,

@@ -1,27 +1,28 @@
--- Calls of which it depends whether they have ended
-use Rattle.std.proofs.Common.{◌≡◌, ◌+◌, ◌≤◌, ℕ, arith, ap, subst}
-use Rattle.std.specs.Prelude.{IfNone, IfSome, Option, Some, None}
+-- Calls that were answered, or are to end
+use Rattle.std.proofs.Common.{◌≡◌, ◌∙◌, subst}
+use Rattle.std.specs.Borrow.{MutBor}
+use Rattle.vm_base.specs.declared.replies.Reply.{Reply}
 use Rattle.seats.specs.Growing.{Grew}
 use Rattle.seats.specs.Notes.{SeatView}
-use Rattle.seats.proofs.Growing.{grew_trans}
-use Rattle.vm_base.specs.declared.replies.Reply.{Reply}
 use Rattle.live_pages.specs.Ending.{Ends}
 use Rattle.live_pages.proofs.Ending.{ends_after}
-use Rattle.live_space.specs.Endings.{EndsIf}
+use Rattle.live_space.specs.declared.ending.Ending.{Ending}
+use Rattle.live_space.specs.declared.ending.Ran.{Ran}
+use Rattle.live_space.specs.declared.ending.Ran.TheVariants.{Answered, Open}
+use Rattle.live_space.specs.Endings.{RunsTo}
+use Rattle.live_space.specs.InFlight.{GoesOn}
+use Rattle.live_space.proofs.Noted.{goes_trans}
 
--- a call that has ended or goes on, also seen from before steps between
-pub ends_if : (s t u : SeatView) (said : Option Reply) → Grew s t → EndsIf t said u → EndsIf s said u
-ends_if s t u (Some reply) g e = ends_after s t u reply g e
-ends_if s t u None g e = (grew_trans s t u g e.0, e.1)
+-- what a call came to, also seen from before steps between
+pub runs_after : (s t u : MutBor SeatView) (ran : Ran) → GoesOn s t → RunsTo t ran u → RunsTo s ran u
+runs_after s t u (Answered reply) g e = (e.0 ∙ g.same_reference, ends_after s.now t.now u.now reply g.grew e.1)
+runs_after s t u (Open ending) g e = goes_trans s t u g e
 
--- its slots are let go, after its reply was made up
-pub ends_let_go : (s t u : SeatView) (n : ℕ) (said : Option Reply) → n + 2 + 0 ≤ s.room → Grew s t → IfNone said (t ≡ s)
-    → IfSome said (λ reply. Ends t reply u) → IfNone said (Grew t u × (u.room + n ≡ t.room)) → EndsIf s said u
-ends_let_go s t u n (Some reply) le g same answered going = ends_after s t u reply g answered
-ends_let_go s t u n None le g same answered going =
-    let room = ap (λ (v : SeatView). v.room) same in
-    let left = going.1 in
-    (grew_trans s t u g going.0, omega (arith, le, room, left))
+pub runs_answered : (s t : MutBor SeatView) (ran : Ran) (reply : Reply) → RunsTo s ran t → ran ≡ Answered reply → Ends s.now reply t.now
+runs_answered s t ran reply h is = let e = subst (λ (r : Ran). RunsTo s r t) is h in e.1
+
+pub runs_open : (s t : MutBor SeatView) (ran : Ran) (ending : Ending) → RunsTo s ran t → ran ≡ Open ending → Grew s.now t.now
+runs_open s t ran ending h is = let e = subst (λ (r : Ran). RunsTo s r t) is h in e.grew
 
 -- what is known of a seat is known of it under each of its names
 pub at_last : (P : SeatView → Type 0) (s t : SeatView) → P s → s ≡ t → P t

@@ -1,7 +1,9 @@
 -- A fact of each seat and its number, where there is one seat more.
 use Rattle.std.proofs.Common.{◌≡◌, ℕ, zero, suc, ◌+◌, ◌<◌, List, [], ◌∷◌, ◌++◌, length, get_or, arith, subst, sym}
 use Rattle.std.proofs.lemmas.List.{length_push}
+use Rattle.std.specs.Prelude.{sum_by}
 use Rattle.atomic_table.specs.Seated.{TableId}
+use Rattle.seats.specs.Gathered.{AreAll}
 use Rattle.seats.specs.Notes.{SeatView}
 use Rattle.live_space.specs.Space.{AreFresh, IsFresh}
 
@@ -17,4 +19,13 @@ fresh_push w n ss s h new = record {
   count = omega (arith, length_push ss s, h.count);
   each = λ k d lt. each_push (λ j t. IsFresh w j t) ss s (λ j e less. h.each j e (omega (arith, h.count)))
       (subst (λ (m : ℕ). IsFresh w m s) (sym h.count) new) k d (omega (arith, h.count));
+}
+
+-- with the last one they are all seats of the word
+pub all_push : (w : TableId) (n : ℕ) (ss : List SeatView) (s : SeatView) → AreFresh w n ss → s.word ≡ w
+    → sum_by (λ (x : SeatView). x.spare + 1) (ss ++ s ∷ []) ≡ 64 → AreAll w (ss ++ s ∷ [])
+all_push w n ss s h word sum = record {
+  own = λ k d lt. each_push (λ j t. t.word ≡ w) ss s (λ j e less. (h.each j e (omega (arith, less, h.count))).word) word k d
+      (omega (arith, lt, length_push ss s));
+  all = sum;
 }

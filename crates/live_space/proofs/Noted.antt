@@ -17,7 +17,11 @@ use Rattle.live_tree.specs.declared.held.Got.TheVariants.{Locked, Split, Unseen,
 use Rattle.seats.specs.Growing.{Grew, Steps}
 use Rattle.seats.specs.Notes.{SeatView, noted, with_note}
 use Rattle.seats.proofs.Growing.{grew_note, grew_steps, grew_none, grew_room, grew_next_page, grew_trans}
-use Rattle.live_pages.specs.Steps.{StepsOnce, StepsWith, Stays, Takes, Wants}
+use Rattle.live_pages.specs.Steps.{StepsOnce, StepsWith, Stays, Tries, Wants}
+use Rattle.live_pages.specs.declared.touching.Tried.{Tried}
+use Rattle.live_pages.specs.declared.touching.Tried.TheVariants as TriedOf
+use Rattle.live_pages.specs.declared.touching.Tried.TheVariants.{Served, Fault}
+use Rattle.slot_lock.specs.declared.plan.Touch.{Touch}
 use Rattle.live_pages.specs.declared.frame.Wanted.{Wanted}
 use Rattle.live_pages.specs.declared.frame.Wanted.TheVariants.{Taken, NoFrame, NoMemory}
 use Rattle.live_pages.proofs.Noting.{grew_takes, same_count}
@@ -69,6 +73,15 @@ one_wants s t h (Taken frame) e = record {
 }
 one_wants s t h NoFrame e = one_once s t h e
 one_wants s t h NoMemory e = one_stays s t h h (e, refl)
+
+-- the try of an access notes two steps at most
+pub room_tried : (touch : Touch) (s t : SeatView) (tried : Tried) → Tries touch s t tried → s.room ≤ t.room + 2
+room_tried touch s t (Served reply) e =
+    let step = ap (λ (v : SeatView). v.room) e.0.steps.1.0 in
+    let answer = ap (λ (v : SeatView). v.room) e.0.answers.1 in
+    omega (arith, step, answer)
+room_tried touch s t Fault e = let step = ap (λ (v : SeatView). v.room) e.1.0 in omega (arith, step)
+room_tried touch s t TriedOf.Lost e = let same = ap (λ (v : SeatView). v.room) e in omega (arith, same)
 
 -- with room for one step more, so many are left after it
 pub left_after : (n : ℕ) (s t : SeatView) (h k : HeldView) → HasStepsLeft (n + 1) h s → AtMostOne s h t k → HasStepsLeft n k t

@@ -1,10 +1,17 @@
 -- What a change of held slots needs, and what it makes of them
-use Rattle.std.specs.Prelude.{◌≡◌, ℕ, map, All}
+use Rattle.std.specs.Prelude.{◌≡◌, ℕ, ◌⊎◌, map, All, Option}
 use Rattle.vm_base.specs.Pages.{IsPageRange}
+use Rattle.vm_base.specs.Plain.{File}
+use Rattle.vm_base.specs.declared.replies.Errno.{Errno}
+use Rattle.vm_base.specs.declared.replies.Reply.{Reply}
+use Rattle.vm_base.specs.declared.replies.Reply.TheVariants.{Refused}
 use Rattle.slot_lock.specs.declared.plan.Change.{Change}
 use Rattle.slot_lock.specs.Plan.{range_of}
-use Rattle.live_tree.specs.Held.{HeldView, Covers, CrossesNoEdge, HasRoom, FitsFiles, committed}
-use Rattle.live_tree.specs.Shown.{ChangesPages}
+use Rattle.vm_calls.specs.declared.decision.Decision.TheVariants.{Act, Refuse}
+use Rattle.vm_calls.specs.Decisions.{DecidesChange}
+use Rattle.machine_model.specs.Changes.{reply_to}
+use Rattle.live_tree.specs.Held.{AreAlike, HeldView, Covers, CrossesNoEdge, HasRoom, FitsFiles, committed}
+use Rattle.live_tree.specs.Shown.{ChangesPages, shown}
 use Rattle.seats.specs.Growing.{Steps}
 use Rattle.seats.specs.Notes.{SeatView}
 
@@ -25,3 +32,18 @@ pub record Made (change : Change) (h : HeldView) (t : SeatView) (k : HeldView) :
   pub step : Steps before ticket t
   pub slots : k ≡ record h { slots = map (committed ticket change) h.slots }
   pub pages : ChangesPages change h k
+
+-- it was made in them, once their histories had room for it
+pub record MadeIn (change : Change) (h : HeldView) (t : SeatView) (k : HeldView) : Type 0 where
+  pub ready : HeldView
+  pub first : ready.first ≡ h.first
+  pub end : ready.end ≡ h.end
+  pub alike : AreAlike ready.slots h.slots
+  pub made : Made change ready t k
+
+-- the reply is what the held slots decide: the change is refused, and they stay, or it was made in them
+abbrev pub Changes : (ℕ → Option File) → Change → HeldView → SeatView → HeldView → Reply → Type 0
+Changes files change h t k reply =
+    ((errno : Errno) × DecidesChange files (shown h.slots) change (Refuse errno) × (reply ≡ Refused errno) × (k ≡ h))
+    ⊎ ((cores : ℕ) × DecidesChange files (shown h.slots) change (Act (range_of change) cores)
+    × (reply ≡ reply_to change) × MadeIn change h t k)

@@ -6,10 +6,11 @@ use Rattle.backing.specs.Given.{given_files}
 use Rattle.machine_model.specs.declared.event.Event.TheVariants.{Go}
 use Rattle.core_steps.specs.declared.setup.Setup.{Setup}
 use Rattle.core_steps.specs.Setups.{fault_of}
+use Rattle.seats.specs.Gathered.{AreAll}
 use Rattle.seats.specs.Notes.{SeatView}
 
--- the word from which tickets are drawn, how many cores and frames there are, the files, and how many
--- calls each seat may begin
+-- the word from which tickets are drawn, which no other space has, how many cores and frames there are, the files, and how
+-- many calls each seat may begin
 pub record LiveView : Type 0 where
   pub word : TableId
   pub cores : ℕ
@@ -30,7 +31,7 @@ pub record AreFresh (word : TableId) (cores : ℕ) (seats : List SeatView) : Typ
   pub count : length seats ≡ cores
   pub each : (k : ℕ) (d : SeatView) → k < cores → IsFresh word k (get_or seats k d)
 
--- the space of a setup without a fault, with its seats: the calls are shared out evenly
+-- the space of a setup without a fault, with all its seats: the calls are shared out evenly
 pub record IsMade {A : Type 0} (setup : Setup A) (l : LiveView) (ss : List SeatView) : Type 0 where
   pub sound : fault_of setup ≡ None
   pub cores : l.cores ≡ setup.cores
@@ -38,6 +39,7 @@ pub record IsMade {A : Type 0} (setup : Setup A) (l : LiveView) (ss : List SeatV
   pub file : files_of l.files ≡ given_files setup.files.items
   pub share : l.share ≡ setup.calls / setup.cores
   pub seats : AreFresh l.word setup.cores ss
+  pub all : AreAll l.word ss
 
 -- the seat is of the space: it draws from the space's word, its core is one of the space's, and its
 -- plain steps are those of the core's call

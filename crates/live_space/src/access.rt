@@ -1,17 +1,14 @@
 //! A load, a store or a fetch: it is tried, and after a fault its page is held while it gets a frame
 //! and an entry in the core's tables; then it is tried again.
-ghost use Rattle.std.specs.Prelude.{◌≡◌, ◌+◌, ◌*◌, ◌≤◌, []};
-ghost use Rattle.live_pages.specs.Ending.{Ends};
+ghost use Rattle.std.specs.Prelude.{◌+◌, ◌*◌};
 ghost use Rattle.live_pages.specs.Targets.{count_below};
 ghost use Rattle.slot_lock.specs.Plan.{IsSoundTouch};
-ghost use Rattle.live_space.specs.Endings.{EndsIf};
+ghost use Rattle.live_space.specs.Endings.{RunsTo};
 ghost use Rattle.live_space.specs.InFlight.{GoesOn, HasStepsLeft};
 
-use crate::ending::{Ending, given_up_with};
+use crate::ending::{Ending, Ran, given_up_with};
 use crate::gate::{Gate, Point};
-use crate::giving_up::end_given_up;
 use crate::in_call::InCall;
-use crate::space::Live;
 use live_pages::copy::copy_page;
 use live_pages::filling::fill;
 use live_pages::frame::{Wanted, want};
@@ -19,9 +16,7 @@ use live_pages::installing::install;
 use live_pages::settling::settle_page;
 use live_pages::telling::{TAKES, Telling, count_of, take_all};
 use live_pages::touching::{Tried, try_touch};
-use live_tree::held::Held;
 use machine_model::answers::page_of_touch;
-use seats::Seat;
 use slot_lock::Touch;
 use std::alloc::Allocator;
 use std::sync::Wait;
@@ -38,93 +33,55 @@ struct Copying {
     own: u32,
 }
 
-impl<A: Allocator + Clone> Live<A> {
+impl<'c, R: Wait, G: Gate, A: Allocator + Clone> InCall<'c, '_, '_, '_, R, G, A> {
     /// The steps of an access, after its check.
-    pub(crate) fn touch<R: Wait, G: Gate>(
-        &self,
-        rt: &R,
-        seat: &mut Seat<A>,
-        touch: Touch,
-        gate: &G,
-    ) -> Reply
-        requires sound { IsSoundTouch touch }
-        requires room { 2 ≤ seat.old.room }
-        ensures { Ends seat.old result seat.new }
+    #[tactic(auto, using(crate::proofs::Noted::steps))]
+    pub(crate) fn touch(&mut self, touch: Touch) -> Ran
+        requires { IsSoundTouch touch }
+        ensures { RunsTo self.old.seat result self.new.seat }
     {
+        let rt = self.rt;
         'tries: for _turn in rt.forever() {
-            match self.try_once(rt, seat, touch, gate) {
-                Some(reply) => return reply,
-                None => {}
+            // for the step and its answer
+            if !self.has_room(2) {
+                return Ran::Open(Ending::GiveUp);
+            }
+            match try_touch(rt, &self.space.pieces(), self.seat, touch) {
+                Tried::Served(reply) => return Ran::Answered(reply),
+                Tried::Lost => return Ran::Open(Ending::GiveUp),
+                Tried::Fault => {
+                    if let Some(ending) = self.fault(touch) {
+                        return Ran::Open(ending);
+                    }
+                }
             }
         }
         unreachable!()
     }
 
-    // One try, and after a fault the steps after which the next one may be served. None where it is
-    // to be tried again, and else it is answered.
-    fn try_once<R: Wait, G: Gate>(
-        &self,
-        rt: &R,
-        seat: &mut Seat<A>,
-        touch: Touch,
-        gate: &G,
-    ) -> Option<Reply>
-        requires sound { IsSoundTouch touch }
-        requires room { 2 ≤ seat.old.room }
-        ensures { EndsIf seat.old result seat.new }
-    {
-        // for the step, to give up, and to answer
-        if !seat.reserve(3) {
-            return Some(end_given_up(seat));
-        }
-        match try_touch(rt, &self.pieces(), seat, touch) {
-            Tried::Served(reply) => Some(reply),
-            Tried::Fault => self.fault(rt, seat, touch, gate),
-            Tried::Lost => Some(end_given_up(seat)),
-        }
-    }
-
-    // The page is held until it has its frame and its entry, or the access its answer.
-    fn fault<R: Wait, G: Gate>(
-        &self,
-        rt: &R,
-        seat: &mut Seat<A>,
-        touch: Touch,
-        gate: &G,
-    ) -> Option<Reply>
-        requires sound { IsSoundTouch touch }
-        requires room { 2 ≤ seat.old.room }
-        ensures { EndsIf seat.old result seat.new }
-    {
-        let mut call = InCall {
-            seat,
-            held: Held::new(self.tree.alloc(), touch.page),
-            space: self,
-            rt,
-            gate,
-        };
-        let ending = call.lock_page(touch);
-        let InCall {
-            seat,
-            held,
-            space: _,
-            rt: _,
-            gate: _,
-        } = call;
-        self.end(rt, seat, held, ending)
-    }
-}
-
-impl<'c, R: Wait, G: Gate, A: Allocator + Clone> InCall<'c, '_, '_, '_, R, G, A> {
-    // The page's slot is locked.
+    // The page is held until it has its frame and its entry, or the call is to end. None where the
+    // access is to be tried again.
     #[tactic(auto, using(crate::proofs::Noted::steps))]
-    fn lock_page(&mut self, touch: Touch) -> Ending
-        requires sound { IsSoundTouch touch }
-        requires none { self.old.held.slots ≡ [] }
+    fn fault(&mut self, touch: Touch) -> Option<Ending>
+        requires { IsSoundTouch touch }
         ensures { GoesOn self.old.seat self.new.seat }
     {
+        let ending = self.lock_page(touch);
+        if ending.is_none() {
+            self.hold_from(touch.page);
+        }
+        ending
+    }
+
+    // The page's slot is locked.
+    #[tactic(auto, using(crate::proofs::Noted::steps))]
+    fn lock_page(&mut self, touch: Touch) -> Option<Ending>
+        requires { IsSoundTouch touch }
+        ensures { GoesOn self.old.seat self.new.seat }
+    {
+        self.hold_from(touch.page);
         if !self.lock_all(touch.page + 1, 2) {
-            return Ending::GiveUp;
+            return Some(Ending::GiveUp);
         }
         self.at(Point::Locked);
         self.settle(touch)
@@ -132,12 +89,12 @@ impl<'c, R: Wait, G: Gate, A: Allocator + Clone> InCall<'c, '_, '_, '_, R, G, A>
 
     // What the access finds at its page.
     #[tactic(auto, using(crate::proofs::Noted::steps))]
-    fn settle(&mut self, touch: Touch) -> Ending
+    fn settle(&mut self, touch: Touch) -> Option<Ending>
         requires { IsSoundTouch touch }
         ensures { GoesOn self.old.seat self.new.seat }
     {
         if !self.has_room(1) {
-            return Ending::GiveUp;
+            return Some(Ending::GiveUp);
         }
         let info = self.held.page(touch.page);
         let settled = settle_page(self.rt, &self.space.pieces(), self.seat, touch, &info);
@@ -146,14 +103,14 @@ impl<'c, R: Wait, G: Gate, A: Allocator + Clone> InCall<'c, '_, '_, '_, R, G, A>
 
     // The access is answered, or the page gets what it wants.
     #[tactic(auto, using(crate::proofs::Noted::steps))]
-    fn act_on(&mut self, touch: Touch, settled: Settled) -> Ending
+    fn act_on(&mut self, touch: Touch, settled: Settled) -> Option<Ending>
         requires { IsSoundTouch touch }
         ensures { GoesOn self.old.seat self.new.seat }
     {
         match settled {
-            Settled::MapErr => Ending::Answer(Reply::Segv(SegvCode::MapErr)),
-            Settled::AccErr => Ending::Answer(Reply::Segv(SegvCode::AccErr)),
-            Settled::Bus => Ending::Answer(Reply::Bus),
+            Settled::MapErr => Some(Ending::Answer(Reply::Segv(SegvCode::MapErr))),
+            Settled::AccErr => Some(Ending::Answer(Reply::Segv(SegvCode::AccErr))),
+            Settled::Bus => Some(Ending::Answer(Reply::Bus)),
             Settled::Has(_) => self.install(touch),
             Settled::Copies(shown) => self.want(touch, Some(shown)),
             Settled::Cached(_) => self.fill(touch, None),
@@ -163,22 +120,22 @@ impl<'c, R: Wait, G: Gate, A: Allocator + Clone> InCall<'c, '_, '_, '_, R, G, A>
 
     // A frame is taken, for the page or for a copy of the frame that it shows.
     #[tactic(auto, using(crate::proofs::Noted::steps))]
-    fn want(&mut self, touch: Touch, shown: Option<u32>) -> Ending
+    fn want(&mut self, touch: Touch, shown: Option<u32>) -> Option<Ending>
         requires { IsSoundTouch touch }
         ensures { GoesOn self.old.seat self.new.seat }
     {
         if !self.has_room(1) {
-            return Ending::GiveUp;
+            return Some(Ending::GiveUp);
         }
         match want(self.rt, &self.space.pieces(), self.seat) {
             Wanted::Taken(own) => self.use_frame(touch, shown, own),
-            Wanted::NoFrame => Ending::Answer(Reply::NoFrame),
-            Wanted::NoMemory => Ending::GiveUp,
+            Wanted::NoFrame => Some(Ending::Answer(Reply::NoFrame)),
+            Wanted::NoMemory => Some(Ending::GiveUp),
         }
     }
 
     // The frame is for the page, or for a copy of the frame that it shows.
-    fn use_frame(&mut self, touch: Touch, shown: Option<u32>, own: u32) -> Ending
+    fn use_frame(&mut self, touch: Touch, shown: Option<u32>, own: u32) -> Option<Ending>
         requires { IsSoundTouch touch }
         ensures { GoesOn self.old.seat self.new.seat }
     {
@@ -190,12 +147,12 @@ impl<'c, R: Wait, G: Gate, A: Allocator + Clone> InCall<'c, '_, '_, '_, R, G, A>
 
     // The page gets its frame.
     #[tactic(auto, using(crate::proofs::Noted::steps))]
-    fn fill(&mut self, touch: Touch, own: Option<u32>) -> Ending
+    fn fill(&mut self, touch: Touch, own: Option<u32>) -> Option<Ending>
         requires { IsSoundTouch touch }
         ensures { GoesOn self.old.seat self.new.seat }
     {
         if !self.has_room(1) {
-            return given_up_with(own);
+            return Some(given_up_with(own));
         }
         match fill(
             self.rt,
@@ -206,13 +163,13 @@ impl<'c, R: Wait, G: Gate, A: Allocator + Clone> InCall<'c, '_, '_, '_, R, G, A>
             own,
         ) {
             Some(_) => self.install(touch),
-            None => given_up_with(own),
+            None => Some(given_up_with(own)),
         }
     }
 
     // The other recorded cores of the page are told to drop the page, and then it gets a copy.
     #[tactic(auto, using(crate::proofs::Noted::steps, crate::proofs::Few::few_targets))]
-    fn copy(&mut self, touch: Touch, frames: Copying) -> Ending
+    fn copy(&mut self, touch: Touch, frames: Copying) -> Option<Ending>
         requires { IsSoundTouch touch }
         ensures { GoesOn self.old.seat self.new.seat }
     {
@@ -221,7 +178,7 @@ impl<'c, R: Wait, G: Gate, A: Allocator + Clone> InCall<'c, '_, '_, '_, R, G, A>
         // the post, the takes of all that are told, and the copy
         let most = 2 + TAKES * count_of(targets);
         if !self.has_room(most) {
-            return Ending::GiveBack(frames.own);
+            return Some(Ending::GiveBack(frames.own));
         }
         let space = self.space;
         let range = page_of_touch(touch);
@@ -237,14 +194,14 @@ impl<'c, R: Wait, G: Gate, A: Allocator + Clone> InCall<'c, '_, '_, '_, R, G, A>
                 let _posted = telling.post(self.seat);
                 self.copy_told(touch, frames, targets)
             }
-            None => Ending::GiveBack(frames.own),
+            None => Some(Ending::GiveBack(frames.own)),
         }
     }
 
     // All cores that were told acknowledge. Then the page gets its copy, since no core translates it by
     // the old frame any more.
     #[tactic(auto, using(crate::proofs::Noted::steps))]
-    fn copy_told(&mut self, touch: Touch, frames: Copying, targets: CoreSet) -> Ending
+    fn copy_told(&mut self, touch: Touch, frames: Copying, targets: CoreSet) -> Option<Ending>
         requires sound { IsSoundTouch touch }
         requires room { HasStepsLeft (1 + 126 * count_below targets 64) self.old.held self.old.seat.now }
         ensures { GoesOn self.old.seat self.new.seat }
@@ -256,19 +213,19 @@ impl<'c, R: Wait, G: Gate, A: Allocator + Clone> InCall<'c, '_, '_, '_, R, G, A>
         if copy_page(self.rt, &pieces, self.seat, &mut self.held, shown, own) {
             self.install(touch)
         } else {
-            Ending::GiveBack(own)
+            Some(Ending::GiveBack(own))
         }
     }
 
     // The core's tables get the page's entry. The access is to be tried again then.
     #[tactic(auto, using(crate::proofs::Noted::steps))]
-    fn install(&mut self, touch: Touch) -> Ending
+    fn install(&mut self, touch: Touch) -> Option<Ending>
         requires { IsSoundTouch touch }
         ensures { GoesOn self.old.seat self.new.seat }
     {
         self.at(Point::Filled);
         if !self.has_room(1) {
-            return Ending::GiveUp;
+            return Some(Ending::GiveUp);
         }
         if install(
             self.rt,
@@ -277,9 +234,9 @@ impl<'c, R: Wait, G: Gate, A: Allocator + Clone> InCall<'c, '_, '_, '_, R, G, A>
             &mut self.held,
             touch,
         ) {
-            Ending::Again
+            None
         } else {
-            Ending::GiveUp
+            Some(Ending::GiveUp)
         }
     }
 }

@@ -4,14 +4,17 @@ ghost use Rattle.slot_lock.specs.Plan.{IsSoundPlan};
 ghost use Rattle.seats.specs.Growing.{OneCall};
 ghost use Rattle.live_pages.specs.Ending.{Ends};
 ghost use Rattle.live_space.specs.Calls.{IsIdle, LacksCall, MayBegin};
+ghost use Rattle.live_space.specs.Endings.{RunsTo};
 ghost use Rattle.live_space.specs.Space.{IsOf};
 
+use crate::ending::{Ending, Ran};
 use crate::fault::{LiveFault, reserve_notes};
 use crate::gate::{Gate, Point};
-use crate::giving_up::end_given_up;
+use crate::in_call::InCall;
 use crate::space::Live;
 use live_levels::level::Stepper;
 use live_pages::answering::answer;
+use live_tree::held::Held;
 use seats::Seat;
 use slot_lock::Plan;
 use std::alloc::Allocator;
@@ -70,23 +73,50 @@ impl<A: Allocator + Clone> Live<A> {
         }
     }
 
-    // The step of the check, whose arguments it let through, and what follows.
-    #[tactic(auto, using(live_pages::proofs::Ending::ends_after, seats::proofs::Growing::grew_trans, seats::proofs::Growing::grew_steps, seats::proofs::Growing::grew_room))]
+    // The steps of a plan, whose arguments the check let through.
+    #[tactic(auto, using(live_pages::proofs::Ending::ends_after))]
     fn go_on<R: Wait, G: Gate>(&self, rt: &R, seat: &mut Seat<A>, plan: Plan, gate: &G) -> Reply
         requires sound { IsSoundPlan plan }
         requires room { 2 ≤ seat.old.room }
         ensures { Ends seat.old result seat.new }
     {
-        // for the step, to give up, and to answer
-        if !seat.reserve(3) {
-            return end_given_up(seat);
+        let mut call = InCall {
+            seat,
+            held: Held::new(self.tree.alloc(), 0),
+            space: self,
+            rt,
+            gate,
+        };
+        let ran = call.run(plan);
+        let InCall {
+            seat,
+            held,
+            space: _,
+            rt: _,
+            gate: _,
+        } = call;
+        match ran {
+            Ran::Answered(reply) => reply,
+            Ran::Open(ending) => self.end(rt, seat, held, ending),
         }
-        let _checked = seat.step();
-        gate.at(rt, seat.core(), Point::Begun);
+    }
+}
+
+impl<'c, R: Wait, G: Gate, A: Allocator + Clone> InCall<'c, '_, '_, '_, R, G, A> {
+    // The step of the check, and what follows.
+    #[tactic(auto, using(crate::proofs::Noted::steps))]
+    fn run(&mut self, plan: Plan) -> Ran
+        requires { IsSoundPlan plan }
+        ensures { RunsTo self.old.seat result self.new.seat }
+    {
+        if !self.step() {
+            return Ran::Open(Ending::GiveUp);
+        }
+        self.at(Point::Begun);
         match plan {
-            Plan::Change(change) => self.change(rt, seat, change, gate),
-            Plan::Place(place) => self.place(rt, seat, place, gate),
-            Plan::Touch(touch) => self.touch(rt, seat, touch, gate),
+            Plan::Change(change) => Ran::Open(self.change(change)),
+            Plan::Place(place) => Ran::Open(self.place(place)),
+            Plan::Touch(touch) => self.touch(touch),
         }
     }
 }

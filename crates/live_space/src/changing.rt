@@ -1,15 +1,15 @@
 //! A change of the pages that its request names: a mapping with `MAP_FIXED`, an munmap or an mprotect.
-ghost use Rattle.std.specs.Prelude.{◌≡◌, ◌+◌, ◌*◌, ◌≤◌, [], length, IsTrue};
+ghost use Rattle.std.specs.Prelude.{◌≡◌, ◌+◌, ◌*◌, length, IfSome, IsTrue};
 ghost use Rattle.slot_lock.specs.Plan.{IsSoundChange, range_of};
+ghost use Rattle.backing.specs.Files.{files_of};
 ghost use Rattle.live_tree.specs.Held.{AreAlike, Covers};
-ghost use Rattle.live_pages.specs.Ending.{Ends};
 ghost use Rattle.live_pages.specs.Targets.{count_below};
-ghost use Rattle.live_space.specs.Changing.{IsReady, Made};
+ghost use Rattle.live_space.specs.Changing.{Changes, IsReady, Made, MadeIn};
 ghost use Rattle.live_space.specs.InFlight.{GoesOn, HasStepsLeft};
 
 use crate::commit::{Counting, Locks};
 use crate::decide_held::{Decided, Frames, Losses, decide_held};
-use crate::ending::said_or_given_up;
+use crate::ending::Ending;
 use crate::gate::{Gate, Point};
 use crate::in_call::InCall;
 use crate::space::Live;
@@ -18,46 +18,12 @@ use live_pages::pieces::CoreState;
 use live_pages::telling::{TAKES, Telling, count_of, take_all};
 use live_tree::held::Held;
 use machine_model::answers::reply_to;
-use seats::Seat;
 use slot_lock::Change;
 use std::alloc::Allocator;
 use std::sync::{Mutex, Wait};
 use vm_base::{CoreId, CoreSet, Reply};
 
 impl<A: Allocator + Clone> Live<A> {
-    /// The steps of a change, after its check.
-    pub(crate) fn change<R: Wait, G: Gate>(
-        &self,
-        rt: &R,
-        seat: &mut Seat<A>,
-        change: Change,
-        gate: &G,
-    ) -> Reply
-        requires sound { IsSoundChange change }
-        requires room { 2 ≤ seat.old.room }
-        ensures { Ends seat.old result seat.new }
-    {
-        let mut call = InCall {
-            seat,
-            held: Held::new(self.tree.alloc(), change.range().first),
-            space: self,
-            rt,
-            gate,
-        };
-        let said = call.lock_and_change(change);
-        let InCall {
-            seat,
-            held,
-            space: _,
-            rt: _,
-            gate: _,
-        } = call;
-        match self.end(rt, seat, held, said_or_given_up(said)) {
-            Some(reply) => reply,
-            None => unreachable!(),
-        }
-    }
-
     // The locks of a change that the core makes alone. None where memory is wanting, or something
     // that is to be locked isn't there.
     fn locked_for<'a, R: Wait>(
@@ -94,19 +60,22 @@ impl<A: Allocator + Clone> Live<A> {
 }
 
 impl<'c, R: Wait, G: Gate, A: Allocator + Clone> InCall<'c, '_, '_, '_, R, G, A> {
-    // Locks the pages and changes them, or refuses to. None where the call is to be given up.
+    /// The steps of a change, after its check: its pages are locked, and changed, or it is refused.
     #[tactic(auto, using(crate::proofs::Noted::steps))]
-    fn lock_and_change(&mut self, change: Change) -> Option<Reply>
-        requires sound { IsSoundChange change }
-        requires first { self.old.held.first ≡ (range_of change).first }
-        requires none { self.old.held.slots ≡ [] }
+    pub(crate) fn change(&mut self, change: Change) -> Ending
+        requires { IsSoundChange change }
         ensures { GoesOn self.old.seat self.new.seat }
     {
-        if !self.lock_all(change.range().end, 1) {
-            return None;
+        let range = change.range();
+        self.hold_from(range.first);
+        if !self.lock_all(range.end, 1) {
+            return Ending::GiveUp;
         }
         self.at(Point::Locked);
-        self.decide_and_change(change)
+        match self.decide_and_change(change) {
+            Some(reply) => Ending::Answer(reply),
+            None => Ending::GiveUp,
+        }
     }
 
     // Decides of the pages, which are held, and changes them, or refuses to.
@@ -114,12 +83,14 @@ impl<'c, R: Wait, G: Gate, A: Allocator + Clone> InCall<'c, '_, '_, '_, R, G, A>
     fn decide_and_change(&mut self, change: Change) -> Option<Reply>
         requires sound { IsSoundChange change }
         requires covers { Covers self.old.held (range_of change) }
-        ensures { GoesOn self.old.seat self.new.seat }
+        ensures goes { GoesOn self.old.seat self.new.seat }
+        ensures made { IfSome result (Changes (files_of self.old.space.now.files) change self.old.held
+            self.new.seat.now self.new.held) }
     {
+        let space = self.space;
         if !self.has_room(1) {
             return None;
         }
-        let space = self.space;
         let core = self.seat.core();
         match decide_held(&space.objects, space.tree.alloc(), core, &self.held, change)? {
             Decided::Refuse(errno) => {
@@ -141,7 +112,8 @@ impl<'c, R: Wait, G: Gate, A: Allocator + Clone> InCall<'c, '_, '_, '_, R, G, A>
     fn make(&mut self, change: Change, losses: Losses<'c, A>) -> bool
         requires sound { IsSoundChange change }
         requires covers { Covers self.old.held (range_of change) }
-        ensures { GoesOn self.old.seat self.new.seat }
+        ensures goes { GoesOn self.old.seat self.new.seat }
+        ensures made { IsTrue result → MadeIn change self.old.held self.new.seat.now self.new.held }
     {
         if !is_ready(&mut self.held, change) {
             return false;
@@ -240,6 +212,7 @@ fn is_ready<A: Allocator + Clone>(held: &mut Held<'_, A>, change: Change) -> boo
     requires sound { IsSoundChange change }
     requires covers { Covers held.old (range_of change) }
     ensures ready { IsTrue result → IsReady held.new change }
+    ensures place { (held.new.first ≡ held.old.first) × (held.new.end ≡ held.old.end) }
     ensures same { AreAlike held.new.slots held.old.slots }
     ensures count { length held.new.slots ≡ length held.old.slots }
 {

@@ -1,7 +1,9 @@
 //! What only a call that owns the space does: slots of the shared tree are joined, and the space
 //! ends.
-ghost use Rattle.std.specs.Prelude.{◌≡◌, IfOk, IfErr};
+ghost use Rattle.std.specs.Prelude.{◌≡◌, IfOk, IfErr, map};
 ghost use Rattle.machine_model.specs.declared.event.Event.TheVariants as EventOf;
+ghost use Rattle.live_tree.specs.Named.{AreOf};
+ghost use Rattle.seats.specs.Gathered.{AreAll, AreWhole};
 ghost use Rattle.seats.specs.Growing.{NotesIf};
 ghost use Rattle.seats.specs.Notes.{CanNote};
 ghost use Rattle.live_space.specs.Calls.{IsIdle, LacksRoom};
@@ -12,7 +14,7 @@ use crate::fault::{LiveFault, reserve_notes};
 use crate::space::Live;
 use live_tree::histories::Histories;
 use live_tree::tree::SharedTree;
-use seats::Seat;
+use seats::{NoteList, Seat, gather};
 use std::alloc::Allocator;
 use vm_base::is_valid;
 
@@ -41,11 +43,28 @@ impl<A: Allocator + Clone> Live<A> {
         Ok(is_noted)
     }
 
+    /// Takes all seats of the space back, and hands out what they noted, a list for each, in their
+    /// order: the tickets of each list rise, and those of all lists are the numbers below that of all
+    /// notes, each once. Where memory is wanting the seats come back.
+    pub fn gather(&self, seats: Vec<Seat<A>, A>) -> Result<Vec<NoteList<A>, A>, Vec<Seat<A>, A>>
+        requires { AreAll self.now.word seats.items }
+        ensures notes { IfOk result (λ all. map (λ list. list.notes) all.items
+            ≡ map (λ s. s.notes) seats.items) }
+        ensures whole { IfOk result (λ all. AreWhole (map (λ list. list.notes) all.items)) }
+        ensures back { IfErr result (λ back. back.items ≡ seats.items) }
+    {
+        let Ok(own) = self.tree.alloc().clone() else {
+            return Err(seats);
+        };
+        gather(own, self.tree.tickets(), seats)
+    }
+
     /// Ends the space, and hands out the histories of its slots, which lie side by side and have all
-    /// valid pages. Where memory is wanting, or a slot was in a wrong place, which never comes, the
-    /// space comes back as it was.
+    /// valid pages: those of the space's word, and so of no other space. Where memory is wanting, or
+    /// a slot was in a wrong place, which never comes, the space comes back as it was.
     pub fn close(mut self) -> Result<Histories<A>, Live<A>>
-        ensures { IfErr result (λ live. live ≡ self) }
+        ensures own { IfOk result (AreOf self.word) }
+        ensures back { IfErr result (λ live. live ≡ self) }
     {
         match self.tree.histories() {
             Some(histories) => Ok(histories),
@@ -58,7 +77,8 @@ impl<A: Allocator + Clone> Live<A> {
 fn fold<A: Allocator + Clone>(tree: &mut SharedTree<A>, seat: &mut Seat<A>, page: u64) -> bool
     requires room { CanNote seat.old }
     requires plain { seat.old.plain ≡ EventOf.Fold page }
-    ensures { NotesIf seat.old (EventOf.Fold page) result seat.new }
+    ensures noted { NotesIf seat.old (EventOf.Fold page) result seat.new }
+    ensures word { tree.new.tickets ≡ tree.old.tickets }
 {
     match tree.fold(seat, page) {
         Some(_) => true,

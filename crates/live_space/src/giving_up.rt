@@ -1,10 +1,8 @@
-//! The step that gives a call up for want of memory, and its answer.
-ghost use Rattle.std.specs.Prelude.{◌≡◌, ◌+◌, ◌<◌, ◌≤◌};
+//! The step that gives a call up for want of memory.
+ghost use Rattle.std.specs.Prelude.{◌≡◌, ◌+◌, ◌<◌};
 ghost use Rattle.vm_base.specs.declared.replies.Reply.TheVariants.{NoMemory};
 ghost use Rattle.seats.specs.Growing.{Grew};
-ghost use Rattle.live_pages.specs.Ending.{Ends};
 
-use live_pages::answering::answer;
 use machine_model::{Event, Outcome};
 use seats::Seat;
 use std::alloc::Allocator;
@@ -21,16 +19,4 @@ pub(crate) fn give_up<A: Allocator>(seat: &mut Seat<A>) -> Reply
 {
     let _ticket = seat.note(Event::GiveUp(seat.core()), Outcome::Stepped);
     Reply::NoMemory
-}
-
-/// Gives the core's call up that holds nothing, and answers it.
-#[tactic(auto, using(live_pages::proofs::Ending::ends_after))]
-pub(crate) fn end_given_up<A: Allocator>(seat: &mut Seat<A>) -> Reply
-    requires { 2 ≤ seat.old.room }
-    ensures reply { result ≡ NoMemory }
-    ensures ends { Ends seat.old result seat.new }
-{
-    let reply = give_up(seat);
-    answer(seat, reply);
-    reply
 }

@@ -1,16 +1,19 @@
-//! A call in flight that holds slots: what its steps have in hand.
-ghost use Rattle.std.specs.Prelude.{◌≡◌, IsTrue};
+//! A call in flight: what its steps have in hand.
+ghost use Rattle.std.specs.Prelude.{◌≡◌, [], IsTrue};
 ghost use Rattle.live_space.specs.InFlight.{GoesOn, HasStepsLeft};
 
 use crate::gate::{Gate, Point};
+use crate::locking::let_go;
 use crate::space::Live;
+use live_levels::level::Stepper;
 use live_tree::held::Held;
 use seats::Seat;
 use std::alloc::Allocator;
+use std::mem::replace;
 use std::sync::Wait;
 
-/// A call that holds slots, with all that its steps need. Its seat has room to note of each slot that
-/// it is let go, to give the call up, and to answer it.
+/// A call, with all that its steps need. Its seat has room to note of each slot that it holds that it
+/// is let go, to give the call up, and to answer it.
 pub(crate) struct InCall<'c, 's, 'r, 'g, R, G, A: Allocator + Clone> {
     /// Where its steps are noted.
     pub seat: &'s mut Seat<A>,
@@ -40,5 +43,29 @@ impl<'c, R: Wait, G: Gate, A: Allocator + Clone> InCall<'c, '_, '_, '_, R, G, A>
     {
         let count = self.held.len().saturating_add(2).saturating_add(steps);
         self.seat.reserve(count)
+    }
+
+    /// One step of the call, if there is room for it; tells whether there was.
+    #[tactic(auto, using(crate::proofs::Noted::steps))]
+    pub fn step(&mut self) -> bool
+        ensures goes { GoesOn self.old.seat self.new.seat }
+        ensures held { self.new.held ≡ self.old.held }
+    {
+        if !self.has_room(1) {
+            return false;
+        }
+        let _ticket = self.seat.step();
+        true
+    }
+
+    /// Lets all slots go, each in a step of its own, from left to right. The next slot that it holds
+    /// is to begin at the page.
+    pub fn hold_from(&mut self, page: u64)
+        ensures goes { GoesOn self.old.seat self.new.seat }
+        ensures held { self.new.held ≡ record { first = page; end = page; slots = [] } }
+    {
+        let space = self.space;
+        let held = replace(&mut self.held, Held::new(space.tree.alloc(), page));
+        let_go(held, self.seat, None);
     }
 }

@@ -1,5 +1,5 @@
 //! The slots of a call: they are locked one after another from left to right, and let go so.
-ghost use Rattle.std.specs.Prelude.{◌≡◌, ◌+◌, ◌≤◌, [], IfNone, IfSome, length, IsTrue};
+ghost use Rattle.std.specs.Prelude.{◌≡◌, ◌+◌, ◌≤◌, IfNone, IfSome, length, IsTrue};
 ghost use Rattle.seats.specs.Growing.{Grew};
 ghost use Rattle.live_pages.specs.Ending.{Ends};
 ghost use Rattle.live_space.specs.InFlight.{GoesOn};
@@ -22,7 +22,6 @@ impl<'c, R: Wait, G: Gate, A: Allocator + Clone> InCall<'c, '_, '_, '_, R, G, A>
     /// wanting, or a slot was in a wrong place, which never comes. What is held stays held.
     #[tactic(auto, using(crate::proofs::Noted::steps))]
     pub(crate) fn lock_all(&mut self, end: u64, changes: usize) -> bool
-        requires none { self.old.held.slots ≡ [] }
         ensures goes { GoesOn self.old.seat self.new.seat }
         ensures first { self.new.held.first ≡ self.old.held.first }
         ensures end { IsTrue result → end ≤ self.new.held.end }

@@ -1,6 +1,7 @@
 //! The making of a space: the word and the seats, the files and their pages, the frames and the cores.
 ghost use Rattle.std.specs.Prelude.{◌≡◌, ◌<◌, ◌≤◌, [], None, IfOk, IfErr, length, All};
 ghost use Rattle.std.specs.Arc.{arc_value};
+ghost use Rattle.seats.specs.Gathered.{AreAll};
 ghost use Rattle.seats.specs.Tickets.{IsNew};
 ghost use Rattle.backing.specs.Files.{files_of};
 ghost use Rattle.backing.specs.Given.{given_files};
@@ -26,8 +27,8 @@ use vm_base::{CoreId, NoMemory};
 
 impl<A: Allocator + Clone> Live<A> {
     /// A space in which nothing is mapped, and a seat for each of its cores, in their order, which
-    /// has noted nothing. The bytes of the files are moved, not copied. Of several faults the first
-    /// is told, in the order of `SetupFault`.
+    /// has noted nothing: these are all seats of the space. The bytes of the files are moved, not
+    /// copied. Of several faults the first is told, in the order of `SetupFault`.
     pub fn new(alloc: A, setup: Setup<A>) -> Result<(Live<A>, Vec<Seat<A>, A>), SetupFault>
         ensures made { IfOk result (λ t. IsMade setup t.0 t.1.items) }
         ensures own { IfOk result (λ t. All (IsOf t.0) t.1.items) }
@@ -65,11 +66,9 @@ fn make<A: Allocator + Clone>(
     let seating = new_seating(&alloc, count)?;
     let states = new_cores(&alloc, count, number)?;
     let cells = new_frames(&alloc, number)?;
-    let tree = SharedTree::new(alloc)?;
     let Opened { objects, pages } = opened;
-    let Seating { tickets, seats } = seating;
+    let Seating { tree, seats } = seating;
     let live = Live {
-        tickets,
         tree,
         objects,
         pages,
@@ -102,25 +101,25 @@ fn open_files<A: Allocator + Clone>(
     Ok(Opened { objects, pages })
 }
 
-// The word from which tickets are drawn, and the seats that draw from it.
+// A tree, and the seats that draw from its word.
 #[derive(Drop)]
 struct Seating<A: Allocator> {
-    tickets: Arc<Tickets<A>, A>,
+    tree: SharedTree<A>,
     seats: Vec<Seat<A>, A>,
 }
 
-// A new word, and so many seats of it, which have noted nothing, by their cores.
+// A new tree, and all seats of its word, so many, which have noted nothing, by their cores.
 fn new_seating<A: Allocator + Clone>(alloc: &A, count: u8) -> Result<Seating<A>, NoMemory>
     requires { (1 ≤ count) × (count ≤ 64) }
-    ensures { IfOk result (λ made. AreFresh (arc_value made.tickets) count made.seats.items) }
+    ensures fresh { IfOk result (λ made. AreFresh (arc_value made.tree.tickets) count made.seats.items) }
+    ensures all { IfOk result (λ made. AreAll (arc_value made.tree.tickets) made.seats.items) }
 {
-    let (tickets, first) = Tickets::new(alloc.clone()?)?;
-    let tickets = Arc::new(alloc.clone()?, tickets)?;
-    let seats = new_seats(alloc, &tickets, first, count)?;
-    Ok(Seating { tickets, seats })
+    let (tree, first) = SharedTree::new(alloc.clone()?)?;
+    let seats = new_seats(alloc, tree.tickets(), first, count)?;
+    Ok(Seating { tree, seats })
 }
 
-// So many seats of one word, which have noted nothing, by their cores.
+// All seats of one word, so many, which have noted nothing, by their cores.
 fn new_seats<A: Allocator + Clone>(
     alloc: &A,
     tickets: &Arc<Tickets<A>, A>,
@@ -129,17 +128,30 @@ fn new_seats<A: Allocator + Clone>(
 ) -> Result<Vec<Seat<A>, A>, NoMemory>
     requires new { IsNew (arc_value tickets.now) 63 first }
     requires count { (1 ≤ count) × (count ≤ 64) }
-    ensures { IfOk result (λ v. AreFresh (arc_value tickets.now) count v.items) }
+    ensures fresh { IfOk result (λ v. AreFresh (arc_value tickets.now) count v.items) }
+    ensures all { IfOk result (λ v. AreAll (arc_value tickets.now) v.items) }
 {
     let mut seats = Vec::with_capacity(alloc.clone()?, usize::from(count))?;
     let last = count - 1;
     'seats: for core in 0..last {
         let own = tickets.split(&mut first);
         let word = Arc::try_clone(tickets)?;
-        seats.push_reserved(Seat::new(alloc.clone()?, CoreId::new(core), word, own));
+        seats.push_reserved(Seat::new(
+            alloc.clone()?,
+            alloc.clone()?,
+            CoreId::new(core),
+            word,
+            own,
+        ));
     }
     let word = Arc::try_clone(tickets)?;
-    seats.push_reserved(Seat::new(alloc.clone()?, CoreId::new(last), word, first));
+    seats.push_reserved(Seat::new(
+        alloc.clone()?,
+        alloc.clone()?,
+        CoreId::new(last),
+        word,
+        first,
+    ));
     Ok(seats)
 }
 

@@ -7,18 +7,16 @@ use crossbeam_utils::CachePadded;
 use live_pages::pieces::{CoreState, FrameState, Pieces};
 use live_tree::tree::SharedTree;
 use refcache::Epochs;
-use seats::Tickets;
 use std::alloc::Allocator;
 use std::marker::Model;
-use std::sync::{Arc, Mutex};
+use std::sync::Mutex;
 
 /// One address space that threads share: the tree of slots, and what lies under the locks of file
-/// pages, cores, frames and the epoch. The bytes of its files never change. A clause sees the word
-/// from which tickets are drawn, how many cores and frames there are, the files, and how many calls
-/// each seat may begin.
+/// pages, cores, frames and the epoch. The bytes of its files never change. A clause sees the tree's
+/// word, from which tickets are drawn and which names the space, how many cores and frames there are,
+/// the files, and how many calls each seat may begin.
 #[derive(Drop)]
 pub struct Live<A: Allocator + Clone> {
-    pub(crate) tickets: Arc<Tickets<A>, A>,
     pub(crate) tree: SharedTree<A>,
     pub(crate) objects: Objects<A>,
     pub(crate) pages: Vec<Vec<Mutex<CachedFrame>, A>, A>,
@@ -36,7 +34,7 @@ impl<A: Allocator + Clone> Model for Live<A> {
     ghost Value = { LiveView };
 
     ghost view = { λ l. record {
-      word = arc_value l.tickets;
+      word = arc_value l.tree.tickets;
       cores = length l.cores.items;
       frames = length l.frames.items;
       files = l.objects;

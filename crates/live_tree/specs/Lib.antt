@@ -2,5 +2,6 @@ pub mod Cutting
 pub mod Guards
 pub mod Held
 pub mod Letting
+pub mod Named
 pub mod Shown
 pub mod Steps

@@ -1,25 +1,30 @@
 //! The histories of all slots, as a tree hands them out.
 ghost use Rattle.std.specs.Prelude.{◌≡◌, ◌^◌, []};
+ghost use Rattle.std.specs.Arc.{arc_value};
 ghost use Rattle.live_levels.specs.Histories.{Chain, Grew};
 
 use live_levels::close::SlotHistory;
+use seats::Tickets;
 use std::alloc::Allocator;
+use std::sync::Arc;
 
 /// The histories of slots that lie side by side and have all pages below 2^36, and so all valid
-/// pages. Only a tree hands them out.
+/// pages. Only a tree hands them out, with its word, by which they are known as that tree's.
 #[derive(Drop)]
 pub struct Histories<A: Allocator> {
     slots: Vec<SlotHistory<A>, A>,
+    tickets: Arc<Tickets<A>, A>,
     ghost chain: { ∥ Chain 0 (2 ^ 36) slots.items ∥₁ },
 }
 
 impl<A: Allocator> Histories<A> {
-    /// The histories that were gathered, from page 0 on.
+    /// The histories that were gathered in the tree of this word, from page 0 on.
     #[tactic(auto, using(crate::proofs::Gathered::chain_of))]
-    pub(crate) fn new(slots: Vec<SlotHistory<A>, A>) -> Histories<A>
+    pub(crate) fn new(slots: Vec<SlotHistory<A>, A>, tickets: Arc<Tickets<A>, A>) -> Histories<A>
         requires { Grew 0 (2 ^ 36) [] slots.items }
+        ensures { arc_value result.tickets ≡ arc_value tickets }
     {
-        Histories { slots }
+        Histories { slots, tickets }
     }
 
     /// The slots, from left to right.

@@ -1,10 +1,13 @@
 //! The shared tree: four levels of slots, from its making to its end.
 ghost use Rattle.std.specs.Prelude.{◌≡◌, ℕ, ◌+◌, ◌<◌, ◌≤◌, ◌^◌, IfOk, IfSome, Some};
+ghost use Rattle.std.specs.Arc.{arc_value};
 ghost use Rattle.std.specs.Sync.Mutex.{mutex_guard_value};
 ghost use Rattle.live_levels.specs.Nexts.{Answers, Cuts, Folds};
 ghost use Rattle.live_levels.specs.Parts.{AreUnused};
 ghost use Rattle.live_levels.specs.Slots.{HasPage};
 ghost use Rattle.slot_lock.specs.Slots.{IsNew};
+ghost use Rattle.seats.specs.Tickets.{IsNew as IsNewTicketer};
+ghost use Rattle.live_tree.specs.Named.{AreOf};
 ghost use Rattle.live_tree.specs.Shown.{shown};
 
 use crate::histories::Histories;
@@ -13,8 +16,9 @@ use live_levels::leaves::Leaves;
 use live_levels::level::{Level, Next, SlotCut, Stepper};
 use live_levels::parts::side_by_side;
 use live_levels::slot::SlotState;
+use seats::{Ticketer, Tickets};
 use std::alloc::Allocator;
-use std::sync::{MutexGuard, Wait};
+use std::sync::{Arc, MutexGuard, Wait};
 use vm_base::{CoreId, NoMemory, PageRange};
 
 /// The first level: a slot has 2^27 pages, a slot of the levels below 2^18, 2^9 and 1.
@@ -26,16 +30,21 @@ const ROOT_PAGES: u64 = 1 << 27;
 // The page after the last slot.
 const END: u64 = 512 * ROOT_PAGES;
 
-/// The slots of all pages, as threads share them.
+/// The slots of all pages, as threads share them, and the word from which the tickets of their steps
+/// are drawn. Each tree makes its own word, so that it names the tree, and the tree's histories.
 #[derive(Drop)]
 pub struct SharedTree<A: Allocator> {
     alloc: A,
     root: Root<A>,
+    tickets: Arc<Tickets<A>, A>,
 }
 
 impl<A: Allocator + Clone> SharedTree<A> {
-    /// All pages unmapped and unheld, in the 512 slots of the first level, with no history.
-    pub fn new(alloc: A) -> Result<SharedTree<A>, NoMemory> {
+    /// All pages unmapped and unheld, in the 512 slots of the first level, with no history; and the
+    /// right to draw tickets from the tree's word, of which none is drawn yet.
+    pub fn new(alloc: A) -> Result<(SharedTree<A>, Ticketer), NoMemory>
+        ensures { IfOk result (λ t. IsNewTicketer (arc_value t.0.tickets) 63 t.1) }
+    {
         let slots = SharedTree::first_slots(&alloc)?;
         SharedTree::over(alloc, slots)
     }
@@ -51,25 +60,39 @@ impl<A: Allocator + Clone> SharedTree<A> {
         Ok(slots)
     }
 
-    /// A tree that begins with these slots. What they are from then on no clause knows, since
-    /// threads change them.
-    pub fn over(alloc: A, mut slots: Vec<SlotState<A>, A>) -> Result<SharedTree<A>, NoMemory>
+    /// A tree that begins with these slots, and the right to draw tickets from its word. What the
+    /// slots are from then on no clause knows, since threads change them.
+    pub fn over(
+        alloc: A,
+        mut slots: Vec<SlotState<A>, A>,
+    ) -> Result<(SharedTree<A>, Ticketer), NoMemory>
         requires { AreUnused 0 (2 ^ 27) slots.items }
+        ensures { IfOk result (λ t. IsNewTicketer (arc_value t.0.tickets) 63 t.1) }
     {
-        let Ok(own) = alloc.clone() else {
-            return Err(NoMemory);
-        };
-        let mut root = match Root::new(own, 0, ROOT_PAGES) {
-            Ok(root) => root,
-            Err(e) => return Err(e),
-        };
+        let (tickets, ticketer) = Tickets::new(alloc.clone()?)?;
+        let tickets = Arc::new(alloc.clone()?, tickets)?;
+        let mut root = Root::new(alloc.clone()?, 0, ROOT_PAGES)?;
         root.fill(&mut slots);
-        Ok(SharedTree { alloc, root })
+        Ok((
+            SharedTree {
+                alloc,
+                root,
+                tickets,
+            },
+            ticketer,
+        ))
     }
 
     /// Where the tree grows, and held slots get room.
     pub fn alloc(&self) -> &A {
         &self.alloc
+    }
+
+    /// The tree's word.
+    pub fn tickets(&self) -> &Arc<Tickets<A>, A>
+        ensures { result.now ≡ self.now.tickets }
+    {
+        &self.tickets
     }
 
     /// One step of the core towards holding the pages from the cursor up to the end: the deepest
@@ -118,7 +141,8 @@ impl<A: Allocator + Clone> SharedTree<A> {
     /// `None` where nothing changed. It takes no memory.
     pub fn fold<S: Stepper>(&mut self, stepper: &mut S, page: u64) -> Option<PageRange>
         requires { S.can_step stepper.old }
-        ensures { Folds S.stepped stepper.old stepper.new page result }
+        ensures folds { Folds S.stepped stepper.old stepper.new page result }
+        ensures word { self.new.tickets ≡ self.old.tickets }
     {
         self.root.fold(stepper, page)
     }
@@ -147,10 +171,16 @@ impl<A: Allocator + Clone> SharedTree<A> {
         None
     }
 
-    /// The histories of all slots in the order of their pages, which are all pages below 2^36.
-    /// `None` where memory ran out, or a slot was in a wrong place.
-    pub fn histories(&mut self) -> Option<Histories<A>> {
+    /// The histories of all slots in the order of their pages, which are all pages below 2^36, with
+    /// the tree's word. `None` where memory ran out, or a slot was in a wrong place.
+    pub fn histories(&mut self) -> Option<Histories<A>>
+        ensures own { IfSome result (AreOf (arc_value self.old.tickets)) }
+        ensures word { self.new.tickets ≡ self.old.tickets }
+    {
         let Ok(own) = self.alloc.clone() else {
+            return None;
+        };
+        let Ok(tickets) = Arc::try_clone(&self.tickets) else {
             return None;
         };
         let mut slots = Vec::new(own);
@@ -158,6 +188,6 @@ impl<A: Allocator + Clone> SharedTree<A> {
         if end != END {
             return None;
         }
-        Some(Histories::new(slots))
+        Some(Histories::new(slots, tickets))
     }
 }

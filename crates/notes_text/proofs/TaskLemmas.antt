@@ -1,12 +1,18 @@
 -- The tasks of each core.
 use Rattle.machine_laws.proofs.Words.{◌≡◌, ℕ, zero, suc, ◌+◌, ◌<◌, ◌≤◌, Bool, true, false, cond, eqb, List, [], ◌∷◌, ◌++◌, length, take, map, get_or, arith}
 use Rattle.machine_laws.proofs.Words.{refl, sym, ap, ◌∙◌, common_steps, take_more, filter-append, filter, range_with_len}
+use Rattle.machine_laws.proofs.Words.{Result, Ok}
+use Rattle.std.proofs.Common.{is_ok}
 use Rattle.std.proofs.lemmas.List.{map-append}
 use Rattle.std.specs.Prelude.{◌==◌}
 use Rattle.trace.proofs.TextLemmas.{range_more}
 use Rattle.notes_text.specs.declared.script.Task.{Task}
 use Rattle.notes_text.specs.declared.script.ScriptLine.{ScriptLine}
 use Rattle.notes_text.specs.Scripts.{tasks_of, all_tasks}
+
+-- what was appended, where it was
+pub grown : {X U E : Type 0} (r : Result U E) (u : U) (xs ys new : List X) → new ≡ cond (is_ok r) xs ys → r ≡ Ok u → new ≡ xs
+grown r u xs ys new e is = e ∙ ap (λ q. cond (is_ok q) xs ys) is
 
 pub cores_more : (n : ℕ) (lines : List ScriptLine) → all_tasks (n + 1) lines ≡ all_tasks n lines ++ tasks_of n lines ∷ []
 cores_more n lines =

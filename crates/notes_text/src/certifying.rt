@@ -3,6 +3,7 @@ ghost use Rattle.std.specs.Prelude.{◌≡◌, ◌⊎◌, [], ◌∷◌, Err, If
 ghost use Rattle.certifier.specs.Order.{AreNumbered};
 ghost use Rattle.certifier.specs.Standings.{AreStandings};
 ghost use Rattle.core_steps.specs.Setups.{fault_of, made_of};
+ghost use Rattle.seats.specs.Packing.{shown};
 ghost use Rattle.trace_io.specs.Io.{read_from, written_to};
 ghost use Rattle.trace_io.specs.Source.{HasStopped, Reads};
 ghost use Rattle.trace.specs.Declarations.{Asked, asked_fault, made_by};
@@ -19,7 +20,7 @@ use certifier::{CertifyFault, certify_standing};
 use core_steps::Setup;
 use live_tree::histories::Histories;
 use radix_range::RadixMap;
-use seats::Noted;
+use seats::{Noted, Notes};
 use slot_lock::SlotMap;
 use std::alloc::Allocator;
 use trace::declaration::Declaration;
@@ -40,17 +41,17 @@ fn no_histories<'a, A: Allocator>() -> Option<&'a Histories<A>>
 fn judge<A: Allocator + Clone + Drop>(
     alloc: A,
     setup: Setup<A>,
-    notes: &[Noted],
+    notes: &Notes<'_>,
     standings: &[Standing],
 ) -> Result<Verdict, NoMemory>
     requires sound { fault_of setup ≡ None }
-    requires standings { AreStandings (notes.now ∷ []) standings.now }
+    requires standings { AreStandings (shown notes.now ∷ []) standings.now }
     ensures ok { IfOk result (λ verdict. (asked : Asked) → made_of setup ≡ made_by asked → Judges A
         ⟦<RadixMap<A> as SlotMap>⟧.parts ⟦<RadixMap<A> as SlotMap>⟧.can_fold
-        ⟦<RadixMap<A> as SlotMap>⟧.folds asked notes.now verdict) }
-    ensures err { IfErr result (λ _. AreNumbered notes.now) }
+        ⟦<RadixMap<A> as SlotMap>⟧.folds asked (shown notes.now) verdict) }
+    ensures err { IfErr result (λ _. AreNumbered (shown notes.now)) }
 {
-    match certify_standing(alloc, setup, &[notes], standings, no_histories()) {
+    match certify_standing(alloc, setup, &[*notes], standings, no_histories()) {
         Ok(done) => Ok(Verdict::Certified(done.calls)),
         Err(CertifyFault::Ticket(ticket)) => Ok(Verdict::Ticket(ticket)),
         Err(
@@ -76,11 +77,11 @@ fn judge<A: Allocator + Clone + Drop>(
 fn judge_declared<A: Allocator + Clone + Drop>(
     alloc: A,
     declaration: &Declaration,
-    notes: &[Noted],
+    notes: &Notes<'_>,
 ) -> Result<Verdict, NoMemory>
     requires { asked_fault declaration.now ≡ None }
     ensures { IfOk result (λ verdict. Judges A ⟦<RadixMap<A> as SlotMap>⟧.parts
-        ⟦<RadixMap<A> as SlotMap>⟧.can_fold ⟦<RadixMap<A> as SlotMap>⟧.folds declaration.now notes.now verdict) }
+        ⟦<RadixMap<A> as SlotMap>⟧.can_fold ⟦<RadixMap<A> as SlotMap>⟧.folds declaration.now (shown notes.now) verdict) }
 {
     let Ok(for_files) = alloc.clone() else {
         return Err(NoMemory);
@@ -91,7 +92,7 @@ fn judge_declared<A: Allocator + Clone + Drop>(
     let Ok(for_order) = alloc.clone() else {
         return Err(NoMemory);
     };
-    let Ok(standings) = standings(for_order, &[notes]) else {
+    let Ok(standings) = standings(for_order, &[*notes]) else {
         return Err(NoMemory);
     };
     match judge(alloc, setup, notes, &standings) {
@@ -115,7 +116,8 @@ fn judge_collected<A: Allocator + Clone + Drop>(
     let Some(declaration) = collected.declaration() else {
         return Err(TraceFault::NoMemory);
     };
-    match judge_declared(alloc, declaration, collected.items()) {
+    let notes = Notes::of(collected.items());
+    match judge_declared(alloc, declaration, &notes) {
         Ok(verdict) => Ok(verdict),
         Err(_) => Err(TraceFault::NoMemory),
     }

@@ -11,7 +11,7 @@ pub mod note_line;
 mod noted_line;
 mod ordering;
 pub mod outcome_words;
-mod request_text;
+pub mod request_text;
 pub mod script;
 pub mod verdict;
 pub mod writing;

@@ -59,7 +59,7 @@ fn push_backing(text: &mut LineText, prot: Prot, flags: Flags, file: u64, off: u
 /// Appends the words of the request, each behind a space: addresses, lengths and offsets in hexadecimal digits
 /// behind `0x`, a file and a byte in decimal ones, the flags in the order `p`, `s`, `f`, `a`. File and offset are always
 /// there.
-pub(crate) fn push_request(text: &mut LineText, request: Request)
+pub fn push_request(text: &mut LineText, request: Request)
     requires { length text.old.bytes + 100 ≤ 256 }
     ensures bytes { text.new.bytes ≡ text.old.bytes ++ spaced (request_words request) }
     ensures short { length text.new.bytes ≤ length text.old.bytes + 100 }

@@ -6,6 +6,7 @@ ghost use Rattle.trace_io.specs.Io.{IsWritten, written_to};
 ghost use Rattle.trace_text.specs.Spelling.{mode_text};
 ghost use Rattle.seats.specs.Notes.{ticket_of};
 ghost use Rattle.seats.specs.declared.noted.Noted.{Noted};
+ghost use Rattle.seats.specs.Packing.{shown};
 ghost use Rattle.certifier.specs.Order.{all_notes};
 ghost use Rattle.notes_text.specs.Ordered.{AreInOrder};
 ghost use Rattle.notes_text.specs.Written.{declared_text, file_text, files_text, note_head, note_text, notes_text, space_text, spaced};
@@ -16,7 +17,7 @@ use crate::merging::{all_climb, least};
 use crate::ordering::in_order;
 use crate::script::Script;
 use crate::verdict::write_both;
-use seats::Noted;
+use seats::{Noted, Notes};
 use std::alloc::Allocator;
 use trace::declaration::{Declaration, FileLine};
 use trace::fault::TraceFault;
@@ -99,15 +100,16 @@ fn write_note<W: Sink>(writer: &mut W, note: &Noted) -> Result<(), WriteFailed>
 
 // Writes a line of each note of lists in which the tickets don't fall, in order of tickets, and of those that have one ticket
 // in order of the lists. What was written is taken off the lists.
-fn write_merged<W: Sink>(writer: &mut W, lists: &mut [&[Noted]]) -> Result<(), WriteFailed>
-    requires { All (IsNonDecreasingBy ticket_of) (map (λ s. s.now) lists.old) }
-    ensures { (order : List Noted) × AreInOrder (all_notes (map (λ s. s.now) lists.old)) order
+fn write_merged<W: Sink>(writer: &mut W, lists: &mut [Notes<'_>]) -> Result<(), WriteFailed>
+    requires { All (IsNonDecreasingBy ticket_of) (map shown lists.old) }
+    ensures { (order : List Noted) × AreInOrder (all_notes (map shown lists.old)) order
         × IsWritten result (written_to W.Sink writer.old writer.new) (flat_map note_text order) }
 {
     'notes: while let Some(head) = least(lists) {
         let list = lists[head.at];
-        let note = list[0];
-        lists[head.at] = &list[1..];
+        let note = list.get(0);
+        let rest = list.rest();
+        lists[head.at] = rest;
         if let Err(failed) = write_note(writer, &note) {
             return Err(failed);
         }
@@ -147,8 +149,12 @@ fn write_files<W: Sink>(writer: &mut W, files: &[FileLine]) -> Result<(), WriteF
     Ok(())
 }
 
-// Writes the lines of what is declared.
-fn write_declaration<W: Sink>(writer: &mut W, declaration: &Declaration) -> Result<(), WriteFailed>
+/// Writes the lines of what is declared: the `vm` line, always with CALLS, and the `file` lines. At an `Err` a front of them was
+/// written.
+pub fn write_declaration<W: Sink>(
+    writer: &mut W,
+    declaration: &Declaration,
+) -> Result<(), WriteFailed>
     ensures { IsWritten result (written_to W.Sink writer.old writer.new) (declared_text declaration.now) }
 {
     let mut text = LineText::new();
@@ -192,10 +198,10 @@ fn write_out<W: Sink>(
 fn merge_out<W: Sink>(
     writer: &mut W,
     declaration: &Declaration,
-    lists: &mut [&[Noted]],
+    lists: &mut [Notes<'_>],
 ) -> Result<(), WriteFailed>
-    requires { All (IsNonDecreasingBy ticket_of) (map (λ s. s.now) lists.old) }
-    ensures wrote { (order : List Noted) × AreInOrder (all_notes (map (λ s. s.now) lists.old)) order
+    requires { All (IsNonDecreasingBy ticket_of) (map shown lists.old) }
+    ensures wrote { (order : List Noted) × AreInOrder (all_notes (map shown lists.old)) order
         × IsWritten result (written_to W.Sink writer.old writer.new) (notes_text declaration.now order) }
     ensures out { OnOk result (W.is_flushed writer.new ≡ true) }
 {
@@ -209,8 +215,8 @@ fn merge_out<W: Sink>(
 }
 
 // The lists, each where its notes begin.
-fn heads<'a, A: Allocator>(alloc: A, seats: &[&'a [Noted]]) -> Result<Vec<&'a [Noted], A>, NoMemory>
-    ensures { IfOk result (λ heads. map (λ s. s.now) heads.items ≡ map (λ s. s.now) seats.now) }
+fn heads<'a, A: Allocator>(alloc: A, seats: &[Notes<'a>]) -> Result<Vec<Notes<'a>, A>, NoMemory>
+    ensures { IfOk result (λ heads. map shown heads.items ≡ map shown seats.now) }
 {
     let mut heads = Vec::new(alloc);
     let Ok(()) = heads.extend_from_slice(seats) else {
@@ -223,11 +229,11 @@ fn heads<'a, A: Allocator>(alloc: A, seats: &[&'a [Noted]]) -> Result<Vec<&'a [N
 fn merge_notes<A: Allocator, W: Sink>(
     alloc: A,
     declaration: &Declaration,
-    seats: &[&[Noted]],
+    seats: &[Notes<'_>],
     writer: &mut W,
 ) -> Result<(), TraceFault>
-    requires { All (IsNonDecreasingBy ticket_of) (map (λ s. s.now) seats.now) }
-    ensures ends { Writes declaration.now (all_notes (map (λ s. s.now) seats.now)) (W.contents writer.old) (W.contents writer.new) result }
+    requires { All (IsNonDecreasingBy ticket_of) (map shown seats.now) }
+    ensures ends { Writes declaration.now (all_notes (map shown seats.now)) (W.contents writer.old) (W.contents writer.new) result }
     ensures out { OnOk result (W.is_flushed writer.new ≡ true) }
     ensures kept { (result ≡ Err TraceFault.WriteFailed) ⊎ (W.failed writer.new ≡ W.failed writer.old) }
     ensures write { result ≡ Err TraceFault.WriteFailed → W.failed writer.new ≡ true }
@@ -249,10 +255,10 @@ fn merge_notes<A: Allocator, W: Sink>(
 #[tactic(auto, using(crate::proofs::PieceLemmas::wrote_all, crate::proofs::PieceLemmas::wrote_front, crate::proofs::PieceLemmas::wrote_none))]
 pub fn write_notes<A: Allocator + Clone + Drop, W: Sink>(
     script: &Script<A>,
-    seats: &[&[Noted]],
+    seats: &[Notes<'_>],
     writer: &mut W,
 ) -> Result<(), TraceFault>
-    ensures ends { Writes script.now.asked (all_notes (map (λ s. s.now) seats.now)) (W.contents writer.old) (W.contents writer.new) result }
+    ensures ends { Writes script.now.asked (all_notes (map shown seats.now)) (W.contents writer.old) (W.contents writer.new) result }
     ensures out { OnOk result (W.is_flushed writer.new ≡ true) }
     ensures kept { (result ≡ Err TraceFault.WriteFailed) ⊎ (W.failed writer.new ≡ W.failed writer.old) }
     ensures write { result ≡ Err TraceFault.WriteFailed → W.failed writer.new ≡ true }

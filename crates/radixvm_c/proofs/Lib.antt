@@ -6,3 +6,5 @@ pub mod Holdings
 pub mod Listing
 pub mod Coded
 pub mod Logged
+pub mod ChairValues
+pub mod Sent

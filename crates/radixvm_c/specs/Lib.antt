@@ -8,3 +8,5 @@ pub mod Holding
 pub mod Maps
 pub mod Logs
 pub mod Laws
+pub mod Rooms
+pub mod Seats

@@ -1,11 +1,10 @@
 -- The log of a machine that keeps it, as C reads it
-use Rattle.std.specs.Prelude.{◌≡◌, ℕ, Bool, true, false, List, ◌++◌, length, map, take, drop}
+use Rattle.std.specs.Prelude.{◌≡◌, ℕ, true, false, List, ◌++◌, length, map, take, drop}
 use Rattle.std.specs.Prelude.{Option, None, Some, Result, Ok, Err}
 use Rattle.vm_base.specs.declared.requests.Request.{Request}
 use Rattle.vm_base.specs.declared.log.Entry.{Entry}
 use Rattle.vm_base.specs.declared.log.Entry.TheVariants.{Answer, Detach}
 use Rattle.vm_base.specs.Log.{nth}
-use Rattle.machine_model.specs.World.{World}
 use Rattle.radixvm_c.specs.declared.codes.RawEvent.{RawEvent}
 use Rattle.radixvm_c.specs.declared.opening.Refusal.{Refusal}
 use Rattle.radixvm_c.specs.declared.opening.Refusal.TheVariants as By

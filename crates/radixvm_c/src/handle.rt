@@ -19,6 +19,9 @@ pub struct Handle {
     pub ghost value: { Option Held },
 }
 
+// What lies behind it may go to another thread.
+unsafe impl Send for Handle {}
+
 impl Model for Handle {
     ghost also_owns = { λ h. held_at h.alloc h.at h.value };
 }

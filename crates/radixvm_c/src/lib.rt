@@ -10,6 +10,8 @@ ghost use Rattle.radixvm_c.specs.Logs.{TellsLog};
 
 pub mod batch;
 mod bits;
+pub mod chair;
+pub mod chair_handle;
 pub mod codes;
 pub mod handle;
 pub mod held;
@@ -19,6 +21,10 @@ pub mod logs;
 pub mod loose;
 pub mod maps;
 pub mod opening;
+pub mod placed;
+pub mod seats;
+pub mod sharing;
+pub mod threads;
 
 use crate::batch::{Done, calls_batch, done_of, refusal_done, run_batch};
 use crate::codes::{RawEvent, RawOutcome};
@@ -32,7 +38,7 @@ use crate::opening::{RawFile, RawSetup, Refusal};
 use std::alloc::Global;
 
 /// The version that include/radixvm.h has.
-const VERSION: u32 = 3;
+const VERSION: u32 = 4;
 
 /// The code of an empty handle, where no `Done` is told.
 const EMPTY: u32 = 7;
@@ -43,7 +49,7 @@ const ABSENT: u32 = 9;
 /// The version of the codes and structs of `include/radixvm.h`.
 #[unsafe(no_mangle)]
 pub extern "C" fn radixvm_version() -> u32
-    ensures { result ≡ 3 }
+    ensures { result ≡ 4 }
 {
     VERSION
 }

@@ -9,19 +9,20 @@ use Rattle.seats.specs.Notes.{SeatView, noted, with_note}
 use Rattle.seats.specs.Growing.{IsSame, Grew, Steps, is_between}
 
 pub same_trans : (a b c : SeatView) → IsSame a b → IsSame b c → IsSame a c
-same_trans a b c h k = record { word = k.word ∙ h.word; core = k.core ∙ h.core; plain = k.plain ∙ h.plain }
+same_trans a b c h k = record { word = k.word ∙ h.word; spare = k.spare ∙ h.spare; core = k.core ∙ h.core; plain = k.plain ∙ h.plain }
 
 -- of the same seat, where nothing was noted
 pub grew_same : (a b : SeatView) → IsSame a b → b.begun ≡ a.begun → b.notes ≡ a.notes → Grew a b
 grew_same a b h n e = record { same = h; begun = n; more = []; are = e ∙ sym (append-nil a.notes); between = refl }
 
 pub grew_none : (a b : SeatView) → b ≡ a → Grew a b
-grew_none a b e = subst (λ c. Grew a c) (sym e) (grew_same a a (record { word = refl; core = refl; plain = refl }) refl refl)
+grew_none a b e = subst (λ c. Grew a c) (sym e) (grew_same a a (record { word = refl; spare = refl; core = refl; plain = refl }) refl refl)
 
 -- but for how much room there is, and where the core looks next, nothing has changed
 grew_beside : (a b : SeatView) (r f p : ℕ) → b ≡ record a { room = r; next_frame = f; next_page = p } → Grew a b
 grew_beside a b r f p e = grew_same a b (record {
   word = ap (λ (s : SeatView). s.word) e;
+  spare = ap (λ (s : SeatView). s.spare) e;
   core = ap (λ (s : SeatView). s.core) e;
   plain = ap (λ (s : SeatView). s.plain) e;
 }) (ap (λ (s : SeatView). s.begun) e) (ap (λ (s : SeatView). s.notes) e)
@@ -46,6 +47,7 @@ pub grew_note : (s t : SeatView) (n : Noted) → t ≡ with_note s n → is_betw
 grew_note s t n e between = record {
   same = record {
     word = ap (λ (s : SeatView). s.word) e;
+    spare = ap (λ (s : SeatView). s.spare) e;
     core = ap (λ (s : SeatView). s.core) e;
     plain = ap (λ (s : SeatView). s.plain) e;
   };

@@ -10,9 +10,11 @@ use Rattle.seats.specs.declared.noted.Noted.{Noted}
 use Rattle.vm_base.specs.declared.replies.Reply.{Reply}
 use Rattle.vm_base.specs.declared.requests.Request.{Request}
 
--- the seat of the same core, with the same word, whose plain steps are noted as before
+-- the seat of the same core, with the same word, off which as many may still be split, and whose plain steps are noted as
+-- before
 pub record IsSame (s t : SeatView) : Type 0 where
   pub word : t.word ≡ s.word
+  pub spare : t.spare ≡ s.spare
   pub core : t.core ≡ s.core
   pub plain : t.plain ≡ s.plain
 

@@ -2,7 +2,7 @@
 ghost use Rattle.std.specs.Prelude.{◌≡◌, IfErr, IfOk, map};
 ghost use Rattle.seats.specs.Gathered.{AreAll, AreWhole};
 
-use crate::noted::Noted;
+use crate::note_list::NoteList;
 use crate::seat::{Parts, Seat};
 use crate::tickets::Tickets;
 use std::alloc::Allocator;
@@ -13,10 +13,10 @@ pub fn gather<A: Allocator>(
     alloc: A,
     word: &Tickets<A>,
     mut seats: Vec<Seat<A>, A>,
-) -> Result<Vec<Vec<Noted, A>, A>, Vec<Seat<A>, A>>
+) -> Result<Vec<NoteList<A>, A>, Vec<Seat<A>, A>>
     requires { AreAll word.now seats.items }
-    ensures notes { IfOk result (λ all. map (λ notes. notes.items) all.items ≡ map (λ s. s.notes) seats.items) }
-    ensures whole { IfOk result (λ all. AreWhole (map (λ notes. notes.items) all.items)) }
+    ensures notes { IfOk result (λ all. map (λ list. list.notes) all.items ≡ map (λ s. s.notes) seats.items) }
+    ensures whole { IfOk result (λ all. AreWhole (map (λ list. list.notes) all.items)) }
     ensures back { IfErr result (λ back. back.items ≡ seats.items) }
 {
     let Ok(mut all) = Vec::with_capacity(alloc, seats.len()) else {

@@ -4,11 +4,14 @@
 #![tactic(auto)]
 
 mod gathering;
+pub mod note_list;
 mod noted;
+pub mod packed;
 mod seat;
 mod tickets;
 
 pub use gathering::gather;
+pub use note_list::{NoteList, Notes};
 pub use noted::Noted;
 pub use seat::Seat;
 pub use tickets::{

@@ -5,7 +5,9 @@ ghost use Rattle.seats.specs.Tickets.{Rises};
 ghost use Rattle.machine_model.specs.declared.event.Event.TheVariants.{Call, Fold, Go};
 ghost use Rattle.machine_model.specs.declared.event.Outcome.TheVariants.{Stepped};
 ghost use Rattle.seats.specs.Notes.{noted, ticket_of, with_note};
+ghost use Rattle.seats.specs.Packing.{shown};
 
+use crate::note_list::{NoteList, Notes};
 use crate::noted::Noted;
 use crate::tickets::{Ticketer, Tickets};
 use live_levels::level::Stepper;
@@ -15,9 +17,6 @@ use std::marker::Model;
 use std::sync::Arc;
 use vm_base::{CoreId, Request};
 
-/// How many steps a seat may note.
-const LIMIT: usize = 1 << 32;
-
 /// A core's right to draw tickets, with the steps that were noted under each. The tickets of its
 /// notes are just those that it drew, and rise from note to note.
 #[derive(Drop)]
@@ -25,7 +24,7 @@ pub struct Seat<A: Allocator> {
     core: CoreId,
     tickets: Arc<Tickets<A>, A>,
     ticketer: Ticketer,
-    notes: Vec<Noted, A>,
+    notes: NoteList<A>,
     begun: u64,
     plain: Event,
     next_frame: u32,
@@ -33,7 +32,7 @@ pub struct Seat<A: Allocator> {
 }
 
 impl<A: Allocator> Model for Seat<A> {
-    ghost use Rattle.std.specs.Prelude.{◌≡◌, ◌-◌, ◌^◌, ◌≤◌, map, min, vec_len, vec_capacity, true};
+    ghost use Rattle.std.specs.Prelude.{◌≡◌, ◌+◌, ◌^◌, ◌≤◌, length, map, true};
     ghost use Rattle.std.specs.Arc.{arc_value};
     ghost use Rattle.seats.specs.Tickets.{Rises};
     ghost use Rattle.machine_model.specs.declared.event.Outcome.TheVariants.{Stepped};
@@ -47,8 +46,8 @@ impl<A: Allocator> Model for Seat<A> {
       tickets = s.ticketer.tickets;
       spare = s.ticketer.spare;
       core = s.core;
-      notes = s.notes.items;
-      room = min (vec_capacity s.notes - vec_len s.notes) (2 ^ 32 - vec_len s.notes);
+      notes = s.notes.notes;
+      room = s.notes.room;
       begun = s.begun;
       plain = s.plain;
       next_frame = s.next_frame;
@@ -56,21 +55,29 @@ impl<A: Allocator> Model for Seat<A> {
     } };
 
     ghost invariant = { λ s. (arc_value s.tickets ≡ s.ticketer.word)
-        × (s.ticketer.tickets ≡ map ticket_of s.notes.items)
-        × Rises (map ticket_of s.notes.items) × (s.begun ≤ vec_len s.notes)
-        × (is_between s.plain Stepped ≡ true) };
+        × (s.ticketer.tickets ≡ map ticket_of s.notes.notes)
+        × Rises (map ticket_of s.notes.notes) × (s.begun ≤ length s.notes.notes)
+        × (is_between s.plain Stepped ≡ true)
+        × (s.notes.room + length s.notes.notes ≤ 2 ^ 32) };
 }
 
 // What a seat is made of: the right to draw tickets, and what was noted under each that was drawn.
 #[derive(Drop)]
 pub(crate) struct Parts<A: Allocator> {
     pub(crate) ticketer: Ticketer,
-    pub(crate) notes: Vec<Noted, A>,
+    pub(crate) notes: NoteList<A>,
 }
 
 impl<A: Allocator> Seat<A> {
-    /// A seat of the core that has noted nothing, whose plain steps are those of the core's call.
-    pub fn new(alloc: A, core: CoreId, tickets: Arc<Tickets<A>, A>, ticketer: Ticketer) -> Seat<A>
+    /// A seat of the core that has noted nothing, whose plain steps are those of the core's call. Of the two allocators
+    /// one is for notes that stand in full.
+    pub fn new(
+        alloc: A,
+        for_full: A,
+        core: CoreId,
+        tickets: Arc<Tickets<A>, A>,
+        ticketer: Ticketer,
+    ) -> Seat<A>
         requires word { arc_value tickets ≡ ticketer.word }
         requires new { ticketer.tickets ≡ [] }
         ensures word { (result.word ≡ ticketer.word) × (result.core ≡ core) }
@@ -83,7 +90,7 @@ impl<A: Allocator> Seat<A> {
             core,
             tickets,
             ticketer,
-            notes: Vec::new(alloc),
+            notes: NoteList::new(alloc, for_full),
             begun: 0,
             plain: Event::Go(core),
             next_frame: 0,
@@ -107,19 +114,19 @@ impl<A: Allocator> Seat<A> {
     }
 
     /// The notes so far. Their tickets are those that the seat drew, and rise.
-    pub fn noted(&self) -> &[Noted]
-        ensures notes { result.now ≡ self.now.notes }
-        ensures tickets { map ticket_of result.now ≡ self.now.tickets }
+    pub fn noted(&self) -> Notes<'_>
+        ensures notes { shown result ≡ self.now.notes }
+        ensures tickets { map ticket_of (shown result) ≡ self.now.tickets }
         ensures rising { Rises self.now.tickets }
     {
-        self.notes.as_slice()
+        self.notes.notes()
     }
 
     /// The right to draw tickets, and the notes so far.
     pub(crate) fn into_parts(self) -> Parts<A>
         ensures ticketer { result.ticketer
             ≡ record { word = self.word; tickets = map ticket_of self.notes; spare = self.spare } }
-        ensures notes { result.notes.items ≡ self.notes }
+        ensures notes { result.notes.notes ≡ self.notes }
         ensures rising { Rises (map ticket_of self.notes) }
     {
         let Seat {
@@ -134,8 +141,7 @@ impl<A: Allocator> Seat<A> {
     pub fn is_within_limit(&self, count: usize) -> bool
         ensures { IsTrue result ↔ length self.now.notes + count ≤ 2 ^ 32 }
     {
-        let len = self.notes.len();
-        len <= LIMIT && count <= LIMIT - len
+        self.notes.is_within_limit(count)
     }
 
     /// Makes room for so many more notes, and tells whether it could: not where they would pass the
@@ -146,7 +152,7 @@ impl<A: Allocator> Seat<A> {
         ensures kept { self.old.room ≤ self.new.room }
         ensures small { self.new.room ≤ 2 ^ 32 }
     {
-        self.is_within_limit(count) && self.notes.reserve(count).is_ok()
+        self.notes.reserve(count)
     }
 
     /// Draws a ticket, and notes the event and its outcome under it, in room that was made before;

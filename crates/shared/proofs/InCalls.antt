@@ -13,16 +13,14 @@ use Rattle.machine_sound.proofs.Kept.{reached_fine, reached_step}
 use Rattle.machine_alone.specs.Alone.{IsCalm}
 use Rattle.core_steps.specs.declared.machine.Finished.{Finished}
 use Rattle.core_steps.specs.declared.machine.Finished.TheVariants.{Last, Stuck}
-use Rattle.core_steps.specs.Finishing.{Calls, Finishes, FinishesAfter, IsCallRefused, IsRefused}
+use Rattle.core_steps.specs.Finishing.{Calls, Finishes, FinishesAfter, IsRefused}
 use Rattle.core_steps.specs.Moving.{Tries}
 use Rattle.core_steps.specs.Machine.{IsLegal}
 use Rattle.core_steps.proofs.Keeping.{step_made}
 use Rattle.shared.specs.declared.history.History.{History}
 use Rattle.shared.specs.declared.history.Replied.{Replied}
-use Rattle.shared.specs.declared.whole.Ended.{Ended}
-use Rattle.shared.specs.declared.whole.Ended.TheVariants as To
-use Rattle.shared.specs.Histories.{Adds, Ends, history_of, replied, replied_by, replied_in}
-use Rattle.shared.specs.Calling.{CalmBelow, ComesTo, EndsCall, EndsSettled, InCall, KeepsCall, ended_by, is_answered, logged, reply_in}
+use Rattle.shared.specs.Histories.{Adds, history_of, replied, replied_by, replied_in}
+use Rattle.shared.specs.Calling.{CalmBelow, InCall, logged, reply_in}
 use Rattle.shared.proofs.Lists.{AllKnown, begins_more, begins_self, begins_through, copy_more, led_known, other_more, own_more, request_more}
 
 -- ---- where a call stands
@@ -286,45 +284,18 @@ call_refused w c request o m legal calm ne s =
     (λ _ inner h. (subst (StaysCalm w c) (sym h) (record { calm = calm; adds = adds_nothing c (history_of w) (history_of w) refl }), inner.1))
     (none_begun w c request o m calm ne))
 
--- ---- the whole
-
-finished_comes : (w : World) (c : ℕ) (request : Request) (m : World) (finished : Finished) (v : World) → InCall w c request m → Finishes m c finished v
-    → ComesTo w c request finished v
-finished_comes w c request m Stuck v k f = inl (finish_on w c request m Stuck v k f refl)
-finished_comes w c request m (Last (Answered reply)) v k f = finish_ends w c request m reply v k f
-finished_comes w c request m (Last Stepped) v k f = inl (finish_on w c request m (Last Stepped) v k f refl)
-finished_comes w c request m (Last (Wait by)) v k f = inl (finish_on w c request m (Last (Wait by)) v k f refl)
-finished_comes w c request m (Last Idle) v k f = inl (finish_on w c request m (Last Idle) v k f refl)
-finished_comes w c request m (Last Full) v k f = inl (finish_on w c request m (Last Full) v k f refl)
-
--- none could begin
-refused_comes : (w : World) (c : ℕ) (request : Request) (o : Outcome) (m : World) → IsLegal w → IsCalm w → o ≢ Stepped → Step w (Call c request) o m
-    → ComesTo w c request (Last o) m
-refused_comes w c request (Answered reply) m legal calm ne s = absurd (let z = (call_refused w c request (Answered reply) m legal calm ne s).1 in cc)
-refused_comes w c request Stepped m legal calm ne s = absurd (ne refl)
-refused_comes w c request (Wait by) m legal calm ne s = let z = (call_refused w c request (Wait by) m legal calm ne s).0 in inr (z.calm, z.adds)
-refused_comes w c request Idle m legal calm ne s = let z = (call_refused w c request Idle m legal calm ne s).0 in inr (z.calm, z.adds)
-refused_comes w c request Full m legal calm ne s = let z = (call_refused w c request Full m legal calm ne s).0 in inr (z.calm, z.adds)
+-- ---- made as it was
 
 -- a call that came to this outcome didn't begin
-abbrev Ends-at-once : Outcome → Type 0
+abbrev pub Ends-at-once : Outcome → Type 0
 Ends-at-once o = (o ≢ Stepped) × ((m : World) (finished : Finished) (c : ℕ) (v : World) → FinishesAfter m c o finished v → (v ≡ m) × (finished ≡ Last o))
 
-began : (o : Outcome) → (o ≡ Stepped) ⊎ Ends-at-once o
+pub began : (o : Outcome) → (o ≡ Stepped) ⊎ Ends-at-once o
 began Stepped = inl refl
 began (Wait by) = inr ((λ e. cc), (λ m finished c v h. h))
 began Idle = inr ((λ e. cc), (λ m finished c v h. h))
 began (Answered reply) = inr ((λ e. cc), (λ m finished c v h. h))
 began Full = inr ((λ e. cc), (λ m finished c v h. h))
-
-call_comes : (w : World) (c : ℕ) (request : Request) (finished : Finished) (v : World) → IsLegal w → IsCalm w → Calls w c request finished v → ComesTo w c request finished v
-call_comes w c request finished v legal calm k = ⊎_elim
-    (λ (e : k.0 ≡ Stepped). finished_comes w c request k.1 finished v (call_begins w c request k.1 legal calm (subst (λ o. Step w (Call c request) o k.1) e k.2))
-    (subst (λ o. FinishesAfter k.1 c o finished v) e k.3))
-    (λ (h : Ends-at-once k.0).
-    let y = h.1 k.1 finished c v k.3 in
-    subst (λ (p : Finished × World). ComesTo w c request p.0 p.1) (λ i. (sym y.1 i, sym y.0 i)) (refused_comes w c request k.0 k.1 legal calm h.0 k.2))
-    (began k.0)
 
 pub call_made : (w : World) (c : ℕ) (request : Request) (finished : Finished) (v : World) → Calls w c request finished v → v.made ≡ w.made
 call_made w c request finished v k = ⊎_elim
@@ -332,34 +303,10 @@ call_made w c request finished v k = ⊎_elim
     (λ (h : Ends-at-once k.0). ap (λ (v : World). v.made) (h.1 k.1 finished c v k.3).0 ∙ step_made w (Call c request) k.0 k.1 k.2)
     (began k.0)
 
--- a call and what settles it
-pub call_settles : (w : World) (c : ℕ) (request : Request) (finished : Finished) (m : World) (ended : Ended) (v : World) → IsLegal w → IsCalm w → Calls w c request finished m
-    → EndsSettled m c finished ended v → Ends w c request ended v × (v.made ≡ w.made)
-call_settles w c request finished m ended v legal calm called settled =
-    settled w request (call_made w c request finished m called) (call_comes w c request finished m legal calm called)
-
--- a call that was refused memory, and how it is given up
-pub call_gives_up : (kept : Bool) (w : World) (c : ℕ) (request : Request) (m : World) (ended : Ended) (v : World) → IsLegal w → IsCalm w → IsCallRefused kept w c request m
-    → EndsCall m c ended v → Ends w c request ended v × (v.made ≡ w.made)
-call_gives_up kept w c request m ended v legal calm k ends =
-    ends w request (along w c request k.0 (call_begins w c request k.0 legal calm k.1) k.2.0 m k.2.3)
-
--- ---- ending a call that is in flight
+-- ---- a call that is in flight
 
 pub calls_first : (w : World) (c : ℕ) (request : Request) (x : World) → InCall w c request x → (added : List Replied) × Adds c added (history_of w) (history_of x)
 calls_first w c request x k = (logged request (reply_in (x.calls.phase c)), k.adds)
-
-pub finish_by : (w : World) (c : ℕ) (request : Request) (x : World) (finished : Finished) (v : World) (ended : Ended) → InCall w c request x → Finishes x c finished v
-    → ended ≡ ended_by finished → Ends w c request ended v × (v.made ≡ w.made)
-finish_by w c request x finished v ended k f is = (subst (λ (e : Ended). Ends w c request e v) (sym is) (go finished f), finish_made x c finished v f ∙ k.made)
-  where
-    go : (finished : Finished) → Finishes x c finished v → Ends w c request (ended_by finished) v
-    go (Last (Answered reply)) f = finish_ends w c request x reply v k f
-    go Stuck f = calls_first w c request v (finish_on w c request x Stuck v k f refl)
-    go (Last Stepped) f = calls_first w c request v (finish_on w c request x (Last Stepped) v k f refl)
-    go (Last (Wait by)) f = calls_first w c request v (finish_on w c request x (Last (Wait by)) v k f refl)
-    go (Last Idle) f = calls_first w c request v (finish_on w c request x (Last Idle) v k f refl)
-    go (Last Full) f = calls_first w c request v (finish_on w c request x (Last Full) v k f refl)
 
 -- finishing is refused memory
 pub refused_on : (kept : Bool) (w : World) (c : ℕ) (request : Request) (x v : World) → InCall w c request x → IsRefused kept x c v → InCall w c request v
@@ -379,16 +326,16 @@ hands_none x v e o b effect = elim effect [
   | closes d y i _ _ _ ↦ absurd (b.no_go d i)
 ]
 
-event_on : (w : World) (c : ℕ) (request : Request) (x v : World) (e : Event) (o : Outcome) → IsBesides e → InCall w c request x → Step x e o v → InCall w c request v
+pub event_on : (w : World) (c : ℕ) (request : Request) (x v : World) (e : Event) (o : Outcome) → IsBesides e → InCall w c request x → Step x e o v → InCall w c request v
 event_on w c request x v e o b k s =
     let none : handed_out o ≡ None =
     ∥∥₁_elim k.reached (hlevel props) (λ r. by_effect (λ v. handed_out o ≡ None) x v e o r (comes x e o v s) (λ _ inner _. inner.1) (hands_none x v e o b)) in
     goes_on w c request x v e o k b.no_call none s
 
--- whether it was taken or refused
-pub tries_on : (X : Type 0) (x v : World) (c : ℕ) (e : Event) (r : Result Outcome NoMemory) → IsBesides e → Tries (Step x e) X x r v → KeepsCall x c v
-tries_on X x v c e (Ok o) b s = λ w request k. event_on w c request x v e o b k s
-tries_on X x v c e (Err n) b s = λ w request k. subst (InCall w c request) (sym s.0) k
+-- an event that takes no memory isn't refused
+pub tried : (X : Type 0) (x v : World) (e : Event) (r : Result Outcome NoMemory) → (X → ⊥) → Tries (Step x e) X x r v → (o : Outcome) × Step x e o v
+tried X x v e (Ok o) never s = (o, s)
+tried X x v e (Err n) never s = absurd (never s.1)
 
 pub takes_beside : (d : ℕ) → IsBesides (EventOf.Take d)
 takes_beside d = record { no_call = λ c q e. cc; no_go = λ c e. cc }
@@ -419,34 +366,3 @@ calm_more w n below free c lt = go (nat_lt c n) refl
     go : (b : Bool) → nat_lt c n ≡ b → w.calls.phase c ≡ Free
     go true e = below c (less c n e)
     go false e = ap w.calls.phase (same c n e lt) ∙ free
-
--- ---- what settles a call
-
-pub settled_answered : (x : World) (c : ℕ) (finished : Finished) (ended : Ended) → is_answered finished ≡ true → ended ≡ ended_by finished → EndsSettled x c finished ended x
-settled_answered x c (Last (Answered reply)) ended a e = λ w request made k. (subst (λ (e : Ended). Ends w c request e x) (sym e) k, made)
-settled_answered x c (Last Stepped) ended a e = absurd cc
-settled_answered x c (Last (Wait by)) ended a e = absurd cc
-settled_answered x c (Last Idle) ended a e = absurd cc
-settled_answered x c (Last Full) ended a e = absurd cc
-settled_answered x c Stuck ended a e = absurd cc
-
--- a call that isn't answered is in flight, or none began
-not_answered : (w : World) (c : ℕ) (request : Request) (finished : Finished) (x : World) → is_answered finished ≡ false → ComesTo w c request finished x
-    → InCall w c request x ⊎ Ends w c request To.Refused x
-not_answered w c request (Last (Answered reply)) x a k = absurd cc
-not_answered w c request (Last Stepped) x a k = k
-not_answered w c request (Last (Wait by)) x a k = k
-not_answered w c request (Last Idle) x a k = k
-not_answered w c request (Last Full) x a k = k
-not_answered w c request Stuck x a k = k
-
-pub settled_free : (x : World) (c : ℕ) (finished : Finished) → is_answered finished ≡ false → x.calls.phase c ≡ Free → EndsSettled x c finished To.Refused x
-settled_free x c finished a free = λ w request made k. (
-  ⊎_elim (λ (i : InCall w c request x). absurd (i.runs free)) (λ (e : Ends w c request To.Refused x). e) (not_answered w c request finished x a k),
-  made,
-)
-
-pub settled_waits : (x : World) (c : ℕ) (finished : Finished) (ended : Ended) (v : World) → is_answered finished ≡ false → x.calls.phase c ≢ Free → EndsCall x c ended v
-    → EndsSettled x c finished ended v
-settled_waits x c finished ended v a runs ends = λ w request made k.
-    ⊎_elim (λ (i : InCall w c request x). ends w request i) (λ (e : Ends w c request To.Refused x). absurd (runs (e.0 c))) (not_answered w c request finished x a k)

@@ -21,12 +21,20 @@ use Rattle.shared.specs.declared.history.History.{History}
 use Rattle.shared.specs.declared.history.Replied.{Replied}
 use Rattle.shared.specs.declared.history.Told.{Told}
 use Rattle.shared.specs.declared.space.Answer.{Answer}
+use Rattle.shared.specs.declared.space.Answer.TheVariants as Tells
+use Rattle.shared.specs.declared.space.Passed.TheVariants as By
+use Rattle.shared.specs.declared.asides.Aside.{Aside}
+use Rattle.machine_model.specs.declared.event.Event.{Event}
+use Rattle.machine_model.specs.declared.event.Outcome.{Outcome}
+use Rattle.machine_model.specs.declared.event.Outcome.TheVariants.{Full}
 use Rattle.shared.specs.declared.space.Known.{Known}
 use Rattle.shared.specs.declared.whole.Ended.{Ended}
 use Rattle.shared.specs.declared.whole.Ended.TheVariants as To
-use Rattle.shared.specs.Histories.{Adds, Begins, Ends, history_of, replied, replied_by}
-use Rattle.shared.specs.Cores.{Agrees, Answers, Extends, IsTold, history_first, made_of}
-use Rattle.shared.specs.Rules.{CanGive, Fits, Gives, Home, Kept, Learns, Makes, Out, Takes, Took, after, answer_of, first_known, history_carried, holding, known, spent_core, split_known, view_of, with_other, word_of}
+use Rattle.shared.specs.Histories.{Adds, Begins, Ends, IsFull, IsOver, StepsAside, event_of, history_of, replied, replied_by}
+use Rattle.shared.specs.Cores.{Agrees, Answers, Came, Extends, IsLater, IsTold, Passes, history_first, made_of}
+use Rattle.shared.specs.Rules.{CanGive, Fits, Gives, Home, Kept, Learns, Makes, Out, Takes, Took, after, answer_of, first_known, history_carried, holding, row, spent_core, split_known, view_of, with_other, word_of}
+use Rattle.shared.proofs.InCalls.{adds_nothing}
+use Rattle.shared.proofs.Limits.{over_full}
 use Rattle.shared.proofs.Lists.{begins_self, begins_through}
 
 -- ---- lists of views
@@ -61,7 +69,7 @@ module _ {S : Type 0} (state : S → World) (key : List S) where
   -- ---- the start
 
   pub opened : (d : S) → key ≡ d ∷ [] → IsLegal (state d) → IsCalm (state d) → 0 < (state d).made.cores
-      → Kept state key (opening (1 ∷ []) (d ∷ []) (first_known state key))
+      → Kept state key (opening (row 1) (d ∷ []) (first_known state key))
   opened d is legal calm some_core =
       let made : made_of state key ≡ (state d).made = ap (made_of state) is in
       let first : history_first state key ≡ history_of (state d) = ap (history_first state) is in
@@ -95,6 +103,7 @@ module _ {S : Type 0} (state : S → World) (key : List S) where
           homes = refl;
           in_place = λ e. omega (arith, e);
           calm = λ _. calm;
+          over = λ ne. absurd (ne refl);
           legal = legal;
           made = sym made;
           history = sym first;
@@ -105,33 +114,38 @@ module _ {S : Type 0} (state : S → World) (key : List S) where
   -- ---- the machine is taken
 
   -- it wasn't there, or no call can begin
-  not_taken : (slots id : ℕ) (me : Me S (Known S)) (s : State S (Known S)) → Kept state key s → get_elem? s.views id ≡ some me.0 → (n : ℕ) → s.words ≡ n ∷ [] → eqb n 1 ≡ false
+  not_taken : (slots id : ℕ) (me : Me S (Known S)) (s : State S (Known S)) → Kept state key s → get_elem? s.views id ≡ some me.0 → (n : ℕ) → s.words ≡ row n → eqb n 1 ≡ false
+      → (n ≢ 0 → me.0.live ≡ true → (u : World) × IsLater state me.0.first me.0.seen u × IsOver u)
       → (w : Known S) × (a : Act S) × Valid s.homes me.1 a
-      × Kept state key (stepped s 0 (either (eqb (slice_index s.words 0) 1) 0 (slice_index s.words 0)) id me.1 w a)
-      × Takes state (step slots 0 1 0 none) me (slice_index s.words 0) (w, carried_after me.1 a)
-  not_taken slots id me s k at n is other =
-      let there : slice_index s.words 0 ≡ n = ap (λ ws. slice_index ws 0) is in
-      let words : set s.words 0 (either (eqb (slice_index s.words 0) 1) 0 (slice_index s.words 0)) ≡ s.words =
-      ap (λ ws. set ws 0 (either (eqb (slice_index ws 0) 1) 0 (slice_index ws 0))) is ∙ (ap (λ b. either b 0 n ∷ []) other ∙ sym is) in
+      × Kept state key (stepped s 8 (either (eqb (slice_index s.words 8) 1) 0 (slice_index s.words 8)) id me.1 w a)
+      × Takes state (step slots 8 1 0 none) me (slice_index s.words 8) (w, carried_after me.1 a)
+  not_taken slots id me s k at n is other over =
+      let there : slice_index s.words 8 ≡ n = ap (λ ws. slice_index ws 8) is in
+      let words : set s.words 8 (either (eqb (slice_index s.words 8) 1) 0 (slice_index s.words 8)) ≡ s.words =
+      ap (λ ws. set ws 8 (either (eqb (slice_index ws 8) 1) 0 (slice_index ws 8))) is ∙ (ap (λ b. row (either b 0 n)) other ∙ sym is) in
       let views : set s.views id me.0 ≡ s.views = set_again s.views id me.0 at in (
         me.0,
         keeps,
         tt,
         subst (λ (x : List ℕ × List (Known S)). Kept state key record { words = x.0; homes = s.homes; views = x.1 }) (λ i. (sym words i, sym views i)) k,
-        subst (λ (b : Bool). Took state b me me) (sym (ap (λ m. eqb m 1) there ∙ other)) refl,
+        subst (λ m. Took state m me me) (sym there) (missed n other over),
       )
+    where
+      missed : (n : ℕ) → eqb n 1 ≡ false → (n ≢ 0 → me.0.live ≡ true → (u : World) × IsLater state me.0.first me.0.seen u × IsOver u) → Took state n me me
+      missed n other over = subst (λ b. MatchBool b ((d : S) × (me ≡ (holding me.0 (history_of (state d)), (0, d) ∷ me.1)) × Learns state me.0 d)
+          ((me ≡ me) × (n ≢ 0 → me.0.live ≡ true → (u : World) × IsLater state me.0.first me.0.seen u × IsOver u))) (sym other) (refl, over)
 
   taken : (slots id : ℕ) (me : Me S (Known S)) (s : State S (Known S)) (k : Kept state key s) → get_elem? s.views id ≡ some me.0 → (f : Home state key s k.history) → f.word ≡ 1
       → (w : Known S) × (a : Act S) × Valid s.homes me.1 a
-      × Kept state key (stepped s 0 (either (eqb (slice_index s.words 0) 1) 0 (slice_index s.words 0)) id me.1 w a)
-      × Takes state (step slots 0 1 0 none) me (slice_index s.words 0) (w, carried_after me.1 a)
+      × Kept state key (stepped s 8 (either (eqb (slice_index s.words 8) 1) 0 (slice_index s.words 8)) id me.1 w a)
+      × Takes state (step slots 8 1 0 none) me (slice_index s.words 8) (w, carried_after me.1 a)
   taken slots id me s k at f home =
       let d : S = f.machine in
       let w : Known S = holding me.0 (history_of (state d)) in
       let fits = k.each id me.0 at in
       let me' : Me S (Known S) = (w, (0, d) ∷ me.1) in
-      let words : s.words ≡ 1 ∷ [] = f.words ∙ ap (λ n. n ∷ []) home in
-      let one : slice_index s.words 0 ≡ 1 = ap (λ ws. slice_index ws 0) words in
+      let words : s.words ≡ row 1 = f.words ∙ ap row home in
+      let one : slice_index s.words 8 ≡ 1 = ap (λ ws. slice_index ws 8) words in
       let seen : Begins me.0.seen (history_of (state d)) = subst (Begins me.0.seen) (sym f.history) fits.seen in
       let learns : Learns state me.0 d = record {
         seen = seen;
@@ -166,31 +180,40 @@ module _ {S : Type 0} (state : S → World) (key : List S) where
           begun = k.begun;
           place = inr (record {
             holder = id;
-            words = ap (λ ws. set ws 0 (either (eqb (slice_index ws 0) 1) 0 (slice_index ws 0))) words;
+            words = ap (λ ws. set ws 8 (either (eqb (slice_index ws 8) 1) 0 (slice_index ws 8))) words;
             homes = ap (λ h. set h 0 none) f.homes;
             one_holds = each_at (λ j (v : Known S). v.holds ≡ true → (j ≡ id) × (v.seen ≡ k.history)) s.views id w
                 (λ j v _ e yes. absurd (not_both v.holds (f.none_holds j v e) yes)) (λ _. (refl, f.history));
           });
         },
-        subst (λ (b : Bool). Took state b me me') (sym (ap (λ m. eqb m 1) one)) (d, refl, learns),
+        subst (λ m. Took state m me me') (sym one) (d, refl, learns),
       )
 
-  pub take_keeps : (slots id : ℕ) (me : Me S (Known S)) → Allows (Kept state key) slots id me 0 (λ n. either (eqb n 1) 0 n) (Takes state (step slots 0 1 0 none) me)
+  pub take_keeps : (slots id : ℕ) (me : Me S (Known S)) → Allows (Kept state key) slots id me 8 (λ n. either (eqb n 1) 0 n) (Takes state (step slots 8 1 0 none) me)
   take_keeps slots id me s k wide at small = ⊎_elim
       (λ (f : Home state key s k.history). at_home f (eqb f.word 1) refl)
-      (λ (o : Out state s k.history). not_taken slots id me s k at 0 o.words refl)
+      (λ (o : Out state s k.history). not_taken slots id me s k at 0 o.words refl (λ ne. absurd (ne refl)))
       k.place
     where
       at_home : (f : Home state key s k.history) (b : Bool) → eqb f.word 1 ≡ b → (w : Known S) × (a : Act S) × Valid s.homes me.1 a
-          × Kept state key (stepped s 0 (either (eqb (slice_index s.words 0) 1) 0 (slice_index s.words 0)) id me.1 w a)
-          × Takes state (step slots 0 1 0 none) me (slice_index s.words 0) (w, carried_after me.1 a)
+          × Kept state key (stepped s 8 (either (eqb (slice_index s.words 8) 1) 0 (slice_index s.words 8)) id me.1 w a)
+          × Takes state (step slots 8 1 0 none) me (slice_index s.words 8) (w, carried_after me.1 a)
       at_home f true e = taken slots id me s k at f (eq_true f.word 1 e)
-      at_home f false e = not_taken slots id me s k at f.word f.words e
+      at_home f false e = not_taken slots id me s k at f.word f.words e (λ _ live.
+          let fits = k.each id me.0 at in (
+            state f.machine,
+            record {
+              legal = f.legal;
+              made = f.made ∙ ap (made_of state) (sym (fits.first live));
+              begun = subst (Begins me.0.seen) (sym f.history) fits.seen;
+            },
+            f.over (λ one. let z = sym (ap (λ n. eqb n 1) one) ∙ e in cc),
+          ))
 
   -- ---- the machine is given back
 
   pub give_keeps : (slots id : ℕ) (me : Me S (Known S)) (d : S) (word : ℕ) → me.1 ≡ (0, d) ∷ [] → CanGive state me.0 d word
-      → Allows (Kept state key) slots id me 0 (λ _. word) (λ _. Gives state (step slots 0 word 0 none) me word)
+      → Allows (Kept state key) slots id me 8 (λ _. word) (λ _. Gives state (step slots 8 word 0 none) me word)
   give_keeps slots id me d word has can s k wide at small = ⊎_elim
       (λ (f : Home state key s k.history). absurd (not_both me.0.holds (f.none_holds id me.0 at) can.holds))
       (λ (o : Out state s k.history).
@@ -247,10 +270,11 @@ module _ {S : Type 0} (state : S → World) (key : List S) where
           place = inl (record {
             machine = d;
             word = word;
-            words = ap (λ ws. set ws 0 word) o.words;
+            words = ap (λ ws. set ws 8 word) o.words;
             homes = λ i. put_back (o.homes i) (has i);
             in_place = can.in_place;
             calm = can.calm;
+            over = can.over;
             legal = can.legal;
             made = can.made ∙ ap (made_of state) (fits.first can.live);
             history = refl;
@@ -332,6 +356,7 @@ module _ {S : Type 0} (state : S → World) (key : List S) where
               homes = f.homes;
               in_place = f.in_place;
               calm = f.calm;
+              over = f.over;
               legal = f.legal;
               made = f.made;
               history = f.history;
@@ -422,6 +447,7 @@ module _ {S : Type 0} (state : S → World) (key : List S) where
               homes = f.homes;
               in_place = f.in_place;
               calm = f.calm;
+              over = f.over;
               legal = f.legal;
               made = f.made;
               history = f.history;
@@ -442,7 +468,7 @@ module _ {S : Type 0} (state : S → World) (key : List S) where
 
   -- where the word isn't 0, the machine that was at home has the history
   pub closes : (space : TableId) (id : ℕ) (v : Known S) (ws : List ℕ) (xs : List S) (d : S) (word : ℕ) → v.live ≡ true → Final (Seen (Kept state key) id v) ws xs
-      → get_elem? ws 0 ≡ some word → word ≢ 0 → get_elem? xs 0 ≡ some d → Agrees state (state d) (view_of space v)
+      → get_elem? ws 8 ≡ some word → word ≢ 0 → get_elem? xs 0 ≡ some d → Agrees state (state d) (view_of space v)
   closes space id v ws xs d word lives end there home here =
       let s = end.0 in
       let k : Kept state key s = end.1.0 in
@@ -458,7 +484,7 @@ module _ {S : Type 0} (state : S → World) (key : List S) where
         own = (subst (Begins v.seen) back fits.seen, ap (replied_by v.core) (sym back) ∙ fits.mine lives);
         others = λ n t e. subst (λ h. IsTold h t) back (fits.told n t (as_elem v.others n t e)).0;
       })
-      (λ (o : Out state s k.history). absurd (let e : some 0 ≡ some word = ap (λ l. get_elem? l 0) (sym o.words ∙ words) ∙ there in home (sym (some-injective 0 word e))))
+      (λ (o : Out state s k.history). absurd (let e : some 0 ≡ some word = ap (λ l. get_elem? l 8) (sym o.words ∙ words) ∙ there in home (sym (some-injective 0 word e))))
       k.place
     where
       as_elem : (ts : List Told) (n : ℕ) (t : Told) → slice_get ts n ≡ Some t → get_elem? ts n ≡ some t
@@ -469,15 +495,26 @@ module _ {S : Type 0} (state : S → World) (key : List S) where
   -- ---- a call
 
   -- the word was 1
-  pub took_home : (n : ℕ) (m w : Me S (Known S)) → n ≡ 1 → Took state (eqb n 1) m w
+  pub took_home : (n : ℕ) (m w : Me S (Known S)) → n ≡ 1 → Took state n m w
       → (d : S) × (w ≡ (holding m.0 (history_of (state d)), (0, d) ∷ m.1)) × Learns state m.0 d
-  took_home n m w e t = subst (λ k. Took state (eqb k 1) m w) e t
+  took_home n m w e t = subst (λ k. Took state k m w) e t
+
+  -- it wasn't
+  pub took_none : (n : ℕ) (m w : Me S (Known S)) → n ≢ 1 → Took state n m w
+      → (w ≡ m) × (n ≢ 0 → m.0.live ≡ true → (u : World) × IsLater state m.0.first m.0.seen u × IsOver u)
+  took_none n m w ne t = subst (λ b. MatchBool b ((d : S) × (w ≡ (holding m.0 (history_of (state d)), (0, d) ∷ m.1)) × Learns state m.0 d)
+      ((w ≡ m) × (n ≢ 0 → m.0.live ≡ true → (u : World) × IsLater state m.0.first m.0.seen u × IsOver u))) (ne_eqb n 1 ne) t
 
   what_added : (w : World) (core : ℕ) (request : Request) (ended : Ended) (v : World) → Ends w core request ended v
       → (added : List Replied) × Adds core added (history_of w) (history_of v)
   what_added w core request (To.Reply reply) v h = (replied request reply ∷ [], h.1)
   what_added w core request To.Refused v h = ([], h.1)
-  what_added w core request To.Spent v h = h
+  what_added w core request To.Spent v h = h.0
+
+  over_then : (w : World) (core : ℕ) (request : Request) (ended : Ended) (v : World) → Ends w core request ended v → word_of ended ≢ 1 → IsOver v
+  over_then w core request (To.Reply reply) v h ne = absurd (ne refl)
+  over_then w core request To.Refused v h ne = absurd (ne refl)
+  over_then w core request To.Spent v h ne = h.1
 
   is_calm_then : (w : World) (core : ℕ) (request : Request) (ended : Ended) (v : World) → Ends w core request ended v → word_of ended ≡ 1 → IsCalm v
   is_calm_then w core request (To.Reply reply) v h e = h.0
@@ -496,6 +533,7 @@ module _ {S : Type 0} (state : S → World) (key : List S) where
     live = live;
     in_place = never_out ended;
     calm = is_calm_then (state d) v.core request ended (state e) ends;
+    over = over_then (state d) v.core request ended (state e) ends;
     legal = legal;
     made = made ∙ learns.made live;
     adds = what_added (state d) v.core request ended (state e) ends;
@@ -503,13 +541,32 @@ module _ {S : Type 0} (state : S → World) (key : List S) where
 
   -- after a call the machine can be given back
   pub call_gives : (v now : Known S) (d : S) (number : ℕ) (request : Request) (ended : Ended) (carried : List (ℕ × S)) (word : ℕ) → v.live ≡ true → number ≡ v.core → Learns state v d
-      → Makes state d number request ended carried → now ≡ holding v (history_of (state d)) → word ≡ word_of ended
+      → Makes state d (λ x y. Ends x number request ended y) carried → now ≡ holding v (history_of (state d)) → word ≡ word_of ended
       → (x : S) × (carried ≡ (0, x) ∷ []) × CanGive state now x word
   call_gives v now d number request ended carried word live is learns makes same sent = (
     makes.machine,
     makes.has,
     subst (λ (p : Known S × ℕ). CanGive state p.0 makes.machine p.1) (λ i. (sym same i, sym sent i))
-        (can_give v d makes.machine request ended live learns (subst (λ n. Ends (state d) n request ended (state makes.machine)) is makes.ends) makes.made makes.legal),
+        (can_give v d makes.machine request ended live learns (subst (λ n. Ends (state d) n request ended (state makes.machine)) is makes.does) makes.made makes.legal),
+  )
+
+  -- and so it can after an aside
+  pub aside_gives : (v now : Known S) (d : S) (event : Event) (outcome : Outcome) (carried : List (ℕ × S)) → v.live ≡ true → Learns state v d
+      → Makes state d (λ x y. StepsAside x event outcome y × IsCalm y) carried → now ≡ holding v (history_of (state d))
+      → (x : S) × (carried ≡ (0, x) ∷ []) × CanGive state now x 1
+  aside_gives v now d event outcome carried live learns makes same = (
+    makes.machine,
+    makes.has,
+    subst (λ (k : Known S). CanGive state k makes.machine 1) (sym same) (record {
+      holds = refl;
+      live = live;
+      in_place = λ e. omega (arith, e);
+      calm = λ _. makes.does.1;
+      over = λ ne. absurd (ne refl);
+      legal = makes.legal;
+      made = makes.made ∙ learns.made live;
+      adds = ([], adds_nothing v.core (history_of (state d)) (history_of (state makes.machine)) makes.does.0.1);
+    }),
   )
 
   extends : (space : TableId) (v : Known S) (d e : S) (added : List Replied) → v.live ≡ true → Learns state v d → Adds v.core added (history_of (state d)) (history_of (state e))
@@ -523,22 +580,64 @@ module _ {S : Type 0} (state : S → World) (key : List S) where
     same = refl;
   }
 
+  -- the machine as it was given back is later than what the core has seen
+  later : (v : Known S) (d e : S) → v.live ≡ true → Learns state v d → (state e).made ≡ (state d).made → IsLegal (state e) → IsLater state v.first (history_of (state e)) (state e)
+  later v d e live learns made legal = record { legal = legal; made = made ∙ learns.made live; begun = begins_again (history_of (state e)) }
+
   pub call_answers : (space other : TableId) (v w : Known S) (d : S) (number : ℕ) (request : Request) (ended : Ended) (answer : Answer) (carried : List (ℕ × S)) → other ≡ space → v.live ≡ true
-      → number ≡ v.core → Learns state v d → (makes : Makes state d number request ended carried)
+      → number ≡ v.core → Learns state v d → (makes : Makes state d (λ x y. Ends x number request ended y) carried)
       → w ≡ after (holding v (history_of (state d))) (history_of (state makes.machine)) → answer ≡ answer_of ended
       → Answers state (view_of space v) request answer (view_of other w)
   call_answers space other v w d number request ended answer carried there live is learns makes same told =
       subst (λ (p : TableId × (Known S × Answer)). Answers state (view_of space v) request p.1.1 (view_of p.0 p.1.0)) (λ i. (sym there i, (sym same i, sym told i)))
-      (go ended (subst (λ n. Ends (state d) n request ended (state makes.machine)) is makes.ends))
+      (go ended (subst (λ n. Ends (state d) n request ended (state makes.machine)) is makes.does))
     where
       e : S
       e = makes.machine
 
+      full : IsFull (state e) → (u : World) × IsLater state v.first (history_of (state e)) u × IsFull u
+      full limit = (state e, later v d e live learns makes.made makes.legal, limit)
+
       go : (ended : Ended) → Ends (state d) v.core request ended (state e)
           → Answers state (view_of space v) request (answer_of ended) (view_of space (after (holding v (history_of (state d))) (history_of (state e))))
       go (To.Reply reply) h = extends space v d e (replied request reply ∷ []) live learns h.1 makes.made makes.legal
-      go To.Refused h = inr ([], extends space v d e [] live learns h.1 makes.made makes.legal)
-      go To.Spent h = inr (h.0, extends space v d e h.0 live learns h.1 makes.made makes.legal)
+      go To.Refused h = (inr ([], extends space v d e [] live learns h.1 makes.made makes.legal), full h.2)
+      go To.Spent h = (inr (h.0.0, extends space v d e h.0.0 live learns h.0.1 makes.made makes.legal), full (inr h.1))
+
+  -- nothing was taken, and so nothing changed
+  pub same_view : (space other : TableId) (n : ℕ) (m w : Me S (Known S)) → n ≢ 1 → Took state n m w → other ≡ space → view_of other w.0 ≡ view_of space m.0
+  same_view space other n m w ne t there =
+      let same = (took_none n m w ne t).0 in ap (λ (p : TableId × Me S (Known S)). view_of p.0 p.1.0) (λ i. (there i, same i))
+
+  -- where no call can begin any more
+  pub full_answers : (space other : TableId) (n : ℕ) (m w : Me S (Known S)) (request : Request) → n ≢ 1 → n ≢ 0 → Took state n m w → other ≡ space → m.0.live ≡ true
+      → Answers state (view_of space m.0) request Tells.Full (view_of other w.0)
+  full_answers space other n m w request ne out t there live =
+      let k = (took_none n m w ne t).1 out live in
+      subst (Answers state (view_of space m.0) request Tells.Full) (sym (same_view space other n m w ne t there)) (inl refl, (k.0, k.1, inr k.2))
+
+  pub full_passes : (space other : TableId) (n : ℕ) (m w : Me S (Known S)) (aside : Aside) → n ≢ 1 → n ≢ 0 → Took state n m w → other ≡ space → m.0.live ≡ true
+      → Passes state (view_of space m.0) aside (By.Came Full) (view_of other w.0)
+  full_passes space other n m w aside ne out t there live =
+      let k = (took_none n m w ne t).1 out live in
+      subst (Passes state (view_of space m.0) aside (By.Came Full)) (sym (same_view space other n m w ne t there))
+      (record { before = k.0; after = k.0; later = k.1; steps = (over_full k.0 (event_of m.0.core aside) k.2, refl); extends = inl (refl, refl) })
+
+  -- an aside
+  pub aside_passes : (space other : TableId) (v w : Known S) (d : S) (number : ℕ) (aside : Aside) (outcome : Outcome) (carried : List (ℕ × S)) → other ≡ space → v.live ≡ true
+      → number ≡ v.core → Learns state v d → (makes : Makes state d (λ x y. StepsAside x (event_of number aside) outcome y × IsCalm y) carried)
+      → w ≡ after (holding v (history_of (state d))) (history_of (state makes.machine)) → Passes state (view_of space v) aside (By.Came outcome) (view_of other w)
+  aside_passes space other v w d number aside outcome carried there live is learns makes same =
+      subst (λ (p : TableId × Known S). Came state (view_of space v) aside outcome (view_of p.0 p.1)) (λ i. (sym there i, sym same i)) (record {
+        before = state d;
+        after = state e;
+        later = record { legal = learns.legal; made = learns.made live; begun = subst (λ h. Begins h (history_of (state d))) (sym makes.does.0.1) (begins_again (history_of (state d))) };
+        steps = subst (λ n. StepsAside (state d) (event_of n aside) outcome (state e)) is makes.does.0;
+        extends = inr (extends space v d e [] live learns (adds_nothing v.core (history_of (state d)) (history_of (state e)) makes.does.0.1) makes.made makes.legal);
+      })
+    where
+      e : S
+      e = makes.machine
 
 -- a legal machine has 64 cores at the most
 pub few_cores : (w : World) → IsLegal w → w.made.cores ≤ 64

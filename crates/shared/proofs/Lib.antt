@@ -1,3 +1,6 @@
 pub mod Lists
+pub mod Limits
 pub mod InCalls
+pub mod Halting
+pub mod Beside
 pub mod Keeping

@@ -1,19 +1,20 @@
 -- What clauses see of a core of a shared machine, and what its calls tell
-use Rattle.std.specs.Prelude.{◌≡◌, ℕ, ◌-◌, ◌<◌, ◌⊎◌, List, [], ◌∷◌, ◌++◌, None, slice_get, Some}
-use mathlib.Core.Option.{some}
-use lib.ListN.{get_elem?}
-use base.Stored.{Coded}
+use Rattle.std.specs.Prelude.{◌≡◌, ℕ, ◌⊎◌, List, [], ◌∷◌, ◌++◌, None, slice_get, Some}
 use Rattle.atomic_table.specs.Seated.{TableId}
 use Rattle.vm_base.specs.declared.requests.Request.{Request}
+use Rattle.machine_model.specs.declared.event.Outcome.{Outcome}
+use Rattle.machine_model.specs.declared.event.Outcome.TheVariants.{Full}
 use Rattle.machine_model.specs.World.{World, Made}
 use Rattle.core_steps.specs.Machine.{IsLegal}
+use Rattle.shared.specs.declared.asides.Aside.{Aside}
 use Rattle.shared.specs.declared.history.History.{History}
 use Rattle.shared.specs.declared.history.Replied.{Replied}
 use Rattle.shared.specs.declared.history.Told.{Told}
-use Rattle.shared.specs.declared.space.Known.{Known}
 use Rattle.shared.specs.declared.space.Answer.{Answer}
 use Rattle.shared.specs.declared.space.Answer.TheVariants as To
-use Rattle.shared.specs.Histories.{Begins, history_of, replied, replied_by}
+use Rattle.shared.specs.declared.space.Passed.{Passed}
+use Rattle.shared.specs.declared.space.Passed.TheVariants as By
+use Rattle.shared.specs.Histories.{Begins, IsFull, StepsAside, event_of, history_of, replied, replied_by}
 
 pub record CoreView (S : Type 0) : Type 0 where
   pub space : TableId
@@ -68,12 +69,34 @@ module _ {S : Type 0} (state : S → World) where
     pub legal : (u : World) × IsLegal u × (u.made ≡ made_of w.first) × (history_of u ≡ w.seen)
     pub same : w ≡ record v { seen = w.seen; mine = w.mine }
 
-  -- The call was made and replied; or another core was in a call, and nothing was done; or a limit
-  -- of the machine is reached: no reply is told, but that of the last call may stand in the log.
+  -- a legal state of the machine that was shared, whose history began so
+  pub record IsLater (first : List S) (known : History) (u : World) : Type 0 where
+    pub legal : IsLegal u
+    pub made : u.made ≡ made_of first
+    pub begun : Begins known (history_of u)
+
+  -- The call was made and replied. Or another core was in a call, and nothing was done. Or the machine
+  -- is at a limit, that of calls or that of events: no reply is told, but that of the last call may
+  -- stand in the log.
   abbrev pub Answers : CoreView S → Request → Answer → CoreView S → Type 0
   Answers v request (To.Reply reply) w = Extends v (replied request reply ∷ []) w
   Answers v request To.Busy w = w ≡ v
-  Answers v request To.Full w = (w ≡ v) ⊎ ((added : List Replied) × Extends v added w)
+  Answers v request To.Full w = ((w ≡ v) ⊎ ((added : List Replied) × Extends v added w))
+      × ((u : World) × IsLater w.first w.seen u × IsFull u)
+
+  -- The machine made an aside, by a step of its own, from a legal state; it added nothing to the
+  -- history, of which the core has seen all so far. At the limit of events it may not have looked.
+  pub record Came (v : CoreView S) (aside : Aside) (outcome : Outcome) (w : CoreView S) : Type 0 where
+    pub before : World
+    pub after : World
+    pub later : IsLater w.first w.seen before
+    pub steps : StepsAside before (event_of v.core aside) outcome after
+    pub extends : ((w ≡ v) × (outcome ≡ Full)) ⊎ Extends v [] w
+
+  -- or another core was in a call, and nothing was done
+  abbrev pub Passes : CoreView S → Aside → Passed → CoreView S → Type 0
+  Passes v aside (By.Came outcome) w = Came v aside outcome w
+  Passes v aside By.Busy w = w ≡ v
 
   -- The machine is the one that was shared, in a legal state. The calls in its log of this core, and
   -- of each that it took in, are those that the core made, in order, with the replies that it got.

@@ -1,13 +1,18 @@
 -- What stands in the log of a machine of the calls of one core
-use Rattle.std.specs.Prelude.{◌≡◌, ◌≢◌, ℕ, ◌==◌, cond, List, [], ◌∷◌, ◌++◌, length, take, Option, None, Some}
+use Rattle.std.specs.Prelude.{◌≡◌, ◌≢◌, ◌⊎◌, ◌≤◌, ℕ, ◌==◌, cond, List, [], ◌∷◌, ◌++◌, length, take, Option, None, Some}
 use Rattle.vm_base.specs.declared.requests.Request.{Request}
 use Rattle.vm_base.specs.declared.replies.Reply.{Reply}
 use Rattle.vm_base.specs.declared.log.Entry.{Entry}
 use Rattle.vm_base.specs.declared.log.Entry.TheVariants.{Answer, Detach}
 use Rattle.vm_base.specs.Log.{nth}
-use Rattle.machine_model.specs.World.{World, Made}
+use Rattle.machine_model.specs.declared.event.Event.{Event}
+use Rattle.machine_model.specs.declared.event.Event.TheVariants as EventOf
+use Rattle.machine_model.specs.declared.event.Outcome.{Outcome}
+use Rattle.machine_model.specs.Step.{Step, event_limit}
+use Rattle.machine_model.specs.World.{World}
 use Rattle.machine_alone.specs.Alone.{IsCalm}
-use Rattle.core_steps.specs.Machine.{IsLegal}
+use Rattle.shared.specs.declared.asides.Aside.{Aside}
+use Rattle.shared.specs.declared.asides.Aside.TheVariants as Does
 use Rattle.shared.specs.declared.history.History.{History}
 use Rattle.shared.specs.declared.history.Replied.{Replied}
 use Rattle.shared.specs.declared.whole.Ended.{Ended}
@@ -46,10 +51,32 @@ pub record Adds (core : ℕ) (added : List Replied) (h k : History) : Type 0 whe
   pub own : replied_by core k ≡ replied_by core h ++ added
   pub others : (d : ℕ) → d ≢ core → replied_by d k ≡ replied_by d h
 
--- a whole call was replied, which left no call in flight; or nothing was done; or it couldn't be ended
+-- so many events were taken that no more can be
+abbrev pub IsOver : World → Type 0
+IsOver w = event_limit ≤ w.calls.events
+
+-- no call can begin any more: a limit of the machine is reached, that of calls or that of events
+abbrev pub IsFull : World → Type 0
+IsFull w = (w.made.calls ≤ length w.calls.requests) ⊎ IsOver w
+
+-- A whole call was replied, which left no call in flight. Or none could begin, and nothing was done;
+-- or it couldn't be ended: only where a limit is reached.
 abbrev pub Ends : World → ℕ → Request → Ended → World → Type 0
 Ends w core request (To.Reply reply) v =
     IsCalm v × Adds core (replied request reply ∷ []) (history_of w) (history_of v)
-Ends w core request To.Refused v = IsCalm v × Adds core [] (history_of w) (history_of v)
+Ends w core request To.Refused v =
+    IsCalm v × Adds core [] (history_of w) (history_of v) × IsFull v
 Ends w core request To.Spent v =
-    (added : List Replied) × Adds core added (history_of w) (history_of v)
+    ((added : List Replied) × Adds core added (history_of w) (history_of v)) × IsOver v
+
+-- the event that an aside of this core is
+abbrev pub event_of : ℕ → Aside → Event
+event_of core (Does.Walk page) = EventOf.Walk core page
+event_of core (Does.Evict page) = EventOf.Evict core page
+event_of core Does.Flush = EventOf.Flush core
+event_of core Does.Review = EventOf.Review core
+event_of core (Does.Fold page) = EventOf.Fold page
+
+-- the machine's own step of the event, which adds nothing to the history
+abbrev pub StepsAside : World → Event → Outcome → World → Type 0
+StepsAside w event outcome v = Step w event outcome v × (history_of v ≡ history_of w)

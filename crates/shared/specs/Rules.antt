@@ -4,7 +4,6 @@ use mathlib.Core.Option.{some, none}
 use lib.ListN.{get_elem?}
 use Rattle.atomic_table.specs.Table.{State, Me, Step, rest}
 use Rattle.atomic_table.specs.Seated.{TableId}
-use Rattle.vm_base.specs.declared.requests.Request.{Request}
 use Rattle.machine_model.specs.World.{World, Made}
 use Rattle.machine_alone.specs.Alone.{IsCalm}
 use Rattle.core_steps.specs.Machine.{IsLegal}
@@ -16,8 +15,15 @@ use Rattle.shared.specs.declared.space.Answer.TheVariants as Tells
 use Rattle.shared.specs.declared.space.Known.{Known}
 use Rattle.shared.specs.declared.whole.Ended.{Ended}
 use Rattle.shared.specs.declared.whole.Ended.TheVariants as To
-use Rattle.shared.specs.Histories.{Adds, Begins, Ends, history_of, replied_by}
-use Rattle.shared.specs.Cores.{CoreView, IsTold, history_first, made_of}
+use Rattle.shared.specs.Histories.{Adds, Begins, IsOver, history_of, replied_by}
+use Rattle.shared.specs.Cores.{CoreView, IsLater, IsTold, history_first, made_of}
+
+-- the word stands in the middle of a row of 17, so that nothing else lies in its cache line
+abbrev pub middle : ℕ
+middle = 8
+
+abbrev pub row : ℕ → List ℕ
+row word = 1 ∷ 1 ∷ 1 ∷ 1 ∷ 1 ∷ 1 ∷ 1 ∷ 1 ∷ word ∷ 1 ∷ 1 ∷ 1 ∷ 1 ∷ 1 ∷ 1 ∷ 1 ∷ 1 ∷ []
 
 abbrev pub known : {S : Type 0} → ℕ → ℕ → List S → History → List Replied → Known S
 known core spare first seen mine = record {
@@ -83,14 +89,16 @@ module _ {S : Type 0} (state : S → World) where
     pub spare : 0 < v.spare → (v.live ≡ true) × (v.core ≡ 0) × (v.spare ≡ left)
     pub told : (k : ℕ) (t : Told) → get_elem? v.others k ≡ some t → IsTold h t × (gone t.core ≡ true)
 
-  -- the machine is at home, and nobody has it; where the word is 1, a call can begin
+  -- the machine is at home, and nobody has it; where the word is 1, a call can begin, and else the
+  -- limit of events is reached
   pub record Home (key : List S) (s : State S (Known S)) (h : History) : Type 0 where
     pub machine : S
     pub word : ℕ
-    pub words : s.words ≡ word ∷ []
+    pub words : s.words ≡ row word
     pub homes : s.homes ≡ some machine ∷ []
     pub in_place : word ≢ 0
     pub calm : word ≡ 1 → IsCalm (state machine)
+    pub over : word ≢ 1 → IsOver (state machine)
     pub legal : IsLegal (state machine)
     pub made : (state machine).made ≡ made_of state key
     pub history : history_of (state machine) ≡ h
@@ -99,7 +107,7 @@ module _ {S : Type 0} (state : S → World) where
   -- one core has it, which knows the whole history
   pub record Out (s : State S (Known S)) (h : History) : Type 0 where
     pub holder : ℕ
-    pub words : s.words ≡ 0 ∷ []
+    pub words : s.words ≡ row 0
     pub homes : s.homes ≡ none ∷ []
     pub one_holds : (id : ℕ) (v : Known S) → get_elem? s.views id ≡ some v → v.holds ≡ true
         → (id ≡ holder) × (v.seen ≡ h)
@@ -127,13 +135,15 @@ module _ {S : Type 0} (state : S → World) where
     pub here : v.live ≡ true → v.core < (state d).made.cores
     pub mine : v.live ≡ true → replied_by v.core (history_of (state d)) ≡ v.mine
 
-  -- the machine was taken, or it wasn't there
-  abbrev pub Took : Bool → Me S (Known S) → Me S (Known S) → Type 0
-  Took b m w = MatchBool b ((d : S)
-      × (w ≡ (holding m.0 (history_of (state d)), (0, d) ∷ m.1)) × Learns m.0 d) (w ≡ m)
+  -- The machine was taken; or it wasn't there; or no call can begin any more.
+  abbrev pub Took : ℕ → Me S (Known S) → Me S (Known S) → Type 0
+  Took n m w = MatchBool (n == 1)
+      ((d : S) × (w ≡ (holding m.0 (history_of (state d)), (0, d) ∷ m.1)) × Learns m.0 d)
+      ((w ≡ m) × (n ≢ 0 → m.0.live ≡ true
+      → (u : World) × IsLater state m.0.first m.0.seen u × IsOver u))
 
   abbrev pub Takes : Step S → Me S (Known S) → ℕ → Me S (Known S) → Type 0
-  Takes st m n w = Took (n == 1) m w
+  Takes st m n w = Took n m w
 
   abbrev pub history_carried : List (ℕ × S) → History
   history_carried [] = record { requests = []; entries = [] }
@@ -142,22 +152,22 @@ module _ {S : Type 0} (state : S → World) where
   abbrev pub Gives : Step S → Me S (Known S) → ℕ → Me S (Known S) → Type 0
   Gives st m n w = w ≡ (after m.0 (history_carried m.1), rest m.1)
 
-  -- the machine that a core has, after a call of it, can be given back with this word
+  -- the machine that a core has, once it was used, can be given back with this word
   pub record CanGive (v : Known S) (d : S) (word : ℕ) : Type 0 where
     pub holds : v.holds ≡ true
     pub live : v.live ≡ true
     pub in_place : word ≢ 0
     pub calm : word ≡ 1 → IsCalm (state d)
+    pub over : word ≢ 1 → IsOver (state d)
     pub legal : IsLegal (state d)
     pub made : (state d).made ≡ made_of state v.first
     pub adds : (added : List Replied) × Adds v.core added v.seen (history_of (state d))
 
-  -- the machine d that a core has was called, and is e now
-  pub record Makes (d : S) (core : ℕ) (request : Request) (ended : Ended)
-      (carried : List (ℕ × S)) : Type 0 where
+  -- the machine d that a core has did this, and is another now
+  pub record Makes (d : S) (Does : World → World → Type 0) (carried : List (ℕ × S)) : Type 0 where
     pub machine : S
     pub has : carried ≡ (0, machine) ∷ []
-    pub ends : Ends (state d) core request ended (state machine)
+    pub does : Does (state d) (state machine)
     pub made : (state machine).made ≡ (state d).made
     pub legal : IsLegal (state machine)
 

@@ -3,7 +3,8 @@ ghost use Rattle.std.specs.Prelude.{◌≡◌, ◌<◌};
 ghost use Rattle.machine_alone.specs.Alone.{IsCalm};
 ghost use Rattle.core_steps.specs.Machine.{state, IsLegal};
 ghost use Rattle.shared.specs.Histories.{Ends};
-ghost use Rattle.shared.specs.Calling.{EndsCall, EndsSettled, KeepsCall, ended_by, is_answered};
+ghost use Rattle.shared.specs.Calling.{ComesTo, EndsFrom, Halts, HaltsTo, IsLetGo, LeavesHalted};
+ghost use Rattle.shared.specs.Calling.{TakesPast, Wants, ended_by, is_answered};
 
 use crate::whole::Ended;
 use core_steps::{Finished, Ledger, Machine};
@@ -39,7 +40,7 @@ fn call_settled<M: SlotMap, A: Allocator + Clone, L: Ledger>(
 ) -> Ended
     requires here { core < (state machine.old).made.cores }
     requires legal { IsLegal (state machine.old) }
-    ensures ends { EndsSettled (state machine.old) core finished result (state machine.new) }
+    ensures ends { EndsFrom (ComesTo finished) (state machine.old) core result (state machine.new) }
     ensures legal { IsLegal (state machine.new) }
 {
     if is_answered(&finished) {
@@ -66,7 +67,7 @@ fn call_waited<M: SlotMap, A: Allocator + Clone, L: Ledger>(
     machine: &mut Machine<M, A, L>,
     core: CoreId,
 ) -> Ended
-    ensures ends { EndsCall (state machine.old) core result (state machine.new) }
+    ensures ends { EndsFrom Halts (state machine.old) core result (state machine.new) }
     ensures legal { IsLegal (state machine.new) }
 {
     take_all(machine, core);
@@ -76,12 +77,12 @@ fn call_waited<M: SlotMap, A: Allocator + Clone, L: Ledger>(
     }
 }
 
-// Ends a call that was refused memory.
+// Ends a call that was refused memory: it lets go what it holds, which takes no memory.
 fn call_given_up<M: SlotMap, A: Allocator + Clone, L: Ledger>(
     machine: &mut Machine<M, A, L>,
     core: CoreId,
 ) -> Ended
-    ensures ends { EndsCall (state machine.old) core result (state machine.new) }
+    ensures ends { EndsFrom Wants (state machine.old) core result (state machine.new) }
     ensures legal { IsLegal (state machine.new) }
 {
     let _given_up = machine.step(Event::GiveUp(core));
@@ -106,7 +107,7 @@ fn take_all<M: SlotMap, A: Allocator + Clone, L: Ledger>(
     machine: &mut Machine<M, A, L>,
     core: CoreId,
 )
-    ensures keeps { KeepsCall (state machine.old) core (state machine.new) }
+    ensures lets_go { LeavesHalted IsLetGo (state machine.old) core (state machine.new) }
 {
     let awaited = machine.awaited(core);
     'cores: for index in 0..64 {
@@ -122,7 +123,7 @@ fn take_twice<M: SlotMap, A: Allocator + Clone, L: Ledger>(
     awaited: CoreSet,
     other: CoreId,
 )
-    ensures keeps { KeepsCall (state machine.old) core (state machine.new) }
+    ensures takes { TakesPast awaited other (state machine.old) core (state machine.new) }
 {
     if !awaited.contains(other) {
         return;

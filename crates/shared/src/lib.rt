@@ -2,14 +2,16 @@
 //! waits: who finds the machine out with another is told so.
 #![tactic(auto)]
 
+pub mod asides;
 pub mod calling;
 pub mod history;
 pub mod machine;
 pub mod space;
 pub mod whole;
 
+pub use asides::Aside;
 pub use history::{History, Replied, Told};
-pub use space::{Answer, Core, Known, Refusal, Space, Unshared};
+pub use space::{Answer, Core, Known, Passed, Refusal, Space, Unshared};
 pub use whole::{Ended, Whole};
 
 fn is_send<T: Send>(_one: &T) {}

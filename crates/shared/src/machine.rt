@@ -3,10 +3,11 @@ ghost use Rattle.std.specs.Prelude.{◌≡◌, ℕ, ◌<◌};
 ghost use Rattle.core_steps.specs.Machine.{state};
 ghost use Rattle.shared.specs.Calling.{CalmBelow};
 
+use crate::asides::{Aside, step_aside};
 use crate::calling::call_whole;
 use crate::whole::{Ended, Whole};
 use core_steps::{Ledger, Machine};
-use machine_model::Phase;
+use machine_model::{Outcome, Phase};
 use slot_lock::SlotMap;
 use std::alloc::Allocator;
 use vm_base::{CoreId, Request};
@@ -32,5 +33,9 @@ impl<M: SlotMap, A: Allocator + Clone, L: Ledger> Whole for Machine<M, A, L> {
 
     fn call_whole(&mut self, core: CoreId, request: Request) -> Ended {
         call_whole(self, core, request)
+    }
+
+    fn step_aside(&mut self, core: CoreId, aside: Aside) -> Outcome {
+        step_aside(self, core, aside)
     }
 }

@@ -1,18 +1,27 @@
 //! The space that threads share, and a core, with which one thread calls.
 ghost use Rattle.std.specs.Prelude.{◌≡◌, ◌≢◌, ℕ, ◌-◌, ◌<◌, ◌==◌, [], ◌∷◌, ◌++◌, IfOk, IfErr, IfSome, IfNone};
-ghost use Rattle.shared.specs.Histories.{history_of, replied_by, Ends};
-ghost use Rattle.shared.specs.Cores.{Answers, Agrees, made_of, new_core, told_of};
+ghost use Rattle.shared.specs.Histories.{history_of, replied_by, event_of, Ends, StepsAside};
+ghost use Rattle.shared.specs.Cores.{Answers, Agrees, Passes, made_of, new_core, told_of};
 ghost use Rattle.machine_alone.specs.Alone.{IsCalm};
 ghost use Rattle.shared.specs.Rules.{CanGive, Makes, Took, after, answer_of, word_of};
 
+use crate::asides::Aside;
 use crate::history::{History, Replied, Told};
 use crate::whole::{Ended, Whole};
 use atomic_table::{Join, Play, Refused, Seat, Split, Table, TableRule};
 use ghost_list::GhostList;
+use machine_model::Outcome;
 use std::alloc::Global;
 use std::collections::LinkedList;
 use std::marker::Model;
 use vm_base::{CoreId, Reply, Request};
+
+/// The word's place in a row of words. With 64 bytes on each side that nobody uses nothing else lies in
+/// its cache line.
+const MIDDLE: usize = 8;
+
+/// How many words the row has.
+const ROW: usize = 17;
 
 /// The word where the machine is at home, and a call can begin.
 const HOME: u64 = 1;
@@ -44,6 +53,16 @@ pub enum Answer {
     Busy,
     /// A limit of the machine is reached: that of calls, or that of events.
     Full,
+}
+
+/// What an aside came to.
+#[derive(Clone, Copy, Debug, PartialEq, Eq)]
+pub enum Passed {
+    /// The machine's outcome: it was made (Stepped), there was nothing to do (Idle), or the limit of
+    /// events is reached (Full).
+    Came(Outcome),
+    /// Another core is in a call. Nothing was done.
+    Busy,
 }
 
 /// The rule, which holds between any two steps: there is one history, of which each core has seen a
@@ -125,7 +144,7 @@ impl<S> Model for Core<S> {
 #[derive(Drop)]
 pub struct Space<S: Whole> {
     table: Table<S, Known<S>, GhostList<S>, OneLog, Global>,
-    ghost one: { (table.shared.table_id.words ≡ 1) × (table.shared.table_id.slots ≡ 1) },
+    ghost one: { (table.shared.table_id.words ≡ 17) × (table.shared.table_id.slots ≡ 1) },
 }
 
 /// Why a machine can't be shared.
@@ -167,7 +186,7 @@ impl<S: Whole + Drop> Space<S> {
         };
         let first = GhostList::new().and(&machine);
         slots.push_reserved(machine);
-        match Table::new(alloc, &[HOME], slots, &first) {
+        match Table::new(alloc, &[HOME; ROW], slots, &first) {
             Ok((table, seat)) => Ok((
                 Space { table },
                 Core {
@@ -187,11 +206,11 @@ impl<S: Whole + Drop> Space<S> {
     fn take(&self, seat: &mut Seat<S, Known<S>>) -> u64
         requires { seat.old.table_id ≡ self.now.table.shared.table_id }
         ensures same { (seat.new.table_id ≡ seat.old.table_id) × (seat.new.id ≡ seat.old.id) }
-        ensures took { Took S.state (result == 1) seat.old.me seat.new.me }
+        ensures took { Took S.state result seat.old.me seat.new.me }
     {
         self.table
             .shared
-            .compare_exchange::<Take>(seat, 0, HOME, OUT)
+            .compare_exchange::<Take>(seat, MIDDLE, HOME, OUT)
     }
 
     // A whole call of the machine that the seat has.
@@ -200,10 +219,22 @@ impl<S: Whole + Drop> Space<S> {
         requires has { (d : S) × (seat.old.me.1 ≡ (0, d) ∷ []) × (core < (S.state d).made.cores)
             × IsCalm (S.state d) }
         ensures same { (seat.new.table_id ≡ seat.old.table_id) × (seat.new.me.0 ≡ seat.old.me.0) }
-        ensures made { (d : S) → seat.old.me.1 ≡ (0, d) ∷ [] → Makes S.state d core request result seat.new.me.1 }
+        ensures made { (d : S) → seat.old.me.1 ≡ (0, d) ∷ []
+            → Makes S.state d (λ x y. Ends x core request result y) seat.new.me.1 }
     {
         seat.slot_mut(&self.table.shared, 0)
             .call_whole(core, request)
+    }
+
+    // An aside of the machine that the seat has.
+    fn pass(&self, seat: &mut Seat<S, Known<S>>, core: CoreId, aside: Aside) -> Outcome
+        requires here { seat.old.table_id ≡ self.now.table.shared.table_id }
+        requires has { (d : S) × (seat.old.me.1 ≡ (0, d) ∷ []) × IsCalm (S.state d) }
+        ensures same { (seat.new.table_id ≡ seat.old.table_id) × (seat.new.me.0 ≡ seat.old.me.0) }
+        ensures made { (d : S) → seat.old.me.1 ≡ (0, d) ∷ []
+            → Makes S.state d (λ x y. StepsAside x (event_of core aside) result y × IsCalm y) seat.new.me.1 }
+    {
+        seat.slot_mut(&self.table.shared, 0).step_aside(core, aside)
     }
 
     // Gives the machine back.
@@ -214,10 +245,11 @@ impl<S: Whole + Drop> Space<S> {
         ensures gave { (d : S) → seat.old.me.1 ≡ (0, d) ∷ []
             → seat.new.me ≡ (after seat.old.me.0 (history_of (S.state d)), []) }
     {
-        self.table.shared.store::<Give>(seat, 0, word);
+        self.table.shared.store::<Give>(seat, MIDDLE, word);
     }
 
-    /// A whole call of this core. Where another core is in one, nothing is done. What the core has
+    /// A whole call of this core. Where another core is in one, nothing is done. Below the machine's
+    /// limits of calls and of events it has a reply: that it is full is told at a limit alone. What the core has
     /// seen of the machine's history is a beginning of it, whose log is that of a plain page map
     /// (POSIX.1-2017, mmap, munmap and mprotect), and in which this core's calls are just those that
     /// it made, in order, each with the reply that it got.
@@ -227,16 +259,34 @@ impl<S: Whole + Drop> Space<S> {
         ensures here { core.new.space ≡ core.old.space }
     {
         let found = self.take(&mut core.seat);
+        if found == OUT {
+            return Answer::Busy;
+        }
         if found != HOME {
-            return if found == OUT {
-                Answer::Busy
-            } else {
-                Answer::Full
-            };
+            return Answer::Full;
         }
         let ended = self.make(&mut core.seat, core.number, request);
         self.give(&mut core.seat, word_of(ended));
         answer_of(ended)
+    }
+
+    /// An aside of this core: the machine's own step, which adds nothing to the history. This core's
+    /// calls stay as they are. Where another core is in a call, nothing is done. It takes no memory.
+    pub fn aside(&self, core: &mut Core<S>, aside: Aside) -> Passed
+        requires here { core.old.space ≡ self.now.table.shared.table_id }
+        ensures passes { Passes S.state core.old aside result core.new }
+        ensures here { core.new.space ≡ core.old.space }
+    {
+        let found = self.take(&mut core.seat);
+        if found == OUT {
+            return Passed::Busy;
+        }
+        if found != HOME {
+            return Passed::Came(Outcome::Full);
+        }
+        let outcome = self.pass(&mut core.seat, core.number, aside);
+        self.give(&mut core.seat, HOME);
+        Passed::Came(outcome)
     }
 
     /// Splits off a core that has made no call since the machine was shared.
@@ -279,7 +329,7 @@ impl<S: Whole + Drop> Space<S> {
     {
         let Space { table } = self;
         let mut closed = table.close_with(core.seat);
-        let word = closed.word(0);
+        let word = closed.word(MIDDLE);
         let machine = closed.take(0);
         closed.free();
         if word == OUT { None } else { Some(machine) }

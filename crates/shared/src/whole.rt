@@ -3,8 +3,10 @@ ghost use Rattle.std.specs.Prelude.{◌≡◌, ◌<◌, IsTrue};
 ghost use Rattle.machine_model.specs.World.{World};
 ghost use Rattle.machine_alone.specs.Alone.{IsCalm};
 ghost use Rattle.core_steps.specs.Machine.{IsLegal};
-ghost use Rattle.shared.specs.Histories.{Ends};
+ghost use Rattle.shared.specs.Histories.{Ends, StepsAside, event_of};
 
+use crate::asides::Aside;
+use machine_model::Outcome;
 use vm_base::{CoreId, Reply, Request};
 
 /// What a whole call came to.
@@ -12,9 +14,9 @@ use vm_base::{CoreId, Reply, Request};
 pub enum Ended {
     /// It was made, and has this reply.
     Reply(Reply),
-    /// None could begin, and nothing was done.
+    /// None could begin, and nothing was done: the limit of calls is reached, or that of events.
     Refused,
-    /// It couldn't be ended, so that no other can begin either.
+    /// It couldn't be ended: the limit of events is reached. No other can begin either.
     Spent,
 }
 
@@ -37,6 +39,14 @@ pub trait Whole {
         requires here { core < (state self.old).made.cores }
         requires calm { IsCalm (state self.old) }
         ensures ends { Ends (state self.old) core request result (state self.new) }
+        ensures made { (state self.new).made ≡ (state self.old).made }
+        ensures legal { IsLegal (state self.new) };
+
+    /// Makes an aside of this core, where no core has a call, and leaves none.
+    fn step_aside(&mut self, core: CoreId, aside: Aside) -> Outcome
+        requires calm { IsCalm (state self.old) }
+        ensures steps { StepsAside (state self.old) (event_of core aside) result (state self.new) }
+        ensures calm { IsCalm (state self.new) }
         ensures made { (state self.new).made ≡ (state self.old).made }
         ensures legal { IsLegal (state self.new) };
 }

@@ -6,7 +6,7 @@ use crate::script::setup_of;
 use certifier::{Certified, CertifyFault, certify};
 use live_space::space::Live;
 use live_tree::histories::Histories;
-use seats::{Noted, Seat};
+use seats::{Notes, Seat};
 use std::alloc::Allocator;
 use vm_base::NoMemory;
 
@@ -57,7 +57,7 @@ fn told_beside<A: Allocator + Clone + Drop>(
     histories: &Histories<A>,
 ) -> Result<Result<Certified, CertifyFault>, NoMemory> {
     let setup = setup_of(alloc.clone()?, script)?;
-    let mut notes: Vec<&[Noted], A> = Vec::new(alloc.clone()?);
+    let mut notes: Vec<Notes<'_>, A> = Vec::new(alloc.clone()?);
     for seat in seats {
         notes.push(seat.noted())?;
     }

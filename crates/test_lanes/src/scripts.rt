@@ -8,7 +8,7 @@ use live_script::{OnThreads, Ran, Runner, begin, certify_ran, run_in_turn};
 use machine_model::{Event, Outcome};
 use notes_text::{Script, read_script};
 use radix_range::RadixMap;
-use seats::Noted;
+use seats::Notes;
 use std::alloc::{Allocator, Global};
 use std::sync::Wait;
 use std::thread::Threads;
@@ -123,8 +123,9 @@ fn answer(calls: &mut [Call], reply: Reply) {
 }
 
 /// Appends the calls of a seat, each with its reply.
-fn push_calls(notes: &[Noted], calls: &mut Vec<Call, Global>) -> Result<(), NoMemory> {
-    for note in notes {
+fn push_calls(notes: Notes<'_>, calls: &mut Vec<Call, Global>) -> Result<(), NoMemory> {
+    for at in 0..notes.len() {
+        let note = notes.get(at);
         if let Event::Call(core, request) = note.event {
             let reply = Reply::Done;
             calls.push(Call {
@@ -182,7 +183,7 @@ fn is_certified(
     let calls = calls_of(alloc, &ran)?;
     let are_plain = are_plain(alloc, space, calls.as_slice())?;
     let is_right = are_plain && is_none_given_up(calls.as_slice());
-    let ended = ran.end()?;
+    let ended = ran.end(alloc)?;
     let notes = ended.notes(alloc)?;
     Ok(is_right && certify_ran(alloc, script, notes.as_slice(), &ended.histories).is_ok())
 }
@@ -201,8 +202,8 @@ pub fn astray_beside_unused<R: Wait>(
     let Ok(unused) = begin(alloc, &script) else {
         return Err(NoMemory);
     };
-    let ended = ran.end()?;
-    let unused = unused.end()?;
+    let ended = ran.end(alloc)?;
+    let unused = unused.end(alloc)?;
     let notes = ended.notes(alloc)?;
     match certify_ran(alloc, &script, notes.as_slice(), &unused.histories) {
         Err(CertifyFault::Slot { page }) => Ok(Some(page)),

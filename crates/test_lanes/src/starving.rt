@@ -262,7 +262,7 @@ fn came_of_ran<'h>(
     script: &Script<&'h LocalHeap>,
     ran: Ran<&'h LocalHeap>,
 ) -> Came {
-    let Ok(ended) = ran.end() else {
+    let Ok(ended) = ran.end(heap) else {
         return Came::RefusedLate;
     };
     let Ok(notes) = ended.notes(heap) else {

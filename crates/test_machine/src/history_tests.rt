@@ -12,7 +12,7 @@ use live_levels::level::Stepper;
 use live_tree::held::{Got, Held};
 use live_tree::histories::Histories;
 use live_tree::tree::SharedTree;
-use seats::Noted;
+use seats::{Noted, Notes};
 use std::alloc::{Allocator, Global};
 use std::sync::Wait;
 use std::test::Fail;
@@ -154,7 +154,7 @@ fn histories<A: Allocator + Clone, R: Wait>(
     alloc: A,
     changes: &[PageChange],
 ) -> Option<Histories<A>> {
-    let mut tree = SharedTree::new(alloc).ok()?;
+    let (mut tree, _first) = SharedTree::new(alloc).ok()?;
     let mut dealer = Dealer { next: 2 };
     for change in changes {
         make(rt, &tree, &mut dealer, change)?;
@@ -179,7 +179,7 @@ fn told<R: Wait>(
 ) -> Option<Result<Certified, CertifyFault>> {
     let notes = notes_of_lines(alloc, CALLS).ok()?;
     let histories = histories(rt, alloc, changes)?;
-    let seat = notes.as_slice();
+    let seat = Notes::of(notes.as_slice());
     Some(certify(alloc, setup(alloc), &[seat], Some(&histories)))
 }
 
@@ -269,7 +269,7 @@ fn in_heap<'h>(
     notes: &[Noted],
     histories: &Histories<&'h LocalHeap>,
 ) -> Result<Certified, CertifyFault> {
-    certify(heap, setup(heap), &[notes], Some(histories))
+    certify(heap, setup(heap), &[Notes::of(notes)], Some(histories))
 }
 
 /// Whether the notes are certified in a heap that is full first, and is given back bit by bit until

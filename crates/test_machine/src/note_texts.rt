@@ -1,6 +1,6 @@
 //! Notes as text: what is written of them, and what certifying a text comes to.
 use notes_text::{Script, certify_text, read_script, write_notes};
-use seats::Noted;
+use seats::Notes;
 use std::alloc::{Allocator, Global};
 use trace::fault::TraceFault;
 use trace_io::sink;
@@ -34,7 +34,7 @@ fn written(
 pub fn text_of<A: Allocator + Clone + Drop>(
     alloc: Global,
     script: &Script<A>,
-    seats: &[&[Noted]],
+    seats: &[Notes<'_>],
 ) -> Result<String<Global>, NoMemory> {
     let mut writer = sink::Noted::unbuffered(alloc, Vec::new(alloc));
     let end = write_notes(script, seats, &mut writer);

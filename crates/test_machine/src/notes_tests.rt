@@ -4,7 +4,7 @@ use crate::note_texts::{script_read, text_of, verdict_in};
 use crate::noting::{notes_of_lines, shuffle};
 use crate::random_traces::{STEP_LINES, WHOLE_LINES, lines_of_tables, random_trace};
 use machine_model::{Event, Outcome};
-use seats::Noted;
+use seats::{NoteList, Noted, Notes};
 use std::alloc::Global;
 use std::test::Fail;
 use test_support::random::Random;
@@ -116,7 +116,16 @@ fn foreseen(alloc: Global, notes: &[Noted], spoiled: Spoiled) -> Result<String<G
     }
 }
 
-/// The notes' text, handed in as three seats'.
+/// The notes, packed.
+fn packed(alloc: Global, notes: &[Noted]) -> Result<NoteList<Global>, NoMemory> {
+    let mut list = NoteList::new(alloc, alloc);
+    for note in notes {
+        list.push(*note)?;
+    }
+    Ok(list)
+}
+
+/// The notes' text, handed in as three seats', of which the last two are packed.
 fn text_of_seats(alloc: Global, trace: &str, notes: &[Noted]) -> Result<String<Global>, NoMemory> {
     let mut head = lines_from(alloc, trace, "vm")?;
     head.push_str(&lines_from(alloc, trace, "file")?)?;
@@ -124,7 +133,11 @@ fn text_of_seats(alloc: Global, trace: &str, notes: &[Noted]) -> Result<String<G
     let (first, rest) = notes.split_at(third);
     let (second, last) = rest.split_at(third);
     match script_read(alloc, &head) {
-        Ok(script) => text_of(alloc, &script, &[first, second, last]),
+        Ok(script) => {
+            let (second, last) = (packed(alloc, second)?, packed(alloc, last)?);
+            let seats = [Notes::of(first), second.notes(), last.notes()];
+            text_of(alloc, &script, &seats)
+        }
         Err(_) => Err(NoMemory),
     }
 }

@@ -6,7 +6,7 @@ use crate::starved::AMPLE;
 use linked_list_allocator::LocalHeap;
 use machine_model::{Event, Outcome};
 use notes_text::Script;
-use seats::Noted;
+use seats::{Noted, Notes};
 use std::alloc::{Allocator, Global};
 use std::test::Fail;
 use test_support::heaps::{Piece, fill};
@@ -74,7 +74,7 @@ fn calls_noted(alloc: Global) -> Result<String<Global>, NoMemory> {
     let notes = notes_of_lines(alloc, CALLS)?;
     let notes = notes.as_slice();
     match script_read(alloc, "vm 1 4 8") {
-        Ok(script) => text_of(alloc, &script, &[notes]),
+        Ok(script) => text_of(alloc, &script, &[Notes::of(notes)]),
         Err(_) => Err(NoMemory),
     }
 }
@@ -189,7 +189,7 @@ fn text_in<'h>(
     let _taken = all_but(alloc, heap, given)?;
     let notes = lone_load();
     let notes = &notes[..];
-    text_of(alloc, script, &[notes])
+    text_of(alloc, script, &[Notes::of(notes)])
 }
 
 /// How often memory was refused before the notes were written, and what that came to.

@@ -114,7 +114,7 @@ fn ask_often<R: Wait>(rt: &R, tree: &SharedTree<Global>, pace: &Pace, is_first: 
 
 // How many of the pages that both threads had in turn are mapped once all rounds are over.
 fn mapped_by_two<R: Threads + Wait + Sync>(rt: &R, alloc: Global) -> Option<u64> {
-    let tree = SharedTree::new(alloc).ok()?;
+    let (tree, _first) = SharedTree::new(alloc).ok()?;
     if !change(rt, &tree, FIRST, FIRST + 512, &Act::Clear) {
         return None;
     }

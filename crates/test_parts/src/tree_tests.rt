@@ -267,7 +267,7 @@ fn told<R: Wait>(rt: &R, tree: &mut SharedTree<Global>, word: &str, numbers: [u6
 
 // The first row, `WORD NUMBER.. = NUMBER..`, that comes to something else than it says, on a new tree.
 fn first_wrong<'a, R: Wait>(rt: &R, alloc: Global, rows: &'a str) -> Option<&'a str> {
-    let Ok(mut tree) = SharedTree::new(alloc) else {
+    let Ok((mut tree, _first)) = SharedTree::new(alloc) else {
         return Some("memory");
     };
     for row in rows.lines() {
@@ -376,7 +376,7 @@ fn change_often<R: Wait>(rt: &R, tree: &SharedTree<Global>, core: CoreId) -> boo
 
 // How many changes the page 16 has once two threads changed it side by side, each in so many rounds.
 fn changes_of_two<R: Threads + Wait + Sync>(rt: &R, alloc: Global) -> Option<usize> {
-    let mut tree = SharedTree::new(alloc).ok()?;
+    let (mut tree, _first) = SharedTree::new(alloc).ok()?;
     counted(rt, &tree, 16, 17)?;
     let mut done = [false, false];
     let run = |place: usize, is_done: &mut bool| {

@@ -2,8 +2,9 @@
 ghost use Rattle.std.specs.Prelude.{◌≡◌};
 
 use core_steps::{Kept, Machine, Setup};
+use machine_model::Outcome;
 use radix_range::RadixMap;
-use shared::{Ended, Whole};
+use shared::{Aside, Ended, Whole};
 use std::alloc::Global;
 use vm_base::{CoreId, Request};
 
@@ -36,6 +37,10 @@ impl Whole for Logged {
 
     fn call_whole(&mut self, core: CoreId, request: Request) -> Ended {
         self.machine.call_whole(core, request)
+    }
+
+    fn step_aside(&mut self, core: CoreId, aside: Aside) -> Outcome {
+        self.machine.step_aside(core, aside)
     }
 }
 

@@ -60,6 +60,22 @@ went along:
 
   refused C5 PAGE   the slot of this page, a number, went another way
 
+live --shared runs the script on one machine that all threads share. A core
+makes its call whole while no other core is in one; else it pauses, and tries
+again. Each core may begin calls until all have begun CALLS. In place of notes
+these lines come out, of which audit reads the last ones (help audit):
+
+  # cC! REQ = REPLY   the calls of each core, in order of cores, with the
+                      replies that its thread had
+  cC! REQ = REPLY     behind the vm and file lines, all calls in the order in
+                      which they took effect
+
+A flush or a review writes no line. There is no certificate, since none is
+needed: it is proved of the program, for every order in which threads may take
+turns, that a plain page map gives the replies of the last lines, and that of
+each core just the lines above stand among them, in their order. Notes tell of
+each step, which is more, and have to be certified run by run.
+
 A core that can't begin a task stops, and its fault is told, that of the least
 core of several, with nothing on standard output:
 
@@ -67,6 +83,7 @@ core of several, with nothing on standard output:
   live V2   of the 2^32 steps that it may note, fewer than three are left for
             a call, or none for a flush or a review
   live V3   no memory to begin
+  live V4   the shared machine has begun CALLS calls, or can make no more steps
 
 Status: 0; 1 where notes are refused; 2 for a bad script or bad words; 3 where
 reading, writing or memory failed, or a core stopped. With --explain more is

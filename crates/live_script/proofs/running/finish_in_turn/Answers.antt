@@ -1,3 +1,4 @@
+use Rattle.live_script.proofs.KeptLemmas.{ran_kept}
 use Rattle.live_script.proofs.LaneLemmas.{own_in, ran_least, ran_whole}
 use Rattle.live_script.proofs.running.finish_in_turn.Goals as goal
 
@@ -16,3 +17,8 @@ returns-in-None-clause-ran g c =
     ran_whole c.args.script.now c.args.ran c.ran.inside.live c.ran.inside.lanes.items c.as_mut_slice.result.now c.run_in_order.new.lanes
     c.ran.inside.lanes.len c.ran.view_is c.requires c.as_mut_slice.ensures.value c.as_mut_slice.ensures.len c.run_in_order.ensures
     c.as_slice.result.now c.first_fault.result c.as_slice.ensures.value c.first_fault.ensures c.in-None.is
+
+pub invariant_of-ran : goal.invariant_of-ran
+invariant_of-ran g c =
+    ran_kept c.args.script.now c.args.ran c.ran.inside.live c.ran.inside.lanes.items c.as_mut_slice.result.now c.run_in_order.new.lanes c.ran.inside.lanes.len
+    c.ran.view_is c.requires c.as_mut_slice.ensures.value c.as_mut_slice.ensures.len c.run_in_order.ensures c.ran.invariant

@@ -1,17 +1,25 @@
-use Rattle.std.proofs.Common.{ap, arith}
+use Rattle.machine_laws.proofs.Words.{◌-◌, ◌<◌, arith, get_or, get_or_default, length, rules}
+use Rattle.seats.specs.Packing.{nothing, shown}
 use Rattle.seats.specs.declared.noted.Noted.{Noted}
+use Rattle.certifier.proofs.Standing.{ticket_there}
 use Rattle.notes_text.proofs.MergeLemmas.{climbs_all, climbs_first, climbs_more}
 use Rattle.notes_text.proofs.merging.climbs.Goals as goal
 
 pub notes-init : goal.notes-init
-notes-init c = climbs_first c.args.notes.now
+notes-init c = climbs_first (shown c.args.notes.now)
 
 pub notes-preserved : goal.notes-preserved
 notes-preserved c =
-    let here = ap (λ (n : Noted). n.ticket) c.index-notes-at.is in
-    let before = ap (λ (n : Noted). n.ticket) c.index-notes-at-in-notes.is in
-    climbs_more c.args.notes.now c.notes.at c.index-notes-at-in-notes.result c.index-notes-at.result (omega (arith, c.notes.auto.at)) c.notes-test.true
-    c.index-notes-at.is c.index-notes-at-in-notes.is (omega (arith, here, before, c.if-notes-at.false)) c.notes.invariant
+    let l = shown c.args.notes.now in
+    let at = c.notes.at in
+    let some = c.notes.auto.at in
+    let lt : at < length l = search (rules, arith) in
+    let y : Noted = get_or l at nothing in
+    let x : Noted = get_or l (at - 1) nothing in
+    let here = ticket_there l at c.ticket-ticket.result nothing lt c.ticket-ticket.ensures in
+    let before = ticket_there l (at - 1) c.ticket-before.result nothing (omega (arith, lt)) c.ticket-before.ensures in
+    climbs_more l at x y (omega (arith, some)) lt (get_or_default l at nothing y lt) (get_or_default l (at - 1) nothing x (omega (arith, lt)))
+    (omega (arith, here, before, c.if-ticket-before.false)) c.notes.invariant
 
 pub returns : goal.returns
-returns c = λ e. climbs_all c.args.notes.now c.notes.at (omega (arith, c.notes-test.false)) c.notes.invariant
+returns c = λ e. climbs_all (shown c.args.notes.now) c.notes.at (search (rules, arith)) c.notes.invariant

@@ -1,6 +1,5 @@
 use Rattle.std.proofs.Common.{◌+◌, refl}
-use Rattle.notes_text.proofs.OrderLemmas.{grown}
-use Rattle.notes_text.proofs.TaskLemmas.{cores_kept}
+use Rattle.notes_text.proofs.TaskLemmas.{cores_kept, grown}
 use Rattle.notes_text.proofs.script.all_tasks.Goals as goal
 
 pub cores-preserved : goal.cores-preserved

@@ -1,8 +1,14 @@
-use Rattle.std.proofs.Common.{Bor, List, [], ◌∷◌, ◌++◌, ◌+◌, ◌-◌, ◌∙◌, drop, length, refl, take}
-use Rattle.seats.specs.declared.noted.Noted.{Noted}
-use Rattle.notes_text.proofs.MergeLemmas.{merged_first, merged_last, none_found, step_merged, step_shorter, step_whole, tail_whole, wrote_front_of, wrote_next}
+use Rattle.std.proofs.Common.{[], ◌∷◌, ◌++◌, ◌+◌, ◌∙◌, refl}
+use Rattle.seats.specs.Packing.{shown}
+use Rattle.notes_text.proofs.MergeLemmas.{first_of, found_some, merged_first, merged_last, none_found, step_merged, step_shorter, step_whole, wrote_front_of, wrote_next}
 use Rattle.notes_text.proofs.PieceLemmas.{nothing_yet}
 use Rattle.notes_text.proofs.writing.write_merged.Goals as goal
+
+pub get-note-requires : goal.get-note-requires
+get-note-requires g c = found_some shown c.notes.lists c.in-Some.head c.in-Some.ensures c.index-lists-head.result c.index-lists-head.is
+
+pub rest-rest-requires : goal.rest-rest-requires
+rest-rest-requires g c = found_some shown c.notes.lists c.in-Some.head c.in-Some.ensures c.index-lists-head.result c.index-lists-head.is
 
 pub notes-init : goal.notes-init
 notes-init g c = record { done = []; merged = merged_first _ c.requires; written = nothing_yet _; kept = refl }
@@ -11,35 +17,32 @@ pub notes-preserved : goal.notes-preserved
 notes-preserved g c =
     let held = c.notes.invariant in
     let list = c.index-lists-head.result in
-    let rest : Bor (List Noted) = record { ref_ptr = (list.ref_ptr.0, 88 + list.ref_ptr.1); now = take (length list.now - 1) (drop 1 list.now) } in
     record {
-      done = held.done ++ c.index-list-0.result ∷ [];
-      merged = step_merged (λ (s : Bor (List Noted)). s.now) c.notes.lists c.in-Some.head c.in-Some.ensures list c.index-lists-head.is rest c.index-list-0.result
-          c.index-list-0.is (tail_whole list.now) _ held.done held.merged;
-      written = wrote_next _ _ _ held.done c.index-list-0.result held.written c.in_default-write_note.ensures.ok;
+      done = held.done ++ c.get-note.result ∷ [];
+      merged = step_merged shown c.notes.lists c.in-Some.head c.in-Some.ensures list c.index-lists-head.is c.rest-rest.result c.get-note.result
+          (first_of _ _ c.get-note.ensures) c.rest-rest.ensures _ held.done held.merged;
+      written = wrote_next _ _ _ held.done c.get-note.result held.written c.in_default-write_note.ensures.ok;
       kept = c.in_default-write_note.ensures.kept ∙ held.kept;
     }
 
 pub notes-smaller : goal.notes-smaller
 notes-smaller g c =
     let list = c.index-lists-head.result in
-    let rest : Bor (List Noted) = record { ref_ptr = (list.ref_ptr.0, 88 + list.ref_ptr.1); now = take (length list.now - 1) (drop 1 list.now) } in
-    step_shorter (λ (s : Bor (List Noted)). s.now) c.notes.lists c.in-Some.head c.in-Some.ensures list c.index-lists-head.is rest c.index-list-0.result
-    c.index-list-0.is (tail_whole list.now)
+    step_shorter shown c.notes.lists c.in-Some.head c.in-Some.ensures list c.index-lists-head.is c.rest-rest.result c.get-note.result
+    (first_of _ _ c.get-note.ensures) c.rest-rest.ensures
 
 pub returns-in-Err : goal.returns-in-Err
 returns-in-Err g c =
     let held = c.notes.invariant in
     let list = c.index-lists-head.result in
-    let rest : Bor (List Noted) = record { ref_ptr = (list.ref_ptr.0, 88 + list.ref_ptr.1); now = take (length list.now - 1) (drop 1 list.now) } in
-    let (more, order) = step_whole (λ (s : Bor (List Noted)). s.now) c.notes.lists c.in-Some.head c.in-Some.ensures list c.index-lists-head.is rest
-    c.index-list-0.result c.index-list-0.is (tail_whole list.now) _ held.done held.merged in (
-      (held.done ++ c.index-list-0.result ∷ []) ++ more,
+    let (more, order) = step_whole shown c.notes.lists c.in-Some.head c.in-Some.ensures list c.index-lists-head.is c.rest-rest.result
+    c.get-note.result (first_of _ _ c.get-note.ensures) c.rest-rest.ensures _ held.done held.merged in (
+      (held.done ++ c.get-note.result ∷ []) ++ more,
       order,
       record {
         ok = tt;
         kept = tt;
-        front = wrote_front_of _ _ _ held.done more c.index-list-0.result held.written c.in-Err.ensures.front;
+        front = wrote_front_of _ _ _ held.done more c.get-note.result held.written c.in-Err.ensures.front;
         err = c.in-Err.ensures.err;
       },
     )
@@ -48,6 +51,6 @@ pub returns : goal.returns
 returns g c =
     let held = c.notes.invariant in (
       held.done,
-      merged_last _ _ held.done (none_found (λ (s : Bor (List Noted)). s.now) c.notes.lists c.in_default.ensures) held.merged,
+      merged_last _ _ held.done (none_found shown c.notes.lists c.in_default.ensures) held.merged,
       record { ok = held.written; kept = held.kept; front = tt; err = tt },
     )

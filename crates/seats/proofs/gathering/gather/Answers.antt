@@ -24,7 +24,7 @@ seats-init g c =
           let n = c.in-Ok.ensures.capacity in
           let m = c.len.ensures in
           omega (arith, a, b, e, n, m));
-      gathered = subst (λ ls. IsGathered c.args.word.now c.into_parts-ticketer.result.notes.items c.into_joined-joined.result.spare c.into_joined-joined.result [] (map (λ notes. notes.items) ls))
+      gathered = subst (λ ls. IsGathered c.args.word.now c.into_parts-ticketer.result.notes.notes c.into_joined-joined.result.spare c.into_joined-joined.result [] (map (λ list. list.notes) ls))
           (sym empty) (gathered_first _ c.in-Some.last _ _ _ own.1 c.into_parts-ticketer.ensures.ticketer c.into_parts-ticketer.ensures.notes c.into_joined-joined.ensures);
     }
 
@@ -53,8 +53,8 @@ seats-preserved g c =
           let pushed = ap length c.push_reserved.ensures.items ∙ length_push c.seats.all.items c.into_parts-ticketer-in-seats.result.notes in
           let capacity = c.push_reserved.ensures.capacity in
           omega (arith, room, more, pushed, capacity));
-      gathered = gathered_pushed (λ notes. notes.items) c.push_reserved.new.self.items c.seats.all.items c.into_parts-ticketer-in-seats.result.notes
-          c.args.word.now c.into_parts-ticketer.result.notes.items c.into_joined-joined.result.spare c.seats.joined c.join.new.joined c.seats.yielded
+      gathered = gathered_pushed (λ list. list.notes) c.push_reserved.new.self.items c.seats.all.items c.into_parts-ticketer-in-seats.result.notes
+          c.args.word.now c.into_parts-ticketer.result.notes.notes c.into_joined-joined.result.spare c.seats.joined c.join.new.joined c.seats.yielded
           c.in-Some-seat.seat c.into_parts-ticketer-in-seats.result.ticketer c.seats.invariant.gathered c.into_parts-ticketer-in-seats.ensures.ticketer
           c.into_parts-ticketer-in-seats.ensures.notes c.into_parts-ticketer-in-seats.ensures.rising c.join.ensures c.push_reserved.ensures.items;
     }

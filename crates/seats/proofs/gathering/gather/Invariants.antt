@@ -9,5 +9,5 @@ invariant-seats g l = record {
   left : l.yielded ++ l.seat-iterator.rest.items ≡ l.initial.seat-iterator.rest.items;
   own : All (λ s. s.word ≡ l.word) l.seat-iterator.rest.items;
   room : length l.all.items + length l.seat-iterator.rest.items + 1 ≤ vec_capacity l.all;
-  gathered : IsGathered l.word l.last.items l.initial.joined.spare l.joined l.yielded (map (λ notes. notes.items) l.all.items);
+  gathered : IsGathered l.word l.last.notes l.initial.joined.spare l.joined l.yielded (map (λ list. list.notes) l.all.items);
 }

@@ -1,6 +1,6 @@
 use Rattle.std.proofs.Common.{rules, ◌≡◌, ◌≢◌, sym, ap, ◌∙◌}
 use Rattle.machine_model.specs.declared.phase.Phase.TheVariants.{Free}
-use Rattle.shared.proofs.InCalls.{settled_answered, settled_free, settled_waits}
+use Rattle.shared.proofs.Halting.{settled_answered, settled_free, settled_waits}
 use Rattle.shared.proofs.calling.call_settled.Goals as goal
 
 pub returns-then-is_answered-clause-ends : goal.returns-then-is_answered-clause-ends

@@ -1,9 +1,7 @@
-use Rattle.shared.proofs.InCalls.{takes_beside, tries_on}
+use Rattle.std.proofs.Common.{rules, ◌≡◌, false}
+use Rattle.vm_base.specs.Cores.{members}
+use Rattle.shared.proofs.Halting.{not_awaited, takes_past}
 use Rattle.shared.proofs.calling.take_twice.Goals as goal
 
 pub returns : goal.returns
-returns g c = record {
-  keeps = λ w request k.
-      tries_on _ _ _ _ _ _ (takes_beside _) c.step-tlb.ensures.step w request
-      (tries_on _ _ _ _ _ _ (takes_beside _) c.step-tables.ensures.step w request k);
-}
+returns g c = record { takes = takes_past c.args.awaited c.args.other _ _ _ c.args.core _ _ c.step-tables.ensures.step c.step-tlb.ensures.step }

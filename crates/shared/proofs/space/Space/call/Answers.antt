@@ -1,10 +1,26 @@
-use Rattle.std.proofs.Common.{◌≡◌, [], ◌∷◌, ap, ◌∙◌, sym, subst}
+use Rattle.std.proofs.Common.{◌≡◌, ◌≢◌, ℕ, [], ◌∷◌, ap, arith, ◌∙◌, sym, subst}
+use Rattle.shared.specs.declared.space.Answer.TheVariants as Tells
 use Rattle.shared.specs.declared.space.Known.{Known}
 use Rattle.shared.specs.Histories.{history_of}
 use Rattle.shared.specs.Cores.{Answers, CoreView}
 use Rattle.shared.specs.Rules.{after, holding, view_of}
-use Rattle.shared.proofs.Keeping.{call_answers, call_gives, took_home}
+use Rattle.shared.proofs.Keeping.{call_answers, call_gives, full_answers, same_view, took_home}
 use Rattle.shared.proofs.space.Space.call.Goals as goal
+
+zero_not_one : (n : ℕ) → n ≡ 0 → n ≢ 1
+zero_not_one n e one = omega (arith, e, one)
+
+pub returns-then-found-eq-OUT-clause-answers : goal.returns-then-found-eq-OUT-clause-answers
+returns-then-found-eq-OUT-clause-answers g c =
+    same_view g.S.Whole.state [] c.core.inside.seat.table_id c.take-found.new.seat.table_id c.take-found.result c.core.inside.seat.me c.take-found.new.seat.me
+    (zero_not_one c.take-found.result c.if-found-eq-OUT.true) c.take-found.ensures.took c.take-found.ensures.same.0
+    ∙ c.core.view_is
+
+pub returns-then-found-ne-HOME-clause-answers : goal.returns-then-found-ne-HOME-clause-answers
+returns-then-found-ne-HOME-clause-answers g c =
+    subst (λ x. Answers g.S.Whole.state x c.args.request Tells.Full (view_of c.take-found.new.seat.table_id c.take-found.new.seat.me.0)) c.core.view_is
+    (full_answers g.S.Whole.state [] c.core.inside.seat.table_id c.take-found.new.seat.table_id c.take-found.result c.core.inside.seat.me c.take-found.new.seat.me c.args.request
+    c.if-found-ne-HOME.true c.if-found-eq-OUT.false c.take-found.ensures.took c.take-found.ensures.same.0 c.core.invariant.2)
 
 pub give-requires-clause-can : goal.give-requires-clause-can
 give-requires-clause-can g c =

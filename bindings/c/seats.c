@@ -1,0 +1,189 @@
+/* What sharing a machine tells: each status, and that all is as it was where it isn't RADIXVM_OK; a seat that another thread has
+ * in a call is busy to the others; seats go from thread to thread.
+ * Usage: seats */
+#include "radixvm.h"
+#include <pthread.h>
+#include <stdatomic.h>
+#include <stdio.h>
+#include <stdlib.h>
+#include <string.h>
+
+static const radixvm_event MAP = {RADIXVM_MMAP, 63, 0x10000, 4096, 0, 0, 3,
+    RADIXVM_MAP_PRIVATE | RADIXVM_MAP_FIXED | RADIXVM_MAP_ANONYMOUS, 0};
+static const radixvm_event LOAD = {RADIXVM_LOAD, 0, 0x10000, 0, 0, 0, 0, 0, 0};
+static const radixvm_event STORE = {RADIXVM_STORE, 0, 0x10000, 0, 0, 0, 0, 0, 41};
+static const radixvm_event UNMAP = {RADIXVM_MUNMAP, 0, 0x10000, 4096, 0, 0, 0, 0, 0};
+static int rows;
+
+static void die(const char *why) {
+    printf("%s\n", why);
+    exit(1);
+}
+
+static void is(uint32_t told, uint32_t due, const char *what) {
+    rows++;
+    if (told == due) return;
+    printf("%s: %s, expected %s\n", what, radixvm_text(told), radixvm_text(due));
+    exit(1);
+}
+
+/* The call comes to this. */
+static void comes(radixvm_seat *seat, const radixvm_event *event, uint32_t kind, uint64_t value, const char *what) {
+    radixvm_outcome told = {0, 0};
+    is(radixvm_seat_call(seat, event, &told), RADIXVM_OK, what);
+    if (told.kind == kind && told.value == value) return;
+    printf("%s: %s %llu\n", what, radixvm_outcome_text(told.kind), (unsigned long long)told.value);
+    exit(1);
+}
+
+static void nulls(void) {
+    radixvm_machine machine = {0};
+    radixvm_seat seat = {0}, other = {0};
+    radixvm_outcome told = {0, 0};
+    is(radixvm_share(NULL, &seat), RADIXVM_NULL, "share no place");
+    is(radixvm_share(&machine, NULL), RADIXVM_NULL, "share to no place");
+    is(radixvm_seat_split(&seat, NULL), RADIXVM_NULL, "split to no place");
+    is(radixvm_seat_try(&seat, NULL, &told), RADIXVM_NULL, "call nothing");
+    is(radixvm_seat_try(&seat, &LOAD, NULL), RADIXVM_NULL, "tell nobody");
+    is(radixvm_seat_return(NULL, &other), RADIXVM_NULL, "return to no place");
+    is(radixvm_unshare(&seat, NULL), RADIXVM_NULL, "unshare to no place");
+    radixvm_seat_free(NULL);
+    is(radixvm_share(&machine, &seat), RADIXVM_EMPTY, "share nothing");
+    is(radixvm_seat_split(&seat, &other), RADIXVM_EMPTY, "split nothing");
+    is(radixvm_seat_try(&seat, &LOAD, &told), RADIXVM_EMPTY, "call as nobody");
+    is(radixvm_seat_return(&seat, &other), RADIXVM_EMPTY, "return nothing");
+    is(radixvm_unshare(&seat, &machine), RADIXVM_EMPTY, "unshare nothing");
+    radixvm_seat_free(&seat);
+    if (told.kind || seat.at || other.at || machine.at) die("something was written");
+}
+
+static void statuses(void) {
+    const radixvm_setup setup = {3, 4, 100, 1};
+    radixvm_machine machine = {0}, spare = {0};
+    radixvm_seat first = {0}, two = {0}, one = {0};
+    radixvm_outcome told = {0, 0};
+    radixvm_event bad = LOAD;
+    is(radixvm_new(&setup, NULL, 0, NULL, 0, &machine).status, RADIXVM_OK, "new");
+    is(radixvm_new(&setup, NULL, 0, NULL, 0, &spare).status, RADIXVM_OK, "new");
+    is(radixvm_begin(&machine, &LOAD, &told), RADIXVM_OK, "begin");
+    is(radixvm_share(&machine, &first), RADIXVM_IN_FLIGHT, "share amid a call");
+    is(radixvm_finish(&machine, 0, &told), RADIXVM_OK, "finish");
+    is(told.kind, RADIXVM_SEGV_MAPERR, "the call goes on");
+    is(radixvm_share(&machine, &first), RADIXVM_OK, "share");
+    is(radixvm_call(&machine, &LOAD, &told), RADIXVM_EMPTY, "call what is shared");
+    is(radixvm_share(&spare, &first), RADIXVM_IN_USE, "share into a seat");
+    is(radixvm_seat_split(&first, &first), RADIXVM_IN_USE, "split into a seat");
+    is(radixvm_unshare(&first, &spare), RADIXVM_IN_USE, "unshare into a machine");
+    is(radixvm_seat_split(&first, &two), RADIXVM_OK, "split");
+    is(radixvm_seat_split(&first, &one), RADIXVM_OK, "split");
+    radixvm_seat none = {0};
+    is(radixvm_seat_split(&first, &none), RADIXVM_ABSENT, "split a fourth");
+    is(radixvm_seat_split(&two, &none), RADIXVM_ABSENT, "split by another");
+    bad.kind = RADIXVM_GO;
+    is(radixvm_seat_try(&first, &bad, &told), RADIXVM_BAD_EVENT, "a step");
+    bad.kind = RADIXVM_FINISH;
+    is(radixvm_seat_try(&first, &bad, &told), RADIXVM_BAD_EVENT, "a finish");
+    bad.kind = RADIXVM_LOAD | RADIXVM_BEGIN;
+    is(radixvm_seat_try(&first, &bad, &told), RADIXVM_BAD_EVENT, "a begin");
+    bad = STORE;
+    bad.byte = 256;
+    is(radixvm_seat_try(&first, &bad, &told), RADIXVM_BAD_EVENT, "no byte");
+    comes(&first, &MAP, RADIXVM_MAPPED, 0x10000, "map");
+    comes(&two, &STORE, RADIXVM_DONE, 0, "store by another");
+    comes(&one, &LOAD, RADIXVM_BYTE, 41, "load by a third");
+    comes(&first, &UNMAP, RADIXVM_DONE, 0, "unmap, which waits for two");
+    comes(&two, &LOAD, RADIXVM_SEGV_MAPERR, 0, "gone");
+    is(radixvm_seat_return(&two, &first), RADIXVM_OK, "core 0 returned to another");
+    is(radixvm_unshare(&two, &machine), RADIXVM_IN_USE, "unshare beside a seat");
+    radixvm_seat_free(&one);
+    is(radixvm_unshare(&two, &machine), RADIXVM_OK, "unshare by another than the first");
+    is(radixvm_call(&machine, &LOAD, &told), RADIXVM_OK, "call what came back");
+    radixvm_log_entry entries[16];
+    const radixvm_done log = radixvm_log(&machine, entries, 16);
+    is(log.status, RADIXVM_OK, "log");
+    is((uint32_t)log.count, 7, "seven replies");
+    const uint32_t cores[] = {0, 0, 2, 1, 0, 2, 0};
+    for (size_t i = 0; i < 7; i++) is(entries[i].core, cores[i], "the core of a seat");
+    radixvm_free(&machine);
+    radixvm_free(&spare);
+}
+
+/* After as many calls as the machine may have each is told that it is full; the last seat that is freed frees the machine. */
+static void full(void) {
+    const radixvm_setup setup = {2, 4, 2, 0};
+    radixvm_machine machine = {0};
+    radixvm_seat first = {0}, other = {0};
+    is(radixvm_new(&setup, NULL, 0, NULL, 0, &machine).status, RADIXVM_OK, "new");
+    is(radixvm_share(&machine, &first), RADIXVM_OK, "share");
+    is(radixvm_seat_split(&first, &other), RADIXVM_OK, "split");
+    comes(&first, &LOAD, RADIXVM_SEGV_MAPERR, 0, "one");
+    comes(&other, &LOAD, RADIXVM_SEGV_MAPERR, 0, "two");
+    comes(&first, &LOAD, RADIXVM_FULL, 0, "three");
+    comes(&other, &LOAD, RADIXVM_FULL, 0, "four");
+    radixvm_seat_free(&first);
+    comes(&other, &LOAD, RADIXVM_FULL, 0, "five");
+    radixvm_seat_free(&other);
+    if (first.at || other.at) die("a seat is left");
+}
+
+/* Two threads try until one has been told that the other is in a call. */
+static atomic_int busy;
+static void *tries(void *at) {
+    radixvm_outcome told;
+    for (long n = 0; n < 100000000 && !atomic_load(&busy); n++) {
+        const uint32_t status = radixvm_seat_try(at, &LOAD, &told);
+        if (status == RADIXVM_BUSY) atomic_store(&busy, 1);
+        else if (status) die("no call");
+    }
+    return NULL;
+}
+
+static void is_busy(void) {
+    const radixvm_setup setup = {2, 4, 1ull << 40, 0};
+    radixvm_machine machine = {0};
+    radixvm_seat first = {0}, other = {0};
+    pthread_t thread;
+    is(radixvm_new(&setup, NULL, 0, NULL, 0, &machine).status, RADIXVM_OK, "new");
+    is(radixvm_share(&machine, &first), RADIXVM_OK, "share");
+    is(radixvm_seat_split(&first, &other), RADIXVM_OK, "split");
+    if (pthread_create(&thread, NULL, tries, &other)) die("no thread");
+    tries(&first);
+    pthread_join(thread, NULL);
+    is((uint32_t)atomic_load(&busy), 1, "busy");
+    is(radixvm_seat_return(&first, &other), RADIXVM_OK, "return");
+    is(radixvm_unshare(&first, &machine), RADIXVM_OK, "unshare");
+    radixvm_free(&machine);
+}
+
+/* A machine that isn't shared goes from thread to thread. */
+static void *maps(void *at) {
+    radixvm_outcome told;
+    if (radixvm_call(at, &MAP, &told) || told.kind != RADIXVM_MAPPED) die("not mapped");
+    return NULL;
+}
+
+static void handed_over(void) {
+    const radixvm_setup setup = {64, 4, 100, 0};
+    radixvm_machine machine = {0};
+    radixvm_outcome told = {0, 0};
+    pthread_t thread;
+    is(radixvm_new(&setup, NULL, 0, NULL, 0, &machine).status, RADIXVM_OK, "new");
+    if (pthread_create(&thread, NULL, maps, &machine)) die("no thread");
+    pthread_join(thread, NULL);
+    is(radixvm_call(&machine, &LOAD, &told), RADIXVM_OK, "load what another thread mapped");
+    is(told.kind, RADIXVM_BYTE, "a byte");
+    radixvm_free(&machine);
+}
+
+int main(void) {
+    nulls();
+    statuses();
+    full();
+    is_busy();
+    handed_over();
+    if (strcmp(radixvm_text(RADIXVM_LOST + 1), "unknown status") || strcmp(radixvm_outcome_text(RADIXVM_STUCK + 1), "unknown outcome")
+        || strcmp(radixvm_text(RADIXVM_BUSY), "another seat is in a call") || strcmp(radixvm_outcome_text(RADIXVM_BUS), "SIGBUS: past the end of the file"))
+        die("texts");
+    printf("%d statuses of seats\n", rows);
+    return 0;
+}

@@ -1,0 +1,5 @@
+use Rattle.live_space.specs.InFlight.{GoesOn}
+use Rattle.live_space.proofs.in_call.InCall.touch.Given as goal
+
+abbrev pub invariant-tries : goal.invariant-tries
+invariant-tries g l = GoesOn l.fn.self.seat l.self.seat

@@ -1,9 +1,0 @@
-use Rattle.std.proofs.Common.{rules}
-use Rattle.seats.specs.Notes.{SeatView}
-use Rattle.live_space.specs.Endings.{EndsIf}
-use Rattle.live_space.proofs.Ended.{at_last, ends_if}
-use Rattle.live_space.proofs.space.Live.fault.Goals as goal
-
-pub returns : goal.returns
-returns g c = at_last (λ (v : SeatView). EndsIf c.args.seat.now c.end.result v) c.end.new.seat _
-    (ends_if _ _ _ c.end.result c.lock_page-ending.ensures.grew c.end.ensures.ended) (search rules)

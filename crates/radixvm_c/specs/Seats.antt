@@ -1,0 +1,195 @@
+-- A machine that threads share, and what C is told of it
+use Rattle.std.specs.Prelude.{◌≡◌, ℕ, ◌-◌, ◌<◌, ◌⊎◌, [], ◌∷◌, ◌++◌, Option, None, Some, Result, Ok, Err}
+use Rattle.atomic_table.specs.Seated.{TableId}
+use Rattle.vm_base.specs.declared.requests.Request.{Request}
+use Rattle.machine_model.specs.declared.event.Outcome.TheVariants.{Full}
+use Rattle.machine_model.specs.World.{World}
+use Rattle.shared.specs.declared.space.Answer.{Answer}
+use Rattle.shared.specs.declared.space.Answer.TheVariants as Tells
+use Rattle.shared.specs.Cores.{CoreView, Answers, Agrees, new_core, told_of}
+use Rattle.radixvm_c.specs.declared.codes.Kind.{Kind}
+use Rattle.radixvm_c.specs.declared.codes.RawEvent.{RawEvent}
+use Rattle.radixvm_c.specs.declared.codes.RawOutcome.{RawOutcome}
+use Rattle.radixvm_c.specs.declared.held.Held.{Held}
+use Rattle.radixvm_c.specs.declared.placed.Placed.{Placed}
+use Rattle.radixvm_c.specs.declared.chair.Chair.{Chair}
+use Rattle.radixvm_c.specs.declared.chair.Seat.{Seat}
+use Rattle.radixvm_c.specs.declared.chair.Chair.TheVariants.{Vacant, Taken}
+use Rattle.radixvm_c.specs.declared.sharing.Closed.{Closed}
+use Rattle.radixvm_c.specs.declared.sharing.Closed.TheVariants as Comes
+use Rattle.radixvm_c.specs.Codes.{kind_of, request_at, reply_code, outcome_code}
+use Rattle.radixvm_c.specs.Holding.{held_state, empty_code, absent_code}
+
+-- ---- seats
+
+-- what a seat knows, as clauses see it
+abbrev pub View : Type 0
+View = CoreView Placed
+
+abbrev pub placed_state : Placed → World
+placed_state placed = (held_state placed.held.value).world
+
+-- the seat of a place, and of a handle
+abbrev pub core_on : Chair → Option View
+core_on Vacant = None
+core_on (Taken seat) = Some seat.core
+
+abbrev pub core_in : Option Chair → Option View
+core_in None = None
+core_in (Some chair) = core_on chair
+
+-- ---- statuses
+
+abbrev pub no_memory_code : ℕ
+no_memory_code = 2
+
+abbrev pub in_use_code : ℕ
+in_use_code = 8
+
+abbrev pub busy_code : ℕ
+busy_code = 17
+
+abbrev pub in_flight_code : ℕ
+in_flight_code = 18
+
+abbrev pub lost_code : ℕ
+lost_code = 19
+
+-- ---- sharing
+
+-- no memory, or a core has a call that isn't at its end
+abbrev pub CannotShare : ℕ → Type 0
+CannotShare status = (status ≡ no_memory_code) ⊎ (status ≡ in_flight_code)
+
+-- core 0 of this machine, which made no call since it was shared, and may split off all others
+abbrev pub IsFirst : Held → View → Type 0
+IsFirst held v = (placed : Placed) × (space : TableId) × (placed.held.value ≡ held)
+    × (v ≡ new_core placed_state space 0 ((held_state held).world.made.cores - 1) (placed ∷ []))
+
+abbrev pub HasFirst : Held → Option View → Type 0
+HasFirst held None = ⊥
+HasFirst held (Some v) = IsFirst held v
+
+-- the machine went into the seat; or all is as it was, since there is no machine, or a seat already, or
+-- it can't be shared
+abbrev pub TellsShare : Option Held → Option Chair → ℕ → Option Held → Option Chair → Type 0
+TellsShare None chair status held' chair' =
+    (status ≡ empty_code) × (held' ≡ None) × (chair' ≡ chair)
+TellsShare (Some held) (Some chair) status held' chair' =
+    (status ≡ in_use_code) × (held' ≡ Some held) × (chair' ≡ Some chair)
+TellsShare (Some held) None status held' chair' =
+    ((status ≡ 0) × (held' ≡ None) × HasFirst held (core_in chair'))
+    ⊎ (CannotShare status × (held' ≡ Some held) × (chair' ≡ None))
+
+-- ---- one more seat
+
+-- the last core that had no seat yet, which made no call since the machine was shared
+abbrev pub IsSplit : View → View → View → Type 0
+IsSplit v other w = (0 < v.spare) × (w ≡ record v { spare = v.spare - 1 })
+    × (other ≡ new_core placed_state v.space v.spare 0 v.first)
+
+-- no memory, or all cores have a seat
+abbrev pub CannotSplit : View → ℕ → Type 0
+CannotSplit v status = (status ≡ no_memory_code) ⊎ ((status ≡ absent_code) × (v.spare ≡ 0))
+
+abbrev pub SplitsSeat : View → Result Seat ℕ → View → Type 0
+SplitsSeat v (Ok seat) w = IsSplit v seat.core w
+SplitsSeat v (Err status) w = CannotSplit v status × (w ≡ v)
+
+abbrev pub SplitsChair : Option View → Result Seat ℕ → Option View → Type 0
+SplitsChair None r w = (r ≡ Err empty_code) × (w ≡ None)
+SplitsChair (Some v) r None = ⊥
+SplitsChair (Some v) r (Some w) = SplitsSeat v r w
+
+abbrev pub SplitsTo : View → Option View → Option View → Type 0
+SplitsTo v (Some w) (Some other) = IsSplit v other w
+SplitsTo v w other = ⊥
+
+-- a core was split off; or all is as it was
+abbrev pub TellsSplit : Option View → Option Chair → ℕ → Option View → Option Chair → Type 0
+TellsSplit None other status w other' = (status ≡ empty_code) × (w ≡ None) × (other' ≡ other)
+TellsSplit (Some v) (Some chair) status w other' =
+    (status ≡ in_use_code) × (w ≡ Some v) × (other' ≡ Some chair)
+TellsSplit (Some v) None status w other' =
+    ((status ≡ 0) × SplitsTo v w (core_in other'))
+    ⊎ (CannotSplit v status × (w ≡ Some v) × (other' ≡ None))
+
+-- ---- a call
+
+abbrev pub asked_at : Option Kind → RawEvent → Option Request
+asked_at None raw = None
+asked_at (Some kind) raw = request_at kind raw
+
+-- the request of an event that begins a call, whichever core it names
+abbrev pub asked_of : RawEvent → Option Request
+asked_of raw = asked_at (kind_of raw.kind) raw
+
+-- the reply is told, or that a limit is reached; or that another core was in a call
+abbrev pub TellsAnswer : Answer → RawOutcome → ℕ → RawOutcome → Type 0
+TellsAnswer (Tells.Reply reply) was status told = (status ≡ 0) × (told ≡ reply_code reply)
+TellsAnswer Tells.Full was status told = (status ≡ 0) × (told ≡ outcome_code Full)
+TellsAnswer Tells.Busy was status told = (status ≡ busy_code) × (told ≡ was)
+
+-- the event is no call, and nothing changes; or it is a call of this core, whose answer is told
+abbrev pub Tries : View → Option Request → RawOutcome → ℕ → RawOutcome → View → Type 0
+Tries v None was status told w = (status ≡ 1) × (told ≡ was) × (w ≡ v)
+Tries v (Some request) was status told w = (answer : Answer)
+    × Answers placed_state v request answer w × TellsAnswer answer was status told
+
+abbrev pub TriesOn : View → RawEvent → RawOutcome → ℕ → RawOutcome → View → Type 0
+TriesOn v raw was status told w = Tries v (asked_of raw) was status told w
+
+-- what C reads of a call of a seat
+abbrev pub TellsTry : Option View → RawEvent → RawOutcome → ℕ → RawOutcome → Option View → Type 0
+TellsTry None raw was status told w = (status ≡ empty_code) × (told ≡ was) × (w ≡ None)
+TellsTry (Some v) raw was status told None = ⊥
+TellsTry (Some v) raw was status told (Some w) = TriesOn v raw was status told w
+
+-- ---- a seat that is done
+
+-- where there are both, they are of one space
+abbrev pub AreBeside : Option View → Option View → Type 0
+AreBeside (Some v) (Some other) = other.space ≡ v.space
+AreBeside v other = Unit {0}
+
+-- the first knows what the other knew
+abbrev pub TakesIn : Option View → Option View → Option View → Type 0
+TakesIn (Some v) (Some other) w = w ≡ Some (record v { others = v.others ++ told_of other ∷ [] })
+TakesIn v other w = w ≡ v
+
+-- the other core was taken in, and its handle is empty; or one has no seat, and all is as it was
+abbrev pub TellsReturn : Option View → Option View → ℕ → Option View → Option View → Type 0
+TellsReturn (Some v) (Some other) status w other' =
+    (status ≡ 0) × TakesIn (Some v) (Some other) w × (other' ≡ None)
+TellsReturn v other status w other' = (status ≡ empty_code) × (w ≡ v) × (other' ≡ other)
+
+-- ---- the end
+
+-- The machine comes back. Its log is that of a plain page map (POSIX.1-2017, mmap, munmap and
+-- mprotect), and has of this core, and of each that it took in, just the calls that it made, in order,
+-- with the replies that it got
+abbrev pub Closes : View → Closed → Type 0
+Closes v (Comes.Back held) = Agrees placed_state (held_state held.value).world v
+Closes v Comes.Beside = ⊥
+Closes v Comes.Gone = Unit {0}
+
+abbrev pub ClosesChair : Option View → Closed → Option View → Type 0
+ClosesChair (Some v) Comes.Beside w = w ≡ Some v
+ClosesChair (Some v) closed w = Closes v closed × (w ≡ None)
+ClosesChair None closed w = (closed ≡ Comes.Beside) × (w ≡ None)
+
+-- the handle has a machine that agrees with all that the seat knew
+abbrev pub HasBack : View → Option Held → Type 0
+HasBack v None = ⊥
+HasBack v (Some held) = Agrees placed_state (held_state held).world v
+
+-- the machine came back; or it is gone with a seat that was let go amid a call; or another seat is left,
+-- or a handle is in use or empty, and all is as it was
+abbrev pub TellsUnshare : Option View → Option Held → ℕ → Option View → Option Held → Type 0
+TellsUnshare None held status w held' = (status ≡ empty_code) × (w ≡ None) × (held' ≡ held)
+TellsUnshare (Some v) (Some held) status w held' =
+    (status ≡ in_use_code) × (w ≡ Some v) × (held' ≡ Some held)
+TellsUnshare (Some v) None status w held' =
+    ((status ≡ 0) × (w ≡ None) × HasBack v held')
+    ⊎ ((status ≡ lost_code) × (w ≡ None) × (held' ≡ None))
+    ⊎ ((status ≡ in_use_code) × (w ≡ Some v) × (held' ≡ None))

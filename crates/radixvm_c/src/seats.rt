@@ -1,0 +1,196 @@
+//! What a thread asks of its seat.
+ghost use Rattle.std.specs.Prelude.{◌≡◌, ◌++◌, ◌∷◌, [], IfSome, IfNone};
+ghost use Rattle.std.specs.Arc.{arc_value};
+ghost use Rattle.shared.specs.Cores.{Answers, told_of};
+ghost use Rattle.radixvm_c.specs.Rooms.{IsIn};
+ghost use Rattle.radixvm_c.specs.Seats.{asked_of, core_in, core_on, placed_state, IsSplit, SplitsSeat, SplitsChair, TellsSplit};
+ghost use Rattle.radixvm_c.specs.Seats.{TellsAnswer, TriesOn, TellsTry, AreBeside, TakesIn, TellsReturn};
+
+use crate::chair::{Chair, Room, Seat};
+use crate::chair_handle::ChairHandle;
+use crate::codes::{RawEvent, RawOutcome, kind_of, outcome_code, reply_code, request_at};
+use crate::placed::Placed;
+use crate::sharing::{DONE, EMPTY, IN_USE, NO_MEMORY, new_chair};
+use machine_model::Outcome;
+use shared::{Answer, Core};
+use std::alloc::Global;
+use std::sync::Arc;
+use vm_base::Request;
+
+/// The status of an event that no seat takes.
+const BAD_EVENT: u32 = 1;
+
+/// The status where all cores have a seat.
+const ABSENT: u32 = 9;
+
+/// The status where another seat is in a call.
+const BUSY: u32 = 17;
+
+// ---- one more seat
+
+// One more core of the space that the room has.
+fn split_core(room: &Room, core: &mut Core<Placed>) -> Option<Core<Placed>>
+    requires { IsIn (arc_value room.now) core.old }
+    ensures some { IfSome result (λ other. IsSplit core.old other core.new) }
+    ensures none { IfNone result ((core.old.spare ≡ 0) × (core.new ≡ core.old)) }
+{
+    match &**room {
+        Some(space) => space.split(core),
+        None => unreachable!(),
+    }
+}
+
+// One more seat beside this one.
+fn split_seat(seat: &mut Seat) -> Result<Seat, u32>
+    ensures { SplitsSeat seat.old.core result seat.new.core }
+{
+    let Ok(room) = Arc::try_clone(&seat.room) else {
+        return Err(NO_MEMORY);
+    };
+    match split_core(&room, &mut seat.core) {
+        Some(core) => Ok(Seat { room, core }),
+        None => Err(ABSENT),
+    }
+}
+
+fn split_chair(chair: &mut Chair) -> Result<Seat, u32>
+    ensures { SplitsChair (core_on chair.old) result (core_on chair.new) }
+{
+    match chair {
+        Chair::Vacant => Err(EMPTY),
+        Chair::Taken(seat) => split_seat(seat),
+    }
+}
+
+/// Splits off a core into an empty handle: the last one that has no seat yet. Where there is none, or no memory, all is as it was.
+pub fn split(alloc: Global, first: &mut ChairHandle, other: &mut ChairHandle) -> u32
+    ensures { TellsSplit (core_in first.old.value) other.old.value result (core_in first.new.value)
+        other.new.value }
+{
+    if !first.has_seat() {
+        return EMPTY;
+    }
+    if other.is_open() {
+        return IN_USE;
+    }
+    let Some(mut place) = new_chair(alloc) else {
+        return NO_MEMORY;
+    };
+    match split_chair(first.get_mut()) {
+        Ok(seat) => {
+            let _vacant = Box::replace(&mut place, Chair::Taken(seat));
+            other.put(place);
+            DONE
+        }
+        Err(status) => status,
+    }
+}
+
+// ---- a call
+
+/// The request of the event, if it begins a call. Its core isn't read.
+#[inline(always)]
+pub fn asked_of(raw: &RawEvent) -> Option<Request>
+    ensures { result ≡ asked_of raw.now }
+{
+    request_at(kind_of(raw.kind)?, raw)
+}
+
+// Tells the answer.
+fn tell(answer: Answer, told: &mut RawOutcome) -> u32
+    ensures { TellsAnswer answer told.old result told.new }
+{
+    match answer {
+        Answer::Reply(reply) => {
+            *told = reply_code(reply);
+            DONE
+        }
+        Answer::Full => {
+            *told = outcome_code(Outcome::Full);
+            DONE
+        }
+        Answer::Busy => BUSY,
+    }
+}
+
+fn call_on(room: &Room, core: &mut Core<Placed>, request: Request) -> Answer
+    requires here { IsIn (arc_value room.now) core.old }
+    ensures answers { Answers placed_state core.old request result core.new }
+    ensures here { IsIn (arc_value room.now) core.new }
+{
+    match &**room {
+        Some(space) => space.call(core, request),
+        None => unreachable!(),
+    }
+}
+
+fn try_seat(seat: &mut Seat, raw: &RawEvent, told: &mut RawOutcome) -> u32
+    ensures { TriesOn seat.old.core raw.now told.old result told.new seat.new.core }
+{
+    let Some(request) = asked_of(raw) else {
+        return BAD_EVENT;
+    };
+    tell(call_on(&seat.room, &mut seat.core, request), told)
+}
+
+/// A whole call of the seat's core, or it is told that another seat is in one.
+pub fn try_chair(chair: &mut Chair, raw: &RawEvent, told: &mut RawOutcome) -> u32
+    ensures { TellsTry (core_on chair.old) raw.now told.old result told.new (core_on chair.new) }
+{
+    match chair {
+        Chair::Vacant => EMPTY,
+        Chair::Taken(seat) => try_seat(seat, raw, told),
+    }
+}
+
+// ---- a seat that is done
+
+fn take_core(room: &Room, core: &mut Core<Placed>, other: Core<Placed>)
+    requires here { IsIn (arc_value room.now) core.old }
+    requires beside { other.space ≡ core.old.space }
+    ensures { core.new ≡ record core.old { others = core.old.others ++ told_of other ∷ [] } }
+{
+    match &**room {
+        Some(space) => space.take_in(core, other),
+        None => unreachable!(),
+    }
+}
+
+// The core of a seat, which gives its room up.
+fn core_from(seat: Seat) -> Core<Placed>
+    ensures { result ≡ seat.core }
+{
+    let Seat { room: _room, core } = seat;
+    core
+}
+
+fn take_seat(first: &mut Seat, other: Seat)
+    requires { other.core.space ≡ first.old.core.space }
+    ensures { first.new.core ≡ record first.old.core { others = first.old.core.others ++ told_of other.core ∷ [] } }
+{
+    take_core(&first.room, &mut first.core, core_from(other))
+}
+
+fn take_chair(first: &mut Chair, other: Chair)
+    requires { AreBeside (core_on first.old) (core_on other) }
+    ensures { TakesIn (core_on first.old) (core_on other) (core_on first.new) }
+{
+    match (first, other) {
+        (Chair::Taken(first), Chair::Taken(other)) => take_seat(first, other),
+        _ => {}
+    }
+}
+
+/// Takes the core of the other seat in, whose handle is left empty. Both are of one machine.
+pub fn give_back(alloc: Global, first: &mut ChairHandle, other: &mut ChairHandle) -> u32
+    requires { AreBeside (core_in first.old.value) (core_in other.old.value) }
+    ensures { TellsReturn (core_in first.old.value) (core_in other.old.value) result
+        (core_in first.new.value) (core_in other.new.value) }
+{
+    if !first.has_seat() || !other.has_seat() {
+        return EMPTY;
+    }
+    let chair = Box::into_inner(other.take(alloc));
+    take_chair(first.get_mut(), chair);
+    DONE
+}

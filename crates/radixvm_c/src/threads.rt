@@ -1,0 +1,96 @@
+//! The functions for C of a machine that threads share.
+ghost use Rattle.std.specs.Prelude.{◌≡◌, None};
+ghost use Rattle.radixvm_c.specs.Seats.{core_in, AreBeside, TellsShare, TellsSplit, TellsTry, TellsReturn, TellsUnshare};
+
+use crate::chair_handle::ChairHandle;
+use crate::codes::{RawEvent, RawOutcome};
+use crate::handle::Handle;
+use crate::seats::{give_back, split, try_chair};
+use crate::sharing::{EMPTY, share, unshare};
+use std::alloc::Global;
+
+/// Shares the machine: its place is left empty, and the other one gets the seat of core 0.
+#[unsafe(no_mangle)]
+pub extern "C" fn radixvm_share_held(
+    alloc: Global,
+    handle: &mut Handle,
+    chair: &mut ChairHandle,
+) -> u32
+    ensures { TellsShare handle.old.value chair.old.value result handle.new.value chair.new.value }
+{
+    share(alloc, handle, chair)
+}
+
+/// Splits a core off into an empty handle: the last one that has no seat yet.
+#[unsafe(no_mangle)]
+pub extern "C" fn radixvm_split_seat(
+    alloc: Global,
+    first: &mut ChairHandle,
+    other: &mut ChairHandle,
+) -> u32
+    ensures { TellsSplit (core_in first.old.value) other.old.value result (core_in first.new.value)
+        other.new.value }
+{
+    split(alloc, first, other)
+}
+
+/// Makes a whole call of the seat's core, or tells that another seat is in one.
+#[unsafe(no_mangle)]
+pub extern "C" fn radixvm_try_seat(
+    chair: &mut ChairHandle,
+    raw: &RawEvent,
+    told: &mut RawOutcome,
+) -> u32
+    ensures { TellsTry (core_in chair.old.value) raw.now told.old result told.new
+        (core_in chair.new.value) }
+{
+    if !chair.is_open() {
+        return EMPTY;
+    }
+    try_chair(chair.get_mut(), raw, told)
+}
+
+/// Takes the other seat in, whose core is done. Both are of one machine.
+#[unsafe(no_mangle)]
+pub extern "C" fn radixvm_return_seat(
+    alloc: Global,
+    first: &mut ChairHandle,
+    other: &mut ChairHandle,
+) -> u32
+    requires { AreBeside (core_in first.old.value) (core_in other.old.value) }
+    ensures { TellsReturn (core_in first.old.value) (core_in other.old.value) result
+        (core_in first.new.value) (core_in other.new.value) }
+{
+    give_back(alloc, first, other)
+}
+
+/// Ends the sharing by the last seat: its handle is left empty, and the other one gets the machine.
+#[unsafe(no_mangle)]
+pub extern "C" fn radixvm_unshare_seat(
+    alloc: Global,
+    chair: &mut ChairHandle,
+    handle: &mut Handle,
+) -> u32
+    ensures { TellsUnshare (core_in chair.old.value) handle.old.value result (core_in chair.new.value)
+        handle.new.value }
+{
+    unshare(alloc, chair, handle)
+}
+
+/// Lets the seat go, and with the last one the machine.
+#[unsafe(no_mangle)]
+pub extern "C" fn radixvm_free_seat(alloc: Global, chair: &mut ChairHandle)
+    ensures { chair.new.value ≡ None }
+{
+    if chair.is_open() {
+        let _chair = chair.take(alloc);
+    }
+}
+
+fn is_send<T: Send>(_one: &T) {}
+
+/// What C holds, of a machine or of a seat, may go to another thread.
+pub fn may_cross(handle: &Handle, chair: &ChairHandle) {
+    is_send(handle);
+    is_send(chair);
+}

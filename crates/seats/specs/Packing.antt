@@ -1,0 +1,102 @@
+-- What a packed note says
+use Rattle.std.specs.Prelude.{◌≡◌, ℕ, ◌+◌, ◌*◌, ◌^◌, ◌<◌, Bool, true, false, List, [], ◌∷◌, map, get_or, All}
+use Rattle.machine_model.specs.declared.event.Event.{Event}
+use Rattle.machine_model.specs.declared.event.Event.TheVariants.{Call, Go, Frame, Guess, Whole, Take, Walk, Evict, Flush, Review, Fold, GiveUp}
+use Rattle.machine_model.specs.declared.event.Outcome.{Outcome}
+use Rattle.machine_model.specs.declared.event.Outcome.TheVariants.{Stepped, Answered}
+use Rattle.vm_base.specs.declared.replies.Reply.TheVariants as Reply
+use Rattle.vm_base.specs.declared.replies.Errno.TheVariants.{EINVAL, ENOMEM, EACCES, EBADF, EOVERFLOW}
+use Rattle.vm_base.specs.declared.replies.SegvCode.TheVariants as Segv
+use Rattle.vm_base.specs.declared.requests.Request.TheVariants as Request
+use Rattle.seats.specs.Notes.{noted}
+use Rattle.seats.specs.declared.noted.Noted.{Noted}
+use Rattle.seats.specs.declared.packed.Brief.{Brief}
+use Rattle.seats.specs.declared.packed.Kind.{Kind}
+use Rattle.seats.specs.declared.packed.Kind.TheVariants as Kind
+use Rattle.seats.specs.declared.packed.Packed.{Packed}
+use Rattle.seats.specs.declared.note_list.Notes.{Notes}
+
+-- the event of a note of this kind, with its core, its byte and its word
+abbrev pub event_said : Kind → ℕ → ℕ → ℕ → Event
+event_said Kind.Load core byte word = Call core (Request.Load word)
+event_said Kind.Store core byte word = Call core (Request.Store word byte)
+event_said Kind.Fetch core byte word = Call core (Request.Fetch word)
+event_said Kind.Frame core byte word = Frame core word
+event_said Kind.Guess core byte word = Guess core word
+event_said Kind.Whole core byte word = Whole core
+event_said Kind.Take core byte word = Take core
+event_said Kind.Walk core byte word = Walk core word
+event_said Kind.Evict core byte word = Evict core word
+event_said Kind.Flush core byte word = Flush core
+event_said Kind.Review core byte word = Review core
+event_said Kind.Fold core byte word = Fold word
+event_said Kind.GiveUp core byte word = GiveUp core
+event_said kind core byte word = Go core
+
+-- what it came to
+abbrev pub outcome_said : Kind → ℕ → ℕ → Outcome
+outcome_said Kind.Mapped byte word = Answered (Reply.Mapped word)
+outcome_said Kind.Done byte word = Answered Reply.Done
+outcome_said Kind.Byte byte word = Answered (Reply.Byte byte)
+outcome_said Kind.Einval byte word = Answered (Reply.Refused EINVAL)
+outcome_said Kind.Enomem byte word = Answered (Reply.Refused ENOMEM)
+outcome_said Kind.Eacces byte word = Answered (Reply.Refused EACCES)
+outcome_said Kind.Ebadf byte word = Answered (Reply.Refused EBADF)
+outcome_said Kind.Eoverflow byte word = Answered (Reply.Refused EOVERFLOW)
+outcome_said Kind.MapErr byte word = Answered (Reply.Segv Segv.MapErr)
+outcome_said Kind.AccErr byte word = Answered (Reply.Segv Segv.AccErr)
+outcome_said Kind.Bus byte word = Answered Reply.Bus
+outcome_said Kind.NoFrame byte word = Answered Reply.NoFrame
+outcome_said Kind.NoMemory byte word = Answered Reply.NoMemory
+outcome_said kind byte word = Stepped
+
+abbrev pub is_in_full : Kind → Bool
+is_in_full Kind.InFull = true
+is_in_full kind = false
+
+-- the ticket of a note that doesn't stand in full
+abbrev pub ticket_said : Packed → ℕ
+ticket_said p = p.low + 2 ^ 32 * p.high
+
+-- what stands where there is no note
+abbrev pub nothing : Noted
+nothing = noted 0 (Fold 0) Stepped
+
+-- the note, beside those that stand in full
+abbrev pub note_by : Bool → List Noted → Packed → Noted
+note_by true in_full p = get_or in_full p.word nothing
+note_by false in_full p = noted (ticket_said p) (event_said p.kind p.core p.byte p.word) (outcome_said p.kind p.byte p.word)
+
+abbrev pub note_of : List Noted → Packed → Noted
+note_of in_full p = note_by (is_in_full p.kind) in_full p
+
+-- all notes
+abbrev pub unpacked : List Noted → List Packed → List Noted
+unpacked in_full ps = map (note_of in_full) ps
+
+-- it says that the event came to the outcome
+pub record Says (b : Brief) (event : Event) (outcome : Outcome) : Type 0 where
+  pub short : is_in_full b.kind ≡ false
+  pub of : event_said b.kind b.core b.byte b.word ≡ event
+  pub came_to : outcome_said b.kind b.byte b.word ≡ outcome
+
+-- those that stand in full have places below n
+abbrev pub IsWithin : ℕ → Packed → Type 0
+IsWithin n p = is_in_full p.kind ≡ true → p.word < n
+
+abbrev pub AreWithin : ℕ → List Packed → Type 0
+AreWithin n ps = All (IsWithin n) ps
+
+-- the notes of a list, and how many more take no memory
+pub record ListView : Type 0 where
+  pub notes : List Noted
+  pub room : ℕ
+
+-- the packed notes, or else the plain ones
+abbrev pub packed_or : List Packed → List Noted → List Noted → List Noted
+packed_or [] in_full plain = plain
+packed_or (p ∷ ps) in_full plain = unpacked in_full (p ∷ ps)
+
+-- the notes that are lent
+abbrev pub shown : Notes → List Noted
+shown n = packed_or n.packed.now n.in_full.now n.plain.now

@@ -1,0 +1,4 @@
+mod EachLemmas
+mod LaneLemmas
+mod TaskLemmas
+mod TextLemmas

@@ -1,0 +1,6 @@
+use Rattle.std.proofs.Common.{◌≡◌}
+use Rattle.shared_script.proofs.tasks.call.Given as goal
+
+-- the core has made no call
+abbrev pub invariant-tries : goal.invariant-tries
+invariant-tries g l = l.core ≡ l.initial.core

@@ -1,0 +1,10 @@
+use Rattle.std.proofs.Common.{◌≡◌, take}
+use Rattle.shared_script.specs.Tasks.{IsMade, calls_of}
+use Rattle.shared_script.proofs.tasks.run_tasks.Given as goal
+
+-- the tasks so far were done
+abbrev pub invariant-tasks : goal.invariant-tasks
+invariant-tasks g l = record {
+  here : l.core.space ≡ l.space.table.shared.table_id;
+  made : IsMade l.initial.core l.initial.told.items (calls_of (take l.at l.fn.tasks)) l.core l.told.items;
+}

@@ -1,0 +1,4 @@
+pub mod Lanes
+pub mod Runs
+pub mod Tasks
+pub mod Texts
