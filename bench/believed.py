@@ -3,19 +3,21 @@
 
     bench/believed.py             for each theorem of bench/believed.txt the definitions, their lines, and the files they stand in
     bench/believed.py --files     each file too, with its definitions and lines
+    bench/believed.py --others    the files that none of these theorems reaches, each with what it is for
 
 Lines are those of definitions: no comments, no empty lines, no `use`. Types declared in code (enums and structs) are counted apart, by
 name. Then come the names that have two definitions in what one theorem reaches.
 
-It fails where docs/DEFINITIONS.md is behind: a file of specs/ that it doesn't name, a file that a theorem reaches and no row of its first
-part has under the theorem's mark, or other numbers of lines and files; and where a theorem reaches other files than those that
-bench/believed.txt lists for it."""
+It fails where docs/GUARANTEES.md is behind: other numbers of lines and files, a file that a theorem reaches and that no row has under the
+theorem's mark, or a mark of a theorem that reaches the file no more; where a theorem reaches other files than those that
+bench/believed.txt lists for it; and where a file of specs/ that no theorem reaches doesn't begin with a comment that says what it is for."""
 import glob
 import os
 import re
 import sys
 
 ROOT = os.path.dirname(os.path.dirname(os.path.abspath(__file__)))
+PAGE = 'docs/GUARANTEES.md'
 DEFINES = (
     re.compile(r'^\s*(?:abbrev|unfoldable|reducible)\s+pub\s+(\S+)\s*:'),
     re.compile(r'^(?:\s*pub )?(?:record|data)\s+(\S+)'),
@@ -109,38 +111,61 @@ def theorems():
 
 
 class Document:
-    """What docs/DEFINITIONS.md says: of each theorem its mark, its lines and its files; and the marks under which a file stands."""
+    """What docs/GUARANTEES.md says: of each theorem its mark, its lines and its files; and of each file the marks of those that reach it."""
 
     def __init__(self):
-        said = open(f'{ROOT}/docs/DEFINITIONS.md', encoding='utf-8').read()
-        self.named = set(re.findall(r'`(\w+/specs/\w+\.antt)`', said))
+        said = open(f'{ROOT}/{PAGE}', encoding='utf-8').read().split('\n')
+        rows = [[cell.strip() for cell in line.strip('|').split('|')] for line in said if line.startswith('|')]
         self.theorems, self.marks = {}, {}
-        for row in said.split('\n## Internals')[0].split('\n'):
-            cells = [cell.strip() for cell in row.strip('|').split('|')]
-            if len(cells) == 5 and cells[0].isalpha() and len(cells[0]) == 1:
-                numbers = [int(cell.replace(',', '')) for cell in cells[3:]]
-                self.theorems[cells[1].replace('`', '')] = cells[0], numbers
-            elif len(cells) == 5:
-                for file in re.findall(r'`(\w+/specs/\w+\.antt)`', cells[3]):
-                    self.marks.setdefault(file, set()).update(cells[4].split())
+        for row in rows:
+            if len(row) == 5 and len(row[0]) == 1 and row[0].isalpha():
+                self.theorems[row[1].replace('`', '')] = row[0], [int(cell.replace(',', '')) for cell in row[3:]]
+        for row in rows:
+            if len(row) == 4 and ': ' in row[2]:
+                for part in row[2].split(';'):
+                    crate, names = part.strip().split(': ')
+                    for name in names.split(', '):
+                        self.marks[f'{crate}/specs/{name}.antt'] = self.marks_in(row[3])
+
+    def marks_in(self, cell):
+        """The marks that a cell names: `all`, `all but H U`, or those themselves."""
+        every = {mark for mark, _ in self.theorems.values()}
+        if cell.split()[0] != 'all':
+            return set(cell.split())
+        return every - set(cell.split()[2:])
 
     def faults(self, theorem, files, lines):
         mark, numbers = self.theorems.get(theorem.title, (None, None))
         if mark is None:
-            yield f'no theorem of this name in docs/DEFINITIONS.md: {theorem.title}'
+            yield f'no theorem of this name in {PAGE}: {theorem.title}'
             return
         if numbers != [lines, len(files)]:
-            yield f'docs/DEFINITIONS.md has other numbers than {lines} lines in {len(files)} files: {theorem.title}'
-        for file in sorted(files):
-            if mark not in self.marks.get(file, ()):
-                yield f'not under {mark} in docs/DEFINITIONS.md: {file}'
+            yield f'{PAGE} has other numbers than {lines} lines in {len(files)} files: {theorem.title}'
+        for file in sorted({*files} | {*self.marks}):
+            if (file in files) != (mark in self.marks.get(file, ())):
+                yield f'{"not under" if file in files else "reached no more, but under"} {mark} in {PAGE}: {file}'
         if theorem.user and sorted(theorem.user) != sorted(files):
             for file in sorted({*theorem.user} ^ {*files}):
                 yield f'{"listed, not reached" if file in theorem.user else "reached, not listed"}, in bench/believed.txt: {file}'
 
 
+def tell_others(specs, marked):
+    """The files that no theorem of the list reaches, each with the comment that it begins with."""
+    for crate, name in specs.files:
+        path = f'{crate}/specs/{name}.antt'
+        if path not in marked:
+            words = []
+            for line in open(f'{ROOT}/crates/{path}', encoding='utf-8'):
+                if not line.startswith('-- '):
+                    break
+                words.append(line[3:].strip())
+            print(f'{path}: {" ".join(words)}')
+
+
 def main():
     specs, document, faults = Specs(), Document(), []
+    if '--others' in sys.argv:
+        return tell_others(specs, document.marks)
     for theorem in theorems():
         for root in theorem.roots:
             if root not in specs.lines:
@@ -165,8 +190,9 @@ def main():
                 print(f'    defined twice: {name}, in {" and ".join(sorted(places))}')
         faults += document.faults(theorem, files, lines)
     for crate, name in specs.files:
-        if f'{crate}/specs/{name}.antt' not in document.named:
-            faults.append(f'not in docs/DEFINITIONS.md: {crate}/specs/{name}.antt')
+        path = f'{crate}/specs/{name}.antt'
+        if path not in document.marks and not open(f'{ROOT}/crates/{path}', encoding='utf-8').read().startswith('-- '):
+            faults.append(f'no theorem reaches it, and it has no comment that says what it is for: {path}')
     for fault in faults:
         print(fault)
     sys.exit(1 if faults else 0)

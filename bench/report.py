@@ -40,7 +40,7 @@ AIM = "0.8"  # of every shape
 
 def shapes_table(rows, counted):
     return table(
-        ["Shape", "What its lines do", ">Lines", ">Ours (ms)", ">Plain (ms)", ">Ratio", ">Aim", ">Instructions", ">Steps a line"],
+        ["Trace", "What its lines do", ">Lines", ">Ours (ms)", ">Plain (ms)", ">Ratio", ">Instructions", ">Steps a line"],
         [
             [
                 row["shape"],
@@ -49,7 +49,6 @@ def shapes_table(rows, counted):
                 row["ours_ms"],
                 row["plain_ms"],
                 marked(row["ratio"], AIM),
-                AIM,
                 *counted.get(row["shape"], ("", "")),
             ]
             for row in rows
@@ -101,18 +100,6 @@ def rest_table(rows):
     )
 
 
-def profile_table(rows):
-    """A row for each shape and program. Of a function's path the last two words are shown."""
-    dearest = {}
-    for row in rows:
-        name = "::".join(row["function"].split("::")[-2:])
-        dearest.setdefault((row["shape"], row["program"]), []).append(f"`{name}` {float(row['share'].rstrip('%')):.0f}")
-    return table(
-        ["Shape", "Program", "The five dearest functions, and how many of 100 samples each has"],
-        [[shape, program, ", ".join(functions)] for (shape, program), functions in dearest.items()],
-    )
-
-
 def parts_table(rows, shapes):
     """Nanoseconds a line of both programs, by where they are spent. The shapes' rows give the times that are divided."""
     times = {(row["shape"], who): float(row[f"{who}_ms"]) * 1e6 / int(row["lines"]) for row in shapes for who in ("ours", "plain")}
@@ -124,7 +111,7 @@ def parts_table(rows, shapes):
         if (row["shape"], row["program"]) in times
     }
     return table(
-        ["Shape", ">Text, ours", ">plain", ">Machine, ours", ">plain", ">Kernel, ours", ">plain"],
+        ["Trace", ">Text, ours", ">plain", ">Machine, ours", ">plain", ">Kernel, ours", ">plain"],
         [
             [shape, *(cell for pair in zip(ours, spent[shape, "plain"]) for cell in pair)]
             for (shape, who), ours in spent.items()
@@ -257,7 +244,6 @@ def main():
         ("slots", slots, slots_table),
         ("lines", lines, lines_table),
         ("rest", read_rows("growth-rest.csv"), rest_table),
-        ("profile", read_rows("profile.csv"), profile_table),
         ("parts", read_rows("parts.csv"), lambda rows: parts_table(rows, shapes)),
     ]:
         if rows:

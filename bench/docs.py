@@ -1,0 +1,280 @@
+#!/usr/bin/env python3
+"""Reads README.md, docs/*.md and examples/README.md, and tells what in them isn't so: a path that isn't there, a contract
+(CRATE::MODULE::FUNCTION) whose function isn't, a clause that no contract named before it has, a function that a walk names in another module, a
+word of code that stands nowhere in the sources, a command whose word, option or file isn't there, a reply beside README's first trace that isn't
+the program's, C that no compiler takes, a crate or a document that is left out, a sentence of more than 38 words, or more than 90,000 bytes in
+README.md and docs/*.md. It runs `./radixvm help` for each topic that is named and, where the program is built (or RADIXVM_PROGRAM names it), each
+command of it whose files are there. It ends with status 1 where it tells anything.
+Usage: bench/docs.py"""
+import functools
+import glob
+import os
+import re
+import shutil
+import subprocess
+import sys
+import tempfile
+
+ROOT = os.path.dirname(os.path.dirname(os.path.abspath(__file__)))
+FOLDERS = "bench bindings crates docs edits examples include proofs specs src".split()
+FOREIGN = {"POSIX", "MAP_FIXED", "MAP_ANONYMOUS", "MAP_PRIVATE", "MAP_SHARED", "MAP_SHARED_VALIDATE", "SIGSEGV"}
+
+
+@functools.cache
+def read(path):
+    with open(os.path.join(ROOT, path), encoding="utf-8") as file:
+        return file.read()
+
+
+def documents():
+    return ["README.md", *sorted(os.path.relpath(path, ROOT) for path in glob.glob(f"{ROOT}/docs/*.md"))]
+
+
+def blocks(text):
+    """Each paragraph, item of a list, row of a table, and indented line."""
+    found = []
+    for line in text.split("\n"):
+        if not line.strip():
+            found.append([])
+        elif line.startswith(("- ", "| ", "    ", "#")) or re.match(r"\d+\. ", line):
+            found.append([line])
+        else:
+            found[-1:] = [(found[-1] if found else []) + [line]]
+    return [" ".join(line.strip() for line in lines) if not lines[0].startswith("    ") else lines[0] for lines in found if lines]
+
+
+# ---- sources
+
+CRATES = sorted(os.listdir(f"{ROOT}/crates"))
+
+
+def module_files(crate, modules):
+    """The files of a module of a crate; without a module, of its root."""
+    base = "/".join([f"crates/{crate}/src", *modules])
+    if modules:
+        candidates = [f"{base}.rt", f"{base}/mod.rt"]
+    else:
+        candidates = [f"{base}/lib.rt", f"{base}/main.rt"]
+    return [path for path in candidates if os.path.exists(os.path.join(ROOT, path))]
+
+
+def function_texts(source, name):
+    """The functions of this name in a source, each from its head to its body."""
+    return re.findall(rf"^ *(?:(?:pub(?:\([^)]*\))?|const|extern \"C\") )*fn {name}\b.*?^ *(?:\{{|\}}|\)[^\n]*;)", source, re.M | re.S)
+
+
+def resolve(reference):
+    """What a reference names: its files, and the texts of its functions; None where it names nothing."""
+    crate, *parts = reference.split("::")
+    modules = []
+    while parts and module_files(crate, [*modules, parts[0]]):
+        modules.append(parts.pop(0))
+    files = module_files(crate, modules)
+    if not files and len(parts) == 0:
+        return None
+    source = "\n".join(read(path) for path in files)
+    if not parts:
+        return files, []
+    *owners, last = parts
+    if owners and not re.search(rf"\b(struct|enum|trait|impl)\b[^{{;]*\b{owners[-1]}\b", source):
+        return None
+    if last[0].isupper():
+        named = re.search(rf"\b(struct|enum|trait|impl)\b[^{{;]*\b{last}\b", source)
+        return (files, []) if named else None
+    texts = function_texts(source, last)
+    return (files, texts) if texts else None
+
+
+def words_of_sources():
+    words = set()
+    for folder in ["crates", "bench", "bindings", "edits", "examples", "include"]:
+        for path in glob.glob(f"{ROOT}/{folder}/**/*", recursive=True):
+            if os.path.isfile(path) and not re.search(r"/out/|\.svg$|\.edit$|\.log$", path):
+                words.update(re.findall(r"\w+", open(path, encoding="utf-8", errors="replace").read()))
+    return words | set(re.findall(r"\w+", read("crates.txt") + read("radixvm")))
+
+
+# ---- what may be wrong
+
+
+def path_faults(text):
+    spaced = re.sub(r"[`()\[\],;]", " ", text)
+    for token in spaced.split():
+        token = token.rstrip(".:").removeprefix("./")
+        first = token.split("/")[0]
+        if "/" not in token or "/out/" in token or first == "out" or re.search(r"[A-Z]{3,}(?!\w*\.md)|[=<>]|\.\.", token):
+            continue
+        if first in CRATES:
+            token = f"crates/{token}"
+        elif first not in FOLDERS[:7]:
+            continue
+        if not glob.glob(os.path.join(ROOT, token)):
+            yield f"no such path: {token}"
+
+
+def image_faults(document, text):
+    for link in re.findall(r"!\[[^\]]*\]\(([^)]+)\)", text):
+        if not os.path.exists(os.path.join(ROOT, os.path.dirname(document), link)):
+            yield f"no such picture: {link}"
+
+
+def reference_faults(text):
+    """Of the blocks in order: references, and the clauses and functions that are named behind them."""
+    before = []
+    for block in blocks(text):
+        here = []
+        for match in re.finditer(r"`([a-z]\w*(?:::\w+)+)`|clauses? ((?:`\w+`(?:, | and )?)+)|\(((?:`\w+`(?:, )?)+)\)", block):
+            reference, clauses, listed = match.groups()
+            if reference:
+                if reference.split("::")[0] not in CRATES:
+                    continue
+                found = resolve(reference)
+                if found is None:
+                    yield f"no such contract: {reference}"
+                else:
+                    here.append(found)
+                continue
+            for name in re.findall(r"`(\w+)`", clauses or listed):
+                known = here or (before if clauses else [])
+                texts = [text for _, heads in known for text in heads]
+                files = [path for paths, _ in known for path in paths]
+                is_clause = any(re.search(rf"\bensures {name}\b", text) for text in texts or [read(path) for path in files])
+                if clauses and known and not is_clause:
+                    yield f"no clause {name} of the contracts before it: {block[:70]}.."
+                if listed and known and not is_clause and not any(function_texts(read(path), name) for path in files):
+                    if not re.search(r"ends|IsAt|^[A-Z]", name):
+                        yield f"neither a clause nor a function of what stands before it: {name}: {block[:70]}.."
+        before = here or before
+
+
+def word_faults(text, words):
+    for span in set(re.findall(r"`([^`\n]+)`", text)):
+        if re.fullmatch(r"[A-Za-z_]\w+[A-Za-z0-9]", span) and span not in words and span not in FOREIGN and not span.isupper():
+            yield f"stands nowhere in the sources: {span}"
+
+
+def commands(text):
+    """The commands that a text names: code in backticks, and indented lines."""
+    for span in re.findall(r"`([^`\n]+)`", text) + re.findall(r"^    (\S.*)$", text, re.M):
+        if re.match(r"(\./radixvm|rt|rattle|(bench|edits|bindings)/\S+)( |$)", span):
+            yield span
+
+
+def usage():
+    """The options of each word of the program, as its help has them."""
+    told = subprocess.run(["./radixvm", "help"], cwd=ROOT, capture_output=True, text=True, check=True).stdout
+    options = {}
+    for word, rest in re.findall(r"radixvm (\w+)((?: .*)?)\n", told):
+        options.setdefault(word, {"--help"}).update(re.findall(r"--[a-z-]+", rest))
+    return options
+
+
+@functools.cache
+def told_by_rt():
+    """What rt says of its own commands."""
+    return subprocess.run(["rt"], stdout=subprocess.PIPE, stderr=subprocess.STDOUT, text=True).stdout
+
+
+def command_faults(command, options):
+    first, *words = command.split("#")[0].split("<")[0].split()
+    if first == "./radixvm":
+        if words and words[0] in re.findall(r"--[a-z-]+", open("radixvm").read()):
+            return
+        if not words or words[0] not in options:
+            yield f"no such word: {command}"
+        for word in words[1:]:
+            if word.startswith("--") and word not in options.get(words[0], ()):
+                yield f"no such option: {command}"
+    elif first in ("rt", "rattle"):
+        if shutil.which(first) and words:
+            told = told_by_rt() if first == "rt" else "|check|build|fmt|"
+            if not re.search(rf"\brt {words[0]}\b|[|]{words[0]}\b|\b{words[0]}[|]", told):
+                yield f"no such command: {command}"
+    elif os.path.exists(os.path.join(ROOT, first)):
+        for word in words:
+            if word.startswith("-") and word not in read(first):
+                yield f"no such option: {command}"
+
+
+PROGRAM = os.environ.get("RADIXVM_PROGRAM", f"{ROOT}/crates/radixvm/out/radixvm")
+
+
+def run_faults(command):
+    """Runs a command of the program, where that is cheap: help, which the launcher has at hand, and by the built program what reads a file."""
+    words = command.split("#")[0].split()
+    files = [word for word in words[1:] if "/" in word]
+    is_help, has_files = words[1:2] == ["help"], files and all(os.path.exists(os.path.join(ROOT, file)) for file in files)
+    if words[0] == "./radixvm" and (is_help or os.path.exists(PROGRAM) and has_files):
+        line = " ".join(words if is_help else [PROGRAM if word == "./radixvm" else word for word in words])
+        done = subprocess.run(["sh", "-c", line], cwd=ROOT, capture_output=True, text=True, stdin=subprocess.DEVNULL)
+        if done.returncode > 1 or not done.stdout:
+            yield f"ends with status {done.returncode}: {command}"
+
+
+def first_trace_faults(text):
+    """The table beside README's first command has the lines of that trace, and the replies that are kept beside it."""
+    rows = re.findall(r"^\| `([^`]+)` \| (?:`([^`]+)`|nothing.*) \|$", text, re.M)
+    lines = [line for line in read("examples/first.trace").split("\n") if line and line[0] != "#"]
+    replies = read("examples/first.out").split()
+    rows = [row for row in rows if row[0] in lines]
+    if [line for line, _ in rows] != lines or [reply for _, reply in rows if reply] != replies:
+        yield "the table of the first trace isn't that of examples/first.trace and examples/first.out"
+
+
+def c_faults(text):
+    """The lines of C, as a function's body."""
+    lines = [line for line in re.findall(r"^    (.*)$", text, re.M) if line.startswith("radixvm_")]
+    if not shutil.which("cc"):
+        return
+    with tempfile.NamedTemporaryFile("w", suffix=".c") as file:
+        file.write('#include "radixvm.h"\nint main(void) {\n' + "\n".join(lines) + "\nreturn 0;\n}\n")
+        file.flush()
+        done = subprocess.run(["cc", "-std=c11", "-Wall", "-Werror", "-fsyntax-only", "-I", f"{ROOT}/include", file.name], capture_output=True, text=True)
+    if done.returncode or not lines:
+        yield f"the C isn't taken: {done.stderr[:300]}"
+
+
+def whole_faults():
+    """What the documents say of all: each crate stands in the drawing's page, and README names each document."""
+    drawn, first = read("docs/ARCHITECTURE.md"), read("README.md")
+    for line in read("crates.txt").split("\n"):
+        name = line.split(":")[0].split()[0] if line and line[0] != "#" else ""
+        if name and not re.search(rf"^\|[^|]*\b{name}\b[^|]*\|", drawn, re.M):
+            yield f"docs/ARCHITECTURE.md has no row of the crate {name}"
+    for document in documents():
+        if document != "README.md" and document not in first:
+            yield f"README.md doesn't name {document}"
+
+
+def length_faults(text):
+    for block in blocks(re.sub(r"```.*?```", "", text, flags=re.S)):
+        if block.startswith(("|", "    ")):
+            continue
+        for sentence in re.split(r"(?<=[.:;!?])\s+", block):
+            if len(sentence.split()) > 38:
+                yield f"{len(sentence.split())} words in a sentence: {sentence[:90]}.."
+
+
+def main():
+    words, options, count = words_of_sources(), usage(), 0
+    for document in [*documents(), "examples/README.md"]:
+        text = read(document)
+        faults = [*path_faults(text), *image_faults(document, text), *reference_faults(text), *word_faults(text, words), *length_faults(text)]
+        for command in commands(text):
+            for part in command.split(" | "):
+                faults += command_faults(part, options)
+            faults += run_faults(command)
+        if document == "README.md":
+            faults += [*first_trace_faults(text), *c_faults(text)]
+        for fault in faults:
+            print(f"{document}: {fault}")
+        count += len(faults)
+    for fault in whole_faults():
+        print(fault)
+        count += 1
+    size = sum(os.path.getsize(os.path.join(ROOT, document)) for document in documents())
+    print(f"{len(documents())} documents, {size:,} bytes")
+    sys.exit(1 if count or size > 90000 else 0)
+
+
+main()
