@@ -1,0 +1,165 @@
+#!/usr/bin/env python3
+"""Writes the man pages and the completions of shells from the program's own help: its usage names the words and their flags, its list of words says
+what each does. Usage: texts.py SHARE, the folder share/ that they are installed in."""
+import pathlib
+import re
+import sys
+
+TOP = pathlib.Path(__file__).resolve().parent.parent
+HELP = TOP / "crates/command_line/src"
+SOURCES = "".join(path.read_text() for path in [HELP / "help.rt", *sorted((HELP / "help").glob("*.rt"))])
+# Topics whose text is that of another name, as the program has it.
+SAME = {"certify": "NOTES", "live": "THREADS", "help": "OVERVIEW"}
+
+
+def text(name):
+    """A text of the help, as the program prints it."""
+    found = re.search(rf'^pub const {name}: &str = "\\\n(.*?)";$', SOURCES, re.M | re.S)
+    return re.sub(r'\\(["\\])', r"\1", found[1])
+
+
+def version():
+    return re.search(r'^pub const VERSION: &str = "(.*)";$', SOURCES, re.M)[1]
+
+
+def topics():
+    listed = re.search(r"pub const TOPICS: &\[&str\] = &\[(.*?)\];", SOURCES, re.S)[1]
+    return re.findall(r'"(\w+)"', listed)
+
+
+def words():
+    """Each word with its flags, and with what stands behind a flag: {"run": [("--log", None), ..]}."""
+    found = {}
+    for word, rest in re.findall(r"radixvm (\w+) (.*)", text("USAGE")):
+        flags = re.findall(r"(--[a-z-]+)(?: ([A-Z]+))?", rest)
+        found[word] = [(flag, value or None) for flag, value in flags]
+    return found
+
+
+def said():
+    """What each word, flag and topic is for, in the overview's words, which begin in one column."""
+    lines, last = {}, None
+    for line in text("OVERVIEW").split("\nWords:\n")[1].split("\n\n")[0].split("\n"):
+        last = line[:17].strip() or last
+        lines[last] = f"{lines.get(last, '')} {line[17:].strip()}".strip()
+    return lines
+
+
+SAID = said()
+
+
+def of_flag(word, flag):
+    """What a flag of a word is for: as the overview says it, or else as the word's own text does, up to the end of its first part."""
+    if f"{word} {flag}" in SAID or flag in SAID:
+        return SAID.get(f"{word} {flag}") or SAID[flag]
+    own = re.search(rf"^( +){flag}(?: [A-Z]+)? +(\S.*(?:\n\1 {{6,}}\S.*)*)", text(SAME.get(word, word.upper())), re.M)
+    return re.split(r"[.:;] ", re.sub(r"\s+", " ", own[2]) + " ")[0].strip().rstrip(".") if own else f"radixvm help {word} says what it does"
+
+
+# ---- man pages
+
+
+def roff(body):
+    """Lines that man prints as they stand."""
+    lines = [line.replace("\\", "\\e").replace("-", "\\-") for line in body.rstrip("\n").split("\n")]
+    return ".nf\n" + "\n".join("\\&" + line if line[:1] in (".", "'") else line for line in lines) + "\n.fi\n"
+
+
+def page(name, section, about, body):
+    plain = about.replace("\\", "\\e").replace("-", "\\-")
+    head = f'.TH {name.upper()} {section} "" "radixvm {version()}" "RadixVM"\n.SH NAME\n{name} \\- {plain}\n.SH DESCRIPTION\n'
+    named = [(f"radixvm-{other}" if other else "radixvm", number) for other, number in listed()]
+    others = ".SH SEE ALSO\n" + ",\n".join(f"{other}({number})" for other, number in named if other != name).replace("-", "\\-") + "\n"
+    return head + roff(body) + others
+
+
+def listed():
+    """The pages: the program's, one for each word, and one for each other topic."""
+    return [("", 1)] + [(topic, 1 if topic in words() else 7) for topic in topics() if topic != "help"]
+
+
+def write_pages(share):
+    for topic, section in listed():
+        folder = share / f"man/man{section}"
+        folder.mkdir(parents=True, exist_ok=True)
+        name = f"radixvm-{topic}" if topic else "radixvm"
+        about = SAID.get(topic) or "one virtual address space with mmap, munmap and mprotect, shared by modelled cores"
+        body = text(SAME.get(topic, topic.upper())) if topic else text("OVERVIEW")
+        (folder / f"{name}.{section}").write_text(page(name, section, about, body))
+
+
+# ---- completions
+
+
+def bash():
+    cases = "".join(f"        {word}) words='{' '.join(flag for flag, _ in flags)} --help' ;;\n" for word, flags in words().items() if word != "help")
+    return f"""# bash completion of radixvm, made from its help
+_radixvm() {{
+    local words= now=${{COMP_WORDS[COMP_CWORD]}}
+    COMPREPLY=()
+    if [ "$COMP_CWORD" = 1 ]; then
+        COMPREPLY=($(compgen -W '{" ".join(words())} --help --version' -- "$now"))
+        return
+    fi
+    case ${{COMP_WORDS[1]}} in
+{cases}        help) COMPREPLY=($(compgen -W '{" ".join(topics())}' -- "$now")) ;;
+    esac
+    case $now in -*) COMPREPLY=($(compgen -W "$words" -- "$now")) ;; esac
+}}
+complete -o default -F _radixvm radixvm
+"""
+
+
+def quoted(about):
+    return about.replace("'", "'\\''").replace("[", "\\[").replace("]", "\\]").replace(":", "\\:")
+
+
+def zsh():
+    commands = "".join(f"        '{word}:{quoted(SAID[word])}'\n" for word in words())
+    cases = ""
+    for word, flags in words().items():
+        if word == "help":
+            cases += f"        help) _arguments '2:topic:({' '.join(topics())})' ;;\n"
+            continue
+        specs = " ".join(f"'{flag}[{quoted(of_flag(word, flag))}]{f':{value}:' + ('_files' if value == 'FILE' else '') if value else ''}'" for flag, value in flags)
+        cases += f"        {word}) _arguments {specs} '--help[explains the word]' '*:file:_files' ;;\n"
+    return f"""#compdef radixvm
+# zsh completion of radixvm, made from its help
+_radixvm() {{
+    local -a commands=(
+{commands}    )
+    if (( CURRENT == 2 )); then
+        _describe word commands
+        return
+    fi
+    case $words[2] in
+{cases}    esac
+}}
+_radixvm "$@"
+"""
+
+
+def fish():
+    def line(condition, rest, about):
+        about = about.replace("\\", "\\\\").replace("'", "\\'")
+        return f"complete -c radixvm -n '{condition}' {rest} -d '{about}'\n"
+
+    made = "# fish completion of radixvm, made from its help\n"
+    for word, flags in words().items():
+        made += line("__fish_use_subcommand", f"-f -a {word}", SAID[word])
+        for flag, value in flags:
+            made += line(f"__fish_seen_subcommand_from {word}", f"-l {flag.removeprefix('--')}{' -r' if value else ''}", of_flag(word, flag))
+    for topic in topics():
+        made += line("__fish_seen_subcommand_from help", f"-f -a {topic}", SAID.get(topic, topic))
+    return made
+
+
+def main():
+    share = pathlib.Path(sys.argv[1])
+    write_pages(share)
+    for path, made in [("bash-completion/completions/radixvm", bash()), ("zsh/site-functions/_radixvm", zsh()), ("fish/vendor_completions.d/radixvm.fish", fish())]:
+        (share / path).parent.mkdir(parents=True, exist_ok=True)
+        (share / path).write_text(made)
+
+
+main()
