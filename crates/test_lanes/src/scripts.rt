@@ -8,7 +8,7 @@ use live_script::{OnThreads, Ran, Runner, begin, certify_ran, run_in_turn};
 use machine_model::{Event, Outcome};
 use notes_text::{Script, read_script};
 use radix_range::RadixMap;
-use seats::Notes;
+use seats::{Noted, Notes};
 use std::alloc::{Allocator, Global};
 use std::sync::Wait;
 use std::thread::Threads;
@@ -122,21 +122,27 @@ fn answer(calls: &mut [Call], reply: Reply) {
     }
 }
 
+/// Appends the call that the note begins, or its reply.
+fn push_noted(note: &Noted, calls: &mut Vec<Call, Global>) -> Result<(), NoMemory> {
+    if let Event::Call(core, request) = note.event {
+        let reply = Reply::Done;
+        calls.push(Call {
+            core,
+            request,
+            reply,
+        })?;
+    }
+    if let Outcome::Answered(reply) = note.outcome {
+        answer(calls.as_mut_slice(), reply);
+    }
+    Ok(())
+}
+
 /// Appends the calls of a seat, each with its reply.
 fn push_calls(notes: Notes<'_>, calls: &mut Vec<Call, Global>) -> Result<(), NoMemory> {
     for at in 0..notes.len() {
         let note = notes.get(at);
-        if let Event::Call(core, request) = note.event {
-            let reply = Reply::Done;
-            calls.push(Call {
-                core,
-                request,
-                reply,
-            })?;
-        }
-        if let Outcome::Answered(reply) = note.outcome {
-            answer(calls.as_mut_slice(), reply);
-        }
+        push_noted(&note, calls)?;
     }
     Ok(())
 }
