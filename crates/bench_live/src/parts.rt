@@ -141,13 +141,10 @@ fn lock_and_read<R: Wait>(
     requires { page < 2 ^ 35 }
 {
     let mut held = Held::new(tree.alloc(), page);
-    match held.lock_next(rt, tree, counter, core, page + 1, 0) {
-        Got::Locked => {}
-        _ => return false,
-    }
+    let got = held.lock_next(rt, tree, counter, core, page + 1, 0);
     let is_unmapped = held.page(page).is_none();
-    held.letting().unlock_first(counter);
-    is_unmapped
+    held.letting().unlock_all(counter);
+    got == Got::Locked && is_unmapped
 }
 
 /// How many of so many rounds locked the page.

@@ -1,6 +1,6 @@
-pub mod AllSeen
 pub mod Ending
 pub mod FilePages
+pub mod FreeFrames
 pub mod HeldFrames
 pub mod Noting
 pub mod OneCore

@@ -1,5 +1,5 @@
 -- Frames and the epoch under their locks, and which frame a page may get
-use Rattle.std.specs.Prelude.{◌≡◌, ℕ, false, Option, None, Some}
+use Rattle.std.specs.Prelude.{◌≡◌, ℕ, Option, None, Some}
 use Rattle.std.specs.Sync.Mutex.{mutex_guard_value}
 use Rattle.std.specs.declared.sync.MutexGuard.{MutexGuard}
 use Rattle.refcache.specs.Epochs.{Epoch}
@@ -7,12 +7,6 @@ use Rattle.vm_base.specs.declared.info.Back.{Back}
 use Rattle.vm_base.specs.declared.info.Back.TheVariants.{Anon, Shared, Private}
 use Rattle.vm_base.specs.declared.rights.Access.{Access}
 use Rattle.vm_base.specs.declared.rights.Access.TheVariants.{Load, Store, Fetch}
-use Rattle.live_pages.specs.declared.pieces.FrameState.{FrameState}
-
--- the frame of a guard, if there is one, isn't free
-abbrev pub IsTaken : {A : Type 0} → Option (MutexGuard (FrameState A)) → Type 0
-IsTaken None = Unit {0}
-IsTaken (Some guard) = (mutex_guard_value guard).cell.is_free ≡ false
 
 -- the number of an epoch that is locked, and 0 where none is
 abbrev pub epoch_of : Option (MutexGuard Epoch) → ℕ

@@ -3,6 +3,7 @@ pub mod Cached
 pub mod Counts
 pub mod Ending
 pub mod Frames
+pub mod Free
 pub mod HeldFrames
 pub mod Locking
 pub mod OneCore

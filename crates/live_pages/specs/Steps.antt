@@ -13,7 +13,8 @@ use Rattle.vm_base.specs.Apply.{byte_reply}
 use Rattle.vm_base.specs.declared.replies.Reply.{Reply}
 use Rattle.live_pages.specs.Ending.{Answers}
 use Rattle.live_pages.specs.declared.frame.Wanted.{Wanted}
-use Rattle.live_pages.specs.declared.frame.Wanted.TheVariants.{Taken, NoFrame, NoMemory}
+use Rattle.live_pages.specs.declared.frame.Wanted.TheVariants as WantedOf
+use Rattle.live_pages.specs.declared.frame.Wanted.TheVariants.{Taken, NoFrame}
 use Rattle.live_pages.specs.declared.touching.Tried.{Tried}
 use Rattle.live_pages.specs.declared.touching.Tried.TheVariants.{Served, Fault, Lost}
 
@@ -52,4 +53,4 @@ Takes s frame t = (ticket : ℕ)
 abbrev pub Wants : SeatView → SeatView → Wanted → Type 0
 Wants s t (Taken frame) = Takes s frame t
 Wants s t NoFrame = StepsOnce s t
-Wants s t NoMemory = t ≡ s
+Wants s t WantedOf.Lost = t ≡ s

@@ -10,11 +10,13 @@ ghost use Rattle.live_tree.specs.Held.{CanTake};
 ghost use Rattle.live_tree.specs.Shown.{shown};
 ghost use Rattle.live_pages.specs.Counts.{Begins, BeginsFrom};
 ghost use Rattle.live_pages.specs.Frames.{MayGet};
+ghost use Rattle.live_pages.specs.Free.{Gives, GivesFree, free_in};
 ghost use Rattle.live_pages.specs.HeldFrames.{CanMakeWay, Copies, CountsShown, GivesOwn, IsHeld, state_in};
 ghost use Rattle.live_pages.specs.Steps.{Stays, StepsWith};
 
 use crate::beginning::{begin_page, begin_zeros};
 use crate::frames_held::{FramesHeld, Place, lock_frame, lock_these};
+use crate::free_frames::FreeFrames;
 use crate::pieces::{CoreState, Pieces, number_of};
 use crate::settling::place_of;
 use backing::{CachedFrame, Objects};
@@ -25,7 +27,7 @@ use machine_model::answers::back_of;
 use seats::Seat;
 use slot_lock::Touch;
 use std::alloc::Allocator;
-use std::sync::Wait;
+use std::sync::{MutexGuard, Wait};
 use vm_base::{Access, Back};
 
 /// The page, which is held, gets its frame, by what backs it and by the access: one step, under the
@@ -350,6 +352,7 @@ fn share<R: Wait, A: Allocator + Clone>(
     };
     let mut core = place.lock(rt);
     let evicted = core.counts.in_the_way(shown, 1);
+    let mut free = pieces.free_for(rt, own);
     let Some(mut frames) = lock_these(rt, pieces, &[own, evicted]) else {
         return None;
     };
@@ -360,6 +363,7 @@ fn share<R: Wait, A: Allocator + Clone>(
     give_shown(
         &mut core,
         &mut frames,
+        &mut free,
         seat,
         held,
         own,
@@ -374,6 +378,7 @@ fn share<R: Wait, A: Allocator + Clone>(
 fn give_shown<A: Allocator + Clone>(
     core: &mut CoreState<A>,
     frames: &mut FramesHeld<'_, A>,
+    free: &mut Option<MutexGuard<'_, FreeFrames<A>>>,
     seat: &mut Seat<A>,
     held: &mut Held<'_, A>,
     own: Option<u32>,
@@ -384,22 +389,43 @@ fn give_shown<A: Allocator + Clone>(
     requires each { All (CanTake (Frame shown)) held.old.slots }
     requires way { CanMakeWay shown (pos 1) core.old.counts frames.old }
     requires own { IfSome own (λ number. IsHeld number frames.old) }
+    requires free { is_some free.old ≡ is_some own }
     ensures step { StepsWith (Frame shown) seat.old held.old seat.new held.new }
     ensures counts { CountsShown own shown epoch core.old.counts core.new.counts frames.old frames.new }
+    ensures free { GivesFree own (free_in free.old) (free_in free.new) }
     ensures rest { core.new ≡ record core.old { counts = core.new.counts } }
 {
     let ticket = seat.step();
     frames.count(core, shown, 1, epoch);
-    give_back(frames, own);
+    give_back(frames, free, own);
     held.change_each(ticket, Act::Frame(shown));
 }
 
 // The frame of this number is given back, if there is a number.
-fn give_back<A: Allocator + Clone>(frames: &mut FramesHeld<'_, A>, own: Option<u32>)
-    requires { IfSome own (λ number. IsHeld number frames.old) }
-    ensures { GivesOwn own frames.old frames.new }
+fn give_back<A: Allocator + Clone>(
+    frames: &mut FramesHeld<'_, A>,
+    free: &mut Option<MutexGuard<'_, FreeFrames<A>>>,
+    own: Option<u32>,
+)
+    requires own { IfSome own (λ number. IsHeld number frames.old) }
+    requires free { is_some free.old ≡ is_some own }
+    ensures frames { GivesOwn own frames.old frames.new }
+    ensures free { GivesFree own (free_in free.old) (free_in free.new) }
 {
-    if let Some(number) = own {
-        frames.give(number);
+    let Some(number) = own else {
+        return;
+    };
+    frames.give(number);
+    give_free(free, number);
+}
+
+// The frame is one of the free ones, which are locked.
+fn give_free<A: Allocator>(free: &mut Option<MutexGuard<'_, FreeFrames<A>>>, number: u32)
+    requires { is_some free.old ≡ true }
+    ensures { Gives number (free_in free.old) (free_in free.new) }
+{
+    match free {
+        Some(free) => free.give(number),
+        None => unreachable!(),
     }
 }

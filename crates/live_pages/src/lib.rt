@@ -9,6 +9,7 @@ pub mod copy;
 pub mod filling;
 pub mod frame;
 pub mod frames_held;
+pub mod free_frames;
 pub mod installing;
 pub mod pieces;
 pub mod settling;

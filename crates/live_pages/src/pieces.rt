@@ -2,6 +2,7 @@
 ghost use Rattle.std.specs.Prelude.{◌≡◌, is_some};
 ghost use Rattle.live_pages.specs.Frames.{epoch_of};
 
+use crate::free_frames::FreeFrames;
 use backing::{CachedFrame, Objects};
 use crossbeam_utils::CachePadded;
 use frames::FrameCell;
@@ -37,6 +38,8 @@ pub struct Pieces<'a, A: Allocator + Clone> {
     pub pages: &'a [Vec<Mutex<CachedFrame>, A>],
     /// The cores.
     pub cores: &'a [CachePadded<Mutex<CoreState<A>>>],
+    /// Which frames are free.
+    pub free: &'a Mutex<FreeFrames<A>>,
     /// The frames.
     pub frames: &'a [Mutex<FrameState<A>>],
     /// The epoch.
@@ -44,6 +47,20 @@ pub struct Pieces<'a, A: Allocator + Clone> {
 }
 
 impl<'a, A: Allocator + Clone> Pieces<'a, A> {
+    /// Locks the free frames for a step that gives a frame back, if it gives one.
+    pub fn free_for<R: Wait>(
+        &self,
+        rt: &R,
+        given: Option<u32>,
+    ) -> Option<MutexGuard<'a, FreeFrames<A>>>
+        ensures { is_some result ≡ is_some given }
+    {
+        match given {
+            Some(_) => Some(self.free.lock(rt)),
+            None => None,
+        }
+    }
+
     /// Locks the epoch for a step that evicts an entry, if it evicts one.
     pub fn epoch_for<R: Wait>(&self, rt: &R, evicted: Option<u32>) -> Option<MutexGuard<'a, Epochs>>
         ensures { is_some result ≡ is_some evicted }

@@ -38,19 +38,19 @@ kept_noted : (s t : SeatView) (room : ℕ) (event : Event) (is_noted : Bool) →
 kept_noted s t room event true (ticket, e) = record { word = ap (λ (v : SeatView). v.word) e; spare = ap (λ (v : SeatView). v.spare) e }
 kept_noted s t room event false e = record { word = ap (λ (v : SeatView). v.word) e; spare = ap (λ (v : SeatView). v.spare) e }
 
-task_kept : (share : ℕ) (s t : SeatView) (task : Task) → Does share s task t → IsKept s t
-task_kept share s t (Call request) (may, begun, (reply, one)) = kept_same s t one.same
-task_kept share s t Flush (is_noted, h) = kept_noted s t h.room (EventOf.Flush s.core) is_noted h.noted
-task_kept share s t Review (is_noted, h) = kept_noted s t h.room (EventOf.Review s.core) is_noted h.noted
+task_kept : (live : LiveView) (s t : SeatView) (task : Task) → Does live s task t → IsKept s t
+task_kept live s t (Call request) (may, begun, (reply, one, answers)) = kept_same s t one.same
+task_kept live s t Flush (is_noted, h) = kept_noted s t h.room (EventOf.Flush s.core) is_noted h.noted
+task_kept live s t Review (is_noted, h) = kept_noted s t h.room (EventOf.Review s.core) is_noted h.noted
 
-tasks_kept : (share : ℕ) (s t : SeatView) (tasks : List Task) → DoesAll share s tasks t → IsKept s t
-tasks_kept share s t [] e = kept_equal s t e
-tasks_kept share s t (task ∷ tasks) (m, does, rest) = kept_trans s m t (task_kept share s m task does) (tasks_kept share m t tasks rest)
+tasks_kept : (live : LiveView) (s t : SeatView) (tasks : List Task) → DoesAll live s tasks t → IsKept s t
+tasks_kept live s t [] e = kept_equal s t e
+tasks_kept live s t (task ∷ tasks) (m, does, rest) = kept_trans s m t (task_kept live s m task does) (tasks_kept live m t tasks rest)
 
-ends_kept : (share : ℕ) (s t : SeatView) (tasks : List Task) (fault : Option LiveFault) → EndsAs share s tasks t fault → IsKept s t
-ends_kept share s t tasks None h = tasks_kept share s t tasks h
-ends_kept share s t tasks (Some fault) h =
-    kept_trans s h.before t (tasks_kept share s h.before h.done h.does) (kept_same h.before t h.idle.same)
+ends_kept : (live : LiveView) (s t : SeatView) (tasks : List Task) (fault : Option LiveFault) → EndsAs live s tasks t fault → IsKept s t
+ends_kept live s t tasks None h = tasks_kept live s t tasks h
+ends_kept live s t tasks (Some fault) h =
+    kept_trans s h.before t (tasks_kept live s h.before h.done h.does) (kept_same h.before t h.idle.same)
 
 -- ---- all seats
 
@@ -73,9 +73,9 @@ all_kept w before after n h all = record {
   all = sums_same (λ s. s.spare + 1) before after n (λ k d e lt. ap (λ m. m + 1) (h k d e lt).spare) ∙ all.all;
 }
 
-pub lanes_kept : {A : Type 0} (share : ℕ) (tasks : List (List Task)) (w : TableId) (before after : List (Lane A)) → EndEach share tasks before after
+pub lanes_kept : {A : Type 0} (live : LiveView) (tasks : List (List Task)) (w : TableId) (before after : List (Lane A)) → EndEach live tasks before after
     → AreAll w (map (λ lane. lane.seat) before) → AreAll w (map (λ lane. lane.seat) after)
-lanes_kept share tasks w before after ends =
+lanes_kept live tasks w before after ends =
     all_kept w (map seat_of before) (map seat_of after) (omega (arith, length-map before seat_of, length-map after seat_of, ends.count)) kept
   where
     kept : (k : ℕ) (d e : SeatView) → k < length (map seat_of before) → IsKept (get_or (map seat_of before) k d) (get_or (map seat_of after) k e)
@@ -85,12 +85,12 @@ lanes_kept share tasks w before after ends =
         let b = some_lane before k few in
         subst (λ s. IsKept s (get_or (map seat_of after) k e)) (sym (get_or-map seat_of before k b d few))
         (subst (λ s. IsKept (get_or before k b).seat s) (sym (get_or-map seat_of after k b e long))
-        (ends_kept share (get_or before k b).seat (get_or after k b).seat (get_or tasks k []) (get_or after k b).fault (ends.each k b b few)))
+        (ends_kept live (get_or before k b).seat (get_or after k b).seat (get_or tasks k []) (get_or after k b).fault (ends.each k b b few)))
 
 -- as they lie in the space once all have run
 pub ran_kept : {A : Type 0} (script : Scripted) (ran : RanView) (l : LiveView) (items first last : List (Lane A)) (n : ℕ) (view : ran_of l items ≡ ran)
-    (begun : IsBegun script.asked ran.live ran.seats) (same : first ≡ items) (len : length first ≡ n) (ends : EndEach l.share script.tasks first last)
+    (begun : IsBegun script.asked ran.live ran.seats) (same : first ≡ items) (len : length first ≡ n) (ends : EndEach l script.tasks first last)
     → AreAll l.word (map (λ lane. lane.seat) items) → AreAll l.word (map (λ lane. lane.seat) (take n (last ++ drop (length last) items)))
 ran_kept script ran l items first last n view begun same len ends all =
     subst (λ ls. AreAll l.word (map (λ lane. lane.seat) ls)) (sym (are_last script ran l items first last n view begun same len ends))
-    (lanes_kept l.share script.tasks l.word items last (subst (λ b. EndEach l.share script.tasks b last) same ends) all)
+    (lanes_kept l script.tasks l.word items last (subst (λ b. EndEach l script.tasks b last) same ends) all)

@@ -65,10 +65,10 @@ some_lane (lane ∷ lanes) k lt = lane
 record EndsAt (l : LiveView) (script : Scripted) (core : ℕ) (t : SeatView) (fault : Option LiveFault) : Type 0 where
   first : SeatView
   fresh : IsFresh l.word core first
-  ends : EndsAs l.share first (get_or script.tasks core []) t fault
+  ends : EndsAs l first (get_or script.tasks core []) t fault
 
 ends_at : {A : Type 0} (script : Scripted) (l : LiveView) (before after : List (Lane A)) → IsBegun script.asked l (map (λ lane. lane.seat) before)
-    → EndEach l.share script.tasks before after → (k : ℕ) (d : SeatView) → k < script.asked.cores
+    → EndEach l script.tasks before after → (k : ℕ) (d : SeatView) → k < script.asked.cores
     → EndsAt l script k (get_or (map (λ lane. lane.seat) after) k d) (get_or (map (λ lane. lane.fault) after) k None)
 ends_at script l before after begun ends k d lt =
     let few : k < length before = omega (arith, lt, begun.fresh.count, length-map before seat_of) in
@@ -77,9 +77,9 @@ ends_at script l before after begun ends k d lt =
     record {
       first = (get_or before k b).seat;
       fresh = subst (λ s. IsFresh l.word k s) (get_or-map seat_of before k b b.seat few) (begun.fresh.each k b.seat lt);
-      ends = subst (λ s. EndsAs l.share (get_or before k b).seat (get_or script.tasks k []) s (get_or (map fault_of after) k None))
+      ends = subst (λ s. EndsAs l (get_or before k b).seat (get_or script.tasks k []) s (get_or (map fault_of after) k None))
           (sym (get_or-map seat_of after k b d long))
-          (subst (λ f. EndsAs l.share (get_or before k b).seat (get_or script.tasks k []) (get_or after k b).seat f)
+          (subst (λ f. EndsAs l (get_or before k b).seat (get_or script.tasks k []) (get_or after k b).seat f)
           (sym (get_or-map fault_of after k b None long)) (ends.each k b b few));
     }
 
@@ -88,7 +88,7 @@ done_by : (l : LiveView) (script : Scripted) (core : ℕ) (t : SeatView) (fault 
 done_by l script core t fault h e = record {
   first = h.first;
   fresh = h.fresh;
-  does = subst (λ f. EndsAs l.share h.first (get_or script.tasks core []) t f) e h.ends;
+  does = subst (λ f. EndsAs l h.first (get_or script.tasks core []) t f) e h.ends;
 }
 
 stopped_by : (l : LiveView) (script : Scripted) (core : ℕ) (t : SeatView) (fault : Option LiveFault) (f : LiveFault) → EndsAt l script core t fault
@@ -97,11 +97,11 @@ stopped_by l script core t fault f h e = record {
   first = h.first;
   fresh = h.fresh;
   last = t;
-  stops = subst (λ g. EndsAs l.share h.first (get_or script.tasks core []) t g) e h.ends;
+  stops = subst (λ g. EndsAs l h.first (get_or script.tasks core []) t g) e h.ends;
 }
 
 module _ {A : Type 0} (script : Scripted) (l : LiveView) (before after : List (Lane A))
-    (begun : IsBegun script.asked l (map (λ lane. lane.seat) before)) (ends : EndEach l.share script.tasks before after) where
+    (begun : IsBegun script.asked l (map (λ lane. lane.seat) before)) (ends : EndEach l script.tasks before after) where
   faults_long : length (map fault_of after) ≡ script.asked.cores
   faults_long = omega (arith, length-map after fault_of, ends.count, begun.fresh.count, length-map before seat_of)
 
@@ -176,12 +176,12 @@ own_in asked ran l items first view begun same =
 -- the first lanes are those of the space, which then has the last
 module _ {A : Type 0} (script : Scripted) (ran : RanView) (l : LiveView) (items first last : List (Lane A)) (n : ℕ) (view : ran_of l items ≡ ran)
     (begun : IsBegun script.asked ran.live ran.seats) (same : first ≡ items) (len : length first ≡ n)
-    (ends : EndEach l.share script.tasks first last) where
+    (ends : EndEach l script.tasks first last) where
   begun_in : IsBegun script.asked l (map (λ lane. lane.seat) items)
   begun_in = subst (λ (r : RanView). IsBegun script.asked r.live r.seats) (sym view) begun
 
-  ends_in : EndEach l.share script.tasks items last
-  ends_in = subst (λ b. EndEach l.share script.tasks b last) same ends
+  ends_in : EndEach l script.tasks items last
+  ends_in = subst (λ b. EndEach l script.tasks b last) same ends
 
   none_left : drop (length last) items ≡ []
   none_left = drop_all (length last) items (let e = ap length same in omega (arith, ends.count, e))

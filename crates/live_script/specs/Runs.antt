@@ -32,7 +32,7 @@ pub record IsDeclared (asked : Asked) (l : LiveView) : Type 0 where
 pub record HasDone (l : LiveView) (script : Scripted) (core : ℕ) (t : SeatView) : Type 0 where
   pub first : SeatView
   pub fresh : IsFresh l.word core first
-  pub does : DoesAll l.share first (get_or script.tasks core []) t
+  pub does : DoesAll l first (get_or script.tasks core []) t
 
 -- in the declared space each core's seat did all
 pub record RunsAll (script : Scripted) (l : LiveView) (seats : List SeatView) : Type 0 where
@@ -47,7 +47,7 @@ pub record HasStopped (l : LiveView) (script : Scripted) (core : ℕ) (fault : L
   pub first : SeatView
   pub fresh : IsFresh l.word core first
   pub last : SeatView
-  pub stops : Stops l.share first (get_or script.tasks core []) fault last
+  pub stops : Stops l first (get_or script.tasks core []) fault last
 
 -- in the declared space this core stopped, and all cores before it did all
 pub record IsLeastStop (script : Scripted) (fault : LiveFault) : Type 0 where
@@ -73,10 +73,10 @@ pub record IsBegun (asked : Asked) (l : LiveView) (seats : List SeatView) : Type
   pub fresh : AreFresh l.word asked.cores seats
 
 -- each lane did what its core is to do, or stopped
-pub record EndEach {A : Type 0} (share : ℕ) (tasks : List (List Task)) (before after : List (Lane A)) : Type 0 where
+pub record EndEach {A : Type 0} (live : LiveView) (tasks : List (List Task)) (before after : List (Lane A)) : Type 0 where
   pub count : length after ≡ length before
   pub each : (k : ℕ) (d e : Lane A) → k < length before
-      → EndsAs share (get_or before k d).seat (get_or tasks k []) (get_or after k e).seat (get_or after k e).fault
+      → EndsAs live (get_or before k d).seat (get_or tasks k []) (get_or after k e).seat (get_or after k e).fault
 
 -- the first of these faults
 abbrev pub first_fault : List (Option LiveFault) → Option LiveFault

@@ -67,7 +67,7 @@ fn run_side_by_side<R: Threads + Wait + Sync>(
     lanes: &mut [Lane<Global>],
 )
     requires { All (λ lane. IsOf live.now lane.seat) lanes.old }
-    ensures { EndEach live.now.share script.now.tasks lanes.old lanes.new }
+    ensures { EndEach live.now script.now.tasks lanes.old lanes.new }
 {
     let count = lanes.len();
     if count == 0 {
@@ -75,7 +75,7 @@ fn run_side_by_side<R: Threads + Wait + Sync>(
     }
     let run = |core: usize, lane: &mut Lane<Global>|
         requires { IsOf live.now lane.old.seat }
-        ensures { EndsAs live.entry.now.share lane.old.seat (get_or script.entry.now.tasks core []) lane.new.seat lane.new.fault }
+        ensures { EndsAs live.entry.now lane.old.seat (get_or script.entry.now.tasks core []) lane.new.seat lane.new.fault }
     { run_lane(rt, live, script.tasks(core), lane) };
     thread::for_each_mut(rt, lanes, count, &run);
 }
@@ -88,7 +88,7 @@ fn run_in_order<R: Wait, A: Allocator + Clone>(
     lanes: &mut [Lane<A>],
 )
     requires { All (λ lane. IsOf live.now lane.seat) lanes.old }
-    ensures { EndEach live.now.share script.now.tasks lanes.old lanes.new }
+    ensures { EndEach live.now script.now.tasks lanes.old lanes.new }
 {
     'cores: for core in 0..lanes.len() {
         run_lane(rt, live, script.tasks(core), &mut lanes[core]);

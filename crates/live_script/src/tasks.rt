@@ -22,7 +22,7 @@ fn run_task<R: Wait, A: Allocator + Clone>(
 ) -> Result<(), LiveFault>
     requires { IsOf live.now seat.old }
     ensures own { IsOf live.now seat.new }
-    ensures done { OnOk result (Does live.now.share seat.old task.now seat.new) }
+    ensures done { OnOk result (Does live.now seat.old task.now seat.new) }
     ensures fault { IfErr result (λ fault. Lacks live.now.share seat.old task.now fault) }
     ensures idle { OnErr result (IsIdle seat.old seat.new) }
 {
@@ -48,8 +48,8 @@ fn run_tasks<R: Wait, A: Allocator + Clone>(
     tasks: &[Task],
 ) -> Result<(), LiveFault>
     requires { IsOf live.now seat.old }
-    ensures done { OnOk result (DoesAll live.now.share seat.old tasks.now seat.new) }
-    ensures stops { IfErr result (λ fault. Stops live.now.share seat.old tasks.now fault seat.new) }
+    ensures done { OnOk result (DoesAll live.now seat.old tasks.now seat.new) }
+    ensures stops { IfErr result (λ fault. Stops live.now seat.old tasks.now fault seat.new) }
 {
     'tasks: for at in 0..tasks.len() {
         run_task(rt, live, seat, &tasks[at])?;
@@ -65,7 +65,7 @@ pub(crate) fn run_lane<R: Wait, A: Allocator + Clone>(
     lane: &mut Lane<A>,
 )
     requires { IsOf live.now lane.old.seat }
-    ensures { EndsAs live.now.share lane.old.seat tasks.now lane.new.seat lane.new.fault }
+    ensures { EndsAs live.now lane.old.seat tasks.now lane.new.seat lane.new.fault }
 {
     match run_tasks(rt, live, &mut lane.seat, tasks) {
         Ok(()) => lane.fault = None,

@@ -1,14 +1,16 @@
 -- What is decided of a change whose pages are held
-use Rattle.std.proofs.Common.{◌≡◌, ℕ, ◌+◌, ◌≤◌, ◌<◌, List, Option, true, arith, refl, sym, ap, ◌∙◌, subst}
+use Rattle.std.proofs.Common.{◌≡◌, ℕ, ◌+◌, List, [], Option, arith, refl, ap, ◌∙◌, subst}
 use Rattle.std.specs.Prelude.{option_to_list}
 use Rattle.vm_base.specs.declared.info.PageInfo.{PageInfo}
+use Rattle.vm_base.specs.declared.info.Meta.{Meta}
 use Rattle.vm_base.specs.declared.page.PageRange.{PageRange}
-use Rattle.vm_base.specs.Functions.{has}
+use Rattle.vm_base.specs.declared.rights.Prot.{Prot}
 use Rattle.vm_base.specs.Info.{frame_of}
 use Rattle.vm_base.specs.Plain.{File}
 use Rattle.vm_base.proofs.Functions.{has_in}
 use Rattle.slot_lock.specs.declared.plan.Change.{Change}
 use Rattle.slot_lock.specs.declared.plan.Change.TheVariants.{Put, Clear, Protect}
+use Rattle.slot_lock.specs.Framed.{frames_in}
 use Rattle.slot_lock.specs.Plan.{range_of}
 use Rattle.slot_lock.specs.Slots.{Slots}
 use Rattle.machine_model.specs.Counting.{frame_lost}
@@ -17,9 +19,10 @@ use Rattle.vm_calls.specs.declared.decision.Decision.TheVariants.{Act}
 use Rattle.vm_calls.specs.Decisions.{AreAlike, DecidesChange}
 use Rattle.vm_calls.proofs.Alike.{change_alike}
 use Rattle.live_tree.specs.Held.{Covers, HeldView}
+use Rattle.live_tree.specs.Losing.{AreLost}
 use Rattle.live_tree.specs.Shown.{Lends, shown}
 use Rattle.live_space.specs.Losing.{Loses}
-use Rattle.live_space.proofs.Lost.{loses_alike, of_one}
+use Rattle.live_space.proofs.Lost.{frames_alike, lost_none, of_one}
 
 lost_same : (change : Change) (s : Slots) (p : ℕ) (info : Option PageInfo) → info ≡ s.info p → frame_lost change (λ q. info) 0 ≡ frame_lost change s.info p
 lost_same (Put range meta) s p info e = ap (λ (o : Option PageInfo). frame_of o) e
@@ -56,10 +59,17 @@ acts_shown files core h s change range shoot lends covers decides is =
     decides_shown files core h s change (Act (range_of change) shoot) lends covers
     (subst (λ (r : PageRange). DecidesChange files s change (Act r shoot)) is decides)
 
-pub loses_shown : (core : ℕ) (h : HeldView) (s : Slots) (change : Change) (frames : List ℕ) → Lends core h s → Covers h (range_of change)
-    → Loses s change frames → Loses (shown h.slots) change frames
-loses_shown core h s change frames lends covers loses =
-    let low = covers.0 in
-    let high = covers.1 in
-    loses_alike s (shown h.slots) change frames
-    (λ p from upto. sym (lends.info p (omega (arith, low, from)) (omega (arith, high, upto)))) loses
+-- what is read of the held slots is what a mapping or an unmapping of their pages decides
+pub put_lost : (files : ℕ → Option File) (s : Slots) (range : PageRange) (meta : Meta) (cores : ℕ) (frames : List ℕ) → AreLost s range cores frames
+    → DecidesChange files s (Put range meta) (Act range cores) × Loses s (Put range meta) frames
+put_lost files s range meta cores frames h =
+    ((refl, h.cores), frames_alike (frames_in s) (frame_lost (Put range meta) s.info) range.first range.end frames (λ p low high. refl) h.frames)
+
+pub clear_lost : (files : ℕ → Option File) (s : Slots) (range : PageRange) (cores : ℕ) (frames : List ℕ) → AreLost s range cores frames
+    → DecidesChange files s (Clear range) (Act range cores) × Loses s (Clear range) frames
+clear_lost files s range cores frames h =
+    ((refl, h.cores), frames_alike (frames_in s) (frame_lost (Clear range) s.info) range.first range.end frames (λ p low high. refl) h.frames)
+
+-- another protection takes no frame
+pub keeps_frames : (s : Slots) (range : PageRange) (prot : Prot) (frames : List ℕ) → frames ≡ [] → Loses s (Protect range prot) frames
+keeps_frames s range prot frames e = lost_none (frame_lost (Protect range prot) s.info) range.first range.end frames (λ p. refl) e

@@ -9,3 +9,4 @@ pub mod Lost
 pub mod Noted
 pub mod Own
 pub mod Places
+pub mod Replies

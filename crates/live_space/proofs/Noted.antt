@@ -23,7 +23,8 @@ use Rattle.live_pages.specs.declared.touching.Tried.TheVariants as TriedOf
 use Rattle.live_pages.specs.declared.touching.Tried.TheVariants.{Served, Fault}
 use Rattle.slot_lock.specs.declared.plan.Touch.{Touch}
 use Rattle.live_pages.specs.declared.frame.Wanted.{Wanted}
-use Rattle.live_pages.specs.declared.frame.Wanted.TheVariants.{Taken, NoFrame, NoMemory}
+use Rattle.live_pages.specs.declared.frame.Wanted.TheVariants as WantedOf
+use Rattle.live_pages.specs.declared.frame.Wanted.TheVariants.{Taken, NoFrame}
 use Rattle.live_pages.proofs.Noting.{grew_takes, same_count}
 use Rattle.live_space.specs.InFlight.{GoesOn, HasStepsLeft}
 
@@ -72,7 +73,7 @@ one_wants s t h (Taken frame) e = record {
   count = refl;
 }
 one_wants s t h NoFrame e = one_once s t h e
-one_wants s t h NoMemory e = one_stays s t h h (e, refl)
+one_wants s t h WantedOf.Lost e = one_stays s t h h (e, refl)
 
 -- the try of an access notes two steps at most
 pub room_tried : (touch : Touch) (s t : SeatView) (tried : Tried) → Tries touch s t tried → s.room ≤ t.room + 2

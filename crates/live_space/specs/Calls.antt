@@ -5,11 +5,11 @@ use Rattle.seats.specs.Growing.{IsSame}
 use Rattle.live_space.specs.declared.fault.LiveFault.{LiveFault}
 use Rattle.live_space.specs.declared.fault.LiveFault.TheVariants.{Calls, Notes, NoMemory}
 
--- why a seat can't make so many notes more: they would pass its limit, or else there is no memory
+-- why a seat can't make so many notes more: they would pass its limit, or else it hasn't the room, and there is no memory for it
 abbrev pub LacksRoom : ℕ → SeatView → LiveFault → Type 0
 LacksRoom n s Calls = ⊥
 LacksRoom n s Notes = 2 ^ 32 < length s.notes + n
-LacksRoom n s NoMemory = length s.notes + n ≤ 2 ^ 32
+LacksRoom n s NoMemory = (length s.notes + n ≤ 2 ^ 32) × (s.room < n)
 
 -- the seat has begun fewer calls than its share, and three notes, which a call takes at least, stay
 -- within its limit

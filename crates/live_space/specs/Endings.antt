@@ -1,8 +1,9 @@
 -- How the steps of a call end
 use Rattle.std.specs.Borrow.{MutBor}
-use Rattle.std.specs.Prelude.{◌≡◌}
+use Rattle.std.specs.Prelude.{◌≡◌, []}
 use Rattle.vm_base.specs.declared.replies.Reply.{Reply}
 use Rattle.vm_base.specs.declared.replies.Reply.TheVariants.{NoMemory}
+use Rattle.live_tree.specs.Held.{HeldView}
 use Rattle.seats.specs.Notes.{SeatView}
 use Rattle.live_pages.specs.Ending.{Ends}
 use Rattle.live_space.specs.declared.ending.Ending.{Ending}
@@ -21,3 +22,8 @@ reply_of (GiveBack own) = NoMemory
 abbrev pub RunsTo : MutBor SeatView → Ran → MutBor SeatView → Type 0
 RunsTo s (Answered reply) t = (t.ghost_name ≡ s.ghost_name) × Ends s.now reply t.now
 RunsTo s (Open ending) t = GoesOn s t
+
+-- a call that was answered under the locks of its last step holds no slot
+abbrev pub HoldsNone : Ran → HeldView → Type 0
+HoldsNone (Answered reply) h = h.slots ≡ []
+HoldsNone (Open ending) h = Unit {0}

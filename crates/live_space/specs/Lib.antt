@@ -1,3 +1,4 @@
+pub mod Answering
 pub mod Calls
 pub mod Changing
 pub mod Counting
@@ -6,4 +7,5 @@ pub mod Endings
 pub mod InFlight
 pub mod Losing
 pub mod Placing
+pub mod Planned
 pub mod Space

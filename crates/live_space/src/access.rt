@@ -1,10 +1,12 @@
 //! A load, a store or a fetch: it is tried, and after a fault its page is held while it gets a frame
 //! and an entry in the core's tables; then it is tried again.
-ghost use Rattle.std.specs.Prelude.{◌+◌, ◌*◌};
+ghost use Rattle.std.specs.Prelude.{◌≡◌, ◌+◌, ◌*◌, [], IfNone, IfSome};
 ghost use Rattle.live_pages.specs.Targets.{count_below};
 ghost use Rattle.slot_lock.specs.Plan.{IsSoundTouch};
-ghost use Rattle.live_space.specs.Endings.{RunsTo};
+ghost use Rattle.live_space.specs.Endings.{HoldsNone, RunsTo};
 ghost use Rattle.live_space.specs.InFlight.{GoesOn, HasStepsLeft};
+ghost use Rattle.live_space.specs.Answering.{IsFault};
+ghost use Rattle.live_space.specs.Planned.{AnswersTouch, EndsIn, RanIn};
 
 use crate::ending::{Ending, Ran, given_up_with};
 use crate::gate::{Gate, Point};
@@ -37,8 +39,11 @@ impl<'c, R: Wait, G: Gate, A: Allocator + Clone> InCall<'c, '_, '_, '_, R, G, A>
     /// The steps of an access, after its check.
     #[tactic(auto, using(crate::proofs::Noted::steps))]
     pub(crate) fn touch(&mut self, touch: Touch) -> Ran
-        requires { IsSoundTouch touch }
-        ensures { RunsTo self.old.seat result self.new.seat }
+        requires sound { IsSoundTouch touch }
+        requires none { self.old.held.slots ≡ [] }
+        ensures runs { RunsTo self.old.seat result self.new.seat }
+        ensures none { HoldsNone result self.new.held }
+        ensures answers { RanIn (AnswersTouch touch.access) result }
     {
         let rt = self.rt;
         'tries: for _turn in rt.forever() {
@@ -64,7 +69,9 @@ impl<'c, R: Wait, G: Gate, A: Allocator + Clone> InCall<'c, '_, '_, '_, R, G, A>
     #[tactic(auto, using(crate::proofs::Noted::steps))]
     fn fault(&mut self, touch: Touch) -> Option<Ending>
         requires { IsSoundTouch touch }
-        ensures { GoesOn self.old.seat self.new.seat }
+        ensures goes { GoesOn self.old.seat self.new.seat }
+        ensures none { IfNone result (self.new.held.slots ≡ []) }
+        ensures answers { IfSome result (EndsIn IsFault) }
     {
         let ending = self.lock_page(touch);
         if ending.is_none() {
@@ -77,7 +84,8 @@ impl<'c, R: Wait, G: Gate, A: Allocator + Clone> InCall<'c, '_, '_, '_, R, G, A>
     #[tactic(auto, using(crate::proofs::Noted::steps))]
     fn lock_page(&mut self, touch: Touch) -> Option<Ending>
         requires { IsSoundTouch touch }
-        ensures { GoesOn self.old.seat self.new.seat }
+        ensures goes { GoesOn self.old.seat self.new.seat }
+        ensures answers { IfSome result (EndsIn IsFault) }
     {
         self.hold_from(touch.page);
         if !self.lock_all(touch.page + 1, 2) {
@@ -91,7 +99,8 @@ impl<'c, R: Wait, G: Gate, A: Allocator + Clone> InCall<'c, '_, '_, '_, R, G, A>
     #[tactic(auto, using(crate::proofs::Noted::steps))]
     fn settle(&mut self, touch: Touch) -> Option<Ending>
         requires { IsSoundTouch touch }
-        ensures { GoesOn self.old.seat self.new.seat }
+        ensures goes { GoesOn self.old.seat self.new.seat }
+        ensures answers { IfSome result (EndsIn IsFault) }
     {
         if !self.has_room(1) {
             return Some(Ending::GiveUp);
@@ -105,7 +114,8 @@ impl<'c, R: Wait, G: Gate, A: Allocator + Clone> InCall<'c, '_, '_, '_, R, G, A>
     #[tactic(auto, using(crate::proofs::Noted::steps))]
     fn act_on(&mut self, touch: Touch, settled: Settled) -> Option<Ending>
         requires { IsSoundTouch touch }
-        ensures { GoesOn self.old.seat self.new.seat }
+        ensures goes { GoesOn self.old.seat self.new.seat }
+        ensures answers { IfSome result (EndsIn IsFault) }
     {
         match settled {
             Settled::MapErr => Some(Ending::Answer(Reply::Segv(SegvCode::MapErr))),
@@ -122,7 +132,8 @@ impl<'c, R: Wait, G: Gate, A: Allocator + Clone> InCall<'c, '_, '_, '_, R, G, A>
     #[tactic(auto, using(crate::proofs::Noted::steps))]
     fn want(&mut self, touch: Touch, shown: Option<u32>) -> Option<Ending>
         requires { IsSoundTouch touch }
-        ensures { GoesOn self.old.seat self.new.seat }
+        ensures goes { GoesOn self.old.seat self.new.seat }
+        ensures answers { IfSome result (EndsIn IsFault) }
     {
         if !self.has_room(1) {
             return Some(Ending::GiveUp);
@@ -130,14 +141,15 @@ impl<'c, R: Wait, G: Gate, A: Allocator + Clone> InCall<'c, '_, '_, '_, R, G, A>
         match want(self.rt, &self.space.pieces(), self.seat) {
             Wanted::Taken(own) => self.use_frame(touch, shown, own),
             Wanted::NoFrame => Some(Ending::Answer(Reply::NoFrame)),
-            Wanted::NoMemory => Some(Ending::GiveUp),
+            Wanted::Lost => Some(Ending::GiveUp),
         }
     }
 
     // The frame is for the page, or for a copy of the frame that it shows.
     fn use_frame(&mut self, touch: Touch, shown: Option<u32>, own: u32) -> Option<Ending>
         requires { IsSoundTouch touch }
-        ensures { GoesOn self.old.seat self.new.seat }
+        ensures goes { GoesOn self.old.seat self.new.seat }
+        ensures answers { IfSome result (EndsIn IsFault) }
     {
         match shown {
             Some(shown) => self.copy(touch, Copying { shown, own }),
@@ -146,10 +158,11 @@ impl<'c, R: Wait, G: Gate, A: Allocator + Clone> InCall<'c, '_, '_, '_, R, G, A>
     }
 
     // The page gets its frame.
-    #[tactic(auto, using(crate::proofs::Noted::steps))]
+    #[tactic(auto, using(crate::proofs::Noted::steps, crate::proofs::Ended::given_up_faults))]
     fn fill(&mut self, touch: Touch, own: Option<u32>) -> Option<Ending>
         requires { IsSoundTouch touch }
-        ensures { GoesOn self.old.seat self.new.seat }
+        ensures goes { GoesOn self.old.seat self.new.seat }
+        ensures answers { IfSome result (EndsIn IsFault) }
     {
         if !self.has_room(1) {
             return Some(given_up_with(own));
@@ -171,7 +184,8 @@ impl<'c, R: Wait, G: Gate, A: Allocator + Clone> InCall<'c, '_, '_, '_, R, G, A>
     #[tactic(auto, using(crate::proofs::Noted::steps, crate::proofs::Few::few_targets))]
     fn copy(&mut self, touch: Touch, frames: Copying) -> Option<Ending>
         requires { IsSoundTouch touch }
-        ensures { GoesOn self.old.seat self.new.seat }
+        ensures goes { GoesOn self.old.seat self.new.seat }
+        ensures answers { IfSome result (EndsIn IsFault) }
     {
         let core = self.seat.core();
         let targets = recorded_cores(&self.held.page(touch.page)).without(core);
@@ -204,7 +218,8 @@ impl<'c, R: Wait, G: Gate, A: Allocator + Clone> InCall<'c, '_, '_, '_, R, G, A>
     fn copy_told(&mut self, touch: Touch, frames: Copying, targets: CoreSet) -> Option<Ending>
         requires sound { IsSoundTouch touch }
         requires room { HasStepsLeft (1 + 126 * count_below targets 64) self.old.held self.old.seat.now }
-        ensures { GoesOn self.old.seat self.new.seat }
+        ensures goes { GoesOn self.old.seat self.new.seat }
+        ensures answers { IfSome result (EndsIn IsFault) }
     {
         let space = self.space;
         let Copying { shown, own } = frames;
@@ -221,7 +236,8 @@ impl<'c, R: Wait, G: Gate, A: Allocator + Clone> InCall<'c, '_, '_, '_, R, G, A>
     #[tactic(auto, using(crate::proofs::Noted::steps))]
     fn install(&mut self, touch: Touch) -> Option<Ending>
         requires { IsSoundTouch touch }
-        ensures { GoesOn self.old.seat self.new.seat }
+        ensures goes { GoesOn self.old.seat self.new.seat }
+        ensures answers { IfSome result (EndsIn IsFault) }
     {
         self.at(Point::Filled);
         if !self.has_room(1) {

@@ -1,10 +1,15 @@
 //! A call of a core's thread, from its beginning to its answer.
-ghost use Rattle.std.specs.Prelude.{◌≡◌, ◌+◌, ◌≤◌, IfOk, IfErr, OnOk};
+ghost use Rattle.std.specs.Prelude.{◌≡◌, ◌+◌, ◌≤◌, ◌⊎◌, [], IfOk, IfErr, OnOk};
+ghost use Rattle.vm_base.specs.declared.replies.Reply.TheVariants.{NoMemory};
+ghost use Rattle.vm_base.specs.Plain.{mode_of};
 ghost use Rattle.slot_lock.specs.Plan.{IsSoundPlan};
+ghost use Rattle.backing.specs.Files.{files_of};
 ghost use Rattle.seats.specs.Growing.{OneCall};
 ghost use Rattle.live_pages.specs.Ending.{Ends};
+ghost use Rattle.live_space.specs.Answering.{AnswersFor};
 ghost use Rattle.live_space.specs.Calls.{IsIdle, LacksCall, MayBegin};
-ghost use Rattle.live_space.specs.Endings.{RunsTo};
+ghost use Rattle.live_space.specs.Endings.{HoldsNone, RunsTo};
+ghost use Rattle.live_space.specs.Planned.{AnswersPlan, RanIn};
 ghost use Rattle.live_space.specs.Space.{IsOf};
 
 use crate::ending::{Ending, Ran};
@@ -29,7 +34,10 @@ impl<A: Allocator + Clone> Live<A> {
     ///
     /// A fault says why it didn't begin, and then nothing was noted. A call that has begun is always
     /// answered: where memory, or room for its notes, runs out before it has told another core
-    /// anything, it is given up, and the reply is `NoMemory`; then nothing is changed or held.
+    /// anything, it is given up, and the reply is `NoMemory`; then nothing is changed or held. Else
+    /// the reply is the one that its arguments decide, or one of the request's: an mmap answers the
+    /// address, or `ENOMEM`; munmap is done; mprotect is done, or refused; a load or a fetch has a
+    /// byte, a store is done, and each access may get `SIGSEGV` or `SIGBUS`, or find no frame.
     pub fn call<R: Wait, G: Gate>(
         &self,
         rt: &R,
@@ -40,6 +48,7 @@ impl<A: Allocator + Clone> Live<A> {
         requires { IsOf self.now seat.old }
         ensures own { IsOf self.now seat.new }
         ensures noted { IfOk result (λ reply. OneCall seat.old request reply seat.new) }
+        ensures answers { IfOk result (AnswersFor (λ file. mode_of (files_of self.now.files file)) seat.old.core request) }
         ensures begun { OnOk result (seat.new.begun ≡ seat.old.begun + 1) }
         ensures may { OnOk result (MayBegin self.now.share seat.old) }
         ensures fault { IfErr result (λ fault. LacksCall self.now.share seat.old fault) }
@@ -59,7 +68,8 @@ impl<A: Allocator + Clone> Live<A> {
     #[tactic(auto, using(live_pages::proofs::Ending::ends_after, seats::proofs::Growing::grew_steps))]
     fn run<R: Wait, G: Gate>(&self, rt: &R, seat: &mut Seat<A>, request: Request, gate: &G) -> Reply
         requires room { 2 ≤ seat.old.room }
-        ensures { Ends seat.old result seat.new }
+        ensures ended { Ends seat.old result seat.new }
+        ensures answers { AnswersFor (λ file. mode_of (files_of self.now.files file)) seat.old.core request result }
     {
         // it touches nothing that another thread changes, and may come before the note of its step
         match check(&self.objects, seat.core(), request) {
@@ -78,7 +88,8 @@ impl<A: Allocator + Clone> Live<A> {
     fn go_on<R: Wait, G: Gate>(&self, rt: &R, seat: &mut Seat<A>, plan: Plan, gate: &G) -> Reply
         requires sound { IsSoundPlan plan }
         requires room { 2 ≤ seat.old.room }
-        ensures { Ends seat.old result seat.new }
+        ensures ended { Ends seat.old result seat.new }
+        ensures answers { (result ≡ NoMemory) ⊎ AnswersPlan plan result }
     {
         let mut call = InCall {
             seat,
@@ -96,7 +107,10 @@ impl<A: Allocator + Clone> Live<A> {
             gate: _,
         } = call;
         match ran {
-            Ran::Answered(reply) => reply,
+            Ran::Answered(reply) => {
+                held.finish();
+                reply
+            }
             Ran::Open(ending) => self.end(rt, seat, held, ending),
         }
     }
@@ -106,8 +120,11 @@ impl<'c, R: Wait, G: Gate, A: Allocator + Clone> InCall<'c, '_, '_, '_, R, G, A>
     // The step of the check, and what follows.
     #[tactic(auto, using(crate::proofs::Noted::steps))]
     fn run(&mut self, plan: Plan) -> Ran
-        requires { IsSoundPlan plan }
-        ensures { RunsTo self.old.seat result self.new.seat }
+        requires sound { IsSoundPlan plan }
+        requires none { self.old.held.slots ≡ [] }
+        ensures runs { RunsTo self.old.seat result self.new.seat }
+        ensures none { HoldsNone result self.new.held }
+        ensures answers { RanIn (AnswersPlan plan) result }
     {
         if !self.step() {
             return Ran::Open(Ending::GiveUp);

@@ -6,9 +6,10 @@ ghost use Rattle.live_tree.specs.Held.{AreAlike, Covers};
 ghost use Rattle.live_pages.specs.Targets.{count_below};
 ghost use Rattle.live_space.specs.Changing.{Changes, IsReady, Made, MadeIn};
 ghost use Rattle.live_space.specs.InFlight.{GoesOn, HasStepsLeft};
+ghost use Rattle.live_space.specs.Planned.{AnswersChange, EndsIn};
 
 use crate::commit::{Counting, Locks};
-use crate::decide_held::{Decided, Frames, Losses, decide_held};
+use crate::decide_held::{Decided, Frames, decide_held};
 use crate::ending::Ending;
 use crate::gate::{Gate, Point};
 use crate::in_call::InCall;
@@ -17,6 +18,7 @@ use live_levels::level::Stepper;
 use live_pages::pieces::CoreState;
 use live_pages::telling::{TAKES, Telling, count_of, take_all};
 use live_tree::held::Held;
+use live_tree::held::losses::Losses;
 use machine_model::answers::reply_to;
 use slot_lock::Change;
 use std::alloc::Allocator;
@@ -64,7 +66,8 @@ impl<'c, R: Wait, G: Gate, A: Allocator + Clone> InCall<'c, '_, '_, '_, R, G, A>
     #[tactic(auto, using(crate::proofs::Noted::steps))]
     pub(crate) fn change(&mut self, change: Change) -> Ending
         requires { IsSoundChange change }
-        ensures { GoesOn self.old.seat self.new.seat }
+        ensures goes { GoesOn self.old.seat self.new.seat }
+        ensures answers { EndsIn (AnswersChange change) result }
     {
         let range = change.range();
         self.hold_from(range.first);
@@ -118,8 +121,8 @@ impl<'c, R: Wait, G: Gate, A: Allocator + Clone> InCall<'c, '_, '_, '_, R, G, A>
         if !is_ready(&mut self.held, change) {
             return false;
         }
-        let Losses { shoot, frames } = losses;
-        let targets = shoot.without(self.seat.core());
+        let Losses { cores, frames } = losses;
+        let targets = cores.without(self.seat.core());
         if targets.is_empty() {
             self.make_alone(change, frames)
         } else {

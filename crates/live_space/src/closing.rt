@@ -23,7 +23,9 @@ impl<A: Allocator + Clone> Live<A> {
     /// no core. False where there is nothing to join, as where a slot of the node is held, mapped
     /// otherwise than its neighbours go on, or has a frame, and at a page that isn't valid: then
     /// nothing changes, and nothing is noted. It takes `rt` like the other calls with a seat, and
-    /// waits for nobody. After a fault nothing was begun.
+    /// waits for nobody. After a fault nothing was begun. Only the tree is lent to it, so cores, frames
+    /// and file pages stay; a clause tells that of the space's word, files and sizes, since none sees
+    /// what lies under locks.
     pub fn trim<R>(&mut self, _rt: &R, seat: &mut Seat<A>, page: u64) -> Result<bool, LiveFault>
         requires { IsOf self.old seat.old }
         ensures own { IsOf self.new seat.new }
@@ -61,7 +63,8 @@ impl<A: Allocator + Clone> Live<A> {
 
     /// Ends the space, and hands out the histories of its slots, which lie side by side and have all
     /// valid pages: those of the space's word, and so of no other space. Where memory is wanting, or
-    /// a slot was in a wrong place, which never comes, the space comes back as it was.
+    /// a slot was in a wrong place, which never comes, the space comes back, with the same word, files
+    /// and sizes; its slots were only read.
     pub fn close(mut self) -> Result<Histories<A>, Live<A>>
         ensures own { IfOk result (AreOf self.word) }
         ensures back { IfErr result (λ live. live ≡ self) }

@@ -10,6 +10,8 @@ ghost use Rattle.live_space.specs.Space.{IsOf};
 
 use crate::fault::{LiveFault, reserve_notes};
 use crate::space::Live;
+use live_pages::frame::give_reviewed;
+use live_pages::free_frames::FreeFrames;
 use live_pages::pieces::{CoreState, FrameState};
 use machine_model::{Event, Outcome};
 use refcache::{Epochs, Flush, Review};
@@ -40,8 +42,8 @@ impl<A: Allocator + Clone> Live<A> {
     /// One review by the seat's core, noted as a step of its own. The object at the front of its
     /// queue leaves it, or is queued anew; a frame that is freed may be taken again. False where
     /// the queue is empty, or its front isn't due: then nothing changes, and nothing is noted. It
-    /// waits while another thread has the core, the frame or the epoch locked. After a fault
-    /// nothing was begun.
+    /// waits while another thread has the core, the free frames, the frame or the epoch locked. After
+    /// a fault nothing was begun.
     pub fn review<R: Wait>(&self, rt: &R, seat: &mut Seat<A>) -> Result<bool, LiveFault>
         requires { IsOf self.now seat.old }
         ensures own { IsOf self.now seat.new }
@@ -52,7 +54,8 @@ impl<A: Allocator + Clone> Live<A> {
     {
         reserve_notes(seat, 1)?;
         let core = &self.cores[usize::from(seat.core().index())];
-        let is_noted = review_core(rt, core, self.frames.as_slice(), &self.epochs, seat);
+        let frames = self.frames.as_slice();
+        let is_noted = review_core(rt, core, &self.free, frames, &self.epochs, seat);
         Ok(is_noted)
     }
 }
@@ -117,6 +120,7 @@ fn mark<R: Wait, A: Allocator>(rt: &R, epochs: &Mutex<Epochs>, seat: &mut Seat<A
 fn review_core<R: Wait, A: Allocator + Clone>(
     rt: &R,
     core: &Mutex<CoreState<A>>,
+    free: &Mutex<FreeFrames<A>>,
     frames: &[Mutex<FrameState<A>>],
     epochs: &Mutex<Epochs>,
     seat: &mut Seat<A>,
@@ -128,16 +132,17 @@ fn review_core<R: Wait, A: Allocator + Clone>(
     let Some(front) = core.counts.front() else {
         return false;
     };
+    let mut free = free.lock(rt);
     let Some(frame) = frames.get(front.object as usize) else {
         return false;
     };
     let mut frame = frame.lock(rt);
     let epochs = epochs.lock(rt);
-    match core.counts.review(&mut frame.count, epochs.number()) {
-        Review::Idle => return false,
-        Review::Freed(_) => frame.cell.give(),
-        Review::Dropped(_) | Review::Requeued(_) => {}
+    let review = core.counts.review(&mut frame.count, epochs.number());
+    if review == Review::Idle {
+        return false;
     }
+    give_reviewed(&review, &mut free, &mut frame);
     let _ticket = seat.note(Event::Review(seat.core()), Outcome::Stepped);
     true
 }

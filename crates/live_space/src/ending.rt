@@ -1,10 +1,10 @@
 //! How the steps of a call end.
 ghost use Rattle.std.specs.Prelude.{◌≡◌, ◌+◌, ◌<◌, ◌≤◌};
-ghost use Rattle.vm_base.specs.declared.replies.Reply.TheVariants.{NoMemory};
 ghost use Rattle.seats.specs.Growing.{Grew};
 ghost use Rattle.live_pages.specs.Ending.{Ends};
 ghost use Rattle.live_space.specs.InFlight.{HasStepsLeft};
 ghost use Rattle.live_space.specs.Endings.{reply_of};
+ghost use Rattle.live_space.specs.Planned.{IsGivenUp};
 
 use crate::giving_up::give_up;
 use crate::locking::let_go;
@@ -75,7 +75,7 @@ impl<A: Allocator + Clone> Live<A> {
 
 /// How a call ends that is given up, with the frame that it took, if it took one.
 pub(crate) fn given_up_with(own: Option<u32>) -> Ending
-    ensures { reply_of result ≡ NoMemory }
+    ensures { IsGivenUp result }
 {
     match own {
         Some(own) => Ending::GiveBack(own),

@@ -1,5 +1,5 @@
 //! The slots of a call: they are locked one after another from left to right, and let go so.
-ghost use Rattle.std.specs.Prelude.{◌≡◌, ◌+◌, ◌≤◌, IfNone, IfSome, length, IsTrue};
+ghost use Rattle.std.specs.Prelude.{◌≡◌, ◌+◌, ◌≤◌, [], IfNone, IfSome, length, IsTrue};
 ghost use Rattle.seats.specs.Growing.{Grew};
 ghost use Rattle.live_pages.specs.Ending.{Ends};
 ghost use Rattle.live_space.specs.InFlight.{GoesOn};
@@ -68,13 +68,14 @@ pub(crate) fn let_go<A: Allocator + Clone>(
     if let Some(reply) = reply {
         answer(seat, reply);
     }
-    letting.unlock_noted();
+    letting.finish();
 }
 
 // Notes of each slot that it is let go. The last one is still locked then.
 #[tactic(auto, using(seats::proofs::Growing::grew_trans, seats::proofs::Growing::grew_steps))]
 fn note_all<A: Allocator>(letting: &mut Letting<'_, A>, seat: &mut Seat<A>)
     requires room { length letting.old.slots ≤ seat.old.room }
+    ensures none { letting.new.slots ≡ [] }
     ensures grew { Grew seat.old seat.new }
     ensures room { seat.new.room + length letting.old.slots ≡ seat.old.room }
 {

@@ -14,6 +14,7 @@ use backing::{CachedFrame, FileSpec, Objects};
 use core_steps::{Setup, SetupFault};
 use crossbeam_utils::CachePadded;
 use frames::FrameCell;
+use live_pages::free_frames::FreeFrames;
 use live_pages::pieces::{CoreState, FrameState};
 use live_tree::tree::SharedTree;
 use mmu::Cpu;
@@ -66,6 +67,7 @@ fn make<A: Allocator + Clone>(
     let seating = new_seating(&alloc, count)?;
     let states = new_cores(&alloc, count, number)?;
     let cells = new_frames(&alloc, number)?;
+    let free = FreeFrames::all(alloc.clone()?, number)?;
     let Opened { objects, pages } = opened;
     let Seating { tree, seats } = seating;
     let live = Live {
@@ -73,6 +75,7 @@ fn make<A: Allocator + Clone>(
         objects,
         pages,
         cores: states,
+        free: CachePadded::new(Mutex::new(free)),
         frames: cells,
         epochs: CachePadded::new(Mutex::new(Epochs::new(count))),
         share,

@@ -1,7 +1,8 @@
 //! A mapping without `MAP_FIXED` finds its place: at its hint, else at one run of its core's window
 //! that it guesses to be free, else at the least room of the window. It holds one of the three at a
 //! time, and maps no page that it doesn't hold.
-ghost use Rattle.std.specs.Prelude.{◌≡◌, ◌≢◌, ◌+◌, ◌<◌, IfSome, IsSome, IsTrue, All};
+ghost use Rattle.std.specs.Prelude.{◌≡◌, ◌≢◌, ◌+◌, ◌*◌, ◌<◌, IfSome, IsSome, IsTrue, All};
+ghost use Rattle.vm_base.specs.declared.replies.Reply.TheVariants.{Mapped};
 ghost use Rattle.live_tree.specs.Held.{Covers, CrossesNoEdge};
 ghost use Rattle.slot_lock.specs.declared.plan.Goal.TheVariants as GoalOf;
 ghost use Rattle.slot_lock.specs.declared.plan.Target.TheVariants.{Window};
@@ -10,6 +11,7 @@ ghost use Rattle.vm_calls.specs.declared.decision.Decision.TheVariants.{Again};
 ghost use Rattle.vm_calls.specs.Decisions.{IsSoundAct};
 ghost use Rattle.live_space.specs.InFlight.{GoesOn, HasStepsLeft};
 ghost use Rattle.live_space.specs.Placing.{IsInside, IsInWindow};
+ghost use Rattle.live_space.specs.Planned.{AnswersPlace, EndsIn, PlacesAt};
 
 use crate::ending::Ending;
 use crate::gate::{Gate, Point};
@@ -49,7 +51,8 @@ impl<'c, R: Wait, G: Gate, A: Allocator + Clone> InCall<'c, '_, '_, '_, R, G, A>
     #[tactic(auto, using(crate::proofs::Noted::steps))]
     pub(crate) fn place(&mut self, place: Place) -> Ending
         requires { IsSoundPlace place }
-        ensures { GoesOn self.old.seat self.new.seat }
+        ensures goes { GoesOn self.old.seat self.new.seat }
+        ensures answers { EndsIn (AnswersPlace place) result }
     {
         let Some(hint) = place.hint else {
             return self.place_in_window(place);
@@ -65,7 +68,8 @@ impl<'c, R: Wait, G: Gate, A: Allocator + Clone> InCall<'c, '_, '_, '_, R, G, A>
     #[tactic(auto, using(crate::proofs::Noted::steps))]
     fn place_in_window(&mut self, place: Place) -> Ending
         requires { IsSoundPlace place }
-        ensures { GoesOn self.old.seat self.new.seat }
+        ensures goes { GoesOn self.old.seat self.new.seat }
+        ensures answers { EndsIn (AnswersPlace place) result }
     {
         let Some(target) = self.guess(place) else {
             return Ending::GiveUp;
@@ -112,6 +116,7 @@ impl<'c, R: Wait, G: Gate, A: Allocator + Clone> InCall<'c, '_, '_, '_, R, G, A>
     fn try_target(&mut self, place: Place, target: Target) -> Option<Ending>
         requires { IsSoundGoal (GoalOf.Place place target) }
         ensures goes { GoesOn self.old.seat self.new.seat }
+        ensures answers { IfSome result (EndsIn (AnswersPlace place)) }
         ensures last { target ≡ Window → IsSome result }
     {
         let ending = self.lock_target(place, target);
@@ -126,6 +131,7 @@ impl<'c, R: Wait, G: Gate, A: Allocator + Clone> InCall<'c, '_, '_, '_, R, G, A>
     fn lock_target(&mut self, place: Place, target: Target) -> Option<Ending>
         requires { IsSoundGoal (GoalOf.Place place target) }
         ensures goes { GoesOn self.old.seat self.new.seat }
+        ensures answers { IfSome result (EndsIn (AnswersPlace place)) }
         ensures last { target ≡ Window → IsSome result }
     {
         let range = target.range(place);
@@ -144,6 +150,7 @@ impl<'c, R: Wait, G: Gate, A: Allocator + Clone> InCall<'c, '_, '_, '_, R, G, A>
         requires sound { IsSoundGoal (GoalOf.Place place target) }
         requires covers { Covers self.old.held (target_range place target) }
         ensures goes { GoesOn self.old.seat self.new.seat }
+        ensures answers { IfSome result (EndsIn (AnswersPlace place)) }
         ensures last { target ≡ Window → IsSome result }
     {
         let Some(decision) = self.decide_place(place, target) else {
@@ -164,6 +171,7 @@ impl<'c, R: Wait, G: Gate, A: Allocator + Clone> InCall<'c, '_, '_, '_, R, G, A>
         requires sound { IsSoundGoal (GoalOf.Place place target) }
         ensures sound { IfSome result (IsSoundAct (GoalOf.Place place target)) }
         ensures inside { IfSome result (IsInside (target_range place target)) }
+        ensures places { IfSome result (PlacesAt place) }
         ensures last { IfSome result (λ decision. target ≡ Window → decision ≢ Again) }
     {
         let space = self.space;
@@ -182,7 +190,8 @@ impl<'c, R: Wait, G: Gate, A: Allocator + Clone> InCall<'c, '_, '_, '_, R, G, A>
     fn put(&mut self, range: PageRange, meta: Meta) -> Ending
         requires sound { IsSoundPut range meta }
         requires covers { Covers self.old.held range }
-        ensures { GoesOn self.old.seat self.new.seat }
+        ensures goes { GoesOn self.old.seat self.new.seat }
+        ensures answers { EndsIn (λ reply. reply ≡ Mapped (range.first * 4096)) result }
     {
         if !self.cut_all(range) {
             return Ending::GiveUp;
@@ -235,6 +244,7 @@ fn decide_place_over<M: SlotMap, A: Allocator>(
     requires { IsSoundGoal (GoalOf.Place place target) }
     ensures sound { IsSoundAct (GoalOf.Place place target) result }
     ensures inside { IsInside (target_range place target) result }
+    ensures places { PlacesAt place result }
     ensures last { target ≡ Window → result ≢ Again }
 {
     decide(map, objects, Goal::Place { place, target })

@@ -4,6 +4,7 @@ ghost use Rattle.live_space.specs.Space.{LiveView};
 
 use backing::{CachedFrame, Objects};
 use crossbeam_utils::CachePadded;
+use live_pages::free_frames::FreeFrames;
 use live_pages::pieces::{CoreState, FrameState, Pieces};
 use live_tree::tree::SharedTree;
 use refcache::Epochs;
@@ -12,7 +13,7 @@ use std::marker::Model;
 use std::sync::Mutex;
 
 /// One address space that threads share: the tree of slots, and what lies under the locks of file
-/// pages, cores, frames and the epoch. The bytes of its files never change. A clause sees the tree's
+/// pages, cores, the free frames, frames and the epoch. The bytes of its files never change. A clause sees the tree's
 /// word, from which tickets are drawn and which names the space, how many cores and frames there are,
 /// the files, and how many calls each seat may begin.
 #[derive(Drop)]
@@ -21,6 +22,7 @@ pub struct Live<A: Allocator + Clone> {
     pub(crate) objects: Objects<A>,
     pub(crate) pages: Vec<Vec<Mutex<CachedFrame>, A>, A>,
     pub(crate) cores: Vec<CachePadded<Mutex<CoreState<A>>>, A>,
+    pub(crate) free: CachePadded<Mutex<FreeFrames<A>>>,
     pub(crate) frames: Vec<Mutex<FrameState<A>>, A>,
     pub(crate) epochs: CachePadded<Mutex<Epochs>>,
     pub(crate) share: u64,
@@ -64,6 +66,7 @@ impl<A: Allocator + Clone> Live<A> {
             objects: &self.objects,
             pages: self.pages.as_slice(),
             cores: self.cores.as_slice(),
+            free: &self.free,
             frames: self.frames.as_slice(),
             epochs: &self.epochs,
         }

@@ -20,11 +20,11 @@ pub side_end : (first a b : ℕ) (ss : List SlotView) → SideBySide first a ss 
 side_end first a b [] h k = sym h ∙ k
 side_end first a b (s ∷ ss) h k = side_end (first + s.count) a b ss h.1 k.1
 
-cond_true : {X : Type 0} (b : Bool) (x y : X) → b ≡ true → cond b x y ≡ x
+pub cond_true : {X : Type 0} (b : Bool) (x y : X) → b ≡ true → cond b x y ≡ x
 cond_true true x y e = refl
 cond_true false x y e = cc
 
-cond_false : {X : Type 0} (b : Bool) (x y : X) → b ≡ false → cond b x y ≡ y
+pub cond_false : {X : Type 0} (b : Bool) (x y : X) → b ≡ false → cond b x y ≡ y
 cond_false true x y e = cc
 cond_false false x y e = refl
 

@@ -5,6 +5,7 @@ pub mod Committed
 pub mod Cuts
 pub mod Gathered
 pub mod Lending
+pub mod Losses
 pub mod Pages
 pub mod Pushed
 pub mod Refilled

@@ -1,5 +1,6 @@
 -- Slots that are let go one after another
-use Rattle.std.specs.Prelude.{List, [], ◌∷◌, Option, Some, None}
+use Rattle.std.specs.Prelude.{◌≡◌, ℕ, zero, suc, List, [], ◌∷◌, Option, Some, None}
+use Rattle.live_levels.specs.Nexts.{Noted}
 use Rattle.live_levels.specs.Slots.{SlotView}
 
 -- the locked slots of which nothing is noted yet, and the locked slot that was noted
@@ -14,3 +15,8 @@ letting_view slots noted = record { slots = slots; noted = noted }
 abbrev pub freed_first : List SlotView → Option SlotView
 freed_first [] = None
 freed_first (s ∷ ss) = Some (record s { owner = None })
+
+-- so many steps were noted, one after another
+abbrev pub StepsOften : {S : Type 0} → (S → ℕ → S → Type 0) → ℕ → S → S → Type 0
+StepsOften stepped zero before now = now ≡ before
+StepsOften {S} stepped (suc n) before now = (between : S) × StepsOften stepped n before between × Noted stepped between now

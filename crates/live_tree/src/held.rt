@@ -14,6 +14,7 @@ ghost use Rattle.live_tree.specs.Steps.{Acquires};
 
 pub mod cut;
 pub mod lend;
+pub mod losses;
 pub mod page;
 pub mod reserve;
 
@@ -51,8 +52,8 @@ pub enum Got {
 }
 
 /// The locked slots of a call, from left to right and side by side. A clause sees their pages and
-/// the slots.
-#[derive(Drop)]
+/// the slots. It may not be dropped: it ends by `finish`, which asks that no slot is held, or by
+/// `letting`, which lets the slots go.
 pub struct Held<'a, A: Allocator> {
     first: u64,
     end: u64,
@@ -163,11 +164,26 @@ impl<'a, A: Allocator + Clone> Held<'a, A> {
         Got::Locked
     }
 
+    /// Ends, where no slot is held.
+    pub fn finish(self)
+        requires none { self.slots ≡ [] }
+    {
+        let Held {
+            first: _,
+            end: _,
+            guards: _none,
+        } = self;
+    }
+
     /// All held slots are to be let go.
     pub fn letting(self) -> Letting<'a, A>
         ensures { result ≡ letting_view self.entry.slots None }
     {
-        let Held { guards, .. } = self;
+        let Held {
+            first: _,
+            end: _,
+            guards,
+        } = self;
         Letting::of(guards)
     }
 

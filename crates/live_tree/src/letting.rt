@@ -1,7 +1,7 @@
 //! Held slots that are let go, from left to right.
-ghost use Rattle.std.specs.Prelude.{◌≡◌, ◌<◌, length, map, drop, All, IsSome, None};
+ghost use Rattle.std.specs.Prelude.{◌≡◌, ◌<◌, [], length, map, drop, All, IsSome, None};
 ghost use Rattle.live_tree.specs.Guards.{slot_of};
-ghost use Rattle.live_tree.specs.Letting.{letting_view, freed_first};
+ghost use Rattle.live_tree.specs.Letting.{StepsOften, letting_view, freed_first};
 
 use crate::held::Guards;
 use live_levels::level::Stepper;
@@ -11,8 +11,8 @@ use std::marker::Model;
 use std::sync::MutexGuard;
 
 /// Held slots that are let go one after another, from left to right. A clause sees those that are
-/// still locked: the slots of which nothing is noted yet, and the slot that was noted last.
-#[derive(Drop)]
+/// still locked: the slots of which nothing is noted yet, and the slot that was noted last. It may
+/// not be dropped: it ends by `finish`, which asks that each slot was noted.
 pub struct Letting<'a, A: Allocator> {
     // from right to left, so that the next one is the last
     guards: Guards<'a, A>,
@@ -70,24 +70,30 @@ impl<'a, A: Allocator> Letting<'a, A> {
         }
     }
 
-    /// Unlocks the slot that was noted. It takes no memory.
-    pub fn unlock_noted(&mut self)
-        ensures { self.new ≡ letting_view self.old.slots None }
+    /// Ends, where of each slot it is noted that it is let go: the last one is unlocked. It takes no
+    /// memory.
+    pub fn finish(self)
+        requires none { self.slots ≡ [] }
     {
-        self.noted = None;
+        let Letting {
+            guards: _none,
+            noted: _last,
+        } = self;
     }
 
-    /// Lets the leftmost slot go, and answers the ticket of the step, which is noted while the slot
-    /// is still locked. No core is to lock the slot first any more. It takes no memory.
-    pub fn unlock_first<S: Stepper>(&mut self, stepper: &mut S) -> u64
-        requires some { 0 < length self.old.slots }
-        requires step { S.can_step stepper.old }
-        ensures first { self.new ≡ letting_view (drop 1 self.old.slots) None }
-        ensures noted { S.stepped stepper.old result stepper.new }
+    /// Lets all slots go, from left to right, each in a step of its own that is noted while the slot
+    /// is still locked, for who can always step. Tells how many there were. It takes no memory.
+    pub fn unlock_all<S: Stepper>(mut self, stepper: &mut S) -> usize
+        requires always { (s : S) → S.can_step s }
+        ensures count { result ≡ length self.entry.slots }
+        ensures noted { StepsOften S.stepped result stepper.old stepper.new }
     {
-        let ticket = self.note_first(stepper);
-        self.unlock_noted();
-        ticket
+        let count = self.len();
+        'slots: while self.len() > 0 {
+            let _ticket = self.note_first(stepper);
+        }
+        self.finish();
+        count
     }
 }
 

@@ -150,10 +150,11 @@ impl<A: Allocator> NoteList<A> {
         len <= LIMIT && count <= LIMIT - len
     }
 
-    /// Makes room for so many more notes, and tells whether it could: not where they would pass the limit, or there is no
-    /// memory.
+    /// Makes room for so many more notes, and tells whether it could: not where room is missing and they would pass the limit,
+    /// or there is no memory.
     pub fn reserve(&mut self, count: usize) -> bool
         ensures room { IsTrue result → count ≤ self.new.room }
+        ensures missing { ¬ IsTrue result → self.old.room < count }
         ensures same { self.new.notes ≡ self.old.notes }
         ensures kept { self.old.room ≤ self.new.room }
         ensures small { self.new.room + length self.new.notes ≤ 2 ^ 32 }

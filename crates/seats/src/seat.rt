@@ -144,10 +144,11 @@ impl<A: Allocator> Seat<A> {
         self.notes.is_within_limit(count)
     }
 
-    /// Makes room for so many more notes, and tells whether it could: not where they would pass the
-    /// limit, or there is no memory.
+    /// Makes room for so many more notes, and tells whether it could: not where room is missing and
+    /// they would pass the limit, or there is no memory.
     pub fn reserve(&mut self, count: usize) -> bool
         ensures room { IsTrue result → count ≤ self.new.room }
+        ensures missing { ¬ IsTrue result → self.old.room < count }
         ensures same { self.new ≡ record self.old { room = self.new.room } }
         ensures kept { self.old.room ≤ self.new.room }
         ensures small { self.new.room ≤ 2 ^ 32 }

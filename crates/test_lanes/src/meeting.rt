@@ -1,13 +1,14 @@
 //! The first core's call is held at a point of its way, while the other core makes its own. A row is `POINT | BEFORE | HELD | OTHERS`: the
 //! point, at which `long` says that the call is held until all others are done; a script that both run before; the call that is held; and
-//! what the other core does meanwhile. All notes are certified, whatever the calls are, and wherever one is held.
+//! what the other core does meanwhile. All notes are certified, whatever the calls are, and wherever one is held. Behind ` => ` a row may
+//! tell the replies of the first core's calls, those of the other's, and what certifying comes to.
 ghost use Rattle.std.specs.Prelude.{All};
 ghost use Rattle.live_space.specs.Space.{IsOf};
 
 use crate::ending::{certified, made};
 use crate::gates::{Meet, Signs};
 use crate::lane::{Lane, lanes_of, seats_of};
-use crate::rows::{push_line, push_lines};
+use crate::rows::{push_answers, push_certified, push_line, push_lines};
 use live_space::gate::Point;
 use live_space::space::Live;
 use seats::Seat;
@@ -25,6 +26,8 @@ struct Meeting<'a> {
     before: &'a str,
     held: &'a str,
     others: &'a str,
+    /// What is told of it; empty where the row doesn't say.
+    told: &'a str,
 }
 
 fn point_of(name: &str) -> Point {
@@ -47,13 +50,18 @@ fn point_of(name: &str) -> Point {
 fn meeting_of(row: &str) -> Option<Meeting<'_>> {
     let (point, rest) = row.split_once(" | ")?;
     let (before, rest) = rest.split_once(" | ")?;
-    let (held, others) = rest.split_once(" | ")?;
+    let (held, rest) = rest.split_once(" | ")?;
+    let (others, told) = match rest.split_once(" => ") {
+        Some(parts) => parts,
+        None => (rest, ""),
+    };
     Some(Meeting {
         point: point_of(point),
         is_long: point.ends_with("long"),
         before,
         held,
         others,
+        told,
     })
 }
 
@@ -129,7 +137,7 @@ fn met_in<R: Threads + Wait + Clock + Sync>(
     Ok((have_met, seats))
 }
 
-/// Whether both cores met so, on a new space, and the notes are certified.
+/// Whether both cores met so, on a new space, the notes are certified, and what the row tells is so.
 fn is_certified<R: Threads + Wait + Clock + Sync>(
     rt: &R,
     alloc: Global,
@@ -139,8 +147,12 @@ fn is_certified<R: Threads + Wait + Clock + Sync>(
         return Err(NoMemory);
     };
     let (have_met, seats) = met_in(rt, alloc, &live, seats, meeting)?;
-    let told = certified(alloc, meeting.before, live, &seats);
-    Ok(have_met && told.is_ok())
+    let mut told = String::new(alloc);
+    push_answers(alloc, &seats, &mut told)?;
+    let verdict = certified(alloc, meeting.before, live, &seats);
+    push_certified(alloc, verdict, &mut told)?;
+    let is_told = meeting.told.is_empty() || told.as_str() == meeting.told;
+    Ok(have_met && verdict.is_ok() && is_told)
 }
 
 fn is_met<R: Threads + Wait + Clock + Sync>(

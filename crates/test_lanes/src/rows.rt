@@ -77,8 +77,31 @@ fn push_lines_alone<R: Wait>(
     Ok(())
 }
 
+// Appends the reply of a note, if it answers a call.
+fn push_answer(alloc: Global, outcome: Outcome, out: &mut String<Global>) -> Result<(), NoMemory> {
+    match outcome {
+        Outcome::Answered(_) => push_told(alloc, Ok(outcome), out),
+        _ => Ok(()),
+    }
+}
+
+/// Appends the replies that these seats noted, one seat after another.
+pub fn push_answers<A: Allocator>(
+    alloc: Global,
+    seats: &[Seat<A>],
+    out: &mut String<Global>,
+) -> Result<(), NoMemory> {
+    for seat in seats {
+        let notes = seat.noted();
+        for at in 0..notes.len() {
+            push_answer(alloc, notes.get(at).outcome, out)?;
+        }
+    }
+    Ok(())
+}
+
 /// Appends what certifying comes to.
-fn push_certified(
+pub fn push_certified(
     alloc: Global,
     told: Result<Certified, CertifyFault>,
     out: &mut String<Global>,

@@ -33,6 +33,23 @@ fn a_call_is_held_beside_another(rt: HostRuntime) -> Result<(), Fail> {
     Ok(())
 }
 
+/// A page is unmapped while another core uses it, or another page. The other core reads the byte as long as it hasn't been told to drop its
+/// translation, and finds nothing afterwards, also where it waits for the page's slot.
+const TOLD: &str = "\
+begun, long | vm 2 4; c0! mmap 0x10000 4096 rw- pfa; c0! store 0x10000 65; c1! load 0x10000 | c0! munmap 0x10000 4096 | c1! load 0x10000 => 0x10000; done; done; 65; 65; certified 5
+locked, long | vm 2 4; c0! mmap 0x10000 4096 rw- pfa; c0! store 0x10000 65; c1! load 0x10000 | c0! munmap 0x10000 4096 | c1! load 0x10000 => 0x10000; done; done; 65; 65; certified 5
+commit | vm 2 4; c0! mmap 0x10000 4096 rw- pfa; c0! store 0x10000 65; c1! load 0x10000 | c0! munmap 0x10000 4096 | c1! load 0x10000 => 0x10000; done; done; 65; segv maperr; certified 5
+answer, long | vm 2 4; c0! mmap 0x10000 4096 rw- pfa; c0! store 0x10000 65; c1! load 0x10000 | c0! munmap 0x10000 4096 | c1! load 0x10000 => 0x10000; done; done; 65; segv maperr; certified 5
+commit, long | vm 2 4; c0! mmap 0x10000 4096 rw- pfa; c0! store 0x10000 1 | c0! munmap 0x10000 4096 | c1! mmap 0 4096 rw- pa; c1! store 0x10000000000 2 => 0x10000; done; done; 0x10000000000; done; certified 5
+";
+
+#[test]
+fn a_page_is_used_while_it_is_unmapped(rt: HostRuntime) -> Result<(), Fail> {
+    let met = met(&rt, rt.alloc(), TOLD)?;
+    assert_eq!(rt; met.as_str(), "5 met");
+    Ok(())
+}
+
 /// Scripts after which the first core has no translation of the page 0x10000: it is anonymous and has
 /// no frame yet, or one that the second core uses; it is a shared page of a file, or a private one that
 /// shows its file's, used by the second core each.

@@ -93,26 +93,26 @@ fn act_of(does: Does) -> Act {
     }
 }
 
-/// Locks the page's slot, dividing larger ones under the dealer's next tickets.
+/// Locks the page's slot, dividing larger ones under the dealer's next tickets; tells whether it did.
 fn lock_page<'a, A: Allocator + Clone, R: Wait>(
     rt: &R,
     tree: &'a SharedTree<A>,
     dealer: &mut Dealer,
+    held: &mut Held<'a, A>,
     page: u64,
-) -> Option<Held<'a, A>>
+) -> bool
     requires { page < 2 ^ 36 }
 {
-    let mut held = Held::new(tree.alloc(), page);
     'steps: for _ in 0..5u32 {
         if held.end() > page {
-            return Some(held);
+            return true;
         }
         match held.lock_next(rt, tree, dealer, CoreId::new(0), page + 1, 1) {
             Got::Locked | Got::Split => {}
-            Got::Owned(_) | Got::Unseen | Got::NoMemory | Got::Lost => return None,
+            Got::Owned(_) | Got::Unseen | Got::NoMemory | Got::Lost => return false,
         }
     }
-    None
+    false
 }
 
 /// Makes the change in the held slots, if they can take it; tells whether they could.
@@ -134,18 +134,11 @@ fn make<A: Allocator + Clone, R: Wait>(
     if change.page >= 1 << 36 {
         return None;
     }
-    let mut held = lock_page(rt, tree, dealer, change.page)?;
-    if !change_held(&mut held, change.ticket, &act_of(change.does)) {
-        return None;
-    }
-    let mut letting = held.letting();
-    let count = letting.len();
-    for _slot in 0..count {
-        if letting.len() > 0 {
-            letting.unlock_first(dealer);
-        }
-    }
-    Some(())
+    let mut held = Held::new(tree.alloc(), change.page);
+    let is_made = lock_page(rt, tree, dealer, &mut held, change.page)
+        && change_held(&mut held, change.ticket, &act_of(change.does));
+    held.letting().unlock_all(dealer);
+    if is_made { Some(()) } else { None }
 }
 
 /// The histories of a tree in which these changes were made, where slots are divided from ticket 2 on.

@@ -79,14 +79,7 @@ pub(crate) fn lock_all<'a, R: Wait>(
 
 // Lets all held slots go, and tells how many there were.
 pub(crate) fn let_all_go(counter: &mut Counter, held: Held<'_, Global>) -> usize {
-    let mut letting = held.letting();
-    let count = letting.len();
-    'slots: for _ in 0..count {
-        if letting.len() > 0 {
-            letting.unlock_first(counter);
-        }
-    }
-    count
+    held.letting().unlock_all(counter)
 }
 
 // Does the same to each held slot, where it can; whether it did.
@@ -121,9 +114,9 @@ fn counted<R: Wait>(rt: &R, tree: &SharedTree<Global>, first: u64, end: u64) -> 
     let mut counter = Counter::new();
     let mut held = Held::new(tree.alloc(), first);
     let core = CoreId::new(0);
-    let splits = lock_all(rt, tree, &mut counter, core, &mut held, end, 2000)?;
+    let splits = lock_all(rt, tree, &mut counter, core, &mut held, end, 2000);
     let locks = let_all_go(&mut counter, held) as u64;
-    Some([splits, locks, counter.steps])
+    Some([splits?, locks, counter.steps])
 }
 
 // How often the core cuts held slots until none crosses an edge of the range, in at most ten steps.
@@ -145,7 +138,22 @@ fn cuts<'a, R: Wait>(
     None
 }
 
-// The core holds the second slot of the first level and cuts it round one page of it: how often, and how many slots it holds then.
+// The core holds the second slot of the first level and cuts it round the range: how often.
+fn cut_held<'a, R: Wait>(
+    rt: &R,
+    tree: &'a SharedTree<Global>,
+    core: CoreId,
+    held: &mut Held<'a, Global>,
+    range: PageRange,
+) -> Option<u32> {
+    let mut counter = Counter::new();
+    lock_all(rt, tree, &mut counter, core, held, 1 << 28, 2)?;
+    let cuts = cuts(rt, tree, core, held, range)?;
+    held.reserve(range).ok()?;
+    Some(cuts)
+}
+
+// How often that slot is cut round one page of it, and how many slots the core holds then.
 fn cut_round<R: Wait>(
     rt: &R,
     tree: &SharedTree<Global>,
@@ -154,16 +162,14 @@ fn cut_round<R: Wait>(
 ) -> Option<[u64; 3]> {
     let mut counter = Counter::new();
     let mut held = Held::new(tree.alloc(), 1 << 27);
-    lock_all(rt, tree, &mut counter, core, &mut held, 1 << 28, 2)?;
     let first = (1 << 27) + page % (1 << 27);
     let range = PageRange {
         first,
         end: first + 1,
     };
-    let cuts = cuts(rt, tree, core, &mut held, range)?;
-    held.reserve(range).ok()?;
+    let cuts = cut_held(rt, tree, core, &mut held, range);
     let count = let_all_go(&mut counter, held) as u64;
-    Some([u64::from(cuts), count, 0])
+    Some([u64::from(cuts?), count, 0])
 }
 
 // A core cuts a slot, and lets go of it; tells whether it did.
@@ -364,12 +370,12 @@ fn change_often<R: Wait>(rt: &R, tree: &SharedTree<Global>, core: CoreId) -> boo
     let mut counter = Counter { steps: 0 };
     'rounds: for _ in 0..ROUNDS {
         let mut held = Held::new(tree.alloc(), 16);
-        if held.lock_next(rt, tree, &mut counter, core, 17, 1) != Got::Locked {
+        let got = held.lock_next(rt, tree, &mut counter, core, 17, 1);
+        let is_changed = change_held(&mut held, &Act::Clear);
+        let_all_go(&mut counter, held);
+        if got != Got::Locked || !is_changed {
             return false;
         }
-        let ticket = counter.step();
-        held.change_each(ticket, Act::Clear);
-        let_all_go(&mut counter, held);
     }
     true
 }

@@ -8,4 +8,4 @@ give_shown-requires g c =
     let way = can_make_way_at c.args.shown (pos 1) (mutex_guard_value c.lock-core.result) c.deref-2.result.now c.deref-3.result.now
     c.deref_mut.result.now c.in-Some-lock_these.frames c.in_the_way-evicted.result c.deref-2.ensures c.deref-3.ensures c.deref_mut.ensures.value
     c.in_the_way-evicted.ensures.some c.in_the_way-evicted.ensures.none (c.can_evict.ensures.can c.if-not-can_evict.false) in
-    (omega arith, (omega arith, (search rules, (search rules, (way, c.in-Some-lock_these.ensures.each 0 None (omega arith))))))
+    (omega arith, (omega arith, (search rules, (search rules, (way, (c.in-Some-lock_these.ensures.each 0 None (omega arith), search rules))))))

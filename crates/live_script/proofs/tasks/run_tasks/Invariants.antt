@@ -7,5 +7,5 @@ use Rattle.live_script.proofs.tasks.run_tasks.Given as goal
 abbrev pub invariant-tasks : goal.invariant-tasks
 invariant-tasks g l = record {
   own : IsOf l.live l.seat;
-  does : DoesAll l.live.share l.initial.seat (take l.at l.fn.tasks) l.seat;
+  does : DoesAll l.live l.initial.seat (take l.at l.fn.tasks) l.seat;
 }

@@ -1,4 +1,5 @@
 use Rattle.vm_calls.proofs.Readable.{readable}
+use Rattle.live_space.proofs.Replies.{places_at}
 use Rattle.live_space.proofs.Places.{last_settles, placed_inside}
 use Rattle.live_space.proofs.placing.decide_place_over.Goals as goal
 
@@ -8,6 +9,9 @@ decide-requires-clause-readable g c =
 
 pub returns-clause-inside : goal.returns-clause-inside
 returns-clause-inside g c = placed_inside _ c.args.place c.args.target _ c.decide.ensures.decision
+
+pub returns-clause-places : goal.returns-clause-places
+returns-clause-places g c = places_at _ c.args.place c.args.target _ c.requires.target c.decide.ensures.decision
 
 pub returns-clause-last : goal.returns-clause-last
 returns-clause-last g c = last_settles _ c.args.place c.args.target _ c.decide.ensures.decision

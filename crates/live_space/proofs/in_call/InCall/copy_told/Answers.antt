@@ -9,12 +9,12 @@ invariant_of-self g c =
     let taken = c.take_all.ensures.room in
     record { room = left_after 0 _ _ _ _ (omega (arith, room, taken)) (one_if _ _ _ _ _ _ c.copy_page.ensures.done c.copy_page.ensures.not) }
 
-pub returns-then-copy_page : goal.returns-then-copy_page
-returns-then-copy_page g c = goes_before _ _ _ c.install.ensures refl
+pub returns-then-copy_page-clause-goes : goal.returns-then-copy_page-clause-goes
+returns-then-copy_page-clause-goes g c = goes_before _ _ _ c.install.ensures.goes refl
     (grew_trans _ _ _ c.take_all.ensures.grew (one_if _ _ _ _ _ _ c.copy_page.ensures.done c.copy_page.ensures.not).grew)
 
-pub returns-else-copy_page : goal.returns-else-copy_page
-returns-else-copy_page g c = record {
+pub returns-else-copy_page-clause-goes : goal.returns-else-copy_page-clause-goes
+returns-else-copy_page-clause-goes g c = record {
   same_reference = refl;
   grew = grew_trans _ _ _ c.take_all.ensures.grew (one_if _ _ _ _ _ _ c.copy_page.ensures.done c.copy_page.ensures.not).grew;
 }

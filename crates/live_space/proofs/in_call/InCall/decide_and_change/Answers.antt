@@ -17,8 +17,8 @@ returns-then-make-clause-made g c =
     let decides : DecidesHeld (files_of c.args.self.now.space.now.files) (shown c.has_room.new.self.held.slots) c.args.change (Act c.in-Act.losses)
     = search rules in
     inr (
-      c.in-Act.losses.shoot,
-      subst (λ (h : HeldView). DecidesChange files (shown h.slots) c.args.change (DecisionOf.Act (range_of c.args.change) c.in-Act.losses.shoot)) same decides.0,
+      c.in-Act.losses.cores,
+      subst (λ (h : HeldView). DecidesChange files (shown h.slots) c.args.change (DecisionOf.Act (range_of c.args.change) c.in-Act.losses.cores)) same decides.0,
       c.reply_to.ensures,
       subst (λ (h : HeldView). MadeIn c.args.change h c.make.new.self.seat.now c.make.new.self.held) same (c.if-make.ensures.made (search rules)),
     )

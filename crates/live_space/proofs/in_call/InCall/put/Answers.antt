@@ -25,6 +25,6 @@ commit_slots-requires g c = (
   ),
 )
 
-pub returns : goal.returns
-returns g c = goes_then _ _ _ (goes_trans _ _ _ c.cut_all.ensures.goes
+pub returns-clause-goes : goal.returns-clause-goes
+returns-clause-goes g c = goes_then _ _ _ (goes_trans _ _ _ c.cut_all.ensures.goes
     (goes_before _ _ _ c.commit_slots.ensures.goes refl (grew_steps _ _ _ c.step-fits.ensures))) refl (grew_set_page _ _ _ c.set_next_page.ensures)

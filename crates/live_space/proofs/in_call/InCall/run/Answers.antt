@@ -1,5 +1,11 @@
+use Rattle.std.proofs.Common.{sym, subst}
+use Rattle.slot_lock.specs.declared.plan.Plan.{Plan}
+use Rattle.live_space.specs.Planned.{AnswersPlan, RanIn}
 use Rattle.live_space.proofs.Ended.{runs_after}
 use Rattle.live_space.proofs.in_call.InCall.run.Goals as goal
 
-pub returns-in-Touch : goal.returns-in-Touch
-returns-in-Touch g c = runs_after _ _ _ _ c.step.ensures.goes c.touch.ensures
+pub returns-in-Touch-clause-runs : goal.returns-in-Touch-clause-runs
+returns-in-Touch-clause-runs g c = runs_after _ _ _ _ c.step.ensures.goes c.touch.ensures.runs
+
+pub returns-in-Touch-clause-answers : goal.returns-in-Touch-clause-answers
+returns-in-Touch-clause-answers g c = subst (λ (p : Plan). RanIn (AnswersPlan p) c.touch.result) (sym c.in-Touch.is) c.touch.ensures.answers

@@ -1,14 +1,27 @@
-use Rattle.std.proofs.Common.{rules}
+use Rattle.std.proofs.Common.{◌≡◌, ◌⊎◌, rules, inr, sym, subst}
+use Rattle.vm_base.specs.declared.replies.Reply.{Reply}
+use Rattle.vm_base.specs.declared.replies.Reply.TheVariants.{NoMemory}
 use Rattle.seats.specs.Notes.{SeatView}
 use Rattle.live_pages.specs.Ending.{Ends}
 use Rattle.live_pages.proofs.Ending.{ends_after}
-use Rattle.live_space.proofs.Ended.{at_last, runs_answered, runs_open}
+use Rattle.live_space.specs.Planned.{AnswersPlan}
+use Rattle.live_space.proofs.Ended.{answered_in, at_last, holds_none, open_in, reply_ends, runs_answered, runs_open}
 use Rattle.live_space.proofs.space.Live.go_on.Goals as goal
 
 pub returns-in-Answered : goal.returns-in-Answered
-returns-in-Answered g c = at_last (λ (v : SeatView). Ends c.args.seat.now c.in-Answered.reply v) _ _
-    (runs_answered _ _ _ _ c.run-ran.ensures c.in-Answered.is) (search rules)
+returns-in-Answered g c = record {
+  ended = at_last (λ (v : SeatView). Ends c.args.seat.now c.in-Answered.reply v) _ _
+      (runs_answered _ _ _ _ c.run-ran.ensures.runs c.in-Answered.is) (search rules);
+  answers = inr (answered_in (AnswersPlan c.args.plan) _ _ c.run-ran.ensures.answers c.in-Answered.is);
+}
 
 pub returns-in-Open : goal.returns-in-Open
-returns-in-Open g c = at_last (λ (v : SeatView). Ends c.args.seat.now c.end.result v) c.end.new.seat _
-    (ends_after _ _ _ _ (runs_open _ _ _ _ c.run-ran.ensures c.in-Open.is) c.end.ensures.ended) (search rules)
+returns-in-Open g c = record {
+  ended = at_last (λ (v : SeatView). Ends c.args.seat.now c.end.result v) c.end.new.seat _
+      (ends_after _ _ _ _ (runs_open _ _ _ _ c.run-ran.ensures.runs c.in-Open.is) c.end.ensures.ended) (search rules);
+  answers = subst (λ (r : Reply). (r ≡ NoMemory) ⊎ AnswersPlan c.args.plan r) (sym c.end.ensures.reply)
+      (reply_ends (AnswersPlan c.args.plan) _ (open_in (AnswersPlan c.args.plan) _ _ c.run-ran.ensures.answers c.in-Open.is));
+}
+
+pub finish-requires : goal.finish-requires
+finish-requires g c = (search rules, holds_none _ _ _ c.run-ran.ensures.none c.in-Answered.is)
