@@ -5,7 +5,7 @@
 #   hit      a load of a page that the TLB has
 #   fault    the first load of each of 65,000 pages
 #   change   a page mapped, and unmapped, in turn
-# Then hits of a machine that threads share, by one thread and by four together, beside a pthread mutex around a machine that is kept; of what
+# Then hits of a machine that threads share, by one thread and by four together, beside a pthread mutex around a machine that is kept, and in lists of 64; of what
 # one thread does, the medians of five runs again.
 # Usage: bench/library.sh; RADIXVM_LIBRARY names the folder of a libradixvm.a that was built already.
 set -eu

@@ -1,5 +1,5 @@
 //! Times hits of a machine that threads share, through libradixvm.a: by one thread, beside a machine that is held; and by four
-//! together, beside a pthread mutex around a machine that is held. Each thread loads from a page of its own. bench/library.sh builds
+//! together, beside a pthread mutex around a machine that is held; and in lists. Each thread loads from a page of its own. bench/library.sh builds
 //! and runs it.
 use std::hint::spin_loop;
 use std::ptr::null_mut;
@@ -56,6 +56,7 @@ extern "C" {
     fn radixvm_share_held(machine: *mut Place, seat: *mut Place) -> u32;
     fn radixvm_split_seat(first: *mut Place, other: *mut Place) -> u32;
     fn radixvm_try_seat(seat: *mut Place, event: *const Event, told: *mut Told) -> u32;
+    fn radixvm_calls_seat(seat: *mut Place, events: *const Event, event_count: usize, told: *mut Told, room: usize) -> Done;
     fn radixvm_free_seat(seat: *mut Place);
     fn pthread_mutex_lock(mutex: *mut Door) -> i32;
     fn pthread_mutex_unlock(mutex: *mut Door) -> i32;
@@ -82,6 +83,7 @@ unsafe impl<T> Sync for Handed<T> {}
 
 const CALLS: u64 = 1_000_000;
 const THREADS: u64 = 4;
+const LIST: u64 = 64;
 const BASE: u64 = 0x1000_0000;
 
 fn page_of(core: u64) -> u64 {
@@ -111,11 +113,10 @@ fn call_held(held: *mut Place, event: &Event) -> Told {
     told
 }
 
-/// As radixvm_seat_call.
-fn call_seat(seat: *mut Place, event: &Event) -> Told {
-    let (mut told, mut tries) = (Told::default(), 0);
-    // SAFETY: the place is this thread's alone.
-    while let status @ 1.. = unsafe { radixvm_try_seat(seat, event, &mut told) } {
+/// Tries until the machine is free, as radixvm_seat_call does.
+fn until_free(mut turn: impl FnMut() -> u32) {
+    let mut tries = 0;
+    while let status @ 1.. = turn() {
         assert!(status == 17);
         tries += 1;
         if tries <= 20 {
@@ -125,7 +126,19 @@ fn call_seat(seat: *mut Place, event: &Event) -> Told {
             unsafe { sched_yield() };
         }
     }
+}
+
+fn call_seat(seat: *mut Place, event: &Event) -> Told {
+    let mut told = Told::default();
+    // SAFETY: the place is this thread's alone.
+    until_free(|| unsafe { radixvm_try_seat(seat, event, &mut told) });
     told
+}
+
+/// As radixvm_seat_calls.
+fn call_list(seat: *mut Place, events: &[Event], told: &mut [Told]) {
+    // SAFETY: the place is this thread's alone, and each pointer is a slice's with its length.
+    until_free(|| unsafe { radixvm_calls_seat(seat, events.as_ptr(), events.len(), told.as_mut_ptr(), told.len()) }.status);
 }
 
 /// Nanoseconds a call, by so many threads of CALLS calls each, of which each makes its own by `call`.
@@ -155,8 +168,8 @@ fn held() -> f64 {
     each
 }
 
-/// On a machine that threads share.
-fn shared(threads: u64) -> f64 {
+/// The seats of a new machine, a core each.
+fn new_seats() -> Vec<Place> {
     let mut machine = new_machine();
     let mut seats: Vec<_> = (0..THREADS).map(|_| Place { at: null_mut() }).collect();
     // SAFETY: the places are the library's own, and empty.
@@ -167,11 +180,52 @@ fn shared(threads: u64) -> f64 {
             assert!(radixvm_split_seat(&mut first[0], &mut others[number - 1]) == 0);
         }
     }
+    seats
+}
+
+fn free_all(mut seats: Vec<Place>) {
+    // SAFETY: the places are the library's own.
+    seats.iter_mut().for_each(|seat| unsafe { radixvm_free_seat(seat) });
+}
+
+/// On a machine that threads share.
+fn shared(threads: u64) -> f64 {
+    let mut seats = new_seats();
     let at = Handed(seats.as_mut_ptr());
     // SAFETY: each core's seat is its thread's alone.
     let each = time(threads, move |core, event| call_seat(unsafe { at.at().add(core as usize) }, event));
-    // SAFETY: as above.
-    seats.iter_mut().for_each(|seat| unsafe { radixvm_free_seat(seat) });
+    free_all(seats);
+    each
+}
+
+/// The same in lists of LIST calls.
+fn in_lists(threads: u64) -> f64 {
+    let mut seats = new_seats();
+    let at = Handed(seats.as_mut_ptr());
+    for core in 0..threads {
+        // SAFETY: as above.
+        let seat = unsafe { at.at().add(core as usize) };
+        call_seat(seat, &map(core));
+        call_seat(seat, &load(core, 0));
+    }
+    let start = Instant::now();
+    thread::scope(|scope| {
+        for core in 0..threads {
+            let at = &at;
+            scope.spawn(move || {
+                // SAFETY: as above.
+                let seat = unsafe { at.at().add(core as usize) };
+                let events: Vec<_> = (0..LIST).map(|number| load(core, number)).collect();
+                let mut told = vec![Told::default(); LIST as usize];
+                (0..CALLS / LIST).for_each(|_| {
+                    call_list(seat, &events, &mut told);
+                    assert!(told[LIST as usize - 1].kind == 8);
+                });
+            });
+        }
+    });
+    let each = start.elapsed().as_secs_f64() * 1e9 / (threads * (CALLS / LIST * LIST)) as f64;
+    free_all(seats);
     each
 }
 
@@ -208,4 +262,6 @@ fn main() {
         1000.0 / four,
         1000.0 / mutex
     );
+    let (alone, four) = (median(|| in_lists(1)), median(|| in_lists(THREADS)));
+    println!("a hit in lists of {LIST}: one thread {alone:.1} ns; four threads {four:.1} ns, {:.1} million a second", 1000.0 / four);
 }

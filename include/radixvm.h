@@ -157,7 +157,8 @@ enum {
     RADIXVM_NO_MACHINE,    /* malloc refused memory to the new machine */
     RADIXVM_BUSY,          /* another seat is in a call */
     RADIXVM_IN_FLIGHT,     /* a core of the machine has a call that isn't at its end */
-    RADIXVM_LOST           /* the machine is gone with a seat that was freed amid its call */
+    RADIXVM_LOST,          /* the machine is gone with a seat that was freed amid its call */
+    RADIXVM_AT_LIMIT       /* radixvm_seat_calls alone: the limit of calls, or of 2^64 - 1 events, is reached */
 };
 
 #ifdef __cplusplus
@@ -321,12 +322,14 @@ static inline radixvm_done radixvm_log(const radixvm_machine *machine, radixvm_l
  * No function waits: where another seat is in a call, RADIXVM_BUSY is told, and nothing was done. A thread that dies inside a
  * call leaves all other seats RADIXVM_BUSY for ever, and nothing wrong; so don't cancel one there (pthread_cancel of the
  * asynchronous kind), and don't call from a signal handler. One call of a seat at a time, and no seat in two places.
- * Each function changes nothing where its status isn't RADIXVM_OK, but for RADIXVM_LOST. */
+ * Each function changes nothing where its status isn't RADIXVM_OK, but for RADIXVM_LOST, and for the first `count` calls of many. */
 
 /* As those below, but that no pointer may be null. */
 uint32_t radixvm_share_held(radixvm_machine *machine, radixvm_seat *seat);
 uint32_t radixvm_split_seat(radixvm_seat *first, radixvm_seat *other);
 uint32_t radixvm_try_seat(radixvm_seat *seat, const radixvm_event *event, radixvm_outcome *outcome);
+radixvm_done radixvm_calls_seat(radixvm_seat *seat, const radixvm_event *events, size_t event_count,
+    radixvm_outcome *outcomes, size_t room);
 uint32_t radixvm_return_seat(radixvm_seat *first, radixvm_seat *other);
 uint32_t radixvm_unshare_seat(radixvm_seat *seat, radixvm_machine *machine);
 void radixvm_free_seat(radixvm_seat *seat);
@@ -340,9 +343,11 @@ static inline uint32_t radixvm_share(radixvm_machine *machine, radixvm_seat *sea
 static inline uint32_t radixvm_seat_split(radixvm_seat *first, radixvm_seat *other) {
     return first && other ? radixvm_split_seat(first, other) : (uint32_t)RADIXVM_NULL;
 }
-/* A whole call of this seat's core, of the first six kinds (RADIXVM_BAD_EVENT: another); `event->core` isn't read. Its outcome
- * is a reply, or RADIXVM_FULL: cores that the call waits for take what they are told by the way, and a call that malloc refuses
- * memory to is answered RADIXVM_NO_MEMORY, so that none is left in flight. RADIXVM_BUSY: another seat is in a call. */
+/* A whole call of this seat's core, of the first six kinds; `event->core` isn't read. Its outcome is a reply, or RADIXVM_FULL:
+ * cores that the call waits for take what they are told by the way, and a call that malloc refuses memory to is answered
+ * RADIXVM_NO_MEMORY, so that none is left in flight. Or what the core does beside calls: RADIXVM_WALK, RADIXVM_EVICT,
+ * RADIXVM_FLUSH, RADIXVM_REVIEW or RADIXVM_FOLD. Its outcome is RADIXVM_STEPPED, RADIXVM_IDLE or RADIXVM_FULL, and the log stays as
+ * it is. RADIXVM_BAD_EVENT: another kind. RADIXVM_BUSY: another seat is in a call. */
 static inline uint32_t radixvm_seat_try(radixvm_seat *seat, const radixvm_event *event, radixvm_outcome *outcome) {
     return seat && event && outcome ? radixvm_try_seat(seat, event, outcome) : (uint32_t)RADIXVM_NULL;
 }
@@ -373,6 +378,34 @@ static inline uint32_t radixvm_seat_call(radixvm_seat *seat, const radixvm_event
     }
     return status;
 }
+/* Whole calls of this seat's core, of the first six kinds, one after another, with no call of another seat between them: it is
+ * told once that the machine is free, which makes short calls cheaper. The first `count` were made, and outcomes[0] to
+ * outcomes[count - 1] are their replies; all others are as they were. RADIXVM_OK: all were made. RADIXVM_BAD_EVENT: events[count] is
+ * no call. RADIXVM_OUT_OF_MEMORY: malloc refused memory to the last that was made, which is answered RADIXVM_NO_MEMORY.
+ * RADIXVM_AT_LIMIT: no more can be made. RADIXVM_BUSY: another seat is in a call, and none was made. Others wait as long as all of
+ * them take. */
+static inline radixvm_done radixvm_seat_try_calls(radixvm_seat *seat, const radixvm_event *events, size_t event_count,
+    radixvm_outcome *outcomes, size_t room) {
+    const radixvm_event no_event = {0, 0, 0, 0, 0, 0, 0, 0, 0};
+    radixvm_outcome no_outcome = {0, 0};
+    if (!seat || (!events && event_count) || (!outcomes && room)) {
+        const radixvm_done null = {RADIXVM_NULL, 0};
+        return null;
+    }
+    return radixvm_calls_seat(seat, events ? events : &no_event, event_count, outcomes ? outcomes : &no_outcome, room);
+}
+/* The same, tried until it isn't RADIXVM_BUSY, as radixvm_seat_call. */
+static inline radixvm_done radixvm_seat_calls(radixvm_seat *seat, const radixvm_event *events, size_t event_count,
+    radixvm_outcome *outcomes, size_t room) {
+    uint32_t tries = 0;
+    radixvm_done done = radixvm_seat_try_calls(seat, events, event_count, outcomes, room);
+    while (done.status == RADIXVM_BUSY) {
+        radixvm_relax(tries);
+        if (tries < 20) tries++;
+        done = radixvm_seat_try_calls(seat, events, event_count, outcomes, room);
+    }
+    return done;
+}
 /* The other seat's core is done; its place is left empty. Both seats are different ones of one machine, which can't be checked
  * for you. What the other seat was told is then among what radixvm_unshare says of the log. */
 static inline uint32_t radixvm_seat_return(radixvm_seat *first, radixvm_seat *other) {
@@ -398,7 +431,8 @@ static inline const char *radixvm_text(uint32_t status) {
         "there is one already, or the machine has another seat", "no such core or page", "the machine keeps no log",
         "not 1 to 64 cores", "more than 65536 frames", "more than 16 files", "a file of more than 1048576 bytes",
         "more calls than may begin", "malloc refused memory to the new machine", "another seat is in a call",
-        "a core has a call that isn't at its end", "the machine is gone with a seat that was freed amid its call"};
+        "a core has a call that isn't at its end", "the machine is gone with a seat that was freed amid its call",
+        "the limit of calls or of events is reached"};
     return status < sizeof texts / sizeof texts[0] ? texts[status] : "unknown status";
 }
 /* What the kind of an outcome says, in words; "unknown outcome" where it is none. */

@@ -126,6 +126,77 @@ static void full(void) {
     if (first.at || other.at) die("a seat is left");
 }
 
+/* Calls of one seat in a list: how far they go, what is told of them, and that the places behind are as they were. */
+static void goes(radixvm_seat *seat, const radixvm_event *events, size_t count, size_t room, uint32_t status, size_t made, const char *what) {
+    radixvm_outcome told[8];
+    memset(told, 255, sizeof told);
+    const radixvm_done done = radixvm_seat_calls(seat, events, count, told, room);
+    is(done.status, status, what);
+    is((uint32_t)done.count, (uint32_t)made, what);
+    for (size_t i = 0; i < 8; i++) if ((told[i].kind == UINT32_MAX) != (i >= made)) die(what);
+}
+
+static void lists(void) {
+    const radixvm_setup setup = {2, 4, 12, 1};
+    radixvm_machine machine = {0};
+    radixvm_seat first = {0}, other = {0};
+    radixvm_event events[8] = {MAP, STORE, LOAD, UNMAP, LOAD, LOAD, LOAD, LOAD}, amid[3] = {LOAD, LOAD, LOAD};
+    radixvm_outcome told[8];
+    is(radixvm_seat_calls(NULL, events, 1, told, 1).status, RADIXVM_NULL, "calls of no place");
+    is(radixvm_seat_calls(&first, events, 1, NULL, 1).status, RADIXVM_NULL, "calls told nobody");
+    goes(&first, events, 1, 1, RADIXVM_EMPTY, 0, "calls as nobody");
+    is(radixvm_new(&setup, NULL, 0, NULL, 0, &machine).status, RADIXVM_OK, "new");
+    is(radixvm_share(&machine, &first), RADIXVM_OK, "share");
+    is(radixvm_seat_split(&first, &other), RADIXVM_OK, "split");
+    is(radixvm_seat_calls(&first, NULL, 0, NULL, 0).status, RADIXVM_OK, "no calls");
+    goes(&first, events, 3, 2, RADIXVM_NO_ROOM, 0, "too little room");
+    is(radixvm_calls_seat(&first, events, (1ull << 32) + 1, told, 8).status, RADIXVM_TOO_LONG, "too many");
+    memset(told, 0, sizeof told);
+    const radixvm_done done = radixvm_seat_try_calls(&first, events, 5, told, 8);
+    is(done.status, RADIXVM_OK, "five calls");
+    is((uint32_t)done.count, 5, "five calls");
+    const uint32_t kinds[8] = {RADIXVM_MAPPED, RADIXVM_DONE, RADIXVM_BYTE, RADIXVM_DONE, RADIXVM_SEGV_MAPERR, 0, 0, 0};
+    for (size_t i = 0; i < 8; i++) is(told[i].kind, kinds[i], "a reply in its place");
+    if (told[2].value != 41) die("another byte");
+    amid[1].kind = RADIXVM_EVICT;
+    goes(&other, amid, 3, 8, RADIXVM_BAD_EVENT, 1, "a step amid calls");
+    goes(&other, events, 8, 8, RADIXVM_AT_LIMIT, 6, "the limit of calls");
+    goes(&first, events, 8, 8, RADIXVM_AT_LIMIT, 0, "beyond the limit");
+    is(radixvm_seat_return(&first, &other), RADIXVM_OK, "return");
+    is(radixvm_unshare(&first, &machine), RADIXVM_OK, "unshare");
+    radixvm_log_entry entries[16];
+    const radixvm_done log = radixvm_log(&machine, entries, 16);
+    is((uint32_t)log.count, 12, "twelve replies");
+    for (size_t i = 0; i < 12; i++) is(entries[i].core, i >= 5, "the core of a list");
+    radixvm_free(&machine);
+}
+
+/* What a core does beside calls. */
+static void asides(void) {
+    const radixvm_setup setup = {2, 4, 100, 1};
+    radixvm_machine machine = {0};
+    radixvm_seat first = {0};
+    radixvm_event walk = {RADIXVM_WALK, 1, 0x10, 0, 0, 0, 0, 0, 0}, evict = walk, fold = walk, flush = walk, review = walk, take = walk;
+    evict.kind = RADIXVM_EVICT, fold.kind = RADIXVM_FOLD, flush.kind = RADIXVM_FLUSH, review.kind = RADIXVM_REVIEW, take.kind = RADIXVM_TAKE;
+    is(radixvm_new(&setup, NULL, 0, NULL, 0, &machine).status, RADIXVM_OK, "new");
+    is(radixvm_share(&machine, &first), RADIXVM_OK, "share");
+    radixvm_outcome told = {0, 0};
+    is(radixvm_seat_try(&first, &take, &told), RADIXVM_BAD_EVENT, "a take");
+    comes(&first, &evict, RADIXVM_IDLE, 0, "evict nothing");
+    comes(&first, &walk, RADIXVM_IDLE, 0, "walk to nothing");
+    comes(&first, &review, RADIXVM_IDLE, 0, "review nothing");
+    comes(&first, &fold, RADIXVM_IDLE, 0, "fold where nothing is divided");
+    comes(&first, &flush, RADIXVM_STEPPED, 0, "end an epoch");
+    comes(&first, &MAP, RADIXVM_MAPPED, 0x10000, "map");
+    comes(&first, &LOAD, RADIXVM_BYTE, 0, "load");
+    comes(&first, &evict, RADIXVM_STEPPED, 0, "evict");
+    comes(&first, &evict, RADIXVM_IDLE, 0, "evict again");
+    comes(&first, &walk, RADIXVM_STEPPED, 0, "walk");
+    is(radixvm_unshare(&first, &machine), RADIXVM_OK, "unshare");
+    is((uint32_t)radixvm_log(&machine, NULL, 0).count, 2, "two replies");
+    radixvm_free(&machine);
+}
+
 /* Two threads try until one has been told that the other is in a call. */
 static atomic_int busy;
 static void *tries(void *at) {
@@ -179,9 +250,11 @@ int main(void) {
     nulls();
     statuses();
     full();
+    lists();
+    asides();
     is_busy();
     handed_over();
-    if (strcmp(radixvm_text(RADIXVM_LOST + 1), "unknown status") || strcmp(radixvm_outcome_text(RADIXVM_STUCK + 1), "unknown outcome")
+    if (strcmp(radixvm_text(RADIXVM_AT_LIMIT + 1), "unknown status") || strcmp(radixvm_outcome_text(RADIXVM_STUCK + 1), "unknown outcome")
         || strcmp(radixvm_text(RADIXVM_BUSY), "another seat is in a call") || strcmp(radixvm_outcome_text(RADIXVM_BUS), "SIGBUS: past the end of the file"))
         die("texts");
     printf("%d statuses of seats\n", rows);

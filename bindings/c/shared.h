@@ -8,7 +8,7 @@
 #include <stdlib.h>
 #include <string.h>
 
-enum { MAX_THREADS = 64, FRAMES = 512, FILE_BYTES = 3 * 4096 };
+enum { MAX_THREADS = 64, FRAMES = 512, FILE_BYTES = 3 * 4096, MANY = 16 }; /* MANY: how many calls a list has at the most */
 static const radixvm_file FILES[1] = {{RADIXVM_O_RDWR, 0, FILE_BYTES}};
 static uint8_t bytes[FILE_BYTES];
 
@@ -42,22 +42,43 @@ static radixvm_event random_call(uint64_t *seed) {
     return e;
 }
 
-/* The calls of one thread. It stops at a status that isn't 0. */
-static void *work(void *at) {
-    worker *w = at;
-    while (w->replied < w->calls) {
-        const radixvm_event e = random_call(&w->seed);
-        w->status = radixvm_seat_call(&w->seat, &e, &w->replies[w->replied]);
-        if (w->status != RADIXVM_OK) return NULL;
-        w->asked[w->replied] = e;
-        w->asked[w->replied++].core = w->core;
-    }
-    return NULL;
-}
-
 static void die(const char *why) {
     printf("%s\n", why);
     exit(1);
+}
+
+/* What a core does beside its calls. */
+static uint32_t pass(worker *w) {
+    const radixvm_event e = {RADIXVM_WALK + (uint32_t)below(&w->seed, 5), w->core, 510 + below(&w->seed, 12), 0, 0, 0, 0, 0, 0};
+    radixvm_outcome told = {0, 0};
+    const uint32_t status = radixvm_seat_call(&w->seat, &e, &told);
+    if (!status && told.kind != RADIXVM_STEPPED && told.kind != RADIXVM_IDLE) die("a step beside calls came to something else");
+    return status;
+}
+
+/* The calls of one thread, one by one and in lists, and what it does beside them. A list that malloc refuses memory to goes on behind the
+ * call that it was refused to. It stops at another status that isn't 0. */
+static void *work(void *at) {
+    worker *w = at;
+    while (w->replied < w->calls && !w->status) {
+        const size_t left = w->calls - w->replied, most = left < MANY ? left : MANY;
+        const size_t count = below(&w->seed, 3) ? 1 : 1 + (size_t)below(&w->seed, most);
+        radixvm_event list[MANY];
+        radixvm_outcome *replies = &w->replies[w->replied];
+        radixvm_done done = {RADIXVM_OK, 1};
+        for (size_t i = 0; i < count; i++) list[i] = random_call(&w->seed);
+        if (count == 1) done.status = radixvm_seat_call(&w->seat, list, replies);
+        else done = radixvm_seat_calls(&w->seat, list, count, replies, left);
+        if (done.status == RADIXVM_OUT_OF_MEMORY) {
+            if (!done.count || replies[done.count - 1].kind != RADIXVM_NO_MEMORY) die("a list doesn't end behind the call that memory was refused to");
+        } else if ((w->status = done.status)) break;
+        for (size_t i = 0; i < done.count; i++) {
+            w->asked[w->replied] = list[i];
+            w->asked[w->replied++].core = w->core;
+        }
+        if (!below(&w->seed, 4)) w->status = pass(w);
+    }
+    return NULL;
 }
 
 static void *take(size_t count, size_t size) {

@@ -1,7 +1,7 @@
 //! Random calls of threads that share a machine. Each notes its own calls and replies; the machine's log has, core by core, just
 //! these, and a new machine that is asked for the log's calls in their order gives the same replies.
 //! `cargo run --example threads [SEED [THREADS [CALLS]]]` ends with status 1 at a difference.
-use radixvm::{Entry, Event, Flags, Machine, Mode, Outcome, Prot, Reply, Request, Seat, Setup, Space};
+use radixvm::{Aside, Entry, Event, Flags, Machine, Mode, Outcome, Prot, Reply, Request, Seat, Setup, Space};
 use std::error::Error;
 use std::process::ExitCode;
 use std::thread;
@@ -43,13 +43,23 @@ impl Random {
 /// A core's calls and what they were told.
 type Noted = Vec<(Request, Reply)>;
 
+/// Calls one by one and in lists, with steps beside them.
 fn work(seat: &mut Seat, seed: u64, calls: usize) -> Noted {
     let mut random = Random(seed);
-    let mut made = |_| {
-        let request = random.call();
-        (request, seat.call(request).expect("the limits are far"))
-    };
-    (0..calls).map(&mut made).collect()
+    let mut noted = Vec::new();
+    while noted.len() < calls {
+        let count = if random.below(3) == 0 { 1 + random.below(16) as usize } else { 1 };
+        let requests: Vec<_> = (0..count.min(calls - noted.len())).map(|_| random.call()).collect();
+        let replies = match requests[..] {
+            [request] => vec![seat.call(request).expect("the limits are far")],
+            _ => seat.calls(&requests).expect("the limits are far"),
+        };
+        noted.extend(requests.into_iter().zip(replies));
+        let aside = [Aside::Walk(512), Aside::Evict(511), Aside::Flush, Aside::Review, Aside::Fold(510)][random.below(5) as usize];
+        let told = seat.aside(aside).expect("the limits are far");
+        assert!(matches!(told, Outcome::Stepped | Outcome::Idle));
+    }
+    noted
 }
 
 /// A whole call, for which the cores that it waits for take what they are told.

@@ -26,7 +26,7 @@ mod raw;
 mod seat;
 
 pub use machine::Machine;
-pub use seat::{Seat, Space, Unshared};
+pub use seat::{Aside, Seat, Space, StoppedCalls, Unshared};
 
 /// For what a file is open.
 #[derive(Clone, Copy, Debug, PartialEq, Eq)]

@@ -1,5 +1,5 @@
 //! The structs and codes of `include/radixvm.h`.
-use crate::{Ask, Back, Entry, Errno, Error, Event, Flags, Line, Mode, Outcome, Prot, Reply, Request, Setup, Stopped};
+use crate::{Aside, Ask, Back, Entry, Errno, Error, Event, Flags, Line, Mode, Outcome, Prot, Reply, Request, Setup, Stopped, StoppedCalls};
 use std::ptr;
 
 #[repr(C)]
@@ -118,6 +118,9 @@ extern "C" {
     fn radixvm_share_held(machine: *mut Place, seat: *mut SeatPlace) -> u32;
     fn radixvm_split_seat(first: *mut SeatPlace, other: *mut SeatPlace) -> u32;
     fn radixvm_try_seat(seat: *mut SeatPlace, event: *const RawEvent, outcome: *mut RawOutcome) -> u32;
+    fn radixvm_calls_seat(
+        seat: *mut SeatPlace, events: *const RawEvent, event_count: usize, outcomes: *mut RawOutcome, room: usize,
+    ) -> RawDone;
     fn radixvm_return_seat(first: *mut SeatPlace, other: *mut SeatPlace) -> u32;
     fn radixvm_unshare_seat(seat: *mut SeatPlace, machine: *mut Place) -> u32;
     fn radixvm_free_seat(seat: *mut SeatPlace);
@@ -257,6 +260,7 @@ fn error_of(status: u32, at: usize) -> Error {
         16 => Error::NoMachine,
         17 => Error::Busy,
         18 => Error::InFlight,
+        20 => Error::Full,
         code => Error::UnknownCode(code),
     }
 }
@@ -421,12 +425,38 @@ impl SeatPlace {
         }
     }
 
-    pub fn try_call(&mut self, request: &Request) -> Result<Outcome, Error> {
+    fn try_one(&mut self, raw: &RawEvent) -> Result<Outcome, Error> {
         let mut told = RawOutcome::default();
         // SAFETY: the place is the library's own, and all three are references.
-        match unsafe { radixvm_try_seat(self, &of_request(0, request), &mut told) } {
+        match unsafe { radixvm_try_seat(self, raw, &mut told) } {
             0 => outcome_of(&told).ok_or(Error::UnknownCode(told.kind)),
             status => Err(error_of(status, 0)),
+        }
+    }
+
+    pub fn try_call(&mut self, request: &Request) -> Result<Outcome, Error> {
+        self.try_one(&of_request(0, request))
+    }
+
+    pub fn try_aside(&mut self, aside: &Aside) -> Result<Outcome, Error> {
+        self.try_one(&of_event(&aside.event()))
+    }
+
+    /// Calls one after another. At an error the replies of those that were made come with it.
+    pub fn try_calls(&mut self, requests: &[Request]) -> Result<Vec<Reply>, StoppedCalls> {
+        let raws: Vec<_> = requests.iter().map(|request| of_request(0, request)).collect();
+        let mut told = vec![RawOutcome::default(); raws.len()];
+        // SAFETY: the place is the library's own; each pointer is a slice's with its length, and what is written overlaps nothing else.
+        let done = unsafe { radixvm_calls_seat(self, raws.as_ptr(), raws.len(), told.as_mut_ptr(), told.len()) };
+        let replied = |raw| match outcome_of(raw) {
+            Some(Outcome::Replied(reply)) => Some(reply),
+            _ => None,
+        };
+        let replies: Option<Vec<_>> = told[..done.count as usize].iter().map(replied).collect();
+        match (done.status, replies) {
+            (0, Some(replies)) => Ok(replies),
+            (status, Some(replies)) => Err(StoppedCalls { error: error_of(status, replies.len().saturating_sub(1)), replies }),
+            (_, None) => Err(StoppedCalls { error: Error::UnknownCode(u32::MAX), replies: Vec::new() }),
         }
     }
 

@@ -1,6 +1,6 @@
 //! A machine that threads share.
 use crate::raw::SeatPlace;
-use crate::{Error, Machine, Outcome, Reply, Request};
+use crate::{Error, Event, Machine, Outcome, Reply, Request};
 use std::error;
 use std::fmt;
 use std::sync::Arc;
@@ -42,6 +42,65 @@ impl fmt::Display for Unshared {
 }
 
 impl error::Error for Unshared {}
+
+/// What a core does beside its calls.
+#[derive(Clone, Copy, Debug, PartialEq, Eq)]
+pub enum Aside {
+    /// Its TLB gets the page's translation from its tables.
+    Walk(u64),
+    /// Its TLB drops its translation of the page.
+    Evict(u64),
+    /// It flushes one of its counts, or ends its part of the epoch.
+    Flush,
+    /// It reviews the front of its queue.
+    Review,
+    /// Slots are joined at the page.
+    Fold(u64),
+}
+
+impl Aside {
+    /// The event that it is; a seat's core is its own.
+    pub(crate) fn event(&self) -> Event {
+        match *self {
+            Aside::Walk(page) => Event::Walk(0, page),
+            Aside::Evict(page) => Event::Evict(0, page),
+            Aside::Flush => Event::Flush(0),
+            Aside::Review => Event::Review(0),
+            Aside::Fold(page) => Event::Fold(page),
+        }
+    }
+}
+
+/// Calls that weren't all made: the replies of the first ones that were, and why. The last of them is [`Reply::NoMemory`] where the error
+/// is [`Error::OutOfMemory`].
+#[derive(Clone, Debug, PartialEq, Eq)]
+pub struct StoppedCalls {
+    pub replies: Vec<Reply>,
+    pub error: Error,
+}
+
+impl fmt::Display for StoppedCalls {
+    fn fmt(&self, f: &mut fmt::Formatter<'_>) -> fmt::Result {
+        write!(f, "{}, after {} replies", self.error, self.replies.len())
+    }
+}
+
+impl error::Error for StoppedCalls {}
+
+/// Tries until the machine is free: it pauses, and then lets other threads go first.
+fn until_free<T, E>(mut turn: impl FnMut() -> Result<T, E>, is_busy: impl Fn(&E) -> bool) -> Result<T, E> {
+    let mut tries = 0;
+    loop {
+        match turn() {
+            Err(error) if is_busy(&error) && tries < PAUSES => {
+                tries += 1;
+                hint::spin_loop();
+            }
+            Err(error) if is_busy(&error) => thread::yield_now(),
+            told => return told,
+        }
+    }
+}
 
 impl Space {
     /// A seat for each core, in their order. At an error the machine is as it was.
@@ -129,17 +188,50 @@ impl Seat {
 
     /// The same, tried until it isn't [`Error::Busy`]: it pauses, and then lets other threads go first.
     pub fn call(&mut self, request: Request) -> Result<Reply, Error> {
-        let mut tries = 0;
-        loop {
-            match self.try_call(request) {
-                Err(Error::Busy) if tries < PAUSES => {
-                    tries += 1;
-                    hint::spin_loop();
-                }
-                Err(Error::Busy) => thread::yield_now(),
-                told => return told,
-            }
-        }
+        until_free(|| self.try_call(request), |error| *error == Error::Busy)
+    }
+
+    /// Whole calls of this core, one after another, with no call of another seat between them, which makes short calls cheaper; or
+    /// [`Error::Busy`] where another seat is in a call, and then nothing was done. It stops behind a call that memory was refused to, and
+    /// at [`Error::Full`]. The others wait as long as all of the calls take.
+    ///
+    /// ```
+    /// use radixvm::{Error, Machine, Reply, Request, Setup, Space};
+    ///
+    /// let mut seats = Space::share(Machine::new(&Setup::new(1, 4, 3))?).unwrap();
+    /// let load = Request::Load { addr: 0x10000 };
+    /// assert_eq!(seats[0].try_calls(&[load, load]), Ok(vec![Reply::MapErr; 2]));
+    /// let stopped = seats[0].try_calls(&[load, load]).unwrap_err();
+    /// assert_eq!((stopped.replies, stopped.error), (vec![Reply::MapErr], Error::Full));
+    /// # Ok::<(), Error>(())
+    /// ```
+    pub fn try_calls(&mut self, requests: &[Request]) -> Result<Vec<Reply>, StoppedCalls> {
+        self.place.try_calls(requests)
+    }
+
+    /// The same, tried until it isn't [`Error::Busy`].
+    pub fn calls(&mut self, requests: &[Request]) -> Result<Vec<Reply>, StoppedCalls> {
+        until_free(|| self.try_calls(requests), |stopped| stopped.error == Error::Busy)
+    }
+
+    /// What this core does beside its calls: [`Outcome::Stepped`], [`Outcome::Idle`] where there was nothing to do, or [`Outcome::Full`] at
+    /// the limit of events. The log stays as it is. [`Error::Busy`]: another seat is in a call, and nothing was done.
+    pub fn try_aside(&mut self, aside: Aside) -> Result<Outcome, Error> {
+        self.place.try_aside(&aside)
+    }
+
+    /// The same, tried until it isn't [`Error::Busy`].
+    ///
+    /// ```
+    /// use radixvm::{Aside, Machine, Outcome, Setup, Space};
+    ///
+    /// let mut seats = Space::share(Machine::new(&Setup::new(1, 4, 1))?).unwrap();
+    /// assert_eq!(seats[0].aside(Aside::Evict(16)), Ok(Outcome::Idle));
+    /// assert_eq!(seats[0].aside(Aside::Flush), Ok(Outcome::Stepped));
+    /// # Ok::<(), radixvm::Error>(())
+    /// ```
+    pub fn aside(&mut self, aside: Aside) -> Result<Outcome, Error> {
+        until_free(|| self.try_aside(aside), |error| *error == Error::Busy)
     }
 
     /// The machine of these seats, which have to be all that are left of it; else they are handed back.

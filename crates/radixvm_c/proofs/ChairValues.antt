@@ -88,7 +88,8 @@ module _ {M : Type 1} {𝓤 : Ura M} {𝓛 : Logic 𝓤} {K : Type 0} {Γ : List
       (vss.1.0 ++ []))) ∷ []) ep ev)) fits))))
 
   pub handle_in : K → (d : Handled.Denot) (h : Val)
-      → Step K 𝓛 (‵ (Handled.own_val d (both (ptr_val d.at) h ∷ [])) ∷ Γ) G (‵ (chair_at d.alloc d.at d.value) ∷ ‵ (heap.the_row.own_val d.alloc (h ∷ [])) ∷ Γ) G
+      → Step K 𝓛 (‵ (Handled.own_val d (both (ptr_val d.at) h ∷ [])) ∷ Γ) G
+      (‵ (chair_at d.alloc d.at d.value) ∷ ‵ (heap.the_row.own_val d.alloc (h ∷ [])) ∷ Γ) G
   handle_in t d h = step (λ s. let v : Val = both (ptr_val d.at) h in
       nothing t $ move t (2 ∷ 0 ∷ []) $ fjoin t $ feq_i t (List Val) (ptr_val d.at ∷ []) (ptr_val d.at ∷ []) refl $ fjoin t $
       feq_i t (List Val) (v ∷ []) (v ∷ []) refl $ fjoin t $

@@ -13,20 +13,20 @@ use Rattle.machine_model.specs.Events.{core_of as core_that_takes}
 use Rattle.core_steps.specs.declared.machine.Finished.{Finished}
 use Rattle.core_steps.specs.declared.machine.Finished.TheVariants.{Last, Stuck}
 use Rattle.core_steps.specs.declared.setup.SetupFault.TheVariants as Fault
-use Rattle.radixvm_c.specs.declared.codes.RawOutcome.{RawOutcome}
-use Rattle.radixvm_c.specs.declared.codes.Item.{Item}
-use Rattle.radixvm_c.specs.declared.codes.Item.TheVariants as To
-use Rattle.radixvm_c.specs.declared.logs.RawEntry.{RawEntry}
-use Rattle.radixvm_c.specs.declared.batch.Ended.{Ended}
-use Rattle.radixvm_c.specs.declared.batch.Done.{Done}
-use Rattle.radixvm_c.specs.declared.batch.Stop.{Stop}
-use Rattle.radixvm_c.specs.declared.batch.Stop.TheVariants.{BadEvent, NoMemory}
-use Rattle.radixvm_c.specs.declared.opening.Refusal.{Refusal}
-use Rattle.radixvm_c.specs.declared.opening.Refusal.TheVariants as No
-use Rattle.radixvm_c.specs.Bits.{prot_of, flags_of, bits_of_prot, bits_of_flags}
-use Rattle.radixvm_c.specs.Codes.{core_of, event_of, item_of, finished_code}
-use Rattle.radixvm_c.specs.Batches.{done_of}
-use Rattle.radixvm_c.specs.Logs.{entry_code}
+use Rattle.coded.specs.declared.codes.RawOutcome.{RawOutcome}
+use Rattle.coded.specs.declared.codes.Item.{Item}
+use Rattle.coded.specs.declared.codes.Item.TheVariants as To
+use Rattle.coded.specs.declared.logs.RawEntry.{RawEntry}
+use Rattle.coded.specs.declared.batch.Ended.{Ended}
+use Rattle.coded.specs.declared.batch.Done.{Done}
+use Rattle.coded.specs.declared.batch.Stop.{Stop}
+use Rattle.coded.specs.declared.batch.Stop.TheVariants.{BadEvent, NoMemory}
+use Rattle.coded.specs.declared.opening.Refusal.{Refusal}
+use Rattle.coded.specs.declared.opening.Refusal.TheVariants as No
+use Rattle.coded.specs.Bits.{prot_of, flags_of, bits_of_prot, bits_of_flags}
+use Rattle.coded.specs.Codes.{core_of, event_of, item_of, finished_code}
+use Rattle.coded.specs.Batches.{done_of}
+use Rattle.coded.specs.Logs.{entry_code}
 use Rattle.radixvm_c.specs.Laws.{event_code, item_code, IsCore, HasByte, IsSound}
 
 -- ---- rights and flags

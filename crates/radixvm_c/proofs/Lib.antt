@@ -1,10 +1,6 @@
 pub mod Values
-pub mod Codings
-pub mod Openings
-pub mod Batching
-pub mod Holdings
-pub mod Listing
 pub mod Coded
 pub mod Logged
 pub mod ChairValues
 pub mod Sent
+pub mod Refusing

@@ -65,7 +65,7 @@ use Rattle.radix_node.proofs.node.Node.TheLaws.TheKnot as knot
 use Rattle.shared.proofs.space.Space.TheSendSync as shared_space
 use Rattle.shared.proofs.space.Core.TheSendSync as shared_core
 use Rattle.shared.proofs.space.Known.TheSendSync as shared_known
-use Rattle.radixvm_c.specs.contracts.held.Held as held
+use Rattle.coded.specs.contracts.held.Held as held
 use Rattle.radixvm_c.specs.contracts.placed.Placed as placed
 use Rattle.radixvm_c.specs.contracts.chair.Seat as seat
 use Rattle.radixvm_c.specs.contracts.chair.Chair as chair

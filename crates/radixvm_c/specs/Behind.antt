@@ -5,9 +5,9 @@ use denote.RawPtr.{Ptr, null_ptr}
 use Rattle.std.specs.Box.Ownership.{box_owns}
 use Rattle.std.specs.declared.alloc.Global.{Global}
 use Rattle.std.specs.contracts.impls.GlobalAllocator.TheImpl.{ghosts}
-use Rattle.radixvm_c.specs.declared.held.Held.{Held}
+use Rattle.coded.specs.declared.held.Held.{Held}
 use Rattle.radixvm_c.specs.declared.chair.Chair.{Chair}
-use Rattle.radixvm_c.specs.contracts.held.Held.{the_row}
+use Rattle.coded.specs.contracts.held.Held.{the_row}
 use Rattle.radixvm_c.specs.contracts.chair.Chair.{the_row as chair_row}
 
 -- the pointer is null, or the machine lies there, in a block that may be freed

@@ -1,13 +1,13 @@
 -- What a handle lends
 use Rattle.std.specs.Prelude.{Some}
 use Rattle.std.specs.Borrow.{Lends, MutBor, Fml}
-use Rattle.radixvm_c.specs.declared.held.Held.{Held}
+use Rattle.coded.specs.declared.held.Held.{Held}
 use Rattle.radixvm_c.specs.declared.handle.Handle.{Handle}
 use Rattle.radixvm_c.specs.declared.chair.Chair.{Chair}
 use Rattle.radixvm_c.specs.declared.chair_handle.ChairHandle.{ChairHandle}
 use Rattle.radixvm_c.specs.contracts.chair.Chair.{the_row as chair_row}
 use Rattle.radixvm_c.specs.contracts.chair_handle.ChairHandle.{the_row as chair_handle_row}
-use Rattle.radixvm_c.specs.contracts.held.Held.{the_row as held_row}
+use Rattle.coded.specs.contracts.held.Held.{the_row as held_row}
 use Rattle.radixvm_c.specs.contracts.handle.Handle.{the_row}
 
 -- the handle with another machine at the same place

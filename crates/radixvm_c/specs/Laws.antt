@@ -11,17 +11,17 @@ use Rattle.machine_model.specs.declared.event.Event.{Event}
 use Rattle.machine_model.specs.declared.event.Event.TheVariants as Ev
 use Rattle.machine_model.specs.Events.{core_of as core_that_takes}
 use Rattle.core_steps.specs.declared.machine.Finished.{Finished}
-use Rattle.radixvm_c.specs.declared.codes.RawEvent.{RawEvent}
-use Rattle.radixvm_c.specs.declared.codes.Item.{Item}
-use Rattle.radixvm_c.specs.declared.codes.Item.TheVariants as To
-use Rattle.radixvm_c.specs.declared.batch.Ended.{Ended}
-use Rattle.radixvm_c.specs.declared.opening.Refusal.{Refusal}
-use Rattle.radixvm_c.specs.declared.held.Held.{Held}
+use Rattle.coded.specs.declared.codes.RawEvent.{RawEvent}
+use Rattle.coded.specs.declared.codes.Item.{Item}
+use Rattle.coded.specs.declared.codes.Item.TheVariants as To
+use Rattle.coded.specs.declared.batch.Ended.{Ended}
+use Rattle.coded.specs.declared.opening.Refusal.{Refusal}
+use Rattle.coded.specs.declared.held.Held.{Held}
 use Rattle.core_steps.specs.Machine.{IsLegal}
-use Rattle.radixvm_c.specs.Codes.{of_core, of_place, call_code, begin, event_of, item_of, finished_code}
-use Rattle.radixvm_c.specs.Holding.{held_state}
-use Rattle.radixvm_c.specs.Logs.{entry_code}
-use Rattle.radixvm_c.specs.Batches.{done_of}
+use Rattle.coded.specs.Codes.{of_core, of_place, call_code, begin, event_of, item_of, finished_code}
+use Rattle.coded.specs.Holding.{held_state}
+use Rattle.coded.specs.Logs.{entry_code}
+use Rattle.coded.specs.Batches.{done_of}
 
 -- ---- what C writes for an event
 

@@ -1,12 +1,5 @@
-pub mod Bits
-pub mod Codes
-pub mod Opening
-pub mod Batches
 pub mod Behind
 pub mod Handles
-pub mod Holding
-pub mod Maps
-pub mod Logs
 pub mod Laws
 pub mod Rooms
 pub mod Seats

@@ -1,24 +1,36 @@
 -- A machine that threads share, and what C is told of it
-use Rattle.std.specs.Prelude.{◌≡◌, ℕ, ◌-◌, ◌<◌, ◌⊎◌, [], ◌∷◌, ◌++◌, Option, None, Some, Result, Ok, Err}
+use Rattle.std.specs.Prelude.{◌≡◌, ℕ, ◌-◌, ◌<◌, ◌⊎◌, List, [], ◌∷◌, ◌++◌, length, map, Option, None, Some, Result, Ok, Err}
 use Rattle.atomic_table.specs.Seated.{TableId}
 use Rattle.vm_base.specs.declared.requests.Request.{Request}
 use Rattle.machine_model.specs.declared.event.Outcome.TheVariants.{Full}
 use Rattle.machine_model.specs.World.{World}
 use Rattle.shared.specs.declared.space.Answer.{Answer}
 use Rattle.shared.specs.declared.space.Answer.TheVariants as Tells
-use Rattle.shared.specs.Cores.{CoreView, Answers, Agrees, new_core, told_of}
-use Rattle.radixvm_c.specs.declared.codes.Kind.{Kind}
-use Rattle.radixvm_c.specs.declared.codes.RawEvent.{RawEvent}
-use Rattle.radixvm_c.specs.declared.codes.RawOutcome.{RawOutcome}
-use Rattle.radixvm_c.specs.declared.held.Held.{Held}
+use Rattle.shared.specs.declared.space.Passed.{Passed}
+use Rattle.shared.specs.declared.space.Passed.TheVariants as Past
+use Rattle.shared.specs.declared.space.Calls.{Calls}
+use Rattle.shared.specs.declared.space.Calls.TheVariants as Lists
+use Rattle.shared.specs.declared.space.Refusal.{Refusal as NotShared}
+use Rattle.shared.specs.declared.space.Refusal.TheVariants as Why
+use Rattle.shared.specs.declared.asides.Aside.{Aside}
+use Rattle.shared.specs.declared.series.Stop.{Stop}
+use Rattle.shared.specs.declared.series.Stop.TheVariants as For
+use Rattle.shared.specs.Cores.{CoreView, Answers, AnswersAll, Agrees, IsKept, Passes, new_core, told_of}
+use Rattle.coded.specs.declared.codes.RawEvent.{RawEvent}
+use Rattle.coded.specs.declared.codes.RawOutcome.{RawOutcome}
+use Rattle.coded.specs.declared.held.Held.{Held}
 use Rattle.radixvm_c.specs.declared.placed.Placed.{Placed}
 use Rattle.radixvm_c.specs.declared.chair.Chair.{Chair}
 use Rattle.radixvm_c.specs.declared.chair.Seat.{Seat}
 use Rattle.radixvm_c.specs.declared.chair.Chair.TheVariants.{Vacant, Taken}
 use Rattle.radixvm_c.specs.declared.sharing.Closed.{Closed}
 use Rattle.radixvm_c.specs.declared.sharing.Closed.TheVariants as Comes
-use Rattle.radixvm_c.specs.Codes.{kind_of, request_at, reply_code, outcome_code}
-use Rattle.radixvm_c.specs.Holding.{held_state, empty_code, absent_code}
+use Rattle.coded.specs.declared.batch.Done.{Done}
+use Rattle.coded.specs.declared.opening.Refusal.{Refusal}
+use Rattle.coded.specs.Asked.{aside_of, asked_of}
+use Rattle.coded.specs.Batches.{refusal_done, refusal_of}
+use Rattle.coded.specs.Codes.{reply_code, outcome_code}
+use Rattle.coded.specs.Holding.{held_state, empty_code, empty_done, absent_code}
 
 -- ---- seats
 
@@ -55,11 +67,19 @@ in_flight_code = 18
 abbrev pub lost_code : ℕ
 lost_code = 19
 
+abbrev pub limit_code : ℕ
+limit_code = 20
+
 -- ---- sharing
 
 -- no memory, or a core has a call that isn't at its end
-abbrev pub CannotShare : ℕ → Type 0
-CannotShare status = (status ≡ no_memory_code) ⊎ (status ≡ in_flight_code)
+abbrev pub CannotShare : Held → ℕ → Type 0
+CannotShare held status = (status ≡ no_memory_code)
+    ⊎ ((status ≡ in_flight_code) × IsKept Why.NotCalm (held_state held).world)
+
+abbrev pub unshared_code : NotShared → ℕ
+unshared_code Why.NoMemory = no_memory_code
+unshared_code Why.NotCalm = in_flight_code
 
 -- core 0 of this machine, which made no call since it was shared, and may split off all others
 abbrev pub IsFirst : Held → View → Type 0
@@ -79,7 +99,7 @@ TellsShare (Some held) (Some chair) status held' chair' =
     (status ≡ in_use_code) × (held' ≡ Some held) × (chair' ≡ Some chair)
 TellsShare (Some held) None status held' chair' =
     ((status ≡ 0) × (held' ≡ None) × HasFirst held (core_in chair'))
-    ⊎ (CannotShare status × (held' ≡ Some held) × (chair' ≡ None))
+    ⊎ (CannotShare held status × (held' ≡ Some held) × (chair' ≡ None))
 
 -- ---- one more seat
 
@@ -116,34 +136,66 @@ TellsSplit (Some v) None status w other' =
 
 -- ---- a call
 
-abbrev pub asked_at : Option Kind → RawEvent → Option Request
-asked_at None raw = None
-asked_at (Some kind) raw = request_at kind raw
-
--- the request of an event that begins a call, whichever core it names
-abbrev pub asked_of : RawEvent → Option Request
-asked_of raw = asked_at (kind_of raw.kind) raw
-
 -- the reply is told, or that a limit is reached; or that another core was in a call
 abbrev pub TellsAnswer : Answer → RawOutcome → ℕ → RawOutcome → Type 0
 TellsAnswer (Tells.Reply reply) was status told = (status ≡ 0) × (told ≡ reply_code reply)
 TellsAnswer Tells.Full was status told = (status ≡ 0) × (told ≡ outcome_code Full)
 TellsAnswer Tells.Busy was status told = (status ≡ busy_code) × (told ≡ was)
 
--- the event is no call, and nothing changes; or it is a call of this core, whose answer is told
-abbrev pub Tries : View → Option Request → RawOutcome → ℕ → RawOutcome → View → Type 0
-Tries v None was status told w = (status ≡ 1) × (told ≡ was) × (w ≡ v)
-Tries v (Some request) was status told w = (answer : Answer)
+-- what a step beside calls came to is told; or that another core was in a call
+abbrev pub TellsPassed : Passed → RawOutcome → ℕ → RawOutcome → Type 0
+TellsPassed (Past.Came outcome) was status told = (status ≡ 0) × (told ≡ outcome_code outcome)
+TellsPassed Past.Busy was status told = (status ≡ busy_code) × (told ≡ was)
+
+-- the event is nothing that a seat does, and nothing changes; or it is a step of this core
+abbrev pub PassesOn : View → Option Aside → RawOutcome → ℕ → RawOutcome → View → Type 0
+PassesOn v None was status told w = (status ≡ 1) × (told ≡ was) × (w ≡ v)
+PassesOn v (Some aside) was status told w = (passed : Passed)
+    × Passes placed_state v aside passed w × TellsPassed passed was status told
+
+-- it is a call of this core, whose answer is told; or no call
+abbrev pub Tries : View → Option Request → Option Aside → RawOutcome → ℕ → RawOutcome → View → Type 0
+Tries v None aside was status told w = PassesOn v aside was status told w
+Tries v (Some request) aside was status told w = (answer : Answer)
     × Answers placed_state v request answer w × TellsAnswer answer was status told
 
 abbrev pub TriesOn : View → RawEvent → RawOutcome → ℕ → RawOutcome → View → Type 0
-TriesOn v raw was status told w = Tries v (asked_of raw) was status told w
+TriesOn v raw was status told w = Tries v (asked_of raw) (aside_of raw) was status told w
 
--- what C reads of a call of a seat
+-- what C reads of a call of a seat, or of a step beside calls
 abbrev pub TellsTry : Option View → RawEvent → RawOutcome → ℕ → RawOutcome → Option View → Type 0
 TellsTry None raw was status told w = (status ≡ empty_code) × (told ≡ was) × (w ≡ None)
 TellsTry (Some v) raw was status told None = ⊥
 TellsTry (Some v) raw was status told (Some w) = TriesOn v raw was status told w
+
+-- ---- many calls
+
+abbrev pub stop_status : Stop → ℕ
+stop_status For.Done = 0
+stop_status For.NoCall = 1
+stop_status For.NoMemory = no_memory_code
+stop_status For.Refused = limit_code
+stop_status For.Spent = limit_code
+
+-- the status and the count that C reads
+abbrev pub calls_done : Calls → Done
+calls_done (Lists.Made series) = record { status = stop_status series.stop; count = series.made }
+calls_done Lists.Busy = record { status = busy_code; count = 0 }
+
+-- the lengths are refused, and nothing changes; or the calls of this core are made, as far as they can be
+abbrev pub CallsWithin : View → List RawEvent → List RawOutcome → Option Refusal → Done → List RawOutcome → View → Type 0
+CallsWithin v raws was (Some refusal) done told w = (done ≡ refusal_done refusal) × (told ≡ was) × (w ≡ v)
+CallsWithin v raws was None done told w = (calls : Calls)
+    × AnswersAll placed_state v (map asked_of raws) reply_code was calls told w × (done ≡ calls_done calls)
+
+abbrev pub CallsOn : View → List RawEvent → List RawOutcome → Done → List RawOutcome → View → Type 0
+CallsOn v raws was done told w = CallsWithin v raws was (refusal_of 0 0 (length raws) (length was)) done told w
+
+-- what C reads of many calls of a seat
+abbrev pub TellsCalls : Option View → List RawEvent → List RawOutcome → Done → List RawOutcome → Option View → Type 0
+TellsCalls None raws was done told w = (done ≡ empty_done) × (told ≡ was) × (w ≡ None)
+TellsCalls (Some v) raws was done told None = ⊥
+TellsCalls (Some v) raws was done told (Some w) = CallsOn v raws was done told w
 
 -- ---- a seat that is done
 

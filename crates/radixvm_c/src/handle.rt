@@ -1,10 +1,10 @@
 //! What C holds between two calls.
 ghost use Rattle.std.specs.Prelude.{Option};
-ghost use Rattle.radixvm_c.specs.declared.held.Held.{Held};
+ghost use Rattle.coded.specs.declared.held.Held.{Held};
 ghost use Rattle.radixvm_c.specs.Behind.{held_at};
 
-use crate::held::Held;
 use crate::loose::Loose;
+use coded::held::Held;
 use std::alloc::Global;
 use std::marker::Model;
 use std::mem::replace;

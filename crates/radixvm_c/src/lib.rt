@@ -2,39 +2,33 @@
 #![tactic(auto)]
 
 ghost use Rattle.std.specs.Prelude.{◌≡◌, None};
-ghost use Rattle.radixvm_c.specs.Batches.{TellsRun, TellsCalls};
-ghost use Rattle.radixvm_c.specs.Holding.{state_in, TellsNew, TellsStep, TellsCall, TellsRunOn, TellsCallsOn};
-ghost use Rattle.radixvm_c.specs.Holding.{cores_of, TellsEntry};
-ghost use Rattle.radixvm_c.specs.Maps.{TellsMaps};
-ghost use Rattle.radixvm_c.specs.Logs.{TellsLog};
+ghost use Rattle.coded.specs.Batches.{TellsRun, TellsCalls};
+ghost use Rattle.coded.specs.Holding.{state_in, TellsNew, TellsStep, TellsCall, TellsRunOn, TellsCallsOn};
+ghost use Rattle.coded.specs.Holding.{cores_of, TellsEntry};
+ghost use Rattle.coded.specs.Maps.{TellsMaps};
+ghost use Rattle.coded.specs.Logs.{TellsLog};
 
-pub mod batch;
-mod bits;
 pub mod chair;
 pub mod chair_handle;
-pub mod codes;
 pub mod handle;
-pub mod held;
-pub mod holding;
 pub mod laws;
-pub mod logs;
 pub mod loose;
-pub mod maps;
-pub mod opening;
+pub mod making;
 pub mod placed;
 pub mod seats;
 pub mod sharing;
 pub mod threads;
 
-use crate::batch::{Done, calls_batch, done_of, refusal_done, run_batch};
-use crate::codes::{RawEvent, RawOutcome};
 use crate::handle::Handle;
-use crate::holding::{
-    calls_on, entry_of, maps_of, open_in, run_on, take_event_on, take_item_on, taken_code,
+use crate::making::open_in;
+use coded::batch::{Done, calls_batch, done_of, refusal_done, run_batch};
+use coded::codes::{RawEvent, RawOutcome};
+use coded::holding::{
+    calls_on, cores_of, entry_of, maps_of, run_on, take_event_on, take_item_on, taken_code,
 };
-use crate::logs::{RawEntry, show_log};
-use crate::maps::RawLine;
-use crate::opening::{RawFile, RawSetup, Refusal};
+use coded::logs::{RawEntry, show_log};
+use coded::maps::RawLine;
+use coded::opening::{RawFile, RawSetup, Refusal};
 use std::alloc::Global;
 
 /// The version that include/radixvm.h has.
@@ -191,7 +185,7 @@ pub extern "C" fn radixvm_cores_held(handle: &mut Handle) -> u64
     if !handle.is_open() {
         return 0;
     }
-    holding::cores_of(handle.get_mut())
+    cores_of(handle.get_mut())
 }
 
 /// Tells the word that the core's tables have for the page, 0 where they have none.

@@ -1,18 +1,24 @@
 //! What a thread asks of its seat.
-ghost use Rattle.std.specs.Prelude.{◌≡◌, ◌++◌, ◌∷◌, [], IfSome, IfNone};
+ghost use Rattle.std.specs.Prelude.{◌≡◌, ◌≤◌, ◌++◌, ◌∷◌, [], IfSome, IfNone, length, map};
 ghost use Rattle.std.specs.Arc.{arc_value};
-ghost use Rattle.shared.specs.Cores.{Answers, told_of};
+ghost use Rattle.shared.specs.Cores.{Answers, AnswersAll, Passes, told_of};
+ghost use Rattle.coded.specs.Asked.{aside_of, asked_of};
+ghost use Rattle.coded.specs.Codes.{reply_code};
 ghost use Rattle.radixvm_c.specs.Rooms.{IsIn};
-ghost use Rattle.radixvm_c.specs.Seats.{asked_of, core_in, core_on, placed_state, IsSplit, SplitsSeat, SplitsChair, TellsSplit};
-ghost use Rattle.radixvm_c.specs.Seats.{TellsAnswer, TriesOn, TellsTry, AreBeside, TakesIn, TellsReturn};
+ghost use Rattle.radixvm_c.specs.Seats.{core_in, core_on, placed_state, IsSplit, SplitsSeat, SplitsChair, TellsSplit};
+ghost use Rattle.radixvm_c.specs.Seats.{TellsAnswer, TellsPassed, PassesOn, TriesOn, TellsTry, stop_status, calls_done, CallsOn, TellsCalls};
+ghost use Rattle.radixvm_c.specs.Seats.{AreBeside, TakesIn, TellsReturn};
 
 use crate::chair::{Chair, Room, Seat};
 use crate::chair_handle::ChairHandle;
-use crate::codes::{RawEvent, RawOutcome, kind_of, outcome_code, reply_code, request_at};
 use crate::placed::Placed;
 use crate::sharing::{DONE, EMPTY, IN_USE, NO_MEMORY, new_chair};
+use coded::asked::{aside_of, asked_of};
+use coded::batch::{Done, refusal_done, refusal_of};
+use coded::codes::{RawEvent, RawOutcome, outcome_code, reply_code};
+use coded::opening::Refusal;
 use machine_model::Outcome;
-use shared::{Answer, Core};
+use shared::{Answer, Aside, Calls, Core, Passed, Stop};
 use std::alloc::Global;
 use std::sync::Arc;
 use vm_base::Request;
@@ -25,6 +31,9 @@ const ABSENT: u32 = 9;
 
 /// The status where another seat is in a call.
 const BUSY: u32 = 17;
+
+/// The status of calls that a limit of the machine stopped.
+const AT_LIMIT: u32 = 20;
 
 // ---- one more seat
 
@@ -88,14 +97,6 @@ pub fn split(alloc: Global, first: &mut ChairHandle, other: &mut ChairHandle) ->
 
 // ---- a call
 
-/// The request of the event, if it begins a call. Its core isn't read.
-#[inline(always)]
-pub fn asked_of(raw: &RawEvent) -> Option<Request>
-    ensures { result ≡ asked_of raw.now }
-{
-    request_at(kind_of(raw.kind)?, raw)
-}
-
 // Tells the answer.
 fn tell(answer: Answer, told: &mut RawOutcome) -> u32
     ensures { TellsAnswer answer told.old result told.new }
@@ -113,6 +114,19 @@ fn tell(answer: Answer, told: &mut RawOutcome) -> u32
     }
 }
 
+// Tells what the aside came to.
+fn tell_passed(passed: Passed, told: &mut RawOutcome) -> u32
+    ensures { TellsPassed passed told.old result told.new }
+{
+    match passed {
+        Passed::Came(outcome) => {
+            *told = outcome_code(outcome);
+            DONE
+        }
+        Passed::Busy => BUSY,
+    }
+}
+
 fn call_on(room: &Room, core: &mut Core<Placed>, request: Request) -> Answer
     requires here { IsIn (arc_value room.now) core.old }
     ensures answers { Answers placed_state core.old request result core.new }
@@ -124,22 +138,107 @@ fn call_on(room: &Room, core: &mut Core<Placed>, request: Request) -> Answer
     }
 }
 
+fn aside_on(room: &Room, core: &mut Core<Placed>, aside: Aside) -> Passed
+    requires here { IsIn (arc_value room.now) core.old }
+    ensures passes { Passes placed_state core.old aside result core.new }
+    ensures here { IsIn (arc_value room.now) core.new }
+{
+    match &**room {
+        Some(space) => space.aside(core, aside),
+        None => unreachable!(),
+    }
+}
+
+// What the event does beside calls, if it does that.
+fn pass_seat(seat: &mut Seat, raw: &RawEvent, told: &mut RawOutcome) -> u32
+    ensures { PassesOn seat.old.core (aside_of raw.now) told.old result told.new seat.new.core }
+{
+    let Some(aside) = aside_of(raw) else {
+        return BAD_EVENT;
+    };
+    tell_passed(aside_on(&seat.room, &mut seat.core, aside), told)
+}
+
 fn try_seat(seat: &mut Seat, raw: &RawEvent, told: &mut RawOutcome) -> u32
     ensures { TriesOn seat.old.core raw.now told.old result told.new seat.new.core }
 {
     let Some(request) = asked_of(raw) else {
-        return BAD_EVENT;
+        return pass_seat(seat, raw, told);
     };
     tell(call_on(&seat.room, &mut seat.core, request), told)
 }
 
-/// A whole call of the seat's core, or it is told that another seat is in one.
+/// A whole call of the seat's core, or a step beside calls, or it is told that another seat is in a call.
 pub fn try_chair(chair: &mut Chair, raw: &RawEvent, told: &mut RawOutcome) -> u32
     ensures { TellsTry (core_on chair.old) raw.now told.old result told.new (core_on chair.new) }
 {
     match chair {
         Chair::Vacant => EMPTY,
         Chair::Taken(seat) => try_seat(seat, raw, told),
+    }
+}
+
+// ---- many calls
+
+fn calls_on(
+    room: &Room,
+    core: &mut Core<Placed>,
+    raws: &[RawEvent],
+    told: &mut [RawOutcome],
+) -> Calls
+    requires here { IsIn (arc_value room.now) core.old }
+    requires room { length raws.now ≤ length told.old }
+    ensures answers { AnswersAll placed_state core.old (map asked_of raws.now) reply_code told.old result told.new core.new }
+    ensures here { IsIn (arc_value room.now) core.new }
+{
+    match &**room {
+        Some(space) => space.call_all(core, raws, told),
+        None => unreachable!(),
+    }
+}
+
+fn stop_status(stop: Stop) -> u32
+    ensures { result ≡ stop_status stop }
+{
+    match stop {
+        Stop::Done => DONE,
+        Stop::NoCall => BAD_EVENT,
+        Stop::NoMemory => NO_MEMORY,
+        Stop::Refused | Stop::Spent => AT_LIMIT,
+    }
+}
+
+fn calls_done(calls: Calls) -> Done
+    ensures { result ≡ calls_done calls }
+{
+    match calls {
+        Calls::Made(series) => Done {
+            status: stop_status(series.stop),
+            count: series.made as u64,
+        },
+        Calls::Busy => Done {
+            status: BUSY,
+            count: 0,
+        },
+    }
+}
+
+fn call_seat(seat: &mut Seat, raws: &[RawEvent], told: &mut [RawOutcome]) -> Done
+    ensures { CallsOn seat.old.core raws.now told.old result told.new seat.new.core }
+{
+    if let Some(refusal) = refusal_of(0, 0, raws.len(), told.len()) {
+        return refusal_done(refusal);
+    }
+    calls_done(calls_on(&seat.room, &mut seat.core, raws, told))
+}
+
+/// Whole calls of the seat's core, one after another, or it is told that another seat is in a call.
+pub fn call_chair(chair: &mut Chair, raws: &[RawEvent], told: &mut [RawOutcome]) -> Done
+    ensures { TellsCalls (core_on chair.old) raws.now told.old result told.new (core_on chair.new) }
+{
+    match chair {
+        Chair::Vacant => refusal_done(Refusal::Empty),
+        Chair::Taken(seat) => call_seat(seat, raws, told),
     }
 }
 

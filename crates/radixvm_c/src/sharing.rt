@@ -1,12 +1,12 @@
 //! Sharing a held machine among threads.
 ghost use Rattle.std.specs.Prelude.{◌≡◌, IfOk, IfErr};
-ghost use Rattle.radixvm_c.specs.Seats.{IsFirst, CannotShare, TellsShare, core_in, core_on, Closes, ClosesChair, TellsUnshare};
+ghost use Rattle.radixvm_c.specs.Seats.{IsFirst, CannotShare, unshared_code, TellsShare, core_in, core_on, Closes, ClosesChair, TellsUnshare};
 
 use crate::chair::{Chair, Seat};
 use crate::chair_handle::ChairHandle;
 use crate::handle::Handle;
-use crate::held::Held;
 use crate::placed::Placed;
+use coded::held::Held;
 use shared::{Core, Refusal, Space, Unshared};
 use std::alloc::Global;
 use std::mem::replace;
@@ -43,7 +43,7 @@ pub fn new_chair(alloc: Global) -> Option<Box<Chair, Global>> {
 }
 
 fn unshared_code(why: Refusal) -> u32
-    ensures { CannotShare result }
+    ensures { result ≡ unshared_code why }
 {
     match why {
         Refusal::NoMemory => NO_MEMORY,
@@ -53,7 +53,7 @@ fn unshared_code(why: Refusal) -> u32
 
 // The machine as it was, and why it isn't shared.
 fn kept_from(unshared: Unshared<Placed>) -> Kept
-    ensures { (result.held ≡ unshared.machine.held) × CannotShare result.status }
+    ensures { (result.held ≡ unshared.machine.held) × (result.status ≡ unshared_code unshared.why) }
 {
     let Unshared { machine, why } = unshared;
     let Placed { held } = machine;
@@ -67,7 +67,7 @@ fn kept_from(unshared: Unshared<Placed>) -> Kept
 // `Space::new` takes, which hands it back.
 fn seat_first(alloc: Global, held: Box<Held, Global>) -> Result<Seat, Kept>
     ensures ok { IfOk result (λ seat. IsFirst held.value seat.core) }
-    ensures err { IfErr result (λ kept. (kept.held ≡ held) × CannotShare kept.status) }
+    ensures err { IfErr result (λ kept. (kept.held ≡ held) × CannotShare held.value kept.status) }
 {
     let Ok(mut room) = Arc::new(alloc, None) else {
         return Err(Kept {

@@ -1,12 +1,14 @@
 //! The functions for C of a machine that threads share.
 ghost use Rattle.std.specs.Prelude.{◌≡◌, None};
-ghost use Rattle.radixvm_c.specs.Seats.{core_in, AreBeside, TellsShare, TellsSplit, TellsTry, TellsReturn, TellsUnshare};
+ghost use Rattle.radixvm_c.specs.Seats.{core_in, AreBeside, TellsShare, TellsSplit, TellsTry, TellsCalls, TellsReturn, TellsUnshare};
 
 use crate::chair_handle::ChairHandle;
-use crate::codes::{RawEvent, RawOutcome};
 use crate::handle::Handle;
-use crate::seats::{give_back, split, try_chair};
+use crate::seats::{call_chair, give_back, split, try_chair};
 use crate::sharing::{EMPTY, share, unshare};
+use coded::batch::{Done, refusal_done};
+use coded::codes::{RawEvent, RawOutcome};
+use coded::opening::Refusal;
 use std::alloc::Global;
 
 /// Shares the machine: its place is left empty, and the other one gets the seat of core 0.
@@ -34,7 +36,7 @@ pub extern "C" fn radixvm_split_seat(
     split(alloc, first, other)
 }
 
-/// Makes a whole call of the seat's core, or tells that another seat is in one.
+/// Makes a whole call of the seat's core, or a step beside calls, or tells that another seat is in a call.
 #[unsafe(no_mangle)]
 pub extern "C" fn radixvm_try_seat(
     chair: &mut ChairHandle,
@@ -48,6 +50,22 @@ pub extern "C" fn radixvm_try_seat(
         return EMPTY;
     }
     try_chair(chair.get_mut(), raw, told)
+}
+
+/// Makes whole calls of the seat's core, one after another, or tells that another seat is in a call.
+#[unsafe(no_mangle)]
+pub extern "C" fn radixvm_calls_seat(
+    chair: &mut ChairHandle,
+    raws: &[RawEvent],
+    told: &mut [RawOutcome],
+) -> Done
+    ensures { TellsCalls (core_in chair.old.value) raws.now told.old result told.new
+        (core_in chair.new.value) }
+{
+    if !chair.is_open() {
+        return refusal_done(Refusal::Empty);
+    }
+    call_chair(chair.get_mut(), raws, told)
 }
 
 /// Takes the other seat in, whose core is done. Both are of one machine.

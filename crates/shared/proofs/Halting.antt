@@ -1,6 +1,8 @@
 -- A call halts, is let go, or is given up, and is ended
-use Rattle.machine_laws.proofs.Words.{◌≡◌, ◌≢◌, ℕ, ◌+◌, ◌<◌, ◌≤◌, arith, Bool, true, false, refl, sym, ap, subst, None, List, [], ◌∙◌, inl, inr, ◌⊎◌, ⊎_elim, World, Made, Request, Reply, Event, Call, Go, Outcome}
-use Rattle.machine_laws.proofs.Words.{Stepped, Answered, Full, Idle, Wait, Phase, Free, Step, members, awaited, eq_true, eq_false, ◌==◌, nat_tests, Result, Ok, Err, ∥∥₁_elim, props}
+use Rattle.machine_laws.proofs.Words.{◌≡◌, ◌≢◌, ℕ, ◌+◌, ◌<◌, ◌≤◌, arith, Bool, true, false, refl, sym, ap, subst, None, List, [], ◌∙◌, inl}
+use Rattle.machine_laws.proofs.Words.{inr, ◌⊎◌, ⊎_elim, World, Made, Request, Reply, Event, Call, Go, Outcome}
+use Rattle.machine_laws.proofs.Words.{Stepped, Answered, Full, Idle, Wait, Phase, Free, Step, members, awaited, eq_true, eq_false, ◌==◌}
+use Rattle.machine_laws.proofs.Words.{nat_tests, Result, Ok, Err, ∥∥₁_elim, props}
 use Rattle.machine_laws.proofs.Going.{has_core}
 use Rattle.machine_laws.proofs.Shapes.{handed_out}
 use Rattle.machine_model.specs.declared.event.Event.TheVariants as EventOf
@@ -16,18 +18,23 @@ use Rattle.shared.specs.declared.whole.Ended.{Ended}
 use Rattle.shared.specs.declared.whole.Ended.TheVariants as To
 use Rattle.shared.specs.Histories.{Ends, IsOver, history_of}
 use Rattle.shared.specs.Calling.{ComesTo, EndsFrom, Halts, HaltsTo, InCall, IsAnswered, IsLetGo, LeavesHalted, Rests, TakesPast, Wants, ended_by, is_answered}
-use Rattle.shared.proofs.InCalls.{Ends-at-once, along, began, call_begins, call_made, call_refused, calls_first, event_on, finish_ends, finish_made, finish_on, gives_beside, refused_on, takes_beside, tried}
-use Rattle.shared.proofs.Limits.{AnswersOr, IsClosing, Taken, begun_rests, begun_short, closing_finishes, closing_refused, gives_up, left_awaited, left_below, let_go_finishes, none_left, over_stays, refused_full, take_rests, two_at_most, wants_busy}
+use Rattle.shared.proofs.InCalls.{Ends-at-once, along, began, call_begins, call_made, call_refused, calls_first, event_on, finish_ends}
+use Rattle.shared.proofs.InCalls.{finish_made, finish_on, gives_beside, refused_on, takes_beside, tried}
+use Rattle.shared.proofs.Limits.{AnswersOr, IsClosing, Taken, begun_rests, begun_short, closing_finishes, closing_refused, gives_up}
+use Rattle.shared.proofs.Limits.{left_awaited, left_below, let_go_finishes, none_left, over_stays, refused_full, take_rests, two_at_most}
+use Rattle.shared.proofs.Limits.{wants_busy}
 
 -- ---- a call comes to its reply, or halts
 
-halted : (w m : World) (c : ℕ) (request : Request) (o : Outcome) (v : World) → IsLegal w → IsCalm w → Step w (Call c request) Stepped m → InCall w c request m → handed_out o ≡ None
+halted : (w m : World) (c : ℕ) (request : Request) (o : Outcome) (v : World) → IsLegal w → IsCalm w → Step w (Call c request) Stepped m
+    → InCall w c request m → handed_out o ≡ None
     → ((reply : Reply) → o ≢ Answered reply) → Finishes m c (Last o) v → Halts w c request v
 halted w m c request o v legal calm s k quiet unanswered f =
     let on = finish_on w c request m (Last o) v k f quiet in
     (on, begun_rests w m c request o v legal calm s on.made unanswered f)
 
-finished_comes : (w : World) (c : ℕ) (request : Request) (m : World) (finished : Finished) (v : World) → IsLegal w → IsCalm w → Step w (Call c request) Stepped m → InCall w c request m
+finished_comes : (w : World) (c : ℕ) (request : Request) (m : World) (finished : Finished) (v : World) → IsLegal w → IsCalm w
+    → Step w (Call c request) Stepped m → InCall w c request m
     → Finishes m c finished v → ComesTo finished w c request v
 finished_comes w c request m Stuck v legal calm s k f = absurd (begun_short w m c request v legal calm s f)
 finished_comes w c request m (Last (Answered reply)) v legal calm s k f = finish_ends w c request m reply v k f
@@ -37,13 +44,17 @@ finished_comes w c request m (Last Idle) v legal calm s k f = inl (halted w m c 
 finished_comes w c request m (Last Full) v legal calm s k f = inl (halted w m c request Full v legal calm s k refl (λ reply e. cc) f)
 
 -- none could begin
-refused_comes : (w : World) (c : ℕ) (request : Request) (o : Outcome) (m : World) → c < w.made.cores → IsLegal w → IsCalm w → o ≢ Stepped → Step w (Call c request) o m
+refused_comes : (w : World) (c : ℕ) (request : Request) (o : Outcome) (m : World) → c < w.made.cores → IsLegal w → IsCalm w → o ≢ Stepped
+    → Step w (Call c request) o m
     → ComesTo (Last o) w c request m
 refused_comes w c request (Answered reply) m here legal calm ne s = absurd (let z = (call_refused w c request (Answered reply) m legal calm ne s).1 in cc)
 refused_comes w c request Stepped m here legal calm ne s = absurd (ne refl)
-refused_comes w c request (Wait by) m here legal calm ne s = let z = (call_refused w c request (Wait by) m legal calm ne s).0 in inr (z.calm, z.adds, refused_full w c request (Wait by) m here calm ne s)
-refused_comes w c request Idle m here legal calm ne s = let z = (call_refused w c request Idle m legal calm ne s).0 in inr (z.calm, z.adds, refused_full w c request Idle m here calm ne s)
-refused_comes w c request Full m here legal calm ne s = let z = (call_refused w c request Full m legal calm ne s).0 in inr (z.calm, z.adds, refused_full w c request Full m here calm ne s)
+refused_comes w c request (Wait by) m here legal calm ne s = let z = (call_refused w c request (Wait by) m legal calm ne s).0 in
+    inr (z.calm, z.adds, refused_full w c request (Wait by) m here calm ne s)
+refused_comes w c request Idle m here legal calm ne s = let z = (call_refused w c request Idle m legal calm ne s).0 in
+    inr (z.calm, z.adds, refused_full w c request Idle m here calm ne s)
+refused_comes w c request Full m here legal calm ne s = let z = (call_refused w c request Full m legal calm ne s).0 in
+    inr (z.calm, z.adds, refused_full w c request Full m here calm ne s)
 
 call_comes : (w : World) (c : ℕ) (request : Request) (finished : Finished) (v : World) → c < w.made.cores → IsLegal w → IsCalm w → Calls w c request finished v
     → ComesTo finished w c request v
@@ -57,13 +68,15 @@ call_comes w c request finished v here legal calm k = ⊎_elim
     (began k.0)
 
 -- a call and what settles it
-pub call_settles : (w : World) (c : ℕ) (request : Request) (finished : Finished) (m : World) (ended : Ended) (v : World) → c < w.made.cores → IsLegal w → IsCalm w
+pub call_settles : (w : World) (c : ℕ) (request : Request) (finished : Finished) (m : World) (ended : Ended) (v : World) → c < w.made.cores → IsLegal w
+    → IsCalm w
     → Calls w c request finished m → EndsFrom (ComesTo finished) m c ended v → Ends w c request ended v × (v.made ≡ w.made)
 call_settles w c request finished m ended v here legal calm called settled =
     settled w request (call_made w c request finished m called) (call_comes w c request finished m here legal calm called)
 
 -- a call that was refused memory, and how it is given up
-pub call_gives_up : (kept : Bool) (w : World) (c : ℕ) (request : Request) (m : World) (ended : Ended) (v : World) → IsLegal w → IsCalm w → IsCallRefused kept w c request m
+pub call_gives_up : (kept : Bool) (w : World) (c : ℕ) (request : Request) (m : World) (ended : Ended) (v : World) → IsLegal w → IsCalm w
+    → IsCallRefused kept w c request m
     → EndsFrom Wants m c ended v → Ends w c request ended v × (v.made ≡ w.made)
 call_gives_up kept w c request m ended v legal calm k ends =
     let on = along w c request k.0 (call_begins w c request k.0 legal calm k.1) k.2.0 m k.2.3 in
@@ -90,16 +103,19 @@ not_answered w c request (Last Idle) x a k = k
 not_answered w c request (Last Full) x a k = k
 not_answered w c request Stuck x a k = k
 
-pub settled_free : (x : World) (c : ℕ) (finished : Finished) → is_answered finished ≡ false → x.calls.phase c ≡ Free → EndsFrom (ComesTo finished) x c To.Refused x
+pub settled_free : (x : World) (c : ℕ) (finished : Finished) → is_answered finished ≡ false → x.calls.phase c ≡ Free
+    → EndsFrom (ComesTo finished) x c To.Refused x
 settled_free x c finished a free = λ w request made k. (
   ⊎_elim (λ (i : Halts w c request x). absurd (i.0.runs free)) (λ (e : Ends w c request To.Refused x). e) (not_answered w c request finished x a k),
   made,
 )
 
-pub settled_waits : (x : World) (c : ℕ) (finished : Finished) (ended : Ended) (v : World) → is_answered finished ≡ false → x.calls.phase c ≢ Free → EndsFrom Halts x c ended v
+pub settled_waits : (x : World) (c : ℕ) (finished : Finished) (ended : Ended) (v : World) → is_answered finished ≡ false → x.calls.phase c ≢ Free
+    → EndsFrom Halts x c ended v
     → EndsFrom (ComesTo finished) x c ended v
 settled_waits x c finished ended v a runs ends = λ w request made k.
-    ⊎_elim (λ (i : Halts w c request x). ends w request made i) (λ (e : Ends w c request To.Refused x). absurd (runs (e.0 c))) (not_answered w c request finished x a k)
+    ⊎_elim (λ (i : Halts w c request x). ends w request made i) (λ (e : Ends w c request To.Refused x). absurd (runs (e.0 c)))
+    (not_answered w c request finished x a k)
 
 -- ---- takes
 
@@ -140,7 +156,8 @@ takes_past awaited other x y v c r q first second = λ w request k.
 pub halts_first : (set : ℕ) (x : World) (c : ℕ) → members set ≡ awaited x.hardware.inbox c → LeavesHalted (HaltsTo set 0) x c x
 halts_first set x c is = λ w request k. (
   k.0,
-  ⊎_elim (λ (r : Rests c request x). inl (r, λ d some. (ap (λ (f : ℕ → Bool). f d) is ∙ left_awaited x c request r d some, omega arith))) (λ (over : IsOver x). inr over) k.1,
+  ⊎_elim (λ (r : Rests c request x). inl (r, λ d some. (ap (λ (f : ℕ → Bool). f d) is ∙ left_awaited x c request r d some, omega arith)))
+      (λ (over : IsOver x). inr over) k.1,
 )
 
 beyond : (n d : ℕ) → n ≤ d → (d ≢ n) → n + 1 ≤ d
@@ -151,7 +168,8 @@ beyond n d l ne = go (d == n) refl
     go false e = grind (arith, nat_tests)
 
 -- the next one takes
-pub halts_next : (set n other : ℕ) (u x : World) (c : ℕ) (v : World) → other ≡ n → LeavesHalted (HaltsTo set n) u c x → TakesPast set other x c v → LeavesHalted (HaltsTo set (n + 1)) u c v
+pub halts_next : (set n other : ℕ) (u x : World) (c : ℕ) (v : World) → other ≡ n → LeavesHalted (HaltsTo set n) u c x → TakesPast set other x c v
+    → LeavesHalted (HaltsTo set (n + 1)) u c v
 halts_next set n other u x c v is before past = λ w request k.
     let takes : TakesPast set n x c v = subst (λ m. TakesPast set m x c v) is past in
     let h = before w request k in
@@ -180,7 +198,11 @@ halts_last set n u c v all before = λ w request k.
       h.0,
       ⊎_elim
           (λ (a : Rests c request v × ((d : ℕ) → 0 < left_to v d → (members set d ≡ true) × (n ≤ d))).
-          inl (a.0, λ d. none_left (left_to v d) (λ some. let high = (a.1 d some).1 in let low = left_below v c request a.0 d some in omega (arith, all, high, low))))
+          inl (
+            a.0,
+            λ d. none_left (left_to v d)
+                (λ some. let high = (a.1 d some).1 in let low = left_below v c request a.0 d some in omega (arith, all, high, low)),
+          ))
           (λ (over : IsOver v). inr over)
           h.1,
     )
@@ -188,9 +210,11 @@ halts_last set n u c v all before = λ w request k.
 -- ---- ending a call that is in flight
 
 -- one that was finished
-pub finish_by : (w : World) (c : ℕ) (request : Request) (x : World) (finished : Finished) (v : World) (ended : Ended) → InCall w c request x → Finishes x c finished v
+pub finish_by : (w : World) (c : ℕ) (request : Request) (x : World) (finished : Finished) (v : World) (ended : Ended) → InCall w c request x
+    → Finishes x c finished v
     → AnswersOr finished v → ended ≡ ended_by finished → Ends w c request ended v × (v.made ≡ w.made)
-finish_by w c request x finished v ended k f answers is = (subst (λ (e : Ended). Ends w c request e v) (sym is) (go finished f answers), finish_made x c finished v f ∙ k.made)
+finish_by w c request x finished v ended k f answers is =
+    (subst (λ (e : Ended). Ends w c request e v) (sym is) (go finished f answers), finish_made x c finished v f ∙ k.made)
   where
     spent : (finished : Finished) → is_answered finished ≡ false → InCall w c request v → AnswersOr finished v → Ends w c request To.Spent v
     spent finished no_reply on answers = (
@@ -212,7 +236,8 @@ pub let_go_ends : (u x : World) (c : ℕ) (finished : Finished) (v : World) (end
 let_go_ends u x c finished v ended lets f is = λ w request made k.
     let h = lets w request k in finish_by w c request x finished v ended h.0 f (let_go_finishes x c request finished v h.1 f) is
 
-pub let_go_refused : (keeps : Bool) (u x : World) (c : ℕ) (m : World) (ended : Ended) (v : World) → LeavesHalted IsLetGo u c x → IsRefused keeps x c m → EndsFrom Wants m c ended v
+pub let_go_refused : (keeps : Bool) (u x : World) (c : ℕ) (m : World) (ended : Ended) (v : World) → LeavesHalted IsLetGo u c x → IsRefused keeps x c m
+    → EndsFrom Wants m c ended v
     → EndsFrom Halts u c ended v
 let_go_refused keeps u x c m ended v lets r ends = λ w request made k.
     let h = lets w request k in
@@ -220,19 +245,22 @@ let_go_refused keeps u x c m ended v lets r ends = λ w request made k.
     ends w request on.made (on, (keeps, r.2))
 
 -- where it was given up
-gives_then : (w : World) (c : ℕ) (request : Request) (x m : World) (r : Result Outcome NoMemory) → Wants w c request x → Tries (Step x (EventOf.GiveUp c)) ⊥ x r m
+gives_then : (w : World) (c : ℕ) (request : Request) (x m : World) (r : Result Outcome NoMemory) → Wants w c request x
+    → Tries (Step x (EventOf.GiveUp c)) ⊥ x r m
     → InCall w c request m × (IsClosing (m.calls.phase c) ⊎ IsOver m)
 gives_then w c request x m r k t =
     let one = tried ⊥ x m (EventOf.GiveUp c) r (λ z. z) t in
     let here : c < x.made.cores = ∥∥₁_elim k.0.reached (hlevel props) (λ r. has_core x c (reached_fine x r).order (wants_busy k.1.0 x c k.1.1)) in
     (event_on w c request x m (EventOf.GiveUp c) one.0 (gives_beside c) k.0 one.1, gives_up k.1.0 x c one.0 m here k.1.1 one.1)
 
-pub given_up_ends : (x m : World) (c : ℕ) (r : Result Outcome NoMemory) (finished : Finished) (v : World) (ended : Ended) → Tries (Step x (EventOf.GiveUp c)) ⊥ x r m
+pub given_up_ends : (x m : World) (c : ℕ) (r : Result Outcome NoMemory) (finished : Finished) (v : World) (ended : Ended)
+    → Tries (Step x (EventOf.GiveUp c)) ⊥ x r m
     → Finishes m c finished v → ended ≡ ended_by finished → EndsFrom Wants x c ended v
 given_up_ends x m c r finished v ended t f is = λ w request made k.
     let h = gives_then w c request x m r k t in finish_by w c request m finished v ended h.0 f (closing_finishes m c finished v h.0.reached h.1 f) is
 
-pub given_up_refused : (keeps : Bool) (x m : World) (c : ℕ) (r : Result Outcome NoMemory) (v : World) → Tries (Step x (EventOf.GiveUp c)) ⊥ x r m → IsRefused keeps m c v
+pub given_up_refused : (keeps : Bool) (x m : World) (c : ℕ) (r : Result Outcome NoMemory) (v : World) → Tries (Step x (EventOf.GiveUp c)) ⊥ x r m
+    → IsRefused keeps m c v
     → EndsFrom Wants x c To.Spent v
 given_up_refused keeps x m c r v t refused = λ w request made k.
     let h = gives_then w c request x m r k t in

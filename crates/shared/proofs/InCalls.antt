@@ -1,7 +1,11 @@
 -- A call that has begun: each step of it, and each take of another core, adds to the log what it is replied, and nothing of other cores
-use Rattle.machine_laws.proofs.Words.{◌≡◌, ◌≢◌, ℕ, zero, suc, ◌+◌, ◌<◌, arith, ◌==◌, Bool, true, false, refl, sym, ap, subst, Some, None, Option, [], ◌∷◌, ◌++◌, ◌∙◌, inl, inr, ◌⊎◌, ⊎_elim}
-use Rattle.machine_laws.proofs.Words.{List, length, append-nil, eq_true, eq_false, put_same, put_other, put, Request, Reply, Entry, nth, Replays, World, Event, Call, Go, Outcome}
-use Rattle.machine_laws.proofs.Words.{Stepped, Answered, Full, Phase, Free, Check, Unlock, Answer, to, with_event, after_call, answer_entry, detach_entry, Step, StepsTo, event_limit, nat_lt, put_all, nothing_mapped, nat_tests, Idle, Wait, Result, Ok, Err, ∥∥₁_elim, ∥∥₁_map, props}
+use Rattle.machine_laws.proofs.Words.{◌≡◌, ◌≢◌, ℕ, zero, suc, ◌+◌, ◌<◌, arith, ◌==◌, Bool, true, false, refl, sym, ap, subst, Some, None}
+use Rattle.machine_laws.proofs.Words.{Option, [], ◌∷◌, ◌++◌, ◌∙◌, inl, inr, ◌⊎◌, ⊎_elim}
+use Rattle.machine_laws.proofs.Words.{List, length, append-nil, eq_true, eq_false, put_same, put_other, put, Request, Reply, Entry, nth}
+use Rattle.machine_laws.proofs.Words.{Replays, World, Event, Call, Go, Outcome}
+use Rattle.machine_laws.proofs.Words.{Stepped, Answered, Full, Phase, Free, Check, Unlock, Answer, to, with_event, after_call, answer_entry}
+use Rattle.machine_laws.proofs.Words.{detach_entry, Step, StepsTo, event_limit, nat_lt, put_all, nothing_mapped, nat_tests, Idle, Wait}
+use Rattle.machine_laws.proofs.Words.{Result, Ok, Err, ∥∥₁_elim, ∥∥₁_map, props}
 use Rattle.machine_laws.proofs.Effects.{Status, Closed, Asked, Told, status, statuses, SameCalls, Effect, keeps, tells, detaches, opens, closes, effect_of}
 use Rattle.machine_laws.proofs.Numbered.{at_new}
 use Rattle.machine_laws.proofs.Going.{has_core}
@@ -62,7 +66,8 @@ adds_nothing c h k e = subst (Adds c [] h) (sym e)
     (record { begins = (begins_self h.requests, begins_self h.entries); own = sym (append-nil (replied_by c h)); others = λ d ne. refl })
 
 -- an entry more
-adds_entry : (c : ℕ) (old new : List Replied) (h : History) (x v : World) (entry : Entry) → v.calls.requests ≡ x.calls.requests → v.calls.log ≡ x.calls.log ++ entry ∷ []
+adds_entry : (c : ℕ) (old new : List Replied) (h : History) (x v : World) (entry : Entry) → v.calls.requests ≡ x.calls.requests
+    → v.calls.log ≡ x.calls.log ++ entry ∷ []
     → replied_in c x.calls.requests (x.calls.log ++ entry ∷ []) ≡ replied_by c h ++ new
     → ((d : ℕ) → d ≢ c → replied_in d x.calls.requests (x.calls.log ++ entry ∷ []) ≡ replied_by d (history_of x))
     → Adds c old h (history_of x) → Adds c new h (history_of v)
@@ -103,7 +108,8 @@ step_on w c request x v e o k no_call quiet reached made effect = elim effect [
       let mine : b ≡ c = same_core c b x Asked k.others asked asked_open in
       let asked_c : status (x.calls.phase c) ≡ Asked = subst (λ n. status (x.calls.phase n) ≡ Asked) mine asked in
       let none : reply_in (x.calls.phase c) ≡ None = told_in (x.calls.phase c) ∙ ap told asked_c in
-      let before : Adds c [] (history_of w) (history_of x) = subst (λ (o : Option Reply). Adds c (logged request o) (history_of w) (history_of x)) none k.adds in
+      let before : Adds c [] (history_of w) (history_of x) =
+      subst (λ (o : Option Reply). Adds c (logged request o) (history_of w) (history_of x)) none k.adds in
       let known : nth x.calls.requests (x.calls.number c) ≡ Some request =
       ap (λ (p : List Request × ℕ). nth p.0 p.1) (λ i. (k.requests i, k.number i)) ∙ at_new w.calls.requests request in
       next same (λ d ne. sts d ∙ (put_other (statuses x) b (Told reply) d (λ i. ne (i ∙ mine)) ∙ ap status (k.others d ne)))
@@ -117,7 +123,8 @@ step_on w c request x v e o k no_call quiet reached made effect = elim effect [
       let mine : b ≡ c = same_core c b x Asked k.others asked asked_open in
       let asked_c : status (x.calls.phase c) ≡ Asked = subst (λ n. status (x.calls.phase n) ≡ Asked) mine asked in
       let none : reply_in (x.calls.phase c) ≡ None = told_in (x.calls.phase c) ∙ ap told asked_c in
-      let before : Adds c [] (history_of w) (history_of x) = subst (λ (o : Option Reply). Adds c (logged request o) (history_of w) (history_of x)) none k.adds in
+      let before : Adds c [] (history_of w) (history_of x) =
+      subst (λ (o : Option Reply). Adds c (logged request o) (history_of w) (history_of x)) none k.adds in
       next same (λ d ne. sts d ∙ ap status (k.others d ne)) Asked (sts c ∙ asked_c) asked_open
       (adds_entry c [] [] (history_of w) x v (detach_entry (with_event x) b page) same.requests log
       (copy_more c x.calls.requests x.calls.log _ _ page ∙ before.own) (λ d ne. copy_more d x.calls.requests x.calls.log _ _ page) before)
@@ -138,7 +145,8 @@ step_on w c request x v e o k no_call quiet reached made effect = elim effect [
     }
 
 -- the call hands out its reply
-step_ends : (w : World) (c : ℕ) (request : Request) (x v : World) (e : Event) (o : Outcome) (reply : Reply) → InCall w c request x → ((d : ℕ) (q : Request) → e ≢ Call d q)
+step_ends : (w : World) (c : ℕ) (request : Request) (x v : World) (e : Event) (o : Outcome) (reply : Reply) → InCall w c request x
+    → ((d : ℕ) (q : Request) → e ≢ Call d q)
     → o ≡ Answered reply → Effect (with_event x) e o v → IsCalm v × Adds c (replied request reply ∷ []) (history_of w) (history_of v)
 step_ends w c request x v e o reply k no_call answered effect = elim effect [
   | keeps inner same log sts ↦ absurd (let z = sym inner.1 ∙ ap handed_out answered in cc)
@@ -149,15 +157,18 @@ step_ends w c request x v e o reply k no_call answered effect = elim effect [
       let mine : b ≡ c = same_core c b x (Told y) k.others told_b (told_open y) in
       let z : Answered y ≡ Answered reply = sym i ∙ answered in
       let its : y ≡ reply = cc in
-      let told_c : reply_in (x.calls.phase c) ≡ Some reply = told_in (x.calls.phase c) ∙ (ap (λ n. told (status (x.calls.phase n))) (sym mine) ∙ (ap told told_b ∙ ap Some its)) in
-      let before : Adds c (replied request reply ∷ []) (history_of w) (history_of x) = subst (λ (o : Option Reply). Adds c (logged request o) (history_of w) (history_of x)) told_c k.adds in (
+      let told_c : reply_in (x.calls.phase c) ≡ Some reply = told_in (x.calls.phase c)
+      ∙ (ap (λ n. told (status (x.calls.phase n))) (sym mine) ∙ (ap told told_b ∙ ap Some its)) in
+      let before : Adds c (replied request reply ∷ []) (history_of w) (history_of x) =
+      subst (λ (o : Option Reply). Adds c (logged request o) (history_of w) (history_of x)) told_c k.adds in (
         subst IsCalm (sym h) (put_all (λ d phase. phase ≡ Free) x.calls.phase b Free refl (λ d ne. k.others d (λ i. ne (i ∙ sym mine)))),
         subst (λ (v : World). Adds c (replied request reply ∷ []) (history_of w) (history_of v)) (sym h) before,
       )
 ]
 
 -- the event counts, or the limit is reached
-by_effect : (P : World → Type 0) (x v : World) (e : Event) (o : Outcome) → IsReached x → Comes x e o v → (nat_lt x.calls.events event_limit ≡ false → IsInner e o → v ≡ x → P v)
+by_effect : (P : World → Type 0) (x v : World) (e : Event) (o : Outcome) → IsReached x → Comes x e o v
+    → (nat_lt x.calls.events event_limit ≡ false → IsInner e o → v ≡ x → P v)
     → (Effect (with_event x) e o v → P v) → P v
 by_effect P x v e o r (stopped n inner h) at_limit otherwise = at_limit n inner h
 by_effect P x v e o r (happens n shape) at_limit otherwise = otherwise (effect_of (with_event x) e o v (reached_fine x r).order shape)
@@ -174,7 +185,8 @@ goes_on w c request x v e o k no_call quiet s =
 pub ends_so : (w : World) (c : ℕ) (request : Request) (x v : World) (e : Event) (reply : Reply) → InCall w c request x → ((d : ℕ) (q : Request) → e ≢ Call d q)
     → Step x e (Answered reply) v → IsCalm v × Adds c (replied request reply ∷ []) (history_of w) (history_of v)
 ends_so w c request x v e reply k no_call s =
-    ∥∥₁_elim k.reached (hlevel props) (λ r. by_effect (λ v. IsCalm v × Adds c (replied request reply ∷ []) (history_of w) (history_of v)) x v e (Answered reply) r
+    ∥∥₁_elim k.reached (hlevel props)
+    (λ r. by_effect (λ v. IsCalm v × Adds c (replied request reply ∷ []) (history_of w) (history_of v)) x v e (Answered reply) r
     (comes x e (Answered reply) v s) (λ _ inner _. absurd (let z = inner.1 in cc)) (step_ends w c request x v e (Answered reply) reply k no_call refl))
 
 steps_made : (x : World) (c n : ℕ) (v : World) → StepsTo x c n v → v.made ≡ x.made
@@ -196,13 +208,15 @@ quiet_or (Answered reply) = inr (reply, refl)
 quiet_or _ = inl refl
 
 -- what finishing a call leaves, where it isn't answered
-pub finish_on : (w : World) (c : ℕ) (request : Request) (x : World) (finished : Finished) (v : World) → InCall w c request x → Finishes x c finished v → is_last finished ≡ None
+pub finish_on : (w : World) (c : ℕ) (request : Request) (x : World) (finished : Finished) (v : World) → InCall w c request x → Finishes x c finished v
+    → is_last finished ≡ None
     → InCall w c request v
 finish_on w c request x (Last o) v k f none = goes_on w c request f.1.2.0 v (Go c) o (along w c request x k f.0 f.1.2.0 f.1.2.1) (go_no_call c) none f.1.2.2
 finish_on w c request x Stuck v k f none = along w c request x k f.0 v f.1.1
 
 -- and where it is
-pub finish_ends : (w : World) (c : ℕ) (request : Request) (x : World) (reply : Reply) (v : World) → InCall w c request x → Finishes x c (Last (Answered reply)) v
+pub finish_ends : (w : World) (c : ℕ) (request : Request) (x : World) (reply : Reply) (v : World) → InCall w c request x
+    → Finishes x c (Last (Answered reply)) v
     → IsCalm v × Adds c (replied request reply ∷ []) (history_of w) (history_of v)
 finish_ends w c request x reply v k f = ends_so w c request f.1.2.0 v (Go c) reply (along w c request x k f.0 f.1.2.0 f.1.2.1) (go_no_call c) f.1.2.2
 
@@ -213,7 +227,8 @@ finish_made x c Stuck v f = steps_made x c f.0 v f.1.1
 
 -- ---- a call that begins
 
-begun_by_effect : (w : World) (c : ℕ) (request : Request) (m : World) → IsCalm w → AllKnown w.calls.requests w.calls.log → ∥ IsReached m ∥₁ → Effect (with_event w) (Call c request) Stepped m
+begun_by_effect : (w : World) (c : ℕ) (request : Request) (m : World) → IsCalm w → AllKnown w.calls.requests w.calls.log → ∥ IsReached m ∥₁
+    → Effect (with_event w) (Call c request) Stepped m
     → InCall w c request m
 begun_by_effect w c request m calm known reached effect = elim effect [
   | keeps inner same log sts ↦ absurd (let z = inner.0 0 in cc)
@@ -280,7 +295,8 @@ none_begun w c request o m calm ne effect = elim effect [
 pub call_refused : (w : World) (c : ℕ) (request : Request) (o : Outcome) (m : World) → IsLegal w → IsCalm w → o ≢ Stepped → Step w (Call c request) o m
     → StaysCalm w c m × (handed_out o ≡ None)
 call_refused w c request o m legal calm ne s =
-    ∥∥₁_elim legal.reached (hlevel props) (λ r. by_effect (λ m. StaysCalm w c m × (handed_out o ≡ None)) w m (Call c request) o r (comes w (Call c request) o m s)
+    ∥∥₁_elim legal.reached (hlevel props)
+    (λ r. by_effect (λ m. StaysCalm w c m × (handed_out o ≡ None)) w m (Call c request) o r (comes w (Call c request) o m s)
     (λ _ inner h. (subst (StaysCalm w c) (sym h) (record { calm = calm; adds = adds_nothing c (history_of w) (history_of w) refl }), inner.1))
     (none_begun w c request o m calm ne))
 
@@ -305,7 +321,8 @@ call_made w c request finished v k = ⊎_elim
 
 -- ---- a call that is in flight
 
-pub calls_first : (w : World) (c : ℕ) (request : Request) (x : World) → InCall w c request x → (added : List Replied) × Adds c added (history_of w) (history_of x)
+pub calls_first : (w : World) (c : ℕ) (request : Request) (x : World) → InCall w c request x
+    → (added : List Replied) × Adds c added (history_of w) (history_of x)
 calls_first w c request x k = (logged request (reply_in (x.calls.phase c)), k.adds)
 
 -- finishing is refused memory
@@ -326,7 +343,8 @@ hands_none x v e o b effect = elim effect [
   | closes d y i _ _ _ ↦ absurd (b.no_go d i)
 ]
 
-pub event_on : (w : World) (c : ℕ) (request : Request) (x v : World) (e : Event) (o : Outcome) → IsBesides e → InCall w c request x → Step x e o v → InCall w c request v
+pub event_on : (w : World) (c : ℕ) (request : Request) (x v : World) (e : Event) (o : Outcome) → IsBesides e → InCall w c request x → Step x e o v
+    → InCall w c request v
 event_on w c request x v e o b k s =
     let none : handed_out o ≡ None =
     ∥∥₁_elim k.reached (hlevel props) (λ r. by_effect (λ v. handed_out o ≡ None) x v e o r (comes x e o v s) (λ _ inner _. inner.1) (hands_none x v e o b)) in

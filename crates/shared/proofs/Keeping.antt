@@ -1,16 +1,18 @@
 -- Each step keeps the rule of the one history
 use Rattle.std.proofs.Common.{◌≡◌, ◌≢◌, ℕ, zero, suc, ◌+◌, ◌-◌, ◌<◌, ◌≤◌, eqb, cond, List, [], ◌∷◌, ◌++◌, length, get_or, set, refl}
-use Rattle.std.proofs.Common.{sym, ap, ◌∙◌, subst, ◌⊎◌, inl, inr, ⊎_elim, arith, eq-eqb, ne_eqb, length-set}
-use Rattle.std.specs.Prelude.{MatchBool, slice_get, slice_index, Some}
+use Rattle.std.proofs.Common.{sym, ap, ◌∙◌, subst, ◌⊎◌, inl, inr, ⊎_elim, arith, eq-eqb, ne_eqb, length-set, append-nil}
+use Rattle.std.specs.Prelude.{MatchBool, Option, slice_get, slice_index, Some}
 use mathlib.Core.Bool.{Bool, true, false}
 use mathlib.Core.Option.{some, none, some-ne-none, some-injective}
 use lib.ListN.{get_elem?}
 use prog.Atomic.{either}
-use Rattle.atomic_table.specs.Table.{State, Me, step, keeps, takes, gives, stepped, put_back, Act, Valid, carried_after, opening, Allows, Splits, Joins, Seen, Final, rest}
+use Rattle.atomic_table.specs.Table.{State, Me, step, keeps, takes, gives, stepped, put_back, Act, Valid, carried_after, opening, Allows}
+use Rattle.atomic_table.specs.Table.{Splits, Joins, Seen, Final, rest}
 use Rattle.atomic_table.proofs.Lists.{at_set, set_again}
 use Rattle.atomic_table.specs.Seated.{TableId}
 use Rattle.vm_base.proofs.Functions.{eq_true}
 use Rattle.vm_base.specs.declared.requests.Request.{Request}
+use Rattle.vm_base.specs.declared.replies.Reply.{Reply}
 use Rattle.std.proofs.Math.Logic.{∥∥₁_elim}
 use Rattle.std.proofs.Props.{props}
 use Rattle.machine_sound.proofs.Kept.{reached_fine}
@@ -27,12 +29,18 @@ use Rattle.shared.specs.declared.asides.Aside.{Aside}
 use Rattle.machine_model.specs.declared.event.Event.{Event}
 use Rattle.machine_model.specs.declared.event.Outcome.{Outcome}
 use Rattle.machine_model.specs.declared.event.Outcome.TheVariants.{Full}
+use Rattle.shared.specs.declared.space.Calls.TheVariants as Lists
+use Rattle.shared.specs.declared.series.Series.{Series}
+use Rattle.shared.specs.declared.series.Stop.{Stop}
+use Rattle.shared.specs.declared.series.Stop.TheVariants as For
+use Rattle.shared.specs.Serial.{AreTold, EndsSeries, LeavesFor}
 use Rattle.shared.specs.declared.space.Known.{Known}
 use Rattle.shared.specs.declared.whole.Ended.{Ended}
 use Rattle.shared.specs.declared.whole.Ended.TheVariants as To
 use Rattle.shared.specs.Histories.{Adds, Begins, Ends, IsFull, IsOver, StepsAside, event_of, history_of, replied, replied_by}
-use Rattle.shared.specs.Cores.{Agrees, Answers, Came, Extends, IsLater, IsTold, Passes, history_first, made_of}
-use Rattle.shared.specs.Rules.{CanGive, Fits, Gives, Home, Kept, Learns, Makes, Out, Takes, Took, after, answer_of, first_known, history_carried, holding, row, spent_core, split_known, view_of, with_other, word_of}
+use Rattle.shared.specs.Cores.{Agrees, Answers, AnswersAll, Came, Extends, GoesFor, IsLater, IsTold, Passes, history_first, made_of}
+use Rattle.shared.specs.Rules.{CanGive, Fits, Gives, Home, Kept, Learns, Makes, Out, Takes, Took, after, answer_of, first_known}
+use Rattle.shared.specs.Rules.{history_carried, holding, padded, spent_core, split_known, view_of, with_other, word_after, word_of}
 use Rattle.shared.proofs.InCalls.{adds_nothing}
 use Rattle.shared.proofs.Limits.{over_full}
 use Rattle.shared.proofs.Lists.{begins_self, begins_through}
@@ -53,7 +61,8 @@ module _ {A : Type 0} where
 
   each_end : (P : ℕ → A → Type 0) (l : List A) (a : A) → ((k : ℕ) (v : A) → get_elem? l k ≡ some v → P k v) → P (length l) a
       → (k : ℕ) (v : A) → get_elem? (l ++ a ∷ []) k ≡ some v → P k v
-  each_end P l a old new k v e = ⊎_elim (λ t. old k v t) (λ (t : (k ≡ length l) × (a ≡ v)). subst (λ (x : ℕ × A). P x.0 x.1) (λ j. (sym t.0 j, t.1 j)) new) (at_end l a v k e)
+  each_end P l a old new k v e = ⊎_elim (λ t. old k v t) (λ (t : (k ≡ length l) × (a ≡ v)). subst (λ (x : ℕ × A). P x.0 x.1) (λ j. (sym t.0 j, t.1 j)) new)
+      (at_end l a v k e)
 
 not_true : (b : Bool) → (b ≡ true → ⊥) → b ≡ false
 not_true true n = absurd (n refl)
@@ -69,7 +78,7 @@ module _ {S : Type 0} (state : S → World) (key : List S) where
   -- ---- the start
 
   pub opened : (d : S) → key ≡ d ∷ [] → IsLegal (state d) → IsCalm (state d) → 0 < (state d).made.cores
-      → Kept state key (opening (row 1) (d ∷ []) (first_known state key))
+      → Kept state key (opening (padded 1) (d ∷ []) (first_known state key))
   opened d is legal calm some_core =
       let made : made_of state key ≡ (state d).made = ap (made_of state) is in
       let first : history_first state key ≡ history_of (state d) = ap (history_first state) is in
@@ -114,7 +123,8 @@ module _ {S : Type 0} (state : S → World) (key : List S) where
   -- ---- the machine is taken
 
   -- it wasn't there, or no call can begin
-  not_taken : (slots id : ℕ) (me : Me S (Known S)) (s : State S (Known S)) → Kept state key s → get_elem? s.views id ≡ some me.0 → (n : ℕ) → s.words ≡ row n → eqb n 1 ≡ false
+  not_taken : (slots id : ℕ) (me : Me S (Known S)) (s : State S (Known S)) → Kept state key s → get_elem? s.views id ≡ some me.0 → (n : ℕ)
+      → s.words ≡ padded n → eqb n 1 ≡ false
       → (n ≢ 0 → me.0.live ≡ true → (u : World) × IsLater state me.0.first me.0.seen u × IsOver u)
       → (w : Known S) × (a : Act S) × Valid s.homes me.1 a
       × Kept state key (stepped s 8 (either (eqb (slice_index s.words 8) 1) 0 (slice_index s.words 8)) id me.1 w a)
@@ -122,7 +132,7 @@ module _ {S : Type 0} (state : S → World) (key : List S) where
   not_taken slots id me s k at n is other over =
       let there : slice_index s.words 8 ≡ n = ap (λ ws. slice_index ws 8) is in
       let words : set s.words 8 (either (eqb (slice_index s.words 8) 1) 0 (slice_index s.words 8)) ≡ s.words =
-      ap (λ ws. set ws 8 (either (eqb (slice_index ws 8) 1) 0 (slice_index ws 8))) is ∙ (ap (λ b. row (either b 0 n)) other ∙ sym is) in
+      ap (λ ws. set ws 8 (either (eqb (slice_index ws 8) 1) 0 (slice_index ws 8))) is ∙ (ap (λ b. padded (either b 0 n)) other ∙ sym is) in
       let views : set s.views id me.0 ≡ s.views = set_again s.views id me.0 at in (
         me.0,
         keeps,
@@ -135,7 +145,8 @@ module _ {S : Type 0} (state : S → World) (key : List S) where
       missed n other over = subst (λ b. MatchBool b ((d : S) × (me ≡ (holding me.0 (history_of (state d)), (0, d) ∷ me.1)) × Learns state me.0 d)
           ((me ≡ me) × (n ≢ 0 → me.0.live ≡ true → (u : World) × IsLater state me.0.first me.0.seen u × IsOver u))) (sym other) (refl, over)
 
-  taken : (slots id : ℕ) (me : Me S (Known S)) (s : State S (Known S)) (k : Kept state key s) → get_elem? s.views id ≡ some me.0 → (f : Home state key s k.history) → f.word ≡ 1
+  taken : (slots id : ℕ) (me : Me S (Known S)) (s : State S (Known S)) (k : Kept state key s) → get_elem? s.views id ≡ some me.0
+      → (f : Home state key s k.history) → f.word ≡ 1
       → (w : Known S) × (a : Act S) × Valid s.homes me.1 a
       × Kept state key (stepped s 8 (either (eqb (slice_index s.words 8) 1) 0 (slice_index s.words 8)) id me.1 w a)
       × Takes state (step slots 8 1 0 none) me (slice_index s.words 8) (w, carried_after me.1 a)
@@ -144,7 +155,7 @@ module _ {S : Type 0} (state : S → World) (key : List S) where
       let w : Known S = holding me.0 (history_of (state d)) in
       let fits = k.each id me.0 at in
       let me' : Me S (Known S) = (w, (0, d) ∷ me.1) in
-      let words : s.words ≡ row 1 = f.words ∙ ap row home in
+      let words : s.words ≡ padded 1 = f.words ∙ ap padded home in
       let one : slice_index s.words 8 ≡ 1 = ap (λ ws. slice_index ws 8) words in
       let seen : Begins me.0.seen (history_of (state d)) = subst (Begins me.0.seen) (sym f.history) fits.seen in
       let learns : Learns state me.0 d = record {
@@ -189,7 +200,8 @@ module _ {S : Type 0} (state : S → World) (key : List S) where
         subst (λ m. Took state m me me') (sym one) (d, refl, learns),
       )
 
-  pub take_keeps : (slots id : ℕ) (me : Me S (Known S)) → Allows (Kept state key) slots id me 8 (λ n. either (eqb n 1) 0 n) (Takes state (step slots 8 1 0 none) me)
+  pub take_keeps : (slots id : ℕ) (me : Me S (Known S))
+      → Allows (Kept state key) slots id me 8 (λ n. either (eqb n 1) 0 n) (Takes state (step slots 8 1 0 none) me)
   take_keeps slots id me s k wide at small = ⊎_elim
       (λ (f : Home state key s k.history). at_home f (eqb f.word 1) refl)
       (λ (o : Out state s k.history). not_taken slots id me s k at 0 o.words refl (λ ne. absurd (ne refl)))
@@ -263,7 +275,8 @@ module _ {S : Type 0} (state : S → World) (key : List S) where
                 told = λ n t e. told_more t (fits.told n t e);
               });
           unborn = λ c low high.
-              let differ : c ≢ me.0.core = λ same. ⊎_elim (λ (z : me.0.core ≡ 0). absurd (omega (arith, same ∙ z))) (λ (l : k.left < me.0.core). absurd (omega (arith, same)))
+              let differ : c ≢ me.0.core = λ same. ⊎_elim (λ (z : me.0.core ≡ 0). absurd (omega (arith, same ∙ z)))
+              (λ (l : k.left < me.0.core). absurd (omega (arith, same)))
               (fits.core can.live) in
               (adds.others c differ ∙ (k.unborn c low high).0, (k.unborn c low high).1);
           begun = further (history_first state key) k.begun;
@@ -299,8 +312,11 @@ module _ {S : Type 0} (state : S → World) (key : List S) where
       let left : ℕ = k.left - 1 in
       let is_left : v.spare ≡ k.left = is.2 in
       let key_first : history_first state v.first ≡ history_first state key = ap (history_first state) (fits.first is.0) in
-      let apart : (c : ℕ) → (c ≡ 0) ⊎ (k.left < c) → c ≢ v.spare = λ c lies same. ⊎_elim (λ (z : c ≡ 0). absurd (omega (arith, some_spare, same, z))) (λ (m : k.left < c). absurd (omega (arith, same, is_left, m))) lies in
-      let stays : (c : ℕ) → (c ≡ 0) ⊎ (k.left < c) → seat_of c ≡ k.seat_of c = λ c lies. ap (λ b. cond b (length vs) (k.seat_of c)) (ne_eqb c v.spare (apart c lies)) in
+      let apart : (c : ℕ) → (c ≡ 0) ⊎ (k.left < c)
+      → c ≢ v.spare = λ c lies same. ⊎_elim (λ (z : c ≡ 0). absurd (omega (arith, some_spare, same, z)))
+      (λ (m : k.left < c). absurd (omega (arith, same, is_left, m))) lies in
+      let stays : (c : ℕ) → (c ≡ 0) ⊎ (k.left < c)
+      → seat_of c ≡ k.seat_of c = λ c lies. ap (λ b. cond b (length vs) (k.seat_of c)) (ne_eqb c v.spare (apart c lies)) in
       let above : (c : ℕ) → (c ≡ 0) ⊎ (k.left < c) → (c ≡ 0) ⊎ (left < c) = λ c lies. ⊎_elim (λ z. inl z) (λ (m : k.left < c). inr (omega (arith, m))) lies in
       let unborn = k.unborn v.spare (omega (arith, some_spare)) (omega (arith, is_left)) in
       record {
@@ -360,14 +376,16 @@ module _ {S : Type 0} (state : S → World) (key : List S) where
               legal = f.legal;
               made = f.made;
               history = f.history;
-              none_holds = each_end (λ _ (u : Known S). u.holds ≡ false) vs r (each_at (λ _ (u : Known S). u.holds ≡ false) s.views id l (λ j u _ e. f.none_holds j u e) (f.none_holds id v at)) refl;
+              none_holds = each_end (λ _ (u : Known S). u.holds ≡ false) vs r
+                  (each_at (λ _ (u : Known S). u.holds ≡ false) s.views id l (λ j u _ e. f.none_holds j u e) (f.none_holds id v at)) refl;
             }))
             (λ (o : Out state s k.history). inr (record {
               holder = o.holder;
               words = o.words;
               homes = o.homes;
               one_holds = each_end (λ j (u : Known S). u.holds ≡ true → (j ≡ o.holder) × (u.seen ≡ k.history)) vs r
-                  (each_at (λ j (u : Known S). u.holds ≡ true → (j ≡ o.holder) × (u.seen ≡ k.history)) s.views id l (λ j u _ e. o.one_holds j u e) (o.one_holds id v at))
+                  (each_at (λ j (u : Known S). u.holds ≡ true → (j ≡ o.holder) × (u.seen ≡ k.history)) s.views id l (λ j u _ e. o.one_holds j u e)
+                  (o.one_holds id v at))
                   (λ yes. absurd (cc yes));
             }))
             k.place;
@@ -384,12 +402,15 @@ module _ {S : Type 0} (state : S → World) (key : List S) where
   join_keeps id v other w lives idle lives' s k at apart there' =
       let b : Known S = with_other v w in
       let vs : List (Known S) = set s.views id b in
-      let there : get_elem? s.views other ≡ some w = ⊎_elim (λ (t : (other ≡ id) × (b ≡ w)). absurd (apart t.0)) (λ (t : (other ≢ id) × (get_elem? s.views other ≡ some w)). t.1) (at_set s.views id other b w there') in
+      let there : get_elem? s.views other ≡ some w =
+      ⊎_elim (λ (t : (other ≡ id) × (b ≡ w)). absurd (apart t.0)) (λ (t : (other ≢ id) × (get_elem? s.views other ≡ some w)). t.1)
+      (at_set s.views id other b w there') in
       let fits = k.each id v at in
       let last = k.each other w there in
       let gone : ℕ → Bool = λ c. cond (eqb c w.core) true (k.gone c) in
       let still_here : (c : ℕ) → c ≢ w.core → k.gone c ≡ false → gone c ≡ false = λ c not e. ap (λ y. cond y true (k.gone c)) (ne_eqb c w.core not) ∙ e in
-      let told_still : (t : Told) → IsTold k.history t × (k.gone t.core ≡ true) → IsTold k.history t × (gone t.core ≡ true) = λ t old. (old.0, still (eqb t.core w.core) (k.gone t.core) old.1) in
+      let told_still : (t : Told) → IsTold k.history t × (k.gone t.core ≡ true) → IsTold k.history t × (gone t.core ≡ true) =
+      λ t old. (old.0, still (eqb t.core w.core) (k.gone t.core) old.1) in
       let new : Told = record { core = w.core; seen = w.seen; mine = w.mine } in
       record {
         history = k.history;
@@ -436,8 +457,11 @@ module _ {S : Type 0} (state : S → World) (key : List S) where
               told = λ n t e. absurd (some-ne-none t (sym e));
             });
         unborn = λ c low high.
-            let old = k.unborn c low high in
-            (old.0, still_here c (λ same. ⊎_elim (λ (z : w.core ≡ 0). absurd (omega (arith, same ∙ z))) (λ (m : k.left < w.core). absurd (omega (arith, same))) (last.core lives')) old.1);
+            let old = k.unborn c low high in (
+              old.0,
+              still_here c (λ same. ⊎_elim (λ (z : w.core ≡ 0). absurd (omega (arith, same ∙ z)))
+                  (λ (m : k.left < w.core). absurd (omega (arith, same))) (last.core lives')) old.1,
+            );
         begun = k.begun;
         place = ⊎_elim
             (λ (f : Home state key s k.history). inl (record {
@@ -451,14 +475,16 @@ module _ {S : Type 0} (state : S → World) (key : List S) where
               legal = f.legal;
               made = f.made;
               history = f.history;
-              none_holds = each_at (λ _ (u : Known S). u.holds ≡ false) vs other spent_core (λ j u _ e. each_at (λ _ (u : Known S). u.holds ≡ false) s.views id b (λ j u _ e. f.none_holds j u e) idle j u e) refl;
+              none_holds = each_at (λ _ (u : Known S). u.holds ≡ false) vs other spent_core
+                  (λ j u _ e. each_at (λ _ (u : Known S). u.holds ≡ false) s.views id b (λ j u _ e. f.none_holds j u e) idle j u e) refl;
             }))
             (λ (o : Out state s k.history). inr (record {
               holder = o.holder;
               words = o.words;
               homes = o.homes;
               one_holds = each_at (λ j (u : Known S). u.holds ≡ true → (j ≡ o.holder) × (u.seen ≡ k.history)) vs other spent_core
-                  (λ j u _ e. each_at (λ j (u : Known S). u.holds ≡ true → (j ≡ o.holder) × (u.seen ≡ k.history)) s.views id b (λ j u _ e. o.one_holds j u e) (λ yes. absurd (not_both v.holds idle yes)) j u e)
+                  (λ j u _ e. each_at (λ j (u : Known S). u.holds ≡ true → (j ≡ o.holder) × (u.seen ≡ k.history)) s.views id b (λ j u _ e. o.one_holds j u e)
+                  (λ yes. absurd (not_both v.holds idle yes)) j u e)
                   (λ yes. absurd (cc yes));
             }))
             k.place;
@@ -467,7 +493,8 @@ module _ {S : Type 0} (state : S → World) (key : List S) where
   -- ---- the end
 
   -- where the word isn't 0, the machine that was at home has the history
-  pub closes : (space : TableId) (id : ℕ) (v : Known S) (ws : List ℕ) (xs : List S) (d : S) (word : ℕ) → v.live ≡ true → Final (Seen (Kept state key) id v) ws xs
+  pub closes : (space : TableId) (id : ℕ) (v : Known S) (ws : List ℕ) (xs : List S) (d : S) (word : ℕ) → v.live ≡ true
+      → Final (Seen (Kept state key) id v) ws xs
       → get_elem? ws 8 ≡ some word → word ≢ 0 → get_elem? xs 0 ≡ some d → Agrees state (state d) (view_of space v)
   closes space id v ws xs d word lives end there home here =
       let s = end.0 in
@@ -484,7 +511,8 @@ module _ {S : Type 0} (state : S → World) (key : List S) where
         own = (subst (Begins v.seen) back fits.seen, ap (replied_by v.core) (sym back) ∙ fits.mine lives);
         others = λ n t e. subst (λ h. IsTold h t) back (fits.told n t (as_elem v.others n t e)).0;
       })
-      (λ (o : Out state s k.history). absurd (let e : some 0 ≡ some word = ap (λ l. get_elem? l 8) (sym o.words ∙ words) ∙ there in home (sym (some-injective 0 word e))))
+      (λ (o : Out state s k.history). absurd
+      (let e : some 0 ≡ some word = ap (λ l. get_elem? l 8) (sym o.words ∙ words) ∙ there in home (sym (some-injective 0 word e))))
       k.place
     where
       as_elem : (ts : List Told) (n : ℕ) (t : Told) → slice_get ts n ≡ Some t → get_elem? ts n ≡ some t
@@ -526,50 +554,103 @@ module _ {S : Type 0} (state : S → World) (key : List S) where
   never_out To.Refused e = omega (arith, e)
   never_out To.Spent e = omega (arith, e)
 
-  can_give : (v : Known S) (d e : S) (request : Request) (ended : Ended) → v.live ≡ true → Learns state v d → Ends (state d) v.core request ended (state e)
-      → (state e).made ≡ (state d).made → IsLegal (state e) → CanGive state (holding v (history_of (state d))) e (word_of ended)
-  can_give v d e request ended live learns ends made legal = record {
-    holds = refl;
-    live = live;
-    in_place = never_out ended;
-    calm = is_calm_then (state d) v.core request ended (state e) ends;
-    over = over_then (state d) v.core request ended (state e) ends;
-    legal = legal;
-    made = made ∙ learns.made live;
-    adds = what_added (state d) v.core request ended (state e) ends;
-  }
-
-  -- after a call the machine can be given back
-  pub call_gives : (v now : Known S) (d : S) (number : ℕ) (request : Request) (ended : Ended) (carried : List (ℕ × S)) (word : ℕ) → v.live ≡ true → number ≡ v.core → Learns state v d
-      → Makes state d (λ x y. Ends x number request ended y) carried → now ≡ holding v (history_of (state d)) → word ≡ word_of ended
+  -- the machine that a core took, once it was used, can be given back
+  gives_back : (v now : Known S) (d : S) (Does : World → World → Type 0) (carried : List (ℕ × S)) (word : ℕ) → v.live ≡ true → Learns state v d
+      → (makes : Makes state d Does carried) → now ≡ holding v (history_of (state d)) → word ≢ 0 → (word ≡ 1 → IsCalm (state makes.machine))
+      → (word ≢ 1 → IsOver (state makes.machine))
+      → ((added : List Replied) × Adds v.core added (history_of (state d)) (history_of (state makes.machine)))
       → (x : S) × (carried ≡ (0, x) ∷ []) × CanGive state now x word
-  call_gives v now d number request ended carried word live is learns makes same sent = (
+  gives_back v now d Does carried word live learns makes same in_place calm over adds = (
     makes.machine,
     makes.has,
-    subst (λ (p : Known S × ℕ). CanGive state p.0 makes.machine p.1) (λ i. (sym same i, sym sent i))
-        (can_give v d makes.machine request ended live learns (subst (λ n. Ends (state d) n request ended (state makes.machine)) is makes.does) makes.made makes.legal),
-  )
-
-  -- and so it can after an aside
-  pub aside_gives : (v now : Known S) (d : S) (event : Event) (outcome : Outcome) (carried : List (ℕ × S)) → v.live ≡ true → Learns state v d
-      → Makes state d (λ x y. StepsAside x event outcome y × IsCalm y) carried → now ≡ holding v (history_of (state d))
-      → (x : S) × (carried ≡ (0, x) ∷ []) × CanGive state now x 1
-  aside_gives v now d event outcome carried live learns makes same = (
-    makes.machine,
-    makes.has,
-    subst (λ (k : Known S). CanGive state k makes.machine 1) (sym same) (record {
+    subst (λ (k : Known S). CanGive state k makes.machine word) (sym same) (record {
       holds = refl;
       live = live;
-      in_place = λ e. omega (arith, e);
-      calm = λ _. makes.does.1;
-      over = λ ne. absurd (ne refl);
+      in_place = in_place;
+      calm = calm;
+      over = over;
       legal = makes.legal;
       made = makes.made ∙ learns.made live;
-      adds = ([], adds_nothing v.core (history_of (state d)) (history_of (state makes.machine)) makes.does.0.1);
+      adds = adds;
     }),
   )
 
-  extends : (space : TableId) (v : Known S) (d e : S) (added : List Replied) → v.live ≡ true → Learns state v d → Adds v.core added (history_of (state d)) (history_of (state e))
+  -- after a call
+  pub call_gives : (v now : Known S) (d : S) (number : ℕ) (request : Request) (ended : Ended) (carried : List (ℕ × S)) (word : ℕ) → v.live ≡ true
+      → number ≡ v.core → Learns state v d
+      → Makes state d (λ x y. Ends x number request ended y) carried → now ≡ holding v (history_of (state d)) → word ≡ word_of ended
+      → (x : S) × (carried ≡ (0, x) ∷ []) × CanGive state now x word
+  call_gives v now d number request ended carried word live is learns makes same sent =
+      let e : World = state makes.machine in
+      let ends : Ends (state d) v.core request ended e = subst (λ n. Ends (state d) n request ended e) is makes.does in
+      gives_back v now d _ carried word live learns makes same
+      (λ out. never_out ended (sym sent ∙ out))
+      (λ home. is_calm_then (state d) v.core request ended e ends (sym sent ∙ home))
+      (λ not. over_then (state d) v.core request ended e ends (λ home. not (sent ∙ home)))
+      (what_added (state d) v.core request ended e ends)
+
+  -- after calls one after another
+  series_added : (stop : Stop) (w : World) (core : ℕ) (added : List Replied) (v : World) → LeavesFor stop w core added v
+      → (all : List Replied) × Adds core all (history_of w) (history_of v)
+  series_added For.Done w core added v h = (added, h.1)
+  series_added For.NoCall w core added v h = (added, h.1)
+  series_added For.NoMemory w core added v h = (added, h.1)
+  series_added For.Refused w core added v h = (added, h.1)
+  series_added For.Spent w core added v h = (added ++ h.0.0, h.0.1)
+
+  series_over : (stop : Stop) (w : World) (core : ℕ) (added : List Replied) (v : World) → LeavesFor stop w core added v → word_after stop ≢ 1 → IsOver v
+  series_over For.Spent w core added v h ne = h.1
+  series_over _ w core added v h ne = absurd (ne refl)
+
+  series_calm : (stop : Stop) (w : World) (core : ℕ) (added : List Replied) (v : World) → LeavesFor stop w core added v → word_after stop ≡ 1 → IsCalm v
+  series_calm For.Done w core added v h e = h.0
+  series_calm For.NoCall w core added v h e = h.0
+  series_calm For.NoMemory w core added v h e = h.0
+  series_calm For.Refused w core added v h e = h.0
+  series_calm For.Spent w core added v h e = absurd (omega (arith, e))
+
+  never_out_after : (stop : Stop) → word_after stop ≢ 0
+  never_out_after For.Spent e = omega (arith, e)
+  never_out_after _ e = omega (arith, e)
+
+  -- what calls of a machine come to
+  abbrev pub DoesEach : {T : Type 0} → ℕ → List (Option Request) → (Reply → T) → List T → Series → List T → World → World → Type 0
+  DoesEach number asked told_of was series told x y = (added : List Replied) × AreTold told_of added was told × (series.made ≡ length added)
+      × EndsSeries x number asked added series.stop y
+
+  pub all_gives : {T : Type 0} (v now : Known S) (d : S) (number : ℕ) (asked : List (Option Request)) (told_of : Reply → T) (was told : List T)
+      (series : Series) (carried : List (ℕ × S)) (word : ℕ) → v.live ≡ true → number ≡ v.core → Learns state v d
+      → Makes state d (DoesEach number asked told_of was series told) carried → now ≡ holding v (history_of (state d))
+      → word ≡ word_after series.stop → (x : S) × (carried ≡ (0, x) ∷ []) × CanGive state now x word
+  all_gives v now d number asked told_of was told series carried word live is learns makes same sent =
+      let e : World = state makes.machine in
+      let leaves : LeavesFor series.stop (state d) v.core makes.does.0 e =
+      subst (λ n. LeavesFor series.stop (state d) n makes.does.0 e) is makes.does.3.leaves in
+      gives_back v now d _ carried word live learns makes same
+      (λ out. never_out_after series.stop (sym sent ∙ out))
+      (λ home. series_calm series.stop (state d) v.core makes.does.0 e leaves (sym sent ∙ home))
+      (λ not. series_over series.stop (state d) v.core makes.does.0 e leaves (λ home. not (sent ∙ home)))
+      (series_added series.stop (state d) v.core makes.does.0 e leaves)
+
+  -- after an aside
+  pub aside_gives : (v now : Known S) (d : S) (event : Event) (outcome : Outcome) (carried : List (ℕ × S)) → v.live ≡ true → Learns state v d
+      → Makes state d (λ x y. StepsAside x event outcome y × IsCalm y) carried → now ≡ holding v (history_of (state d))
+      → (x : S) × (carried ≡ (0, x) ∷ []) × CanGive state now x 1
+  aside_gives v now d event outcome carried live learns makes same =
+      gives_back v now d _ carried 1 live learns makes same (λ e. omega (arith, e)) (λ _. makes.does.1) (λ ne. absurd (ne refl))
+      ([], adds_nothing v.core (history_of (state d)) (history_of (state makes.machine)) makes.does.0.1)
+
+  -- what a core has once it gave the machine back
+  abbrev Idle : ℕ → ℕ → Me S (Known S) → Type 0
+  Idle number left me = (me.1 ≡ []) × (me.0.holds ≡ false) × (me.0.live ≡ true) × (number ≡ me.0.core) × (left ≡ me.0.spare) × (left < 64)
+
+  pub is_idle : (number left : ℕ) (start held gave : Me S (Known S)) (h k : History) → Idle number left start → held.0 ≡ holding start.0 h
+      → gave ≡ (after held.0 k, []) → Idle number left gave
+  is_idle number left start held gave h k idle holds back =
+      subst (Idle number left) (sym (back ∙ ap (λ (u : Known S). (after u k, [])) holds)) (refl, refl, idle.2, idle.3, idle.4, idle.5)
+
+  extends : (space : TableId) (v : Known S) (d e : S) (added : List Replied) → v.live ≡ true → Learns state v d
+      → Adds v.core added (history_of (state d)) (history_of (state e))
       → (state e).made ≡ (state d).made → IsLegal (state e)
       → Extends state (view_of space v) added (view_of space (after (holding v (history_of (state d))) (history_of (state e))))
   extends space v d e added live learns adds made legal = record {
@@ -581,15 +662,18 @@ module _ {S : Type 0} (state : S → World) (key : List S) where
   }
 
   -- the machine as it was given back is later than what the core has seen
-  later : (v : Known S) (d e : S) → v.live ≡ true → Learns state v d → (state e).made ≡ (state d).made → IsLegal (state e) → IsLater state v.first (history_of (state e)) (state e)
+  later : (v : Known S) (d e : S) → v.live ≡ true → Learns state v d → (state e).made ≡ (state d).made → IsLegal (state e)
+      → IsLater state v.first (history_of (state e)) (state e)
   later v d e live learns made legal = record { legal = legal; made = made ∙ learns.made live; begun = begins_again (history_of (state e)) }
 
-  pub call_answers : (space other : TableId) (v w : Known S) (d : S) (number : ℕ) (request : Request) (ended : Ended) (answer : Answer) (carried : List (ℕ × S)) → other ≡ space → v.live ≡ true
+  pub call_answers : (space other : TableId) (v w : Known S) (d : S) (number : ℕ) (request : Request) (ended : Ended) (answer : Answer)
+      (carried : List (ℕ × S)) → other ≡ space → v.live ≡ true
       → number ≡ v.core → Learns state v d → (makes : Makes state d (λ x y. Ends x number request ended y) carried)
       → w ≡ after (holding v (history_of (state d))) (history_of (state makes.machine)) → answer ≡ answer_of ended
       → Answers state (view_of space v) request answer (view_of other w)
   call_answers space other v w d number request ended answer carried there live is learns makes same told =
-      subst (λ (p : TableId × (Known S × Answer)). Answers state (view_of space v) request p.1.1 (view_of p.0 p.1.0)) (λ i. (sym there i, (sym same i, sym told i)))
+      subst (λ (p : TableId × (Known S × Answer)). Answers state (view_of space v) request p.1.1 (view_of p.0 p.1.0))
+      (λ i. (sym there i, (sym same i, sym told i)))
       (go ended (subst (λ n. Ends (state d) n request ended (state makes.machine)) is makes.does))
     where
       e : S
@@ -604,17 +688,66 @@ module _ {S : Type 0} (state : S → World) (key : List S) where
       go To.Refused h = (inr ([], extends space v d e [] live learns h.1 makes.made makes.legal), full h.2)
       go To.Spent h = (inr (h.0.0, extends space v d e h.0.0 live learns h.0.1 makes.made makes.legal), full (inr h.1))
 
+  -- calls one after another
+  pub all_answers : {T : Type 0} (space other : TableId) (v w : Known S) (d : S) (number : ℕ) (asked : List (Option Request)) (told_of : Reply → T)
+      (was told : List T) (series : Series) (carried : List (ℕ × S)) → other ≡ space → v.live ≡ true → number ≡ v.core → Learns state v d
+      → (makes : Makes state d (DoesEach number asked told_of was series told) carried)
+      → w ≡ after (holding v (history_of (state d))) (history_of (state makes.machine))
+      → AnswersAll state (view_of space v) asked told_of was (Lists.Made series) told (view_of other w)
+  all_answers space other v w d number asked told_of was told series carried there live is learns makes same =
+      subst (λ (p : TableId × Known S). AnswersAll state (view_of space v) asked told_of was (Lists.Made series) told (view_of p.0 p.1))
+      (λ i. (sym there i, sym same i)) (
+        makes.does.0,
+        makes.does.1,
+        makes.does.2,
+        makes.does.3.first,
+        makes.does.3.stops,
+        go series.stop (subst (λ n. LeavesFor series.stop (state d) n makes.does.0 (state e)) is makes.does.3.leaves),
+      )
+    where
+      e : S
+      e = makes.machine
+
+      added : List Replied
+      added = makes.does.0
+
+      now : Known S
+      now = after (holding v (history_of (state d))) (history_of (state e))
+
+      on : (all : List Replied) → Adds v.core all (history_of (state d)) (history_of (state e)) → Extends state (view_of space v) all (view_of space now)
+      on all adds = extends space v d e all live learns adds makes.made makes.legal
+
+      full : IsFull (state e) → (u : World) × IsLater state v.first (history_of (state e)) u × IsFull u
+      full limit = (state e, later v d e live learns makes.made makes.legal, limit)
+
+      go : (stop : Stop) → LeavesFor stop (state d) v.core added (state e) → GoesFor state stop (view_of space v) added (view_of space now)
+      go For.Done h = on added h.1
+      go For.NoCall h = on added h.1
+      go For.NoMemory h = on added h.1
+      go For.Refused h = (inr ([], subst (λ l. Extends state (view_of space v) l (view_of space now)) (sym (append-nil added)) (on added h.1)), full h.2)
+      go For.Spent h = (inr (h.0.0, on (added ++ h.0.0) h.0.1), full (inr h.1))
+
   -- nothing was taken, and so nothing changed
   pub same_view : (space other : TableId) (n : ℕ) (m w : Me S (Known S)) → n ≢ 1 → Took state n m w → other ≡ space → view_of other w.0 ≡ view_of space m.0
   same_view space other n m w ne t there =
       let same = (took_none n m w ne t).0 in ap (λ (p : TableId × Me S (Known S)). view_of p.0 p.1.0) (λ i. (there i, same i))
 
   -- where no call can begin any more
-  pub full_answers : (space other : TableId) (n : ℕ) (m w : Me S (Known S)) (request : Request) → n ≢ 1 → n ≢ 0 → Took state n m w → other ≡ space → m.0.live ≡ true
+  pub full_answers : (space other : TableId) (n : ℕ) (m w : Me S (Known S)) (request : Request) → n ≢ 1 → n ≢ 0 → Took state n m w → other ≡ space
+      → m.0.live ≡ true
       → Answers state (view_of space m.0) request Tells.Full (view_of other w.0)
   full_answers space other n m w request ne out t there live =
       let k = (took_none n m w ne t).1 out live in
-      subst (Answers state (view_of space m.0) request Tells.Full) (sym (same_view space other n m w ne t there)) (inl refl, (k.0, k.1, inr k.2))
+      subst (Answers state (view_of space m.0) request Tells.Full) (sym (same_view space other n m w ne t there)) (inl (refl, refl), (k.0, k.1, inr k.2))
+
+  pub full_all : {T : Type 0} (space other : TableId) (n : ℕ) (m w : Me S (Known S)) (asked : List (Option Request)) (told_of : Reply → T) (was : List T)
+      (series : Series) → n ≢ 1 → n ≢ 0 → Took state n m w → other ≡ space → m.0.live ≡ true → series ≡ record { made = 0; stop = For.Refused }
+      → AnswersAll state (view_of space m.0) asked told_of was (Lists.Made series) was (view_of other w.0)
+  full_all space other n m w asked told_of was series ne out t there live is =
+      let k = (took_none n m w ne t).1 out live in
+      subst (λ s. AnswersAll state (view_of space m.0) asked told_of was (Lists.Made s) was (view_of other w.0)) (sym is)
+      (subst (AnswersAll state (view_of space m.0) asked told_of was (Lists.Made (record { made = 0; stop = For.Refused })) was)
+      (sym (same_view space other n m w ne t there)) ([], refl, refl, refl, tt, (inl (refl, refl), (k.0, k.1, inr k.2))))
 
   pub full_passes : (space other : TableId) (n : ℕ) (m w : Me S (Known S)) (aside : Aside) → n ≢ 1 → n ≢ 0 → Took state n m w → other ≡ space → m.0.live ≡ true
       → Passes state (view_of space m.0) aside (By.Came Full) (view_of other w.0)
@@ -624,16 +757,26 @@ module _ {S : Type 0} (state : S → World) (key : List S) where
       (record { before = k.0; after = k.0; later = k.1; steps = (over_full k.0 (event_of m.0.core aside) k.2, refl); extends = inl (refl, refl) })
 
   -- an aside
-  pub aside_passes : (space other : TableId) (v w : Known S) (d : S) (number : ℕ) (aside : Aside) (outcome : Outcome) (carried : List (ℕ × S)) → other ≡ space → v.live ≡ true
+  pub aside_passes : (space other : TableId) (v w : Known S) (d : S) (number : ℕ) (aside : Aside) (outcome : Outcome) (carried : List (ℕ × S))
+      → other ≡ space → v.live ≡ true
       → number ≡ v.core → Learns state v d → (makes : Makes state d (λ x y. StepsAside x (event_of number aside) outcome y × IsCalm y) carried)
-      → w ≡ after (holding v (history_of (state d))) (history_of (state makes.machine)) → Passes state (view_of space v) aside (By.Came outcome) (view_of other w)
+      → w ≡ after (holding v (history_of (state d))) (history_of (state makes.machine))
+      → Passes state (view_of space v) aside (By.Came outcome) (view_of other w)
   aside_passes space other v w d number aside outcome carried there live is learns makes same =
       subst (λ (p : TableId × Known S). Came state (view_of space v) aside outcome (view_of p.0 p.1)) (λ i. (sym there i, sym same i)) (record {
         before = state d;
         after = state e;
-        later = record { legal = learns.legal; made = learns.made live; begun = subst (λ h. Begins h (history_of (state d))) (sym makes.does.0.1) (begins_again (history_of (state d))) };
+        later = record {
+          legal = learns.legal;
+          made = learns.made live;
+          begun = subst (λ h. Begins h (history_of (state d))) (sym makes.does.0.1)
+              (begins_again (history_of (state d)));
+        };
         steps = subst (λ n. StepsAside (state d) (event_of n aside) outcome (state e)) is makes.does.0;
-        extends = inr (extends space v d e [] live learns (adds_nothing v.core (history_of (state d)) (history_of (state e)) makes.does.0.1) makes.made makes.legal);
+        extends = inr (
+          extends space v d e [] live learns (adds_nothing v.core (history_of (state d)) (history_of (state e)) makes.does.0.1) makes.made makes.legal,
+          sym makes.does.0.1,
+        );
       })
     where
       e : S

@@ -1,8 +1,13 @@
 -- Below the limits a call is answered: what halts is let go by takes, and what is let go or given up is ended
-use Rattle.machine_laws.proofs.Words.{◌≡◌, ◌≢◌, ℕ, zero, suc, ◌+◌, ◌-◌, ◌<◌, ◌≤◌, ◌^◌, arith, ◌==◌, Bool, true, false, cond, refl, sym, ap, subst, Some, None, Option, [], ◌∷◌, ◌∙◌, inl, inr, ◌⊎◌, ⊎_elim}
-use Rattle.machine_laws.proofs.Words.{List, length, nat_lt, nat_tests, put, put_same, eq_true, eq_false, put_other, PageRange, IsPageRange, Request, Reply, World, Event, Call, Go, Outcome, Stepped, Idle, Answered, Full, Wait, Plain}
-use Rattle.machine_laws.proofs.Words.{Phase, Free, Check, Lock, Cut, Unlock, Answer, Fill, CopyAcks, Install, Unlocks, Acts, Goes, Begins, GivesUp, Becomes, is_here, core_of, with_event, event_limit, Step, StepsTo, after_give_up, held_after, still_held, let_go, to, awaits_in, members}
-use Rattle.machine_laws.proofs.Words.{Entry, Made, Message, Replays, after_call, between, awaited, if◌then◌else◌, nothing_mapped, nth, pred, ∥∥₁_elim, ∥∥₁_map, props}
+use Rattle.machine_laws.proofs.Words.{◌≡◌, ◌≢◌, ℕ, zero, suc, ◌+◌, ◌-◌, ◌<◌, ◌≤◌, ◌^◌, arith, ◌==◌, Bool, true, false, cond, refl, sym, ap}
+use Rattle.machine_laws.proofs.Words.{subst, Some, None, Option, [], ◌∷◌, ◌∙◌, inl, inr, ◌⊎◌, ⊎_elim}
+use Rattle.machine_laws.proofs.Words.{List, length, nat_lt, nat_tests, put, put_same, eq_true, eq_false, put_other, PageRange, IsPageRange}
+use Rattle.machine_laws.proofs.Words.{Request, Reply, World, Event, Call, Go, Outcome, Stepped, Idle, Answered, Full, Wait, Plain}
+use Rattle.machine_laws.proofs.Words.{Phase, Free, Check, Lock, Cut, Unlock, Answer, Fill, CopyAcks, Install, Unlocks, Acts, Goes, Begins}
+use Rattle.machine_laws.proofs.Words.{GivesUp, Becomes, is_here, core_of, with_event, event_limit, Step, StepsTo, after_give_up, held_after}
+use Rattle.machine_laws.proofs.Words.{still_held, let_go, to, awaits_in, members}
+use Rattle.machine_laws.proofs.Words.{Entry, Made, Message, Replays, after_call, between, awaited, if◌then◌else◌, nothing_mapped, nth, pred}
+use Rattle.machine_laws.proofs.Words.{∥∥₁_elim, ∥∥₁_map, props}
 use Rattle.machine_model.specs.declared.event.Blocker.TheVariants as WaitsFor
 use Rattle.machine_model.specs.declared.event.Event.TheVariants as EventOf
 use Rattle.vm_base.specs.declared.replies.Reply.TheVariants as ReplyOf
@@ -12,7 +17,8 @@ use Rattle.machine_laws.proofs.Going.{has_core}
 use Rattle.machine_sound.specs.Sound.{IsReached, IsSoundState}
 use Rattle.machine_sound.specs.Log.{LeadsTo}
 use Rattle.machine_sound.proofs.Kept.{reached_fine, reached_step}
-use Rattle.machine_alone.specs.Alone.{ComesBeside, IsAnsweredAtLast, IsAwaiting, IsAwaitingStill, IsBeside, IsBesideCalls, IsCalm, IsResting, IsServedAlone, IsWaiting, left_to, takes_left}
+use Rattle.machine_alone.specs.Alone.{ComesBeside, IsAnsweredAtLast, IsAwaiting, IsAwaitingStill, IsBeside, IsBesideCalls, IsCalm}
+use Rattle.machine_alone.specs.Alone.{IsResting, IsServedAlone, IsWaiting, left_to, takes_left}
 use Rattle.machine_alone.specs.Taken.{frames_taken}
 use Rattle.machine_alone.proofs.Beside.{rests_beside}
 use Rattle.machine_alone.proofs.Ending.{served_at_last}
@@ -100,7 +106,8 @@ closing_acts x c o v k g = elim k [
   | lets_go held reply e ↦
       let u = subst (λ phase. Goes (with_event x) c phase o v) e g in
       let on = let_go_on held reply u.0 u.1.1.slot.ordered u.1.1.by_end in
-      let now : v.calls.phase c ≡ let_go (held_after held u.0) reply = ap (λ (m : World). m.calls.phase c) u.1.2.1 ∙ put_same x.calls.phase c (let_go (held_after held u.0) reply) in
+      let now : v.calls.phase c ≡ let_go (held_after held u.0) reply = ap (λ (m : World). m.calls.phase c) u.1.2.1
+      ∙ put_same x.calls.phase c (let_go (held_after held u.0) reply) in
       inl (u.1.2.0, subst IsClosing (sym now) on.0, subst (λ (p : Phase × Phase). left_in p.0 < left_in p.1) (λ i. (sym now i, sym e i)) on.1)
   | hands_out reply e ↦ inr (reply, (subst (λ phase. Goes (with_event x) c phase o v) e g).0)
 ]
@@ -114,7 +121,8 @@ closing_busy phase k f = elim k [
 closing_here : (x : World) (c : ℕ) → IsReached x → IsClosing (x.calls.phase c) → nat_lt c x.made.cores ≡ true
 closing_here x c r k = test c x.made.cores (has_core x c (reached_fine x r).order (closing_busy (x.calls.phase c) k))
 
-closing_step : (x : World) (c : ℕ) (o : Outcome) (v : World) → IsReached x → IsClosing (x.calls.phase c) → nat_lt x.calls.events event_limit ≡ true → Step x (Go c) o v
+closing_step : (x : World) (c : ℕ) (o : Outcome) (v : World) → IsReached x → IsClosing (x.calls.phase c) → nat_lt x.calls.events event_limit ≡ true
+    → Step x (Go c) o v
     → ((o ≡ Stepped) × IsClosing (v.calls.phase c) × (left_in (v.calls.phase c) < left_in (x.calls.phase c))) ⊎ ((reply : Reply) × (o ≡ Answered reply))
 closing_step x c o v r k below s = closing_acts x c o v k (acts_at x (Go c) o v below (closing_here x c r k) s)
 
@@ -125,7 +133,8 @@ plain_before x e v s = ⊎_elim (λ (below : nat_lt x.calls.events event_limit �
 
 closing_along : (x : World) (c n : ℕ) (v : World) → IsReached x → IsClosing (x.calls.phase c) → StepsTo x c n v
     → IsReached v × IsClosing (v.calls.phase c) × (n + left_in (v.calls.phase c) ≤ left_in (x.calls.phase c))
-closing_along x c zero v r k s = subst (λ (v : World). IsReached v × IsClosing (v.calls.phase c) × (0 + left_in (v.calls.phase c) ≤ left_in (x.calls.phase c))) (sym s)
+closing_along x c zero v r k s =
+    subst (λ (v : World). IsReached v × IsClosing (v.calls.phase c) × (0 + left_in (v.calls.phase c) ≤ left_in (x.calls.phase c))) (sym s)
     (r, k, omega arith)
 closing_along x c (suc n) v r k s =
     let h = closing_along x c n s.0 r k s.1 in
@@ -180,7 +189,8 @@ finishes_before x c (Last o) v f ends short =
 finishes_before x c Stuck v f ends short = absurd (short f.0 f.1.1 f.1.0)
 
 -- a call that has its reply hands it out
-closing_answers : (x : World) (c n : ℕ) (m : World) (o : Outcome) (v : World) → IsReached x → IsClosing (x.calls.phase c) → StepsTo x c n m → Step m (Go c) o v → o ≢ Stepped
+closing_answers : (x : World) (c n : ℕ) (m : World) (o : Outcome) (v : World) → IsReached x → IsClosing (x.calls.phase c) → StepsTo x c n m
+    → Step m (Go c) o v → o ≢ Stepped
     → nat_lt m.calls.events event_limit ≡ true → IsAnswered (Last o)
 closing_answers x c n m o v r k steps s ne below =
     let h = closing_along x c n m r k steps in
@@ -193,7 +203,8 @@ closing_short : (x : World) (c n : ℕ) (v : World) → IsReached x → IsClosin
 closing_short x c n v r k steps many =
     let most = (closing_along x c n v r k steps).2 in let few = closing_few x c r k in omega (arith, many, most, few)
 
-pub closing_finishes : (x : World) (c : ℕ) (finished : Finished) (v : World) → ∥ IsReached x ∥₁ → IsClosing (x.calls.phase c) ⊎ IsOver x → Finishes x c finished v → AnswersOr finished v
+pub closing_finishes : (x : World) (c : ℕ) (finished : Finished) (v : World) → ∥ IsReached x ∥₁ → IsClosing (x.calls.phase c) ⊎ IsOver x
+    → Finishes x c finished v → AnswersOr finished v
 closing_finishes x c finished v reached (inl k) f =
     finishes_before x c finished v f
     (λ n m o steps s ne below. ∥∥₁_elim reached (hlevel props) (λ r. closing_answers x c n m o v r k steps s ne below))
@@ -201,7 +212,8 @@ closing_finishes x c finished v reached (inl k) f =
 closing_finishes x c finished v reached (inr over) f = inr (over_finishes x c finished v over f)
 
 -- and is refused no memory
-pub closing_refused : (keeps : Bool) (x : World) (c : ℕ) (v : World) → ∥ IsReached x ∥₁ → IsClosing (x.calls.phase c) ⊎ IsOver x → IsRefused keeps x c v → IsOver v
+pub closing_refused : (keeps : Bool) (x : World) (c : ℕ) (v : World) → ∥ IsReached x ∥₁ → IsClosing (x.calls.phase c) ⊎ IsOver x → IsRefused keeps x c v
+    → IsOver v
 closing_refused keeps x c v reached (inl k) f =
     absurd (∥∥₁_elim reached (hlevel props) (λ r. closing_wants keeps v c (closing_along x c f.0 v r k f.3).1 f.2))
 closing_refused keeps x c v reached (inr over) f = subst IsOver (sym (over_steps x c f.0 v over f.3)) over
@@ -232,7 +244,8 @@ gives_up keeps x c o v here m s = ⊎_elim
     (λ (below : nat_lt x.calls.events event_limit ≡ true).
     let k = gives keeps x c (x.calls.phase c) o v m (acts_at x (EventOf.GiveUp c) o v below (test c x.made.cores here) s) in
     let held = still_held (x.calls.phase c) in
-    let now : v.calls.phase c ≡ let_go held ReplyOf.NoMemory = ap (λ (w : World). w.calls.phase c) k.1 ∙ put_same x.calls.phase c (let_go held ReplyOf.NoMemory) in
+    let now : v.calls.phase c ≡ let_go held ReplyOf.NoMemory = ap (λ (w : World). w.calls.phase c) k.1
+    ∙ put_same x.calls.phase c (let_go held ReplyOf.NoMemory) in
     inl (subst IsClosing (sym now) (given_up held ReplyOf.NoMemory)))
     (λ (over : IsOver x). inr (subst IsOver (sym (over_stays x (EventOf.GiveUp c) o v over s).1) over))
     (before_or x)
@@ -250,7 +263,8 @@ waits_on x v t core request k r b = record {
   others = λ d ne. ap (λ (f : ℕ → Phase). f d) b.phases ∙ k.others d ne;
   inside = ap (λ (m : Made). nat_lt core m.cores) b.made ∙ k.inside;
   reached = r;
-  leads = subst (λ (p : List Request × List Entry × Made). Replays p.0 (nothing_mapped p.2.file) p.1 t) (λ i. (sym b.requests i, sym b.log i, sym b.made i)) k.leads;
+  leads = subst (λ (p : List Request × List Entry × Made). Replays p.0 (nothing_mapped p.2.file) p.1 t)
+      (λ i. (sym b.requests i, sym b.log i, sym b.made i)) k.leads;
   number = subst (λ (p : List Request × (ℕ → ℕ)). nth p.0 (p.1 core) ≡ Some request) (λ i. (sym b.requests i, sym b.numbers i)) k.number;
 }
 
@@ -263,7 +277,8 @@ pub none_left : (n : ℕ) → (0 < n → ⊥) → n ≡ 0
 none_left zero no_one = refl
 none_left (suc n) no_one = absurd (no_one (omega arith))
 
-took_some : (x v : World) (d : ℕ) → 0 < left_to x d → ((e : ℕ) → left_to v e ≡ put (left_to x) d (pred (left_to x d)) e) → (e : ℕ) → 0 < left_to v e → 0 < left_to x e
+took_some : (x v : World) (d : ℕ) → 0 < left_to x d → ((e : ℕ) → left_to v e ≡ put (left_to x) d (pred (left_to x d)) e) → (e : ℕ) → 0 < left_to v e
+    → 0 < left_to x e
 took_some x v d had is e some = go (e == d) refl
   where
     go : (b : Bool) → (e == d) ≡ b → 0 < left_to x e
@@ -274,7 +289,8 @@ take_leaves : (x v : World) (d : ℕ) (o : Outcome) → ((e : ℕ) → 0 < left_
 take_leaves x v d o there (inl h) = record { fewer = took_some x v d h.1 h.2; less = h.2 d ∙ put_same (left_to x) d (pred (left_to x d)) }
 take_leaves x v d o there (inr h) =
     let none : left_to x d ≡ 0 = ⊎_elim (λ (z : left_to x d ≡ 0). z)
-    (λ (absent : nat_lt d x.made.cores ≡ false). none_left (left_to x d) (λ some. let far = not_less d x.made.cores absent in let near = there d some in omega (arith, far, near)))
+    (λ (absent : nat_lt d x.made.cores ≡ false). none_left (left_to x d)
+    (λ some. let far = not_less d x.made.cores absent in let near = there d some in omega (arith, far, near)))
     h.1 in
     record { fewer = λ e some. subst (λ n. 0 < n) (h.2 e) some; less = h.2 d ∙ (none ∙ sym (ap pred none)) }
 
@@ -284,7 +300,8 @@ AllThere x = (d : ℕ) → 0 < left_to x d → d < x.made.cores
 resting : (x : World) (t : Plain) (core : ℕ) (request : Request) → IsWaiting x t core request → IsResting x core
 resting x t core request k = record { reached = k.reached; others = k.others; own = inr (k.range, k.at_wait) }
 
-take_waits : (x v : World) (core : ℕ) (request : Request) (d : ℕ) (o : Outcome) (z : (t : Plain) × IsWaiting x t core request × AllThere x) → nat_lt x.calls.events event_limit ≡ true
+take_waits : (x v : World) (core : ℕ) (request : Request) (d : ℕ) (o : Outcome) (z : (t : Plain) × IsWaiting x t core request × AllThere x)
+    → nat_lt x.calls.events event_limit ≡ true
     → Step x (EventOf.Take d) o v → ((t : Plain) × IsWaiting v t core request × AllThere v) × Taken x v d
 take_waits x v core request d o z below s =
     let beside = rests_beside x v core (EventOf.Take d) o (resting x z.0 core request z.1) tt (less x.calls.events event_limit below) s in
@@ -326,12 +343,14 @@ left_awaited x core request k d some = ∥∥₁_elim k (hlevel props) (λ z.
 
 -- and is one of 64
 pub left_below : (x : World) (core : ℕ) (request : Request) → Rests core request x → (d : ℕ) → 0 < left_to x d → d < 64
-left_below x core request k d some = ∥∥₁_elim k (hlevel props) (λ z. let near = z.2 d some in let few = (reached_fine x z.1.reached).order.few in omega (arith, near, few))
+left_below x core request k d some =
+    ∥∥₁_elim k (hlevel props) (λ z. let near = z.2 d some in let few = (reached_fine x z.1.reached).order.few in omega (arith, near, few))
 
 -- ---- a call comes so far
 
 -- it waits for just those that were told, where it doesn't end
-awaiting_rests : (w x : World) (t : Plain) (core : ℕ) (request : Request) (o : Outcome) (v : World) → v.made ≡ w.made → Step x (Go core) o v → IsAwaiting w x t core request o v
+awaiting_rests : (w x : World) (t : Plain) (core : ℕ) (request : Request) (o : Outcome) (v : World) → v.made ≡ w.made → Step x (Go core) o v
+    → IsAwaiting w x t core request o v
     → (t : Plain) × IsWaiting v t core request × AllThere v
 awaiting_rests w x t core request o v made s a = (
   t,
@@ -351,32 +370,40 @@ awaiting_rests w x t core request o v made s a = (
     here d true m some = less d w.made.cores (a.there d ((a.exact d).0 m).1)
     here d false m some = absurd (let none : left_to x d ≡ 0 = a.takes d ∙ ap (λ b. if b then 2 else 0) m in omega (arith, none, some))
 
-pub begun_rests : (w m : World) (core : ℕ) (request : Request) (o : Outcome) (v : World) → IsLegal w → IsCalm w → Step w (Call core request) Stepped m → v.made ≡ w.made
+pub begun_rests : (w m : World) (core : ℕ) (request : Request) (o : Outcome) (v : World) → IsLegal w → IsCalm w → Step w (Call core request) Stepped m
+    → v.made ≡ w.made
     → ((reply : Reply) → o ≢ Answered reply) → Finishes m core (Last o) v → Rests core request v ⊎ IsOver v
 begun_rests w m core request o v legal calm s made unanswered f =
     let x = f.1.2.0 in
     ⊎_elim
     (λ (below : nat_lt x.calls.events event_limit ≡ true).
-    inl (∥∥₁_elim legal.sound (hlevel props) (λ sound. ∥∥₁_map legal.reached (λ r. elim ((served_alone w m sound.0 core request r sound.1.log calm s).ends f.0 x v o f.1.2.1 f.1.2.2 f.1.1 (less x.calls.events event_limit below)) [
+    inl (∥∥₁_elim legal.sound (hlevel props)
+    (λ sound. ∥∥₁_map legal.reached
+    (λ r. elim ((served_alone w m sound.0 core request r sound.1.log calm s).ends f.0 x v o f.1.2.1 f.1.2.2 f.1.1
+    (less x.calls.events event_limit below)) [
       | inl served ↦ absurd (unanswered served.0.reply served.0.answered)
       | inr a ↦ awaiting_rests w x sound.0 core request o v made f.1.2.2 a
     ]))))
     (λ (over : IsOver x). inr (last_over x core o v over f.1.2.2))
     (before_or x)
 
-pub begun_short : (w m : World) (core : ℕ) (request : Request) (v : World) → IsLegal w → IsCalm w → Step w (Call core request) Stepped m → Finishes m core Stuck v → ⊥
+pub begun_short : (w m : World) (core : ℕ) (request : Request) (v : World) → IsLegal w → IsCalm w → Step w (Call core request) Stepped m
+    → Finishes m core Stuck v → ⊥
 begun_short w m core request v legal calm s f = ∥∥₁_elim legal.sound (hlevel props) (λ sound. ∥∥₁_elim legal.reached (hlevel props) (λ r.
     let fewer = (served_alone w m sound.0 core request r sound.1.log calm s).short f.0 v f.1.1 in let many = f.1.0 in omega (arith, fewer, many)))
 
 -- once nobody is awaited, it is answered
-let_go_answers : (x : World) (core : ℕ) (request : Request) (t : Plain) (n : ℕ) (m : World) (o : Outcome) (v : World) → IsWaiting x t core request → ((d : ℕ) → left_to x d ≡ 0)
+let_go_answers : (x : World) (core : ℕ) (request : Request) (t : Plain) (n : ℕ) (m : World) (o : Outcome) (v : World) → IsWaiting x t core request
+    → ((d : ℕ) → left_to x d ≡ 0)
     → StepsTo x core n m → Step m (Go core) o v → o ≢ Stepped → nat_lt m.calls.events event_limit ≡ true → IsAnswered (Last o)
-let_go_answers x core request t n m o v k none steps s ne below = elim ((served_at_last x t core request k).ends n m v o steps s ne (less m.calls.events event_limit below)) [
-  | inl a ↦ answered_last o a.served.reply a.served.answered
-  | inr a ↦ absurd (let some = (a.exact a.some.0).0 a.some.1 in let no_one = none a.some.0 in omega (arith, some, no_one))
-]
+let_go_answers x core request t n m o v k none steps s ne below =
+    elim ((served_at_last x t core request k).ends n m v o steps s ne (less m.calls.events event_limit below)) [
+      | inl a ↦ answered_last o a.served.reply a.served.answered
+      | inr a ↦ absurd (let some = (a.exact a.some.0).0 a.some.1 in let no_one = none a.some.0 in omega (arith, some, no_one))
+    ]
 
-pub let_go_finishes : (x : World) (core : ℕ) (request : Request) (finished : Finished) (v : World) → (Rests core request x × ((d : ℕ) → left_to x d ≡ 0)) ⊎ IsOver x
+pub let_go_finishes : (x : World) (core : ℕ) (request : Request) (finished : Finished) (v : World)
+    → (Rests core request x × ((d : ℕ) → left_to x d ≡ 0)) ⊎ IsOver x
     → Finishes x core finished v → AnswersOr finished v
 let_go_finishes x core request finished v (inl k) f =
     finishes_before x core finished v f
@@ -386,7 +413,8 @@ let_go_finishes x core request finished v (inr over) f = inr (over_finishes x co
 
 -- ---- a call that doesn't begin
 
-pub refused_full : (w : World) (c : ℕ) (request : Request) (o : Outcome) (m : World) → c < w.made.cores → IsCalm w → o ≢ Stepped → Step w (Call c request) o m → IsFull m
+pub refused_full : (w : World) (c : ℕ) (request : Request) (o : Outcome) (m : World) → c < w.made.cores → IsCalm w → o ≢ Stepped
+    → Step w (Call c request) o m → IsFull m
 refused_full w c request o m here calm ne s = ⊎_elim
     (λ (below : nat_lt w.calls.events event_limit ≡ true).
     go (nat_lt (length w.calls.requests) w.made.calls) refl
@@ -394,7 +422,8 @@ refused_full w c request o m here calm ne s = ⊎_elim
     (λ (over : IsOver w). inr (subst IsOver (sym (over_stays w (Call c request) o m over s).1) over))
     (before_or w)
   where
-    go : (b : Bool) → nat_lt (length w.calls.requests) w.made.calls ≡ b → cond b (Becomes (after_call c request (with_event w)) o m) ((o ≡ Full) × (m ≡ with_event w)) → IsFull m
+    go : (b : Bool) → nat_lt (length w.calls.requests) w.made.calls ≡ b
+        → cond b (Becomes (after_call c request (with_event w)) o m) ((o ≡ Full) × (m ≡ with_event w)) → IsFull m
     go true i k = absurd (ne k.0)
     go false i k = subst IsFull (sym k.1) (inl (not_less (length w.calls.requests) w.made.calls i))
 

@@ -1,10 +1,12 @@
 -- What clauses see of a core of a shared machine, and what its calls tell
-use Rattle.std.specs.Prelude.{◌≡◌, ℕ, ◌⊎◌, List, [], ◌∷◌, ◌++◌, None, slice_get, Some}
+use Rattle.std.specs.Prelude.{◌≡◌, ℕ, ◌⊎◌, List, [], ◌∷◌, ◌++◌, length, Option, None, slice_get, Some}
 use Rattle.atomic_table.specs.Seated.{TableId}
 use Rattle.vm_base.specs.declared.requests.Request.{Request}
+use Rattle.vm_base.specs.declared.replies.Reply.{Reply}
 use Rattle.machine_model.specs.declared.event.Outcome.{Outcome}
 use Rattle.machine_model.specs.declared.event.Outcome.TheVariants.{Full}
 use Rattle.machine_model.specs.World.{World, Made}
+use Rattle.machine_alone.specs.Alone.{IsCalm}
 use Rattle.core_steps.specs.Machine.{IsLegal}
 use Rattle.shared.specs.declared.asides.Aside.{Aside}
 use Rattle.shared.specs.declared.history.History.{History}
@@ -14,6 +16,13 @@ use Rattle.shared.specs.declared.space.Answer.{Answer}
 use Rattle.shared.specs.declared.space.Answer.TheVariants as To
 use Rattle.shared.specs.declared.space.Passed.{Passed}
 use Rattle.shared.specs.declared.space.Passed.TheVariants as By
+use Rattle.shared.specs.declared.space.Refusal.{Refusal}
+use Rattle.shared.specs.declared.space.Refusal.TheVariants as Why
+use Rattle.shared.specs.declared.series.Stop.{Stop}
+use Rattle.shared.specs.declared.series.Stop.TheVariants as For
+use Rattle.shared.specs.declared.space.Calls.{Calls}
+use Rattle.shared.specs.declared.space.Calls.TheVariants as Lists
+use Rattle.shared.specs.Serial.{AreFirst, AreTold, StopsFor}
 use Rattle.shared.specs.Histories.{Begins, IsFull, StepsAside, event_of, history_of, replied, replied_by}
 
 pub record CoreView (S : Type 0) : Type 0 where
@@ -32,6 +41,11 @@ pub record CoreView (S : Type 0) : Type 0 where
 
 abbrev pub told_of : {S : Type 0} → CoreView S → Told
 told_of c = record { core = c.core; seen = c.seen; mine = c.mine }
+
+-- why a machine stays with its owner: a core of it has a call, or it has none; else memory was refused
+abbrev pub IsKept : Refusal → World → Type 0
+IsKept Why.NotCalm w = (w.made.cores ≡ 0) ⊎ (IsCalm w → ⊥)
+IsKept Why.NoMemory w = IsCalm w
 
 -- the core's calls in the history are those of t, which saw how it began
 abbrev pub IsTold : History → Told → Type 0
@@ -75,14 +89,34 @@ module _ {S : Type 0} (state : S → World) where
     pub made : u.made ≡ made_of first
     pub begun : Begins known (history_of u)
 
+  -- these calls were made, and the machine is at a limit: that of calls or that of events, which may have stopped one more
+  -- call that stands in the log
+  abbrev pub IsLimited : CoreView S → List Replied → CoreView S → Type 0
+  IsLimited v added w = (((w ≡ v) × (added ≡ [])) ⊎ ((more : List Replied) × Extends v (added ++ more) w))
+      × ((u : World) × IsLater w.first w.seen u × IsFull u)
+
   -- The call was made and replied. Or another core was in a call, and nothing was done. Or the machine
   -- is at a limit, that of calls or that of events: no reply is told, but that of the last call may
   -- stand in the log.
   abbrev pub Answers : CoreView S → Request → Answer → CoreView S → Type 0
   Answers v request (To.Reply reply) w = Extends v (replied request reply ∷ []) w
   Answers v request To.Busy w = w ≡ v
-  Answers v request To.Full w = ((w ≡ v) ⊎ ((added : List Replied) × Extends v added w))
-      × ((u : World) × IsLater w.first w.seen u × IsFull u)
+  Answers v request To.Full w = IsLimited v [] w
+
+  -- The core's view goes on by these calls. At a limit it may not have looked, and the call that the limit of events
+  -- stopped may stand in the log too.
+  abbrev pub GoesFor : Stop → CoreView S → List Replied → CoreView S → Type 0
+  GoesFor For.Refused v added w = IsLimited v added w
+  GoesFor For.Spent v added w = IsLimited v added w
+  GoesFor _ v added w = Extends v added w
+
+  -- So many calls were made, one after another, each with the reply in its place. Or another core was in a call, and nothing
+  -- was done.
+  abbrev pub AnswersAll : {T : Type 0} → CoreView S → List (Option Request) → (Reply → T) → List T → Calls → List T → CoreView S → Type 0
+  AnswersAll v asked told_of was (Lists.Made series) told w = (added : List Replied)
+      × AreTold told_of added was told × (series.made ≡ length added) × AreFirst asked added
+      × StopsFor series.stop asked added × GoesFor series.stop v added w
+  AnswersAll v asked told_of was Lists.Busy told w = (told ≡ was) × (w ≡ v)
 
   -- The machine made an aside, by a step of its own, from a legal state; it added nothing to the
   -- history, of which the core has seen all so far. At the limit of events it may not have looked.
@@ -91,7 +125,7 @@ module _ {S : Type 0} (state : S → World) where
     pub after : World
     pub later : IsLater w.first w.seen before
     pub steps : StepsAside before (event_of v.core aside) outcome after
-    pub extends : ((w ≡ v) × (outcome ≡ Full)) ⊎ Extends v [] w
+    pub extends : ((w ≡ v) × (outcome ≡ Full)) ⊎ (Extends v [] w × (history_of before ≡ w.seen))
 
   -- or another core was in a call, and nothing was done
   abbrev pub Passes : CoreView S → Aside → Passed → CoreView S → Type 0

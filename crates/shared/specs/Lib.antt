@@ -1,4 +1,5 @@
 pub mod Histories
 pub mod Calling
+pub mod Serial
 pub mod Cores
 pub mod Rules

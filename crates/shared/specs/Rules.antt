@@ -13,6 +13,8 @@ use Rattle.shared.specs.declared.history.Told.{Told}
 use Rattle.shared.specs.declared.space.Answer.{Answer}
 use Rattle.shared.specs.declared.space.Answer.TheVariants as Tells
 use Rattle.shared.specs.declared.space.Known.{Known}
+use Rattle.shared.specs.declared.series.Stop.{Stop}
+use Rattle.shared.specs.declared.series.Stop.TheVariants as For
 use Rattle.shared.specs.declared.whole.Ended.{Ended}
 use Rattle.shared.specs.declared.whole.Ended.TheVariants as To
 use Rattle.shared.specs.Histories.{Adds, Begins, IsOver, history_of, replied_by}
@@ -22,8 +24,8 @@ use Rattle.shared.specs.Cores.{CoreView, IsLater, IsTold, history_first, made_of
 abbrev pub middle : ℕ
 middle = 8
 
-abbrev pub row : ℕ → List ℕ
-row word = 1 ∷ 1 ∷ 1 ∷ 1 ∷ 1 ∷ 1 ∷ 1 ∷ 1 ∷ word ∷ 1 ∷ 1 ∷ 1 ∷ 1 ∷ 1 ∷ 1 ∷ 1 ∷ 1 ∷ []
+abbrev pub padded : ℕ → List ℕ
+padded word = 1 ∷ 1 ∷ 1 ∷ 1 ∷ 1 ∷ 1 ∷ 1 ∷ 1 ∷ word ∷ 1 ∷ 1 ∷ 1 ∷ 1 ∷ 1 ∷ 1 ∷ 1 ∷ 1 ∷ []
 
 abbrev pub known : {S : Type 0} → ℕ → ℕ → List S → History → List Replied → Known S
 known core spare first seen mine = record {
@@ -94,7 +96,7 @@ module _ {S : Type 0} (state : S → World) where
   pub record Home (key : List S) (s : State S (Known S)) (h : History) : Type 0 where
     pub machine : S
     pub word : ℕ
-    pub words : s.words ≡ row word
+    pub words : s.words ≡ padded word
     pub homes : s.homes ≡ some machine ∷ []
     pub in_place : word ≢ 0
     pub calm : word ≡ 1 → IsCalm (state machine)
@@ -107,7 +109,7 @@ module _ {S : Type 0} (state : S → World) where
   -- one core has it, which knows the whole history
   pub record Out (s : State S (Known S)) (h : History) : Type 0 where
     pub holder : ℕ
-    pub words : s.words ≡ row 0
+    pub words : s.words ≡ padded 0
     pub homes : s.homes ≡ none ∷ []
     pub one_holds : (id : ℕ) (v : Known S) → get_elem? s.views id ≡ some v → v.holds ≡ true
         → (id ≡ holder) × (v.seen ≡ h)
@@ -176,6 +178,11 @@ abbrev pub word_of : Ended → ℕ
 word_of (To.Reply reply) = 1
 word_of To.Refused = 1
 word_of To.Spent = 2
+
+-- and after calls that came to this
+abbrev pub word_after : Stop → ℕ
+word_after For.Spent = 2
+word_after _ = 1
 
 -- what the caller is told then
 abbrev pub answer_of : Ended → Answer

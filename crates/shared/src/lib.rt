@@ -6,12 +6,14 @@ pub mod asides;
 pub mod calling;
 pub mod history;
 pub mod machine;
+pub mod series;
 pub mod space;
 pub mod whole;
 
 pub use asides::Aside;
 pub use history::{History, Replied, Told};
-pub use space::{Answer, Core, Known, Passed, Refusal, Space, Unshared};
+pub use series::{Ask, Series, Stop, Tell};
+pub use space::{Answer, Calls, Core, Known, Passed, Refusal, Space, Unshared};
 pub use whole::{Ended, Whole};
 
 fn is_send<T: Send>(_one: &T) {}

@@ -1,12 +1,16 @@
 //! The space that threads share, and a core, with which one thread calls.
-ghost use Rattle.std.specs.Prelude.{◌≡◌, ◌≢◌, ℕ, ◌-◌, ◌<◌, ◌==◌, [], ◌∷◌, ◌++◌, IfOk, IfErr, IfSome, IfNone};
+ghost use Rattle.std.specs.Prelude.{◌≡◌, ◌≢◌, ℕ, ◌-◌, ◌<◌, ◌≤◌, ◌==◌, List, [], ◌∷◌, ◌++◌, IfOk, IfErr, IfSome, IfNone, length, map};
+ghost use Rattle.shared.specs.declared.history.Replied.{Replied as RepliedOf};
 ghost use Rattle.shared.specs.Histories.{history_of, replied_by, event_of, Ends, StepsAside};
-ghost use Rattle.shared.specs.Cores.{Answers, Agrees, Passes, made_of, new_core, told_of};
+ghost use Rattle.shared.specs.Serial.{AreTold, EndsSeries};
+ghost use Rattle.shared.specs.Cores.{Answers, AnswersAll, Agrees, IsKept, Passes, made_of, new_core, told_of};
 ghost use Rattle.machine_alone.specs.Alone.{IsCalm};
-ghost use Rattle.shared.specs.Rules.{CanGive, Makes, Took, after, answer_of, word_of};
+ghost use Rattle.core_steps.specs.Machine.{IsLegal};
+ghost use Rattle.shared.specs.Rules.{CanGive, Makes, Took, after, answer_of, word_after, word_of};
 
 use crate::asides::Aside;
 use crate::history::{History, Replied, Told};
+use crate::series::{Ask, Series, Stop, Tell, call_each};
 use crate::whole::{Ended, Whole};
 use atomic_table::{Join, Play, Refused, Seat, Split, Table, TableRule};
 use ghost_list::GhostList;
@@ -61,6 +65,15 @@ pub enum Passed {
     /// The machine's outcome: it was made (Stepped), there was nothing to do (Idle), or the limit of
     /// events is reached (Full).
     Came(Outcome),
+    /// Another core is in a call. Nothing was done.
+    Busy,
+}
+
+/// What a series of calls comes to.
+#[derive(Clone, Copy, Debug, PartialEq, Eq)]
+pub enum Calls {
+    /// So many were made.
+    Made(Series),
     /// Another core is in a call. Nothing was done.
     Busy,
 }
@@ -164,11 +177,11 @@ pub struct Unshared<S> {
 }
 
 impl<S: Whole + Drop> Space<S> {
-    /// A space, and core 0, which may split off the machine's other cores. No core may have a call.
+    /// A space, and core 0, which may split off the machine's other cores. A machine that a core has a call of isn't shared.
     pub fn new(alloc: Global, machine: S) -> Result<(Space<S>, Core<S>), Unshared<S>>
         ensures ok { IfOk result (λ r. (r.1.first ≡ machine ∷ [])
             × (r.1 ≡ new_core S.state r.0.table.shared.table_id 0 ((S.state machine).made.cores - 1) (machine ∷ []))) }
-        ensures err { IfErr result (λ r. r.machine ≡ machine) }
+        ensures err { IfErr result (λ r. (r.machine ≡ machine) × IsKept r.why (S.state machine)) }
     {
         let cores = machine.core_count();
         if cores == 0 || !machine.is_calm() {
@@ -226,6 +239,26 @@ impl<S: Whole + Drop> Space<S> {
             .call_whole(core, request)
     }
 
+    // Whole calls of the machine that the seat has.
+    fn make_each<Q: Ask, T: Tell>(
+        &self,
+        seat: &mut Seat<S, Known<S>>,
+        core: CoreId,
+        asks: &[Q],
+        told: &mut [T],
+    ) -> Series
+        requires here { seat.old.table_id ≡ self.now.table.shared.table_id }
+        requires has { (d : S) × (seat.old.me.1 ≡ (0, d) ∷ []) × (core < (S.state d).made.cores)
+            × IsCalm (S.state d) × IsLegal (S.state d) }
+        requires room { length asks.now ≤ length told.old }
+        ensures same { (seat.new.table_id ≡ seat.old.table_id) × (seat.new.me.0 ≡ seat.old.me.0) }
+        ensures made { (d : S) → seat.old.me.1 ≡ (0, d) ∷ []
+            → Makes S.state d (λ x y. (added : List RepliedOf) × AreTold T.told added told.old told.new
+            × (result.made ≡ length added) × EndsSeries x core (map Q.request asks.now) added result.stop y) seat.new.me.1 }
+    {
+        call_each(seat.slot_mut(&self.table.shared, 0), core, asks, told)
+    }
+
     // An aside of the machine that the seat has.
     fn pass(&self, seat: &mut Seat<S, Known<S>>, core: CoreId, aside: Aside) -> Outcome
         requires here { seat.old.table_id ≡ self.now.table.shared.table_id }
@@ -268,6 +301,31 @@ impl<S: Whole + Drop> Space<S> {
         let ended = self.make(&mut core.seat, core.number, request);
         self.give(&mut core.seat, word_of(ended));
         answer_of(ended)
+    }
+
+    /// Whole calls of this core, one after another, with nothing of another core between them. Each reply is told in its place, as
+    /// far as calls were made, and the other places stay as they were: up to what is no call, to a call to which memory is refused,
+    /// or to a limit of the machine. Of each that was made the same is so as of `call`. Where another core is in a call, nothing
+    /// is done.
+    pub fn call_all<Q: Ask, T: Tell>(&self, core: &mut Core<S>, asks: &[Q], told: &mut [T]) -> Calls
+        requires here { core.old.space ≡ self.now.table.shared.table_id }
+        requires room { length asks.now ≤ length told.old }
+        ensures answers { AnswersAll S.state core.old (map Q.request asks.now) T.told told.old result told.new core.new }
+        ensures here { core.new.space ≡ core.old.space }
+    {
+        let found = self.take(&mut core.seat);
+        if found == OUT {
+            return Calls::Busy;
+        }
+        if found != HOME {
+            return Calls::Made(Series {
+                made: 0,
+                stop: Stop::Refused,
+            });
+        }
+        let series = self.make_each(&mut core.seat, core.number, asks, told);
+        self.give(&mut core.seat, word_after(series.stop));
+        Calls::Made(series)
     }
 
     /// An aside of this core: the machine's own step, which adds nothing to the history. This core's
@@ -356,6 +414,13 @@ fn word_of(ended: Ended) -> u64
         Ended::Reply(_) | Ended::Refused => HOME,
         Ended::Spent => SPENT,
     }
+}
+
+// The word with which the machine is given back after a series of calls.
+fn word_after(stop: Stop) -> u64
+    ensures { result ≡ word_after stop }
+{
+    if stop == Stop::Spent { SPENT } else { HOME }
 }
 
 // What the caller is told.

@@ -1,5 +1,5 @@
 //! A machine whose calls are whole: none is in flight between two of them.
-ghost use Rattle.std.specs.Prelude.{◌≡◌, ◌<◌, IsTrue};
+ghost use Rattle.std.specs.Prelude.{◌≡◌, ◌<◌, false, IsTrue};
 ghost use Rattle.machine_model.specs.World.{World};
 ghost use Rattle.machine_alone.specs.Alone.{IsCalm};
 ghost use Rattle.core_steps.specs.Machine.{IsLegal};
@@ -32,7 +32,8 @@ pub trait Whole {
 
     /// Tells whether no core has a call.
     fn is_calm(&self) -> bool
-        ensures { IsTrue result → IsCalm (state self.now) };
+        ensures calm { IsTrue result → IsCalm (state self.now) }
+        ensures busy { result ≡ false → IsCalm (state self.now) → ⊥ };
 
     /// Makes a call of this core, where no core has one, and leaves none.
     fn call_whole(&mut self, core: CoreId, request: Request) -> Ended

@@ -1,5 +1,6 @@
 -- The cores while a script is run, from the last to the first
-use Rattle.std.proofs.Common.{◌≡◌, ℕ, zero, suc, ◌+◌, ◌-◌, ◌<◌, List, [], ◌∷◌, ◌++◌, length, map, get_or, take, drop, arith, refl, sym, ap, subst, ◌∙◌, append-nil, length-append, Vec, Global}
+use Rattle.std.proofs.Common.{◌≡◌, ℕ, zero, suc, ◌+◌, ◌-◌, ◌<◌, List, [], ◌∷◌, ◌++◌, length, map, get_or, take, drop, arith, refl, sym, ap}
+use Rattle.std.proofs.Common.{subst, ◌∙◌, append-nil, length-append, Vec, Global}
 use Rattle.std.proofs.lemmas.List.{drop_all, get_or-map, length-map, map-append, take_all, take_more}
 use Rattle.std.proofs.lemmas.Option.{slice_get-get_or}
 use Rattle.std.specs.Prelude.{Option, None, Some, IfNone, IfSome, Bool}
@@ -17,9 +18,10 @@ use Rattle.shared.specs.declared.history.Replied.{Replied}
 use Rattle.shared.specs.declared.history.Told.{Told}
 use Rattle.shared_script.specs.Lanes.{AreCores, AreOf, EndEach, EndsAs, IsDone, IsFresh, last_stop}
 use Rattle.shared_script.specs.Runs.{Fails, IsRun}
-use Rattle.shared_script.specs.Tasks.{IsMade, asked_in, calls_of}
+use Rattle.shared_script.specs.Tasks.{ArePassed, IsMade, asked_in, calls_of}
 use Rattle.shared_script.specs.declared.fault.SharedFault.{SharedFault}
 use Rattle.shared_script.specs.declared.lane.Lane.{Lane}
+use Rattle.shared_script.proofs.TaskLemmas.{still_passed}
 use Rattle.shared_script.proofs.EachLemmas.{Each, each_front, each_last, each_snoc}
 
 -- ---- a space is declared with some core
@@ -102,7 +104,8 @@ module _ {S : Type 0} (state : S → World) (space : TableId) (first : List S) (
 
 -- ---- stops
 
-last_none : (last : Option SharedFault) (stops : List (Option SharedFault)) → last_stop last stops ≡ None → (last ≡ None) × ((k : ℕ) → get_or stops k None ≡ None)
+last_none : (last : Option SharedFault) (stops : List (Option SharedFault)) → last_stop last stops ≡ None
+    → (last ≡ None) × ((k : ℕ) → get_or stops k None ≡ None)
 last_none last [] e = (e, λ k. refl)
 last_none last (None ∷ stops) e = let r = last_none last stops e in (r.0, none r.1)
   where
@@ -128,24 +131,32 @@ last_more last (Some found ∷ stops) stop = last_more (Some found) stops stop
 
 module _ {S : Type 0} (state : S → World) (space : TableId) (first : List S) (tasks : List (List Task)) (new : (history_first state first).entries ≡ []) where
   -- a core that did not stop
-  done_of : (core : ℕ) (before after : Lane S) → IsFresh state space first core before → EndsAs tasks before after → after.stop ≡ None
-      → IsDone tasks space first core after
+  done_of : (core : ℕ) (before after : Lane S) → IsFresh state space first core before → EndsAs state tasks before after
+      → after.stop ≡ None → IsDone (made_of state first) tasks space first core after
   done_of core before after fresh ends none =
-      let m = subst (λ o. IfNone o (IsMade before.core before.told.items (calls_of (get_or tasks before.number [])) after.core after.told.items)) none ends.made in
+      let m = subst (λ o. IfNone o (IsMade before.core before.told.items (calls_of (get_or tasks before.number [])) after.core after.told.items)) none
+      ends.made in
       let kept = m.kept ∙ ap (λ l. l ++ m.told) fresh.told in
+      let first_of : before.core.first ≡ first = ap (λ (v : CoreView S). v.first) fresh.core_is in
+      let core_of : before.core.core ≡ core = ap (λ (v : CoreView S). v.core) fresh.core_is in
       let empty : before.core.mine ≡ [] = ap (λ (v : CoreView S). v.mine) fresh.core_is ∙ ap (replied_in core (history_first state first).requests) new in
       record {
-        core_is = ap (λ (v : CoreView S). v.core) m.same ∙ ap (λ (v : CoreView S). v.core) fresh.core_is;
+        core_is = ap (λ (v : CoreView S). v.core) m.same ∙ core_of;
         space_is = ap (λ (v : CoreView S). v.space) m.same ∙ ap (λ (v : CoreView S). v.space) fresh.core_is;
-        first_is = ap (λ (v : CoreView S). v.first) m.same ∙ ap (λ (v : CoreView S). v.first) fresh.core_is;
+        first_is = ap (λ (v : CoreView S). v.first) m.same ∙ first_of;
         others = ap (λ (v : CoreView S). v.others) m.same ∙ ap (λ (v : CoreView S). v.others) fresh.core_is;
         asked = ap asked_in kept ∙ m.asked ∙ ap (λ n. calls_of (get_or tasks n [])) fresh.number;
         mine = m.mine ∙ ap (λ l. l ++ m.told) empty ∙ sym kept;
+        passed = subst (λ (z : List S × (ℕ × (List Replied × ℕ))).
+            ArePassed (made_of state z.0) z.1.0 (asked_in z.1.1.0) (get_or tasks z.1.1.1 []) after.core.seen)
+            (λ i. (first_of i, (core_of i, (empty i, fresh.number i))))
+            (subst (λ o. IfNone o (ArePassed (made_of state before.core.first) before.core.core (asked_in before.core.mine)
+            (get_or tasks before.number []) after.core.seen)) none ends.passed);
       }
 
   -- where none did
-  pub all_done : (left : ℕ) (before after : List (Lane S)) → AreCores left (IsFresh state space first) before → EndEach tasks before after
-      → last_stop None (map (λ lane. lane.stop) after) ≡ None → AreCores left (IsDone tasks space first) after
+  pub all_done : (left : ℕ) (before after : List (Lane S)) → AreCores left (IsFresh state space first) before → EndEach state tasks before after
+      → last_stop None (map (λ lane. lane.stop) after) ≡ None → AreCores left (IsDone (made_of state first) tasks space first) after
   all_done left before after fresh ends none = record {
     count = ends.count ∙ fresh.count;
     each = λ at d le.
@@ -156,9 +167,9 @@ module _ {S : Type 0} (state : S → World) (space : TableId) (first : List S) (
   }
 
 -- why one stopped that did
-pub stop_fails : {S : Type 0} (tasks : List (List Task)) (before after : List (Lane S)) → EndEach tasks before after
+pub stop_fails : {S : Type 0} (state : S → World) (tasks : List (List Task)) (before after : List (Lane S)) → EndEach state tasks before after
     → IfSome (last_stop None (map (λ lane. lane.stop) after)) Fails
-stop_fails {S = S} tasks before after ends =
+stop_fails {S = S} state tasks before after ends =
     last_fails None (map (λ lane. lane.stop) after) tt (each after (λ at d lt. (ends.each at d d (omega (arith, lt, ends.count))).fails))
   where
     each : (lanes : List (Lane S)) → Each (λ at (lane : Lane S). IfSome lane.stop Fails) lanes → (k : ℕ)
@@ -187,8 +198,8 @@ pub stop_none : (last now stop : Option SharedFault) → now ≡ last → stop �
 stop_none last now stop e is = e ∙ sym (ap (λ o. last_stop last (o ∷ [])) is)
 
 -- the lanes that were lent, once they are a vector's again
-module _ {S : Type 0} (items lent last seen : List (Lane S)) (n : ℕ) (tasks : List (List Task)) (same : lent ≡ items) (len : length lent ≡ n)
-    (ends : EndEach tasks lent last) (are : seen ≡ take n (last ++ drop (length last) items)) where
+module _ {S : Type 0} (state : S → World) (items lent last seen : List (Lane S)) (n : ℕ) (tasks : List (List Task)) (same : lent ≡ items)
+    (len : length lent ≡ n) (ends : EndEach state tasks lent last) (are : seen ≡ take n (last ++ drop (length last) items)) where
   none_left : drop (length last) items ≡ []
   none_left = drop_all (length last) items (let e = ap length same in omega (arith, ends.count, e))
 
@@ -197,15 +208,17 @@ module _ {S : Type 0} (items lent last seen : List (Lane S)) (n : ℕ) (tasks : 
 
   pub seen_fails : (o : Option SharedFault) (fault : SharedFault) → o ≡ last_stop None (map (λ lane. lane.stop) seen) → o ≡ Some fault → Fails fault
   seen_fails o fault e f =
-      let same : last_stop None (map (λ lane. lane.stop) last) ≡ o = ap (λ l. last_stop None (map (λ (lane : Lane S). lane.stop) l)) (sym (are ∙ are_last)) ∙ sym e in
-      some_fails o fault (subst (λ (o : Option SharedFault). IfSome o Fails) same (stop_fails tasks lent last ends)) f
+      let same : last_stop None (map (λ lane. lane.stop) last) ≡ o = ap (λ l. last_stop None (map (λ (lane : Lane S). lane.stop) l)) (sym (are ∙ are_last))
+      ∙ sym e in
+      some_fails o fault (subst (λ (o : Option SharedFault). IfSome o Fails) same (stop_fails state tasks lent last ends)) f
 
-  pub seen_done : (state : S → World) (space : TableId) (first : List S) (left : ℕ) (o : Option SharedFault) → (history_first state first).entries ≡ []
+  pub seen_done : (space : TableId) (first : List S) (left : ℕ) (o : Option SharedFault) → (history_first state first).entries ≡ []
       → AreCores left (IsFresh state space first) items → o ≡ last_stop None (map (λ lane. lane.stop) seen) → o ≡ None
-      → AreCores left (IsDone tasks space first) (take n (last ++ drop (length last) items))
-  seen_done state space first left o new fresh e none =
-      let stops : last_stop None (map (λ lane. lane.stop) last) ≡ None = ap (λ l. last_stop None (map (λ (lane : Lane S). lane.stop) l)) (sym (are ∙ are_last)) ∙ sym e ∙ none in
-      subst (λ l. AreCores left (IsDone tasks space first) l) (sym are_last)
+      → AreCores left (IsDone (made_of state first) tasks space first) (take n (last ++ drop (length last) items))
+  seen_done space first left o new fresh e none =
+      let stops : last_stop None (map (λ lane. lane.stop) last) ≡ None = ap (λ l. last_stop None (map (λ (lane : Lane S). lane.stop) l))
+      (sym (are ∙ are_last)) ∙ sym e ∙ none in
+      subst (λ l. AreCores left (IsDone (made_of state first) tasks space first) l) (sym are_last)
       (all_done state space first tasks new left lent last (subst (λ l. AreCores left (IsFresh state space first) l) (sym same) fresh) ends stops)
 
 -- lanes that were made for a core as it was then
@@ -221,24 +234,25 @@ fresh_at {S = S} state now space first k left lanes e is a =
 abbrev known_by : {S : Type 0} → CoreView S → List Told
 known_by v = told_of v ∷ v.others
 
-module _ {S : Type 0} (tasks : List (List Task)) (space : TableId) (first : List S) (left : ℕ) where
+module _ {S : Type 0} (made : Made) (tasks : List (List Task)) (space : TableId) (first : List S) (left : ℕ) where
   pub record Gathers (lanes : List (Lane S)) (now : CoreView S) (told : List (List Replied)) : Type 0 where
     pub count : length lanes + length told ≡ suc left
-    pub each : Each (λ at lane. IsDone tasks space first (left - at) lane) lanes
+    pub each : Each (λ at lane. IsDone made tasks space first (left - at) lane) lanes
     pub space_is : now.space ≡ space
     pub first_is : now.first ≡ first
     pub cores : Each (λ k (t : Told). t.core ≡ k) (known_by now)
     pub mine : map (λ (t : Told). t.mine) (known_by now) ≡ told
     pub asked : Each (λ k (l : List Replied). asked_in l ≡ calls_of (get_or tasks k [])) told
+    pub passed : Each (λ k (t : Told). ArePassed made k [] (get_or tasks k []) t.seen) (known_by now)
 
   -- core 0 is the last lane's
-  pub gathers_first : (all lanes : List (Lane S)) (lane : Lane S) → AreCores left (IsDone tasks space first) all → all ≡ lanes ++ lane ∷ []
+  pub gathers_first : (all lanes : List (Lane S)) (lane : Lane S) → AreCores left (IsDone made tasks space first) all → all ≡ lanes ++ lane ∷ []
       → Gathers lanes lane.core (lane.told.items ∷ [])
   gathers_first all lanes lane a is =
       let count : length lanes ≡ left = omega (arith, a.count, ap length is, length-append lanes (lane ∷ [])) in
-      let P : ℕ → Lane S → Type 0 = λ at lane. IsDone tasks space first (left - at) lane in
+      let P : ℕ → Lane S → Type 0 = λ at lane. IsDone made tasks space first (left - at) lane in
       let each : Each P (lanes ++ lane ∷ []) = subst (Each P) is (λ at d lt. a.each at d (omega (arith, lt, a.count))) in
-      let done : IsDone tasks space first 0 lane = subst (λ n. IsDone tasks space first n lane) (omega (arith, count)) (each_last P lanes lane each) in
+      let done : IsDone made tasks space first 0 lane = subst (λ n. IsDone made tasks space first n lane) (omega (arith, count)) (each_last P lanes lane each) in
       record {
         count = omega (arith, count);
         each = each_front P lanes (lane ∷ []) each;
@@ -247,7 +261,11 @@ module _ {S : Type 0} (tasks : List (List Task)) (space : TableId) (first : List
         cores = subst (λ l. Each (λ k (t : Told). t.core ≡ k) (told_of lane.core ∷ l)) (sym done.others)
             (each_snoc (λ k (t : Told). t.core ≡ k) [] (told_of lane.core) (λ at d lt. absurd (omega (arith, lt))) done.core_is);
         mine = (λ i. lane.core.mine ∷ map (λ (t : Told). t.mine) (done.others i)) ∙ ap (λ l. l ∷ []) done.mine;
-        asked = each_snoc (λ k (l : List Replied). asked_in l ≡ calls_of (get_or tasks k [])) [] lane.told.items (λ at d lt. absurd (omega (arith, lt))) done.asked;
+        asked = each_snoc (λ k (l : List Replied). asked_in l ≡ calls_of (get_or tasks k [])) [] lane.told.items
+            (λ at d lt. absurd (omega (arith, lt))) done.asked;
+        passed = subst (λ l. Each (λ k (t : Told). ArePassed made k [] (get_or tasks k []) t.seen) (told_of lane.core ∷ l)) (sym done.others)
+            (each_snoc (λ k (t : Told). ArePassed made k [] (get_or tasks k []) t.seen) [] (told_of lane.core) (λ at d lt. absurd (omega (arith, lt)))
+            done.passed);
       }
 
   -- one more is taken in
@@ -256,10 +274,10 @@ module _ {S : Type 0} (tasks : List (List Task)) (space : TableId) (first : List
       → Gathers lanes new more
   gathers_more all lanes lane now new told more g is e m =
       let size : length all ≡ length lanes + 1 = omega (arith, ap length is, length-append lanes (lane ∷ [])) in
-      let P : ℕ → Lane S → Type 0 = λ at lane. IsDone tasks space first (left - at) lane in
+      let P : ℕ → Lane S → Type 0 = λ at lane. IsDone made tasks space first (left - at) lane in
       let each : Each P (lanes ++ lane ∷ []) = subst (Each P) is g.each in
       let here : left - length lanes ≡ length told = omega (arith, g.count, size) in
-      let done : IsDone tasks space first (length told) lane = subst (λ n. IsDone tasks space first n lane) here (each_last P lanes lane each) in
+      let done : IsDone made tasks space first (length told) lane = subst (λ n. IsDone made tasks space first n lane) here (each_last P lanes lane each) in
       let knows : known_by new ≡ known_by now ++ told_of lane.core ∷ [] = ap known_by e in
       let long : length (known_by now) ≡ length told = sym (length-map (known_by now) (λ (t : Told). t.mine)) ∙ ap length g.mine in
       record {
@@ -273,17 +291,26 @@ module _ {S : Type 0} (tasks : List (List Task)) (space : TableId) (first : List
             ∙ (λ i. g.mine i ++ done.mine i ∷ []) ∙ sym m;
         asked = subst (Each (λ k (l : List Replied). asked_in l ≡ calls_of (get_or tasks k []))) (sym m)
             (each_snoc (λ k (l : List Replied). asked_in l ≡ calls_of (get_or tasks k [])) told lane.told.items g.asked done.asked);
+        passed = subst (Each (λ k (t : Told). ArePassed made k [] (get_or tasks k []) t.seen)) (sym knows)
+            (each_snoc (λ k (t : Told). ArePassed made k [] (get_or tasks k []) t.seen) (known_by now) (told_of lane.core) g.passed
+            (subst (λ k. ArePassed made k [] (get_or tasks k []) lane.core.seen) (sym long) done.passed));
       }
 
 -- all were, and the machine agrees with what is known
 pub gathered : {S : Type 0} (state : S → World) (script : Scripted) (space : TableId) (first : List S) (left : ℕ) (lanes : List (Lane S)) (now : CoreView S)
-    (told : List (List Replied)) (w : World) → Gathers script.tasks space first left lanes now told → length lanes ≡ 0 → suc left ≡ script.asked.cores
+    (told : List (List Replied)) (w : World) → Gathers (made_of state first) script.tasks space first left lanes now told → length lanes ≡ 0 → suc left ≡ script.asked.cores
     → made_of state first ≡ made_by script.asked → Agrees state w now → IsRun script told w
 gathered {S = S} state script space first left lanes now told w g none cores made a = record {
   legal = a.legal;
   made = a.made ∙ ap (made_of state) g.first_is ∙ made;
   count = count;
   asked = λ core lt. g.asked core [] (omega (arith, lt, count));
+  passed = λ core lt.
+      let within : core < length (known_by now) = omega (arith, lt, count, long) in
+      let t = get_or (known_by now) core (told_of now) in
+      subst (λ made. ArePassed made core [] (get_or script.tasks core []) (history_of w)) (sym (a.made ∙ ap (made_of state) g.first_is))
+      (still_passed (made_of state first) core [] (get_or script.tasks core []) t.seen (history_of w) (knows core within).0
+      (g.passed core (told_of now) within));
   logged = λ core lt.
       let within : core < length (known_by now) = omega (arith, lt, count, long) in
       let t = get_or (known_by now) core (told_of now) in
@@ -306,14 +333,14 @@ pub record GathersSome {S : Type 0} (state : S → World) (script : Scripted) (s
     (told : List (List Replied)) : Type 0 where
   pub first : List S
   pub made : made_of state first ≡ made_by script.asked
-  pub gathers : Gathers script.tasks space first (script.asked.cores - 1) lanes now told
+  pub gathers : Gathers (made_of state first) script.tasks space first (script.asked.cores - 1) lanes now told
 
 module _ {S : Type 0} (state : S → World) (script : Scripted) (space : TableId) where
   pub some_first : (all lanes : List (Lane S)) (lane : Lane S) → (first : List S) × (made_of state first ≡ made_by script.asked)
-      × AreCores (script.asked.cores - 1) (IsDone script.tasks space first) all → all ≡ lanes ++ lane ∷ []
+      × AreCores (script.asked.cores - 1) (IsDone (made_of state first) script.tasks space first) all → all ≡ lanes ++ lane ∷ []
       → GathersSome state script space lanes lane.core (lane.told.items ∷ [])
   some_first all lanes lane (first, made, are) is =
-      record { first = first; made = made; gathers = gathers_first script.tasks space first (script.asked.cores - 1) all lanes lane are is }
+      record { first = first; made = made; gathers = gathers_first (made_of state first) script.tasks space first (script.asked.cores - 1) all lanes lane are is }
 
   pub some_more : (all lanes : List (Lane S)) (lane : Lane S) (now new : CoreView S) (told more : List (List Replied))
       → GathersSome state script space all now told → all ≡ lanes ++ lane ∷ [] → new ≡ record now { others = now.others ++ told_of lane.core ∷ [] }
@@ -321,7 +348,7 @@ module _ {S : Type 0} (state : S → World) (script : Scripted) (space : TableId
   some_more all lanes lane now new told more g is e m = record {
     first = g.first;
     made = g.made;
-    gathers = gathers_more script.tasks space g.first (script.asked.cores - 1) all lanes lane now new told more g.gathers is e m;
+    gathers = gathers_more (made_of state g.first) script.tasks space g.first (script.asked.cores - 1) all lanes lane now new told more g.gathers is e m;
   }
 
   pub some_run : (lanes : List (Lane S)) (now : CoreView S) (told : List (List Replied)) (w : World) → GathersSome state script space lanes now told
@@ -333,7 +360,7 @@ module _ {S : Type 0} (state : S → World) (script : Scripted) (space : TableId
   pub last_space : (all lanes : List (Lane S)) (lane : Lane S) (now : CoreView S) (told : List (List Replied)) → GathersSome state script space all now told
       → all ≡ lanes ++ lane ∷ [] → lane.core.space ≡ space
   last_space all lanes lane now told g is =
-      let P : ℕ → Lane S → Type 0 = λ at lane. IsDone script.tasks space g.first ((script.asked.cores - 1) - at) lane in
+      let P : ℕ → Lane S → Type 0 = λ at lane. IsDone (made_of state g.first) script.tasks space g.first ((script.asked.cores - 1) - at) lane in
       (each_last P lanes lane (subst (Each P) is g.gathers.each)).space_is
 
 -- ---- what is kept of what cores were told

@@ -83,10 +83,12 @@ module _ (a b c : Option (List ℕ)) (xs : List (Vec Replied Global)) (n : ℕ) 
   within = omega (arith, h, length-map xs (λ (v : Vec Replied Global). v.items))
 
   pub core_wrote : Appends b c (flat_map (told_line n) l) → Appends a c (told_lines 0 (take (n + 1) (map (λ (v : Vec Replied Global). v.items) xs)))
-  core_wrote q = told_wrote a b c (map (λ (v : Vec Replied Global). v.items) xs) n n [] within refl p (subst (λ l. Appends b c (flat_map (told_line n) l)) here q)
+  core_wrote q = told_wrote a b c (map (λ (v : Vec Replied Global). v.items) xs) n n [] within refl p
+      (subst (λ l. Appends b c (flat_map (told_line n) l)) here q)
 
   pub core_front : AppendsFront b c (flat_map (told_line n) l) → AppendsFront a c (told_lines 0 (map (λ (v : Vec Replied Global). v.items) xs))
-  core_front q = told_front a b c (map (λ (v : Vec Replied Global). v.items) xs) n n [] within refl p (subst (λ l. AppendsFront b c (flat_map (told_line n) l)) here q)
+  core_front q = told_front a b c (map (λ (v : Vec Replied Global). v.items) xs) n n [] within refl p
+      (subst (λ l. AppendsFront b c (flat_map (told_line n) l)) here q)
 
 -- a front of the second of three texts
 pub second_front : (a b c : Option (List ℕ)) (xs ys zs : List ℕ) → Appends a b xs → AppendsFront b c ys → AppendsFront a c ((xs ++ ys) ++ zs)

@@ -8,17 +8,19 @@ use Rattle.shared.specs.declared.history.Replied.{Replied}
 use Rattle.trace.specs.Declarations.{made_by}
 use Rattle.trace.specs.declared.fault.TraceFault.TheVariants.{NoMemory, Setup}
 use Rattle.notes_text.specs.Scripts.{Scripted}
-use Rattle.shared_script.specs.Tasks.{asked_in, calls_of}
+use Rattle.shared_script.specs.Tasks.{ArePassed, asked_in, calls_of}
 use Rattle.shared_script.specs.declared.fault.SharedFault.{SharedFault}
 use Rattle.shared_script.specs.declared.fault.SharedFault.TheVariants.{Text, Full}
 
 -- The machine is as it was declared, in a legal state: its log is that of a plain page map. Each core made the calls of its
--- tasks, in order, and the log's replies to it are those that its thread was told.
+-- tasks, in order, and the log's replies to it are those that its thread was told; each flush and each review of it was a step of the
+-- machine's own, in its place between these calls.
 pub record IsRun (script : Scripted) (told : List (List Replied)) (w : World) : Type 0 where
   pub legal : IsLegal w
   pub made : w.made ≡ made_by script.asked
   pub count : length told ≡ script.asked.cores
   pub asked : (core : ℕ) → core < script.asked.cores → asked_in (get_or told core []) ≡ calls_of (get_or script.tasks core [])
+  pub passed : (core : ℕ) → core < script.asked.cores → ArePassed w.made core [] (get_or script.tasks core []) (history_of w)
   pub logged : (core : ℕ) → core < script.asked.cores → replied_by core (history_of w) ≡ get_or told core []
 
 -- why a script that declares a machine may not have been run: memory was wanting, for the machine too, or the machine is at a limit

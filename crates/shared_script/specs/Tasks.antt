@@ -1,12 +1,16 @@
 -- What a core does of a script on a machine that others share
-use Rattle.std.specs.Prelude.{◌≡◌, List, [], ◌∷◌, ◌++◌, map}
+use Rattle.std.specs.Prelude.{◌≡◌, ℕ, List, [], ◌∷◌, ◌++◌, map}
 use Rattle.vm_base.specs.declared.requests.Request.{Request}
 use Rattle.notes_text.specs.declared.script.Task.{Task}
 use Rattle.notes_text.specs.declared.script.Task.TheVariants.{Call, Flush, Review}
-use Rattle.machine_model.specs.World.{World}
+use Rattle.machine_model.specs.World.{World, Made}
 use Rattle.machine_model.specs.declared.event.Outcome.{Outcome}
-use Rattle.shared.specs.Cores.{Came, CoreView}
+use Rattle.core_steps.specs.Machine.{IsLegal}
+use Rattle.shared.specs.Cores.{CoreView}
+use Rattle.shared.specs.Histories.{Begins, StepsAside, event_of, history_of, replied_by}
+use Rattle.shared.specs.declared.asides.Aside.{Aside}
 use Rattle.shared.specs.declared.asides.Aside.TheVariants as Does
+use Rattle.shared.specs.declared.history.History.{History}
 use Rattle.shared.specs.declared.history.Replied.{Replied}
 
 -- the calls among the tasks, in order
@@ -27,10 +31,26 @@ pub record IsMade {S : Type 0} (v : CoreView S) (before : List Replied) (calls :
   pub asked : asked_in told ≡ calls
   pub kept : after ≡ before ++ told
   pub mine : w.mine ≡ v.mine ++ told
+  pub seen : Begins v.seen w.seen
   pub same : w ≡ record v { seen = w.seen; mine = w.mine }
 
--- a flush or a review was a step of the machine's own, or there was nothing to do
-abbrev pub IsPassed : {S : Type 0} → (S → World) → Task → CoreView S → CoreView S → Type 0
-IsPassed state (Call request) v w = Unit {0}
-IsPassed state Flush v w = (outcome : Outcome) × Came state v Does.Flush outcome w
-IsPassed state Review v w = (outcome : Outcome) × Came state v Does.Review outcome w
+-- The aside was a step of the machine's own, from a legal state, when the core had made these calls and no others; what was logged
+-- by then is how h began.
+pub record WasPassed (made : Made) (core : ℕ) (aside : Aside) (calls : List Request) (h : History) : Type 0 where
+  pub before : World
+  pub after : World
+  pub outcome : Outcome
+  pub legal : IsLegal before
+  pub made_is : before.made ≡ made
+  pub steps : StepsAside before (event_of core aside) outcome after
+  pub called : asked_in (replied_by core (history_of before)) ≡ calls
+  pub begins : Begins (history_of before) h
+
+-- each flush and each review of the tasks was passed in its place, where these calls came before all
+abbrev pub ArePassed : Made → ℕ → List Request → List Task → History → Type 0
+ArePassed made core calls [] h = Unit {0}
+ArePassed made core calls (Call request ∷ tasks) h = ArePassed made core (calls ++ request ∷ []) tasks h
+ArePassed made core calls (Flush ∷ tasks) h =
+    WasPassed made core Does.Flush calls h × ArePassed made core calls tasks h
+ArePassed made core calls (Review ∷ tasks) h =
+    WasPassed made core Does.Review calls h × ArePassed made core calls tasks h

@@ -65,7 +65,7 @@ fn run_side_by_side<S: Whole + Drop + Send, R: Threads + Wait + Sync>(
     lanes: &mut [Lane<S>],
 )
     requires { AreOf space.now.table.shared.table_id lanes.old }
-    ensures { EndEach script.now.tasks lanes.old lanes.new }
+    ensures { EndEach S.state script.now.tasks lanes.old lanes.new }
 {
     let count = lanes.len();
     if count == 0 {
@@ -73,7 +73,7 @@ fn run_side_by_side<S: Whole + Drop + Send, R: Threads + Wait + Sync>(
     }
     let run = |_at: usize, lane: &mut Lane<S>|
         requires { lane.old.core.space ≡ space.now.table.shared.table_id }
-        ensures { EndsAs script.entry.now.tasks lane.old lane.new }
+        ensures { EndsAs S.state script.entry.now.tasks lane.old lane.new }
     { run_lane(rt, space, script, lane) };
     thread::for_each_mut(rt, lanes, count, &run);
 }
@@ -100,7 +100,7 @@ fn gather<S: Whole + Drop>(
 ) -> Result<Ran<S>, SharedFault>
     requires cores { 0 < script.now.asked.cores }
     requires done { (first : List S) × (made_of S.state first ≡ made_by script.now.asked)
-        × AreCores (script.now.asked.cores - 1) (IsDone script.now.tasks space.table.shared.table_id first) lanes.items }
+        × AreCores (script.now.asked.cores - 1) (IsDone (made_of S.state first) script.now.tasks space.table.shared.table_id first) lanes.items }
     ensures ran { IfOk result (λ ran. IsRun script.now (map (λ told. told.items) ran.told.items) (S.state ran.machine)) }
     ensures fails { IfErr result Fails }
 {

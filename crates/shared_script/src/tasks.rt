@@ -1,10 +1,11 @@
 //! What a core does of a script, on a machine that others share.
-ghost use Rattle.std.specs.Prelude.{◌≡◌, ◌∷◌, [], IfErr, IfSome, OnOk};
+ghost use Rattle.std.specs.Prelude.{◌≡◌, ◌≢◌, ◌∷◌, [], IfErr, IfSome, OnOk};
 ghost use Rattle.shared.specs.Histories.{replied};
-ghost use Rattle.shared.specs.Cores.{Came, Extends};
+ghost use Rattle.shared.specs.Cores.{Came, Extends, made_of};
+ghost use Rattle.machine_model.specs.declared.event.Outcome.TheVariants.{Full};
 ghost use Rattle.shared_script.specs.Lanes.{EndsAs};
 ghost use Rattle.shared_script.specs.Runs.{Fails};
-ghost use Rattle.shared_script.specs.Tasks.{IsMade, IsPassed, calls_of};
+ghost use Rattle.shared_script.specs.Tasks.{ArePassed, IsMade, asked_in, calls_of};
 
 use crate::fault::SharedFault;
 use crate::lane::Lane;
@@ -83,14 +84,15 @@ fn step<S: Whole + Drop, R: Wait>(
     aside: Aside,
 ) -> Result<(), SharedFault>
     requires here { core.old.space ≡ space.now.table.shared.table_id }
-    ensures came { OnOk result ((outcome : Outcome) × Came S.state core.old aside outcome core.new) }
+    ensures came { OnOk result ((outcome : Outcome) × (outcome ≢ Full) × Came S.state core.old aside outcome core.new) }
     ensures here { core.new.space ≡ core.old.space }
     ensures fails { IfErr result Fails }
 {
-    match pass(rt, space, core, aside) {
-        Outcome::Full => Err(SharedFault::Full),
-        _ => Ok(()),
+    let outcome = pass(rt, space, core, aside);
+    if outcome == Outcome::Full {
+        return Err(SharedFault::Full);
     }
+    Ok(())
 }
 
 // Makes the call, and keeps it with the reply that it got. There is room for it.
@@ -117,6 +119,7 @@ fn make<S: Whole + Drop, R: Wait>(
 }
 
 // Does one task.
+#[tactic(auto, using(crate::proofs::TaskLemmas::flush_passed, crate::proofs::TaskLemmas::review_passed))]
 fn run_task<S: Whole + Drop, R: Wait>(
     rt: &R,
     space: &Space<S>,
@@ -127,13 +130,19 @@ fn run_task<S: Whole + Drop, R: Wait>(
     requires here { core.old.space ≡ space.now.table.shared.table_id }
     ensures here { core.new.space ≡ core.old.space }
     ensures made { OnOk result (IsMade core.old told.old.items (calls_of (task.now ∷ [])) core.new told.new.items) }
-    ensures passed { OnOk result (IsPassed S.state task.now core.old core.new) }
+    ensures passed { OnOk result (ArePassed (made_of S.state core.old.first) core.old.core (asked_in core.old.mine) (task.now ∷ []) core.new.seen) }
     ensures fails { IfErr result Fails }
 {
     match task {
         Task::Call(request) => make(rt, space, core, told, *request),
-        Task::Flush => step(rt, space, core, Aside::Flush),
-        Task::Review => step(rt, space, core, Aside::Review),
+        Task::Flush => {
+            step(rt, space, core, Aside::Flush)?;
+            Ok(())
+        }
+        Task::Review => {
+            step(rt, space, core, Aside::Review)?;
+            Ok(())
+        }
     }
 }
 
@@ -148,6 +157,7 @@ fn run_tasks<S: Whole + Drop, R: Wait>(
     requires here { core.old.space ≡ space.now.table.shared.table_id }
     ensures here { core.new.space ≡ core.old.space }
     ensures made { OnOk result (IsMade core.old told.old.items (calls_of tasks.now) core.new told.new.items) }
+    ensures passed { OnOk result (ArePassed (made_of S.state core.old.first) core.old.core (asked_in core.old.mine) tasks.now core.new.seen) }
     ensures fails { IfErr result Fails }
 {
     'tasks: for at in 0..tasks.len() {
@@ -164,7 +174,7 @@ pub(crate) fn run_lane<S: Whole + Drop, R: Wait>(
     lane: &mut Lane<S>,
 )
     requires { lane.old.core.space ≡ space.now.table.shared.table_id }
-    ensures { EndsAs script.now.tasks lane.old lane.new }
+    ensures { EndsAs S.state script.now.tasks lane.old lane.new }
 {
     let tasks = script.tasks(lane.number);
     match run_tasks(rt, space, &mut lane.core, &mut lane.told, tasks) {

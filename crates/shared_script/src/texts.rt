@@ -32,8 +32,8 @@ fn machine_of(alloc: Global, script: &Script<Global>) -> Option<Tree>
     Some(Tree { machine })
 }
 
-// Makes the machine, and runs the script on it.
-fn run_read<T: Threads + Wait + Sync>(
+/// Makes the machine, and runs the script on it, as `run_shared`.
+pub fn run_script<T: Threads + Wait + Sync>(
     rt: &T,
     alloc: Global,
     script: &Script<Global>,
@@ -61,7 +61,7 @@ fn share_read<T: Threads + Wait + Sync, W: Sink>(
     ensures kept { (result ≡ Err (SharedFault.Text TraceFault.WriteFailed)) ⊎ (W.failed writer.new ≡ W.failed writer.old) }
     ensures out { OnOk result (W.is_flushed writer.new ≡ true) }
 {
-    let ran = match run_read(rt, alloc, script) {
+    let ran = match run_script(rt, alloc, script) {
         Ok(ran) => ran,
         Err(fault) => return Err(fault),
     };

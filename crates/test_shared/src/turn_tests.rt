@@ -3,9 +3,10 @@
 ghost use Rattle.std.specs.Prelude.{◌≡◌};
 
 use crate::asks::{FIRST, maps};
-use crate::logged::{Logged, machine};
-use machine_model::Event;
-use shared::{Answer, Core, Refusal, Space, Whole};
+use crate::logged::machine;
+use machine_model::{Event, Outcome};
+use shared::{Answer, Aside, Calls, Core, Passed, Refusal, Series, Space, Stop, Whole};
+use shared_script::Tree;
 use std::alloc::Global;
 use std::test::Fail;
 use vm_base::{CoreId, Entry, Reply, Request, SegvCode};
@@ -63,7 +64,7 @@ fn answers_of(log: &[Entry], core: u8) -> u64 {
 }
 
 /// Two cores make six calls; the machine that comes back has three of each in its log.
-fn goes_well(alloc: Global, machine: Logged) -> Option<bool> {
+fn goes_well(alloc: Global, machine: Tree) -> Option<bool> {
     let Ok((space, mut one)) = Space::new(alloc, machine) else {
         return None;
     };
@@ -77,7 +78,7 @@ fn goes_well(alloc: Global, machine: Logged) -> Option<bool> {
 }
 
 /// After as many calls as the machine may have, each is told so.
-fn ends_full(alloc: Global, machine: Logged) -> Option<bool> {
+fn ends_full(alloc: Global, machine: Tree) -> Option<bool> {
     let Ok((space, mut one)) = Space::new(alloc, machine) else {
         return None;
     };
@@ -88,7 +89,7 @@ fn ends_full(alloc: Global, machine: Logged) -> Option<bool> {
 }
 
 /// A machine that has a call in flight isn't shared, and comes back with the call.
-fn is_refused(alloc: Global, mut busy: Logged) -> Option<bool> {
+fn is_refused(alloc: Global, mut busy: Tree) -> Option<bool> {
     let core = CoreId::new(0);
     let _begun = busy.machine.step(Event::Call(core, maps(4096)));
     let Err(unshared) = Space::new(alloc, busy) else {
@@ -98,21 +99,47 @@ fn is_refused(alloc: Global, mut busy: Logged) -> Option<bool> {
     Some(unshared.why == Refusal::NotCalm && has_call)
 }
 
-fn tree(alloc: Global, cores: u64, calls: u64) -> Option<Logged> {
-    let machine = machine(alloc, cores, calls)?;
-    Some(Logged { machine })
+/// Calls in a list are answered in their places, up to the limit of calls; a core may act beside them.
+fn lists_go_well(alloc: Global, machine: Tree) -> Option<bool> {
+    let Ok((space, mut one)) = Space::new(alloc, machine) else {
+        return None;
+    };
+    let load = Request::Load { addr: FIRST };
+    let store = Request::Store {
+        addr: FIRST,
+        byte: 7,
+    };
+    let asks = [maps(4096), store, load];
+    let mut told = [Reply::Bus; 3];
+    let first = space.call_all(&mut one, &asks, &mut told);
+    let due = [Reply::Mapped(FIRST), Reply::Done, Reply::Byte(7)];
+    let are_all = told == due && is_made(first, 3, Stop::Done);
+    let second = space.call_all(&mut one, &asks, &mut told);
+    let is_limited = is_made(second, 1, Stop::Refused) && told[1] == Reply::Done;
+    let passed = space.aside(&mut one, Aside::Flush) == Passed::Came(Outcome::Stepped);
+    let back = space.close(one)?;
+    Some(are_all && is_limited && passed && answers_of(back.machine.log(), 0) == 4)
+}
+
+/// Whether so many calls were made.
+fn is_made(calls: Calls, made: usize, stop: Stop) -> bool {
+    calls == Calls::Made(Series { made, stop })
 }
 
 fn tree_goes_well(alloc: Global) -> Option<bool> {
-    goes_well(alloc, tree(alloc, 2, 8)?)
+    goes_well(alloc, machine(alloc, 2, 4, 8)?)
 }
 
 fn tree_ends_full(alloc: Global) -> Option<bool> {
-    ends_full(alloc, tree(alloc, 1, 1)?)
+    ends_full(alloc, machine(alloc, 1, 4, 1)?)
 }
 
 fn tree_is_refused(alloc: Global) -> Option<bool> {
-    is_refused(alloc, tree(alloc, 1, 1)?)
+    is_refused(alloc, machine(alloc, 1, 4, 1)?)
+}
+
+fn tree_lists_go_well(alloc: Global) -> Option<bool> {
+    lists_go_well(alloc, machine(alloc, 1, 4, 4)?)
 }
 
 #[test]
@@ -130,5 +157,11 @@ fn the_limit_of_calls_is_told(rt: HostRuntime) -> Result<(), Fail> {
 #[test]
 fn a_call_in_flight_is_not_shared(rt: HostRuntime) -> Result<(), Fail> {
     assert!(rt; tree_is_refused(rt.alloc()) == Some(true));
+    Ok(())
+}
+
+#[test]
+fn lists_are_told_in_their_places(rt: HostRuntime) -> Result<(), Fail> {
+    assert!(rt; tree_lists_go_well(rt.alloc()) == Some(true));
     Ok(())
 }

@@ -1,4 +1,4 @@
-use Rattle.radixvm_c.proofs.Holdings.{held_legal}
+use Rattle.coded.proofs.Holdings.{held_legal}
 use Rattle.radixvm_c.proofs.Logged.{answers_asked}
 use Rattle.radixvm_c.proofs.laws.held_are_legal.Goals as goal
 

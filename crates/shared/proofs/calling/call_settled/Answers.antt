@@ -15,4 +15,5 @@ returns-then-eq-clause-ends g c =
 pub returns-clause-ends : goal.returns-clause-ends
 returns-clause-ends g c =
     let runs : c.phase.result ≢ Free = search rules in
-    settled_waits _ c.args.core c.args.finished _ _ (sym c.is_answered.ensures ∙ c.if-is_answered.false) (λ e. runs (c.phase.ensures ∙ e)) c.call_waited.ensures.ends
+    settled_waits _ c.args.core c.args.finished _ _ (sym c.is_answered.ensures ∙ c.if-is_answered.false)
+    (λ e. runs (c.phase.ensures ∙ e)) c.call_waited.ensures.ends

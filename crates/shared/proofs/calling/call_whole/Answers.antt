@@ -14,16 +14,20 @@ call_settled-requires-clause-here g c =
 
 pub returns-in-Ok-clause-ends : goal.returns-in-Ok-clause-ends
 returns-in-Ok-clause-ends g c = (call_settles (world g.M.SlotRead.slots c.args.machine.now.engine) c.args.core c.args.request c.in-Ok.finished
-    (world g.M.SlotRead.slots c.call.new.self.engine) _ _ c.requires.here (legal _ c.args.machine.now.reached) c.requires.calm c.in-Ok.ensures.ends c.call_settled.ensures.ends).0
+    (world g.M.SlotRead.slots c.call.new.self.engine) _ _ c.requires.here
+    (legal _ c.args.machine.now.reached) c.requires.calm c.in-Ok.ensures.ends c.call_settled.ensures.ends).0
 
 pub returns-in-Ok-clause-made : goal.returns-in-Ok-clause-made
 returns-in-Ok-clause-made g c = (call_settles (world g.M.SlotRead.slots c.args.machine.now.engine) c.args.core c.args.request c.in-Ok.finished
-    (world g.M.SlotRead.slots c.call.new.self.engine) _ _ c.requires.here (legal _ c.args.machine.now.reached) c.requires.calm c.in-Ok.ensures.ends c.call_settled.ensures.ends).1
+    (world g.M.SlotRead.slots c.call.new.self.engine) _ _ c.requires.here
+    (legal _ c.args.machine.now.reached) c.requires.calm c.in-Ok.ensures.ends c.call_settled.ensures.ends).1
 
 pub returns-in-Err-clause-ends : goal.returns-in-Err-clause-ends
 returns-in-Err-clause-ends g c = (call_gives_up g.L.Ledger.keeps (world g.M.SlotRead.slots c.args.machine.now.engine) c.args.core c.args.request
-    (world g.M.SlotRead.slots c.call.new.self.engine) _ _ (legal _ c.args.machine.now.reached) c.requires.calm c.in-Err.ensures.err c.call_given_up.ensures.ends).0
+    (world g.M.SlotRead.slots c.call.new.self.engine) _ _
+    (legal _ c.args.machine.now.reached) c.requires.calm c.in-Err.ensures.err c.call_given_up.ensures.ends).0
 
 pub returns-in-Err-clause-made : goal.returns-in-Err-clause-made
 returns-in-Err-clause-made g c = (call_gives_up g.L.Ledger.keeps (world g.M.SlotRead.slots c.args.machine.now.engine) c.args.core c.args.request
-    (world g.M.SlotRead.slots c.call.new.self.engine) _ _ (legal _ c.args.machine.now.reached) c.requires.calm c.in-Err.ensures.err c.call_given_up.ensures.ends).1
+    (world g.M.SlotRead.slots c.call.new.self.engine) _ _
+    (legal _ c.args.machine.now.reached) c.requires.calm c.in-Err.ensures.err c.call_given_up.ensures.ends).1

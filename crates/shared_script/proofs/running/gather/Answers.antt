@@ -10,8 +10,17 @@ cores-init g c =
     let told = told_first c.in-Ok.told.items c.push_reserved.new.self.items c.in-Some.lane.told c.push_reserved.ensures.items c.in-Ok.ensures.items in
     record {
       here = first.gathers.space_is;
-      room = omega (arith, c.in-Ok.ensures.capacity, c.in-Ok.ensures.len, c.len.ensures, c.in-Some.ensures.len, c.push_reserved.ensures.len, c.push_reserved.ensures.capacity);
-      gathers = subst (λ l. GathersSome g.S.Whole.state c.args.script.now c.args.space.table.shared.table_id c.pop.new.self.items c.in-Some.lane.core l) told first;
+      room = omega (
+        arith,
+        c.in-Ok.ensures.capacity,
+        c.in-Ok.ensures.len,
+        c.len.ensures,
+        c.in-Some.ensures.len,
+        c.push_reserved.ensures.len,
+        c.push_reserved.ensures.capacity,
+      );
+      gathers = subst (λ l. GathersSome g.S.Whole.state c.args.script.now c.args.space.table.shared.table_id c.pop.new.self.items c.in-Some.lane.core l) told
+          first;
     }
 
 pub take_in-requires : goal.take_in-requires
@@ -29,7 +38,13 @@ push_reserved-requires-in-Some-pop g c = omega (arith, c.cores.invariant.room, c
 pub cores-preserved : goal.cores-preserved
 cores-preserved g c = record {
   here = ap (λ (v : CoreView g.row.S.Denot). v.space) c.take_in.ensures ∙ c.cores.invariant.here;
-  room = omega (arith, c.cores.invariant.room, c.in-Some-pop.ensures.len, c.push_reserved-in-Some-pop.ensures.len, c.push_reserved-in-Some-pop.ensures.capacity);
+  room = omega (
+    arith,
+    c.cores.invariant.room,
+    c.in-Some-pop.ensures.len,
+    c.push_reserved-in-Some-pop.ensures.len,
+    c.push_reserved-in-Some-pop.ensures.capacity,
+  );
   gathers = some_more g.S.Whole.state c.args.script.now c.args.space.table.shared.table_id c.cores.lanes.items c.pop-in-cores.new.self.items c.in-Some-pop.lane
       c.cores.first c.take_in.new.core _ _ c.cores.invariant.gathers c.in-Some-pop.ensures.items c.take_in.ensures
       (told_next c.cores.told.items c.push_reserved-in-Some-pop.new.self.items c.in-Some-pop.lane.told c.push_reserved-in-Some-pop.ensures.items);

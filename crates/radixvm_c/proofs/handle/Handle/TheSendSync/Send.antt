@@ -12,7 +12,7 @@ use Rattle.std.proofs.Crossing as heap
 use Rattle.std_alloc.proofs.SendSync.{quiet, lies}
 use Rattle.std_heap.proofs.Global.TheSendSync as handle
 use Rattle.radixvm_c.specs.Behind.{held_at}
-use Rattle.radixvm_c.specs.declared.held.Held.{Held}
+use Rattle.coded.specs.declared.held.Held.{Held}
 use Rattle.radixvm_c.proofs.Values.{R}
 use Rattle.radixvm_c.proofs.Sent.{home}
 use Rattle.radixvm_c.specs.contracts.handle.Handle.{the_row, the_type}

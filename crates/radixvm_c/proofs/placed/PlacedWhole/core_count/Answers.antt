@@ -1,4 +1,4 @@
-use Rattle.radixvm_c.proofs.Holdings.{held_legal}
+use Rattle.coded.proofs.Holdings.{held_legal}
 use Rattle.radixvm_c.proofs.placed.PlacedWhole.core_count.Goals as goal
 
 pub returns-clause-legal : goal.returns-clause-legal

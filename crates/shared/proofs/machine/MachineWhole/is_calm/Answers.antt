@@ -22,7 +22,7 @@ all-preserved g c =
       is = c.all.invariant.is;
     }
 
-pub returns : goal.returns
-returns g c = λ _.
+pub returns-clause-calm : goal.returns-clause-calm
+returns-clause-calm g c = λ _.
     calm_all _ (legal _ c.args.self.now.reached)
     (λ d lt. c.all.invariant.below d (let n = c.all-test.false in let is = c.all.invariant.is in omega (arith, lt, n, is)))

@@ -1,7 +1,7 @@
 use Rattle.std.proofs.Common.{rules, refl, ◌≡◌, ℕ, zero, suc, ◌-◌, ◌<◌, ◌≤◌, [], ◌∷◌, ◌++◌, List, arith, sym, ap, ◌∙◌, subst}
 use Rattle.atomic_table.specs.Table.{opening}
 use Rattle.shared.specs.Cores.{made_of}
-use Rattle.shared.specs.Rules.{Kept, first_known, row}
+use Rattle.shared.specs.Rules.{Kept, first_known, padded}
 use Rattle.shared.proofs.Keeping.{few_cores, opened}
 use Rattle.shared.proofs.space.Space.new.Goals as goal
 
@@ -15,8 +15,8 @@ new-requires-2 g c =
     let slots = c.push_reserved.ensures.items ∙ ap (λ l. l ++ c.args.machine ∷ []) c.in-Ok.ensures.items in
     let cores = c.core_count-cores.ensures.cores in
     let some = c.if-cores-eq0.false in
-    subst (λ l. Kept g.S.Whole.state c.and-first.result.items (opening (row 1) l (first_known g.S.Whole.state c.and-first.result.items))) (sym slots)
-    (opened g.S.Whole.state _ c.args.machine key c.core_count-cores.ensures.legal (c.if-not-is_calm.ensures refl) (positive _ _ cores some))
+    subst (λ l. Kept g.S.Whole.state c.and-first.result.items (opening (padded 1) l (first_known g.S.Whole.state c.and-first.result.items))) (sym slots)
+    (opened g.S.Whole.state _ c.args.machine key c.core_count-cores.ensures.legal (c.if-not-is_calm.ensures.calm refl) (positive _ _ cores some))
   where
     positive : (a b : ℕ) → a ≡ b → (a ≡ 0 → ⊥) → 0 < b
     positive a zero e n = absurd (n e)

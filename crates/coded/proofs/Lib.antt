@@ -1,0 +1,5 @@
+pub mod Codings
+pub mod Openings
+pub mod Batching
+pub mod Holdings
+pub mod Listing

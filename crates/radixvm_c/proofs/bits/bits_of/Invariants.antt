@@ -1,6 +1,0 @@
-use Rattle.std.proofs.Common.{◌≡◌, ◌^◌, ◌%◌}
-use Rattle.radixvm_c.proofs.bits.bits_of.Given as goal
-
--- the bits below the index
-abbrev pub invariant-cores : goal.invariant-cores
-invariant-cores l = l.bits ≡ l.fn.cores % 2 ^ l.index

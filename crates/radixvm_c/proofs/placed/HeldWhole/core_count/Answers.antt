@@ -1,8 +1,0 @@
-use Rattle.radixvm_c.proofs.Holdings.{held_legal}
-use Rattle.radixvm_c.proofs.placed.HeldWhole.core_count.Goals as goal
-
-pub returns-in-Plain-clause-legal : goal.returns-in-Plain-clause-legal
-returns-in-Plain-clause-legal c = held_legal c.args.self.now
-
-pub returns-in-Logged-clause-legal : goal.returns-in-Logged-clause-legal
-returns-in-Logged-clause-legal c = held_legal c.args.self.now
