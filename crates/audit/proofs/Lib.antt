@@ -2,6 +2,8 @@ pub mod Held
 pub mod Kept
 pub mod Changed
 pub mod Stored
+pub mod Copied
+pub mod Served
 pub mod Placed
 pub mod Judged
 pub mod Concluded

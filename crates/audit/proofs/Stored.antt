@@ -223,12 +223,12 @@ stored_shared s o n old mid new file page x i byte some h bytes free count k =
 -- ---- a store to a page's own bytes
 
 -- the page has the frame x, and the plain map has the copy that was due, if one was
-record Owned (s t : Slots) (o : List FileParts) (old new : FrameParts) (page : ℕ) (info : PageInfo) (x : ℕ) : Type 0 where
-  plain : plain_kept t o new ≡ copied_first (plain_kept s o old) page
-  kept : Keeps t (cached_in o) new
-  at : t.info page ≡ Some (record info { frame = Some x })
+pub record Owned (s t : Slots) (o : List FileParts) (old new : FrameParts) (page : ℕ) (info : PageInfo) (x : ℕ) : Type 0 where
+  pub plain : plain_kept t o new ≡ copied_first (plain_kept s o old) page
+  pub kept : Keeps t (cached_in o) new
+  pub at : t.info page ≡ Some (record info { frame = Some x })
 
-not_copied : (t : Plain) (page : ℕ) (e : Entry) (c : Bool) (b : Option Bytes) → c ≡ false → copied t page e c b ≡ None
+pub not_copied : (t : Plain) (page : ℕ) (e : Entry) (c : Bool) (b : Option Bytes) → c ≡ false → copied t page e c b ≡ None
 not_copied t page e true b h = absurd cc
 not_copied t page e false None h = refl
 not_copied t page e false (Some b) h = refl
@@ -337,7 +337,7 @@ took_own s t o old mid page info x v at own k e shown takes now = record {
         by true is' h' = let same : y ≡ x = cc in inr (refl, eq_true p page is', same)
         by false is' h' = inl h'
 
-gets : (s t : Slots) (o : List FileParts) (old mid : FrameParts) (page : ℕ) (info : PageInfo) (x : ℕ) → s.info page ≡ Some info
+pub gets : (s t : Slots) (o : List FileParts) (old mid : FrameParts) (page : ℕ) (info : PageInfo) (x : ℕ) → s.info page ≡ Some info
     → is_shared_back info.meta.back ≡ false → HasBytes o old info → Keeps s (cached_in o) old → GetsFrame s t o old mid page info x
     → Owned s t o old mid page info x
 gets s t o old mid page info x at own some k (had e same same_frames) =

@@ -3,7 +3,9 @@ ghost use Rattle.frames.specs.Parts.{FrameParts};
 ghost use Rattle.backing.specs.Files.{cached_in};
 ghost use Rattle.audit.specs.Keeping.{Keeps, NobodyHolds};
 
+use crate::copying::copy_page;
 use crate::judging::{Verdict, compared, judge_plan};
+use crate::serving::is_served;
 use backing::{FileSpec, Objects};
 use frames::Frames;
 use slot_lock::SlotMap;
@@ -122,6 +124,37 @@ impl<M: SlotMap, A: Allocator> Auditor<M, A> {
                 reply,
             ),
         }
+    }
+}
+
+impl<M: SlotMap, A: Allocator> Auditor<M, A> {
+    ghost use Rattle.std.specs.Prelude.{◌≡◌, ◌↔◌, IsTrue, Ok, OnErr, false, true};
+    ghost use Rattle.vm_base.specs.Log.{IsServable};
+    ghost use Rattle.vm_base.specs.Plain.{Plain};
+    ghost use Rattle.audit.specs.Auditor.{plain_of};
+    ghost use Rattle.audit.specs.Copying.{Copies};
+
+    /// Gives a page its own copy of its file's bytes, as a step by itself, and tells whether it did: `true` where it is a private
+    /// page that shows its file's bytes and a store to it is allowed, as the entry of a log that tells a copy. Such a copy may come
+    /// long before its store is done, and may be all that a store did that got no memory. Elsewhere nothing changes; nor where
+    /// memory is wanting, or bytes of more than 65,536 pages would be kept, which comes only where a copy is due.
+    pub fn copy(&mut self, page: u64) -> Result<bool, NoMemory>
+        ensures yes { result ≡ Ok true → Copies (plain_of self.old) page (plain_of self.new) }
+        ensures no { result ≡ Ok false → (u : Plain) → ¬ Copies (plain_of self.old) page u }
+        ensures same { result ≡ Ok false → plain_of self.new ≡ plain_of self.old }
+        ensures err { OnErr result (plain_of self.new ≡ plain_of self.old) }
+        ensures due { OnErr result ((u : Plain) × Copies (plain_of self.old) page u) }
+        ensures any_place { self.new.any_place ≡ self.old.any_place }
+    {
+        copy_page(&mut self.map, &self.objects, &mut self.frames, page)
+    }
+
+    /// Tells whether the request is an access that would be served: of a mapped page that has bytes, and whose protection allows
+    /// it. Only such a one may be answered that no frame was free.
+    pub fn would_serve(&self, request: Request) -> bool
+        ensures { IsTrue result ↔ IsServable (plain_of self.now) request }
+    {
+        is_served(&self.map, &self.objects, request)
     }
 }
 

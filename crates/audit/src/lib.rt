@@ -5,10 +5,12 @@
 pub mod auditor;
 mod bytes;
 mod changing;
+mod copying;
 mod holding;
 mod judging;
 pub mod laws;
 mod placing;
+mod serving;
 mod storing;
 
 pub use auditor::{Auditor, Call, Wrong};

@@ -106,7 +106,7 @@ fn store_shared<A: Allocator>(
 
 /// The frame of a page's own bytes from here on: a new one, with the bytes that the page shows, where
 /// it has none yet. Where memory or frames are wanting nothing changes.
-fn own_frame<M: SlotMap, A: Allocator>(
+pub fn own_frame<M: SlotMap, A: Allocator>(
     map: &mut M,
     objects: &Objects<A>,
     frames: &mut Frames<A>,

@@ -19,7 +19,7 @@ use Rattle.audit_text.specs.Steps.{IsFound, ShowsAround}
 use Rattle.audit_text.specs.declared.judging.Verdict.{Verdict}
 use Rattle.audit_text.specs.declared.judging.Verdict.TheVariants as Of
 use Rattle.vm_base.specs.Plain.{Plain}
-use Rattle.std.specs.Prelude.{Bool}
+use Rattle.audit_text.specs.declared.allowing.Terms.{Terms}
 use Rattle.audit_text.specs.Around.{AreBehind, AreNear, IsAround}
 
 pub longer : {X : Type 0} (new old : List X) (x : X) → new ≡ old ++ x ∷ [] → length old < 4 → length new ≤ 4
@@ -84,10 +84,15 @@ meta_kept bytes (Some info) = refl
 pub metas_kept : (s : Slots) (objects : List FileParts) (frames : FrameParts) → slot_metas s ≡ plain_metas (plain_kept s objects frames)
 metas_kept s objects frames = fun_ext (λ p. meta_kept (frame_bytes frames) (s.info p))
 
-pub verdict_shown : (any : Bool) (lines : List (List ℕ)) (verdict : Verdict) (u : Plain) (meta : ℕ → Option Meta) (around : List MapLine)
-    → meta ≡ plain_metas u → IsFound any lines verdict u → ShowsAround meta verdict around → IsVerdict any lines verdict around
-verdict_shown any lines (Of.Legal calls passed) u meta around e found shown = (found, shown)
-verdict_shown any lines (Of.Illegal line call due) u meta around e found shown = record {
+pub verdict_shown : (terms : Terms) (lines : List (List ℕ)) (verdict : Verdict) (u : Plain) (meta : ℕ → Option Meta) (around : List MapLine)
+    → meta ≡ plain_metas u → IsFound terms lines verdict u → ShowsAround meta verdict around → IsVerdict terms lines verdict around
+verdict_shown terms lines (Of.Legal calls lacking passed) u meta around e found shown = (found, shown)
+verdict_shown terms lines (Of.Illegal line call due) u meta around e found shown = record {
+  plain = u;
+  wrong = found;
+  shown = subst (λ m. IsAround m (page_asked call.request) around) e shown;
+}
+verdict_shown terms lines (Of.Undecided line call due) u meta around e found shown = record {
   plain = u;
   wrong = found;
   shown = subst (λ m. IsAround m (page_asked call.request) around) e shown;

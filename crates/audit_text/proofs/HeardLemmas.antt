@@ -1,22 +1,27 @@
 -- What hearing a line comes to.
-use Rattle.std.proofs.Common.{◌≡◌, ℕ, zero, suc, ◌+◌, arith, Bool, true, false, cond, List, [], ◌∷◌, ◌++◌, Option, Some, None, is_some}
+use Rattle.std.proofs.Common.{◌≡◌, ℕ, zero, suc, ◌+◌, arith, Bool, true, false, not, cond, inl, inr, List, [], ◌∷◌, ◌++◌, Option, Some, None, is_some}
 use Rattle.std.proofs.Common.{refl, sym, ap, ◌∙◌, subst, Result, Ok, Err, OnErr}
-use Rattle.std.specs.Prelude.{option_map, replicate, set}
+use Rattle.std.specs.Prelude.{◌&&◌, option_map, replicate, set}
 use Rattle.vm_base.specs.Plain.{Plain}
 use Rattle.vm_base.specs.declared.replies.Reply.{Reply}
 use Rattle.vm_base.specs.declared.requests.Request.{Request}
-use Rattle.audit.proofs.Sequences.{replies_push}
-use Rattle.audit.specs.Judging.{AreReplies, IsGiven, Judges}
+use Rattle.audit.proofs.Judged.{one_first}
+use Rattle.audit.specs.Judging.{IsGiven, Judges}
 use Rattle.audit.specs.Placing.{rule_of}
 use Rattle.audit.specs.declared.auditor.Call.{Call}
 use Rattle.audit.specs.declared.judging.Verdict.{Verdict}
 use Rattle.audit.specs.declared.judging.Verdict.TheVariants.{Legal as Right, Illegal as Wrong}
-use Rattle.audit_text.specs.Heard.{Heard, call_to, call_told, one_passed, waits, with_call}
-use Rattle.audit_text.specs.Steps.{Hears, JudgesCall, MayWant, Passes, with_answer}
+use Rattle.audit_text.specs.Allowed.{Allows, AreAllowed, Lacks, is_lack, serves}
+use Rattle.audit_text.specs.Heard.{Heard, call_to, call_told, heard_after, is_certain, one_passed, waits, with_answer, with_call, with_waiting, without}
+use Rattle.audit_text.specs.Steps.{Hears, JudgesCall, MayWant, Moves, Passes}
+use Rattle.audit_text.specs.declared.allowing.Terms.{Terms}
 use Rattle.audit_text.specs.declared.hearing.Turn.{Turn}
 use Rattle.audit_text.specs.declared.hearing.Turn.TheVariants.{Legal, Bad, Illegal}
+use Rattle.audit_text.specs.declared.reading.Said.{Said}
 use Rattle.audit_text.specs.declared.reading.Said.TheVariants as Of
 use Rattle.vm_base.specs.Answers.{Answers}
+use Rattle.vm_base.specs.Places.{IsFirstPlace}
+use Rattle.vm_base.specs.declared.replies.Reply.TheVariants.{NoFrame, NoMemory}
 
 none_more : {X : Type 0} (x : X) (n : ℕ) → replicate n x ++ x ∷ [] ≡ replicate (n + 1) x
 none_more x zero = refl
@@ -27,98 +32,211 @@ pub one_waiting : {X : Type 0} (n next : ℕ) (old new : List (Option X)) → ne
     → new ≡ replicate next None
 one_waiting n next old new up is was = is ∙ ap (λ l. l ++ None ∷ []) was ∙ none_more None n ∙ ap (λ m. replicate m None) (sym up)
 
-grown : (w : List (Option Request)) (cs ds : List Call) (p : ℕ) (call : Call) → ds ≡ cs ++ call ∷ []
-    → record { waiting = w; calls = ds; passed = p } ≡ with_answer (record { waiting = w; calls = cs; passed = p }) call
-grown w cs ds p call e = ap (λ l. record { waiting = w; calls = l; passed = p }) e
+-- ---- want of a frame or of memory
 
--- the auditor's verdict on a call
-pub judged_legal : (any : Bool) (w : List (Option Request)) (cs ds : List Call) (p : ℕ) (t u : Plain) (call : Call) (v : Verdict)
-    → Judges (rule_of any) t call.core call.request call.reply v u → v ≡ Right → ds ≡ cs ++ call ∷ []
-    → JudgesCall any (record { waiting = w; calls = cs; passed = p }) t call Legal (record { waiting = w; calls = ds; passed = p }) u
-judged_legal any w cs ds p t u call v j is e =
-    (grown w cs ds p call e, subst (λ (x : Verdict). Judges (rule_of any) t call.core call.request call.reply x u) is j)
+is_lack_served : (t : Plain) (core : ℕ) (request : Request) (due : Reply) (v u : Plain) (reply : Reply) → Answers IsFirstPlace t core request due v
+    → is_lack request due reply ≡ true → u ≡ t → Lacks t core request reply u
+is_lack_served t core request due v u NoFrame a e same = ((due, v, e, a), same)
+is_lack_served t core request due v u NoMemory a e same = same
+is_lack_served t core request due v u reply a e same = absurd (cc)
 
-pub judged_illegal : (any : Bool) (h k : Heard) (t u : Plain) (call : Call) (v : Verdict) (due : Reply)
-    → Judges (rule_of any) t call.core call.request call.reply v u → v ≡ Wrong due → JudgesCall any h t call (Illegal call due) k u
-judged_illegal any h k t u call v due j is =
-    let w = subst (λ (x : Verdict). Judges (rule_of any) t call.core call.request call.reply x u) is j in (refl, w.2, (w.0, w.1))
+served_is_lack : (t : Plain) (core : ℕ) (request : Request) (due : Reply) (v u : Plain) (reply : Reply) → Answers IsFirstPlace t core request due v
+    → Lacks t core request reply u → is_lack request due reply ≡ true
+served_is_lack t core request due v u NoFrame a ((other, w, serves_other, b), same) =
+    let one : other ≡ due = one_first t core request other due w v b a in
+    subst (λ y. serves request y ≡ true) one serves_other
+served_is_lack t core request due v u NoMemory a same = refl
+served_is_lack t core request due v u reply a lacks = absurd lacks
 
-extends_by : (any : Bool) (h k : Heard) (t u : Plain) (call : Call) → k ≡ with_answer h call
-    → Answers (rule_of any) t call.core call.request call.reply u
-    → (first : Plain) → AreReplies (rule_of any) first h.calls t → AreReplies (rule_of any) first k.calls u
-extends_by any h k t u call is answers first r =
-    subst (λ (e : Heard). AreReplies (rule_of any) first e.calls u) (sym is) (replies_push (rule_of any) first t u h.calls call r answers)
+not_let : (strict lack : Bool) → (not strict && lack) ≡ false → strict ≡ false → lack ≡ true → ⊥
+not_let strict lack e s l = let lacks_not : lack ≡ false = ap (λ b. not b && lack) (sym s) ∙ e in absurd (cc)
 
--- a call that is answered at once
-pub answered_hears : (any : Bool) (h k : Heard) (t u : Plain) (call : Call) (turn : Turn) → is_some (waits h call.core) ≡ false
-    → JudgesCall any h t call turn k u → Hears any h t (Of.Answered call) turn k u
-answered_hears any h k t u call Legal idle (is, answers) =
-    let told : call_told h (Of.Answered call) ≡ Some call = ap (λ b. cond b None (Some call)) idle in
-    (ap (option_map (with_call h (Of.Answered call))) told ∙ ap Some (sym is), extends_by any h k t u call is answers)
-answered_hears any h k t u call Bad idle j = absurd j
-answered_hears any h k t u call (Illegal c due) idle (is, same, refused) =
-    (ap (λ b. cond b None (Some call)) idle ∙ ap Some (sym is), same, refused)
+not_parts : (strict lack : Bool) → (not strict && lack) ≡ true → (strict ≡ false) × (lack ≡ true)
+not_parts false lack e = (refl, e)
+not_parts true lack e = absurd (cc)
 
--- one that isn't, since another of its core waits
-pub answered_bad : (any : Bool) (h k : Heard) (t u : Plain) (call : Call) → is_some (waits h call.core) ≡ true
-    → Hears any h t (Of.Answered call) Bad k u
-answered_bad any h k t u call busy = ap (λ b. option_map (with_call h (Of.Answered call)) (cond b None (Some call))) busy
+-- ---- the auditor's verdict on a call
 
--- memory is wanted for it
-pub answered_wants : {T E : Type 0} (r : Result T E) (any : Bool) (h : Heard) (t : Plain) (call : Call) → is_some (waits h call.core) ≡ false
-    → OnErr r (IsGiven (rule_of any) t call.core call.request call.reply) → OnErr r (MayWant any h t (Of.Answered call))
-answered_wants (Ok x) any h t call idle given = tt
-answered_wants (Err e) any h t call idle given = (call, ap (λ b. cond b None (Some call)) idle, given)
+pub judged_legal : (terms : Terms) (h k : Heard) (t u : Plain) (certain : Bool) (call : Call) (v : Verdict)
+    → Judges (rule_of terms.any_place) t call.core call.request call.reply v u → v ≡ Right → k ≡ with_answer h certain call
+    → JudgesCall terms h t certain call Legal k u
+judged_legal terms h k t u certain call v j is e =
+    (e, inl (subst (λ (x : Verdict). Judges (rule_of terms.any_place) t call.core call.request call.reply x u) is j))
 
--- one that waited
-pub ended_hears : (any : Bool) (h g k : Heard) (t u : Plain) (core : ℕ) (reply : Reply) (request : Request) (turn : Turn)
-    → waits h core ≡ Some request → g ≡ record h { waiting = set h.waiting core None } → JudgesCall any g t (call_to core reply request) turn k u
-    → Hears any h t (Of.Ends core reply) turn k u
-ended_hears any h g k t u core reply request Legal waited after (is, answers) =
-    let call = call_to core reply request in (
-      ap (λ o. option_map (with_call h (Of.Ends core reply)) (option_map (call_to core reply) o)) waited
-          ∙ ap (λ (e : Heard). Some (record e { calls = e.calls ++ call ∷ [] })) (sym after) ∙ ap Some (sym is),
-      λ first r. extends_by any g k t u call is answers first (subst (λ (e : Heard). AreReplies (rule_of any) first e.calls t) (sym after) r),
-    )
-ended_hears any h g k t u core reply request Bad waited after j = absurd j
-ended_hears any h g k t u core reply request (Illegal c due) waited after (is, same, refused) =
-    (ap (option_map (call_to core reply)) waited ∙ ap Some (sym is), same, refused)
+pub judged_let : (terms : Terms) (h k : Heard) (t u : Plain) (certain : Bool) (call : Call) (v : Verdict) (due : Reply)
+    → Judges (rule_of terms.any_place) t call.core call.request call.reply v u → v ≡ Wrong due
+    → (not terms.is_strict && is_lack call.request due call.reply) ≡ true → k ≡ with_answer h certain call
+    → JudgesCall terms h t certain call Legal k u
+judged_let terms h k t u certain call v due j is lets e =
+    let w = subst (λ (x : Verdict). Judges (rule_of terms.any_place) t call.core call.request call.reply x u) is j in
+    let both = not_parts terms.is_strict (is_lack call.request due call.reply) lets in
+    (e, inr (both.0, is_lack_served t call.core call.request due w.1.0 u call.reply w.1.1 both.1 w.2))
 
-pub ended_wants : {T E : Type 0} (r : Result T E) (any : Bool) (h : Heard) (t : Plain) (core : ℕ) (reply : Reply) (request : Request)
-    → waits h core ≡ Some request → OnErr r (IsGiven (rule_of any) t core request reply) → OnErr r (MayWant any h t (Of.Ends core reply))
-ended_wants (Ok x) any h t core reply request waited given = tt
-ended_wants (Err e) any h t core reply request waited given =
-    (call_to core reply request, ap (option_map (call_to core reply)) waited, given)
+pub judged_illegal : (terms : Terms) (h k : Heard) (t u : Plain) (certain : Bool) (call : Call) (v : Verdict) (due : Reply)
+    → Judges (rule_of terms.any_place) t call.core call.request call.reply v u → v ≡ Wrong due
+    → (not terms.is_strict && is_lack call.request due call.reply) ≡ false → k ≡ h
+    → JudgesCall terms h t certain call (Illegal call due certain) k u
+judged_illegal terms h k t u certain call v due j is lets e =
+    let w = subst (λ (x : Verdict). Judges (rule_of terms.any_place) t call.core call.request call.reply x u) is j in
+    (refl, w.2, refl, (none w, w.1), e)
+  where
+    none : Judges (rule_of terms.any_place) t call.core call.request call.reply (Wrong due) u
+        → (m : Plain) → ¬ Allows terms t call.core call.request call.reply m
+    none w m (inl a) = w.0 m a
+    none w m (inr (s, lacks)) =
+        not_let terms.is_strict (is_lack call.request due call.reply) lets s
+        (served_is_lack t call.core call.request due w.1.0 m call.reply w.1.1 lacks)
 
-pub ended_bad : (any : Bool) (h k : Heard) (t u : Plain) (core : ℕ) (reply : Reply) → waits h core ≡ None → Hears any h t (Of.Ends core reply) Bad k u
-ended_bad any h k t u core reply idle = ap (λ o. option_map (with_call h (Of.Ends core reply)) (option_map (call_to core reply) o)) idle
+-- ---- a call that is answered at once
 
--- a call begins to wait
-pub waits_hears : (any : Bool) (h k : Heard) (t : Plain) (core : ℕ) (request : Request) → is_some (waits h core) ≡ false
-    → k ≡ record h { waiting = set h.waiting core (Some request) } → Hears any h t (Of.Waits core request) Legal k t
-waits_hears any h k t core request idle is = (
-  ap (λ b. cond b None (Some (record h { waiting = set h.waiting core (Some request) }))) idle ∙ ap Some (sym is),
-  λ first r. subst (λ (e : Heard). AreReplies (rule_of any) first e.calls t) (sym is) r,
+-- the line tells this call
+told_now : (h : Heard) (call : Call) → is_some (waits h call.core) ≡ false → call_told h (Of.Answered call) ≡ Some call
+told_now h call idle = ap (λ b. cond b None (Some call)) idle
+
+after_now : (h k : Heard) (certain : Bool) (call : Call) → is_some (waits h call.core) ≡ false → certain ≡ is_certain h (Of.Answered call)
+    → k ≡ with_answer h certain call → heard_after h (Of.Answered call) ≡ Some k
+after_now h k certain call idle sure is = ap (option_map (with_call h (Of.Answered call))) (told_now h call idle)
+    ∙ ap (λ c. Some (with_answer h c call)) (sym sure) ∙ ap Some (sym is)
+
+pub answered_hears : (terms : Terms) (h k : Heard) (t u : Plain) (certain : Bool) (call : Call) (turn : Turn) → is_some (waits h call.core) ≡ false
+    → certain ≡ is_certain h (Of.Answered call) → JudgesCall terms h t certain call turn k u → Hears terms h t (Of.Answered call) turn k u
+answered_hears terms h k t u certain call Legal idle sure (is, allows) =
+    (after_now h k certain call idle sure is, subst (λ o. Moves terms t o u) (sym (told_now h call idle)) allows)
+answered_hears terms h k t u certain call Bad idle sure j = absurd j
+answered_hears terms h k t u certain call (Illegal c due b) idle sure (is, same, told, refused, kept) = (
+  told_now h call idle ∙ ap Some (sym is),
+  same,
+  told ∙ sure,
+  refused,
+  after_now h (with_answer h certain call) certain call idle sure refl ∙ ap (λ (e : Heard). Some (with_answer e certain call)) (sym kept)
+      ∙ ap (λ x. Some (with_answer k x call)) (sym told) ∙ ap (λ (x : Call). Some (with_answer k b x)) (sym is),
 )
 
-pub waits_bad : (any : Bool) (h k : Heard) (t u : Plain) (core : ℕ) (request : Request) → is_some (waits h core) ≡ true
-    → Hears any h t (Of.Waits core request) Bad k u
-waits_bad any h k t u core request busy = ap (λ b. cond b None (Some (record h { waiting = set h.waiting core (Some request) }))) busy
+-- one that isn't, since another of its core waits
+pub answered_bad : (terms : Terms) (h k : Heard) (t u : Plain) (call : Call) → is_some (waits h call.core) ≡ true
+    → Hears terms h t (Of.Answered call) Bad k u
+answered_bad terms h k t u call busy = ap (λ b. option_map (with_call h (Of.Answered call)) (cond b None (Some call))) busy
 
--- a line is passed over
-passed_same : (any : Bool) (h k : Heard) (t u : Plain) → k ≡ one_passed h → u ≡ t → (first : Plain) → AreReplies (rule_of any) first h.calls t
-    → AreReplies (rule_of any) first k.calls u
-passed_same any h k t u is same first r =
-    subst (AreReplies (rule_of any) first k.calls) (sym same) (subst (λ (e : Heard). AreReplies (rule_of any) first e.calls t) (sym is) r)
+-- memory is wanted for it
+pub answered_wants : {T E : Type 0} (r : Result T E) (terms : Terms) (h : Heard) (t : Plain) (call : Call) → is_some (waits h call.core) ≡ false
+    → OnErr r (IsGiven (rule_of terms.any_place) t call.core call.request call.reply) → OnErr r (MayWant terms h t (Of.Answered call))
+answered_wants (Ok x) terms h t call idle given = tt
+answered_wants (Err e) terms h t call idle given = (call, ap (λ b. cond b None (Some call)) idle, (given.0, inl given.1))
 
-pub still_hears : (any : Bool) (h k : Heard) (t u : Plain) (core : ℕ) (turn : Turn) → u ≡ t → Passes (is_some (waits h core)) h turn k
-    → Hears any h t (Of.StillWaits core) turn k u
-still_hears any h k t u core Legal same (may, is) =
-    (ap (λ b. cond b (Some (one_passed h)) None) may ∙ ap Some (sym is), passed_same any h k t u is same)
-still_hears any h k t u core Bad same (may, is) = ap (λ b. cond b (Some (one_passed h)) None) may
-still_hears any h k t u core (Illegal c due) same p = absurd p
+-- ---- one that waited
 
-pub passes_hears : (any : Bool) (h k : Heard) (t u : Plain) (turn : Turn) → u ≡ t → Passes true h turn k → Hears any h t Of.Passes turn k u
-passes_hears any h k t u Legal same (may, is) = (ap Some (sym is), passed_same any h k t u is same)
-passes_hears any h k t u Bad same (may, is) = absurd (cc)
-passes_hears any h k t u (Illegal c due) same p = absurd p
+told_end : (h : Heard) (core : ℕ) (reply : Reply) (request : Request) → waits h core ≡ Some request
+    → call_told h (Of.Ends core reply) ≡ Some (call_to core reply request)
+told_end h core reply request waited = ap (option_map (call_to core reply)) waited
+
+after_end : (h g k : Heard) (certain : Bool) (core : ℕ) (reply : Reply) (request : Request) → waits h core ≡ Some request → g ≡ without h core
+    → certain ≡ is_certain h (Of.Ends core reply) → k ≡ with_answer g certain (call_to core reply request)
+    → heard_after h (Of.Ends core reply) ≡ Some k
+after_end h g k certain core reply request waited after sure is =
+    let call = call_to core reply request in
+    ap (option_map (with_call h (Of.Ends core reply))) (told_end h core reply request waited)
+    ∙ ap (λ c. Some (with_answer (without h core) c call)) (sym sure)
+    ∙ ap (λ (e : Heard). Some (with_answer e certain call)) (sym after) ∙ ap Some (sym is)
+
+pub ended_hears : (terms : Terms) (h g k : Heard) (t u : Plain) (certain : Bool) (core : ℕ) (reply : Reply) (request : Request) (turn : Turn)
+    → waits h core ≡ Some request → g ≡ without h core → certain ≡ is_certain h (Of.Ends core reply)
+    → JudgesCall terms g t certain (call_to core reply request) turn k u → Hears terms h t (Of.Ends core reply) turn k u
+ended_hears terms h g k t u certain core reply request Legal waited after sure (is, allows) = (
+  after_end h g k certain core reply request waited after sure is,
+  subst (λ o. Moves terms t o u) (sym (told_end h core reply request waited)) allows,
+)
+ended_hears terms h g k t u certain core reply request Bad waited after sure j = absurd j
+ended_hears terms h g k t u certain core reply request (Illegal c due b) waited after sure (is, same, told, refused, kept) =
+    let call = call_to core reply request in (
+      told_end h core reply request waited ∙ ap Some (sym is),
+      same,
+      told ∙ sure,
+      refused,
+      after_end h g (with_answer g certain call) certain core reply request waited after sure refl
+          ∙ ap (λ (e : Heard). Some (with_answer e certain call)) (sym kept)
+          ∙ ap (λ x. Some (with_answer k x call)) (sym told) ∙ ap (λ (x : Call). Some (with_answer k b x)) (sym is),
+    )
+
+pub ended_wants : {T E : Type 0} (r : Result T E) (terms : Terms) (h : Heard) (t : Plain) (core : ℕ) (reply : Reply) (request : Request)
+    → waits h core ≡ Some request → OnErr r (IsGiven (rule_of terms.any_place) t core request reply)
+    → OnErr r (MayWant terms h t (Of.Ends core reply))
+ended_wants (Ok x) terms h t core reply request waited given = tt
+ended_wants (Err e) terms h t core reply request waited given =
+    (call_to core reply request, ap (option_map (call_to core reply)) waited, (given.0, inl given.1))
+
+pub ended_bad : (terms : Terms) (h k : Heard) (t u : Plain) (core : ℕ) (reply : Reply) → waits h core ≡ None
+    → Hears terms h t (Of.Ends core reply) Bad k u
+ended_bad terms h k t u core reply idle = ap (λ o. option_map (with_call h (Of.Ends core reply)) (option_map (call_to core reply) o)) idle
+
+-- ---- a call begins to wait
+
+pub waits_hears : (terms : Terms) (h k : Heard) (t : Plain) (core : ℕ) (request : Request) → is_some (waits h core) ≡ false
+    → k ≡ with_waiting h core request → Hears terms h t (Of.Waits core request) Legal k t
+waits_hears terms h k t core request idle is = (ap (λ b. cond b None (Some (with_waiting h core request))) idle ∙ ap Some (sym is), refl)
+
+pub waits_bad : (terms : Terms) (h k : Heard) (t u : Plain) (core : ℕ) (request : Request) → is_some (waits h core) ≡ true
+    → Hears terms h t (Of.Waits core request) Bad k u
+waits_bad terms h k t u core request busy = ap (λ b. cond b None (Some (with_waiting h core request))) busy
+
+-- ---- a line is passed over
+
+pub still_hears : (terms : Terms) (h k : Heard) (t u : Plain) (core : ℕ) (turn : Turn) → u ≡ t → Passes (is_some (waits h core)) h turn k
+    → Hears terms h t (Of.StillWaits core) turn k u
+still_hears terms h k t u core Legal same (may, is) = (ap (λ b. cond b (Some (one_passed h)) None) may ∙ ap Some (sym is), same)
+still_hears terms h k t u core Bad same (may, is) = ap (λ b. cond b (Some (one_passed h)) None) may
+still_hears terms h k t u core (Illegal c due b) same p = absurd p
+
+pub passes_hears : (terms : Terms) (h k : Heard) (t u : Plain) (turn : Turn) → u ≡ t → Passes true h turn k → Hears terms h t Of.Passes turn k u
+passes_hears terms h k t u Legal same (may, is) = (ap Some (sym is), same)
+passes_hears terms h k t u Bad same (may, is) = absurd (cc)
+passes_hears terms h k t u (Illegal c due b) same p = absurd p
+
+-- ---- the calls so far, with the one that a line tells
+
+-- one more reply that may be there
+allowed_push : (terms : Terms) (t m u : Plain) (cs : List Call) (c : Call) → AreAllowed terms t cs m
+    → Allows terms m c.core c.request c.reply u → AreAllowed terms t (cs ++ c ∷ []) u
+allowed_push terms t m u [] c h a = (u, subst (λ x. Allows terms x c.core c.request c.reply u) h a, refl)
+allowed_push terms t m u (d ∷ cs) c h a = (h.0, h.1, allowed_push terms h.0 m u cs c h.2 a)
+
+same_calls : (terms : Terms) (first t u : Plain) (cs ds : List Call) → ds ≡ cs → u ≡ t → AreAllowed terms first cs t → AreAllowed terms first ds u
+same_calls terms first t u cs ds is same r =
+    subst (AreAllowed terms first ds) (sym same) (subst (λ l. AreAllowed terms first l t) (sym is) r)
+
+-- where the line tells a call, or may not stand here
+told_moves : (terms : Terms) (first t u : Plain) (h k : Heard) (o : Option Call) (f : Call → Heard) → ((c : Call) → (f c).calls ≡ h.calls ++ c ∷ [])
+    → option_map f o ≡ Some k → Moves terms t o u → AreAllowed terms first h.calls t → AreAllowed terms first k.calls u
+told_moves terms first t u h k None f adds e m r = absurd (cc)
+told_moves terms first t u h k (Some c) f adds e m r =
+    let same : f c ≡ k = cc in
+    subst (λ l. AreAllowed terms first l u) (sym (adds c) ∙ ap (λ (x : Heard). x.calls) same) (allowed_push terms first t u h.calls c r m)
+
+-- where it tells none
+quiet_moves : (terms : Terms) (first t u : Plain) (h k : Heard) (b : Bool) (o p : Option Heard) → cond b o p ≡ Some k
+    → (o ≡ Some k → k.calls ≡ h.calls) → (p ≡ Some k → k.calls ≡ h.calls) → u ≡ t → AreAllowed terms first h.calls t
+    → AreAllowed terms first k.calls u
+quiet_moves terms first t u h k true o p e f g same r = same_calls terms first t u h.calls k.calls (f e) same r
+quiet_moves terms first t u h k false o p e f g same r = same_calls terms first t u h.calls k.calls (g e) same r
+
+never : (k : Heard) (T : Type 0) → None ≡ Some k → T
+never k T e = absurd (cc)
+
+kept : (h x k : Heard) → x.calls ≡ h.calls → Some x ≡ Some k → k.calls ≡ h.calls
+kept h x k is e = let same : x ≡ k = cc in ap (λ (y : Heard). y.calls) (sym same) ∙ is
+
+pub moves_on : (terms : Terms) (first t u : Plain) (h k : Heard) (said : Said) → heard_after h said ≡ Some k → Moves terms t (call_told h said) u
+    → AreAllowed terms first h.calls t → AreAllowed terms first k.calls u
+moves_on terms first t u h k Of.Blank e m r = same_calls terms first t u h.calls k.calls (kept h h k refl e) m r
+moves_on terms first t u h k (Of.Space cores frames calls) e m r = absurd (cc)
+moves_on terms first t u h k (Of.File number mode len seed) e m r = absurd (cc)
+moves_on terms first t u h k (Of.Answered call) e m r =
+    told_moves terms first t u h k (call_told h (Of.Answered call)) (with_call h (Of.Answered call)) (λ c. refl) e m r
+moves_on terms first t u h k (Of.Ends core reply) e m r =
+    told_moves terms first t u h k (call_told h (Of.Ends core reply)) (with_call h (Of.Ends core reply)) (λ c. refl) e m r
+moves_on terms first t u h k (Of.Waits core request) e m r =
+    quiet_moves terms first t u h k (is_some (waits h core)) None (Some (with_waiting h core request)) e (never k (k.calls ≡ h.calls))
+    (kept h (with_waiting h core request) k refl) m r
+moves_on terms first t u h k (Of.StillWaits core) e m r =
+    quiet_moves terms first t u h k (is_some (waits h core)) (Some (one_passed h)) None e (kept h (one_passed h) k refl)
+    (never k (k.calls ≡ h.calls)) m r
+moves_on terms first t u h k Of.Passes e m r = same_calls terms first t u h.calls k.calls (kept h (one_passed h) k refl e) m r

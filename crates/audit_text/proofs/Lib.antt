@@ -2,9 +2,11 @@ pub mod ReplyLemmas
 pub mod SaidLemmas
 pub mod TextLemmas
 pub mod FileLemmas
-pub mod PlaceLemmas
 pub mod HeardLemmas
+pub mod PlaceLemmas
 pub mod AroundLemmas
 pub mod EndLemmas
 pub mod OneReading
 pub mod EchoLemmas
+pub mod ReviewLemmas
+pub mod ReviewEnds

@@ -1,17 +1,18 @@
 -- One line after another.
-use Rattle.std.proofs.Common.{◌≡◌, inl, inr, ℕ, ◌+◌, ◌≤◌, Bool, List, [], ◌∷◌, ◌++◌, length, Option, Some, None, Ok, Err}
+use Rattle.std.proofs.Common.{◌≡◌, inl, inr, ℕ, ◌+◌, ◌≤◌, Bool, true, false, List, [], ◌∷◌, ◌++◌, length, Option, Some, None, Ok, Err}
 use Rattle.std.proofs.Common.{append_assoc, append-nil, length-append, arith, refl, sym, ap, ◌∙◌, subst}
 use Rattle.vm_base.specs.Plain.{Plain}
 use Rattle.vm_base.specs.declared.replies.Reply.{Reply}
-use Rattle.audit.specs.Judging.{AreReplies}
-use Rattle.audit.specs.Placing.{rule_of}
 use Rattle.audit.specs.declared.auditor.Call.{Call}
+use Rattle.audit_text.specs.Allowed.{AreAllowed}
 use Rattle.audit_text.specs.Ends.{IsAtFault}
 use Rattle.audit_text.specs.Faults.{SaysNothing}
 use Rattle.audit_text.specs.Grammar.{Tells}
-use Rattle.audit_text.specs.Heard.{Declared, Heard, Stage, Front, Behind, Leads, behind, stage_after, undeclared}
+use Rattle.audit_text.specs.Heard.{Declared, Heard, Stage, Front, Behind, Leads, behind, is_certain, stage_after, undeclared}
 use Rattle.audit_text.specs.Legal.{Follows, IsLegal, IsPlace, IsWrong, first_map, heard_in}
 use Rattle.audit_text.specs.Steps.{EndsFront, HasEnded, Hears, IsAtLine, IsCall, IsFound, IsRefused, IsWanting, MayWant, TurnsOut}
+use Rattle.audit_text.proofs.HeardLemmas.{moves_on}
+use Rattle.audit_text.specs.declared.allowing.Terms.{Terms}
 use Rattle.audit_text.specs.declared.hearing.Turn.TheVariants.{Legal, Illegal}
 use Rattle.audit_text.specs.declared.input.AuditFault.{AuditFault}
 use Rattle.audit_text.specs.declared.input.AuditFault.TheVariants.{BadLine, TooLong, Io}
@@ -63,9 +64,9 @@ ended_front lines rest more n d e line said p is says (same, ended) =
 
 -- ---- faults
 
-pub fault_here : (any : Bool) (lines rest more : List (List ℕ)) (n : ℕ) (s : Stage) (t : Plain) (line : List ℕ) (f : AuditFault)
-    → IsPlace lines n rest s → Follows any s t → rest ≡ line ∷ more → SaysNothing line (n + 1) f → IsAtFault any lines f
-fault_here any lines rest more n s t line (BadLine k) p h e (is, says) = record {
+pub fault_here : (terms : Terms) (lines rest more : List (List ℕ)) (n : ℕ) (s : Stage) (t : Plain) (line : List ℕ) (f : AuditFault)
+    → IsPlace lines n rest s → Follows terms s t → rest ≡ line ∷ more → SaysNothing line (n + 1) f → IsAtFault terms lines f
+fault_here terms lines rest more n s t line (BadLine k) p h e (is, says) = record {
   stage = s;
   plain = t;
   line = line;
@@ -76,7 +77,7 @@ fault_here any lines rest more n s t line (BadLine k) p h e (is, says) = record 
   replies = h;
   misplaced = inl says;
 }
-fault_here any lines rest more n s t line (TooLong k) p h e (is, long) = record {
+fault_here terms lines rest more n s t line (TooLong k) p h e (is, long) = record {
   stage = s;
   plain = t;
   line = line;
@@ -87,11 +88,11 @@ fault_here any lines rest more n s t line (TooLong k) p h e (is, long) = record 
   replies = h;
   long = long;
 }
-fault_here any lines rest more n s t line f p h e says = absurd says
+fault_here terms lines rest more n s t line f p h e says = absurd says
 
-pub bad_at : (any : Bool) (lines more : List (List ℕ)) (n : ℕ) (s : Stage) (t : Plain) (said : Said) → IsAtLine lines n said more s → Follows any s t
-    → stage_after s said ≡ None → IsAtFault any lines (BadLine n)
-bad_at any lines more n s t said a h none = record {
+pub bad_at : (terms : Terms) (lines more : List (List ℕ)) (n : ℕ) (s : Stage) (t : Plain) (said : Said) → IsAtLine lines n said more s → Follows terms s t
+    → stage_after s said ≡ None → IsAtFault terms lines (BadLine n)
+bad_at terms lines more n s t said a h none = record {
   stage = s;
   plain = t;
   line = a.line;
@@ -105,23 +106,23 @@ bad_at any lines more n s t said a h none = record {
 
 -- ---- calls
 
-after_legal : (any : Bool) (lines more : List (List ℕ)) (d : Declared) (h k : Heard) (t u : Plain) (said : Said) (n : ℕ)
-    → IsCall any lines d h t said n more
-    → Hears any h t said Legal k u → IsPlace lines n more (Behind d k) × AreReplies (rule_of any) (first_map d) k.calls u
-after_legal any lines more d h k t u said n c (is, extends) =
+after_legal : (terms : Terms) (lines more : List (List ℕ)) (d : Declared) (h k : Heard) (t u : Plain) (said : Said) (n : ℕ)
+    → IsCall terms lines d h t said n more
+    → Hears terms h t said Legal k u → IsPlace lines n more (Behind d k) × AreAllowed terms (first_map d) k.calls u
+after_legal terms lines more d h k t u said n c (is, moves) =
     let next : stage_after c.stage said ≡ Some (Behind d k) = c.after ∙ ap (behind d) is in
-    let same : AreReplies (rule_of any) (first_map d) (heard_in c.stage).calls t =
-    subst (λ (e : Declared). AreReplies (rule_of any) (first_map e) (heard_in c.stage).calls t) c.declared c.follows in
-    let told : AreReplies (rule_of any) (first_map d) h.calls t =
-    subst (λ (e : Heard). AreReplies (rule_of any) (first_map d) e.calls t) c.heard same in
-    (at_next lines more n c.stage (Behind d k) said c.at next, extends (first_map d) told)
+    let same : AreAllowed terms (first_map d) (heard_in c.stage).calls t =
+    subst (λ (e : Declared). AreAllowed terms (first_map e) (heard_in c.stage).calls t) c.declared c.follows in
+    let told : AreAllowed terms (first_map d) h.calls t =
+    subst (λ (e : Heard). AreAllowed terms (first_map d) e.calls t) c.heard same in
+    (at_next lines more n c.stage (Behind d k) said c.at next, moves_on terms (first_map d) t u h k said is moves told)
 
-pub call_next : (any : Bool) (lines rest more : List (List ℕ)) (d : Declared) (h k : Heard) (t u : Plain) (said other : Said) (n m : ℕ)
+pub call_next : (terms : Terms) (lines rest more : List (List ℕ)) (d : Declared) (h k : Heard) (t u : Plain) (said other : Said) (n m : ℕ)
     (line : List ℕ)
-    → IsCall any lines d h t said n rest → Hears any h t said Legal k u → rest ≡ line ∷ more → (length line ≤ 512) × Tells other line → m ≡ n + 1
-    → IsCall any lines d k u other m more
-call_next any lines rest more d h k t u said other n m line c hears e says up =
-    let (place, follows) = after_legal any lines rest d h k t u said n c hears in
+    → IsCall terms lines d h t said n rest → Hears terms h t said Legal k u → rest ≡ line ∷ more → (length line ≤ 512) × Tells other line → m ≡ n + 1
+    → IsCall terms lines d k u other m more
+call_next terms lines rest more d h k t u said other n m line c hears e says up =
+    let (place, follows) = after_legal terms lines rest d h k t u said n c hears in
     record {
       stage = Behind d k;
       at = subst (λ i. IsAtLine lines i other more (Behind d k)) (sym up) (at_line lines rest more n (Behind d k) line other place e says);
@@ -133,10 +134,11 @@ call_next any lines rest more d h k t u said other n m line c hears e says up =
       follows = follows;
     }
 
-pub call_last : (any : Bool) (lines rest : List (List ℕ)) (d : Declared) (h k : Heard) (t u : Plain) (said : Said) (n judged : ℕ)
-    → IsCall any lines d h t said n rest → Hears any h t said Legal k u → rest ≡ [] → judged ≡ length k.calls → IsLegal any lines judged k.passed
-call_last any lines rest d h k t u said n judged c hears e counted =
-    let (place, follows) = after_legal any lines rest d h k t u said n c hears in
+pub call_last : (terms : Terms) (lines rest : List (List ℕ)) (d : Declared) (h k : Heard) (t u : Plain) (said : Said) (n judged : ℕ)
+    → IsCall terms lines d h t said n rest → Hears terms h t said Legal k u → rest ≡ [] → judged ≡ length k.calls
+    → IsLegal terms lines judged k.lacking k.passed
+call_last terms lines rest d h k t u said n judged c hears e counted =
+    let (place, follows) = after_legal terms lines rest d h k t u said n c hears in
     let all : place.done ≡ lines = sym (place.is ∙ ap (λ l. place.done ++ l) e ∙ append-nil place.done) in
     record {
       stage = Behind d k;
@@ -145,20 +147,22 @@ call_last any lines rest d h k t u said n judged c hears e counted =
       space = c.space;
       replies = follows;
       calls_are = counted;
+      lacking_are = refl;
       passed_are = refl;
     }
 
-pub call_fault : (any : Bool) (lines rest more : List (List ℕ)) (d : Declared) (h k : Heard) (t u : Plain) (said : Said) (n m : ℕ) (line : List ℕ)
+pub call_fault : (terms : Terms) (lines rest more : List (List ℕ)) (d : Declared) (h k : Heard) (t u : Plain) (said : Said) (n m : ℕ) (line : List ℕ)
     (f : AuditFault)
-    → IsCall any lines d h t said n rest → Hears any h t said Legal k u → rest ≡ line ∷ more → m ≡ n + 1 → SaysNothing line m f
-    → IsAtFault any lines f
-call_fault any lines rest more d h k t u said n m line f c hears e up says =
-    let (place, follows) = after_legal any lines rest d h k t u said n c hears in
-    fault_here any lines rest more n (Behind d k) u line f place follows e (subst (λ i. SaysNothing line i f) up says)
+    → IsCall terms lines d h t said n rest → Hears terms h t said Legal k u → rest ≡ line ∷ more → m ≡ n + 1 → SaysNothing line m f
+    → IsAtFault terms lines f
+call_fault terms lines rest more d h k t u said n m line f c hears e up says =
+    let (place, follows) = after_legal terms lines rest d h k t u said n c hears in
+    fault_here terms lines rest more n (Behind d k) u line f place follows e (subst (λ i. SaysNothing line i f) up says)
 
-call_wrong : (any : Bool) (lines more : List (List ℕ)) (d : Declared) (h k : Heard) (t u : Plain) (said : Said) (n m : ℕ) (call : Call) (due : Reply)
-    → IsCall any lines d h t said n more → m ≡ n → Hears any h t said (Illegal call due) k u → IsWrong any lines m call due u
-call_wrong any lines more d h k t u said n m call due c is (told, same, refused) = record {
+call_wrong : (terms : Terms) (lines more : List (List ℕ)) (d : Declared) (h k : Heard) (t u : Plain) (said : Said) (n m : ℕ) (call : Call) (due : Reply)
+    (certain : Bool) → IsCall terms lines d h t said n more → m ≡ n → Hears terms h t said (Illegal call due certain) k u
+    → IsWrong terms lines m call due certain u
+call_wrong terms lines more d h k t u said n m call due certain c is (told, same, sure, refused, after) = record {
   stage = c.stage;
   line = c.at.line;
   more = more;
@@ -166,32 +170,36 @@ call_wrong any lines more d h k t u said n m call due c is (told, same, refused)
   before = c.at.before;
   number_is = is ∙ c.at.number_is;
   place = c.at.place;
-  replies = subst (Follows any c.stage) (sym same) c.follows;
+  replies = subst (Follows terms c.stage) (sym same) c.follows;
   short = c.at.short;
   tells = c.at.tells;
   told = c.told ∙ told;
-  none = (subst (λ x. IsRefused any x (Illegal call due)) (sym same) refused).0;
-  other = (subst (λ x. IsRefused any x (Illegal call due)) (sym same) refused).1;
+  none = (subst (λ x. IsRefused terms x call due) (sym same) refused).0;
+  other = (subst (λ x. IsRefused terms x call due) (sym same) refused).1;
+  certain_is = sure ∙ ap (λ (e : Heard). is_certain e said) (sym c.heard);
 }
 
 -- the verdict of a turn
-pub turn_verdict : (any : Bool) (lines more : List (List ℕ)) (d : Declared) (h k : Heard) (t u : Plain) (said : Said) (n : ℕ) (verdict : Verdict)
-    → IsCall any lines d h t said n more → TurnsOut any h t said n (Ok (Some verdict)) k u → IsFound any lines verdict u
-turn_verdict any lines more d h k t u said n (Of.Legal calls passed) c turns = absurd turns
-turn_verdict any lines more d h k t u said n (Of.Illegal m call due) c turns = call_wrong any lines more d h k t u said n m call due c turns.0 turns.1
+pub turn_verdict : (terms : Terms) (lines more : List (List ℕ)) (d : Declared) (h k : Heard) (t u : Plain) (said : Said) (n : ℕ) (verdict : Verdict)
+    → IsCall terms lines d h t said n more → TurnsOut terms h t said n (Ok (Some verdict)) k u → IsFound terms lines verdict u
+turn_verdict terms lines more d h k t u said n (Of.Legal calls lacking passed) c turns = absurd turns
+turn_verdict terms lines more d h k t u said n (Of.Illegal m call due) c turns =
+    call_wrong terms lines more d h k t u said n m call due true c turns.0 turns.1
+turn_verdict terms lines more d h k t u said n (Of.Undecided m call due) c turns =
+    call_wrong terms lines more d h k t u said n m call due false c turns.0 turns.1
 
-pub turn_fault : (any : Bool) (lines more : List (List ℕ)) (d : Declared) (h k : Heard) (t u : Plain) (said : Said) (n : ℕ) (f : AuditFault)
-    → IsCall any lines d h t said n more → TurnsOut any h t said n (Err f) k u → IsAtFault any lines f
-turn_fault any lines more d h k t u said n (BadLine m) c turns =
-    subst (λ i. IsAtFault any lines (BadLine i)) (sym turns.0)
-    (bad_at any lines more n c.stage t said c.at c.follows (c.after ∙ ap (behind d) turns.1))
-turn_fault any lines more d h k t u said n (Io NoMemory) c turns = tt
-turn_fault any lines more d h k t u said n f c turns = absurd turns
+pub turn_fault : (terms : Terms) (lines more : List (List ℕ)) (d : Declared) (h k : Heard) (t u : Plain) (said : Said) (n : ℕ) (f : AuditFault)
+    → IsCall terms lines d h t said n more → TurnsOut terms h t said n (Err f) k u → IsAtFault terms lines f
+turn_fault terms lines more d h k t u said n (BadLine m) c turns =
+    subst (λ i. IsAtFault terms lines (BadLine i)) (sym turns.0)
+    (bad_at terms lines more n c.stage t said c.at c.follows (c.after ∙ ap (behind d) turns.1))
+turn_fault terms lines more d h k t u said n (Io NoMemory) c turns = tt
+turn_fault terms lines more d h k t u said n f c turns = absurd turns
 
 -- memory was wanted
-turn_wants : (any : Bool) (lines more : List (List ℕ)) (d : Declared) (h k : Heard) (t u : Plain) (said : Said) (n : ℕ) (f : AuditFault)
-    → IsCall any lines d h t said n more → TurnsOut any h t said n (Err f) k u → f ≡ Io NoMemory → IsWanting any lines
-turn_wants any lines more d h k t u said n f c turns is = record {
+turn_wants : (terms : Terms) (lines more : List (List ℕ)) (d : Declared) (h k : Heard) (t u : Plain) (said : Said) (n : ℕ) (f : AuditFault)
+    → IsCall terms lines d h t said n more → TurnsOut terms h t said n (Err f) k u → f ≡ Io NoMemory → IsWanting terms lines
+turn_wants terms lines more d h k t u said n f c turns is = record {
   stage = c.stage;
   number = n;
   said = said;
@@ -199,30 +207,30 @@ turn_wants any lines more d h k t u said n f c turns is = record {
   plain = t;
   at = c.at;
   follows = c.follows;
-  may = subst (λ (e : Heard). MayWant any e t said) (sym c.heard) (subst (λ (x : AuditFault). TurnsOut any h t said n (Err x) k u) is turns);
+  may = subst (λ (e : Heard). MayWant terms e t said) (sym c.heard) (subst (λ (x : AuditFault). TurnsOut terms h t said n (Err x) k u) is turns);
 }
 
 -- ---- the same of a turn whose rule is known by an equation
 
-pub turn_wants_by : (b any : Bool) → b ≡ any → (lines more : List (List ℕ)) (d : Declared) (h k : Heard) (t u : Plain) (said : Said) (n : ℕ)
-    (f : AuditFault) → IsCall any lines d h t said n more → TurnsOut b h t said n (Err f) k u → f ≡ Io NoMemory → IsWanting any lines
-turn_wants_by b any e lines more d h k t u said n f c turns is =
-    turn_wants any lines more d h k t u said n f c (subst (λ (x : Bool). TurnsOut x h t said n (Err f) k u) e turns) is
+pub turn_wants_by : (b terms : Terms) → b ≡ terms → (lines more : List (List ℕ)) (d : Declared) (h k : Heard) (t u : Plain) (said : Said) (n : ℕ)
+    (f : AuditFault) → IsCall terms lines d h t said n more → TurnsOut b h t said n (Err f) k u → f ≡ Io NoMemory → IsWanting terms lines
+turn_wants_by b terms e lines more d h k t u said n f c turns is =
+    turn_wants terms lines more d h k t u said n f c (subst (λ (x : Terms). TurnsOut x h t said n (Err f) k u) e turns) is
 
-pub turn_fault_by : (b any : Bool) → b ≡ any → (lines more : List (List ℕ)) (d : Declared) (h k : Heard) (t u : Plain) (said : Said) (n : ℕ)
-    (f : AuditFault) → IsCall any lines d h t said n more → TurnsOut b h t said n (Err f) k u → IsAtFault any lines f
-turn_fault_by b any e lines more d h k t u said n f c turns =
-    turn_fault any lines more d h k t u said n f c (subst (λ (x : Bool). TurnsOut x h t said n (Err f) k u) e turns)
+pub turn_fault_by : (b terms : Terms) → b ≡ terms → (lines more : List (List ℕ)) (d : Declared) (h k : Heard) (t u : Plain) (said : Said) (n : ℕ)
+    (f : AuditFault) → IsCall terms lines d h t said n more → TurnsOut b h t said n (Err f) k u → IsAtFault terms lines f
+turn_fault_by b terms e lines more d h k t u said n f c turns =
+    turn_fault terms lines more d h k t u said n f c (subst (λ (x : Terms). TurnsOut x h t said n (Err f) k u) e turns)
 
-pub turn_verdict_by : (b any : Bool) → b ≡ any → (lines more : List (List ℕ)) (d : Declared) (h k : Heard) (t u : Plain) (said : Said) (n : ℕ)
+pub turn_verdict_by : (b terms : Terms) → b ≡ terms → (lines more : List (List ℕ)) (d : Declared) (h k : Heard) (t u : Plain) (said : Said) (n : ℕ)
     (o : Option Verdict)
-    (verdict : Verdict) → IsCall any lines d h t said n more → TurnsOut b h t said n (Ok o) k u → o ≡ Some verdict → IsFound any lines verdict u
-turn_verdict_by b any e lines more d h k t u said n o verdict c turns is =
-    turn_verdict any lines more d h k t u said n verdict c
-    (subst (λ (x : Bool). TurnsOut x h t said n (Ok (Some verdict)) k u) e
+    (verdict : Verdict) → IsCall terms lines d h t said n more → TurnsOut b h t said n (Ok o) k u → o ≡ Some verdict → IsFound terms lines verdict u
+turn_verdict_by b terms e lines more d h k t u said n o verdict c turns is =
+    turn_verdict terms lines more d h k t u said n verdict c
+    (subst (λ (x : Terms). TurnsOut x h t said n (Ok (Some verdict)) k u) e
     (subst (λ (x : Option Verdict). TurnsOut b h t said n (Ok x) k u) is turns))
 
-pub hears_by : (b any : Bool) → b ≡ any → (h k : Heard) (t u : Plain) (said : Said) (n : ℕ) (o : Option Verdict) → TurnsOut b h t said n (Ok o) k u
-    → o ≡ None → Hears any h t said Legal k u
-hears_by b any e h k t u said n o turns none =
-    subst (λ (x : Bool). Hears x h t said Legal k u) e (subst (λ (x : Option Verdict). TurnsOut b h t said n (Ok x) k u) none turns)
+pub hears_by : (b terms : Terms) → b ≡ terms → (h k : Heard) (t u : Plain) (said : Said) (n : ℕ) (o : Option Verdict) → TurnsOut b h t said n (Ok o) k u
+    → o ≡ None → Hears terms h t said Legal k u
+hears_by b terms e h k t u said n o turns none =
+    subst (λ (x : Terms). Hears x h t said Legal k u) e (subst (λ (x : Option Verdict). TurnsOut b h t said n (Ok x) k u) none turns)

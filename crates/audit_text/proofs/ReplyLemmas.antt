@@ -1,9 +1,9 @@
 -- Replies and their texts.
-use Rattle.std.proofs.Common.{◌≡◌, inl, inr, ℕ, ◌<◌, ◌≤◌, ◌^◌, Bool, true, false, cond, eqb, List, [], ◌∷◌, Option, Some, None}
+use Rattle.std.proofs.Common.{◌≡◌, ◌⊎◌, inl, inr, ℕ, ◌<◌, ◌≤◌, ◌^◌, Bool, true, false, cond, eqb, List, [], ◌∷◌, Option, Some, None}
 use Rattle.std.proofs.Common.{codes, decimal, arith, refl, sym, ap, ◌∙◌, subst}
 use Rattle.std.proofs.lemmas.Bool.Decides.{nat_tests}
 use Rattle.std.proofs.lemmas.Slice.Eq.{bytes_eq-Decides}
-use Rattle.std.specs.Prelude.{nat_lt, IfSome}
+use Rattle.std.specs.Prelude.{nat_lt, ◌||◌, IfSome}
 use Rattle.std.specs.Str.{bytes_eq}
 use Rattle.vm_base.specs.declared.replies.Errno.TheVariants.{EINVAL, ENOMEM, EACCES, EBADF, EOVERFLOW}
 use Rattle.vm_base.specs.declared.replies.SegvCode.TheVariants.{MapErr, AccErr}
@@ -16,7 +16,7 @@ use Rattle.trace_text.proofs.Choices.{bind_some, chosen}
 use Rattle.trace_text.specs.Values.{is_hexadecimal, value_of}
 use Rattle.trace_text.proofs.SpellingLemmas.{decimal_is, hexadecimal_is, number_only}
 use Rattle.trace_text.proofs.ValueLemmas.{decimal_value, hexadecimal_value}
-use Rattle.audit_text.specs.Replies.{IsReply, NamesReply, is_wait, named_of, or_word, reply_of, word_reply}
+use Rattle.audit_text.specs.Replies.{IsReply, NamesReply, is_nothing, is_step, is_unanswered, is_wait, named_of, or_word, reply_of, word_reply}
 
 -- ---- what is written is read
 
@@ -159,3 +159,54 @@ waits_not r h = refl
 
 pub reply_waits_not : (r : Reply) (text : List ℕ) → NamesReply r text → is_wait text ≡ false
 reply_waits_not r text (is, h) = ap is_wait is ∙ waits_not r h
+
+-- ---- what is no reply
+
+pub or_split : (x y : Bool) → (x || y) ≡ true → (x ≡ true) ⊎ (y ≡ true)
+or_split true y e = inl refl
+or_split false y e = inr e
+
+wait_none : (text : List ℕ) → is_wait text ≡ true → reply_of text ≡ None
+wait_none text e = go (reply_of text) refl
+  where
+    go : (o : Option Reply) → reply_of text ≡ o → reply_of text ≡ None
+    go None h = h
+    go (Some r) h = let waits_no = reply_waits_not r text (reply_only text r h) in absurd (cc)
+
+stuck_none : reply_of (codes "stuck") ≡ None
+unfolding reply_of value_of
+stuck_none = refl
+
+pub unanswered_none : (text : List ℕ) → is_unanswered text ≡ true → reply_of text ≡ None
+unanswered_none text e = elim (or_split (is_wait text) (bytes_eq text (codes "stuck")) e) [
+  | inl h ↦ wait_none text h
+  | inr h ↦ ap reply_of ((bytes_eq-Decides text (codes "stuck")).0 h) ∙ stuck_none
+]
+
+step_none : reply_of (codes "step") ≡ None
+unfolding reply_of value_of
+step_none = refl
+
+pub still_none : (text : List ℕ) → (is_unanswered text || is_step text) ≡ true → reply_of text ≡ None
+still_none text e = elim (or_split (is_unanswered text) (is_step text) e) [
+  | inl h ↦ unanswered_none text h
+  | inr h ↦ ap reply_of ((bytes_eq-Decides text (codes "step")).0 h) ∙ step_none
+]
+
+-- a text that says that nothing was done says nothing else
+abbrev pub SaysNothingElse : List ℕ → Type 0
+SaysNothingElse text = (reply_of text ≡ None) × (is_unanswered text ≡ false) × (is_step text ≡ false)
+
+idle_alone : SaysNothingElse (codes "idle")
+unfolding reply_of value_of
+idle_alone = (refl, refl, refl)
+
+full_alone : SaysNothingElse (codes "full")
+unfolding reply_of value_of
+full_alone = (refl, refl, refl)
+
+pub nothing_alone : (text : List ℕ) → is_nothing text ≡ true → SaysNothingElse text
+nothing_alone text e = elim (or_split (bytes_eq text (codes "idle")) (bytes_eq text (codes "full")) e) [
+  | inl h ↦ subst SaysNothingElse (sym ((bytes_eq-Decides text (codes "idle")).0 h)) idle_alone
+  | inr h ↦ subst SaysNothingElse (sym ((bytes_eq-Decides text (codes "full")).0 h)) full_alone
+]

@@ -1,5 +1,5 @@
 -- How an audit ends, and what it writes.
-use Rattle.std.specs.Prelude.{◌≡◌, ℕ, ⊤, Bool, List, [], ◌++◌, Option, Result, Ok, Err, codes, decimal}
+use Rattle.std.specs.Prelude.{◌≡◌, ℕ, ⊤, nat_lt, true, false, List, [], ◌++◌, Option, Result, Ok, Err, codes, decimal, if◌then◌else◌}
 use Rattle.std.specs.List.{flat_map}
 use Rattle.std.specs.Io.KnownBytes.{Keeps, Appends}
 use Rattle.trace_io.specs.Io.{ReadFrom, TellsSent, WrittenTo}
@@ -9,32 +9,48 @@ use Rattle.trace_io.specs.declared.fault.IoFault.TheVariants.{ReadFailed, NoMemo
 use Rattle.trace_text.specs.Lists.{map_line}
 use Rattle.trace_text.specs.Printing.{text_of}
 use Rattle.slot_lock.specs.declared.map_list.MapLine.{MapLine}
+use Rattle.vm_base.specs.declared.replies.Reply.{Reply}
+use Rattle.audit.specs.declared.auditor.Call.{Call}
+use Rattle.audit_text.specs.declared.allowing.Terms.{Terms}
 use Rattle.audit_text.specs.Legal.{IsBad, IsIllegal, IsLegal, IsOverlong, LacksSpace}
 use Rattle.audit_text.specs.declared.input.AuditFault.{AuditFault}
 use Rattle.audit_text.specs.declared.input.AuditFault.TheVariants.{BadLine, TooLong, NoVmLine, Io}
 use Rattle.audit_text.specs.declared.judging.Verdict.{Verdict}
-use Rattle.audit_text.specs.declared.judging.Verdict.TheVariants.{Legal, Illegal}
+use Rattle.audit_text.specs.declared.judging.Verdict.TheVariants.{Legal, Illegal, Undecided}
 
 -- ---- the verdict
 
-abbrev pub IsVerdict : Bool → List (List ℕ) → Verdict → List MapLine → Type 0
-IsVerdict any lines (Legal calls passed) around = IsLegal any lines calls passed × (around ≡ [])
-IsVerdict any lines (Illegal line call due) around = IsIllegal any lines line call due around
+abbrev pub IsVerdict : Terms → List (List ℕ) → Verdict → List MapLine → Type 0
+IsVerdict terms lines (Legal calls lacking passed) around = IsLegal terms lines calls lacking passed × (around ≡ [])
+IsVerdict terms lines (Illegal line call due) around = IsIllegal terms lines line call due true around
+IsVerdict terms lines (Undecided line call due) around = IsIllegal terms lines line call due false around
 
 -- a text can't be judged, but for want of memory
-abbrev pub IsAtFault : Bool → List (List ℕ) → AuditFault → Type 0
-IsAtFault any lines (BadLine number) = IsBad any lines number
-IsAtFault any lines (TooLong number) = IsOverlong any lines number
-IsAtFault any lines NoVmLine = LacksSpace lines
-IsAtFault any lines (Io NoMemory) = ⊤
-IsAtFault any lines (Io _) = ⊥
+abbrev pub IsAtFault : Terms → List (List ℕ) → AuditFault → Type 0
+IsAtFault terms lines (BadLine number) = IsBad terms lines number
+IsAtFault terms lines (TooLong number) = IsOverlong terms lines number
+IsAtFault terms lines NoVmLine = LacksSpace lines
+IsAtFault terms lines (Io NoMemory) = ⊤
+IsAtFault terms lines (Io _) = ⊥
 
 -- ---- what is written
 
-abbrev pub head_text : Verdict → List ℕ
-head_text (Legal calls passed) = codes "legal " ++ decimal calls ++ codes "\n"
-head_text (Illegal line call due) = codes "illegal " ++ decimal line ++ codes ": replied " ++ text_of call.reply
+-- how many calls found no frame or no memory, if any did
+abbrev pub some_lacking : ℕ → List ℕ
+some_lacking n = codes ", " ++ decimal n ++ codes " without memory"
+
+abbrev pub lacking_text : ℕ → List ℕ
+lacking_text n = if nat_lt 0 n then some_lacking n else []
+
+-- what was replied at a line, and what would be due
+abbrev pub wrong_text : List ℕ → ℕ → Call → Reply → List ℕ
+wrong_text word line call due = word ++ decimal line ++ codes ": replied " ++ text_of call.reply
     ++ codes ", due " ++ text_of due ++ codes "\n"
+
+abbrev pub head_text : Verdict → List ℕ
+head_text (Legal calls lacking passed) = codes "legal " ++ decimal calls ++ lacking_text lacking ++ codes "\n"
+head_text (Illegal line call due) = wrong_text (codes "illegal ") line call due
+head_text (Undecided line call due) = wrong_text (codes "undecided ") line call due
 
 abbrev pub mapping_text : MapLine → List ℕ
 mapping_text line = map_line line.range line.prot line.back
@@ -45,27 +61,27 @@ verdict_text verdict around = head_text verdict ++ flat_map mapping_text around
 -- ---- the end
 
 -- the verdict was written
-pub record Judges (any : Bool) (input : List ℕ) (old new : Option (List ℕ)) (verdict : Verdict) : Type 0 where
+pub record Judges (terms : Terms) (input : List ℕ) (old new : Option (List ℕ)) (verdict : Verdict) : Type 0 where
   pub around : List MapLine
-  pub is : IsVerdict any (lines_of input) verdict around
+  pub is : IsVerdict terms (lines_of input) verdict around
   pub written : Appends old new (verdict_text verdict around)
 
 -- a front of it was
-pub record Breaks (any : Bool) (input : List ℕ) (old new : Option (List ℕ)) : Type 0 where
+pub record Breaks (terms : Terms) (input : List ℕ) (old new : Option (List ℕ)) : Type 0 where
   pub verdict : Verdict
   pub around : List MapLine
-  pub is : IsVerdict any (lines_of input) verdict around
+  pub is : IsVerdict terms (lines_of input) verdict around
   pub written : AppendsFront old new (verdict_text verdict around)
 
 -- after a fault nothing was written, but after a failed write
-abbrev pub Fails : Bool → List ℕ → Option (List ℕ) → Option (List ℕ) → AuditFault → Type 0
-Fails any input old new (Io WriteFailed) = Breaks any input old new
-Fails any input old new (Io ReadFailed) = Keeps old new
-Fails any input old new f = IsAtFault any (lines_of input) f × Keeps old new
+abbrev pub Fails : Terms → List ℕ → Option (List ℕ) → Option (List ℕ) → AuditFault → Type 0
+Fails terms input old new (Io WriteFailed) = Breaks terms input old new
+Fails terms input old new (Io ReadFailed) = Keeps old new
+Fails terms input old new f = IsAtFault terms (lines_of input) f × Keeps old new
 
-abbrev pub AuditEnds : Bool → List ℕ → Option (List ℕ) → Option (List ℕ) → Result Verdict AuditFault → Type 0
-AuditEnds any input old new (Ok verdict) = Judges any input old new verdict
-AuditEnds any input old new (Err f) = Fails any input old new f
+abbrev pub AuditEnds : Terms → List ℕ → Option (List ℕ) → Option (List ℕ) → Result Verdict AuditFault → Type 0
+AuditEnds terms input old new (Ok verdict) = Judges terms input old new verdict
+AuditEnds terms input old new (Err f) = Fails terms input old new f
 
 -- which failures of reading and writing are told; a verdict has gone out
 abbrev pub TellsAudit : {T : Type 0} → Result T AuditFault → ReadFrom → WrittenTo → Type 0

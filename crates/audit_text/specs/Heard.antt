@@ -1,11 +1,12 @@
 -- What the lines of a text say, one after another.
-use Rattle.std.specs.Prelude.{◌≡◌, ℕ, suc, ◌≤◌, ◌==◌, ◌&&◌, nat_le, nat_lt, not, Bool, true, false, List, [], ◌∷◌, ◌++◌, length, get_or, set}
+use Rattle.std.specs.Prelude.{◌≡◌, ℕ, suc, ◌-◌, ◌≤◌, ◌==◌, ◌&&◌, nat_le, nat_lt, not, Bool, true, false, List, [], ◌∷◌, ◌++◌, length, get_or, set}
 use Rattle.std.specs.Prelude.{replicate, Option, None, Some, is_some, option_map, if◌then◌else◌}
 use Rattle.vm_base.specs.declared.requests.Request.{Request}
 use Rattle.vm_base.specs.declared.replies.Reply.{Reply}
 use Rattle.vm_base.specs.Plain.{File as PlainFile, file_with}
 use Rattle.trace_text.specs.Line.{seeded}
 use Rattle.audit.specs.declared.auditor.Call.{Call}
+use Rattle.audit_text.specs.Allowed.{is_given_up, is_lacking, is_store}
 use Rattle.audit_text.specs.Grammar.{Tells}
 use Rattle.audit_text.specs.declared.reading.Said.{Said}
 use Rattle.audit_text.specs.declared.reading.Said.TheVariants.{Blank, Space, File, Answered, Waits, Ends, StillWaits, Passes}
@@ -31,15 +32,19 @@ with_file d number file len = if d.has_space && (number == length d.files) && na
 
 -- ---- the calls
 
--- what the call of each core asks for that waits, the calls that were answered, in order of their replies, and how
--- many lines were passed over
+-- What the call of each core asks for that waits, and how many wait; the calls that were answered, in order of their replies,
+-- and how many of them found no frame or no memory; how many lines were passed over; and whether so far no other order of the
+-- calls, and no other map, can be behind these replies.
 pub record Heard : Type 0 where
   pub waiting : List (Option Request)
+  pub pending : ℕ
   pub calls : List Call
+  pub lacking : ℕ
   pub passed : ℕ
+  pub is_sure : Bool
 
 abbrev pub nothing : Heard
-nothing = record { waiting = replicate 64 None; calls = []; passed = 0 }
+nothing = record { waiting = replicate 64 None; pending = 0; calls = []; lacking = 0; passed = 0; is_sure = true }
 
 abbrev pub waits : Heard → ℕ → Option Request
 waits h core = get_or h.waiting core None
@@ -53,10 +58,35 @@ call_told h (Answered call) = if is_some (waits h call.core) then None else Some
 call_told h (Ends core reply) = option_map (call_to core reply) (waits h core)
 call_told h _ = None
 
+-- The order of the replies is the only one in which the calls may have taken effect: no reply so far, this line's too, came while
+-- another core's call waited. And the map is known: no store so far may have left a copy behind.
+abbrev pub is_alone : Heard → Said → Bool
+is_alone h (Answered call) = nat_le h.pending 0
+is_alone h (Ends core reply) = nat_le h.pending 1
+is_alone h _ = true
+
+abbrev pub is_certain : Heard → Said → Bool
+is_certain h said = h.is_sure && is_alone h said
+
+-- with one more call, at whose line this is certain
+abbrev pub with_answer : Heard → Bool → Call → Heard
+with_answer h certain call = record h {
+  calls = h.calls ++ call ∷ [];
+  lacking = if is_lacking call.reply then suc h.lacking else h.lacking;
+  is_sure = certain && not (is_store call.request && is_given_up call.reply);
+}
+
 -- with the call that this line tells, which doesn't wait any more
+abbrev pub without : Heard → ℕ → Heard
+without h core = record h { waiting = set h.waiting core None; pending = h.pending - 1 }
+
 abbrev pub with_call : Heard → Said → Call → Heard
-with_call h (Ends core reply) call = record h { waiting = set h.waiting core None; calls = h.calls ++ call ∷ [] }
-with_call h said call = record h { calls = h.calls ++ call ∷ [] }
+with_call h (Ends core reply) call = with_answer (without h core) (is_certain h (Ends core reply)) call
+with_call h said call = with_answer h (is_certain h said) call
+
+-- a call that begins to wait
+abbrev pub with_waiting : Heard → ℕ → Request → Heard
+with_waiting h core request = record h { waiting = set h.waiting core (Some request); pending = suc h.pending }
 
 abbrev pub one_passed : Heard → Heard
 one_passed h = record h { passed = suc h.passed }
@@ -66,8 +96,7 @@ abbrev pub heard_after : Heard → Said → Option Heard
 heard_after h Blank = Some h
 heard_after h (Answered call) = option_map (with_call h (Answered call)) (call_told h (Answered call))
 heard_after h (Ends core reply) = option_map (with_call h (Ends core reply)) (call_told h (Ends core reply))
-heard_after h (Waits core request) =
-    if is_some (waits h core) then None else Some (record h { waiting = set h.waiting core (Some request) })
+heard_after h (Waits core request) = if is_some (waits h core) then None else Some (with_waiting h core request)
 heard_after h (StillWaits core) = if is_some (waits h core) then Some (one_passed h) else None
 heard_after h Passes = Some (one_passed h)
 heard_after h _ = None

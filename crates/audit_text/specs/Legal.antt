@@ -9,12 +9,12 @@ use Rattle.vm_base.specs.Pages.{page_of}
 use Rattle.vm_base.specs.Plain.{Plain, nothing_mapped}
 use Rattle.slot_lock.specs.MapList.{plain_metas}
 use Rattle.slot_lock.specs.declared.map_list.MapLine.{MapLine}
-use Rattle.audit.specs.Judging.{AreReplies}
-use Rattle.audit.specs.Placing.{rule_of}
 use Rattle.audit.specs.declared.auditor.Call.{Call}
+use Rattle.audit_text.specs.Allowed.{Allows, AreAllowed}
 use Rattle.audit_text.specs.Around.{IsAround}
 use Rattle.audit_text.specs.Grammar.{Tells}
-use Rattle.audit_text.specs.Heard.{Declared, Heard, Stage, Front, Behind, Leads, call_told, nothing, stage_after, undeclared}
+use Rattle.audit_text.specs.Heard.{Declared, Heard, Stage, Front, Behind, Leads, call_told, is_certain, nothing, stage_after, undeclared}
+use Rattle.audit_text.specs.declared.allowing.Terms.{Terms}
 use Rattle.audit_text.specs.declared.reading.Said.{Said}
 use Rattle.vm_base.specs.Places.{IsFirstPlace}
 
@@ -30,19 +30,20 @@ heard_in (Behind d h) = h
 abbrev pub first_map : Declared → Plain
 first_map d = nothing_mapped (λ n. slice_get d.files n)
 
--- the replies told so far, one after another, are the plain page map's, and lead to u
-abbrev pub Follows : Bool → Stage → Plain → Type 0
-Follows any s u = AreReplies (rule_of any) (first_map (declared_in s)) (heard_in s).calls u
+-- the replies told so far, one after another, may be, and lead to u
+abbrev pub Follows : Terms → Stage → Plain → Type 0
+Follows terms s u = AreAllowed terms (first_map (declared_in s)) (heard_in s).calls u
 
--- A text is legal, with so many calls: its lines may stand where they are, a space is declared, and the replies that
--- they tell, one after another, are the plain page map's.
-pub record IsLegal (any : Bool) (lines : List (List ℕ)) (calls passed : ℕ) : Type 0 where
+-- A text is legal, with so many calls, of which so many found no frame or no memory: its lines may stand where they are, a space is
+-- declared, and the replies that they tell, one after another, may be.
+pub record IsLegal (terms : Terms) (lines : List (List ℕ)) (calls lacking passed : ℕ) : Type 0 where
   pub stage : Stage
   pub plain : Plain
   pub leads : Leads (Front undeclared) lines stage
   pub space : (declared_in stage).has_space ≡ true
-  pub replies : Follows any stage plain
+  pub replies : Follows terms stage plain
   pub calls_are : calls ≡ length (heard_in stage).calls
+  pub lacking_are : lacking ≡ (heard_in stage).lacking
   pub passed_are : passed ≡ (heard_in stage).passed
 
 -- ---- the first line that isn't
@@ -67,9 +68,10 @@ page_asked (Load addr) = page_of addr
 page_asked (Store addr b) = page_of addr
 page_asked (Fetch addr) = page_of addr
 
--- The lines before this one are legal, and lead to this map. It tells a reply that no plain page map gives, and the first
--- one gives another.
-pub record IsWrong (any : Bool) (lines : List (List ℕ)) (number : ℕ) (call : Call) (due : Reply) (plain : Plain) : Type 0 where
+-- The lines before this one are legal, and lead to this map. It tells a reply that may not be there, and the first plain page map
+-- gives another. Whether that is certain is told, too.
+pub record IsWrong (terms : Terms) (lines : List (List ℕ)) (number : ℕ) (call : Call) (due : Reply) (certain : Bool) (plain : Plain)
+    : Type 0 where
   pub stage : Stage
   pub line : List ℕ
   pub more : List (List ℕ)
@@ -77,18 +79,19 @@ pub record IsWrong (any : Bool) (lines : List (List ℕ)) (number : ℕ) (call :
   pub before : ℕ
   pub number_is : number ≡ suc before
   pub place : IsPlace lines before (line ∷ more) stage
-  pub replies : Follows any stage plain
+  pub replies : Follows terms stage plain
   pub short : length line ≤ 512
   pub tells : Tells said line
   pub told : told_at stage said ≡ Some call
-  pub none : (v : Plain) → ¬ Answers (rule_of any) plain call.core call.request call.reply v
+  pub none : (v : Plain) → ¬ Allows terms plain call.core call.request call.reply v
   pub other : (v : Plain) × Answers IsFirstPlace plain call.core call.request due v
+  pub certain_is : certain ≡ is_certain (heard_in stage) said
 
 -- and these mappings are around its request
-pub record IsIllegal (any : Bool) (lines : List (List ℕ)) (number : ℕ) (call : Call) (due : Reply) (around : List MapLine)
-    : Type 0 where
+pub record IsIllegal (terms : Terms) (lines : List (List ℕ)) (number : ℕ) (call : Call) (due : Reply) (certain : Bool)
+    (around : List MapLine) : Type 0 where
   pub plain : Plain
-  pub wrong : IsWrong any lines number call due plain
+  pub wrong : IsWrong terms lines number call due certain plain
   pub shown : IsAround (plain_metas plain) (page_asked call.request) around
 
 -- the line says nothing, or what it says may not stand here
@@ -96,7 +99,7 @@ abbrev pub IsMisplaced : Stage → List ℕ → Type 0
 IsMisplaced s line = ((said : Said) → Tells said line → ⊥) ⊎ ((said : Said) × Tells said line × (stage_after s said ≡ None))
 
 -- The lines before this one are legal, and it is misplaced.
-pub record IsBad (any : Bool) (lines : List (List ℕ)) (number : ℕ) : Type 0 where
+pub record IsBad (terms : Terms) (lines : List (List ℕ)) (number : ℕ) : Type 0 where
   pub stage : Stage
   pub plain : Plain
   pub line : List ℕ
@@ -104,11 +107,11 @@ pub record IsBad (any : Bool) (lines : List (List ℕ)) (number : ℕ) : Type 0 
   pub before : ℕ
   pub number_is : number ≡ suc before
   pub place : IsPlace lines before (line ∷ more) stage
-  pub replies : Follows any stage plain
+  pub replies : Follows terms stage plain
   pub misplaced : IsMisplaced stage line
 
 -- they are, and it is too long
-pub record IsOverlong (any : Bool) (lines : List (List ℕ)) (number : ℕ) : Type 0 where
+pub record IsOverlong (terms : Terms) (lines : List (List ℕ)) (number : ℕ) : Type 0 where
   pub stage : Stage
   pub plain : Plain
   pub line : List ℕ
@@ -116,7 +119,7 @@ pub record IsOverlong (any : Bool) (lines : List (List ℕ)) (number : ℕ) : Ty
   pub before : ℕ
   pub number_is : number ≡ suc before
   pub place : IsPlace lines before (line ∷ more) stage
-  pub replies : Follows any stage plain
+  pub replies : Follows terms stage plain
   pub long : 512 < length line
 
 -- the next line, if there is one, may not stand here

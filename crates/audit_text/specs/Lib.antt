@@ -2,9 +2,12 @@ pub mod Replies
 pub mod Grammar
 pub mod Reading
 pub mod Faults
+pub mod Allowed
 pub mod Heard
 pub mod Around
 pub mod Legal
 pub mod Steps
 pub mod Ends
+pub mod Reviewed
+pub mod Reviewing
 pub mod Laws

@@ -31,9 +31,17 @@ is_wait (a ∷ b ∷ c ∷ []) = false
 is_wait (a ∷ b ∷ c ∷ d ∷ []) = false
 is_wait (a ∷ b ∷ c ∷ d ∷ e ∷ rest) = bytes_eq (a ∷ b ∷ c ∷ d ∷ e ∷ []) (codes "wait ")
 
--- a step, or nothing: what an event comes to that is no call
+-- a call that came to this has no reply yet: it waits, or a finish of it met its limit of steps
+abbrev pub is_unanswered : List ℕ → Bool
+is_unanswered text = is_wait text || bytes_eq text (codes "stuck")
+
+-- one step was made, which answered no call
 abbrev pub is_step : List ℕ → Bool
-is_step text = bytes_eq text (codes "step") || bytes_eq text (codes "idle")
+is_step text = bytes_eq text (codes "step")
+
+-- nothing was done
+abbrev pub is_nothing : List ℕ → Bool
+is_nothing text = bytes_eq text (codes "idle") || bytes_eq text (codes "full")
 
 -- ---- how it is read
 

@@ -1,19 +1,20 @@
 -- What the parts of an audit come to.
-use Rattle.std.specs.Prelude.{◌≡◌, ℕ, suc, ◌≤◌, ⊤, Bool, true, false, List, [], ◌∷◌, ◌++◌, length, map, Option, None, Some, Result, Ok, Err}
+use Rattle.std.specs.Prelude.{◌≡◌, ℕ, suc, ◌+◌, ◌≤◌, Bool, true, false, List, [], ◌∷◌, ◌++◌, length, map, Option, None, Some, Result, Ok, Err}
 use Rattle.std.specs.Prelude.{if◌then◌else◌}
 use Rattle.slot_lock.specs.declared.slot_map.SlotMap.{Ghosts as MapGhosts}
 use Rattle.slot_lock.specs.declared.slot_map.SlotRead.{Ghosts as ReadGhosts}
 use Rattle.backing.specs.declared.file_spec.FileSpec.{FileSpec}
 use Rattle.vm_base.specs.Answers.{Answers}
+use Rattle.vm_base.specs.declared.replies.Reply.{Reply}
 use Rattle.vm_base.specs.Plain.{File, Plain, file_with}
-use Rattle.audit.specs.Judging.{AreReplies, IsGiven}
-use Rattle.audit.specs.Placing.{rule_of}
+use Rattle.audit_text.specs.Allowed.{Allows, IsAllowed}
 use Rattle.audit_text.specs.Grammar.{Tells}
-use Rattle.audit_text.specs.Heard.{Declared, Heard, Stage, Front, behind, call_told, heard_after, nothing, one_passed, stage_after}
+use Rattle.audit_text.specs.Heard.{Declared, Heard, Stage, Front, behind, call_told, heard_after, is_certain, nothing, one_passed, stage_after, with_answer}
 use Rattle.audit_text.specs.Legal.{Follows, IsLegal, IsPlace, IsWrong, declared_in, heard_in, page_asked, told_at}
 use Rattle.audit_text.specs.Around.{IsAround}
 use Rattle.slot_lock.specs.declared.map_list.MapLine.{MapLine}
 use Rattle.vm_base.specs.declared.info.Meta.{Meta}
+use Rattle.audit_text.specs.declared.allowing.Terms.{Terms}
 use Rattle.audit_text.specs.declared.declaring.Declaration.{Declaration}
 use Rattle.audit_text.specs.declared.declaring.Declares.{Declares}
 use Rattle.audit_text.specs.declared.declaring.Declares.TheVariants as Is
@@ -49,44 +50,63 @@ Adds d said Is.Ended e = (e ≡ d) × HasEnded d said
 -- ---- a line that is heard
 
 abbrev pub heard_of : {M A : Type 0} {map : MapGhosts M} {read : ReadGhosts M} → Hearing M A map read → Heard
-heard_of it = record { waiting = it.waiting.items; calls = it.calls.items; passed = it.passed }
+heard_of it = record {
+  waiting = it.waiting.items;
+  pending = it.pending;
+  calls = it.calls.items;
+  lacking = it.lacking;
+  passed = it.passed;
+  is_sure = it.is_sure;
+}
+
+-- by what replies are judged
+abbrev pub terms_of : {M A : Type 0} {map : MapGhosts M} {read : ReadGhosts M} → Hearing M A map read → Terms
+terms_of it = record { any_place = it.auditor.any_place; is_strict = it.is_strict }
+
+-- how much was counted of the lines
+abbrev pub count_of : {M A : Type 0} {map : MapGhosts M} {read : ReadGhosts M} → Hearing M A map read → ℕ
+count_of it = it.judged + it.passed + it.pending
 
 -- each core has a place, and the calls are counted
 pub record IsCounted {M A : Type 0} {map : MapGhosts M} {read : ReadGhosts M} (it : Hearing M A map read) : Type 0 where
   pub places : length it.waiting.items ≡ 64
   pub judged : it.judged ≡ length it.calls.items
+  pub lacking : it.lacking ≤ it.judged
 
--- no plain page map gives this reply
-abbrev pub IsRefused : Bool → Plain → Turn → Type 0
-IsRefused any t (Illegal call due) = ((v : Plain) → ¬ Answers (rule_of any) t call.core call.request call.reply v)
+-- this reply may not be there
+abbrev pub IsRefused : Terms → Plain → Call → Reply → Type 0
+IsRefused terms t call due = ((v : Plain) → ¬ Allows terms t call.core call.request call.reply v)
     × ((v : Plain) × Answers IsFirstPlace t call.core call.request due v)
-IsRefused any t _ = ⊤
 
-abbrev pub Hears : Bool → Heard → Plain → Said → Turn → Heard → Plain → Type 0
-Hears any h t said Legal k u = (heard_after h said ≡ Some k)
-    × ((first : Plain) → AreReplies (rule_of any) first h.calls t → AreReplies (rule_of any) first k.calls u)
-Hears any h t said Bad k u = heard_after h said ≡ None
-Hears any h t said (Illegal call due) k u = (call_told h said ≡ Some call) × (u ≡ t) × IsRefused any t (Illegal call due)
+-- the call that a line tells, if it tells one, may have its reply, which leaves u
+abbrev pub Moves : Terms → Plain → Option Call → Plain → Type 0
+Moves terms t None u = u ≡ t
+Moves terms t (Some call) u = Allows terms t call.core call.request call.reply u
+
+abbrev pub Hears : Terms → Heard → Plain → Said → Turn → Heard → Plain → Type 0
+Hears terms h t said Legal k u = (heard_after h said ≡ Some k) × Moves terms t (call_told h said) u
+Hears terms h t said Bad k u = heard_after h said ≡ None
+Hears terms h t said (Illegal call due certain) k u = (call_told h said ≡ Some call) × (u ≡ t) × (certain ≡ is_certain h said)
+    × IsRefused terms t call due × (heard_after h said ≡ Some (with_answer k certain call))
 
 -- the same of one call, whoever tells it
-abbrev pub with_answer : Heard → Call → Heard
-with_answer h call = record h { calls = h.calls ++ call ∷ [] }
+abbrev pub JudgesCall : Terms → Heard → Plain → Bool → Call → Turn → Heard → Plain → Type 0
+JudgesCall terms h t certain call Legal k u =
+    (k ≡ with_answer h certain call) × Allows terms t call.core call.request call.reply u
+JudgesCall terms h t certain call Bad k u = ⊥
+JudgesCall terms h t certain call (Illegal c due sure) k u =
+    (c ≡ call) × (u ≡ t) × (sure ≡ certain) × IsRefused terms t c due × (k ≡ h)
 
-abbrev pub JudgesCall : Bool → Heard → Plain → Call → Turn → Heard → Plain → Type 0
-JudgesCall any h t call Legal k u = (k ≡ with_answer h call) × Answers (rule_of any) t call.core call.request call.reply u
-JudgesCall any h t call Bad k u = ⊥
-JudgesCall any h t call (Illegal c due) k u = (c ≡ call) × (u ≡ t) × IsRefused any t (Illegal c due)
-
--- Memory may be wanted for what the line says: it tells a call whose reply is a plain page map's.
-abbrev pub MayWant : Bool → Heard → Plain → Said → Type 0
-MayWant any h t said =
-    (call : Call) × (call_told h said ≡ Some call) × IsGiven (rule_of any) t call.core call.request call.reply
+-- Memory may be wanted for what the line says: it tells a call whose reply may be there.
+abbrev pub MayWant : Terms → Heard → Plain → Said → Type 0
+MayWant terms h t said =
+    (call : Call) × (call_told h said ≡ Some call) × IsAllowed terms t call.core call.request call.reply
 
 -- a line is passed over, if it may be
 abbrev pub Passes : Bool → Heard → Turn → Heard → Type 0
 Passes may h Legal k = (may ≡ true) × (k ≡ one_passed h)
 Passes may h Bad k = (may ≡ false) × (k ≡ h)
-Passes may h (Illegal c due) k = ⊥
+Passes may h (Illegal c due certain) k = ⊥
 
 -- ---- a place in a text
 
@@ -105,7 +125,7 @@ EndsFront lines d None number more = IsPlace lines number [] (Front d)
 EndsFront lines d (Some said) number more = IsAtLine lines number said more (Front d) × HasEnded d said
 
 -- at this line the calls of d's space begin or go on, and the replies before it are legal
-pub record IsCall (any : Bool) (lines : List (List ℕ)) (d : Declared) (h : Heard) (t : Plain) (said : Said) (number : ℕ)
+pub record IsCall (terms : Terms) (lines : List (List ℕ)) (d : Declared) (h : Heard) (t : Plain) (said : Said) (number : ℕ)
     (more : List (List ℕ)) : Type 0 where
   pub stage : Stage
   pub at : IsAtLine lines number said more stage
@@ -114,34 +134,37 @@ pub record IsCall (any : Bool) (lines : List (List ℕ)) (d : Declared) (h : Hea
   pub told : told_at stage said ≡ call_told h said
   pub declared : declared_in stage ≡ d
   pub heard : heard_in stage ≡ h
-  pub follows : Follows any stage t
+  pub follows : Follows terms stage t
 
 -- what the line with this number comes to
-abbrev pub TurnsOut : Bool → Heard → Plain → Said → ℕ → Result (Option Verdict) AuditFault → Heard → Plain → Type 0
-TurnsOut any h t said line (Ok None) k u = Hears any h t said Legal k u
-TurnsOut any h t said line (Ok (Some (Of.Legal calls passed))) k u = ⊥
-TurnsOut any h t said line (Ok (Some (Of.Illegal n call due))) k u = (n ≡ line) × Hears any h t said (Illegal call due) k u
-TurnsOut any h t said line (Err (BadLine n)) k u = (n ≡ line) × (heard_after h said ≡ None)
-TurnsOut any h t said line (Err (Io NoMemory)) k u = MayWant any h t said
-TurnsOut any h t said line (Err _) k u = ⊥
+abbrev pub TurnsOut : Terms → Heard → Plain → Said → ℕ → Result (Option Verdict) AuditFault → Heard → Plain → Type 0
+TurnsOut terms h t said line (Ok None) k u = Hears terms h t said Legal k u
+TurnsOut terms h t said line (Ok (Some (Of.Legal calls lacking passed))) k u = ⊥
+TurnsOut terms h t said line (Ok (Some (Of.Illegal n call due))) k u = (n ≡ line) × Hears terms h t said (Illegal call due true) k u
+TurnsOut terms h t said line (Ok (Some (Of.Undecided n call due))) k u = (n ≡ line) × Hears terms h t said (Illegal call due false) k u
+TurnsOut terms h t said line (Err (BadLine n)) k u = (n ≡ line) × (heard_after h said ≡ None)
+TurnsOut terms h t said line (Err (Io NoMemory)) k u = MayWant terms h t said
+TurnsOut terms h t said line (Err _) k u = ⊥
 
 -- memory may be wanted for a line behind legal ones
-pub record IsWanting (any : Bool) (lines : List (List ℕ)) : Type 0 where
+pub record IsWanting (terms : Terms) (lines : List (List ℕ)) : Type 0 where
   pub stage : Stage
   pub number : ℕ
   pub said : Said
   pub more : List (List ℕ)
   pub plain : Plain
   pub at : IsAtLine lines number said more stage
-  pub follows : Follows any stage plain
-  pub may : MayWant any (heard_in stage) plain said
+  pub follows : Follows terms stage plain
+  pub may : MayWant terms (heard_in stage) plain said
 
 -- the verdict, without the mappings around
-abbrev pub IsFound : Bool → List (List ℕ) → Verdict → Plain → Type 0
-IsFound any lines (Of.Legal calls passed) u = IsLegal any lines calls passed
-IsFound any lines (Of.Illegal line call due) u = IsWrong any lines line call due u
+abbrev pub IsFound : Terms → List (List ℕ) → Verdict → Plain → Type 0
+IsFound terms lines (Of.Legal calls lacking passed) u = IsLegal terms lines calls lacking passed
+IsFound terms lines (Of.Illegal line call due) u = IsWrong terms lines line call due true u
+IsFound terms lines (Of.Undecided line call due) u = IsWrong terms lines line call due false u
 
 -- the mappings around the verdict's request, if it has one
 abbrev pub ShowsAround : (ℕ → Option Meta) → Verdict → List MapLine → Type 0
-ShowsAround meta (Of.Legal calls passed) around = around ≡ []
+ShowsAround meta (Of.Legal calls lacking passed) around = around ≡ []
 ShowsAround meta (Of.Illegal line call due) around = IsAround meta (page_asked call.request) around
+ShowsAround meta (Of.Undecided line call due) around = IsAround meta (page_asked call.request) around

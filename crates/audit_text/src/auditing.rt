@@ -1,15 +1,18 @@
 //! A text is read whole, its replies are judged, and the verdict is written.
-ghost use Rattle.std.specs.Prelude.{◌≡◌, ◌⊎◌, ◌+◌, ◌<◌, ◌≤◌, ◌^◌, [], Bool, Err, IfErr, IfOk, OnOk, List, ℕ, Some, length, true};
+ghost use Rattle.std.specs.Prelude.{◌≡◌, ◌⊎◌, ◌+◌, ◌<◌, ◌≤◌, ◌^◌, [], Err, IfErr, IfOk, OnOk, List, ℕ, Some, length, true};
 ghost use Rattle.trace_io.specs.Lines.{lines_of};
 ghost use Rattle.trace_io.specs.Io.{read_from, written_to};
 ghost use Rattle.trace_io.specs.Source.{Reads};
 ghost use Rattle.slot_lock.specs.Slots.{IsNew};
 ghost use Rattle.slot_lock.specs.MapWalks.{slot_metas};
 ghost use Rattle.audit_text.specs.Ends.{AuditEnds, IsAtFault, IsVerdict, TellsAudit};
-ghost use Rattle.audit_text.specs.Legal.{IsPlace, LacksSpace};
+ghost use Rattle.audit_text.specs.Around.{IsAround};
+ghost use Rattle.audit_text.specs.Legal.{IsPlace, LacksSpace, page_asked};
+ghost use Rattle.audit_text.specs.declared.allowing.Terms.{Terms};
 ghost use Rattle.audit_text.specs.Heard.{Front};
 ghost use Rattle.audit_text.specs.Steps.{EndsFront, IsFound, ShowsAround, declared_of};
 
+use crate::allowing::Terms;
 use crate::around::{mappings_around, page_asked};
 use crate::declaring::{Declaration, declare};
 use crate::hearing::Hearing;
@@ -17,6 +20,7 @@ use crate::input::AuditFault;
 use crate::judging::{Verdict, hear_lines};
 use crate::reading::Said;
 use crate::telling::verdict_text;
+use audit::Call;
 use slot_lock::{MapLine, SlotMap};
 use std::alloc::Allocator;
 use trace_io::IoFault;
@@ -30,6 +34,21 @@ pub struct Judged<A: Allocator> {
     pub around: Vec<MapLine, A>,
 }
 
+// The mappings around a call's request.
+fn around_call<M: SlotMap, A: Allocator>(
+    alloc: A,
+    map: &M,
+    call: &Call,
+) -> Result<Vec<MapLine, A>, AuditFault>
+    ensures ok { IfOk result (λ around. IsAround (slot_metas (M.slots map.now)) (page_asked call.now.request) around.items) }
+    ensures err { IfErr result (λ f. f ≡ AuditFault.Io IoFault.NoMemory) }
+{
+    match mappings_around(map, alloc, page_asked(call.request)) {
+        Ok(around) => Ok(around),
+        Err(_) => Err(AuditFault::Io(IoFault::NoMemory)),
+    }
+}
+
 // The mappings around the verdict's request, if it has one.
 fn around_verdict<M: SlotMap, A: Allocator>(
     alloc: A,
@@ -39,12 +58,10 @@ fn around_verdict<M: SlotMap, A: Allocator>(
     ensures ok { IfOk result (λ around. ShowsAround (slot_metas (M.slots map.now)) verdict.now around.items) }
     ensures err { IfErr result (λ f. f ≡ AuditFault.Io IoFault.NoMemory) }
 {
-    let Verdict::Illegal { call, .. } = verdict else {
-        return Ok(Vec::new(alloc));
-    };
-    match mappings_around(map, alloc, page_asked(call.request)) {
-        Ok(around) => Ok(around),
-        Err(_) => Err(AuditFault::Io(IoFault::NoMemory)),
+    match verdict {
+        Verdict::Legal { .. } => Ok(Vec::new(alloc)),
+        Verdict::Illegal { call, .. } => around_call(alloc, map, call),
+        Verdict::Undecided { call, .. } => around_call(alloc, map, call),
     }
 }
 
@@ -56,15 +73,15 @@ fn judge_calls<M: SlotMap + Drop, A: Allocator + Clone + Drop>(
     first: Said,
     number: u64,
     rest: &[u8],
-    any_place: bool,
+    terms: Terms,
 ) -> Result<Judged<A>, AuditFault>
     requires new { IsNew (M.slots map) }
     requires few { length declaration.files.items ≤ 16 }
     requires room { number + length rest.now < 2 ^ 64 }
     ensures ok { IfOk result (λ j. (lines : List (List ℕ)) → EndsFront lines (declared_of declaration) (Some first) number (lines_of rest.now)
-        → IsVerdict any_place lines j.verdict j.around.items) }
+        → IsVerdict terms lines j.verdict j.around.items) }
     ensures err { IfErr result (λ f. (lines : List (List ℕ)) → EndsFront lines (declared_of declaration) (Some first) number (lines_of rest.now)
-        → IsAtFault any_place lines f) }
+        → IsAtFault terms lines f) }
 {
     if !declaration.has_space {
         return Err(AuditFault::NoVmLine);
@@ -76,7 +93,7 @@ fn judge_calls<M: SlotMap + Drop, A: Allocator + Clone + Drop>(
     let Ok(for_around) = alloc.clone() else {
         return Err(AuditFault::Io(IoFault::NoMemory));
     };
-    let Ok(mut hearing) = Hearing::new(alloc, map, declaration.files, any_place) else {
+    let Ok(mut hearing) = Hearing::new(alloc, map, declaration.files, terms) else {
         return Err(AuditFault::Io(IoFault::NoMemory));
     };
     let verdict = hear_lines(&mut hearing, first, number, rest)?;
@@ -86,10 +103,10 @@ fn judge_calls<M: SlotMap + Drop, A: Allocator + Clone + Drop>(
 
 // The verdict on a text without calls.
 fn judge_none<A: Allocator>(alloc: A, declaration: Declaration<A>) -> Result<Judged<A>, AuditFault>
-    ensures ok { IfOk result (λ j. (any : Bool) (lines : List (List ℕ)) (number : ℕ) → IsPlace lines number [] (Front (declared_of declaration))
-        → IsVerdict any lines j.verdict j.around.items) }
-    ensures err { IfErr result (λ f. (any : Bool) (lines : List (List ℕ)) (number : ℕ) → IsPlace lines number [] (Front (declared_of declaration))
-        → IsAtFault any lines f) }
+    ensures ok { IfOk result (λ j. (terms : Terms) (lines : List (List ℕ)) (number : ℕ) → IsPlace lines number [] (Front (declared_of declaration))
+        → IsVerdict terms lines j.verdict j.around.items) }
+    ensures err { IfErr result (λ f. (terms : Terms) (lines : List (List ℕ)) (number : ℕ) → IsPlace lines number [] (Front (declared_of declaration))
+        → IsAtFault terms lines f) }
 {
     if !declaration.has_space {
         return Err(AuditFault::NoVmLine);
@@ -97,6 +114,7 @@ fn judge_none<A: Allocator>(alloc: A, declaration: Declaration<A>) -> Result<Jud
     Ok(Judged {
         verdict: Verdict::Legal {
             calls: 0,
+            lacking: 0,
             passed: 0,
         },
         around: Vec::new(alloc),
@@ -111,18 +129,18 @@ fn judge_behind<M: SlotMap + Drop, A: Allocator + Clone + Drop>(
     first: Option<Said>,
     number: u64,
     rest: &[u8],
-    any_place: bool,
+    terms: Terms,
 ) -> Result<Judged<A>, AuditFault>
     requires new { IsNew (M.slots map) }
     requires few { length declaration.files.items ≤ 16 }
     requires room { number + length rest.now < 2 ^ 64 }
     ensures ok { IfOk result (λ j. (lines : List (List ℕ)) → EndsFront lines (declared_of declaration) first number
-        (lines_of rest.now) → IsVerdict any_place lines j.verdict j.around.items) }
+        (lines_of rest.now) → IsVerdict terms lines j.verdict j.around.items) }
     ensures err { IfErr result (λ f. (lines : List (List ℕ)) → EndsFront lines (declared_of declaration) first number
-        (lines_of rest.now) → IsAtFault any_place lines f) }
+        (lines_of rest.now) → IsAtFault terms lines f) }
 {
     match first {
-        Some(said) => judge_calls(alloc, map, declaration, said, number, rest, any_place),
+        Some(said) => judge_calls(alloc, map, declaration, said, number, rest, terms),
         None => judge_none(alloc, declaration),
     }
 }
@@ -132,11 +150,11 @@ pub fn judge_text<M: SlotMap + Drop, A: Allocator + Clone + Drop>(
     alloc: A,
     map: M,
     text: &[u8],
-    any_place: bool,
+    terms: Terms,
 ) -> Result<Judged<A>, AuditFault>
     requires new { IsNew (M.slots map) }
-    ensures ok { IfOk result (λ j. IsVerdict any_place (lines_of text.now) j.verdict j.around.items) }
-    ensures err { IfErr result (λ f. IsAtFault any_place (lines_of text.now) f) }
+    ensures ok { IfOk result (λ j. IsVerdict terms (lines_of text.now) j.verdict j.around.items) }
+    ensures err { IfErr result (λ f. IsAtFault terms (lines_of text.now) f) }
 {
     let Ok(for_files) = alloc.clone() else {
         return Err(AuditFault::Io(IoFault::NoMemory));
@@ -152,7 +170,7 @@ pub fn judge_text<M: SlotMap + Drop, A: Allocator + Clone + Drop>(
             behind.said,
             behind.number,
             behind.rest,
-            any_place,
+            terms,
         ),
         Err(fault) => Err(fault),
     }
@@ -165,10 +183,10 @@ fn judge_out<M: SlotMap + Drop, A: Allocator + Clone + Drop, W: Sink>(
     map: M,
     text: &[u8],
     writer: &mut W,
-    any_place: bool,
+    terms: Terms,
 ) -> Result<Verdict, AuditFault>
     requires new { IsNew (M.slots map) }
-    ensures ends { AuditEnds any_place text.now (W.contents writer.old) (W.contents writer.new) result }
+    ensures ends { AuditEnds terms text.now (W.contents writer.old) (W.contents writer.new) result }
     ensures out { OnOk result (W.is_flushed writer.new ≡ true) }
     ensures read { result ≡ Err (AuditFault.Io IoFault.ReadFailed) → ⊥ }
     ensures write { result ≡ Err (AuditFault.Io IoFault.WriteFailed) → W.failed writer.new ≡ true }
@@ -177,7 +195,7 @@ fn judge_out<M: SlotMap + Drop, A: Allocator + Clone + Drop, W: Sink>(
     let Ok(for_judging) = alloc.clone() else {
         return Err(AuditFault::Io(IoFault::NoMemory));
     };
-    let judged = match judge_text(for_judging, map, text, any_place) {
+    let judged = match judge_text(for_judging, map, text, terms) {
         Ok(judged) => judged,
         Err(fault) => return Err(fault),
     };
@@ -190,19 +208,19 @@ fn judge_out<M: SlotMap + Drop, A: Allocator + Clone + Drop, W: Sink>(
     }
 }
 
-/// Reads a text to its end, and writes whether its replies, one after another, are those of the plain page map that
-/// begins with nothing mapped: `legal CALLS`, or the first that isn't, what would be due, and the mappings around it.
-/// A mapping without `MAP_FIXED` may be at any free run of valid pages if `any_place` says so. The map has nothing mapped.
+/// Reads a text to its end, and writes whether its replies, one after another, may be by these terms, beside the plain page map that
+/// begins with nothing mapped: `legal CALLS`, or the first that isn't, what would be due, and the mappings around it. Where calls
+/// overlapped before it, so that another order may be behind the replies, it is undecided. The map has nothing mapped.
 pub fn audit_text<M: SlotMap + Drop, A: Allocator + Clone + Drop, S: Source, W: Sink>(
     alloc: A,
     map: M,
     reader: &mut S,
     writer: &mut W,
-    any_place: bool,
+    terms: Terms,
 ) -> Result<Verdict, AuditFault>
     requires new { IsNew (M.slots map) }
     ensures ends { Reads (S.stream reader.old) (S.stream reader.new) (λ input unread.
-        AuditEnds any_place input (W.contents writer.old) (W.contents writer.new) result) }
+        AuditEnds terms input (W.contents writer.old) (W.contents writer.new) result) }
     ensures told { TellsAudit result (read_from S.Source reader.old reader.new)
         (written_to W.Sink writer.old writer.new) }
 {
@@ -210,7 +228,7 @@ pub fn audit_text<M: SlotMap + Drop, A: Allocator + Clone + Drop, S: Source, W: 
         return Err(AuditFault::Io(IoFault::NoMemory));
     };
     match read_all(for_text, reader) {
-        Ok(text) => judge_out(alloc, map, text.as_slice(), writer, any_place),
+        Ok(text) => judge_out(alloc, map, text.as_slice(), writer, terms),
         Err(fault) => Err(AuditFault::Io(fault)),
     }
 }

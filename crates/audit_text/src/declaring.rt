@@ -1,9 +1,10 @@
 //! What the lines in front of the calls declare.
-ghost use Rattle.std.specs.Prelude.{◌≡◌, ◌+◌, ◌≤◌, Bool, IfErr, IfOk, OnOk, length};
+ghost use Rattle.std.specs.Prelude.{◌≡◌, ◌+◌, ◌≤◌, IfErr, IfOk, OnOk, length};
 ghost use Rattle.trace_io.specs.Lines.{lines_of};
 ghost use Rattle.audit_text.specs.Ends.{IsAtFault};
 ghost use Rattle.audit_text.specs.Heard.{undeclared};
 ghost use Rattle.audit_text.specs.Steps.{EndsFront, declared_of};
+ghost use Rattle.audit_text.specs.declared.allowing.Terms.{Terms};
 
 use crate::input::{AuditFault, said_at};
 use crate::reading::Said;
@@ -140,7 +141,7 @@ pub(crate) fn declare<'a, A: Allocator + Clone>(
     ensures ok { IfOk result (λ b. EndsFront (lines_of text.now) (declared_of declaration.new) b.said b.number (lines_of b.rest.now)) }
     ensures room { IfOk result (λ b. b.number + length b.rest.now ≤ length text.now) }
     ensures few { OnOk result (length declaration.new.files.items ≤ 16) }
-    ensures err { IfErr result (λ f. (any : Bool) → IsAtFault any (lines_of text.now) f) }
+    ensures err { IfErr result (λ f. (terms : Terms) → IsAtFault terms (lines_of text.now) f) }
 {
     // this says that lines are fewer than 2^64
     let _most = text.len();

@@ -1,6 +1,7 @@
 //! The calls of a text, judged one after another, and those that wait.
 ghost use Rattle.std.specs.Prelude.{◌≡◌, None, IfOk, replicate};
 
+use crate::allowing::{Terms, is_lacking, is_let, may_copy};
 use crate::reading::Said;
 use audit::{Auditor, Call, Verdict};
 use backing::FileSpec;
@@ -19,8 +20,9 @@ pub enum Turn {
     Legal,
     /// It may not stand here.
     Bad,
-    /// No plain page map gives its call this reply. The first one would give this.
-    Illegal(Call, Reply),
+    /// Its call may not have this reply. The first plain page map would give this, and whether no other order of the calls, and no
+    /// other map, can be behind the replies so far.
+    Illegal(Call, Reply, bool),
 }
 
 /// What was heard so far.
@@ -28,12 +30,20 @@ pub enum Turn {
 pub struct Hearing<M: SlotMap, A: Allocator> {
     /// The plain page map that the calls led to.
     pub auditor: Auditor<M, A>,
+    /// Whether no call may find that there is no frame or no memory.
+    pub is_strict: bool,
     /// What the call of each core asks for that waits.
     pub waiting: Vec<Option<Request>, A>,
+    /// How many wait.
+    pub pending: u64,
     /// The calls that were judged, all of them legal.
     pub calls: GhostList<Call>,
     /// How many these are.
     pub judged: u64,
+    /// How many of them found no frame or no memory.
+    pub lacking: u64,
+    /// Whether no other order of them, and no other map, can be behind their replies.
+    pub is_sure: bool,
     /// How many lines were passed over.
     pub passed: u64,
 }
@@ -56,64 +66,104 @@ impl<M: SlotMap + Drop, A: Allocator + Clone + Drop> Hearing<M, A> {
     ghost use Rattle.backing.specs.Given.{given_files};
     ghost use Rattle.audit.specs.Auditor.{plain_of};
     ghost use Rattle.audit_text.specs.Heard.{nothing};
-    ghost use Rattle.audit_text.specs.Steps.{IsCounted, heard_of};
+    ghost use Rattle.audit_text.specs.Steps.{IsCounted, count_of, heard_of, terms_of};
 
     /// Nothing was heard yet, of a space with these files, which has nothing mapped.
     pub fn new(
         alloc: A,
         map: M,
         files: Vec<FileSpec<A>, A>,
-        any_place: bool,
+        terms: Terms,
     ) -> Result<Hearing<M, A>, NoMemory>
         requires new { IsNew (M.slots map) }
         requires files { length files.items ≤ 16 }
         ensures heard { IfOk result (λ it. heard_of it ≡ nothing) }
         ensures plain { IfOk result (λ it. plain_of it.auditor ≡ nothing_mapped (given_files files.items)) }
-        ensures any_place { IfOk result (λ it. it.auditor.any_place ≡ any_place) }
+        ensures terms { IfOk result (λ it. terms_of it ≡ terms) }
         ensures counted { IfOk result (λ it. IsCounted it) }
-        ensures few { IfOk result (λ it. it.judged + it.passed ≤ 0) }
+        ensures few { IfOk result (λ it. count_of it ≤ 0) }
     {
         let waiting = none_waits(alloc.clone()?)?;
-        let auditor = Auditor::new(alloc, map, files, any_place)?;
+        let auditor = Auditor::new(alloc, map, files, terms.any_place)?;
         Ok(Hearing {
             auditor,
+            is_strict: terms.is_strict,
             waiting,
+            pending: 0,
             calls: GhostList::new(),
             judged: 0,
+            lacking: 0,
+            is_sure: true,
             passed: 0,
         })
     }
 }
 
 impl<M: SlotMap + Drop, A: Allocator + Drop> Hearing<M, A> {
-    ghost use Rattle.std.specs.Prelude.{◌≡◌, ◌+◌, ◌≤◌, ◌<◌, ◌^◌, IfOk, OnErr, OnOk};
+    ghost use Rattle.std.specs.Prelude.{◌≡◌, ◌+◌, ◌≤◌, ◌<◌, ◌^◌, ◌&&◌, nat_le, Bool, IfOk, Ok, OnErr, OnOk};
+    ghost use Rattle.vm_base.specs.declared.replies.Reply.{Reply};
+    ghost use Rattle.audit.specs.declared.auditor.Call.{Call};
     ghost use Rattle.audit.specs.Auditor.{plain_of};
     ghost use Rattle.audit.specs.Judging.{IsGiven};
     ghost use Rattle.audit.specs.Placing.{rule_of};
-    ghost use Rattle.audit_text.specs.Heard.{waits};
-    ghost use Rattle.audit_text.specs.Steps.{Hears, IsCounted, JudgesCall, MayWant, Passes, heard_of};
+    ghost use Rattle.audit_text.specs.Heard.{waits, with_answer};
+    ghost use Rattle.audit_text.specs.Steps.{Hears, IsCounted, JudgesCall, MayWant, Passes, count_of, heard_of, terms_of};
     ghost use Rattle.audit_text.specs.declared.reading.Said.TheVariants as Of;
 
-    // Judges a call.
+    // Tells whether no other order of the calls, and no other map, can be behind the replies so far and the next one's, as which at most so
+    // many calls wait.
+    fn is_certain(&self, most: u64) -> bool
+        ensures { result ≡ (self.now.is_sure && nat_le self.now.pending most) }
+    {
+        self.is_sure && self.pending <= most
+    }
+
+    // A call has this reply, which may be there.
     #[inline(always)]
-    fn judge(&mut self, call: Call) -> Result<Turn, NoMemory>
+    pub(crate) fn note(&mut self, certain: bool, call: Call)
         requires counted { IsCounted self.old }
-        requires room { self.old.judged + self.old.passed + 1 < 2 ^ 64 }
-        ensures judged { IfOk result (λ turn. JudgesCall self.old.auditor.any_place (heard_of self.old) (plain_of self.old.auditor) call
+        requires room { count_of self.old + 1 < 2 ^ 64 }
+        ensures heard { heard_of self.new ≡ with_answer (heard_of self.old) certain call }
+        ensures same { self.new.auditor ≡ self.old.auditor }
+        ensures strict { self.new.is_strict ≡ self.old.is_strict }
+        ensures counted { IsCounted self.new }
+        ensures few { count_of self.new ≤ count_of self.old + 1 }
+    {
+        if is_lacking(call.reply) {
+            self.lacking += 1;
+        }
+        self.is_sure = certain && !may_copy(call.request, call.reply);
+        self.calls = self.calls.and(&call);
+        self.judged += 1;
+    }
+
+    // Judges a call, at whose line this is certain.
+    #[inline(always)]
+    fn judge(&mut self, certain: bool, call: Call) -> Result<Turn, NoMemory>
+        requires counted { IsCounted self.old }
+        requires room { count_of self.old + 1 < 2 ^ 64 }
+        ensures judged { IfOk result (λ turn. JudgesCall (terms_of self.old) (heard_of self.old) (plain_of self.old.auditor) certain call
             turn (heard_of self.new) (plain_of self.new.auditor)) }
         ensures legal { OnErr result (IsGiven (rule_of self.old.auditor.any_place) (plain_of self.old.auditor) call.core call.request
             call.reply) }
-        ensures any_place { self.new.auditor.any_place ≡ self.old.auditor.any_place }
+        ensures terms { terms_of self.new ≡ terms_of self.old }
         ensures counted { OnOk result (IsCounted self.new) }
-        ensures few { OnOk result (self.new.judged + self.new.passed ≤ self.old.judged + self.old.passed + 1) }
+        ensures few { OnOk result (count_of self.new ≤ count_of self.old + 1) }
+        ensures still { (call : Call) (due : Reply) (certain : Bool) → result ≡ Ok (Turn.Illegal call due certain)
+            → count_of self.new ≤ count_of self.old }
     {
         match self.auditor.judge(call.core, call.request, call.reply)? {
             Verdict::Legal => {
-                self.calls = self.calls.and(&call);
-                self.judged += 1;
+                self.note(certain, call);
                 Ok(Turn::Legal)
             }
-            Verdict::Illegal(due) => Ok(Turn::Illegal(call, due)),
+            Verdict::Illegal(due) => {
+                if is_let(self.is_strict, call.request, due, call.reply) {
+                    self.note(certain, call);
+                    return Ok(Turn::Legal);
+                }
+                Ok(Turn::Illegal(call, due, certain))
+            }
         }
     }
 
@@ -127,37 +177,42 @@ impl<M: SlotMap + Drop, A: Allocator + Drop> Hearing<M, A> {
 
     // Judges a call of a core none of whose calls waits.
     #[tactic(auto, using(crate::proofs::HeardLemmas::answered_hears, crate::proofs::HeardLemmas::answered_bad, crate::proofs::HeardLemmas::answered_wants))]
+    #[inline(always)]
     fn answer(&mut self, call: Call) -> Result<Turn, NoMemory>
         requires counted { IsCounted self.old }
-        requires room { self.old.judged + self.old.passed + 1 < 2 ^ 64 }
-        ensures hears { IfOk result (λ turn. Hears self.old.auditor.any_place (heard_of self.old) (plain_of self.old.auditor) (Of.Answered call)
+        requires room { count_of self.old + 1 < 2 ^ 64 }
+        ensures hears { IfOk result (λ turn. Hears (terms_of self.old) (heard_of self.old) (plain_of self.old.auditor) (Of.Answered call)
             turn (heard_of self.new) (plain_of self.new.auditor)) }
-        ensures want { OnErr result (MayWant self.old.auditor.any_place (heard_of self.old) (plain_of self.old.auditor) (Of.Answered call)) }
-        ensures any_place { self.new.auditor.any_place ≡ self.old.auditor.any_place }
+        ensures want { OnErr result (MayWant (terms_of self.old) (heard_of self.old) (plain_of self.old.auditor) (Of.Answered call)) }
+        ensures terms { terms_of self.new ≡ terms_of self.old }
         ensures counted { OnOk result (IsCounted self.new) }
-        ensures few { OnOk result (self.new.judged + self.new.passed ≤ self.old.judged + self.old.passed + 1) }
+        ensures few { OnOk result (count_of self.new ≤ count_of self.old + 1) }
+        ensures still { (call : Call) (due : Reply) (certain : Bool) → result ≡ Ok (Turn.Illegal call due certain)
+            → count_of self.new ≤ count_of self.old }
     {
         if self.waits(call.core).is_some() {
             return Ok(Turn::Bad);
         }
-        self.judge(call)
+        let certain = self.is_certain(0);
+        self.judge(certain, call)
     }
 
     // A call of a core begins to wait.
     #[tactic(auto, using(crate::proofs::HeardLemmas::waits_hears, crate::proofs::HeardLemmas::waits_bad))]
     fn wait(&mut self, core: CoreId, request: Request) -> Turn
         requires counted { IsCounted self.old }
-        requires room { self.old.judged + self.old.passed + 1 < 2 ^ 64 }
-        ensures hears { Hears self.old.auditor.any_place (heard_of self.old) (plain_of self.old.auditor) (Of.Waits core request)
+        requires room { count_of self.old + 1 < 2 ^ 64 }
+        ensures hears { Hears (terms_of self.old) (heard_of self.old) (plain_of self.old.auditor) (Of.Waits core request)
             result (heard_of self.new) (plain_of self.new.auditor) }
-        ensures any_place { self.new.auditor.any_place ≡ self.old.auditor.any_place }
+        ensures terms { terms_of self.new ≡ terms_of self.old }
         ensures counted { IsCounted self.new }
-        ensures few { self.new.judged + self.new.passed ≤ self.old.judged + self.old.passed + 1 }
+        ensures few { count_of self.new ≤ count_of self.old + 1 }
     {
         if self.waits(core).is_some() {
             return Turn::Bad;
         }
         self.waiting[core.index() as usize] = Some(request);
+        self.pending += 1;
         Turn::Legal
     }
 
@@ -165,33 +220,39 @@ impl<M: SlotMap + Drop, A: Allocator + Drop> Hearing<M, A> {
     #[tactic(auto, using(crate::proofs::HeardLemmas::ended_hears, crate::proofs::HeardLemmas::ended_bad, crate::proofs::HeardLemmas::ended_wants))]
     fn end(&mut self, core: CoreId, reply: Reply) -> Result<Turn, NoMemory>
         requires counted { IsCounted self.old }
-        requires room { self.old.judged + self.old.passed + 1 < 2 ^ 64 }
-        ensures hears { IfOk result (λ turn. Hears self.old.auditor.any_place (heard_of self.old) (plain_of self.old.auditor) (Of.Ends core reply)
+        requires room { count_of self.old + 1 < 2 ^ 64 }
+        ensures hears { IfOk result (λ turn. Hears (terms_of self.old) (heard_of self.old) (plain_of self.old.auditor) (Of.Ends core reply)
             turn (heard_of self.new) (plain_of self.new.auditor)) }
-        ensures want { OnErr result (MayWant self.old.auditor.any_place (heard_of self.old) (plain_of self.old.auditor) (Of.Ends core reply)) }
-        ensures any_place { self.new.auditor.any_place ≡ self.old.auditor.any_place }
+        ensures want { OnErr result (MayWant (terms_of self.old) (heard_of self.old) (plain_of self.old.auditor) (Of.Ends core reply)) }
+        ensures terms { terms_of self.new ≡ terms_of self.old }
         ensures counted { OnOk result (IsCounted self.new) }
-        ensures few { OnOk result (self.new.judged + self.new.passed ≤ self.old.judged + self.old.passed + 1) }
+        ensures few { OnOk result (count_of self.new ≤ count_of self.old + 1) }
+        ensures still { (call : Call) (due : Reply) (certain : Bool) → result ≡ Ok (Turn.Illegal call due certain)
+            → count_of self.new ≤ count_of self.old }
     {
         let Some(request) = self.waits(core) else {
             return Ok(Turn::Bad);
         };
+        let certain = self.is_certain(1);
         self.waiting[core.index() as usize] = None;
-        self.judge(Call {
+        self.pending = self.pending.saturating_sub(1);
+        let call = Call {
             core,
             request,
             reply,
-        })
+        };
+        self.judge(certain, call)
     }
 
     // A line is passed over, if it may stand here.
     fn pass(&mut self, may: bool) -> Turn
         requires counted { IsCounted self.old }
-        requires room { self.old.judged + self.old.passed + 1 < 2 ^ 64 }
+        requires room { count_of self.old + 1 < 2 ^ 64 }
         ensures passes { Passes may (heard_of self.old) result (heard_of self.new) }
         ensures same { self.new.auditor ≡ self.old.auditor }
+        ensures terms { terms_of self.new ≡ terms_of self.old }
         ensures counted { IsCounted self.new }
-        ensures few { self.new.judged + self.new.passed ≤ self.old.judged + self.old.passed + 1 }
+        ensures few { count_of self.new ≤ count_of self.old + 1 }
     {
         if !may {
             return Turn::Bad;
@@ -202,15 +263,18 @@ impl<M: SlotMap + Drop, A: Allocator + Drop> Hearing<M, A> {
 
     /// Hears what a line says. Memory is wanted only for a legal reply.
     #[tactic(auto, using(crate::proofs::HeardLemmas::still_hears, crate::proofs::HeardLemmas::passes_hears))]
+    #[inline(always)]
     pub(crate) fn hear(&mut self, said: Said) -> Result<Turn, NoMemory>
         requires counted { IsCounted self.old }
-        requires room { self.old.judged + self.old.passed + 1 < 2 ^ 64 }
-        ensures hears { IfOk result (λ turn. Hears self.old.auditor.any_place (heard_of self.old) (plain_of self.old.auditor) said
+        requires room { count_of self.old + 1 < 2 ^ 64 }
+        ensures hears { IfOk result (λ turn. Hears (terms_of self.old) (heard_of self.old) (plain_of self.old.auditor) said
             turn (heard_of self.new) (plain_of self.new.auditor)) }
-        ensures want { OnErr result (MayWant self.old.auditor.any_place (heard_of self.old) (plain_of self.old.auditor) said) }
-        ensures any_place { self.new.auditor.any_place ≡ self.old.auditor.any_place }
+        ensures want { OnErr result (MayWant (terms_of self.old) (heard_of self.old) (plain_of self.old.auditor) said) }
+        ensures terms { terms_of self.new ≡ terms_of self.old }
         ensures counted { OnOk result (IsCounted self.new) }
-        ensures few { OnOk result (self.new.judged + self.new.passed ≤ self.old.judged + self.old.passed + 1) }
+        ensures few { OnOk result (count_of self.new ≤ count_of self.old + 1) }
+        ensures still { (call : Call) (due : Reply) (certain : Bool) → result ≡ Ok (Turn.Illegal call due certain)
+            → count_of self.new ≤ count_of self.old }
     {
         match said {
             Said::Blank => Ok(Turn::Legal),

@@ -4,7 +4,7 @@ ghost use Rattle.trace_io.specs.Lines.{lines_of};
 ghost use Rattle.audit.specs.Auditor.{plain_of};
 ghost use Rattle.audit_text.specs.Ends.{IsAtFault};
 ghost use Rattle.audit_text.specs.Heard.{Declared};
-ghost use Rattle.audit_text.specs.Steps.{IsCall, IsCounted, IsFound, IsWanting, TurnsOut, heard_of};
+ghost use Rattle.audit_text.specs.Steps.{IsCall, IsCounted, IsFound, IsWanting, TurnsOut, count_of, heard_of, terms_of};
 
 use crate::hearing::{Hearing, Turn};
 use crate::input::{AuditFault, said_at};
@@ -23,11 +23,22 @@ pub enum Verdict {
     Legal {
         /// How many calls were judged.
         calls: u64,
+        /// How many of them found no frame or no memory.
+        lacking: u64,
         /// How many lines were passed over.
         passed: u64,
     },
     /// The first that isn't.
     Illegal {
+        /// The number of its line, from 1.
+        line: u64,
+        /// Whose it is, and what the text says that it was answered.
+        call: Call,
+        /// What the first plain page map would give.
+        due: Reply,
+    },
+    /// The same, but another order of calls that overlapped, or another map, may be behind the replies up to this one.
+    Undecided {
         /// The number of its line, from 1.
         line: u64,
         /// Whose it is, and what the text says that it was answered.
@@ -44,17 +55,18 @@ fn turn<M: SlotMap + Drop, A: Allocator + Drop>(
     line: u64,
 ) -> Result<Option<Verdict>, AuditFault>
     requires counted { IsCounted hearing.old }
-    requires room { hearing.old.judged + hearing.old.passed + 1 < 2 ^ 64 }
-    ensures turns { TurnsOut hearing.old.auditor.any_place (heard_of hearing.old) (plain_of hearing.old.auditor) said line result
+    requires room { count_of hearing.old + 1 < 2 ^ 64 }
+    ensures turns { TurnsOut (terms_of hearing.old) (heard_of hearing.old) (plain_of hearing.old.auditor) said line result
         (heard_of hearing.new) (plain_of hearing.new.auditor) }
-    ensures any_place { hearing.new.auditor.any_place ≡ hearing.old.auditor.any_place }
+    ensures terms { terms_of hearing.new ≡ terms_of hearing.old }
     ensures counted { OnOk result (IsCounted hearing.new) }
-    ensures few { OnOk result (hearing.new.judged + hearing.new.passed ≤ hearing.old.judged + hearing.old.passed + 1) }
+    ensures few { OnOk result (count_of hearing.new ≤ count_of hearing.old + 1) }
 {
     match hearing.hear(said) {
         Ok(Turn::Legal) => Ok(None),
         Ok(Turn::Bad) => Err(AuditFault::BadLine(line)),
-        Ok(Turn::Illegal(call, due)) => Ok(Some(Verdict::Illegal { line, call, due })),
+        Ok(Turn::Illegal(call, due, true)) => Ok(Some(Verdict::Illegal { line, call, due })),
+        Ok(Turn::Illegal(call, due, false)) => Ok(Some(Verdict::Undecided { line, call, due })),
         Err(_) => Err(AuditFault::Io(IoFault::NoMemory)),
     }
 }
@@ -67,17 +79,17 @@ pub(crate) fn hear_lines<M: SlotMap + Drop, A: Allocator + Drop>(
     text: &[u8],
 ) -> Result<Verdict, AuditFault>
     requires counted { IsCounted hearing.old }
-    requires few { hearing.old.judged + hearing.old.passed + 1 ≤ number }
+    requires few { count_of hearing.old + 1 ≤ number }
     requires room { number + length text.now < 2 ^ 64 }
     ensures ok { IfOk result (λ verdict. (lines : List (List ℕ)) (d : Declared)
-        → IsCall hearing.old.auditor.any_place lines d (heard_of hearing.old) (plain_of hearing.old.auditor) first number (lines_of text.now)
-        → IsFound hearing.old.auditor.any_place lines verdict (plain_of hearing.new.auditor)) }
+        → IsCall (terms_of hearing.old) lines d (heard_of hearing.old) (plain_of hearing.old.auditor) first number (lines_of text.now)
+        → IsFound (terms_of hearing.old) lines verdict (plain_of hearing.new.auditor)) }
     ensures err { IfErr result (λ f. (lines : List (List ℕ)) (d : Declared)
-        → IsCall hearing.old.auditor.any_place lines d (heard_of hearing.old) (plain_of hearing.old.auditor) first number (lines_of text.now)
-        → IsAtFault hearing.old.auditor.any_place lines f) }
+        → IsCall (terms_of hearing.old) lines d (heard_of hearing.old) (plain_of hearing.old.auditor) first number (lines_of text.now)
+        → IsAtFault (terms_of hearing.old) lines f) }
     ensures want { result ≡ Err (AuditFault.Io IoFault.NoMemory) → (lines : List (List ℕ)) (d : Declared)
-        → IsCall hearing.old.auditor.any_place lines d (heard_of hearing.old) (plain_of hearing.old.auditor) first number (lines_of text.now)
-        → IsWanting hearing.old.auditor.any_place lines }
+        → IsCall (terms_of hearing.old) lines d (heard_of hearing.old) (plain_of hearing.old.auditor) first number (lines_of text.now)
+        → IsWanting (terms_of hearing.old) lines }
 {
     let mut said = first;
     let mut line = number;
@@ -89,6 +101,7 @@ pub(crate) fn hear_lines<M: SlotMap + Drop, A: Allocator + Drop>(
         if rest.is_empty() {
             return Ok(Verdict::Legal {
                 calls: hearing.judged,
+                lacking: hearing.lacking,
                 passed: hearing.passed,
             });
         }

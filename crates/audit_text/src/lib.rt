@@ -2,17 +2,23 @@
 //! `radixvm run --echo` writes, and no machine is below.
 #![tactic(auto)]
 
+pub mod allowing;
 pub mod around;
 pub mod auditing;
+pub mod auditing_all;
 pub mod declaring;
+mod going_on;
 pub mod grammar;
 pub mod hearing;
 pub mod input;
 pub mod judging;
 pub mod reading;
 pub mod replies;
+mod reviewing;
 pub mod telling;
 
+pub use allowing::Terms;
 pub use auditing::audit_text;
+pub use auditing_all::audit_all;
 pub use input::AuditFault;
 pub use judging::Verdict;

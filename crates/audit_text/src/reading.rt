@@ -2,10 +2,11 @@
 ghost use Rattle.std.specs.Prelude.{◌≡◌, ◌<◌, Option, Some, None, if◌then◌else◌, true, IfSome, IfNone};
 ghost use Rattle.trace_text.specs.Line.{are_printable};
 ghost use Rattle.trace_text.specs.Words.{words_of};
-ghost use Rattle.audit_text.specs.Grammar.{Tells, TellsEvent, is_passed};
-ghost use Rattle.audit_text.specs.Reading.{call_said, declaration_of, declared_said, end_said, event_said, has_reply, passed_said, said_of};
+ghost use Rattle.audit_text.specs.Grammar.{Tells, TellsEvent};
+ghost use Rattle.audit_text.specs.Replies.{is_unanswered};
+ghost use Rattle.audit_text.specs.Reading.{act_said, begun_said, call_said, declaration_of, declared_said, end_said, event_said, has_reply, if_unanswered, passed_said, said_of};
 
-use crate::replies::{is_step, is_wait, read_reply};
+use crate::replies::{is_nothing, is_step, is_unanswered, read_reply};
 use audit::Call;
 use trace_text::sign::halves;
 use trace_text::{Action, Line, is_printable, read_line, read_words};
@@ -32,66 +33,94 @@ pub enum Said {
     },
     /// `cC! REQ = REPLY`: a call, and what it was answered.
     Answered(Call),
-    /// `cC! REQ = wait ..`: a call that waits.
+    /// `cC! REQ = wait ..` or `cC call REQ = step`: a call that has no reply yet.
     Waits(CoreId, Request),
-    /// `cC finish = REPLY`: what the core's call, which waited, was answered.
+    /// `cC finish = REPLY` or `cC go = REPLY`: what the core's call, which waited, was answered.
     Ends(CoreId, Reply),
-    /// `cC finish = wait ..`: the core's call still waits.
+    /// `cC finish = wait ..`, `cC go = step` and the like: the core's call still waits.
     StillWaits(CoreId),
-    /// A take, walk, eviction, flush, review or fold, which no user sees.
+    /// A take, walk, eviction, flush, review or fold, which no user sees, or a line that did nothing.
     Passes,
 }
 
-// Tells whether no user sees the event of this line.
-fn is_passed(line: &Line) -> bool
-    ensures { result ≡ is_passed line.now }
+// What is said where this is so, and else that nothing was done, if the text says it.
+fn if_unanswered(is_so: bool, said: Said, text: &[u8]) -> Option<Said>
+    ensures { result ≡ if_unanswered is_so said text.now }
 {
-    match line {
-        Line::Fold(_) => true,
-        Line::Act(_, action) => matches!(
-            action,
-            Action::Take | Action::Flush | Action::Review | Action::Walk(_) | Action::Evict(_)
-        ),
-        _ => false,
+    if is_so {
+        return Some(said);
     }
+    if is_nothing(text) {
+        return Some(Said::Passes);
+    }
+    None
 }
 
-// What the line of a call says that came to this.
+// What the line of a call says that is made and finished, and came to what is no reply. It isn't inlined: few lines come here.
+#[inline(never)]
+fn unanswered_said(core: CoreId, request: Request, text: &[u8]) -> Option<Said>
+    ensures { result ≡ if_unanswered (is_unanswered text.now) (Said.Waits core request) text.now }
+{
+    if_unanswered(is_unanswered(text), Said::Waits(core, request), text)
+}
+
+// What the line of a call says that is made and finished, and came to this.
 #[tactic(auto, unfolding(crate::specs::Reading::call_said))]
 fn call_said(core: CoreId, request: Request, text: &[u8]) -> Option<Said>
     ensures { result ≡ call_said core request text.now }
 {
-    if is_wait(text) {
-        return Some(Said::Waits(core, request));
+    if let Some(reply) = read_reply(text) {
+        return Some(Said::Answered(Call {
+            core,
+            request,
+            reply,
+        }));
     }
-    let reply = read_reply(text)?;
-    Some(Said::Answered(Call {
-        core,
-        request,
-        reply,
-    }))
+    unanswered_said(core, request, text)
 }
 
-// What the line says at which a core's call was finished, and came to this.
+// What the line says at which a call begins, and came to this.
+#[tactic(auto, unfolding(crate::specs::Reading::begun_said))]
+fn begun_said(core: CoreId, request: Request, text: &[u8]) -> Option<Said>
+    ensures { result ≡ begun_said core request text.now }
+{
+    if_unanswered(is_step(text), Said::Waits(core, request), text)
+}
+
+// What the line says at which a core's call goes on, and came to this.
 #[tactic(auto, unfolding(crate::specs::Reading::end_said))]
 fn end_said(core: CoreId, text: &[u8]) -> Option<Said>
     ensures { result ≡ end_said core text.now }
 {
-    if is_wait(text) {
-        return Some(Said::StillWaits(core));
+    match read_reply(text) {
+        Some(reply) => Some(Said::Ends(core, reply)),
+        None => if_unanswered(
+            is_unanswered(text) || is_step(text),
+            Said::StillWaits(core),
+            text,
+        ),
     }
-    let reply = read_reply(text)?;
-    Some(Said::Ends(core, reply))
 }
 
-// What the line of another event says that came to this.
-fn passed_said(line: Line, text: &[u8]) -> Option<Said>
-    ensures { result ≡ passed_said line text.now }
+// What the line of an event says that is no call's, and came to this.
+#[tactic(auto, unfolding(crate::specs::Reading::passed_said))]
+fn passed_said(text: &[u8]) -> Option<Said>
+    ensures { result ≡ passed_said text.now }
 {
-    if is_passed(&line) && is_step(text) {
-        Some(Said::Passes)
-    } else {
-        None
+    if_unanswered(is_step(text), Said::Passes, text)
+}
+
+// What the line of one step says that came to this. It isn't inlined, so that the line of a call needs no room for its action.
+#[inline(never)]
+fn act_said(core: CoreId, action: Action, text: &[u8]) -> Option<Said>
+    ensures { result ≡ act_said core action text.now }
+{
+    match action {
+        Action::Call(request) => begun_said(core, request, text),
+        Action::Go | Action::GiveUp | Action::Frame(_) | Action::Guess(_) | Action::Whole =>
+            end_said(core, text),
+        Action::Take | Action::Flush | Action::Review | Action::Walk(_) | Action::Evict(_) =>
+            passed_said(text),
     }
 }
 
@@ -102,7 +131,9 @@ fn event_said(line: Line, text: &[u8]) -> Option<Said>
     match line {
         Line::Now(core, request) => call_said(core, request, text),
         Line::Finish(core) => end_said(core, text),
-        _ => passed_said(line, text),
+        Line::Act(core, action) => act_said(core, action, text),
+        Line::Fold(_) => passed_said(text),
+        Line::Blank | Line::Space { .. } | Line::File { .. } => None,
     }
 }
 

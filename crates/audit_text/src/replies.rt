@@ -2,7 +2,7 @@
 ghost use Rattle.std.specs.Prelude.{◌≡◌};
 ghost use Rattle.std.specs.Str.{bytes_eq};
 ghost use Rattle.trace_text.specs.Printing.{text_of};
-ghost use Rattle.audit_text.specs.Replies.{is_step, is_wait, reply_of, word_reply};
+ghost use Rattle.audit_text.specs.Replies.{is_nothing, is_step, is_unanswered, is_wait, reply_of, word_reply};
 
 use trace_text::value::read_value;
 use trace_text::{LineText, address_text, number_text, push_reply};
@@ -74,8 +74,8 @@ pub(crate) fn read_reply(text: &[u8]) -> Option<Reply>
     }
 }
 
-/// Tells whether a call waits that came to this.
-pub(crate) fn is_wait(text: &[u8]) -> bool
+// Tells whether a call waits that came to this.
+fn is_wait(text: &[u8]) -> bool
     ensures { result ≡ is_wait text.now }
 {
     match text {
@@ -84,9 +84,23 @@ pub(crate) fn is_wait(text: &[u8]) -> bool
     }
 }
 
-/// Tells whether an event that is no call came to this: a step, or nothing.
+/// Tells whether a call that came to this has no reply yet.
+pub(crate) fn is_unanswered(text: &[u8]) -> bool
+    ensures { result ≡ is_unanswered text.now }
+{
+    is_wait(text) || text == b"stuck".as_slice()
+}
+
+/// Tells whether it is a step that answered no call.
 pub(crate) fn is_step(text: &[u8]) -> bool
     ensures { result ≡ is_step text.now }
 {
-    text == b"step".as_slice() || text == b"idle".as_slice()
+    text == b"step".as_slice()
+}
+
+/// Tells whether nothing was done.
+pub(crate) fn is_nothing(text: &[u8]) -> bool
+    ensures { result ≡ is_nothing text.now }
+{
+    text == b"idle".as_slice() || text == b"full".as_slice()
 }

@@ -1,47 +1,77 @@
 //! The lines that tell a verdict.
-ghost use Rattle.std.specs.Prelude.{◌≡◌, ◌++◌, IfOk, OnOk, codes, decimal};
+ghost use Rattle.std.specs.Prelude.{◌≡◌, ◌+◌, ◌≤◌, ◌++◌, IfOk, OnOk, codes, decimal, length};
 ghost use Rattle.std.specs.List.{flat_map};
-ghost use Rattle.trace_text.specs.Printing.{text_of};
-ghost use Rattle.audit_text.specs.Ends.{head_text, mapping_text, verdict_text};
+ghost use Rattle.audit_text.specs.Ends.{head_text, lacking_text, mapping_text, some_lacking, verdict_text, wrong_text};
 
 use crate::judging::Verdict;
+use audit::Call;
 use slot_lock::MapLine;
 use std::alloc::{AllocError, Allocator};
 use trace_text::{LineText, push_number, push_reply, write_map_line};
 use vm_base::Reply;
 
+// Appends how many calls found no frame or no memory.
+fn push_some(text: &mut LineText, lacking: u64)
+    requires { length text.old.bytes + 37 ≤ 256 }
+    ensures bytes { text.new.bytes ≡ text.old.bytes ++ some_lacking lacking }
+    ensures short { length text.new.bytes ≤ length text.old.bytes + 37 }
+{
+    text.push_str(", ");
+    push_number(text, lacking);
+    text.push_str(" without memory");
+}
+
+// The same, if any did.
+fn push_lacking(text: &mut LineText, lacking: u64)
+    requires { length text.old.bytes + 37 ≤ 256 }
+    ensures bytes { text.new.bytes ≡ text.old.bytes ++ lacking_text lacking }
+    ensures short { length text.new.bytes ≤ length text.old.bytes + 37 }
+{
+    if lacking > 0 {
+        push_some(text, lacking);
+    }
+}
+
 // Replaces the text by the line that tells how many replies are legal.
-fn write_legal(text: &mut LineText, calls: u64)
-    ensures { text.new.bytes ≡ codes "legal " ++ decimal calls ++ codes "\n" }
+fn write_legal(text: &mut LineText, calls: u64, lacking: u64)
+    ensures { text.new.bytes ≡ codes "legal " ++ decimal calls ++ lacking_text lacking ++ codes "\n" }
 {
     text.clear();
     text.push_str("legal ");
     push_number(text, calls);
+    push_lacking(text, lacking);
     text.push_str("\n");
 }
 
-// Replaces the text by the line that tells the first reply that isn't.
-fn write_illegal(text: &mut LineText, line: u64, reply: Reply, due: Reply)
-    ensures { text.new.bytes ≡ codes "illegal " ++ decimal line ++ codes ": replied " ++ text_of reply
-        ++ codes ", due " ++ text_of due ++ codes "\n" }
+// Replaces the text by the line that begins with this word and tells the first reply that isn't.
+fn write_wrong(text: &mut LineText, word: &str, line: u64, call: &Call, due: Reply)
+    requires { length word.now ≤ 10 }
+    ensures { text.new.bytes ≡ wrong_text word.now line call.now due }
 {
     text.clear();
-    text.push_str("illegal ");
+    text.push_str(word);
     push_number(text, line);
     text.push_str(": replied ");
-    push_reply(text, reply);
+    push_reply(text, call.reply);
     text.push_str(", due ");
     push_reply(text, due);
     text.push_str("\n");
 }
 
-// Replaces the text by the verdict's own line.
-fn write_head(text: &mut LineText, verdict: &Verdict)
+/// Replaces the text by the verdict's own line.
+pub(crate) fn write_head(text: &mut LineText, verdict: &Verdict)
     ensures { text.new.bytes ≡ head_text verdict.now }
 {
     match verdict {
-        Verdict::Legal { calls, .. } => write_legal(text, *calls),
-        Verdict::Illegal { line, call, due } => write_illegal(text, *line, call.reply, *due),
+        Verdict::Legal { calls, lacking, .. } => write_legal(text, *calls, *lacking),
+        Verdict::Illegal { line, call, due } => write_wrong(text, "illegal ", *line, call, *due),
+        Verdict::Undecided { line, call, due } => write_wrong(
+            text,
+            "undecided ",
+            *line,
+            call,
+            *due,
+        ),
     }
 }
 
@@ -60,7 +90,7 @@ fn push_mappings<A: Allocator>(all: &mut Vec<u8, A>, around: &[MapLine]) -> Resu
     Ok(())
 }
 
-/// The line of the verdict, `legal CALLS` or `illegal LINE: replied TEXT, due TEXT`, and then one for each mapping.
+/// The line of the verdict, `legal CALLS`, `illegal LINE: replied TEXT, due TEXT` or `undecided ..` so, and then one for each mapping.
 pub fn verdict_text<A: Allocator>(
     alloc: A,
     verdict: &Verdict,

@@ -3,7 +3,10 @@ use Rattle.std.specs.Prelude.{ℕ, Bool, true, false, Option, None, Some, Result
 use Rattle.audit_text.specs.declared.input.AuditFault.{AuditFault}
 use Rattle.audit_text.specs.declared.input.AuditFault.TheVariants as For
 use Rattle.audit_text.specs.declared.judging.Verdict.{Verdict}
-use Rattle.audit_text.specs.declared.judging.Verdict.TheVariants.{Legal, Illegal}
+use Rattle.audit_text.specs.declared.judging.Verdict.TheVariants.{Legal, Illegal, Undecided}
+use Rattle.import_maps.specs.declared.mapped.Told.{Told}
+use Rattle.import_text.specs.declared.import.Ending.{Ending}
+use Rattle.import_text.specs.declared.import.Ending.TheVariants.{Written, Nothing, Absent}
 use Rattle.live_script.specs.declared.texts.TextFault.{TextFault}
 use Rattle.live_script.specs.declared.texts.TextFault.TheVariants.{Text, Live}
 use Rattle.shared_script.specs.declared.fault.SharedFault.{SharedFault}
@@ -58,19 +61,40 @@ abbrev pub words_status : WordsFault → ℕ
 words_status NotUtf8 = 2
 words_status OutOf.NoMemory = 3
 
--- of a log: 0 where its trace was written
+-- of a log of strace: 2 where there is no trace, since no request would be in it, or no line is about the thread that was named
+abbrev pub ending_status : Ending → ℕ
+ending_status Written = 0
+ending_status Nothing = 2
+ending_status Absent = 2
+
+abbrev pub log_status : Result Told IoFault → ℕ
+log_status (Ok told) = ending_status told.report.ending
+log_status (Err f) = 3
+
+-- of a log of lackey: 0 where its trace was written
 abbrev pub import_status : {T : Type 0} → Result T IoFault → ℕ
 import_status (Ok told) = 0
 import_status (Err f) = 3
 
--- of replies that are judged: 0 where they are legal, 1 where one isn't
+-- of replies that are judged: 0 where they are legal, 1 where one isn't, 3 where that is undecided
 abbrev pub audit_fault_status : AuditFault → ℕ
 audit_fault_status (For.BadLine number) = 2
 audit_fault_status (For.TooLong number) = 2
 audit_fault_status For.NoVmLine = 2
 audit_fault_status (For.Io f) = 3
 
+-- by the first wrong one
+abbrev pub found_status : Option Verdict → ℕ
+found_status None = 0
+found_status (Some (Legal calls lacking passed)) = 0
+found_status (Some (Illegal line call due)) = 1
+found_status (Some (Undecided line call due)) = 3
+
 abbrev pub audit_status : Result Verdict AuditFault → ℕ
-audit_status (Ok (Legal calls passed)) = 0
-audit_status (Ok (Illegal line call due)) = 1
+audit_status (Ok verdict) = found_status (Some verdict)
 audit_status (Err f) = audit_fault_status f
+
+-- of all replies
+abbrev pub review_status : Result (Option Verdict) AuditFault → ℕ
+review_status (Ok first) = found_status first
+review_status (Err f) = audit_fault_status f

@@ -1,9 +1,12 @@
 -- What each word of the command line does: how it ends, what is read and written by then, and the status.
 use Rattle.std.specs.Prelude.{◌≡◌, ℕ, Bool, List, Option, Result}
 use Rattle.audit_text.specs.Ends.{AuditEnds, TellsAudit}
+use Rattle.audit_text.specs.Reviewed.{ReviewEnds}
+use Rattle.audit_text.specs.declared.allowing.Terms.{Terms}
 use Rattle.command_line.specs.Echo.{EchoEnds}
 use Rattle.command_line.specs.Picture.{PictureEnds}
-use Rattle.command_line.specs.Status.{audit_status, certified_live_status, certified_status, import_status, live_status, picture_status, told_status}
+use Rattle.command_line.specs.Status.{audit_status, certified_live_status, certified_status, import_status, live_status, log_status, picture_status}
+use Rattle.command_line.specs.Status.{review_status, told_status}
 use Rattle.command_line.specs.declared.words.Work.{Work}
 use Rattle.command_line.specs.declared.words.Work.TheVariants as For
 use Rattle.command_line.specs.declared.job.Shows.{Shows}
@@ -12,6 +15,7 @@ use Rattle.core_steps.specs.declared.setup.CallLimit.{CallLimit}
 use Rattle.import_lackey.specs.Traced.{TraceEnds}
 use Rattle.import_maps.specs.Mapped.{MapsEnds, TellsMaps}
 use Rattle.import_maps.specs.declared.mapped.Told.{Told}
+use Rattle.import_text.specs.declared.processes.Choice.{Choice}
 use Rattle.live_script.specs.Texts.{EndsText, IsNotesText, IsVerdictText, TellsText}
 use Rattle.notes_text.specs.CertifyEnds.{Certifies}
 use Rattle.shared_script.specs.Texts.{EndsShared, TellsShared}
@@ -61,20 +65,24 @@ CertifiesRun A parts CanFold Folds text out n =
 abbrev pub SharesScript : ReadFrom → WrittenTo → ℕ → Type 0
 SharesScript text out n = EndsInOneWay told_status (EndsShared {T = Unit}) TellsShared text out n
 
--- the trace of a log of strace, of the process of this thread or of the first line's, behind that of a list of mappings
-abbrev pub ImportsLog : Option ℕ → ReadFrom → ReadFrom → WrittenTo → ℕ → Type 0
-ImportsLog thread list text out n = (r : Result Told IoFault) × (n ≡ import_status r)
+-- the trace of a log of strace, of the process that is chosen, behind that of a list of mappings
+abbrev pub ImportsLog : Choice → ReadFrom → ReadFrom → WrittenTo → ℕ → Type 0
+ImportsLog choice list text out n = (r : Result Told IoFault) × (n ≡ log_status r)
     × Reads list.before list.after (λ listed left.
-    Reads text.before text.after (λ input unread. MapsEnds listed thread input out.before out.after r))
+    Reads text.before text.after (λ input unread. MapsEnds listed choice input out.before out.after r))
     × TellsMaps r list text out
 
 -- the trace of a log of lackey
 abbrev pub ImportsAccesses : ReadFrom → WrittenTo → ℕ → Type 0
 ImportsAccesses text out n = EndsInOneWay import_status (λ input unread. TraceEnds input) (TellsSent (λ f. f)) text out n
 
--- the judgement of replies, at any place or at the first ones
-abbrev pub AuditsReplies : Bool → ReadFrom → WrittenTo → ℕ → Type 0
-AuditsReplies any text out n = EndsInOneWay audit_status (λ input unread. AuditEnds any input) TellsAudit text out n
+-- the judgement of replies by these terms
+abbrev pub AuditsReplies : Terms → ReadFrom → WrittenTo → ℕ → Type 0
+AuditsReplies terms text out n = EndsInOneWay audit_status (λ input unread. AuditEnds terms input) TellsAudit text out n
+
+-- the same, which goes on after a wrong one
+abbrev pub ReviewsReplies : Terms → ReadFrom → WrittenTo → ℕ → Type 0
+ReviewsReplies terms text out n = EndsInOneWay review_status (λ input unread. ReviewEnds terms input) TellsAudit text out n
 
 -- a picture of a trace, of its steps or of lives
 abbrev pub PicturesTrace : Drawing → ReadFrom → WrittenTo → ℕ → Type 0
@@ -89,7 +97,8 @@ DoesWork A parts CanFold Folds For.Certify list text out n = CertifiesNotes A pa
 DoesWork A parts CanFold Folds For.Live list text out n = RunsScript text out n
 DoesWork A parts CanFold Folds For.CertifyLive list text out n = CertifiesRun A parts CanFold Folds text out n
 DoesWork A parts CanFold Folds For.ShareLive list text out n = SharesScript text out n
-DoesWork A parts CanFold Folds (For.Import thread) list text out n = ImportsLog thread list text out n
+DoesWork A parts CanFold Folds (For.Import choice) list text out n = ImportsLog choice list text out n
 DoesWork A parts CanFold Folds For.ImportAccesses list text out n = ImportsAccesses text out n
-DoesWork A parts CanFold Folds (For.Audit any) list text out n = AuditsReplies any text out n
+DoesWork A parts CanFold Folds (For.Audit terms) list text out n = AuditsReplies terms text out n
+DoesWork A parts CanFold Folds (For.AuditAll terms) list text out n = ReviewsReplies terms text out n
 DoesWork A parts CanFold Folds (For.Picture drawing) list text out n = PicturesTrace drawing text out n

@@ -3,7 +3,7 @@ ghost use Rattle.std.specs.Prelude.{◌≡◌, ◌≤◌, IfOk};
 ghost use Rattle.command_line.specs.Words.{DoesWork};
 ghost use Rattle.trace_io.specs.Io.{read_from, written_to};
 
-use crate::auditing::audit;
+use crate::auditing::{audit, audit_each};
 use crate::certifying::certify;
 use crate::ended::{Ended, Trouble};
 use crate::explain::{Manner, explain};
@@ -13,7 +13,7 @@ use crate::input::{Files, input, list};
 use crate::job::{run, run_echoing};
 use crate::keeping::{Keeping, Keeps};
 use crate::live::{certify_live, live, share_live};
-use crate::noting::{show_request, tell_notes};
+use crate::noting::{show_request, tell_notes, tell_undecided};
 use crate::picturing::picture;
 pub use crate::telling::{WordsFault, refuse_words};
 use crate::telling::{tell, tell_cause, tell_of_terminal};
@@ -74,9 +74,10 @@ fn act<T: Threads + Wait + Sync, R: Runner<Global>, L: Source, S: Source, W: Sin
             Work::Live => live(rt, runner, alloc, reader, out, errors),
             Work::CertifyLive => certify_live(rt, runner, alloc, reader, out, errors),
             Work::ShareLive => share_live(rt, alloc, reader, out, errors),
-            Work::Import(thread) => import(alloc, list, reader, out, errors, thread),
+            Work::Import(choice) => import(alloc, list, reader, out, errors, choice),
             Work::ImportAccesses => import_accesses(alloc, reader, out, errors),
-            Work::Audit(any_place) => audit(alloc, reader, out, errors, any_place),
+            Work::Audit(terms) => audit(alloc, reader, out, errors, terms),
+            Work::AuditAll(terms) => audit_each(alloc, reader, out, errors, terms),
             Work::Picture(drawing) => picture(alloc, reader, out, errors, drawing),
         },
         Err(told) => Ended {
@@ -115,7 +116,7 @@ fn manner_of(work: Work, coloured: bool) -> Manner {
         Work::Live | Work::CertifyLive | Work::ShareLive => {
             (Kind::Script, CallLimit::Usual, false)
         }
-        Work::Audit(_) => (Kind::Replies, CallLimit::Usual, false),
+        Work::Audit(_) | Work::AuditAll(_) => (Kind::Replies, CallLimit::Usual, false),
         Work::Picture(_) | Work::Import(_) | Work::ImportAccesses => {
             (Kind::Trace, CallLimit::Usual, false)
         }
@@ -140,14 +141,15 @@ fn example_of(work: Work) -> &'static str {
         | Work::Replay(_)
         | Work::Echo { .. }
         | Work::Picture(_)
-        | Work::Audit(_) => "vm 1 4",
+        | Work::Audit(_)
+        | Work::AuditAll(_) => "vm 1 4",
     }
 }
 
 // How much of the text is kept: all that audit reads, since it tells of its lines once it has read all.
 fn keeps_of(work: Work, explains: bool) -> Keeps {
     match work {
-        Work::Audit(_) => Keeps::All,
+        Work::Audit(_) | Work::AuditAll(_) => Keeps::All,
         Work::Import(_) | Work::ImportAccesses => Keeps::Nothing,
         _ if explains => Keeps::End,
         _ => Keeps::Nothing,
@@ -212,7 +214,7 @@ fn end_of(trouble: Trouble) -> u64 {
         Trouble::Fault(TraceFault::BadLine(number)) | Trouble::Fault(TraceFault::TooLong(number)) =>
             number,
         Trouble::Fault(_) => 0,
-        Trouble::Nothing | Trouble::Illegal(_) => u64::MAX,
+        Trouble::Nothing | Trouble::Illegal(_) | Trouble::Undecided(_) => u64::MAX,
     }
 }
 
@@ -233,6 +235,10 @@ fn tell_more<L, R, E: Write>(
 ) {
     if let Trouble::Illegal(number) = trouble {
         show_request(number, &read.kept, asks.manner.coloured, errors);
+    }
+    if let Trouble::Undecided(number) = trouble {
+        show_request(number, &read.kept, asks.manner.coloured, errors);
+        tell_undecided(errors);
     }
     if !asks.explains {
         return;

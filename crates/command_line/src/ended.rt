@@ -11,6 +11,8 @@ pub enum Trouble {
     Fault(TraceFault),
     /// The reply of the line with this number is none that a plain page map gives.
     Illegal(u64),
+    /// The same, but another order of calls that overlapped, or another map, may be behind the replies.
+    Undecided(u64),
 }
 
 /// How a word ended: with this status of the program, and, where more can be told of it, for this.

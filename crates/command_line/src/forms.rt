@@ -89,17 +89,6 @@ const OF_NOTES: &[&str] = &[
     "cC giveup",
 ];
 
-const OF_REPLIES: &[&str] = &[
-    "fold",
-    "cC!",
-    "cC finish",
-    "cC take",
-    "cC flush",
-    "cC review",
-    "cC walk",
-    "cC evict",
-];
-
 // Whether the form begins with one of these.
 fn begins_with(form: &str, fronts: &[&str]) -> bool {
     for front in fronts {
@@ -113,10 +102,9 @@ fn begins_with(form: &str, fronts: &[&str]) -> bool {
 // Whether a text of this kind may have events of this form, or lines that declare a space.
 fn may_have(kind: Kind, form: &str) -> bool {
     match kind {
-        Kind::Trace => true,
+        Kind::Trace | Kind::Replies => true,
         Kind::Script => begins_with(form, DECLARED) || begins_with(form, OF_SCRIPTS),
         Kind::Notes => begins_with(form, OF_NOTES),
-        Kind::Replies => begins_with(form, DECLARED) || begins_with(form, OF_REPLIES),
     }
 }
 

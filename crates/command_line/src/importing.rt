@@ -2,14 +2,19 @@
 ghost use Rattle.std.specs.Prelude.{◌≡◌, ◌<◌, ◌≤◌, ◌^◌};
 ghost use Rattle.import_maps.specs.Entries.{total as entries_total};
 ghost use Rattle.import_text.specs.Counts.{total};
+ghost use Rattle.command_line.specs.Status.{ending_status};
 ghost use Rattle.command_line.specs.Words.{ImportsAccesses, ImportsLog};
 ghost use Rattle.trace_io.specs.Io.{read_from, written_to};
 
 use crate::ended::{Ended, Trouble};
+use crate::pointing::{expect, show_line};
+use import_forms::looks::{Looks, looks_of};
 use import_lackey::traced::trace_log;
 use import_maps::entries::Entries;
 use import_maps::mapped::import_mapped;
 use import_text::counts::Counts;
+use import_text::import::{Ending, Report};
+use import_text::processes::{Choice, Process};
 use std::alloc::Global;
 use std::io::Write;
 use trace_io::IoFault;
@@ -104,6 +109,93 @@ fn tell_counts<E: Write>(counts: &Counts, errors: &mut E)
     tell_left(counts, errors);
 }
 
+// Prints the processes of a log.
+fn tell_processes<E: Write>(processes: &[Process], errors: &mut E) {
+    for process in processes {
+        let number = process.number;
+        let requests = process.requests;
+        let _ = writeln!(errors, "  process {number}: {requests} requests");
+    }
+}
+
+// Says which process was taken, where nobody chose one of several.
+fn tell_taken<E: Write>(report: &Report, choice: Choice, errors: &mut E) {
+    if choice.thread.is_some() || report.processes.len() < 2 {
+        return;
+    }
+    let count = report.processes.len();
+    let process = report.process;
+    let _ = writeln!(
+        errors,
+        "import: {count} processes; {process} is taken, which has the most requests (--pid N takes another)"
+    );
+    tell_processes(report.processes.as_slice(), errors);
+}
+
+// What a line looks like that isn't read.
+fn likeness(line: &[u8]) -> Option<&'static str> {
+    match looks_of(line) {
+        Looks::Lackey => Some("it looks like a log of valgrind's lackey: give --lackey"),
+        Looks::Trace => Some("it looks like a trace, which needs no import"),
+        Looks::Bytes => Some("it isn't text"),
+        Looks::Other => None,
+    }
+}
+
+// Says that nothing was kept, shows the first line that isn't read, and what was expected.
+fn tell_nothing<E: Write>(report: &Report, errors: &mut E) {
+    let _ = writeln!(errors, "radixvm: nothing was kept");
+    if report.unread.is_empty() {
+        return;
+    }
+    let line = report.unread.as_slice();
+    let _ = writeln!(errors, "  the first line that isn't read:");
+    show_line(line, errors);
+    if let Some(what) = likeness(line) {
+        let _ = writeln!(errors, "  {what}");
+    }
+    expect(
+        "mmap(NULL, 4096, PROT_READ, MAP_PRIVATE|MAP_ANONYMOUS, -1, 0) = 0x7f0000000000",
+        errors,
+    );
+}
+
+// Says that no line is about the thread, and which processes there are.
+fn tell_absent<E: Write>(report: &Report, choice: Choice, errors: &mut E) {
+    let thread = choice.thread.unwrap_or(0);
+    let _ = writeln!(errors, "radixvm: no line is about thread {thread}");
+    tell_processes(report.processes.as_slice(), errors);
+}
+
+// Prints what is told of an import.
+fn tell_report<E: Write>(report: &Report, choice: Choice, errors: &mut E)
+    requires { total report.now.counts < 2 ^ 64 }
+{
+    match report.ending {
+        Ending::Written => tell_taken(report, choice, errors),
+        Ending::Nothing => {
+            tell_nothing(report, errors);
+            tell_taken(report, choice, errors);
+        }
+        Ending::Absent => {
+            tell_absent(report, choice, errors);
+            return;
+        }
+    }
+    tell_counts(&report.counts, errors);
+}
+
+// The status of an import that ended so: 2 where there is no trace.
+fn status_of(ending: Ending) -> u8
+    ensures { result ≡ ending_status ending }
+{
+    match ending {
+        Ending::Written => 0,
+        Ending::Nothing => 2,
+        Ending::Absent => 2,
+    }
+}
+
 // Prints the fault as `radixvm: ` and its text, and answers the status.
 fn tell_fault<E: Write>(fault: IoFault, errors: &mut E) -> Ended
     ensures { result.status ≡ 3 }
@@ -115,27 +207,27 @@ fn tell_fault<E: Write>(fault: IoFault, errors: &mut E) -> Ended
     }
 }
 
-/// Makes a trace of a list of mappings and of a log of strace, of the process of this thread or of
-/// the first line's, prints how many lines of both became what on `errors`, or a fault as
-/// `radixvm: ` and its text, and answers the status: 0, or 3 for a fault.
+/// Makes a trace of a list of mappings and of a log of strace, of the process that is chosen, prints what became of the lines of
+/// both on `errors`, or a fault as `radixvm: ` and its text, and answers the status: 0; 2 where there is no trace, since no request
+/// would be in it, or no line is about the thread that was named; or 3 for a fault.
 pub fn import<L: Source, S: Source, W: Sink, E: Write>(
     alloc: Global,
     list: &mut L,
     reader: &mut S,
     out: &mut W,
     errors: &mut E,
-    thread: Option<u64>,
+    choice: Choice,
 ) -> Ended
-    ensures ends { ImportsLog thread (read_from L.Source list.old list.new)
+    ensures ends { ImportsLog choice (read_from L.Source list.old list.new)
         (read_from S.Source reader.old reader.new) (written_to W.Sink out.old out.new) result.status }
     ensures within { result.status ≤ 3 }
 {
-    match import_mapped(alloc, list, reader, out, thread) {
+    match import_mapped(alloc, list, reader, out, choice) {
         Ok(told) => {
             tell_entries(&told.entries, errors);
-            tell_counts(&told.counts, errors);
+            tell_report(&told.report, choice, errors);
             Ended {
-                status: 0,
+                status: status_of(told.report.ending),
                 trouble: Trouble::Nothing,
             }
         }

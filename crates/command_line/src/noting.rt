@@ -3,7 +3,7 @@
 use crate::explain::Manner;
 use crate::forms::Kind;
 use crate::keeping::Kept;
-use crate::pointing::{behind, point, show_line, word_at, word_start};
+use crate::pointing::{behind, point, show_line, tell, word_at, word_start};
 use std::io::Write;
 use trace_text::{Action, Line, read_line};
 use vm_base::{CoreId, Flags, Request};
@@ -150,13 +150,19 @@ pub(crate) fn tell_notes<E: Write>(manner: Manner, kept: &Kept, end: u64, errors
 
 // ---- the reply that is illegal
 
-// The line before this one at which the core's call waits that is finished here.
+// Whether a line begins a call of the core.
+fn begins_call(line: &[u8], core: &[u8]) -> bool {
+    word_at(line, 0).strip_suffix(b"!") == Some(core)
+        || (word_at(line, 0) == core && word_at(line, 1) == b"call".as_slice())
+}
+
+// The last line before this one at which the core's call begins that is answered here.
 fn line_that_waits<'a>(kept: &'a Kept, core: &[u8], end: u64) -> Option<&'a [u8]> {
     let mut found = None;
     let mut number = kept.before();
     for line in kept.text().split(|byte| *byte == b'\n') {
         number = number.saturating_add(1);
-        if number < end && word_at(line, 0).strip_suffix(b"!") == Some(core) {
+        if number < end && begins_call(line, core) {
             found = Some(line);
         }
     }
@@ -181,10 +187,22 @@ pub(crate) fn show_request<E: Write>(number: u64, kept: &Kept, coloured: bool, e
         return;
     };
     let _ = writeln!(errors, "audit: line {number}");
-    if word_at(line, 1) == b"finish".as_slice()
+    if matches!(word_at(line, 1), b"finish" | b"go" | b"giveup")
         && let Some(asked) = line_that_waits(kept, word_at(line, 0), number)
     {
         show_line(asked, errors);
     }
     point(line, reply_at(line), coloured, errors);
+}
+
+/// Tells why a reply isn't told to be illegal, which isn't right in the order of the replies.
+pub(crate) fn tell_undecided<E: Write>(errors: &mut E) {
+    tell(
+        "calls overlapped before it, or a store had nomemory: in another order of the",
+        errors,
+    );
+    tell(
+        "calls, or with a copy that the store left, the reply may be right",
+        errors,
+    );
 }

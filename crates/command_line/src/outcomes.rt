@@ -42,11 +42,15 @@ fn trimmed(text: &[u8]) -> &[u8] {
     text.trim_ascii()
 }
 
-// What the outcome of an event may be that isn't a call's.
+// Whether the event of a line may come to a reply.
+fn may_reply(line: &[u8]) -> bool {
+    word_at(line, 0).ends_with(b"!") || matches!(word_at(line, 1), b"finish" | b"go" | b"giveup")
+}
+
+// What the outcome of an event may be that comes to no reply.
 fn passed_rule(kind: Kind, line: &[u8]) -> Option<&'static str> {
-    let is_call = word_at(line, 0).ends_with(b"!") || word_at(line, 1) == b"finish".as_slice();
-    if kind == Kind::Replies && !is_call {
-        return Some("step or idle");
+    if kind == Kind::Replies && !may_reply(line) {
+        return Some("step, idle or full");
     }
     None
 }
@@ -63,7 +67,7 @@ fn outcome_rule(kind: Kind) -> &'static str {
 fn named_rule(kind: Kind) -> &'static str {
     match kind {
         Kind::Notes => "the event's core to be one of the vm line",
-        _ => "one space on each side of =, and a finish of a call that waits, no second call",
+        _ => "one space on each side of =; a call that waits where one goes on, else none",
     }
 }
 

@@ -1,5 +1,6 @@
 //! The words of the command line: what they are, and what they ask for.
-ghost use Rattle.std.specs.Prelude.{◌≡◌, ℕ, Option};
+ghost use Rattle.std.specs.Prelude.{◌≡◌};
+ghost use Rattle.import_text.specs.declared.processes.Choice.{Choice};
 ghost use Rattle.command_line.specs.declared.job.Shows.{Shows};
 ghost use Rattle.core_steps.specs.declared.setup.CallLimit.{CallLimit};
 
@@ -7,8 +8,10 @@ use crate::help;
 use crate::help::{Topic, page, topic_named};
 use crate::job::Shows;
 use crate::picturing::{Drawing, Steps};
+use audit_text::Terms;
 use clap::{Arg, ArgAction, ArgMatches, Command, Error, value_parser};
 use core_steps::CallLimit;
+use import_text::processes::Choice;
 use std::alloc::{AllocError, Allocator, Global};
 use trace::shown::Show;
 
@@ -27,12 +30,14 @@ pub(crate) enum Work {
     CertifyLive,
     /// A run of a script on threads over one machine, whose replies and log are written.
     ShareLive,
-    /// The trace of a log of strace, of the process of this thread or of the first line's.
-    Import(Option<u64>),
+    /// The trace of a log of strace, of the process that is chosen.
+    Import(Choice),
     /// The trace of a log of lackey.
     ImportAccesses,
-    /// The judgement of replies, at any place or at the first ones.
-    Audit(bool),
+    /// The judgement of replies by these terms.
+    Audit(Terms),
+    /// The same, which goes on after a wrong one.
+    AuditAll(Terms),
     /// A picture of a trace, of its steps or of lives.
     Picture(Drawing),
 }
@@ -95,9 +100,10 @@ const CERTIFY_USAGE: &str = "radixvm certify [--explain] [FILE]";
 
 const LIVE_USAGE: &str = "radixvm live [--certify | --shared] [--explain] [FILE]";
 
-const IMPORT_USAGE: &str = "radixvm import [--lackey | [--pid N] [--maps FILE]] [--explain] [FILE]";
+const IMPORT_USAGE: &str =
+    "radixvm import [--lackey | [--pid N] [--one-process] [--maps FILE]] [--explain] [FILE]";
 
-const AUDIT_USAGE: &str = "radixvm audit [--any-place] [--explain] [FILE]";
+const AUDIT_USAGE: &str = "radixvm audit [--any-place] [--strict] [--all] [--explain] [FILE]";
 
 const PICTURE_USAGE: &str = "radixvm picture [--lives | [--from N] [--to N]] [--explain] [FILE]";
 
@@ -133,9 +139,11 @@ fn import_word<'a>(alloc: Global) -> Result<Command<'a>, AllocError> {
     let list = Arg::new(alloc, "maps").long("maps");
     let lackey = flag(alloc, "lackey")
         .conflicts_with("pid")?
+        .conflicts_with("one-process")?
         .conflicts_with("maps")?;
     let command = reading(alloc, "import", IMPORT_USAGE)?
         .arg(number(alloc, "pid"))?
+        .arg(flag(alloc, "one-process"))?
         .arg(list)?
         .arg(lackey)?;
     Ok(command)
@@ -180,7 +188,11 @@ fn machine_words<'a>(alloc: Global) -> Result<Command<'a>, AllocError> {
 
 // The word `audit` with what may stand behind it.
 fn audit_word<'a>(alloc: Global) -> Result<Command<'a>, AllocError> {
-    reading(alloc, "audit", AUDIT_USAGE)?.arg(flag(alloc, "any-place"))
+    let command = reading(alloc, "audit", AUDIT_USAGE)?
+        .arg(flag(alloc, "any-place"))?
+        .arg(flag(alloc, "strict"))?
+        .arg(flag(alloc, "all"))?;
+    Ok(command)
 }
 
 // The program with one word more.
@@ -244,10 +256,13 @@ fn drawing_of<'a>(words: &ArgMatches<'a>) -> Drawing {
 
 // An import, with the list of mappings that the words name.
 fn importing<'a>(words: &ArgMatches<'a>) -> Task<'a>
-    ensures { (thread : Option ℕ) × (result.work ≡ Work.Import thread) }
+    ensures { (choice : Choice) × (result.work ≡ Work.Import choice) }
 {
     Task {
-        work: Work::Import(words.get_one("pid")),
+        work: Work::Import(Choice {
+            thread: words.get_one("pid"),
+            joined: words.get_flag("one-process"),
+        }),
         file: words.get_str("FILE"),
         maps: words.get_str("maps"),
         explains: words.get_flag("explain"),
@@ -274,6 +289,14 @@ fn topic_of<'a>(words: &ArgMatches<'a>) -> Topic {
     }
 }
 
+// By what terms the words have replies judged.
+fn terms_asked<'a>(words: &ArgMatches<'a>) -> Terms {
+    Terms {
+        any_place: words.get_flag("any-place"),
+        is_strict: words.get_flag("strict"),
+    }
+}
+
 // What the words behind one of the program's own ask for, or the page of the help.
 fn asked<'a>(name: &str, words: &ArgMatches<'a>, coloured: bool) -> Result<Task<'a>, Topic> {
     match name {
@@ -285,7 +308,10 @@ fn asked<'a>(name: &str, words: &ArgMatches<'a>, coloured: bool) -> Result<Task<
         "live" => Ok(working(Work::Live, words)),
         "import" if words.get_flag("lackey") => Ok(working(Work::ImportAccesses, words)),
         "import" => Ok(importing(words)),
-        "audit" => Ok(working(Work::Audit(words.get_flag("any-place")), words)),
+        "audit" if words.get_flag("all") => {
+            Ok(working(Work::AuditAll(terms_asked(words)), words))
+        }
+        "audit" => Ok(working(Work::Audit(terms_asked(words)), words)),
         "picture" => Ok(working(Work::Picture(drawing_of(words)), words)),
         _ => Err(topic_of(words)),
     }

@@ -8,10 +8,10 @@ use Rattle.vm_base.specs.declared.rights.Prot.{Prot}
 use Rattle.vm_base.specs.declared.requests.Flags.{Flags}
 use Rattle.vm_base.specs.declared.requests.Request.{Request}
 use Rattle.vm_base.specs.declared.requests.Request.TheVariants.{Mmap, Munmap, Mprotect}
-use Rattle.import_text.specs.Said.{asked, has_kind}
-use Rattle.import_text.specs.Tokens.{Token, front_count, front_token, hexadecimal, only_count, split_at_last}
-use Rattle.import_text.specs.declared.said.Said.{Said}
-use Rattle.import_text.specs.declared.said.Said.TheVariants as Says
+use Rattle.import_forms.specs.Said.{asked, has_kind}
+use Rattle.import_forms.specs.Tokens.{Token, front_count, front_token, hexadecimal, only_count, split_at_last}
+use Rattle.import_forms.specs.declared.said.Said.{Said}
+use Rattle.import_forms.specs.declared.said.Said.TheVariants as Says
 use Rattle.import_lackey.specs.declared.heard.Access.{Access}
 use Rattle.import_lackey.specs.declared.heard.Access.TheVariants.{Fetch, Load, Store, Modify}
 use Rattle.import_lackey.specs.declared.heard.Touch.{Touch}

@@ -11,8 +11,8 @@ use Rattle.vm_base.specs.declared.requests.Request.TheVariants as Of
 use Rattle.import_text.specs.Counts.{counted, no_counts}
 use Rattle.import_text.specs.Taking.{SoFar, after_file, after_said, asked_by, nothing_taken, so_far}
 use Rattle.import_text.specs.declared.counts.Counts.{Counts}
-use Rattle.import_text.specs.declared.said.Said.{Said}
-use Rattle.import_text.specs.declared.said.Said.TheVariants as Says
+use Rattle.import_forms.specs.declared.said.Said.{Said}
+use Rattle.import_forms.specs.declared.said.Said.TheVariants as Says
 use Rattle.import_text.specs.declared.taking.Reason.TheVariants as For
 use Rattle.import_text.specs.declared.taking.Fate.{Fate}
 use Rattle.import_text.specs.declared.taking.Fate.TheVariants.{Kept, Left}

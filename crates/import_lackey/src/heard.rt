@@ -3,8 +3,8 @@ ghost use Rattle.std.specs.Prelude.{◌≡◌, option_map};
 ghost use Rattle.import_lackey.specs.Heard.{access_named, call_heard, call_named, descriptor_heard, done_heard, flags_heard, heard_of, is_plain, known_heard};
 ghost use Rattle.import_lackey.specs.Heard.{mmap_heard, mprotect_heard, mremap_heard, munmap_heard, outcome_heard, outcome_of, rights_heard, touch_heard};
 
-use import_text::said::{Said, asked, has_kind};
-use import_text::tokens::{next_count, next_token, read_hexadecimal, read_only, split_last};
+use import_forms::said::{Said, asked, has_kind};
+use import_forms::tokens::{next_count, next_token, read_hexadecimal, read_only, split_last};
 use trace_text::number::read_number;
 use vm_base::{Flags, Prot, Request};
 

@@ -8,8 +8,8 @@ ghost use Rattle.import_lackey.specs.Tracing.{accessed, asked_for, call_taken, c
 ghost use Rattle.import_lackey.specs.Tracing.{state_of, there, touch_taken, touched, touched_at, trace_of};
 
 use crate::heard::{Access, Heard, Touch, read_heard};
+use import_forms::said::Said;
 use import_text::counts::Counts;
-use import_text::said::Said;
 use import_text::taking::{ADDRESS_END, Fate, Mapping, Reason, Taken, ask, take, take_file};
 use std::alloc::{AllocError, Global};
 use trace_io::lines::front_line;

@@ -4,7 +4,7 @@ use Rattle.std.specs.Str.{bytes_eq}
 use Rattle.trace_text.specs.Request.{◌>>=◌}
 use Rattle.trace_text.specs.Words.{byte}
 use Rattle.vm_base.specs.declared.rights.Prot.{Prot}
-use Rattle.import_text.specs.Tokens.{Token, begins_by, front_token, hexadecimal, occurs, split_at_last}
+use Rattle.import_forms.specs.Tokens.{Token, begins_by, front_token, hexadecimal, occurs, split_at_last}
 use Rattle.import_maps.specs.declared.listed.Listed.{Listed}
 use Rattle.import_maps.specs.declared.listed.Kind.{Kind}
 use Rattle.import_maps.specs.declared.listed.Kind.TheVariants.{Kernel, Anonymous, File}

@@ -5,9 +5,9 @@ use Rattle.trace_io.specs.Lines.{lines_of}
 use Rattle.trace_io.specs.Source.{HasStopped}
 use Rattle.trace_io.specs.declared.fault.IoFault.{IoFault}
 use Rattle.trace_io.specs.declared.fault.IoFault.TheVariants.{ReadFailed, WriteFailed}
-use Rattle.import_text.specs.Ends.{MakesText, MakeStops, made_text}
-use Rattle.import_text.specs.Imported.{import_of}
+use Rattle.import_text.specs.Ends.{ImportsAll, MakeStops, made_text}
 use Rattle.import_text.specs.Taking.{SoFar}
+use Rattle.import_text.specs.declared.processes.Choice.{Choice}
 use Rattle.import_maps.specs.Entries.{total}
 use Rattle.import_maps.specs.Starting.{start_of}
 use Rattle.import_maps.specs.declared.entries.Entries.{Entries}
@@ -15,19 +15,19 @@ use Rattle.import_maps.specs.declared.mapped.Told.{Told}
 
 -- the trace of what is mapped at the start and of what is taken of the log was written; each line of the log is counted, and so many
 -- lines of the list became what they did
-pub record StartsAll (start : SoFar × Entries) (lines : ℕ) (thread : Option ℕ) (input : List ℕ) (old new : Option (List ℕ)) (told : Told) : Type 0 where
-  pub log : MakesText (made_text start.0 thread input) (import_of start.0 thread input).1 told.counts input old new
+pub record StartsAll (start : SoFar × Entries) (lines : ℕ) (choice : Choice) (input : List ℕ) (old new : Option (List ℕ)) (told : Told) : Type 0 where
+  pub log : ImportsAll start.0 choice input old new told.report
   pub entries : told.entries ≡ start.1
   pub all : total told.entries ≡ lines
 
 -- how an import ends that begins with what a list has told: all told, or stopped at a fault
-abbrev pub StartedEnds : SoFar × Entries → ℕ → Option ℕ → List ℕ → Option (List ℕ) → Option (List ℕ) → Result Told IoFault → Type 0
-StartedEnds start lines thread input old new (Ok told) = StartsAll start lines thread input old new told
-StartedEnds start lines thread input old new (Err f) = MakeStops (made_text start.0 thread input) old new f
+abbrev pub StartedEnds : SoFar × Entries → ℕ → Choice → List ℕ → Option (List ℕ) → Option (List ℕ) → Result Told IoFault → Type 0
+StartedEnds start lines choice input old new (Ok told) = StartsAll start lines choice input old new told
+StartedEnds start lines choice input old new (Err f) = MakeStops (made_text start.0 choice input) old new f
 
 -- behind what a list says, each of whose lines is counted
-abbrev pub MapsEnds : List ℕ → Option ℕ → List ℕ → Option (List ℕ) → Option (List ℕ) → Result Told IoFault → Type 0
-MapsEnds list thread input old new r = StartedEnds (start_of list) (length (lines_of list)) thread input old new r
+abbrev pub MapsEnds : List ℕ → Choice → List ℕ → Option (List ℕ) → Option (List ℕ) → Result Told IoFault → Type 0
+MapsEnds list choice input old new r = StartedEnds (start_of list) (length (lines_of list)) choice input old new r
 
 -- `read failed` is told only of a read of the list or of the log that failed or was one too many, and `write failed` only where a
 -- write or a flush failed; where it isn't told, none failed; where the trace was written, it has gone out

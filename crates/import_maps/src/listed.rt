@@ -2,7 +2,7 @@
 ghost use Rattle.std.specs.Prelude.{◌≡◌, option_map};
 ghost use Rattle.import_maps.specs.Listed.{entry_of, entry_said, from_name, kind_named, rights_said};
 
-use import_text::tokens::{begins, has, next_token, read_hexadecimal, split_last};
+use import_forms::tokens::{begins, has, next_token, read_hexadecimal, split_last};
 use vm_base::Prot;
 
 /// What a line says.

@@ -9,20 +9,21 @@ ghost use Rattle.import_maps.specs.Mapped.{MapsEnds, StartedEnds, TellsMaps};
 
 use crate::entries::Entries;
 use crate::starting::{Start, read_list};
-use import_text::counts::Counts;
+use import_text::import::Report;
 use import_text::log::import_log;
+use import_text::processes::Choice;
 use std::alloc::Global;
 use trace_io::IoFault;
 use trace_io::sink::Sink;
 use trace_io::source::{Source, read_all};
 
-/// How many lines of a list and of a log became what.
-#[derive(Clone, Copy, Debug, PartialEq, Eq)]
+/// What is told of an import.
+#[derive(Debug, Drop)]
 pub struct Told {
-    /// Of the list.
+    /// How many lines of the list became what.
     pub entries: Entries,
-    /// Of the log.
-    pub counts: Counts,
+    /// What is told of the log.
+    pub report: Report,
 }
 
 // Writes the trace of what a list said and of the log.
@@ -31,20 +32,20 @@ fn import_after<S: Source, W: Sink>(
     start: &Start,
     log: &mut S,
     writer: &mut W,
-    thread: Option<u64>,
+    choice: Choice,
 ) -> Result<Told, IoFault>
     ensures ends { Reads (S.stream log.old) (S.stream log.new) (λ input unread.
-        StartedEnds (so_far start.now.taken, start.now.entries) (entries_total start.now.entries) thread input
+        StartedEnds (so_far start.now.taken, start.now.entries) (entries_total start.now.entries) choice input
         (W.contents writer.old) (W.contents writer.new) result) }
-    ensures few { IfOk result (λ told. total told.counts < 2 ^ 64) }
+    ensures few { IfOk result (λ told. total told.report.counts < 2 ^ 64) }
     ensures entries { IfOk result (λ told. told.entries ≡ start.now.entries) }
     ensures told { TellsSent (λ f. f) result (read_from S.Source log.old log.new)
         (written_to W.Sink writer.old writer.new) }
 {
-    match import_log(alloc, &start.taken, log, writer, thread) {
-        Ok(counts) => Ok(Told {
+    match import_log(alloc, &start.taken, log, writer, choice) {
+        Ok(report) => Ok(Told {
             entries: start.entries,
-            counts,
+            report,
         }),
         Err(fault) => Err(fault),
     }
@@ -56,41 +57,41 @@ fn import_behind<S: Source, W: Sink>(
     list: &[u8],
     log: &mut S,
     writer: &mut W,
-    thread: Option<u64>,
+    choice: Choice,
 ) -> Result<Told, IoFault>
     ensures ends { Reads (S.stream log.old) (S.stream log.new) (λ input unread.
-        MapsEnds list.now thread input (W.contents writer.old) (W.contents writer.new) result) }
-    ensures few { IfOk result (λ told. total told.counts < 2 ^ 64) }
+        MapsEnds list.now choice input (W.contents writer.old) (W.contents writer.new) result) }
+    ensures few { IfOk result (λ told. total told.report.counts < 2 ^ 64) }
     ensures fewer { IfOk result (λ told. entries_total told.entries < 2 ^ 64) }
     ensures told { TellsSent (λ f. f) result (read_from S.Source log.old log.new)
         (written_to W.Sink writer.old writer.new) }
 {
     match read_list(alloc, list) {
-        Ok(start) => import_after(alloc, &start, log, writer, thread),
+        Ok(start) => import_after(alloc, &start, log, writer, choice),
         Err(_) => Err(IoFault::NoMemory),
     }
 }
 
 /// Reads a list of mappings and then a log of strace, both to their ends, and writes their trace: what the list says, and what
-/// the process of this thread asked of its address space, or that of the thread of the first line. Answers how many lines of
-/// both were kept, changed and left out. Nothing is written before all is read and found its memory.
+/// the chosen process asked of its address space. Answers what is told of both. Nothing is written before all is read and found
+/// its memory; and nothing at all where no request would be in the trace, or no line is about the thread that was named.
 pub fn import_mapped<L: Source, S: Source, W: Sink>(
     alloc: Global,
     list: &mut L,
     log: &mut S,
     writer: &mut W,
-    thread: Option<u64>,
+    choice: Choice,
 ) -> Result<Told, IoFault>
     ensures ends { Reads (L.stream list.old) (L.stream list.new) (λ listed left.
         Reads (S.stream log.old) (S.stream log.new) (λ input unread.
-        MapsEnds listed thread input (W.contents writer.old) (W.contents writer.new) result)) }
-    ensures few { IfOk result (λ told. total told.counts < 2 ^ 64) }
+        MapsEnds listed choice input (W.contents writer.old) (W.contents writer.new) result)) }
+    ensures few { IfOk result (λ told. total told.report.counts < 2 ^ 64) }
     ensures fewer { IfOk result (λ told. entries_total told.entries < 2 ^ 64) }
     ensures told { TellsMaps result (read_from L.Source list.old list.new)
         (read_from S.Source log.old log.new) (written_to W.Sink writer.old writer.new) }
 {
     match read_all(alloc, list) {
-        Ok(listed) => import_behind(alloc, listed.as_slice(), log, writer, thread),
+        Ok(listed) => import_behind(alloc, listed.as_slice(), log, writer, choice),
         Err(fault) => Err(fault),
     }
 }

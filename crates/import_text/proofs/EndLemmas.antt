@@ -9,26 +9,34 @@ use Rattle.trace_io.specs.declared.fault.IoFault.TheVariants.{ReadFailed, NoMemo
 use Rattle.trace_io.proofs.IoLemmas.{keeps_same}
 use Rattle.trace_io.proofs.LineLemmas.{reads_map}
 use Rattle.import_text.specs.Counts.{total}
-use Rattle.import_text.specs.Ends.{MakesText, MakeStops, made_text}
-use Rattle.import_text.specs.Imported.{import_of}
+use Rattle.import_text.specs.Ends.{MakesText, MakeStops, ended_text, made_text}
+use Rattle.import_text.specs.Imported.{ending_of, import_of}
 use Rattle.import_text.specs.Taking.{SoFar}
-use Rattle.import_text.specs.Texts.{imported_text}
 use Rattle.import_text.specs.declared.counts.Counts.{Counts}
+use Rattle.import_text.specs.declared.import.Ending.{Ending}
+use Rattle.import_text.specs.declared.processes.Choice.{Choice}
 
-pub imports_all : (start : SoFar) (thread : Option ℕ) (input text : List ℕ) (old new : Option (List ℕ)) (counts : Counts) (s : SoFar)
-    → (s, counts) ≡ import_of start thread input → total counts ≡ length (lines_of input) → text ≡ imported_text 256 s → Appends old new text
-    → MakesText (made_text start thread input) (import_of start thread input).1 counts input old new
-imports_all start thread input text old new counts s h t e w = record {
-  written = subst (Appends old new) (e ∙ ap (λ (p : SoFar × Counts). imported_text 256 p.0) h) w;
+-- the text is that of the log's import
+text_known : (start : SoFar) (choice : Choice) (input text : List ℕ) (counts : Counts) (ending : Ending) (s : SoFar)
+    → (s, counts) ≡ import_of start choice input → ending ≡ ending_of start choice input → text ≡ ended_text ending s → text ≡ made_text start choice input
+text_known start choice input text counts ending s h g e =
+    e ∙ ap (λ x. ended_text x s) g ∙ ap (λ (p : SoFar × Counts). ended_text (ending_of start choice input) p.0) h
+
+pub imports_all : (start : SoFar) (choice : Choice) (input text : List ℕ) (old new : Option (List ℕ)) (counts : Counts) (ending : Ending) (s : SoFar)
+    → (s, counts) ≡ import_of start choice input → ending ≡ ending_of start choice input → total counts ≡ length (lines_of input)
+    → text ≡ ended_text ending s → Appends old new text
+    → MakesText (made_text start choice input) (import_of start choice input).1 counts input old new
+imports_all start choice input text old new counts ending s h g t e w = record {
+  written = subst (Appends old new) (text_known start choice input text counts ending s h g e) w;
   told = ap (λ (p : SoFar × Counts). p.1) h;
   all = t;
 }
 
-pub imports_front : (start : SoFar) (thread : Option ℕ) (input text : List ℕ) (old new : Option (List ℕ)) (counts : Counts) (s : SoFar)
-    → (s, counts) ≡ import_of start thread input → text ≡ imported_text 256 s → AppendsFront old new text
-    → AppendsFront old new (made_text start thread input)
-imports_front start thread input text old new counts s h e w =
-    subst (AppendsFront old new) (e ∙ ap (λ (p : SoFar × Counts). imported_text 256 p.0) h) w
+pub imports_front : (start : SoFar) (choice : Choice) (input text : List ℕ) (old new : Option (List ℕ)) (counts : Counts) (ending : Ending) (s : SoFar)
+    → (s, counts) ≡ import_of start choice input → ending ≡ ending_of start choice input → text ≡ ended_text ending s → AppendsFront old new text
+    → AppendsFront old new (made_text start choice input)
+imports_front start choice input text old new counts ending s h g e w =
+    subst (AppendsFront old new) (text_known start choice input text counts ending s h g e) w
 
 pub stops_here : (text : List ℕ) (o : Option (List ℕ)) (f : IoFault) → (f ≡ WriteFailed → ⊥) → MakeStops text o o f
 stops_here text o ReadFailed n = keeps_same o

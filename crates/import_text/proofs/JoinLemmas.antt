@@ -4,7 +4,7 @@ use Rattle.std.proofs.Common.{true, false, eqb}
 use Rattle.std.proofs.lemmas.Bool.Decides.{nat_tests}
 use Rattle.std.proofs.lemmas.List.{drop_more}
 use Rattle.import_text.specs.Joining.{last_of, next_of, speech_at}
-use Rattle.import_text.specs.Speech.{Spoken}
+use Rattle.import_forms.specs.Speech.{Spoken}
 
 pub map-get : {X : Type 0} (f : X → Spoken) (xs : List X) (k : ℕ) (d : X) → k < length xs → speech_at (map f xs) k ≡ f (get_or xs k d)
 map-get f [] k d p = absurd (omega arith)

@@ -1,6 +1,5 @@
-mod TokenLemmas
-pub mod SpeechLemmas
 mod JoinLemmas
+mod MadeLemmas
+mod ProcessLemmas
 pub mod EndLemmas
 mod TakingLemmas
-mod SaidLemmas

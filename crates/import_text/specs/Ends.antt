@@ -1,15 +1,19 @@
 -- How an import ends.
-use Rattle.std.specs.Prelude.{◌≡◌, ℕ, List, Option, Result, Ok, Err, length}
+use Rattle.std.specs.Prelude.{◌≡◌, ℕ, List, [], Option, Result, Ok, Err, length}
 use Rattle.std.specs.Io.KnownBytes.{Keeps, Appends}
 use Rattle.trace_io.specs.Lines.{lines_of}
 use Rattle.trace_io.specs.Sink.{AppendsFront}
 use Rattle.trace_io.specs.declared.fault.IoFault.{IoFault}
 use Rattle.trace_io.specs.declared.fault.IoFault.TheVariants.{ReadFailed, NoMemory, WriteFailed}
 use Rattle.import_text.specs.Counts.{total}
-use Rattle.import_text.specs.Imported.{import_of}
+use Rattle.import_text.specs.Imported.{ending_of, import_of, process_in, processes_of, unread_of}
 use Rattle.import_text.specs.Taking.{SoFar}
 use Rattle.import_text.specs.Texts.{imported_text}
 use Rattle.import_text.specs.declared.counts.Counts.{Counts}
+use Rattle.import_text.specs.declared.import.Ending.{Ending}
+use Rattle.import_text.specs.declared.import.Ending.TheVariants.{Written, Nothing, Absent}
+use Rattle.import_text.specs.declared.import.Report.{Report}
+use Rattle.import_text.specs.declared.processes.Choice.{Choice}
 
 -- the text that is made of a log was written, and each of its lines is counted so
 pub record MakesText (text : List ℕ) (made counts : Counts) (input : List ℕ) (old new : Option (List ℕ)) : Type 0 where
@@ -28,10 +32,26 @@ abbrev pub MakeEnds : List ℕ → Counts → List ℕ → Option (List ℕ) →
 MakeEnds text made input old new (Ok counts) = MakesText text made counts input old new
 MakeEnds text made input old new (Err f) = MakeStops text old new f
 
--- the trace of what is there at the start and of what is taken of a log
-abbrev pub made_text : SoFar → Option ℕ → List ℕ → List ℕ
-made_text start thread input = imported_text 256 (import_of start thread input).0
+-- the trace, where there is one
+abbrev pub ended_text : Ending → SoFar → List ℕ
+ended_text Written s = imported_text 256 s
+ended_text Nothing s = []
+ended_text Absent s = []
 
--- how an import ends, whose text that is
-abbrev pub ImportEnds : SoFar → Option ℕ → List ℕ → Option (List ℕ) → Option (List ℕ) → Result Counts IoFault → Type 0
-ImportEnds start thread input old new r = MakeEnds (made_text start thread input) (import_of start thread input).1 input old new r
+-- the trace of what is there at the start and of what is taken of a log; nothing where no line is about the thread that was named, or no
+-- request would be in it
+abbrev pub made_text : SoFar → Choice → List ℕ → List ℕ
+made_text start choice input = ended_text (ending_of start choice input) (import_of start choice input).0
+
+-- the trace of a log was written, and this told of it
+pub record ImportsAll (start : SoFar) (choice : Choice) (input : List ℕ) (old new : Option (List ℕ)) (report : Report) : Type 0 where
+  pub log : MakesText (made_text start choice input) (import_of start choice input).1 report.counts input old new
+  pub ending : report.ending ≡ ending_of start choice input
+  pub processes : report.processes.items ≡ processes_of choice.joined input
+  pub process : report.process ≡ process_in choice input
+  pub unread : report.unread.items ≡ unread_of start choice input
+
+-- how an import ends
+abbrev pub ImportEnds : SoFar → Choice → List ℕ → Option (List ℕ) → Option (List ℕ) → Result Report IoFault → Type 0
+ImportEnds start choice input old new (Ok report) = ImportsAll start choice input old new report
+ImportEnds start choice input old new (Err f) = MakeStops (made_text start choice input) old new f

@@ -1,13 +1,21 @@
 -- A log, line by line, to what is taken of it.
-use Rattle.std.specs.Prelude.{ℕ, zero, suc, Bool, true, false, List, Option, None, Some, ◌==◌, length, map}
+use Rattle.std.specs.Prelude.{ℕ, zero, suc, Bool, true, false, List, [], ◌∷◌, Option, None, Some, if◌then◌else◌, ◌==◌, length, map, take}
 use Rattle.trace_io.specs.Lines.{lines_of}
 use Rattle.import_text.specs.Counts.{counted, no_counts}
 use Rattle.import_text.specs.Joining.{call_at, speech_at}
-use Rattle.import_text.specs.Made.{makings, process_of}
-use Rattle.import_text.specs.Said.{said_of}
-use Rattle.import_text.specs.Speech.{Spoken, speech_of}
+use Rattle.import_text.specs.Made.{all_makings, chain_of, holder, process_of}
+use Rattle.import_text.specs.Processes.{chosen, is_there, processes}
+use Rattle.import_forms.specs.Said.{said_of}
+use Rattle.import_forms.specs.Speech.{Spoken, speech_of}
 use Rattle.import_text.specs.Taking.{SoFar, after_said}
 use Rattle.import_text.specs.declared.counts.Counts.{Counts}
+use Rattle.import_text.specs.declared.import.Ending.{Ending}
+use Rattle.import_text.specs.declared.import.Ending.TheVariants.{Written, Nothing, Absent}
+use Rattle.import_text.specs.declared.made.Hold.{Hold}
+use Rattle.import_text.specs.declared.processes.Choice.{Choice}
+use Rattle.import_text.specs.declared.processes.Process.{Process}
+use Rattle.import_forms.specs.declared.said.Said.{Said}
+use Rattle.import_forms.specs.declared.said.Said.TheVariants as Says
 use Rattle.import_text.specs.declared.made.Making.{Making}
 use Rattle.import_text.specs.declared.taking.Fate.{Fate}
 use Rattle.import_text.specs.declared.taking.Fate.TheVariants.{Left}
@@ -18,9 +26,9 @@ abbrev pub call_taken : SoFar → SoFar → ℕ → Option (List ℕ) → SoFar 
 call_taken start s thread None = (s, Left Half)
 call_taken start s thread (Some text) = after_said start s thread text (said_of text)
 
--- a thread is of the process
-abbrev pub is_of : ℕ → List Making → ℕ → Bool
-is_of process made thread = process_of made thread == process
+-- line k is about a thread of the process whose address space is followed there
+abbrev pub is_ours : List Making → List Hold → ℕ → ℕ → Bool
+is_ours made chain thread k = process_of made thread == holder chain k
 
 -- after line k, where it is of the process: what was taken, and what became of the line
 abbrev pub taken_if : Bool → SoFar → SoFar → List Spoken → ℕ → SoFar × Fate
@@ -28,31 +36,84 @@ taken_if true start s all k = call_taken start s (speech_at all k).0 (call_at al
 taken_if false start s all k = (s, Left Elsewhere)
 
 -- after line k
-abbrev pub line_taken : SoFar → SoFar → List Spoken → List Making → ℕ → ℕ → SoFar × Fate
-line_taken start s all made process k = taken_if (is_of process made (speech_at all k).0) start s all k
+abbrev pub line_taken : SoFar → SoFar → List Spoken → List Making → List Hold → ℕ → SoFar × Fate
+line_taken start s all made chain k = taken_if (is_ours made chain (speech_at all k).0 k) start s all k
 
 -- a line that met its fate, counted
 abbrev pub counted_with : Counts → SoFar × Fate → SoFar × Counts
 counted_with counts after = (after.0, counted counts after.1)
 
 -- after the first n lines, from what is there at the start
-abbrev pub imported : SoFar → List Spoken → List Making → ℕ → ℕ → SoFar × Counts
-imported start all made process zero = (start, no_counts)
-imported start all made process (suc n) =
-    let before = imported start all made process n in
-    counted_with before.1 (line_taken start before.0 all made process n)
+abbrev pub imported : SoFar → List Spoken → List Making → List Hold → ℕ → SoFar × Counts
+imported start all made chain zero = (start, no_counts)
+imported start all made chain (suc n) =
+    let before = imported start all made chain n in
+    counted_with before.1 (line_taken start before.0 all made chain n)
 
--- the thread that was asked for, or that of the first line
-abbrev pub chosen : Option ℕ → List Spoken → ℕ
-chosen (Some thread) all = thread
-chosen None all = (speech_at all 0).0
+-- the processes of all lines
+abbrev pub processes_all : Bool → List Spoken → List Process
+processes_all joined all = processes all (all_makings joined all) (length all)
 
--- all lines, for the chosen thread's process: only its threads are imported
-abbrev pub import_all : SoFar → Option ℕ → List Spoken → SoFar × Counts
-import_all start thread all =
-    let made = makings all (length all) in
-    imported start all made (process_of made (chosen thread all)) (length all)
+-- the process that is chosen
+abbrev pub chosen_all : Choice → List Spoken → ℕ
+chosen_all choice all = chosen choice.thread (all_makings choice.joined all) (processes_all choice.joined all)
+
+-- All lines, for the chosen process. Its lines are those of its threads, and before it was made those of its parent, whose address
+-- space it got then.
+abbrev pub import_all : SoFar → Choice → List Spoken → SoFar × Counts
+import_all start choice all =
+    let made = all_makings choice.joined all in
+    imported start all made (chain_of made (chosen_all choice all)) (length all)
+
+-- an import without a line about the thread that was named, or without a request, is an error
+abbrev pub ending_by : Bool → ℕ → Ending
+ending_by there steps = if there then (if steps == 0 then Nothing else Written) else Absent
+
+abbrev pub ending_all : SoFar → Choice → List Spoken → Ending
+ending_all start choice all = ending_by (is_there choice.thread all) (length (import_all start choice all).0.steps)
+
+-- ---- of a log
+
+abbrev pub speeches_of : List ℕ → List Spoken
+speeches_of log = map speech_of (lines_of log)
 
 -- what is taken of a log, beside what is there at the start, and how many of its lines became what
-abbrev pub import_of : SoFar → Option ℕ → List ℕ → SoFar × Counts
-import_of start thread log = import_all start thread (map speech_of (lines_of log))
+abbrev pub import_of : SoFar → Choice → List ℕ → SoFar × Counts
+import_of start choice log = import_all start choice (speeches_of log)
+
+-- how an import of it ends
+abbrev pub ending_of : SoFar → Choice → List ℕ → Ending
+ending_of start choice log = ending_all start choice (speeches_of log)
+
+-- its processes
+abbrev pub processes_of : Bool → List ℕ → List Process
+processes_of joined log = processes_all joined (speeches_of log)
+
+-- the process that is chosen
+abbrev pub process_in : Choice → List ℕ → ℕ
+process_in choice log = chosen_all choice (speeches_of log)
+
+-- what a line says that isn't read
+abbrev pub is_unread : Said → Bool
+is_unread (Says.Asks request) = false
+is_unread (Says.Breaks to) = false
+is_unread (Says.Moves from old to new) = false
+is_unread (Says.Makes thread shares) = false
+is_unread Says.Begins = false
+is_unread Says.Fails = false
+is_unread Says.Unread = true
+is_unread Says.Other = true
+
+-- the first line that isn't read, nothing where all are
+abbrev pub first_unread : List (List ℕ) → List ℕ
+first_unread [] = []
+first_unread (l ∷ ls) = if is_unread (said_of (speech_of l).1) then l else first_unread ls
+
+-- the first 80 bytes of it, where an import ended without a trace
+abbrev pub unread_for : Ending → List ℕ → List ℕ
+unread_for Written log = []
+unread_for Nothing log = take 80 (first_unread (lines_of log))
+unread_for Absent log = take 80 (first_unread (lines_of log))
+
+abbrev pub unread_of : SoFar → Choice → List ℕ → List ℕ
+unread_of start choice log = unread_for (ending_of start choice log) log

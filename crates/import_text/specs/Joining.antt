@@ -1,8 +1,8 @@
 -- The whole text of a call that strace tells in two lines, and the line at which it acts.
 use Rattle.std.specs.Prelude.{ℕ, zero, suc, ◌+◌, Bool, true, false, List, [], ◌∷◌, ◌++◌, Option, None, Some, if◌then◌else◌, ◌==◌, codes, drop, slice_index_or}
 use Rattle.std.specs.Str.{bytes_eq}
-use Rattle.import_text.specs.Tokens.{Token, front_token}
-use Rattle.import_text.specs.Speech.{Spoken, begun_of, returned_of}
+use Rattle.import_forms.specs.Tokens.{Token, front_token}
+use Rattle.import_forms.specs.Speech.{Spoken, begun_of, returned_of}
 
 -- what line k of the log says, counted from 0
 abbrev pub speech_at : List Spoken → ℕ → Spoken

@@ -1,8 +1,6 @@
-pub mod Tokens
-pub mod Speech
-pub mod Said
 pub mod Joining
 pub mod Made
+pub mod Processes
 pub mod Taking
 pub mod Counts
 pub mod Imported

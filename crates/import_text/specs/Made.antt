@@ -1,27 +1,42 @@
 -- Which threads were made, and by whom.
-use Rattle.std.specs.Prelude.{ℕ, zero, suc, List, [], ◌∷◌, ◌++◌, Option, None, Some, if◌then◌else◌, ◌==◌, length, option_map}
+use Rattle.std.specs.Prelude.{ℕ, zero, suc, Bool, true, false, List, [], ◌∷◌, ◌++◌, Option, None, Some, if◌then◌else◌, ◌==◌, length, nat_le, option_map}
 use Rattle.import_text.specs.Joining.{call_at, speech_at}
-use Rattle.import_text.specs.Said.{said_of}
-use Rattle.import_text.specs.Speech.{Spoken}
+use Rattle.import_forms.specs.Said.{said_of}
+use Rattle.import_forms.specs.Speech.{Spoken, returned_of}
 use Rattle.import_text.specs.declared.made.Making.{Making}
-use Rattle.import_text.specs.declared.said.Said.{Said}
-use Rattle.import_text.specs.declared.said.Said.TheVariants as Says
+use Rattle.import_text.specs.declared.made.Hold.{Hold}
+use Rattle.import_forms.specs.declared.said.Said.{Said}
+use Rattle.import_forms.specs.declared.said.Said.TheVariants as Says
 
 -- what the call says that acts at line k
 abbrev pub said_at : List Spoken → ℕ → Option Said
 said_at all k = option_map said_of (call_at all k)
 
--- the thread that this says was made
-abbrev pub making_of : ℕ → Option Said → Option Making
-making_of parent None = None
-making_of parent (Some (Says.Makes thread shares)) = Some (record { child = thread; parent = parent; shares = shares })
-making_of parent (Some (Says.Asks request)) = None
-making_of parent (Some (Says.Breaks to)) = None
-making_of parent (Some (Says.Moves from old to new)) = None
-making_of parent (Some Says.Begins) = None
-making_of parent (Some Says.Fails) = None
-making_of parent (Some Says.Unread) = None
-making_of parent (Some Says.Other) = None
+-- the place of the thread's last line among the first n, and else this place
+abbrev pub last_place : ℕ → List Spoken → ℕ → ℕ → ℕ
+last_place thread all place zero = place
+last_place thread all place (suc n) = if (speech_at all n).0 == thread then n else last_place thread all place n
+
+abbrev pub began_by : {T : Type 0} → List Spoken → ℕ → Option T → ℕ
+began_by all k None = k
+began_by all k (Some r) = last_place (speech_at all k).0 all k k
+
+-- the line in which the call began that acts at line k: where it stands in two lines, the first of them
+abbrev pub began_at : List Spoken → ℕ → ℕ
+began_at all k = began_by all k (returned_of (speech_at all k).1)
+
+-- the thread that line k says was made, by a call that began where this one did
+abbrev pub making_of : List Spoken → ℕ → Option Said → Option Making
+making_of all k None = None
+making_of all k (Some (Says.Makes thread shares)) =
+    Some (record { child = thread; parent = (speech_at all k).0; shares = shares; at = began_at all k })
+making_of all k (Some (Says.Asks request)) = None
+making_of all k (Some (Says.Breaks to)) = None
+making_of all k (Some (Says.Moves from old to new)) = None
+making_of all k (Some Says.Begins) = None
+making_of all k (Some Says.Fails) = None
+making_of all k (Some Says.Unread) = None
+making_of all k (Some Says.Other) = None
 
 -- who made a thread, where the list says so
 abbrev pub maker_of : List Making → ℕ → Option Making
@@ -41,18 +56,53 @@ with_making made (Some m) = first_made made m (maker_of made m.child)
 -- those that the first n lines say were made, each once
 abbrev pub makings : List Spoken → ℕ → List Making
 makings all zero = []
-makings all (suc n) = with_making (makings all n) (making_of (speech_at all n).0 (said_at all n))
+makings all (suc n) = with_making (makings all n) (making_of all n (said_at all n))
+
+-- with each thread of which no line says who made it, as one of process 0
+abbrev pub adopted : List Spoken → List Making → ℕ → List Making
+adopted all made zero = made
+adopted all made (suc n) =
+    with_making (adopted all made n) (Some (record { child = (speech_at all n).0; parent = 0; shares = true; at = 0 }))
+
+-- who made which thread, as all lines say; those of which none says so are of one process only where that was asked for
+abbrev pub all_makings : Bool → List Spoken → List Making
+all_makings joined all = if joined then adopted all (makings all (length all)) (length all) else makings all (length all)
+
+-- ---- processes
 
 -- the process of a thread that was made so: its own, or that of its maker
 abbrev pub process_by : (ℕ → ℕ) → ℕ → Option Making → ℕ
-process_by process thread None = 0
+process_by process thread None = thread
 process_by process thread (Some m) = if m.shares then process m.parent else thread
 
--- after at most n makers: the number of the process's first thread; 0 where no line says who made it
+-- after at most n makers: the number of the process's first thread
 abbrev pub process_within : List Making → ℕ → ℕ → ℕ
-process_within made zero thread = 0
+process_within made zero thread = thread
 process_within made (suc n) thread = process_by (process_within made n) thread (maker_of made thread)
 
--- the first thread of a thread's process
+-- The first thread of a thread's process. So two threads of which no line says who made them are two processes.
 abbrev pub process_of : List Making → ℕ → ℕ
 process_of made thread = process_within made (length made) thread
+
+-- how a process was made whose address space is its own
+abbrev pub fork_of : Option Making → Option Making
+fork_of None = None
+fork_of (Some m) = if m.shares then None else Some m
+
+-- a process that had its parent's address space before it was made, or one from the log's first line on
+abbrev pub held_by : (ℕ → List Hold) → List Making → ℕ → Option Making → List Hold
+held_by older made process None = record { process = process; from = 0 } ∷ []
+held_by older made process (Some m) = record { process = process; from = m.at } ∷ older (process_of made m.parent)
+
+-- a process, its parent, and so on, n of them and one at most
+abbrev pub chain_within : List Making → ℕ → ℕ → List Hold
+chain_within made zero process = record { process = process; from = 0 } ∷ []
+chain_within made (suc n) process = held_by (chain_within made n) made process (fork_of (maker_of made process))
+
+abbrev pub chain_of : List Making → ℕ → List Hold
+chain_of made process = chain_within made (length made) process
+
+-- the process whose address space is followed at line k: the first of these that is there by then
+abbrev pub holder : List Hold → ℕ → ℕ
+holder [] k = 0
+holder (h ∷ hs) k = if nat_le h.from k then h.process else holder hs k

@@ -6,9 +6,9 @@ use Rattle.vm_base.specs.declared.rights.Prot.{Prot}
 use Rattle.vm_base.specs.declared.requests.Flags.{Flags}
 use Rattle.vm_base.specs.declared.requests.Request.{Request}
 use Rattle.vm_base.specs.declared.requests.Request.TheVariants.{Mmap, Munmap, Mprotect, Load, Store, Fetch}
-use Rattle.import_text.specs.Said.{file_named}
-use Rattle.import_text.specs.declared.said.Said.{Said}
-use Rattle.import_text.specs.declared.said.Said.TheVariants as Says
+use Rattle.import_forms.specs.Said.{file_named}
+use Rattle.import_forms.specs.declared.said.Said.{Said}
+use Rattle.import_forms.specs.declared.said.Said.TheVariants as Says
 use Rattle.import_text.specs.declared.taking.Step.{Step}
 use Rattle.import_text.specs.declared.taking.FileUse.{FileUse}
 use Rattle.import_text.specs.declared.taking.Taken.{Taken}

@@ -1,57 +1,56 @@
 //! A log of strace, line by line, to what is taken of it.
-ghost use Rattle.std.specs.Prelude.{◌≡◌, ◌<◌, ◌^◌, IfOk, length, map};
+ghost use Rattle.std.specs.Prelude.{◌≡◌, ◌<◌, ◌^◌, IfOk, length, map, take};
+ghost use Rattle.import_forms.specs.Speech.{spoken};
 ghost use Rattle.trace_io.specs.Lines.{lines_of};
 ghost use Rattle.import_text.specs.Counts.{total};
-ghost use Rattle.import_text.specs.Imported.{chosen, import_of, imported, is_of, taken_if};
-ghost use Rattle.import_text.specs.Speech.{spoken};
+ghost use Rattle.import_text.specs.Imported.{chosen_all, ending_all, import_all, processes_all};
+ghost use Rattle.import_text.specs.Imported.{ending_by, ending_of, first_unread, import_of, imported, is_unread, processes_of, process_in, taken_if, unread_for, unread_of};
+ghost use Rattle.import_text.specs.Processes.{is_there};
 ghost use Rattle.import_text.specs.Taking.{so_far};
 
 use crate::counts::Counts;
 use crate::joining::put_call;
-use crate::made::{Making, process_of, read_makings};
-use crate::said::read_call;
-use crate::speech::{Speech, read_speeches};
+use crate::made::{Hold, Making, all_makings, chain_of, holder};
+use crate::processes::{Choice, Process, chosen, is_there, look, read_processes, recall};
 use crate::taking::{Fate, Reason, Taken, take};
+use import_forms::said::{Said, read_call};
+use import_forms::speech::{Speech, read_speech, read_speeches};
 use std::alloc::{AllocError, Global};
+use trace_io::lines::front_line;
 
-/// What is taken of a log, and how many of its lines became what.
+/// How an import of a log ended.
+#[derive(Clone, Copy, Debug, PartialEq, Eq)]
+pub enum Ending {
+    /// There is a trace.
+    Written,
+    /// There would be no request in it.
+    Nothing,
+    /// No line is about the thread whose process was asked for.
+    Absent,
+}
+
+/// What is told of an import of a log.
+#[derive(Debug, Drop)]
+pub struct Report {
+    /// How it ended.
+    pub ending: Ending,
+    /// How many lines were kept, changed and left out.
+    pub counts: Counts,
+    /// The processes of the log, in the order of their first lines.
+    pub processes: Vec<Process>,
+    /// The process that is imported.
+    pub process: u64,
+    /// The first line that isn't read, 80 bytes at most, where there is no trace.
+    pub unread: Vec<u8>,
+}
+
+/// What is taken of a log, and what is told of that.
 #[derive(Debug, Drop)]
 pub struct Imported {
     /// What is taken.
     pub taken: Taken,
     /// How many lines were kept, changed and left out.
     pub counts: Counts,
-}
-
-// A thread, and whether it is of the process that is imported.
-#[derive(Clone, Copy, Debug, PartialEq, Eq)]
-struct Known {
-    thread: u64,
-    is_ours: bool,
-}
-
-// Looks whether the thread is of the process.
-fn look(made: &[Making], process: u64, thread: u64) -> Known
-    ensures thread { result.thread ≡ thread }
-    ensures known { result.is_ours ≡ is_of process made.now thread }
-{
-    Known {
-        thread,
-        is_ours: process_of(made, thread) == process,
-    }
-}
-
-// Whether the thread is of the process, as it is known of one thread: the next line is often of the same.
-fn recall(made: &[Making], process: u64, known: Known, thread: u64) -> Known
-    requires { known.is_ours ≡ is_of process made.now known.thread }
-    ensures thread { result.thread ≡ thread }
-    ensures known { result.is_ours ≡ is_of process made.now thread }
-{
-    if known.thread == thread {
-        known
-    } else {
-        look(made, process, thread)
-    }
 }
 
 // Takes what this line says, if it is of the process that is imported.
@@ -85,65 +84,148 @@ fn take_lines<'a>(
     start: &Taken,
     speeches: &[Speech<'a>],
     made: &[Making],
-    process: u64,
+    chain: &[Hold],
     text: &mut Vec<u8>,
 ) -> Result<Imported, AllocError>
     ensures value { IfOk result (λ i. (so_far i.taken, i.counts)
-        ≡ imported (so_far start.now) (map spoken speeches.now) made.now process (length speeches.now)) }
+        ≡ imported (so_far start.now) (map spoken speeches.now) made.now chain.now (length speeches.now)) }
     ensures total { IfOk result (λ i. total i.counts ≡ length speeches.now) }
     ensures few { IfOk result (λ i. total i.counts < 2 ^ 64) }
 {
     let mut taken = start.copy(alloc)?;
     let mut counts = Counts::new();
-    let mut known = look(made, process, 0);
+    let mut known = look(made, 0);
     let mut at = 0;
     'lines: while at < speeches.len() {
-        known = recall(made, process, known, speeches[at].thread);
-        let fate = take_line(alloc, start, &mut taken, speeches, known.is_ours, at, text)?;
+        known = recall(made, known, speeches[at].thread);
+        let is_ours = known.process == holder(chain, at);
+        let fate = take_line(alloc, start, &mut taken, speeches, is_ours, at, text)?;
         counts = counts.and(fate);
         at += 1;
     }
     Ok(Imported { taken, counts })
 }
 
-// The thread whose process is imported: the one that was asked for, or that of the first line.
-fn chosen<'a>(thread: Option<u64>, speeches: &[Speech<'a>]) -> u64
-    ensures { result ≡ chosen thread (map spoken speeches.now) }
+// Tells whether what is said isn't read.
+fn is_unread(said: Said) -> bool
+    ensures { result ≡ is_unread said }
 {
-    match thread {
-        Some(thread) => thread,
-        None => {
-            if speeches.is_empty() {
-                0
-            } else {
-                speeches[0].thread
-            }
-        }
+    match said {
+        Said::Unread | Said::Other => true,
+        Said::Asks(_)
+        | Said::Breaks(_)
+        | Said::Moves { .. }
+        | Said::Makes { .. }
+        | Said::Begins
+        | Said::Fails => false,
     }
 }
 
-/// What is taken of a log of strace, beside what is there at the start: what the process of this thread asked of its address
-/// space, or that of the thread of the first line, since its last program began. Each line is counted once.
+// The first line that isn't read, nothing where all are.
+fn first_unread(log: &[u8]) -> &[u8]
+    ensures { result.now ≡ first_unread (lines_of log.now) }
+{
+    let mut rest = log;
+    'lines: while !rest.is_empty() {
+        let (line, more) = front_line(rest);
+        let said = read_call(read_speech(line).text);
+        if is_unread(said) {
+            return line;
+        }
+        rest = more;
+    }
+    b"".as_slice()
+}
+
+// The first bytes of a line, 80 at most.
+#[tactic(auto, using(std::proofs::lemmas::List::take_min))]
+fn front_of(line: &[u8]) -> &[u8]
+    ensures { result.now ≡ take 80 line.now }
+{
+    &line[..80usize.min(line.len())]
+}
+
+// The first 80 bytes of that line, where an import ends without a trace.
+fn copy_unread(alloc: Global, log: &[u8], ending: Ending) -> Result<Vec<u8>, AllocError>
+    ensures { IfOk result (λ line. line.items ≡ unread_for ending log.now) }
+{
+    match ending {
+        Ending::Written => Ok(Vec::new(alloc)),
+        Ending::Nothing | Ending::Absent => Vec::from_slice(alloc, front_of(first_unread(log))),
+    }
+}
+
+// How an import ended of which this is taken, of a log that has lines of the thread or not.
+fn ending_by(is_there: bool, steps: usize) -> Ending
+    ensures { result ≡ ending_by is_there steps }
+{
+    if !is_there {
+        Ending::Absent
+    } else if steps == 0 {
+        Ending::Nothing
+    } else {
+        Ending::Written
+    }
+}
+
+// What is taken of the lines, for the process that is chosen, and what is told of that.
+fn import_speeches<'a>(
+    alloc: Global,
+    start: &Taken,
+    log: &[u8],
+    speeches: &[Speech<'a>],
+    choice: Choice,
+) -> Result<(Taken, Report), AllocError>
+    ensures value { IfOk result (λ i. (so_far i.0, i.1.counts) ≡ import_all (so_far start.now) choice (map spoken speeches.now)) }
+    ensures ending { IfOk result (λ i. i.1.ending ≡ ending_all (so_far start.now) choice (map spoken speeches.now)) }
+    ensures processes { IfOk result (λ i. i.1.processes.items ≡ processes_all choice.joined (map spoken speeches.now)) }
+    ensures process { IfOk result (λ i. i.1.process ≡ chosen_all choice (map spoken speeches.now)) }
+    ensures unread { IfOk result (λ i. i.1.unread.items ≡ unread_for i.1.ending log.now) }
+    ensures total { IfOk result (λ i. total i.1.counts ≡ length speeches.now) }
+    ensures few { IfOk result (λ i. total i.1.counts < 2 ^ 64) }
+{
+    let mut text: Vec<u8> = Vec::new(alloc);
+    let made = all_makings(alloc, speeches, choice.joined, &mut text)?;
+    let processes = read_processes(alloc, speeches, made.as_slice(), &mut text)?;
+    let process = chosen(choice, made.as_slice(), processes.as_slice());
+    let chain = chain_of(alloc, made.as_slice(), process)?;
+    let imported = take_lines(
+        alloc,
+        start,
+        speeches,
+        made.as_slice(),
+        chain.as_slice(),
+        &mut text,
+    )?;
+    let ending = ending_by(is_there(choice, speeches), imported.taken.steps.len());
+    let unread = copy_unread(alloc, log, ending)?;
+    let report = Report {
+        ending,
+        counts: imported.counts,
+        processes,
+        process,
+        unread,
+    };
+    Ok((imported.taken, report))
+}
+
+/// What is taken of a log of strace, beside what is there at the start: what the chosen process asked of its address space, and
+/// before it was made its parent of its own, since the last program began. Each line is counted once.
 pub fn import_lines(
     alloc: Global,
     start: &Taken,
     log: &[u8],
-    thread: Option<u64>,
-) -> Result<Imported, AllocError>
-    ensures value { IfOk result (λ i. (so_far i.taken, i.counts) ≡ import_of (so_far start.now) thread log.now) }
-    ensures total { IfOk result (λ i. total i.counts ≡ length (lines_of log.now)) }
-    ensures few { IfOk result (λ i. total i.counts < 2 ^ 64) }
+    choice: Choice,
+) -> Result<(Taken, Report), AllocError>
+    ensures value { IfOk result (λ i. (so_far i.0, i.1.counts) ≡ import_of (so_far start.now) choice log.now) }
+    ensures ending { IfOk result (λ i. i.1.ending ≡ ending_of (so_far start.now) choice log.now) }
+    ensures processes { IfOk result (λ i. i.1.processes.items ≡ processes_of choice.joined log.now) }
+    ensures process { IfOk result (λ i. i.1.process ≡ process_in choice log.now) }
+    ensures unread { IfOk result (λ i. i.1.unread.items ≡ unread_of (so_far start.now) choice log.now) }
+    ensures total { IfOk result (λ i. total i.1.counts ≡ length (lines_of log.now)) }
+    ensures few { IfOk result (λ i. total i.1.counts < 2 ^ 64) }
 {
     let speeches = read_speeches(alloc, log)?;
-    let mut text: Vec<u8> = Vec::new(alloc);
-    let made = read_makings(alloc, speeches.as_slice(), &mut text)?;
-    let process = process_of(made.as_slice(), chosen(thread, speeches.as_slice()));
-    take_lines(
-        alloc,
-        start,
-        speeches.as_slice(),
-        made.as_slice(),
-        process,
-        &mut text,
-    )
+    let imported = import_speeches(alloc, start, log, speeches.as_slice(), choice)?;
+    Ok(imported)
 }

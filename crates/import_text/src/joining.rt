@@ -2,10 +2,10 @@
 ghost use Rattle.std.specs.Prelude.{◌≡◌, ◌<◌, ◌≤◌, IfOk, OnOk, drop, length, map};
 ghost use Rattle.import_text.specs.Joining.{acting_text, call_at, call_begun, call_returned, front_for, is_named, joined};
 ghost use Rattle.import_text.specs.Joining.{last_of, next_of};
-ghost use Rattle.import_text.specs.Speech.{begun_of, spoken};
+ghost use Rattle.import_forms.specs.Speech.{begun_of, spoken};
 
-use crate::speech::{Speech, begun, returned};
-use crate::tokens::next_token;
+use import_forms::speech::{Speech, begun, returned};
+use import_forms::tokens::next_token;
 use std::alloc::{AllocError, Global};
 
 // Tells whether the call has this name.

@@ -1,66 +1,76 @@
 //! A log is read whole, and its trace is written.
 ghost use Rattle.std.specs.Prelude.{◌≡◌, ◌⊎◌, ◌<◌, ◌^◌, Err, IfOk, OnOk, true};
 ghost use Rattle.import_text.specs.Counts.{total};
-ghost use Rattle.import_text.specs.Ends.{ImportEnds};
+ghost use Rattle.import_text.specs.Ends.{ImportEnds, ended_text};
 ghost use Rattle.import_text.specs.Taking.{so_far};
 ghost use Rattle.trace_io.specs.Io.{TellsSent, read_from, written_to};
 ghost use Rattle.trace_io.specs.Source.{Reads};
 
-use crate::counts::Counts;
-use crate::import::import_lines;
+use crate::import::{Ending, Report, import_lines};
+use crate::processes::Choice;
 use crate::taking::Taken;
 use crate::writing::{FRAMES, write_taken};
-use std::alloc::Global;
+use std::alloc::{AllocError, Global};
 use trace_io::IoFault;
 use trace_io::sink::{Sink, write_out};
 use trace_io::source::{Source, read_all};
 
-// Writes the trace of a log, and answers how many lines were kept, changed and left out.
+// The text of a trace, where an import ended with one.
+fn write_ended(alloc: Global, ending: Ending, taken: &Taken) -> Result<Vec<u8>, AllocError>
+    ensures { IfOk result (λ all. all.items ≡ ended_text ending (so_far taken.now)) }
+{
+    match ending {
+        Ending::Written => write_taken(alloc, taken, FRAMES),
+        Ending::Nothing | Ending::Absent => Ok(Vec::new(alloc)),
+    }
+}
+
+// Writes the trace of a log, and answers what is told of it.
 #[tactic(auto, using(crate::proofs::EndLemmas::imports_all, crate::proofs::EndLemmas::imports_front, trace_io::proofs::IoLemmas::keeps_same))]
 fn write_import<W: Sink>(
     alloc: Global,
     start: &Taken,
     log: &[u8],
     writer: &mut W,
-    thread: Option<u64>,
-) -> Result<Counts, IoFault>
-    ensures ends { ImportEnds (so_far start.now) thread log.now (W.contents writer.old) (W.contents writer.new) result }
-    ensures few { IfOk result (λ counts. total counts < 2 ^ 64) }
+    choice: Choice,
+) -> Result<Report, IoFault>
+    ensures ends { ImportEnds (so_far start.now) choice log.now (W.contents writer.old) (W.contents writer.new) result }
+    ensures few { IfOk result (λ report. total report.counts < 2 ^ 64) }
     ensures out { OnOk result (W.is_flushed writer.new ≡ true) }
     ensures read { result ≡ Err IoFault.ReadFailed → ⊥ }
     ensures write { result ≡ Err IoFault.WriteFailed → W.failed writer.new ≡ true }
     ensures kept { (result ≡ Err IoFault.WriteFailed) ⊎ (W.failed writer.new ≡ W.failed writer.old) }
 {
-    let Ok(imported) = import_lines(alloc, start, log, thread) else {
+    let Ok((taken, report)) = import_lines(alloc, start, log, choice) else {
         return Err(IoFault::NoMemory);
     };
-    let Ok(text) = write_taken(alloc, &imported.taken, FRAMES) else {
+    let Ok(text) = write_ended(alloc, report.ending, &taken) else {
         return Err(IoFault::NoMemory);
     };
     match write_out(writer, text.as_slice()) {
-        Ok(()) => Ok(imported.counts),
+        Ok(()) => Ok(report),
         Err(_) => Err(IoFault::WriteFailed),
     }
 }
 
-/// Reads a log of strace to its end, and writes its trace: what is there at the start, and what the process of this thread
-/// asked of its address space, or that of the thread of the first line. Answers how many lines were kept, changed and left
-/// out. Nothing is written before all is read and found its memory.
+/// Reads a log of strace to its end, and writes its trace: what is there at the start, and what the chosen process asked of its
+/// address space. Answers what is told of that. Nothing is written before all is read and found its memory; and nothing at all
+/// where no request would be in the trace, or no line is about the thread that was named.
 pub fn import_log<S: Source, W: Sink>(
     alloc: Global,
     start: &Taken,
     reader: &mut S,
     writer: &mut W,
-    thread: Option<u64>,
-) -> Result<Counts, IoFault>
+    choice: Choice,
+) -> Result<Report, IoFault>
     ensures ends { Reads (S.stream reader.old) (S.stream reader.new) (λ input unread.
-        ImportEnds (so_far start.now) thread input (W.contents writer.old) (W.contents writer.new) result) }
-    ensures few { IfOk result (λ counts. total counts < 2 ^ 64) }
+        ImportEnds (so_far start.now) choice input (W.contents writer.old) (W.contents writer.new) result) }
+    ensures few { IfOk result (λ report. total report.counts < 2 ^ 64) }
     ensures told { TellsSent (λ f. f) result (read_from S.Source reader.old reader.new)
         (written_to W.Sink writer.old writer.new) }
 {
     match read_all(alloc, reader) {
-        Ok(log) => write_import(alloc, start, log.as_slice(), writer, thread),
+        Ok(log) => write_import(alloc, start, log.as_slice(), writer, choice),
         Err(fault) => Err(fault),
     }
 }

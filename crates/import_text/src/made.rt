@@ -1,13 +1,13 @@
-//! Which threads were made, and by whom: of which process a thread is.
-ghost use Rattle.std.specs.Prelude.{◌≡◌, ◌<◌, IfOk, OnOk, Some, length, map, option_map};
+//! Which threads were made, and by whom: of which process a thread is, and whose address space a process had before it was made.
+ghost use Rattle.std.specs.Prelude.{◌≡◌, ◌<◌, ◌≤◌, IfOk, OnOk, Some, length, map, option_map};
+ghost use Rattle.import_forms.specs.Speech.{spoken};
 ghost use Rattle.import_text.specs.Joining.{acting_text};
-ghost use Rattle.import_text.specs.Made.{maker_of, makings, making_of, process_of, with_making};
-ghost use Rattle.import_text.specs.Said.{said_of};
-ghost use Rattle.import_text.specs.Speech.{spoken};
+ghost use Rattle.import_text.specs.Made.{adopted, all_makings, began_at, chain_of, fork_of, holder, last_place, maker_of, makings, making_of, process_of, with_making};
+ghost use Rattle.import_forms.specs.Said.{said_of};
 
 use crate::joining::put_call;
-use crate::said::{Said, read_call};
-use crate::speech::Speech;
+use import_forms::said::{Said, read_call};
+use import_forms::speech::{Speech, returned};
 use std::alloc::{AllocError, Global};
 
 /// One thread that another made.
@@ -19,17 +19,57 @@ pub struct Making {
     pub parent: u64,
     /// Whether it is of the same process.
     pub shares: bool,
+    /// The line in which the call that made it began, counted from 0.
+    pub at: usize,
 }
 
-// The thread that this says was made.
-fn making_of(parent: u64, said: Said) -> Option<Making>
-    ensures { result ≡ making_of parent (Some said) }
+/// A process, and the first line at which it has an address space of its own.
+#[derive(Clone, Copy, Debug, PartialEq, Eq)]
+pub struct Hold {
+    /// The number of its first thread.
+    pub process: u64,
+    /// The line, counted from 0.
+    pub from: usize,
+}
+
+// The place of the thread's last line before this one; this one where there is none.
+fn last_place<'a>(speeches: &[Speech<'a>], place: usize, thread: u64) -> usize
+    requires { place ≤ length speeches.now }
+    ensures { result ≡ last_place thread (map spoken speeches.now) place place }
+{
+    let mut at = place;
+    'earlier: while at > 0 {
+        at -= 1;
+        if speeches[at].thread == thread {
+            return at;
+        }
+    }
+    place
+}
+
+// The line in which the call began that acts at this one.
+fn began_at<'a>(speeches: &[Speech<'a>], place: usize) -> usize
+    requires { place < length speeches.now }
+    ensures { result ≡ began_at (map spoken speeches.now) place }
+{
+    let speech = speeches[place];
+    match returned(speech.text) {
+        Some(_) => last_place(speeches, place, speech.thread),
+        None => place,
+    }
+}
+
+// The thread that this line says was made.
+fn making_of<'a>(speeches: &[Speech<'a>], place: usize, said: Said) -> Option<Making>
+    requires { place < length speeches.now }
+    ensures { result ≡ making_of (map spoken speeches.now) place (Some said) }
 {
     match said {
         Said::Makes { thread, shares } => Some(Making {
             child: thread,
-            parent,
+            parent: speeches[place].thread,
             shares,
+            at: began_at(speeches, place),
         }),
         Said::Asks(_)
         | Said::Breaks(_)
@@ -54,8 +94,8 @@ fn add_making(made: &mut Vec<Making>, making: Making) -> Result<(), AllocError>
     }
 }
 
-/// All threads that the lines say were made, each once, in the order of the first lines that say so.
-pub(crate) fn read_makings<'a>(
+// All threads that the lines say were made, each once, in the order of the first lines that say so.
+fn read_makings<'a>(
     alloc: Global,
     speeches: &[Speech<'a>],
     text: &mut Vec<u8>,
@@ -67,11 +107,46 @@ pub(crate) fn read_makings<'a>(
     'lines: while at < speeches.len() {
         if put_call(speeches, at, text)? {
             let said = read_call(text.as_slice());
-            if let Some(making) = making_of(speeches[at].thread, said) {
+            if let Some(making) = making_of(speeches, at, said) {
                 add_making(&mut made, making)?;
             }
         }
         at += 1;
+    }
+    Ok(made)
+}
+
+// Adds each thread of which no line says who made it as one of process 0.
+fn adopt<'a>(made: &mut Vec<Making>, speeches: &[Speech<'a>]) -> Result<(), AllocError>
+    ensures { OnOk result (made.new.items ≡ adopted (map spoken speeches.now) made.old.items (length speeches.now)) }
+{
+    let mut at = 0;
+    'lines: while at < speeches.len() {
+        let thread = speeches[at].thread;
+        let making = Making {
+            child: thread,
+            parent: 0,
+            shares: true,
+            at: 0,
+        };
+        add_making(made, making)?;
+        at += 1;
+    }
+    Ok(())
+}
+
+/// Who made which thread, as the lines say. Where all threads of which none says so are of one process, that is process 0.
+pub(crate) fn all_makings<'a>(
+    alloc: Global,
+    speeches: &[Speech<'a>],
+    joined: bool,
+    text: &mut Vec<u8>,
+) -> Result<Vec<Making>, AllocError>
+    ensures { IfOk result (λ made. made.items ≡ all_makings joined (map spoken speeches.now)) }
+{
+    let mut made = read_makings(alloc, speeches, text)?;
+    if joined {
+        adopt(&mut made, speeches)?;
     }
     Ok(made)
 }
@@ -91,7 +166,8 @@ fn maker_of(made: &[Making], thread: u64) -> Option<Making>
     None
 }
 
-/// The process of a thread: the number of its first thread, or 0 where no line says who made that.
+/// The process of a thread: the number of its first thread, which is the first of whose maker no line tells, or which was made
+/// with an address space of its own.
 pub(crate) fn process_of(made: &[Making], thread: u64) -> u64
     ensures { result ≡ process_of made.now thread }
 {
@@ -100,12 +176,65 @@ pub(crate) fn process_of(made: &[Making], thread: u64) -> u64
     'makers: while more > 0 {
         more -= 1;
         let Some(making) = maker_of(made, thread) else {
-            return 0;
+            return thread;
         };
         if !making.shares {
             return thread;
         }
         thread = making.parent;
+    }
+    thread
+}
+
+// How the first thread of a process was made, where it was made with an address space of its own.
+fn fork_of(made: &[Making], process: u64) -> Option<Making>
+    ensures { result ≡ fork_of (maker_of made.now process) }
+{
+    match maker_of(made, process) {
+        Some(making) => { if making.shares { None } else { Some(making) } }
+        None => None,
+    }
+}
+
+/// The process, and behind it those whose address spaces it had before it was made: its parent's, and before that the parent's
+/// parent's, and so on.
+pub(crate) fn chain_of(
+    alloc: Global,
+    made: &[Making],
+    process: u64,
+) -> Result<Vec<Hold>, AllocError>
+    ensures { IfOk result (λ chain. chain.items ≡ chain_of made.now process) }
+{
+    let mut chain: Vec<Hold> = Vec::new(alloc);
+    let mut process = process;
+    let mut more = made.len();
+    'forks: while more > 0 {
+        more -= 1;
+        let Some(making) = fork_of(made, process) else {
+            chain.push(Hold { process, from: 0 })?;
+            return Ok(chain);
+        };
+        chain.push(Hold {
+            process,
+            from: making.at,
+        })?;
+        process = process_of(made, making.parent);
+    }
+    chain.push(Hold { process, from: 0 })?;
+    Ok(chain)
+}
+
+/// The process whose address space is followed at this line.
+pub(crate) fn holder(chain: &[Hold], line: usize) -> u64
+    ensures { result ≡ holder chain.now line }
+{
+    let mut at = 0;
+    'holds: while at < chain.len() {
+        let hold = chain[at];
+        if hold.from <= line {
+            return hold.process;
+        }
+        at += 1;
     }
     0
 }

@@ -5,7 +5,7 @@ ghost use Rattle.import_text.specs.Taking.{after_break, after_file, after_mappin
 ghost use Rattle.import_text.specs.Taking.{file_place, files_with, heap_moved, in_place, nothing_taken, place_named, place_of};
 ghost use Rattle.import_text.specs.Taking.{reaches, resized, rounded, so_far, use_of, widened};
 
-use crate::said::{Said, read_file_name};
+use import_forms::said::{Said, read_file_name};
 use std::alloc::{AllocError, Global};
 use vm_base::limits::{FILE_BYTES, FILE_COUNT};
 use vm_base::{CoreId, Flags, Prot, Request};

@@ -9,6 +9,7 @@ use import_lackey::traced::trace_log;
 use import_maps::entries::Entries;
 use import_maps::mapped::{Told, import_mapped};
 use import_text::counts::Counts;
+use import_text::processes::Choice;
 use std::alloc::Global;
 use std::fs::File;
 use std::io::Write;
@@ -40,11 +41,20 @@ fn bytes_of(rt: &HostRuntime, alloc: Global, name: &str) -> Option<Vec<u8>> {
 }
 
 // What a list and a log become, and what becomes of their lines.
-fn imported(alloc: Global, list: &[u8], log: &[u8]) -> Option<(Vec<u8>, Told)> {
+fn imported(
+    alloc: Global,
+    list: &[u8],
+    log: &[u8],
+    thread: Option<u64>,
+) -> Option<(Vec<u8>, Told)> {
     let mut list = Counted::new(list);
     let mut log = Counted::new(log);
     let mut out = Noted::unbuffered(alloc, Vec::new(alloc));
-    match import_mapped(alloc, &mut list, &mut log, &mut out, None) {
+    let choice = Choice {
+        thread,
+        joined: false,
+    };
+    match import_mapped(alloc, &mut list, &mut log, &mut out, choice) {
         Ok(told) => Some((out.writer.into_parts().0, told)),
         Err(_) => None,
     }
@@ -150,14 +160,14 @@ fn try_log<W: Write>(
     rt: &HostRuntime,
     alloc: Global,
     out: &mut W,
-    (name, list, log): (&str, &str, &str),
+    (name, list, log, thread): (&str, &str, &str, Option<u64>),
 ) -> Option<()> {
     let list = bytes_of(rt, alloc, list)?;
     let log = bytes_of(rt, alloc, log)?;
-    let (trace, told) = imported(alloc, list.as_slice(), log.as_slice())?;
+    let (trace, told) = imported(alloc, list.as_slice(), log.as_slice(), thread)?;
     let replies = replied(alloc, trace.as_slice())?;
     tell_entries(out, name, &told.entries);
-    tell_counts(out, name, &told.counts);
+    tell_counts(out, name, &told.report.counts);
     tell_replies(out, name, count(replies.as_slice()));
     Some(())
 }
@@ -178,12 +188,13 @@ fn try_accesses<W: Write>(
     Some(())
 }
 
-const PROGRAMS: [(&str, &str, &str); 5] = [
-    ("heap", "heap.maps", "heap.log"),
-    ("ls", "ls.maps", "ls.log"),
-    ("python", "python.maps", "python.log"),
-    ("node", "node.maps", "node.log"),
-    ("gcc", "gcc.maps", "gcc.log"),
+// The last log has several processes, of which the list is of the first.
+const PROGRAMS: [(&str, &str, &str, Option<u64>); 5] = [
+    ("heap", "heap.maps", "heap.log", None),
+    ("ls", "ls.maps", "ls.log", None),
+    ("python", "python.maps", "python.log", None),
+    ("node", "node.maps", "node.log", None),
+    ("gcc", "gcc.maps", "gcc.log", Some(14096)),
 ];
 
 fn main(rt: HostRuntime) -> ExitCode {

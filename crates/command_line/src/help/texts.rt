@@ -4,23 +4,24 @@
 pub const NOTES: &str = "\
 certify reads notes, and certifies that they are a run of the machine, or
 refuses them. Notes say which steps were made, in which order, and what each
-came to: those of several cores may have been noted side by side. They begin as
-a trace does, with a vm line, here always with CALLS, and a line for each file.
-Each note is
+came to. Several cores may have noted their steps side by side. The text begins
+as a trace does, with a vm line, here always with CALLS, and a line for each
+file. Each note is
 
   TICKET EVENT = OUTCOME
 
 TICKET is the step's place in the order of all steps, from 0 on. EVENT is an
-event of help trace of one step: not cC!, and not cC finish. OUTCOME is what
-help outcomes says, but not stuck. Notes may stand in any order.
+event of help trace that makes one step: not cC!, and not cC finish. OUTCOME is
+as in help outcomes, but not stuck. Notes may stand in any order.
 
 certify gives the events to the machine in order of tickets, and writes a line:
 
-  certified CALLS    they are a run of it with just these outcomes, in which so
-                     many calls were answered; what holds of all runs holds of
-                     it: a plain page map can give these replies (help log)
-  refused C1 TICKET  of the tickets below the number of notes, this is the
-                     least that doesn't stand once
+  certified CALLS    they are a run of the machine with just these outcomes, in
+                     which so many calls were answered; what holds of all runs
+                     holds of it: a plain page map can give these replies
+                     (help log)
+  refused C1 TICKET  the tickets from 0 up to the number of notes must stand
+                     once each; this is the least that doesn't
   refused C2 TICKET: noted OUTCOME, expected OUTCOME
                      the first step that comes to something else
 
@@ -29,55 +30,52 @@ Example, a call and its two steps:
     '2 c0 go = segv maperr' | radixvm certify
 writes certified 1.
 
-Status: 0 where they are certified, 1 where they are refused. A fault is told
-as help faults says, and then nothing is written; with --explain more is told
-of it.
+Status: 0 if they are certified, 1 if they are refused. A fault is told as help
+faults says, and then nothing is written; --explain tells more of it.
 ";
 
 /// What `live` reads and writes.
 pub const THREADS: &str = "\
 live reads a script, and runs each core's lines, in their order, on a thread of
-the core's own, or one core after another where no thread can be made. All
-other words have one thread. A script has the vm and file lines of help trace,
-and of other lines these:
+the core's own, or one core after another if no thread can be made. All other
+words use one thread. A script has the vm and file lines of help trace, and
+these lines:
 
   cC! REQ     core C makes a call
   cC flush    core C flushes one count
   cC review   core C reviews the first frame of its queue
 
-It is read whole before anything runs. Each core may begin CALLS divided by
-CORES calls, rounded down.
+The whole script is read before anything runs. Each core may begin CALLS
+divided by CORES calls, rounded down.
 
 What comes out are notes, as help notes says: a line for each step that a
-thread made, in the order of all steps. Which step comes first where cores meet
-is up to the threads, so two runs of one script may write other notes.
+thread made, in the order of all steps. When cores meet, the threads decide
+which step comes first, so two runs of one script may write other notes.
 
   radixvm live FILE | radixvm certify
 
 certifies that they are a run of the machine, or refuses them. live --certify
-writes no notes, but that line, and looks besides at how each slot of the space
-went along:
+writes only that verdict, and also compares how each slot of the space changed:
 
-  refused C5 PAGE   the slot of this page, a number, went another way
+  refused C5 PAGE   the slot of this page, a number, changed in another way
 
 live --shared runs the script on one machine that all threads share. A core
-makes its call whole while no other core is in one; else it pauses, and tries
-again. Each core may begin calls until all have begun CALLS. In place of notes
-these lines come out, of which audit reads the last ones (help audit):
+makes its call whole while no other core is in one; otherwise it pauses, and
+tries again. Each core may begin calls until all have begun CALLS. In place of
+notes these lines come out, of which audit reads the last ones (help audit):
 
   # cC! REQ = REPLY   the calls of each core, in order of cores, with the
                       replies that its thread had
-  cC! REQ = REPLY     behind the vm and file lines, all calls in the order in
+  cC! REQ = REPLY     after the vm and file lines: all calls in the order in
                       which they took effect
 
-A flush or a review writes no line. There is no certificate, since none is
-needed: it is proved of the program, for every order in which threads may take
-turns, that a plain page map gives the replies of the last lines, and that of
-each core just the lines above stand among them, in their order. Notes tell of
-each step, which is more, and have to be certified run by run.
+A flush or a review writes no line. No certificate is needed: for every order
+in which threads may take turns, the program is proved to write replies that a
+plain page map gives, and the calls of each core are those of its own lines, in
+their order. Notes tell more, each step, and have to be certified run by run.
 
-A core that can't begin a task stops, and its fault is told, that of the least
-core of several, with nothing on standard output:
+A core that can't begin a task stops, and its fault is told, with nothing on
+standard output. Of several cores that stop, the least is told:
 
   live V1   it has begun its share of calls
   live V2   of the 2^32 steps that it may note, fewer than three are left for
@@ -85,9 +83,9 @@ core of several, with nothing on standard output:
   live V3   no memory to begin
   live V4   the shared machine has begun CALLS calls, or can make no more steps
 
-Status: 0; 1 where notes are refused; 2 for a bad script or bad words; 3 where
-reading, writing or memory failed, or a core stopped. With --explain more is
-told of a bad script.
+Status: 0; 1 if notes are refused; 2 for a bad script or bad words; 3 if
+reading, writing or memory failed, or a core stopped. --explain tells more of a
+bad script.
 ";
 
 /// What `import` reads and writes.
@@ -98,16 +96,22 @@ the program asked of its address space:
   strace -f -y -o LOG -e trace=memory,process PROGRAM
   radixvm import LOG | radixvm run
 
-Give strace -o FILE: at a terminal it breaks lines where a thread begins.
+Give strace -o FILE: at a terminal it breaks lines where a thread begins. Read
+are lines with -t, -tt, -ttt, -r, -T, -i, -n, -Y, -X raw and -X verbose too. Of
+strace -ff, strace-log-merge makes one log of the files.
 
-  --pid N        the process of thread N, where the log has several; else the
-                 process of the first line
+  --pid N        the process of thread N, else the one with the most requests:
+                 several are then listed on standard error. A forked process
+                 begins with its parent's mappings. It is an error, and they
+                 are listed, if no line is about thread N
+  --one-process  all threads of whose creation no line tells are of one
+                 process, as strace -f -p N leaves it; else each is one
   --maps FILE    a copy of /proc/PID/maps, as it was where the trace begins: at
                  the log's first line, or, where the log has an execve of the
                  process, right behind it
 
   --lackey       LOG is one of valgrind's lackey, with all accesses of memory
-                 (below); it goes beside neither --pid nor --maps
+                 (below); it goes beside none of these
 
 A line of mmap, munmap or mprotect is kept with its numbers. A mapping stands
 where the kernel placed it, so it has the flag f, and its address is the one
@@ -159,7 +163,8 @@ by descriptors. A page that is accessed and that no line has mapped was there
 before the log, and is mapped, rwx, right before that access. All is core 0's,
 since an access names neither thread nor process, and there are 65536 frames.
 
-Status: 0; 2 for bad words; 3 where reading, writing or memory failed. The log,
+Status: 0; 2 for bad words, and where nothing was kept, of which the first line
+is shown that isn't read; 3 where reading, writing or memory failed. The log,
 what is taken of it and the trace are held in memory. With --explain it is told
 which of the two files couldn't be read, and why.
 ";
@@ -169,42 +174,54 @@ pub const AUDIT: &str = "\
 audit reads calls with the replies that somebody's address space gave, a
 kernel's or a simulator's, in the order in which they happened, and says
 whether a plain page map gives them. It begins with a vm line and file lines,
-as a trace does (help trace). Then each line is
+as a trace does (help trace). Then each line is one that run --echo writes:
 
   cC! REQ = REPLY      core C made this call, and had this reply
-  cC! REQ = wait ..    it didn't have it yet
-  cC finish = REPLY    core C's call that waited has it
+  cC! REQ = wait ..    it didn't have it yet; cC call REQ = step says so, too
+  cC finish = REPLY    core C's call that waited has it; so does cC go = REPLY
 
-REQ is as in help trace, REPLY as in help outcomes. Lines of take, flush,
-review, walk, evict and fold, with = step or = idle behind them, and a finish
-that still waits, are passed over: just what run --echo writes. A line has at
-most 512 bytes. Calls take effect in the order of their replies: they may not
-have happened at the same time. Of threads whose calls do, a record of replies
-that are right may be judged illegal, since the order in which they were
-written need not be that in which the calls took effect.
+REQ is as in help trace, REPLY as in help outcomes. All other lines that run
+--echo writes are taken, and say nothing of replies. A line has at most 512
+bytes. Calls take effect in the order of their replies. From a reply on that
+came while another core's call waited, another order may be the right one: no
+reply is then called illegal, but undecided.
 
-It writes one of these, and behind the second the mappings around the request,
-as help maps says, at most four. On standard error the request is shown that
-was judged, with its line's number:
+noframe, where the access would be served, and nomemory are taken and counted,
+and change nothing; with --strict they are illegal. A store that had nomemory
+may have left its private page a copy: from there on, too, a reply that isn't
+right without it is undecided.
+
+It writes one of these, and behind the last two the mappings around the
+request, as help maps says, at most four. On standard error the request is
+shown that was judged, with its line's number:
 
   legal CALLS          so many calls, and each reply is the plain page map's
+  legal CALLS, N without memory
+                       N of them had noframe or nomemory, and the others that
   illegal N: replied REPLY, due REPLY
                        line N's reply isn't, and what it would give; the lines
                        before it are legal, and none behind it is read
+  undecided N: replied REPLY, due REPLY
+                       it isn't in this order of the calls, as above
+
+With --all it goes on after a wrong reply, and writes such a line for each of
+them and nothing else. A mapping is then where the reply says, if its pages
+are free, and else what was due is done. It writes legal .. if none is wrong.
 
 A mmap without f is due its hint, if its pages are free, or else the first room
 in the core's window. With --any-place it may have any place where all pages
-are valid and free, as POSIX leaves it to an implementation. CORES, FRAMES and
-CALLS of the vm line bound nothing but the cores' numbers, which are 0 to 63.
+are valid and free, as POSIX leaves it to an implementation, and as a trace has
+it with a guess. CORES, FRAMES and CALLS of the vm line bound nothing but the
+cores' numbers, which are 0 to 63.
 
 Example:
   printf '%s\\n' 'vm 1 4' 'c0! mmap 0x10000 4096 rw- pfa = 0x10000' \\
     'c0! store 0x10004 41 = done' 'c0! load 0x10004 = 40' | radixvm audit
 writes illegal 4: replied 40, due 41, and 0x10000-0x11000 rw- anon.
 
-Status: 0 where all replies are legal, 1 where one isn't. A fault is told as
-help faults says, and then nothing is written; with --explain more is told of
-it. The text is held in memory.
+Status: 0 where all replies are legal, 1 where one isn't, 3 where that is
+undecided. A fault is told as help faults says, and then nothing is written;
+with --explain more is told of it. The text is held in memory.
 ";
 
 /// What `picture` shows.

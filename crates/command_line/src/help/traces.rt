@@ -3,51 +3,51 @@
 /// What `run` does.
 pub const RUN: &str = "\
 run reads a trace, acts on each line as it is read, and writes a line for each
-line of an event: the reply of a call, or what became of a step.
+event: the reply of a call, or what became of a step.
 
   radixvm run [--log | [--echo | --summary] [--long]] [--explain] [FILE]
 
   FILE       the trace (help trace); without it, or for -, standard input
-  --log      writes the log behind these lines: when each call had its reply
-             (help log)
-  --echo     writes LINE = OUTCOME for a line of an event, and copies vm and
-             file lines
+  --log      also writes the log: when each call had its reply (help log)
+  --echo     writes LINE = OUTCOME for each event, and copies vm and file
+             lines
   --summary  counts calls, faults, fills, shootdowns, frames and epochs, and
-             writes the numbers on standard error (help cores)
-  --long     lets the trace ask for up to 2^40 calls, but not beside --log
+             writes the numbers to standard error (help cores)
+  --long     lets the trace ask for up to 2^40 calls; not together with --log
   --explain  shows under a fault the line, the word and what was expected; it
-             is on where standard error is a terminal (help faults)
+             is on if standard error is a terminal (help faults)
 
-help outcomes says what the lines say, and what to do at a wait.
+help outcomes explains the output, and says what to do when a call waits.
 
-Example, of one core and four frames:
+Example, with one core and four frames:
   printf '%s\\n' 'vm 1 4' 'c0! mmap 0x10000 4096 rw- pfa' \\
     'c0! store 0x10004 41' 'c0! load 0x10004' | radixvm run
 writes 0x10000, done and 41, each on a line of its own.
 
-Status: 0 where the text was replayed to its end; 2 for a bad text or bad
-words; 3 where reading, writing or memory failed.
+Status: 0 if the text was replayed to its end; 2 for a bad text or bad words;
+3 if reading, writing or memory failed.
 ";
 
 /// What a trace may hold.
 pub const TRACE: &str = "\
-A trace is text. Its first line says how large the space is, then comes a line
-for each file, then a line for each event. The run ends where the text does:
-behind a pipe when it is closed, at a terminal by Ctrl-D.
+A trace is text. Its first line says how large the space is. Then comes a line
+for each file, then a line for each event. The run ends with the text: when a
+pipe is closed, or at a terminal by Ctrl-D.
 
   vm CORES FRAMES [CALLS]  first, once: 1 to 64 cores, 0 to 65536 frames of
-                           4096 bytes, and how many calls may begin: 4096
-                           where it is left out, at most 1048576, or with
-                           --long 2^40
-  file N MODE LEN SEED     a file of the trace's own: N is 0, 1, 2 and so on up
-                           to 15, MODE is r, w or rw, and of the LEN bytes (at
-                           most 1048576) byte I is (SEED + I) modulo 256
+                           4096 bytes, and how many calls may begin: 4096 if
+                           it is left out, at most 1048576, or 2^40 with
+                           --long
+  file N MODE LEN SEED     a file that the trace makes up: N is 0, 1, 2 and so
+                           on up to 15, MODE is r, w or rw, LEN is its length
+                           in bytes (at most 1048576), and its byte I is
+                           (SEED + I) modulo 256
 
 An event is one of these, on core C: c0, c1 and so on up to one below CORES.
 
   cC! REQ                  core C makes a call, which goes on until it has its
                            reply or has to wait
-  cC call REQ              core C begins a call, and does no step of it
+  cC call REQ              core C begins a call, and makes no step of it
   cC go                    one step of core C's call
   cC finish                the steps of core C's call, until it has its reply
                            or has to wait
@@ -57,20 +57,22 @@ An event is one of these, on core C: c0, c1 and so on up to one below CORES.
   cC review                core C reviews the first frame of its queue
   cC walk ADDR             core C's TLB gets ADDR's page from its tables
   cC evict ADDR            core C's TLB drops ADDR's page
-  cC frame F               core C's call, which wants a frame, takes frame F if
-                           it is free; go and finish take the least free one
-  cC guess ADDR            core C's call, which looks for a place, guesses that
+  cC frame F               core C's call needs a frame, and takes frame F if it
+                           is free; go and finish take the free frame with the
+                           least number
+  cC guess ADDR            core C's call looks for a place, and guesses that
                            there is room from ADDR's page on
-  cC whole                 core C's call, which looks for a place, locks all of
+  cC whole                 core C's call looks for a place, and locks all of
                            its window
-  cC giveup                core C's call is given up, as for want of memory,
-                           and its finish gives nomemory; idle once its change
-                           is sure, or its reply. While a store waits for acks
-                           it is idle, and behind the takes it steps again
-  fold ADDR                slots are joined at ADDR's page; no content changes
+  cC giveup                core C's call is given up, as if memory were short;
+                           its finish then gives nomemory. It is idle once the
+                           call's change or reply is certain. It is also idle
+                           while a store waits for acks, but not after the
+                           takes
+  fold ADDR                joins slots at ADDR's page; no content changes
 
-frame, guess and whole fit one moment of a call: begin it by cC call, and try
-them behind each cC go, until one of them isn't idle.
+frame, guess and whole fit one moment of a call. Begin the call with cC call,
+and try them after each cC go, until one of them isn't idle.
 
 REQ is one of these.
 
@@ -84,14 +86,14 @@ REQ is one of these.
 PROT is rwx, with - in place of each right that isn't given: rw-, r--, ---.
 FLAGS is - or these letters, each at most once, in any order:
   p  private and s shared: mmap needs just one of the two
-  f  fixed: the mapping is at ADDR, and takes the place of others there
-  a  anonymous: bytes of zero, and no file; p and s are alike there
-FILE is the number of a file, OFF where the mapping begins in it. They may be
-left out where FLAGS has a, which doesn't look at them.
+  f  fixed: the mapping is at ADDR, and replaces others there
+  a  anonymous: no file, bytes of zero; p and s mean the same then
+FILE is the number of a file, OFF the place in it at which the mapping begins.
+With a in FLAGS both are ignored, and may be left out.
 
-Without f, ADDR is a hint: its page is the place if all pages are valid and
-free there. Else the place is the first room in the core's window, which is
-2^39 bytes from 0x8000000000 * (C + 1) on: 0x8000000000 for core 0.
+Without f, ADDR is a hint: the mapping goes there if all its pages are valid
+and free. Else it goes to the first room in the core's window, which is the
+2^39 bytes from 0x8000000000 * (C + 1) on: from 0x8000000000 for core 0.
 
 Addresses from 0x1000 up to 2^47 are valid. ADDR, LEN and OFF are in bytes. A
 page has 4096 of them, and a range takes each page that has some byte of it.
@@ -101,91 +103,91 @@ zeros.
 
 A line has at most 256 bytes, which are spaces and visible ASCII (0x20 to
 0x7e): no tab, no carriage return, no letter beyond. Spaces divide words. An
-empty line, and one that begins with #, says nothing; # behind words begins no
+empty line, or one that begins with #, says nothing. A # after words begins no
 comment.
 ";
 
 /// What comes out for each line of an event.
 pub const OUTCOMES: &str = "\
-Each line of an event gives one line of output, which goes out as soon as no
-whole line is left to read.
+Each event gives one line of output. Lines go out as soon as no whole line is
+left to read.
 
   0x10000       the mmap is done: the mapping's address
   done          the munmap, the mprotect or the store is done
   41            the byte that was loaded or fetched, in decimal
-  einval        an argument is wrong: mmap or munmap of length 0, or of a page
-                outside the space in munmap; p and s both or neither; an ADDR
-                of munmap, mprotect or a fixed mmap, or an OFF, that begins no
-                page
-  enomem        a page of a fixed mmap or an mprotect is outside the space, one
-                of an mprotect isn't mapped, or no place is found without f
+  einval        an argument is wrong: a length of 0 in mmap or munmap; a page
+                outside the space in munmap; p and s both, or neither; an ADDR
+                of munmap, mprotect or a fixed mmap, or an OFF, that isn't a
+                multiple of 4096
+  enomem        a page of a fixed mmap or an mprotect is outside the space; a
+                page of an mprotect isn't mapped; or an mmap without f finds
+                no place
   ebadf         there is no such file
   eoverflow     the mapping would end past 2^47 in its file
-  eacces        the file isn't open for reading, or not for writing what is
-                shared and writable
+  eacces        the file isn't open for reading; or it isn't open for writing,
+                and what is mapped is shared and writable
   segv maperr   no page is mapped there
   segv accerr   the page's protection forbids it: a store needs w, a fetch x, a
                 load any of r, w and x
   bus           the page lies past the end of its file
   noframe       no frame is free
   nomemory      the call was given up: by giveup, or by live for want of memory
-  step          a step was made, which answered no call
+  step          a step was made, and answered no call
   wait slot C   core C holds a page that the call needs
-  wait acks C.. the call waits for messages to be taken by these cores
-  idle          nothing was done: the core has no call to go on with, or has
-                one already, or isn't there; or there is nothing to take,
-                flush, review, walk, evict, fold, guess, give up, or no such
-                free frame
+  wait acks C.. the call waits until these cores have taken its messages
+  idle          nothing was done: the core isn't there; it has no call to go on
+                with, or has one already; or there is nothing to take, flush,
+                review, walk, evict, fold, guess or give up, or that frame
+                isn't free
   full          nothing was done: as many calls as the vm line allows have
                 begun
   stuck         2^40 steps of one finish gave the call no reply
 
-Where the reply is none of the first three, the call changed no mapping and no
-byte; but a store that ends in segv accerr or nomemory may have given its
-private page its copy before, which stays.
+If the reply isn't one of the first three, the call changed no mapping and no
+byte. But a store that ends in segv accerr or nomemory may already have given
+its private page a copy, and that stays.
 
-What to do where core 0 reads one of these:
-  wait acks 1   core 1 may still have a translation. Two takes drop it, one
-                from its tables, one from its TLB; then the call goes on:
+What to do if core 0 reads one of these:
+  wait acks 1   core 1 may still have a translation. Two takes drop it, first
+                from its tables, then from its TLB. Then the call goes on:
                   c1 take
                   c1 take
                   c0 finish
-                Where core 1 has older messages, it takes until it reads idle.
-  wait slot 1   let core 1's call end, which lets go of its pages:
+                If core 1 has older messages, let it take until it reads idle.
+  wait slot 1   let core 1's call end, which releases its pages:
                   c1 finish
                   c0 finish
-                Where core 1 waits, too, do first what its own wait asks for.
-  noframe       write more FRAMES on the vm line; or unmap an anonymous page
-                that has a frame, which comes back once two epochs have ended
-                and it was reviewed. With one core, which has no other count to
-                flush:
+                If core 1 waits too, do first what its own wait asks for.
+  noframe       write more FRAMES on the vm line. Or unmap an anonymous page
+                that has a frame: the frame is free again after two epochs and
+                a review. With one core, which has no other count to flush:
                   c0 flush
                   c0 flush
                   c0 flush
                   c0 review
-                With more cores each of them flushes until it reads idle, each
-                does so once more, and then each reviews until it reads idle.
-                A store or load that is made anew gets the frame.
+                With more cores, each flushes until it reads idle, each flushes
+                once more, and then each reviews until it reads idle. Then make
+                the store or load again.
   idle          at cC! or cC call: end the core's last call by finish first
   full          write more CALLS on the vm line
 ";
 
 /// What `run --log` writes behind the outcomes.
 pub const LOG: &str = "\
-run --log writes the log behind the outcomes, a line for each entry, in order:
+run --log writes the log after the outcomes, a line for each entry, in order:
 
   log STEP call CALL REPLY  from this step on call CALL has this reply
   log STEP detach ADDR      from this step on the private page at ADDR has a
                             copy of its own, and shows its file no longer
 
-STEP is the number of a step, from 1 on. cC! and cC finish may make several,
-any other line of an event makes one, an idle one too. CALL is the number of a
-call, in the order in which calls began, from 1 on. REPLY is what help
-outcomes says.
+STEP is the number of a step, from 1 on. cC! and cC finish may make several
+steps. Every other event makes one, even if it is idle. CALL is the number of a
+call, in the order in which calls began, from 1 on. REPLY is as in help
+outcomes.
 
-The log tells the order in which calls took effect: a plain page map that does
-them in this order, one after another, can give these replies. After a fault no
-log comes.
+The log tells the order in which calls took effect: a plain page map that makes
+them in this order, one after another, can give these replies. After a fault
+there is no log.
 ";
 
 /// What `maps` writes.
@@ -200,12 +202,11 @@ with - in place of each right that isn't there. BACK is one of these:
 
   anon              no file
   shared FILE OFF   this file, from the offset OFF on; stores change it
-  private FILE OFF  this file, up to a page's first store, which gives it a
-                    copy
+  private FILE OFF  this file, until a page's first store gives the page a copy
 
-Neighbouring pages of one protection stand in one line where they have no
-file, or where the second goes on in the file from the first. After a fault no
-mappings come.
+Neighbouring pages with the same protection are one line if they have no file,
+or if the second continues in the file where the first ends. After a fault no
+mappings are written.
 
   --long     lets the trace ask for up to 2^40 calls
   --explain  shows under a fault the line, the word and what was expected
@@ -213,10 +214,10 @@ mappings come.
 
 /// What ends a replay early.
 pub const FAULTS: &str = "\
-A fault ends the replay. It is told on standard error, and all that the lines
-before it gave has gone out. Lines count from 1, with those that say nothing.
+A fault ends the replay. It is told on standard error, after the output of all
+lines before it. Lines are counted from 1, with empty ones and comments.
 
-  line N: bad line   it is no line of help trace, or not at this place
+  line N: bad line   it is no line of help trace, or it stands in a wrong place
   line N: too long   it has more than 256 bytes, or in audit more than 512
   no vm line first   the first line with words isn't a vm line, or there is
                      none
@@ -230,67 +231,67 @@ before it gave has gone out. Lines count from 1, with those that say nothing.
   write failed       standard output can't be written
   out of memory      a step found no memory; the steps before it stand
 
-With --explain, and without it where standard error is a terminal, the line
-comes under the fault, then a caret below the word that is wrong, and what was
-expected there; under read failed the file and the cause. Notes of what is
-taken and may be a mistake come behind the output: a core beyond the vm line,
-and an mmap whose FLAGS have neither p nor s.
+With --explain, or if standard error is a terminal, the line is shown under the
+fault, with a caret below the word that is wrong, and with what was expected
+there; under read failed, the file and the cause. After the output come notes
+on lines that are accepted and may be mistakes: a core that the vm line doesn't
+give, and an mmap whose FLAGS have neither p nor s.
 
-What a bad line often is: PROT of two letters (rw for rw-); 4K, 1_000 or 1,000
-for a number; a tab, a letter that isn't ASCII, or a carriage return, which
-ends the lines of Windows (tr -d '\\r' drops it); words behind the last one, as
-a comment; FILE and OFF left out without a in FLAGS; a file line behind the
-first event, or whose N isn't the next number; c0: or c00 or c64 for a core; a
-second vm line. A core that the vm line doesn't give is no bad line: it reads
-idle.
+Common causes of a bad line: PROT of two letters (rw for rw-); 4K, 1_000 or
+1,000 for a number; a tab, a letter that isn't ASCII, or a carriage return,
+which ends the lines of Windows (tr -d '\\r' drops it); words after the last
+one, such as a comment; FILE and OFF left out without a in FLAGS; a file line
+after the first event, or whose N isn't the next number; c0: or c00 or c64 for
+a core; a second vm line. A core that the vm line doesn't give is no bad line:
+it reads idle.
 
-Status: 0 where the text was replayed to its end, whatever its calls came to;
-2 for a bad text or bad words; 3 where reading, writing or memory failed, setup
-S6 included. certify, live and audit have these faults, too, and status 1: for
-notes that are refused, and for a reply that is illegal.
+Status: 0 if the text was replayed to its end, whatever its calls came to; 2
+for a bad text or bad words; 3 if reading, writing or memory failed, which
+setup S6 is too. certify, live and audit have these faults too, and status 1:
+for notes that are refused, and for a reply that is illegal.
 ";
 
 /// What a newcomer to the model needs of cores.
 pub const CORES: &str = "\
-Each core has tables of its own, four levels as on x86-64, and a TLB of 64
-pages, of which the oldest one filled goes first. A load, store or fetch that
-its TLB or its tables allow is done at once. Else the core's call faults: it
-locks the page, gives it a frame where it has none, notes on the page that
-this core uses it, and enters the page into its tables. walk and evict move
-TLB entries as a processor may by itself.
+Each core has its own page tables, four levels as on x86-64, and a TLB of 64
+pages. A full TLB drops the page that was filled first. A load, store or fetch
+that the TLB or the tables allow is done at once. Otherwise the call faults: it
+locks the page, gives it a frame if it has none, records that this core uses
+the page, and enters the page into the core's tables. walk and evict move TLB
+entries, as a processor may do by itself.
 
-Locks. Pages lie in slots, runs of neighbours that are locked together. A call
-that changes pages locks its slots from left to right, and lets go of them at
-its end. A call that meets a slot of another core's call reads wait slot C.
-A slot that crosses an edge of what a call asks for is cut into 512; fold joins
-these again, where no call holds one, none has a frame or a core that uses it,
-and all are unmapped or go on from one another.
+Locks. Pages lie in slots, runs of neighbouring pages that are locked together.
+A call that changes pages locks its slots from left to right, and releases them
+at its end. A call that meets a slot of another core's call reads wait slot C.
+A slot that crosses an edge of a call's range is cut into 512. fold joins these
+again if no call holds one, none has a frame or a core that uses it, and all
+are unmapped or continue one another.
 
-Shootdown. munmap, mprotect and an mmap over pages that are used clear them in
-the core's own tables and TLB, and send a message to the other cores that are
+Shootdown. munmap, mprotect and an mmap over pages in use clear them in the
+core's own tables and TLB, and send a message to the other cores that are
 recorded on these pages, and to no others. The call reads wait acks C.. until
-each has taken it twice: at the first take a core clears its tables, at the
-second its TLB, and acknowledges. Until then it may still read and write the
-old page. A core whose own call waits can take, walk, flush and review.
+each has taken the message twice: the first take clears the core's tables, the
+second its TLB, and acknowledges. Until then that core may still read and write
+the old page. A core whose own call waits can take, walk, flush and review.
 
-Private pages show their file, until a store gives the page a copy. Other cores
-that are recorded on it have to take twice before, too.
+Private pages show their file, until a store gives the page a copy. Before it
+does, the other cores recorded on the page have to take twice, too.
 
-Frames are counted, one for each page that has the frame, and one more where
-it caches a page of a file. A core notes changes of a count for itself. flush
-hands on its change of one frame's count, the least frame's; where it has
-none, it ends the core's part of the epoch. An epoch ends when each core has
-ended its part. A frame whose count came to 0 is put into the queue of the
-core that flushed it, and review frees it if its count stayed 0, two epochs
-later. review reads idle before.
+Frames are counted: one for each page that has the frame, and one more if it
+caches a page of a file. A core collects its changes of counts. flush hands on
+its change of one frame's count, the frame with the least number. If it has
+none left, flush ends the core's part of the epoch. An epoch ends when each
+core has ended its part. A frame whose count fell to 0 goes into the queue of
+the core that flushed it. review frees it two epochs later if its count stayed
+0, and reads idle before that.
 
 Places. A call of mmap without f that looks for a place takes the first room
-of its window at the next go or finish; guess and whole choose for it. What
-another core maps there meanwhile sends it back, once, to lock all of its
-window.
+of its window at the next go or finish; guess and whole choose for it. If
+another core maps something there meanwhile, the call starts again, once, and
+locks all of its window.
 
-Numbers. run --summary writes these behind a run that no fault ended, each with
-its number on a line of standard error, and makes each step by itself:
+Numbers. After a run without a fault, run --summary writes these to standard
+error, each with its number on a line of its own:
   calls REPLY    answered calls: mapped (an address), done, byte, refused
                  (einval to eacces), segv, bus, noframe and nomemory
   faults         accesses that neither the core's TLB nor its tables allowed
@@ -299,4 +300,5 @@ its number on a line of standard error, and makes each step by itself:
                  told, of all that there were beside their own
   frames         the most that were in use at once
   epochs         those that have ended
+With it the trace's steps are made one by one.
 ";

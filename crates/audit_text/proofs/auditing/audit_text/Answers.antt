@@ -11,14 +11,14 @@ returns-in-Ok-read_all-clause-ends g c =
     let old = g.W.Sink.contents c.args.writer.now in
     let new = g.W.Sink.contents c.judge_out.new.writer in
     reads_map _ _ _ _ c.in-Ok-read_all.ensures.text
-    (λ xs ys k e. subst (λ i. AuditEnds c.args.any_place i old new c.judge_out.result) (c.as_slice.ensures.value ∙ sym e) c.judge_out.ensures.ends)
+    (λ xs ys k e. subst (λ i. AuditEnds c.args.terms i old new c.judge_out.result) (c.as_slice.ensures.value ∙ sym e) c.judge_out.ensures.ends)
 
 pub returns-in-Err-clause-ends : goal.returns-in-Err-clause-ends
-returns-in-Err-clause-ends g c = stopped _ _ c.args.any_place (g.W.Sink.contents c.args.writer.now) c.in-Err.fault
+returns-in-Err-clause-ends g c = stopped _ _ c.args.terms (g.W.Sink.contents c.args.writer.now) c.in-Err.fault
     (λ e. c.in-Err.ensures.write (ap Err e)) c.in-Err.ensures.kept
 
 pub returns-in_default-clause-ends : goal.returns-in_default-clause-ends
-returns-in_default-clause-ends g c = unmade _ c.args.any_place _
+returns-in_default-clause-ends g c = unmade _ c.args.terms _
 
 pub returns-in-Ok-read_all-clause-told : goal.returns-in-Ok-read_all-clause-told
 returns-in-Ok-read_all-clause-told g c =

@@ -18,14 +18,14 @@ pub returns-in_err-said-clause-err : goal.returns-in_err-said-clause-err
 returns-in_err-said-clause-err g c =
     let d = declared_of c.lines.declaration in
     let p = err_from_is_err_and c.from_residual.result c.from_residual.ensures.1 in
-    rw p.1 (rw p.2 (λ any. fault_here any _ _ _ c.lines.number (Front d) (first_map d) c.front_line.result.0.now c.in_err-said.field-0.0
+    rw p.1 (rw p.2 (λ terms. fault_here terms _ _ _ c.lines.number (Front d) (first_map d) c.front_line.result.0.now c.in_err-said.field-0.0
     c.lines.invariant.place refl c.front_line.ensures.lines c.in_err-said.ensures.err))
 
 pub returns-in-Ok-Bad-clause-err : goal.returns-in-Ok-Bad-clause-err
 returns-in-Ok-Bad-clause-err g c =
     let d = declared_of c.lines.declaration in
     let bad = rw c.in-Ok-Bad.field-0-is at c.in-Ok-Bad.ensures.adds in
-    λ any. bad_at any _ _ (c.lines.number + 1) (Front d) (first_map d) c.in_ok-said.said
+    λ terms. bad_at terms _ _ (c.lines.number + 1) (Front d) (first_map d) c.in_ok-said.said
     (at_line _ _ _ c.lines.number (Front d) c.front_line.result.0.now c.in_ok-said.said c.lines.invariant.place c.front_line.ensures.lines
     c.in_ok-said.ensures.ok)
     refl bad

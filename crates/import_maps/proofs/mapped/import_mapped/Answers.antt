@@ -7,4 +7,4 @@ use Rattle.import_maps.proofs.mapped.import_mapped.Goals as goal
 
 pub returns-in-Err-clause-ends : goal.returns-in-Err-clause-ends
 returns-in-Err-clause-ends g c = reads_map _ _ _ _ c.in-Err.ensures.kept (λ xs ys k e. reads_none _ _ (λ input.
-    stops_here (made_text (start_of xs).0 c.args.thread input) _ c.in-Err.fault (λ e. c.in-Err.ensures.write (ap Err e))))
+    stops_here (made_text (start_of xs).0 c.args.choice input) _ c.in-Err.fault (λ e. c.in-Err.ensures.write (ap Err e))))

@@ -1,6 +1,6 @@
 use Rattle.std.proofs.Common.{◌≡◌, ◌≤◌, map}
 use Rattle.import_text.specs.Joining.{last_of}
-use Rattle.import_text.specs.Speech.{spoken}
+use Rattle.import_forms.specs.Speech.{spoken}
 use Rattle.import_text.proofs.joining.last_of.Given as goal
 
 abbrev pub invariant-earlier : goal.invariant-earlier

@@ -1,5 +1,5 @@
 use Rattle.std.proofs.Common.{◌<◌, length, map, arith, sym, ap, ◌∙◌, eq-eqb}
-use Rattle.import_text.specs.Speech.{spoken}
+use Rattle.import_forms.specs.Speech.{spoken}
 use Rattle.import_text.proofs.JoinLemmas.{map-get, map-len, next_here, next_more, ne-eqb}
 use Rattle.import_text.proofs.joining.next_of.Goals as goal
 

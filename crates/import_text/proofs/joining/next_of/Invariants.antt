@@ -1,6 +1,6 @@
 use Rattle.std.proofs.Common.{◌≡◌, ◌≤◌, ◌-◌, map, length, drop}
 use Rattle.import_text.specs.Joining.{next_of}
-use Rattle.import_text.specs.Speech.{spoken}
+use Rattle.import_forms.specs.Speech.{spoken}
 use Rattle.import_text.proofs.joining.next_of.Given as goal
 
 abbrev pub invariant-later : goal.invariant-later

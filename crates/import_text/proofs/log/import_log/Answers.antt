@@ -11,12 +11,12 @@ returns-in-Ok-clause-ends g c =
     let old = g.W.Sink.contents c.args.writer.now in
     let new = g.W.Sink.contents c.write_import.new.writer in
     reads_map _ _ _ _ c.in-Ok.ensures.text
-    (λ xs ys k e. subst (λ i. ImportEnds (so_far c.args.start.now) c.args.thread i old new c.write_import.result)
+    (λ xs ys k e. subst (λ i. ImportEnds (so_far c.args.start.now) c.args.choice i old new c.write_import.result)
     (c.as_slice.ensures.value ∙ sym e) c.write_import.ensures.ends)
 
 pub returns-in-Err-clause-ends : goal.returns-in-Err-clause-ends
 returns-in-Err-clause-ends g c =
-    stopped _ _ (made_text (so_far c.args.start.now) c.args.thread) (g.W.Sink.contents c.args.writer.now) c.in-Err.fault
+    stopped _ _ (made_text (so_far c.args.start.now) c.args.choice) (g.W.Sink.contents c.args.writer.now) c.in-Err.fault
     (λ e. c.in-Err.ensures.write (ap Err e)) c.in-Err.ensures.kept
 
 pub returns-in-Ok-clause-told : goal.returns-in-Ok-clause-told

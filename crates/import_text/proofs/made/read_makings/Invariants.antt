@@ -1,6 +1,6 @@
 use Rattle.std.proofs.Common.{◌≡◌, ◌≤◌, ◌-◌, map, length}
 use Rattle.import_text.specs.Made.{makings}
-use Rattle.import_text.specs.Speech.{spoken}
+use Rattle.import_forms.specs.Speech.{spoken}
 use Rattle.import_text.proofs.made.read_makings.Given as goal
 
 abbrev pub invariant-lines : goal.invariant-lines

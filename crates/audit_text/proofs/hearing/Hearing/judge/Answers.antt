@@ -1,14 +1,16 @@
+use Rattle.std.proofs.Common.{◌≡◌, ap, sym, ◌∙◌, subst}
+use Rattle.vm_base.specs.Plain.{Plain}
 use Rattle.audit.specs.Auditor.{plain_of}
-use Rattle.audit_text.specs.Steps.{heard_of}
-use Rattle.audit_text.proofs.HeardLemmas.{judged_illegal, judged_legal}
+use Rattle.audit_text.specs.Steps.{JudgesCall, heard_of, terms_of}
+use Rattle.audit_text.specs.declared.hearing.Turn.TheVariants.{Legal}
+use Rattle.audit_text.proofs.HeardLemmas.{judged_illegal, judged_legal, judged_let}
 use Rattle.audit_text.proofs.hearing.Hearing.judge.Goals as goal
 
-pub returns-in-Legal-clause-judged : goal.returns-in-Legal-clause-judged
-returns-in-Legal-clause-judged g c =
-    judged_legal c.args.self.now.auditor.any_place c.args.self.now.waiting.items c.args.self.now.calls.items _ c.args.self.now.passed
-    (plain_of c.args.self.now.auditor) (plain_of c.judge.new.self) c.args.call _ c.in_ok-judge.ensures.judged c.in-Legal.is c.and-self.ensures
-
-pub returns-in-Illegal-clause-judged : goal.returns-in-Illegal-clause-judged
-returns-in-Illegal-clause-judged g c =
-    judged_illegal c.args.self.now.auditor.any_place (heard_of c.args.self.now) (heard_of c.args.self.now) (plain_of c.args.self.now.auditor)
-    (plain_of c.judge.new.self) c.args.call _ c.in-Illegal.due c.in_ok-judge.ensures.judged c.in-Illegal.is
+pub returns-then-is_let-clause-judged : goal.returns-then-is_let-clause-judged
+returns-then-is_let-clause-judged g c =
+    let e : plain_of c.note-then-is_let.new.self.auditor ≡ plain_of c.judge.new.self = ap plain_of c.note-then-is_let.ensures.same in
+    subst (λ (p : Plain). JudgesCall (terms_of c.args.self.now) (heard_of c.args.self.now) (plain_of c.args.self.now.auditor) c.args.certain
+    c.args.call Legal (heard_of c.note-then-is_let.new.self) p) (sym e)
+    (judged_let (terms_of c.args.self.now) (heard_of c.args.self.now) (heard_of c.note-then-is_let.new.self)
+    (plain_of c.args.self.now.auditor) (plain_of c.judge.new.self) c.args.certain c.args.call _ c.in-Illegal.due c.in_ok-judge.ensures.judged
+    c.in-Illegal.is (sym c.is_let.ensures ∙ c.if-is_let.true) c.note-then-is_let.ensures.heard)

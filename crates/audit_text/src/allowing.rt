@@ -1,0 +1,57 @@
+//! Which replies may be there: the plain page map's, and those of calls that found no frame or no memory.
+ghost use Rattle.std.specs.Prelude.{◌≡◌, ◌&&◌, not};
+ghost use Rattle.audit_text.specs.Allowed.{is_given_up, is_lack, is_lacking, is_store, serves};
+
+use vm_base::{Reply, Request};
+
+/// By what replies are judged.
+#[derive(Clone, Copy, Debug, PartialEq, Eq)]
+pub struct Terms {
+    /// A mapping without `MAP_FIXED` may have any place, and not just the first one.
+    pub any_place: bool,
+    /// No call may find that there is no frame or no memory.
+    pub is_strict: bool,
+}
+
+// Tells whether an access is served where this is due.
+fn serves(request: Request, due: Reply) -> bool
+    ensures { result ≡ serves request due }
+{
+    match request {
+        Request::Load { .. } | Request::Fetch { .. } => matches!(due, Reply::Byte(_)),
+        Request::Store { .. } => matches!(due, Reply::Done),
+        Request::Mmap { .. } | Request::Munmap { .. } | Request::Mprotect { .. } => false,
+    }
+}
+
+// Tells whether this is what a call may come to that found no frame or no memory, where this would be due.
+fn is_lack(request: Request, due: Reply, reply: Reply) -> bool
+    ensures { result ≡ is_lack request due reply }
+{
+    match reply {
+        Reply::NoFrame => serves(request, due),
+        Reply::NoMemory => true,
+        _ => false,
+    }
+}
+
+/// Tells whether this may be, though another reply would be due: unless it is ruled out, for want of a frame or of memory.
+pub(crate) fn is_let(is_strict: bool, request: Request, due: Reply, reply: Reply) -> bool
+    ensures { result ≡ (not is_strict && is_lack request due reply) }
+{
+    !is_strict && is_lack(request, due, reply)
+}
+
+/// Tells whether a call found no frame or no memory.
+pub(crate) fn is_lacking(reply: Reply) -> bool
+    ensures { result ≡ is_lacking reply }
+{
+    matches!(reply, Reply::NoFrame | Reply::NoMemory)
+}
+
+/// Tells whether it may have left a copy behind: a store for which there was no memory.
+pub(crate) fn may_copy(request: Request, reply: Reply) -> bool
+    ensures { result ≡ (is_store request && is_given_up reply) }
+{
+    matches!(reply, Reply::NoMemory) && matches!(request, Request::Store { .. })
+}

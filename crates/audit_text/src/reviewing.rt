@@ -1,0 +1,127 @@
+//! All lines of a text, heard one after another, also after replies that are wrong.
+ghost use Rattle.std.specs.Prelude.{◌≡◌, ◌+◌, ◌≤◌, ◌<◌, ◌^◌, ◌∷◌, ◌++◌, [], IfErr, IfOk, List, ℕ, OnOk, Some, length};
+ghost use Rattle.trace_io.specs.Lines.{lines_of};
+ghost use Rattle.audit.specs.Auditor.{plain_of};
+ghost use Rattle.audit_text.specs.Heard.{Declared, heard_after, with_answer};
+ghost use Rattle.audit_text.specs.Reviewed.{GoesOn, IsReviewed, IsTextAtFault, wrong_at};
+ghost use Rattle.audit_text.specs.Reviewing.{IsBefore, TurnsOutSo};
+ghost use Rattle.audit_text.specs.Steps.{IsCounted, count_of, heard_of, terms_of};
+
+use crate::going_on::go_on;
+use crate::hearing::{Hearing, Turn};
+use crate::input::{AuditFault, said_at};
+use crate::judging::Verdict;
+use crate::reading::Said;
+use audit::Call;
+use slot_lock::SlotMap;
+use std::alloc::Allocator;
+use trace_io::IoFault;
+use trace_io::lines::front_line;
+use vm_base::Reply;
+
+// What is told of a wrong reply.
+fn wrong_at(line: u64, call: &Call, due: Reply, certain: bool) -> Verdict
+    ensures { result ≡ wrong_at line call.now due certain }
+{
+    if certain {
+        Verdict::Illegal {
+            line,
+            call: *call,
+            due,
+        }
+    } else {
+        Verdict::Undecided {
+            line,
+            call: *call,
+            due,
+        }
+    }
+}
+
+// Tells a wrong reply, for which this was due, and goes on.
+fn tell_wrong<M: SlotMap + Drop, A: Allocator + Drop, B: Allocator>(
+    hearing: &mut Hearing<M, A>,
+    found: &mut Vec<Verdict, B>,
+    line: u64,
+    call: Call,
+    due: Reply,
+    certain: bool,
+) -> Result<(), AuditFault>
+    requires counted { IsCounted hearing.old }
+    requires room { count_of hearing.old + 1 < 2 ^ 64 }
+    ensures goes { OnOk result (GoesOn (terms_of hearing.old) (plain_of hearing.old.auditor) call due (plain_of hearing.new.auditor)) }
+    ensures heard { OnOk result (heard_of hearing.new ≡ with_answer (heard_of hearing.old) certain call) }
+    ensures found { OnOk result (found.new.items ≡ found.old.items ++ wrong_at line call due certain ∷ []) }
+    ensures err { IfErr result (λ f. f ≡ AuditFault.Io IoFault.NoMemory) }
+    ensures counted { OnOk result (IsCounted hearing.new) }
+    ensures few { OnOk result (count_of hearing.new ≤ count_of hearing.old + 1) }
+    ensures terms { OnOk result (terms_of hearing.new ≡ terms_of hearing.old) }
+{
+    let Ok(()) = found.push(wrong_at(line, &call, due, certain)) else {
+        return Err(AuditFault::Io(IoFault::NoMemory));
+    };
+    let Ok(()) = go_on(hearing, &call, due) else {
+        return Err(AuditFault::Io(IoFault::NoMemory));
+    };
+    hearing.note(certain, call);
+    Ok(())
+}
+
+// Hears what the line with this number says, and goes on if its reply is wrong.
+#[tactic(auto, using(crate::proofs::ReviewLemmas::legal_turn, crate::proofs::ReviewLemmas::wrong_turn))]
+fn turn<M: SlotMap + Drop, A: Allocator + Drop, B: Allocator>(
+    hearing: &mut Hearing<M, A>,
+    found: &mut Vec<Verdict, B>,
+    said: Said,
+    line: u64,
+) -> Result<(), AuditFault>
+    requires counted { IsCounted hearing.old }
+    requires room { count_of hearing.old + 1 < 2 ^ 64 }
+    ensures turns { TurnsOutSo (terms_of hearing.old) (heard_of hearing.old) (plain_of hearing.old.auditor) said line found.old.items result
+        (heard_of hearing.new) (plain_of hearing.new.auditor) found.new.items }
+    ensures counted { OnOk result (IsCounted hearing.new) }
+    ensures few { OnOk result (count_of hearing.new ≤ count_of hearing.old + 1) }
+    ensures terms { OnOk result (terms_of hearing.new ≡ terms_of hearing.old) }
+{
+    match hearing.hear(said) {
+        Ok(Turn::Legal) => Ok(()),
+        Ok(Turn::Bad) => Err(AuditFault::BadLine(line)),
+        Ok(Turn::Illegal(call, due, certain)) => {
+            tell_wrong(hearing, found, line, call, due, certain)
+        }
+        Err(_) => Err(AuditFault::Io(IoFault::NoMemory)),
+    }
+}
+
+/// Hears what the line with this number says, and then the lines after it, and tells each wrong reply.
+pub(crate) fn review_lines<M: SlotMap + Drop, A: Allocator + Drop, B: Allocator>(
+    hearing: &mut Hearing<M, A>,
+    found: &mut Vec<Verdict, B>,
+    first: Said,
+    number: u64,
+    text: &[u8],
+) -> Result<(), AuditFault>
+    requires counted { IsCounted hearing.old }
+    requires few { count_of hearing.old + 1 ≤ number }
+    requires room { number + length text.now < 2 ^ 64 }
+    ensures ok { OnOk result ((lines : List (List ℕ)) (d : Declared)
+        → IsBefore (terms_of hearing.old) lines d (heard_of hearing.old) (plain_of hearing.old.auditor) found.old.items first number
+        (lines_of text.now) → IsReviewed (terms_of hearing.old) lines found.new.items hearing.new.judged hearing.new.lacking) }
+    ensures err { IfErr result (λ f. (lines : List (List ℕ)) (d : Declared)
+        → IsBefore (terms_of hearing.old) lines d (heard_of hearing.old) (plain_of hearing.old.auditor) found.old.items first number
+        (lines_of text.now) → IsTextAtFault lines f) }
+{
+    let mut said = first;
+    let mut line = number;
+    let mut rest = text;
+    'lines: loop {
+        turn(hearing, found, said, line)?;
+        if rest.is_empty() {
+            return Ok(());
+        }
+        line += 1;
+        let (front, more) = front_line(rest);
+        said = said_at(front, line)?;
+        rest = more;
+    }
+}

@@ -1,0 +1,4 @@
+mod TokenLemmas
+mod StampLemmas
+pub mod SpeechLemmas
+mod SaidLemmas

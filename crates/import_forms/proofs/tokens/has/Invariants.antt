@@ -1,0 +1,9 @@
+use Rattle.std.proofs.Common.{◌≡◌, ◌≤◌, ◌-◌, length, drop}
+use Rattle.import_forms.specs.Tokens.{occurs}
+use Rattle.import_forms.proofs.tokens.has.Given as goal
+
+abbrev pub invariant-places : goal.invariant-places
+invariant-places l = record { within : l.at ≤ length l.bytes; same : occurs l.name (drop l.at l.bytes) ≡ occurs l.name l.bytes }
+
+abbrev pub decreases-places : goal.decreases-places
+decreases-places l = length l.bytes - l.at

@@ -1,0 +1,5 @@
+pub mod Tokens
+pub mod Stamps
+pub mod Speech
+pub mod Looks
+pub mod Said

@@ -1,0 +1,245 @@
+-- What the text of a call says.
+use Rattle.std.specs.Prelude.{ℕ, ◌/◌, ◌%◌, ◌^◌, Bool, true, false, not, ◌&&◌, ◌||◌, List, [], ◌∷◌, Option, None, Some, if◌then◌else◌, ◌==◌, codes}
+use Rattle.std.specs.Prelude.{drop, length, nat_le, option_map, unwrap_or}
+use Rattle.std.specs.Str.{bytes_eq}
+use Rattle.trace_text.specs.Number.{number_of}
+use Rattle.trace_text.specs.Request.{◌>>=◌}
+use Rattle.trace_text.specs.Words.{byte}
+use Rattle.vm_base.specs.declared.rights.Prot.{Prot}
+use Rattle.vm_base.specs.declared.requests.Flags.{Flags}
+use Rattle.vm_base.specs.declared.requests.Request.{Request}
+use Rattle.vm_base.specs.declared.requests.Request.TheVariants.{Mmap, Munmap, Mprotect}
+use Rattle.import_forms.specs.Stamps.{front_thread}
+use Rattle.import_forms.specs.Tokens.{Token, at_end, begins_by, front_count, front_token, from_token, occurs, only_count, split_at_last}
+use Rattle.import_forms.specs.declared.said.Call.{Call}
+use Rattle.import_forms.specs.declared.said.Call.TheVariants as Of
+use Rattle.import_forms.specs.declared.said.Outcome.{Outcome}
+use Rattle.import_forms.specs.declared.said.Outcome.TheVariants.{Gives, Fails, Unclear}
+use Rattle.import_forms.specs.declared.said.Said.{Said}
+use Rattle.import_forms.specs.declared.said.Said.TheVariants as Says
+
+-- the calls that change what is mapped
+abbrev pub call_named : Token → Option Call
+call_named name = if bytes_eq name (codes "mmap") then Some Of.Mmap
+    else if bytes_eq name (codes "munmap") then Some Of.Munmap
+    else if bytes_eq name (codes "mprotect") then Some Of.Mprotect
+    else if bytes_eq name (codes "brk") then Some Of.Brk
+    else if bytes_eq name (codes "mremap") then Some Of.Mremap
+    else if bytes_eq name (codes "clone") || bytes_eq name (codes "clone3") then Some Of.Make
+    else if bytes_eq name (codes "fork") || bytes_eq name (codes "vfork") then Some Of.Make
+    else if bytes_eq name (codes "execve") || bytes_eq name (codes "execveat") then Some Of.Begin
+    else None
+
+-- the number of a thread with its name, which is all that stands here
+unfoldable pub only_thread : List ℕ → Option ℕ
+only_thread after = do
+  first ← front_thread after
+  at_end (from_token first.1) first.0
+
+-- what isn't a bare number: that of a thread with its name, or -1 and why
+abbrev pub outcome_else : List ℕ → Option ℕ → Outcome
+outcome_else after (Some number) = Gives number
+outcome_else after None = if begins_by (codes "-1") (from_token after) then Fails else Unclear
+
+-- what stands behind the last sign of equality: one number, or another outcome
+abbrev pub outcome_from : List ℕ → Option ℕ → Outcome
+outcome_from after (Some number) = Gives number
+outcome_from after None = outcome_else after (only_thread after)
+
+-- what stands behind the equals sign
+abbrev pub outcome_of : List ℕ → Outcome
+outcome_of after = outcome_from after (only_count after)
+
+-- ---- flags, by their names, or by their bits as Linux numbers them
+
+abbrev pub flag_in : List ℕ → ℕ → Token → Option ℕ → Bool
+flag_in name bit token (Some number) = number / bit % 2 == 1
+flag_in name bit token None = occurs name token
+
+-- the token has this flag: its bit, where the token is a number, and else its name
+abbrev pub has_flag : List ℕ → ℕ → Token → Bool
+has_flag name bit token = flag_in name bit token (number_of token)
+
+-- the rights that a token names
+abbrev pub prot_named : Token → Prot
+prot_named token = record {
+  read = has_flag (codes "PROT_READ") 1 token;
+  write = has_flag (codes "PROT_WRITE") 2 token;
+  exec = has_flag (codes "PROT_EXEC") 4 token;
+}
+
+abbrev pub private_in : Token → Option ℕ → Bool
+private_in token (Some number) = number % 4 == 2
+private_in token None = occurs (codes "MAP_PRIVATE") token
+
+-- the low bits are 2 (MAP_PRIVATE), and neither 1 (MAP_SHARED) nor 3 (MAP_SHARED_VALIDATE)
+abbrev pub is_private : Token → Bool
+is_private token = private_in token (number_of token)
+
+-- the flags that a token names, of a mapping that the kernel has placed
+abbrev pub flags_named : Token → Flags
+flags_named token = record {
+  private = is_private token;
+  shared = has_flag (codes "MAP_SHARED") 1 token;
+  fixed = true;
+  anon = has_flag (codes "MAP_ANONYMOUS") 32 token;
+}
+
+abbrev pub growing_in : Token → Option ℕ → Bool
+growing_in token (Some number) = nat_le (2 ^ 24) number
+growing_in token None = occurs (codes "PROT_GROWS") token
+
+-- rights for what grows by itself: PROT_GROWSDOWN and PROT_GROWSUP are the bits 24 and 25, and none is above
+abbrev pub is_for_growing : Token → Bool
+is_for_growing token = growing_in token (number_of token)
+
+-- what stands behind a comment, `/* NAMES */`
+unfoldable pub comment_end : List ℕ → Option (List ℕ)
+comment_end bytes = do
+  sign ← front_token bytes
+  names ← front_token sign.1
+  close ← front_token names.1
+  if bytes_eq sign.0 (codes "/*") && bytes_eq close.0 (codes "*/") then Some close.1 else None
+
+-- without the comment that stands first, if one does
+abbrev pub past_comment : List ℕ → List ℕ
+past_comment bytes = unwrap_or (comment_end bytes) bytes
+
+-- what stands behind the first such name
+abbrev pub behind : List ℕ → List ℕ → Option (List ℕ)
+behind name [] = None
+behind name (x ∷ xs) = if begins_by name (x ∷ xs) then Some (drop (length name) (x ∷ xs)) else behind name xs
+
+abbrev pub front_or : Token → Option (List ℕ × List ℕ) → Token
+front_or token None = token
+front_or token (Some parts) = parts.0
+
+-- what stands before the last `|`
+abbrev pub before_bar : Token → Token
+before_bar token = front_or token (split_at_last (byte (codes "|")) token)
+
+-- whether the number behind `flags=` has the bit of CLONE_THREAD
+unfoldable pub thread_bit : List ℕ → Option Bool
+thread_bit before = do
+  rest ← behind (codes "flags=") before
+  token ← front_token rest
+  number ← number_of (before_bar token.0)
+  Some (number / 65536 % 2 == 1)
+
+-- a thread of the same process is made
+abbrev pub shares : List ℕ → Bool
+shares before = if occurs (codes "CLONE_THREAD") before then true else unwrap_or (thread_bit before) false
+
+-- private or shared, and not both
+abbrev pub has_kind : Flags → Bool
+has_kind flags = if flags.private then not flags.shared else flags.shared
+
+-- one kind, pages of the usual size, and a mapping that doesn't grow by itself
+abbrev pub is_plain : Token → Bool
+is_plain token = if has_flag (codes "MAP_HUGETLB") 262144 token then false
+    else if has_flag (codes "MAP_GROWSDOWN") 256 token then false else has_kind (flags_named token)
+
+-- `HINT, LEN, PROT, FLAGS, DESCRIPTOR, OFF`: a mapping at the address that the kernel gave
+unfoldable pub mmap_said : List ℕ → ℕ → Option Request
+mmap_said before addr = do
+  parts ← split_at_last (byte (codes ",")) before
+  off ← only_count parts.1
+  hint ← front_token parts.0
+  len ← front_count hint.1
+  prot ← front_token len.1
+  flags ← front_token (past_comment prot.1)
+  if is_plain flags.0 then Some (Mmap addr len.0 (prot_named prot.0) (flags_named flags.0) 0 off) else None
+
+-- `ADDR, LEN`
+unfoldable pub munmap_said : List ℕ → ℕ → Option Request
+munmap_said before gave = do
+  addr ← front_count before
+  len ← only_count addr.1
+  if gave == 0 then Some (Munmap addr.0 len) else None
+
+-- `ADDR, LEN, PROT`
+unfoldable pub mprotect_said : List ℕ → ℕ → Option Request
+mprotect_said before gave = do
+  addr ← front_count before
+  len ← front_count addr.1
+  prot ← front_token len.1
+  if gave == 0 then (if is_for_growing prot.0 then None else Some (Mprotect addr.0 len.0 (prot_named prot.0))) else None
+
+-- `FROM, OLD, NEW, FLAGS`: a mapping that is moved to the address that the kernel gave
+unfoldable pub mremap_said : List ℕ → ℕ → Option Said
+mremap_said before to = do
+  from ← front_count before
+  old ← front_count from.1
+  new ← front_count old.1
+  flags ← front_token new.1
+  if old.0 == 0 then None else if has_flag (codes "MREMAP_DONTUNMAP") 4 flags.0 then None
+      else Some (Says.Moves from.0 old.0 to new.0)
+
+-- a request, or a line that cannot be read
+abbrev pub asked : Option Request → Said
+asked (Some request) = Says.Asks request
+asked None = Says.Unread
+
+-- what a call says that gave this number, from what stands before the sign of equality
+abbrev pub done_said : Call → List ℕ → ℕ → Said
+done_said Of.Mmap before gave = asked (mmap_said before gave)
+done_said Of.Munmap before gave = asked (munmap_said before gave)
+done_said Of.Mprotect before gave = asked (mprotect_said before gave)
+done_said Of.Brk before gave = Says.Breaks gave
+done_said Of.Mremap before gave = unwrap_or (mremap_said before gave) Says.Unread
+done_said Of.Make before gave = Says.Makes gave (shares before)
+done_said Of.Begin before gave = Says.Begins
+
+-- what a call says that came to this: a request only where it succeeded
+abbrev pub ended_said : Call → List ℕ → Outcome → Said
+ended_said call before (Gives gave) = done_said call before gave
+ended_said call before Fails = Says.Fails
+ended_said call before Unclear = Says.Unread
+
+-- from what stands before the last sign of equality and behind it
+abbrev pub outcome_said : Call → Option (List ℕ × List ℕ) → Said
+outcome_said call None = Says.Unread
+outcome_said call (Some parts) = ended_said call parts.0 (outcome_of parts.1)
+
+-- what one of these calls says
+unfoldable pub known_said : List ℕ → Option Said
+known_said text = do
+  first ← front_token text
+  call ← call_named first.0
+  Some (outcome_said call (split_at_last (byte (codes "=")) first.1))
+
+-- what the text of a call says
+abbrev pub said_of : List ℕ → Said
+said_of text = unwrap_or (known_said text) Says.Other
+
+-- the bytes from the first `<` on; `all` where there is none
+abbrev pub from_sign : List ℕ → List ℕ → List ℕ
+from_sign all [] = all
+from_sign all (x ∷ xs) = if x == byte (codes "<") then x ∷ xs else from_sign all xs
+
+-- what stands behind rights and flags, each with its comment
+unfoldable pub past_flags : List ℕ → Option (List ℕ)
+past_flags bytes = do
+  prot ← front_token bytes
+  flags ← front_token (past_comment prot.1)
+  Some (past_comment flags.1)
+
+-- what stands between the flags of an mmap and its offset
+unfoldable pub file_said : List ℕ → Option (List ℕ)
+file_said text = do
+  whole ← split_at_last (byte (codes "=")) text
+  parts ← split_at_last (byte (codes ",")) whole.0
+  name ← front_token parts.0
+  hint ← front_token name.1
+  len ← front_token hint.1
+  rest ← past_flags len.1
+  Some (from_token rest)
+
+-- the name that strace shows behind a descriptor, and else the descriptor itself
+abbrev pub named_file : List ℕ → Option (List ℕ) → List ℕ
+named_file text None = text
+named_file text (Some descriptor) = from_sign descriptor descriptor
+
+-- the path of the file that an mmap maps, from its `<` on, or where it isn't shown the descriptor
+abbrev pub file_named : List ℕ → List ℕ
+file_named text = named_file text (file_said text)

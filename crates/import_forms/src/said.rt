@@ -1,0 +1,541 @@
+//! What the text of a call says.
+ghost use Rattle.std.specs.Prelude.{◌≡◌, ◌≤◌, ◌<◌, codes, drop, option_map};
+ghost use Rattle.import_forms.specs.Tokens.{begins_by, occurs, split_at_last};
+ghost use Rattle.import_forms.specs.Said.{asked, behind, before_bar, call_named, comment_end, done_said, file_named, file_said, flags_named, from_sign};
+ghost use Rattle.import_forms.specs.Said.{has_flag, is_for_growing, outcome_else, has_kind, is_plain, is_private, known_said, mmap_said, mprotect_said, mremap_said, munmap_said};
+ghost use Rattle.import_forms.specs.Said.{only_thread, outcome_of, outcome_said, past_comment, past_flags, prot_named, said_of, shares, thread_bit};
+
+use crate::stamps::front_thread;
+use crate::tokens::{begins, has, next_count, next_token, read_only, split_last, without_gaps};
+use trace_text::number::read_number;
+use vm_base::{Flags, Prot, Request};
+
+// The calls that are looked at.
+#[derive(Clone, Copy, Debug, PartialEq, Eq)]
+enum Call {
+    Mmap,
+    Munmap,
+    Mprotect,
+    Brk,
+    Mremap,
+    // `clone`, `clone3`, `fork` and `vfork`.
+    Make,
+    // `execve` and `execveat`.
+    Begin,
+}
+
+// What stands behind the sign of equality.
+#[derive(Clone, Copy, Debug, PartialEq, Eq)]
+enum Outcome {
+    Gives(u64),
+    // -1, and why.
+    Fails,
+    Unclear,
+}
+
+/// What the text of a call says.
+#[derive(Clone, Copy, Debug, PartialEq, Eq)]
+pub enum Said {
+    /// `mmap`, `munmap` or `mprotect`, as it stands: a mapping where the kernel placed it, and of file 0.
+    Asks(Request),
+    /// `brk`: the heap ends at this address from now on.
+    Breaks(u64),
+    /// `mremap`: from an address and its length in bytes, to another.
+    Moves {
+        /// Where the mapping was.
+        from: u64,
+        /// How many bytes it had.
+        old: u64,
+        /// Where it is.
+        to: u64,
+        /// How many bytes it has.
+        new: u64,
+    },
+    /// `clone`, `clone3`, `fork` or `vfork`: a thread was made.
+    Makes {
+        /// Its number.
+        thread: u64,
+        /// Whether it is of the same process (`CLONE_THREAD`).
+        shares: bool,
+    },
+    /// `execve`: a program begins, with a new address space.
+    Begins,
+    /// One of these calls failed.
+    Fails,
+    /// One of these calls in a form that isn't read.
+    Unread,
+    /// Any other call, an event, or nothing.
+    Other,
+}
+
+// The call of this name.
+fn call_named(name: &[u8]) -> Option<Call>
+    ensures { result ≡ call_named name.now }
+{
+    if name == b"mmap".as_slice() {
+        Some(Call::Mmap)
+    } else if name == b"munmap".as_slice() {
+        Some(Call::Munmap)
+    } else if name == b"mprotect".as_slice() {
+        Some(Call::Mprotect)
+    } else if name == b"brk".as_slice() {
+        Some(Call::Brk)
+    } else if name == b"mremap".as_slice() {
+        Some(Call::Mremap)
+    } else if name == b"clone".as_slice() || name == b"clone3".as_slice() {
+        Some(Call::Make)
+    } else if name == b"fork".as_slice() || name == b"vfork".as_slice() {
+        Some(Call::Make)
+    } else if name == b"execve".as_slice() || name == b"execveat".as_slice() {
+        Some(Call::Begin)
+    } else {
+        None
+    }
+}
+
+// The number of the thread that is all that stands here, `NUMBER<NAME>`.
+#[tactic(auto, unfolding(crate::specs::Said::only_thread))]
+fn only_thread(after: &[u8]) -> Option<u64>
+    ensures { result ≡ only_thread after.now }
+{
+    let (number, rest) = front_thread(after)?;
+    let left = without_gaps(rest);
+    if !left.is_empty() {
+        return None;
+    }
+    Some(number)
+}
+
+// What a call gave that isn't a bare number: the number of a thread with its name, or -1 and why it failed.
+fn read_other(after: &[u8]) -> Outcome
+    ensures { result ≡ outcome_else after.now (only_thread after.now) }
+{
+    match only_thread(after) {
+        Some(number) => Outcome::Gives(number),
+        None => {
+            if begins(without_gaps(after), b"-1".as_slice()) {
+                Outcome::Fails
+            } else {
+                Outcome::Unclear
+            }
+        }
+    }
+}
+
+// What a call gave: one number, or -1 and why it failed.
+fn read_outcome(after: &[u8]) -> Outcome
+    ensures { result ≡ outcome_of after.now }
+{
+    match read_only(after) {
+        Some(number) => Outcome::Gives(number),
+        None => read_other(after),
+    }
+}
+
+// Tells whether a token has this flag: its bit, where the token is a number, and else its name.
+fn has_flag(token: &[u8], name: &[u8], bit: u64) -> bool
+    requires { 0 < bit }
+    ensures { result ≡ has_flag name.now bit token.now }
+{
+    match read_number(token) {
+        Some(number) => number / bit % 2 == 1,
+        None => has(token, name),
+    }
+}
+
+// Tells whether a token allows reading.
+fn allows_reading(token: &[u8]) -> bool
+    ensures { result ≡ has_flag (codes "PROT_READ") 1 token.now }
+{
+    has_flag(token, b"PROT_READ".as_slice(), 1)
+}
+
+// Tells whether a token allows writing.
+fn allows_writing(token: &[u8]) -> bool
+    ensures { result ≡ has_flag (codes "PROT_WRITE") 2 token.now }
+{
+    has_flag(token, b"PROT_WRITE".as_slice(), 2)
+}
+
+// Tells whether a token allows execution.
+fn allows_execution(token: &[u8]) -> bool
+    ensures { result ≡ has_flag (codes "PROT_EXEC") 4 token.now }
+{
+    has_flag(token, b"PROT_EXEC".as_slice(), 4)
+}
+
+// The rights that a token names.
+fn prot_named(token: &[u8]) -> Prot
+    ensures { result ≡ prot_named token.now }
+{
+    Prot {
+        read: allows_reading(token),
+        write: allows_writing(token),
+        exec: allows_execution(token),
+    }
+}
+
+// Tells whether a token names `MAP_PRIVATE`: of the two low bits of a number, the second alone.
+fn is_private(token: &[u8]) -> bool
+    ensures { result ≡ is_private token.now }
+{
+    match read_number(token) {
+        Some(number) => number % 4 == 2,
+        None => has(token, b"MAP_PRIVATE".as_slice()),
+    }
+}
+
+// Tells whether a token names `MAP_SHARED`.
+fn is_shared(token: &[u8]) -> bool
+    ensures { result ≡ has_flag (codes "MAP_SHARED") 1 token.now }
+{
+    has_flag(token, b"MAP_SHARED".as_slice(), 1)
+}
+
+// Tells whether a token names `MAP_ANONYMOUS`.
+fn is_anonymous(token: &[u8]) -> bool
+    ensures { result ≡ has_flag (codes "MAP_ANONYMOUS") 32 token.now }
+{
+    has_flag(token, b"MAP_ANONYMOUS".as_slice(), 32)
+}
+
+// The flags that a token names. The kernel has placed the mapping, so it is fixed.
+fn flags_named(token: &[u8]) -> Flags
+    ensures { result ≡ flags_named token.now }
+{
+    Flags {
+        private: is_private(token),
+        shared: is_shared(token),
+        fixed: true,
+        anon: is_anonymous(token),
+    }
+}
+
+// What stands behind the first such name.
+fn behind<'a>(bytes: &'a [u8], name: &[u8]) -> Option<&'a [u8]>
+    ensures { option_map (λ f. f.now) result ≡ behind name.now bytes.now }
+{
+    let mut at = 0;
+    'places: while at < bytes.len() {
+        let (_, rest) = bytes.split_at(at);
+        if begins(rest, name) {
+            let (_, after) = rest.split_at(name.len());
+            return Some(after);
+        }
+        at += 1;
+    }
+    None
+}
+
+// What stands before the last `|` of a token, where there is one.
+fn before_bar(token: &[u8]) -> &[u8]
+    ensures { result.now ≡ before_bar token.now }
+{
+    match split_last(token, b'|') {
+        Some((front, _)) => front,
+        None => token,
+    }
+}
+
+// Whether the number behind `flags=`, if one is there, has the bit of `CLONE_THREAD`.
+#[tactic(auto, unfolding(crate::specs::Said::thread_bit))]
+fn thread_bit(before: &[u8]) -> Option<bool>
+    ensures { result ≡ thread_bit before.now }
+{
+    let rest = behind(before, b"flags=".as_slice())?;
+    let (token, _) = next_token(rest)?;
+    let number = read_number(before_bar(token))?;
+    Some(number / 65536 % 2 == 1)
+}
+
+// Tells whether `CLONE_THREAD` stands somewhere.
+fn names_thread(before: &[u8]) -> bool
+    ensures { result ≡ occurs (codes "CLONE_THREAD") before.now }
+{
+    has(before, b"CLONE_THREAD".as_slice())
+}
+
+// Tells whether a call makes a thread of the same process.
+fn is_thread(before: &[u8]) -> bool
+    ensures { result ≡ shares before.now }
+{
+    if names_thread(before) {
+        return true;
+    }
+    match thread_bit(before) {
+        Some(shares) => shares,
+        None => false,
+    }
+}
+
+/// Tells whether a mapping is private or shared, and not both.
+pub fn has_kind(flags: Flags) -> bool
+    ensures { result ≡ has_kind flags }
+{
+    if flags.private {
+        !flags.shared
+    } else {
+        flags.shared
+    }
+}
+
+// Tells whether pages are of another size.
+fn is_huge(token: &[u8]) -> bool
+    ensures { result ≡ has_flag (codes "MAP_HUGETLB") 262144 token.now }
+{
+    has_flag(token, b"MAP_HUGETLB".as_slice(), 262_144)
+}
+
+// Tells whether a mapping grows by itself.
+fn is_growing(token: &[u8]) -> bool
+    ensures { result ≡ has_flag (codes "MAP_GROWSDOWN") 256 token.now }
+{
+    has_flag(token, b"MAP_GROWSDOWN".as_slice(), 256)
+}
+
+// Tells whether the pages are of the usual size, and the mapping doesn't grow by itself. The token names these flags.
+fn is_plain(token: &[u8], flags: Flags) -> bool
+    requires { flags ≡ flags_named token.now }
+    ensures { result ≡ is_plain token.now }
+{
+    if is_huge(token) {
+        return false;
+    }
+    if is_growing(token) {
+        return false;
+    }
+    has_kind(flags)
+}
+
+// What stands behind a comment, `/* NAMES */`, if one stands first.
+#[tactic(auto, unfolding(crate::specs::Said::comment_end))]
+fn comment_end(bytes: &[u8]) -> Option<&[u8]>
+    ensures { option_map (λ f. f.now) result ≡ comment_end bytes.now }
+{
+    let (sign, rest) = next_token(bytes)?;
+    let (_, rest) = next_token(rest)?;
+    let (close, rest) = next_token(rest)?;
+    if sign == b"/*".as_slice() && close == b"*/".as_slice() {
+        Some(rest)
+    } else {
+        None
+    }
+}
+
+// The bytes without the comment that stands first, if one does.
+fn past_comment(bytes: &[u8]) -> &[u8]
+    ensures { result.now ≡ past_comment bytes.now }
+{
+    match comment_end(bytes) {
+        Some(rest) => rest,
+        None => bytes,
+    }
+}
+
+// Tells whether rights are also for what grows by itself.
+fn is_for_growing(token: &[u8]) -> bool
+    ensures { result ≡ is_for_growing token.now }
+{
+    match read_number(token) {
+        Some(number) => number >= 16_777_216,
+        None => has(token, b"PROT_GROWS".as_slice()),
+    }
+}
+
+// `HINT, LEN, PROT, FLAGS, DESCRIPTOR, OFF`, placed at this address.
+#[tactic(auto, unfolding(crate::specs::Said::mmap_said))]
+fn read_mmap(before: &[u8], addr: u64) -> Option<Request>
+    ensures { result ≡ mmap_said before.now addr }
+{
+    let (front, back) = split_last(before, b',')?;
+    let off = read_only(back)?;
+    let (_, rest) = next_token(front)?;
+    let (len, rest) = next_count(rest)?;
+    let (prot, rest) = next_token(rest)?;
+    let (names, _) = next_token(past_comment(rest))?;
+    let flags = flags_named(names);
+    if !is_plain(names, flags) {
+        return None;
+    }
+    Some(Request::Mmap {
+        addr,
+        len,
+        prot: prot_named(prot),
+        flags,
+        file: 0,
+        off,
+    })
+}
+
+// `ADDR, LEN`, which gave 0.
+#[tactic(auto, unfolding(crate::specs::Said::munmap_said))]
+fn read_munmap(before: &[u8], gave: u64) -> Option<Request>
+    ensures { result ≡ munmap_said before.now gave }
+{
+    let (addr, rest) = next_count(before)?;
+    let len = read_only(rest)?;
+    if gave != 0 {
+        return None;
+    }
+    Some(Request::Munmap { addr, len })
+}
+
+// `ADDR, LEN, PROT`, which gave 0.
+#[tactic(auto, unfolding(crate::specs::Said::mprotect_said))]
+fn read_mprotect(before: &[u8], gave: u64) -> Option<Request>
+    ensures { result ≡ mprotect_said before.now gave }
+{
+    let (addr, rest) = next_count(before)?;
+    let (len, rest) = next_count(rest)?;
+    let (prot, _) = next_token(rest)?;
+    if gave != 0 {
+        return None;
+    }
+    if is_for_growing(prot) {
+        return None;
+    }
+    Some(Request::Mprotect {
+        addr,
+        len,
+        prot: prot_named(prot),
+    })
+}
+
+// Tells whether a mapping that is moved stays where it was too.
+fn is_left(token: &[u8]) -> bool
+    ensures { result ≡ has_flag (codes "MREMAP_DONTUNMAP") 4 token.now }
+{
+    has_flag(token, b"MREMAP_DONTUNMAP".as_slice(), 4)
+}
+
+// `FROM, OLD, NEW, FLAGS`, moved to this address.
+#[tactic(auto, unfolding(crate::specs::Said::mremap_said))]
+fn read_mremap(before: &[u8], to: u64) -> Option<Said>
+    ensures { result ≡ mremap_said before.now to }
+{
+    let (from, rest) = next_count(before)?;
+    let (old, rest) = next_count(rest)?;
+    let (new, rest) = next_count(rest)?;
+    let (flags, _) = next_token(rest)?;
+    if old == 0 {
+        return None;
+    }
+    if is_left(flags) {
+        return None;
+    }
+    Some(Said::Moves { from, old, to, new })
+}
+
+/// A request, where one was read.
+pub fn asked(request: Option<Request>) -> Said
+    ensures { result ≡ asked request }
+{
+    match request {
+        Some(request) => Said::Asks(request),
+        None => Said::Unread,
+    }
+}
+
+// What is said by a call that gave this number, from what stands before it.
+fn read_done(call: Call, before: &[u8], gave: u64) -> Said
+    ensures { result ≡ done_said call before.now gave }
+{
+    match call {
+        Call::Mmap => asked(read_mmap(before, gave)),
+        Call::Munmap => asked(read_munmap(before, gave)),
+        Call::Mprotect => asked(read_mprotect(before, gave)),
+        Call::Brk => Said::Breaks(gave),
+        Call::Mremap => match read_mremap(before, gave) {
+            Some(moves) => moves,
+            None => Said::Unread,
+        },
+        Call::Make => Said::Makes {
+            thread: gave,
+            shares: is_thread(before),
+        },
+        Call::Begin => Said::Begins,
+    }
+}
+
+// What is said by one of these calls, from its arguments on.
+fn read_args(call: Call, args: &[u8]) -> Said
+    ensures { result ≡ outcome_said call (split_at_last 61 args.now) }
+{
+    let Some((before, after)) = split_last(args, b'=') else {
+        return Said::Unread;
+    };
+    match read_outcome(after) {
+        Outcome::Gives(gave) => read_done(call, before, gave),
+        Outcome::Fails => Said::Fails,
+        Outcome::Unclear => Said::Unread,
+    }
+}
+
+// What one of these calls says.
+#[tactic(auto, unfolding(crate::specs::Said::known_said))]
+fn read_known(text: &[u8]) -> Option<Said>
+    ensures { result ≡ known_said text.now }
+{
+    let (name, args) = next_token(text)?;
+    let call = call_named(name)?;
+    Some(read_args(call, args))
+}
+
+/// What the text of a call says.
+pub fn read_call(text: &[u8]) -> Said
+    ensures { result ≡ said_of text.now }
+{
+    match read_known(text) {
+        Some(said) => said,
+        None => Said::Other,
+    }
+}
+
+// The bytes from the first `<` on, where there is one, else all.
+fn from_sign(bytes: &[u8]) -> &[u8]
+    ensures { result.now ≡ from_sign bytes.now bytes.now }
+{
+    let mut at = 0;
+    'bytes: while at < bytes.len() {
+        if bytes[at] == b'<' {
+            let (_, named) = bytes.split_at(at);
+            return named;
+        }
+        at += 1;
+    }
+    bytes
+}
+
+// What stands behind rights and flags, each with its comment.
+#[tactic(auto, unfolding(crate::specs::Said::past_flags))]
+fn past_flags(bytes: &[u8]) -> Option<&[u8]>
+    ensures { option_map (λ f. f.now) result ≡ past_flags bytes.now }
+{
+    let (_, rest) = next_token(bytes)?;
+    let (_, rest) = next_token(past_comment(rest))?;
+    Some(past_comment(rest))
+}
+
+// The file that `mmap` names: what stands between its flags and its offset.
+#[tactic(auto, unfolding(crate::specs::Said::file_said))]
+fn read_file(text: &[u8]) -> Option<&[u8]>
+    ensures { option_map (λ f. f.now) result ≡ file_said text.now }
+{
+    let (front, _) = split_last(text, b'=')?;
+    let (front, _) = split_last(front, b',')?;
+    let (_, rest) = next_token(front)?;
+    let (_, rest) = next_token(rest)?;
+    let (_, rest) = next_token(rest)?;
+    let rest = past_flags(rest)?;
+    Some(without_gaps(rest))
+}
+
+/// The file that the text of an `mmap` names: its path, `<PATH>`, where strace shows it, else its descriptor.
+pub fn read_file_name(text: &[u8]) -> &[u8]
+    ensures { result.now ≡ file_named text.now }
+{
+    match read_file(text) {
+        Some(descriptor) => from_sign(descriptor),
+        None => text,
+    }
+}

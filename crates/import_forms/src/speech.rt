@@ -1,0 +1,90 @@
+//! Which thread a line of strace is about, and what it says of it.
+ghost use Rattle.std.specs.Prelude.{◌≡◌, ◌<◌, IfOk, map, option_map};
+ghost use Rattle.trace_io.specs.Lines.{lines_of};
+ghost use Rattle.import_forms.specs.Speech.{begun_of, numbered, returned_of, spoken, speech_of};
+
+use crate::stamps::{call_text, front_thread};
+use crate::tokens::{begins, next_token};
+use std::alloc::{AllocError, Global};
+use trace_io::lines::front_line;
+
+/// What a line says, and of which thread.
+#[derive(Clone, Copy, Debug)]
+pub struct Speech<'a> {
+    /// The thread's number, 0 where the line names none.
+    pub thread: u64,
+    /// The call, or what else the line says.
+    pub text: &'a [u8],
+}
+
+// The thread that the line names, `PID` or `[pid PID]`, and what stands behind it. Another number in brackets is a call's, or an address.
+#[tactic(auto, unfolding(crate::specs::Speech::numbered))]
+fn numbered(line: &[u8]) -> Option<(u64, &[u8])>
+    ensures { option_map (λ f. (f.0, f.1.now)) result ≡ numbered line.now }
+{
+    let (first, rest) = next_token(line)?;
+    if first == b"pid".as_slice() {
+        front_thread(rest)
+    } else if begins(line, b"[".as_slice()) {
+        None
+    } else {
+        front_thread(line)
+    }
+}
+
+/// Which thread the line is about, and what it says of it.
+pub fn read_speech(line: &[u8]) -> Speech<'_>
+    ensures { spoken result ≡ speech_of line.now }
+{
+    match numbered(line) {
+        Some((thread, text)) => Speech {
+            thread,
+            text: call_text(text),
+        },
+        None => Speech {
+            thread: 0,
+            text: call_text(line),
+        },
+    }
+}
+
+/// What each line of the log says, in order.
+pub fn read_speeches<'a>(alloc: Global, log: &'a [u8]) -> Result<Vec<Speech<'a>>, AllocError>
+    ensures { IfOk result (λ all. map spoken all.items ≡ map speech_of (lines_of log.now)) }
+{
+    let mut all: Vec<Speech<'a>> = Vec::new(alloc);
+    let mut rest = log;
+    'lines: while !rest.is_empty() {
+        let (line, more) = front_line(rest);
+        all.push(read_speech(line))?;
+        rest = more;
+    }
+    Ok(all)
+}
+
+/// What stands before `<unfinished ...>`, where a text ends with it.
+pub fn begun(text: &[u8]) -> Option<&[u8]>
+    ensures { option_map (λ f. f.now) result ≡ begun_of text.now }
+{
+    let (front, back) = text.split_at(text.len().saturating_sub(16));
+    if back == b"<unfinished ...>".as_slice() {
+        Some(front)
+    } else {
+        None
+    }
+}
+
+/// The name of a call that returns, `<... NAME resumed>`, and what stands behind that.
+#[tactic(auto, unfolding(crate::specs::Speech::returned_of))]
+pub fn returned(text: &[u8]) -> Option<(&[u8], &[u8])>
+    ensures { option_map (λ f. (f.0.now, f.1.now)) result ≡ returned_of text.now }
+{
+    let (first, rest) = next_token(text)?;
+    let (name, rest) = next_token(rest)?;
+    let (mark, rest) = next_token(rest)?;
+    if first == b"<...".as_slice() && mark == b"resumed>".as_slice() {
+        Some((name, rest))
+    } else {
+        None
+    }
+}

@@ -1,0 +1,5 @@
+pub mod Lists
+pub mod OnceLemmas
+pub mod TimeLemmas
+pub mod LeadLemmas
+mod Examples

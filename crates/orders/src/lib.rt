@@ -1,0 +1,11 @@
+//! Calls that overlap: whether an order of them, which keeps each behind all that ended before it began, gives their replies on
+//! the plain page map (linearizability: Herlihy and Wing, 1990).
+#![tactic(auto)]
+
+pub mod following;
+pub mod history;
+mod leading;
+mod timing;
+
+pub use following::follow;
+pub use history::{Item, Timed};

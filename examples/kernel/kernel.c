@@ -1,0 +1,116 @@
+/* Records what the kernel that it runs on answers to calls of threads that overlap, as a history on standard output. The threads map,
+   unmap and protect a few pages, and load, store and fetch bytes there. At the repository's root:
+   cc -O2 -pthread -I include -o /tmp/kernel examples/kernel/kernel.c && /tmp/kernel 4 100000 | ./radixvm audit --overlapping
+   usage: kernel [THREADS [CALLS [PAGES [MOST [SEED]]]]]: each thread makes so many calls, on at most MOST pages of PAGES at once (4, 100000,
+   8, 1 and 1 where they are left out). Where MOST is above 1 a kernel may show a range half changed: POSIX allows it, a page map doesn't. */
+#ifndef _GNU_SOURCE
+#define _GNU_SOURCE
+#endif
+#include "radixvm_record.h"
+#include <pthread.h>
+#include <string.h>
+#include <unistd.h>
+
+enum { PAGE = 4096, FILE_PAGES = 3, FILE_FIRST = 0xc3 };
+
+static uint64_t calls = 100000, pages = 8, most = 1, seed = 1;
+static uint8_t *base;
+static int fd;
+static int waiting;
+
+/* A core, and its random numbers. */
+struct core {
+    pthread_t thread;
+    struct rv_ring *ring;
+    uint64_t state;
+};
+
+static uint64_t below(struct core *core, uint64_t bound) {
+    uint64_t z = core->state += 0x9e3779b97f4a7c15;
+    z = (z ^ z >> 30) * 0xbf58476d1ce4e5b9;
+    z = (z ^ z >> 27) * 0x94d049bb133111eb;
+    return (z ^ z >> 31) % bound;
+}
+
+/* An access: of the first byte of a page, which is always one that may be fetched, or of another. */
+static void touch(struct core *core, uint8_t *page) {
+    static const uint8_t codes[] = {0xc3, 0xcc, 0xf4, 0x06};
+    uint8_t byte, *other = page + PAGE / 2;
+    switch (below(core, 6)) {
+    case 0: rv_fetch(core->ring, page, &byte); break;
+    case 1: rv_store(core->ring, page, codes[below(core, 4)]); break;
+    case 2: rv_load(core->ring, page, &byte); break;
+    case 3: rv_load(core->ring, other, &byte); break;
+    default: rv_store(core->ring, other, (uint8_t)(1 + below(core, 255)));
+    }
+}
+
+/* A change of some pages. */
+static void change(struct core *core) {
+    static const int rights[] = {PROT_NONE, PROT_READ, PROT_READ | PROT_WRITE, PROT_READ | PROT_WRITE, PROT_READ | PROT_EXEC,
+                                 PROT_READ | PROT_WRITE | PROT_EXEC};
+    uint64_t count = 1 + below(core, most), page = below(core, pages - count + 1);
+    uint8_t *at = base + page * PAGE;
+    size_t length = (size_t)count * PAGE;
+    int prot = rights[below(core, 6)];
+    switch (below(core, 5)) {
+    case 0: rv_munmap(core->ring, at, length); break;
+    case 1: rv_mprotect(core->ring, at, length, prot); break;
+    case 2: /* no page past the file's end: where one may not be executed, Linux answers a fetch by SIGBUS, and a page map by SIGSEGV */
+        if (count <= FILE_PAGES)
+            rv_mmap(core->ring, at, length, prot, MAP_SHARED | MAP_FIXED, fd, (off_t)below(core, FILE_PAGES + 1 - count) * PAGE, 0);
+        break;
+    default: rv_mmap(core->ring, at, length, prot, MAP_PRIVATE | MAP_ANONYMOUS | MAP_FIXED, -1, 0, 0);
+    }
+}
+
+static void *run(void *argument) {
+    struct core *core = (struct core *)argument;
+    __atomic_sub_fetch(&waiting, 1, __ATOMIC_SEQ_CST);
+    while (__atomic_load_n(&waiting, __ATOMIC_SEQ_CST)) {}
+    for (uint64_t i = 0; i < calls; i++) {
+        if (below(core, 10) < 7) touch(core, base + below(core, pages) * PAGE);
+        else change(core);
+    }
+    return NULL;
+}
+
+/* Addresses that nobody maps: far below those that the kernel hands out next. */
+static int find_base(void) {
+    size_t length = (size_t)pages * PAGE;
+    void *probe = mmap(NULL, length, PROT_NONE, MAP_PRIVATE | MAP_ANONYMOUS, -1, 0);
+    if (probe == MAP_FAILED) return -1;
+    munmap(probe, length);
+    void *far = (void *)((uintptr_t)probe - ((uintptr_t)64 << 30));
+    void *found = mmap(far, length, PROT_NONE, MAP_PRIVATE | MAP_ANONYMOUS | MAP_FIXED_NOREPLACE, -1, 0);
+    if (found == MAP_FAILED) return -1;
+    base = (uint8_t *)found;
+    return munmap(found, length) || found != far;
+}
+
+/* A file whose byte i is 0xc3 + i. */
+static int make_file(void) {
+    static uint8_t bytes[FILE_PAGES * PAGE];
+    for (int i = 0; i < FILE_PAGES * PAGE; i++) bytes[i] = (uint8_t)(FILE_FIRST + i);
+    fd = memfd_create("kernel", 0);
+    return fd < 0 || write(fd, bytes, sizeof bytes) != (ssize_t)sizeof bytes;
+}
+
+int main(int argc, char **argv) {
+    uint64_t threads = 4, *numbers[] = {&threads, &calls, &pages, &most, &seed};
+    static struct core cores[64];
+    for (int i = 1; i < argc && i < 6; i++) *numbers[i - 1] = strtoull(argv[i], NULL, 10);
+    if (threads < 1 || threads > 64 || calls < 1 || pages < 1 || most < 1 || most > pages) return 2;
+    if (make_file() || find_base() || rv_start()) return 3;
+    waiting = (int)threads;
+    for (uint64_t i = 0; i < threads; i++) {
+        cores[i].state = seed * 1000003 + i * 7919;
+        if (!(cores[i].ring = rv_thread((int)i, calls))) return 3;
+    }
+    for (uint64_t i = 0; i < threads; i++)
+        if (pthread_create(&cores[i].thread, NULL, run, &cores[i])) return 3;
+    for (uint64_t i = 0; i < threads; i++) pthread_join(cores[i].thread, NULL);
+    rv_head(stdout, (int)threads);
+    printf("file 0 rw %d %d\n", FILE_PAGES * PAGE, FILE_FIRST);
+    return rv_write(stdout) ? 1 : 0;
+}

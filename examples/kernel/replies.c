@@ -1,0 +1,83 @@
+/* Makes a call of each kind with each reply that the recorder's header tells, and fills a ring: the record then ends for all threads. What is
+   wrong is told on standard error; the history goes to standard output. examples/kernel/test.sh compiles and runs it. */
+#ifndef _GNU_SOURCE
+#define _GNU_SOURCE
+#endif
+#include "radixvm_record.h"
+#include <pthread.h>
+#include <unistd.h>
+
+enum { PAGE = 4096, ROOM = 60 };
+
+static void need(int is_so, const char *what) {
+    if (is_so) return;
+    fprintf(stderr, "wrong: %s\n", what);
+    exit(1);
+}
+
+static void *go_on(void *argument) {
+    struct rv_ring *ring = (struct rv_ring *)argument;
+    static uint8_t at;
+    uint8_t byte;
+    for (int i = 0; i < 100000; i++) rv_store(ring, &at, 1), rv_load(ring, &at, &byte);
+    return NULL;
+}
+
+static void touch(struct rv_ring *ring, uint8_t *at) {
+    static const uint8_t codes[] = {0xc3, 0xcc, 0xf4, 0x06};
+    uint8_t byte = 7;
+    need(rv_load(ring, at, &byte) == RV_MAPERR && byte == 0, "load, maperr");
+    need(rv_store(ring, at, 1) == RV_MAPERR, "store, maperr");
+    need(rv_fetch(ring, at, &byte) == RV_MAPERR, "fetch, maperr");
+    int all = PROT_READ | PROT_WRITE | PROT_EXEC;
+    need(rv_mmap(ring, at, PAGE, all, MAP_PRIVATE | MAP_ANONYMOUS | MAP_FIXED, -1, 0, 0) == at, "mmap");
+    need(rv_fetch(ring, at, &byte) == RV_BYTE && byte == 0, "fetch of 0");
+    for (int i = 0; i < 4; i++) {
+        need(rv_store(ring, at, codes[i]) == RV_DONE, "store");
+        need(rv_load(ring, at, &byte) == RV_BYTE && byte == codes[i], "load");
+        need(rv_fetch(ring, at, &byte) == RV_BYTE && byte == codes[i], "fetch");
+    }
+    need(!rv_mprotect(ring, at, PAGE, PROT_READ), "mprotect");
+    need(rv_store(ring, at, 3) == RV_ACCERR, "store, accerr");
+    need(rv_fetch(ring, at, &byte) == RV_ACCERR, "fetch, accerr");
+    need(rv_load(ring, at, &byte) == RV_BYTE && byte == codes[3], "load of what may not be written");
+    need(!rv_munmap(ring, at, PAGE), "munmap");
+    need(rv_munmap(ring, at, 0) == -1 && errno == EINVAL, "munmap, einval");
+    need(rv_mprotect(ring, at, PAGE, PROT_READ) == -1 && errno == ENOMEM, "mprotect, enomem");
+}
+
+static void touch_file(struct rv_ring *ring, uint8_t *at, int fd) {
+    uint8_t byte;
+    need(rv_mmap(ring, at, 2 * PAGE, PROT_READ | PROT_WRITE, MAP_SHARED | MAP_FIXED, fd, 0, 0) == at, "mmap of a file");
+    need(rv_load(ring, at + PAGE, &byte) == RV_BUS, "load, bus");
+    need(rv_store(ring, at + PAGE, 1) == RV_BUS, "store, bus");
+    need(rv_store(ring, at, 1) == RV_DONE, "store to a file");
+    need(rv_mmap(ring, at, PAGE, PROT_READ, MAP_PRIVATE | MAP_FIXED, fd, 1, 0) == MAP_FAILED && errno == EINVAL, "mmap, einval");
+    need(rv_mmap(ring, at, PAGE, PROT_READ, MAP_PRIVATE | MAP_FIXED, -1, 0, 7) == MAP_FAILED && errno == EBADF, "mmap, ebadf");
+}
+
+int main(void) {
+    struct rv_ring *mine = rv_thread(0, ROOM), *other = rv_thread(1, 1000000);
+    pthread_t thread;
+    uint8_t byte;
+    need(mine && other && !rv_start(), "the start");
+    int fd = memfd_create("replies", 0);
+    need(fd >= 0 && !ftruncate(fd, PAGE), "the file");
+    /* far below what the kernel hands out next */
+    void *probe = mmap(NULL, 2 * PAGE, PROT_NONE, MAP_PRIVATE | MAP_ANONYMOUS, -1, 0);
+    need(probe != MAP_FAILED && !munmap(probe, 2 * PAGE), "the place");
+    uint8_t *at = (uint8_t *)((uintptr_t)probe - ((uintptr_t)64 << 30));
+    touch(mine, at);
+    touch_file(mine, at, fd);
+    need(mine->count < ROOM, "the room");
+    need(!pthread_create(&thread, NULL, go_on, other), "the thread");
+    while (mine->count < ROOM) rv_load(mine, at, &byte);
+    need(rv_load(mine, at, &byte) == RV_BYTE && byte == 1, "a call behind the record");
+    uint64_t last = other->count;
+    pthread_join(thread, NULL);
+    need(mine->count == ROOM && other->count == last, "the end of the record");
+    rv_head(stdout, 1);
+    puts("file 0 rw 4096 0");
+    need(rv_write(stdout) == 1, "the text");
+    return 0;
+}
