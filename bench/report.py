@@ -100,26 +100,6 @@ def rest_table(rows):
     )
 
 
-def parts_table(rows, shapes):
-    """Nanoseconds a line of both programs, by where they are spent. The shapes' rows give the times that are divided."""
-    times = {(row["shape"], who): float(row[f"{who}_ms"]) * 1e6 / int(row["lines"]) for row in shapes for who in ("ours", "plain")}
-    spent = {
-        (row["shape"], row["program"]): [
-            f"{times[row['shape'], row['program']] * float(row[part]) / 100:,.0f}" for part in ("text", "machine", "kernel")
-        ]
-        for row in rows
-        if (row["shape"], row["program"]) in times
-    }
-    return table(
-        ["Trace", ">Text, ours", ">plain", ">Machine, ours", ">plain", ">Kernel, ours", ">plain"],
-        [
-            [shape, *(cell for pair in zip(ours, spent[shape, "plain"]) for cell in pair)]
-            for (shape, who), ours in spent.items()
-            if who == "ours"
-        ],
-    )
-
-
 def put_table(document, name, text):
     """Puts the text between the comments `<!-- name -->` and `<!-- end of name -->` of a document."""
     path = os.path.join(TOP, document)
@@ -244,7 +224,6 @@ def main():
         ("slots", slots, slots_table),
         ("lines", lines, lines_table),
         ("rest", read_rows("growth-rest.csv"), rest_table),
-        ("parts", read_rows("parts.csv"), lambda rows: parts_table(rows, shapes)),
     ]:
         if rows:
             put_table("docs/SPEED.md", name, make(rows))
