@@ -1,12 +1,10 @@
 //! Notes that are read, and written in order of their tickets, as those of threads are.
 use notes_text::collecting::collect;
-use notes_text::collector::Collector;
 use notes_text::{Script, read_script, write_notes};
-use seats::{Noted, Notes};
+use seats::{NoteList, Noted};
 use std::alloc::Global;
 use std::io::{BufWriter, Read, Write};
 use trace::declaration::Declaration;
-use trace::fault::TraceFault;
 use trace_io::sink;
 use trace_io::source::Counted;
 
@@ -23,8 +21,9 @@ fn script_of(alloc: Global, declared: &Declaration) -> Option<Script<Global>> {
 /// Reads notes of a space without files, and writes them. Tells whether that went well.
 pub fn rewrite<R: Read + Drop, W: Write + Drop>(alloc: Global, input: R, output: W) -> bool {
     let mut reader = Counted::new(input);
-    let read: Result<Collector<Noted, Global>, TraceFault> = collect(alloc, &mut reader);
-    let Ok(collected) = read else {
+    let notes: NoteList<Global> = NoteList::new(alloc, alloc);
+    let Ok(collected) = collect::<Noted, NoteList<Global>, Global, _>(alloc, notes, &mut reader)
+    else {
         return false;
     };
     let Some(declared) = collected.declaration() else {
@@ -37,6 +36,6 @@ pub fn rewrite<R: Read + Drop, W: Write + Drop>(alloc: Global, input: R, output:
         return false;
     };
     let mut writer = sink::Noted::new(buffer);
-    let notes = Notes::of(collected.items());
+    let notes = collected.items().notes();
     write_notes(&script, &[notes], &mut writer).is_ok()
 }

@@ -76,7 +76,7 @@ pub fn certify_standing<A: Allocator + Clone + Drop>(
 /// each slot rise, and from its first change on each of its valid pages had after each note just what
 /// its changes up to then come to. Page 0 and pages from 2^35 on aren't looked at.
 ///
-/// A setup that makes no machine is told first, then a ticket that doesn't stand once, then an
+/// A setup that makes no machine is reported first, then a ticket that doesn't stand once, then an
 /// outcome that differs, and then a slot. What is told rules out what it says: notes of which an outcome
 /// differs are, in order of tickets, no run of such a machine, and histories of which a slot is told are
 /// those of none that they are. Besides the notes it takes 12 bytes a note, a look of some 80 bytes for

@@ -1,4 +1,4 @@
-//! What certifying notes comes to.
+//! The result of certifying notes.
 use core_steps::SetupFault;
 use machine_model::Outcome;
 use thiserror::Error;
@@ -10,7 +10,7 @@ pub struct Certified {
     pub calls: u64,
 }
 
-/// Why notes aren't certified. The first that holds is told, in the order of the first four; memory
+/// Why notes aren't certified. The first that holds is reported, in the order of the first four; memory
 /// may be wanted at any time after the setup was looked at.
 #[derive(Clone, Copy, Debug, PartialEq, Eq, Error)]
 pub enum CertifyFault {
@@ -30,7 +30,7 @@ pub enum CertifyFault {
     /// All notes are a run, but this is the first valid page of the first slot whose history didn't go
     /// along with it: its tickets don't rise or aren't all those of notes, or from its first change on
     /// (from ticket 0 where it has none) a valid page of it had something else after some note than its
-    /// changes come to. It is told only where histories are handed in.
+    /// changes come to. It is reported only if histories are handed in.
     #[error("C5 {page}")]
     Slot {
         page: u64,

@@ -1,5 +1,5 @@
 -- What the steps of an access leave as it was
-use Rattle.std.proofs.Common.{◌≡◌, ℕ, suc, List, [], ◌∷◌, length, map, refl, ap, ◌∙◌}
+use Rattle.std.proofs.Common.{◌≡◌, ℕ, suc, List, [], ◌∷◌, ◌&&◌, true, length, map, refl, ap, ◌∙◌}
 use Rattle.machine_model.specs.declared.event.Event.TheVariants.{Frame}
 use Rattle.machine_model.specs.declared.event.Outcome.TheVariants.{Stepped}
 use Rattle.live_levels.specs.declared.act.Act.{Act}
@@ -7,10 +7,11 @@ use Rattle.live_levels.specs.Replay.{dated}
 use Rattle.live_levels.specs.Slots.{SlotView, changed}
 use Rattle.live_tree.specs.Held.{HeldView}
 use Rattle.seats.specs.Growing.{Grew}
+use Rattle.seats.proofs.Growing.{own_core}
 use Rattle.seats.specs.Notes.{SeatView, noted}
 use Rattle.live_pages.specs.Steps.{StepsWith, Takes}
 
--- a frame that is taken neither begins a call nor answers one
+-- a frame is taken in a step of the core's
 pub grew_takes : (s t : SeatView) (frame : ℕ) → Takes s frame t → Grew s t
 grew_takes s t frame h = record {
   same = record {
@@ -22,7 +23,7 @@ grew_takes s t frame h = record {
   begun = ap (λ (v : SeatView). v.begun) h.1;
   more = noted h.0 (Frame s.core frame) Stepped ∷ [];
   are = ap (λ (v : SeatView). v.notes) h.1;
-  between = refl;
+  steps = λ own. (λ i. own_core s.core s.core refl i && true);
 }
 
 length_map : {X Y : Type 0} (f : X → Y) (xs : List X) → length (map f xs) ≡ length xs

@@ -1,8 +1,7 @@
 //! How a step finds a free frame for a page and takes it, and gives it back.
-ghost use Rattle.std.specs.Prelude.{◌≡◌, ◌+◌, ◌<◌, ◌≤◌, ◌^◌, ◌||◌, ℕ, false, true, is_some};
-ghost use Rattle.machine_model.specs.declared.event.Event.TheVariants.{GiveUp};
-ghost use Rattle.machine_model.specs.declared.event.Outcome.TheVariants.{Stepped};
-ghost use Rattle.seats.specs.Notes.{CanNote, noted, with_note};
+ghost use Rattle.std.specs.Prelude.{◌≡◌, ◌+◌, ◌<◌, ◌≤◌, ◌^◌, ◌||◌, false, true, is_some};
+ghost use Rattle.seats.specs.Growing.{GivesUp};
+ghost use Rattle.seats.specs.Notes.{CanNote};
 ghost use Rattle.frames.specs.Parts.{cell_bytes};
 ghost use Rattle.live_pages.specs.Free.{Gives, GivesFree, TakesNext, TakesOne, free_frames, freed_by};
 ghost use Rattle.live_pages.specs.HeldFrames.{IsGiven, frame_at};
@@ -18,7 +17,7 @@ use seats::Seat;
 use std::alloc::Allocator;
 use std::sync::{Mutex, Wait};
 
-/// What the search for a free frame came to.
+/// The result of the search for a free frame.
 #[derive(Clone, Copy, Debug, PartialEq, Eq)]
 pub enum Wanted {
     /// This frame was taken.
@@ -52,7 +51,7 @@ fn count_of<A: Allocator>(frames: &[Mutex<FrameState<A>>]) -> u32
     u32::try_from(frames.len()).unwrap_or(u32::MAX)
 }
 
-// From which of so many frames on the core looks: behind the one that it took last, and before that
+// From which of so many frames on the core looks: after the one that it took last, and before that
 // from its own part of the frames on, so that cores don't meet.
 fn looks_from<A: Allocator + Clone>(pieces: &Pieces<'_, A>, seat: &Seat<A>, count: u32) -> u32
     ensures { result ≤ count }
@@ -152,8 +151,7 @@ pub fn give_up_with<R: Wait, A: Allocator + Clone>(
     own: u32,
 )
     requires { CanNote seat.old }
-    ensures { (ticket : ℕ) × (seat.new
-        ≡ with_note seat.old (noted ticket (GiveUp seat.old.core) Stepped)) }
+    ensures { GivesUp seat.old seat.new }
 {
     let mut free = pieces.free.lock(rt);
     match lock_frame(rt, pieces.frames, own) {
@@ -167,8 +165,7 @@ pub fn give_up_with<R: Wait, A: Allocator + Clone>(
 // The step: the locked frame is free again, and it is noted that the call is given up.
 fn give_up_in<A: Allocator>(place: &mut Place<'_, A>, free: &mut FreeFrames<A>, seat: &mut Seat<A>)
     requires { CanNote seat.old }
-    ensures noted { (ticket : ℕ) × (seat.new
-        ≡ with_note seat.old (noted ticket (GiveUp seat.old.core) Stepped)) }
+    ensures noted { GivesUp seat.old seat.new }
     ensures frame { IsGiven (frame_at place.old) (frame_at place.new) }
     ensures free { Gives place.old.number free.old free.new }
 {

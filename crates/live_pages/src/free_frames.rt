@@ -75,7 +75,7 @@ impl<A: Allocator> FreeFrames<A> {
         self.count
     }
 
-    /// The next free frame from this one on, upward, and behind the last from the first on; none
+    /// The next free frame from this one on, upward, and after the last from the first on; none
     /// where no frame is free.
     pub fn next(&self, from: u32) -> Option<u32>
         ensures next { IfSome result (IsNextFree (free_frames self.now) from) }

@@ -25,7 +25,7 @@ use std::alloc::Allocator;
 use std::sync::Wait;
 use vm_base::{Access, Reply};
 
-/// What the try of an access came to.
+/// The result of the try of an access.
 #[derive(Clone, Copy, Debug, PartialEq, Eq)]
 pub enum Tried {
     /// The byte was read or written, and this is the answer, which is noted too.

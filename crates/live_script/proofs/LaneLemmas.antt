@@ -214,11 +214,11 @@ notes_in_ran f ran l items lanes given all view same are e =
     ap (map f) are ∙ e ∙ ap (λ ls. map (λ lane. lane.seat.notes) ls) same ∙ notes_of_seats items ∙ ap (λ (r : RanView). map (λ s. s.notes) r.seats) view
 
 -- with the notes of one seat more
-pub rising_more : {X : Type 0} (f : X → List Noted) (new all : List X) (x : X) → new ≡ all ++ x ∷ [] → All AreRising (map f all) → AreRising (f x)
-    → All AreRising (map f new)
-rising_more f new all x is rising one =
-    subst (λ ls. All AreRising ls) (sym (ap (map f) is ∙ map-append f all (x ∷ []))) (All-append AreRising (map f all) (f x ∷ []) rising last)
+pub all_more : {X : Type 0} (P : List Noted → Type 0) (f : X → List Noted) (new all : List X) (x : X) → new ≡ all ++ x ∷ [] → All P (map f all) → P (f x)
+    → All P (map f new)
+all_more P f new all x is before one =
+    subst (λ ls. All P ls) (sym (ap (map f) is ∙ map-append f all (x ∷ []))) (All-append P (map f all) (f x ∷ []) before last)
   where
-    last : All AreRising (f x ∷ [])
+    last : All P (f x ∷ [])
     last zero d lt = one
     last (suc k) d lt = absurd (omega arith)

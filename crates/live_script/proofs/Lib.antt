@@ -1,5 +1,6 @@
 mod CertifyLemmas
 mod FaultLemmas
+mod FitLemmas
 mod KeptLemmas
 mod LaneLemmas
 mod NumberedLemmas

@@ -1,5 +1,6 @@
 -- What is written of a script's text
 use Rattle.std.proofs.Common.{◌≡◌, ◌⊎◌, inl, inr, ℕ, Bool, List, Option, Some, None, Result, Ok, Err, refl, sym, ap, ◌∙◌, subst, map}
+use Rattle.std.specs.Prelude.{All}
 use Rattle.std.specs.Io.KnownBytes.{Keeps, Appends}
 use Rattle.trace_io.specs.Sink.{AppendsFront}
 use Rattle.vm_base.specs.declared.page.PageRange.{PageRange}
@@ -12,6 +13,7 @@ use Rattle.live_space.specs.Space.{LiveView}
 use Rattle.trace.specs.Declarations.{Asked, asked_fault}
 use Rattle.trace.specs.declared.fault.TraceFault.{TraceFault}
 use Rattle.trace.specs.declared.fault.TraceFault.TheVariants as Of
+use Rattle.seats.specs.Fitting.{FitsTypes}
 use Rattle.seats.specs.Packing.{shown}
 use Rattle.seats.specs.declared.note_list.Notes.{Notes}
 use Rattle.notes_text.specs.Ordered.{AreInOrder}
@@ -28,6 +30,7 @@ use Rattle.live_script.specs.declared.fault.RunFault.{RunFault}
 use Rattle.live_script.specs.declared.fault.RunFault.TheVariants.{Setup, Live, NoMemory}
 use Rattle.live_script.specs.declared.texts.TextFault.{TextFault}
 use Rattle.live_script.specs.declared.texts.TextFault.TheVariants.{Text}
+use Rattle.live_script.proofs.FitLemmas.{order_fits}
 
 -- ---- faults
 
@@ -51,12 +54,16 @@ pub lent_notes : {V : Type 0} (f : V → List Noted) (lent all : List Notes) (sl
     → map shown all ≡ map f slice → slice ≡ notes → map f notes ≡ map (λ s. s.notes) seats → map shown lent ≡ map (λ s. s.notes) seats
 lent_notes f lent all slice notes seats is of same are = ap (map shown) is ∙ of ∙ ap (map f) same ∙ are
 
+-- it has numbers as its types have them
+pub lent_typed : (lent all : List Notes) → lent ≡ all → All (All FitsTypes) (map shown all) → All (All FitsTypes) (map shown lent)
+lent_typed lent all is typed = subst (λ (l : List Notes). All (All FitsTypes) (map shown l)) (sym is) typed
+
 -- what was written of the notes is their text
 pub notes_written : {U : Type 0} (script : Scripted) (live : LiveView) (seats : List SeatView) (slices : List (List Noted)) (old new : Option (List ℕ))
-    (x : U) → RunsAll script live seats → slices ≡ map (λ s. s.notes) seats → AreWhole (map (λ s. s.notes) seats)
+    (x : U) → RunsAll script live seats → slices ≡ map (λ s. s.notes) seats → All (All FitsTypes) slices → AreWhole (map (λ s. s.notes) seats)
     → (order : List Noted) × AreInOrder (all_notes slices) order × Appends old new (notes_text script.asked order)
     → Yields (λ script (done : U) text. IsNotesText script text) script old new (Ok x)
-notes_written script live seats slices old new x runs same whole (order, are, app) = (
+notes_written script live seats slices old new x runs same typed whole (order, are, app) = (
   notes_text script.asked order,
   record {
     live = live;
@@ -65,6 +72,7 @@ notes_written script live seats slices old new x runs same whole (order, are, ap
     whole = whole;
     order = order;
     in_order = subst (λ l. AreInOrder (all_notes l) order) same are;
+    fits = order_fits script live seats order runs (subst (All (All FitsTypes)) same typed) (subst (λ l. AreInOrder (all_notes l) order) same are);
     says = refl;
   },
   app,
@@ -72,12 +80,13 @@ notes_written script live seats slices old new x runs same whole (order, are, ap
 
 -- notes that weren't written whole
 pub notes_unwritten : {U : Type 0} (script : Scripted) (live : LiveView) (seats : List SeatView) (slices : List (List Noted)) (old new : Option (List ℕ))
-    (x : U) (f : TraceFault) → RunsAll script live seats → slices ≡ map (λ s. s.notes) seats → AreWhole (map (λ s. s.notes) seats)
+    (x : U) (f : TraceFault) → RunsAll script live seats → slices ≡ map (λ s. s.notes) seats → All (All FitsTypes) slices
+    → AreWhole (map (λ s. s.notes) seats)
     → ((f ≡ Of.NoMemory) × Keeps old new)
     ⊎ ((f ≡ Of.WriteFailed) × ((order : List Noted) × AreInOrder (all_notes slices) order × AppendsFront old new (notes_text script.asked order)))
     → Ceases (λ script (done : U) text. IsNotesText script text) script old new (Text f)
-notes_unwritten script live seats slices old new x f runs same whole (inl (is, keeps)) = unrun NoMemory runs.declared.sound (ap Text is) keeps
-notes_unwritten script live seats slices old new x f runs same whole (inr (is, (order, are, front))) =
+notes_unwritten script live seats slices old new x f runs same typed whole (inl (is, keeps)) = unrun NoMemory runs.declared.sound (ap Text is) keeps
+notes_unwritten script live seats slices old new x f runs same typed whole (inr (is, (order, are, front))) =
     let (text, given, app) = given_text in unwritten (ap Text is) x text given app
   where
     given_text : (text : List ℕ) × IsNotesText script text × AppendsFront old new text
@@ -90,6 +99,7 @@ notes_unwritten script live seats slices old new x f runs same whole (inr (is, (
         whole = whole;
         order = order;
         in_order = subst (λ l. AreInOrder (all_notes l) order) same are;
+        fits = order_fits script live seats order runs (subst (All (All FitsTypes)) same typed) (subst (λ l. AreInOrder (all_notes l) order) same are);
         says = refl;
       },
       front,

@@ -1,4 +1,5 @@
 pub mod Certified
+pub mod ReadBack
 pub mod Runs
 pub mod Tasks
 pub mod Texts

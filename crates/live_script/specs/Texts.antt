@@ -1,6 +1,7 @@
 -- What is written of the text of a script
 use Rattle.std.specs.Prelude.{◌≡◌, ℕ, ◌⊎◌, Bool, List, map, Option, Result, Ok, Err}
 use Rattle.std.specs.Io.KnownBytes.{Keeps, Appends}
+use Rattle.std.specs.List.{AllByRecursion}
 use Rattle.vm_base.specs.declared.page.PageRange.{PageRange}
 use Rattle.slot_lock.specs.Slots.{Slots}
 use Rattle.live_levels.specs.declared.close.SlotHistory.{SlotHistory}
@@ -18,6 +19,7 @@ use Rattle.trace.specs.Ends.{fault_named}
 use Rattle.trace.specs.declared.fault.TraceFault.{TraceFault}
 use Rattle.trace.specs.declared.fault.TraceFault.TheVariants as Of
 use Rattle.notes_text.specs.Ordered.{AreInOrder}
+use Rattle.notes_text.specs.TextLaws.{FitsLine}
 use Rattle.notes_text.specs.Scripts.{ReadWhole, Scripted, Unread}
 use Rattle.notes_text.specs.Verdicts.{is_certified, verdict_text}
 use Rattle.notes_text.specs.Written.{notes_text}
@@ -34,7 +36,7 @@ use Rattle.live_script.specs.declared.texts.TextFault.TheVariants.{Text}
 -- ---- what may be written of a script
 
 -- it was run, and this is the text of what its seats noted, with the tickets below the number of all notes, each once, in their
--- order
+-- order; each note is such as a line can have
 pub record IsNotesText (script : Scripted) (text : List ℕ) : Type 0 where
   pub live : LiveView
   pub seats : List SeatView
@@ -42,6 +44,7 @@ pub record IsNotesText (script : Scripted) (text : List ℕ) : Type 0 where
   pub whole : AreWhole (map (λ s. s.notes) seats)
   pub order : List Noted
   pub in_order : AreInOrder (notes_in seats) order
+  pub fits : AllByRecursion FitsLine order
   pub says : text ≡ notes_text script.asked order
 
 -- What certifying all notes of a space beside histories of slots comes to: that a ticket doesn't stand once, it never does.

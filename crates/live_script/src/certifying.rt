@@ -13,8 +13,8 @@ use slot_lock::SlotMap;
 use std::alloc::Allocator;
 
 /// Certifies notes of a space in which the script was run beside histories of its slots, those that `Ran::end` hands out.
-/// A setup that makes no machine is told first, then a ticket that doesn't stand once, an outcome that differs, and a
-/// slot; memory may be wanted at any time. No ticket is told of notes that all seats of a space made.
+/// A setup that makes no machine is reported first, then a ticket that doesn't stand once, an outcome that differs, and a
+/// slot; memory may be wanted at any time. No ticket is reported for notes that all seats of a space made.
 pub fn certify_ran<A: Allocator + Clone + Drop>(
     alloc: A,
     script: &Script<A>,

@@ -4,6 +4,7 @@
 pub mod certifying;
 pub mod fault;
 pub mod lane;
+pub mod laws;
 pub mod ran;
 pub mod runner;
 pub mod running;

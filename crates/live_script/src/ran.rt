@@ -1,6 +1,7 @@
 //! A space in which a script was run.
 ghost use Rattle.std.specs.Prelude.{◌≡◌, All, IfOk, map};
 ghost use Rattle.seats.specs.Gathered.{AreWhole};
+ghost use Rattle.seats.specs.Fitting.{FitsTypes};
 ghost use Rattle.seats.specs.Packing.{shown};
 ghost use Rattle.live_tree.specs.Named.{AreOf};
 ghost use Rattle.live_script.specs.Certified.{AreRising};
@@ -105,12 +106,13 @@ fn seats_of<A: Allocator>(alloc: A, lanes: Vec<Lane<A>, A>) -> Result<Vec<Seat<A
     Ok(seats)
 }
 
-// What each seat noted, lent.
+// What each seat noted, lent. The notes have numbers as their types have them.
 pub(crate) fn lend<A: Allocator>(
     alloc: A,
     notes: &[NoteList<A>],
 ) -> Result<Vec<Notes<'_>, A>, NoMemory>
-    ensures { IfOk result (λ all. map shown all.items ≡ map (λ list. list.notes) notes.now) }
+    ensures are { IfOk result (λ all. map shown all.items ≡ map (λ list. list.notes) notes.now) }
+    ensures typed { IfOk result (λ all. All (All FitsTypes) (map shown all.items)) }
 {
     let mut all = Vec::with_capacity(alloc, notes.len())?;
     'seats: for at in 0..notes.len() {

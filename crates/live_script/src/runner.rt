@@ -14,7 +14,7 @@ use std::thread::Threads;
 /// How scripts are run.
 pub trait Runner<A: Allocator + Clone> {
     /// Makes the space that the script declares, and does each core's tasks in their order, with what the runtime has. A core
-    /// stops at its first task that can't begin; of several such faults the least core's is told.
+    /// stops at its first task that can't begin; of several such faults the least core's is reported.
     fn run<R: Threads + Wait + Sync>(
         &self,
         rt: &R,

@@ -31,7 +31,7 @@ fn lanes_of<A: Allocator>(alloc: A, seats: Vec<Seat<A>, A>) -> Result<Vec<Lane<A
 
 /// Makes the space that the script declares, in which no task is done yet: then `finish_in_turn` does them.
 ///
-/// A fault of the declaration is told before anything is made.
+/// A fault of the declaration is reported before anything is made.
 pub fn begin<A: Allocator + Clone>(alloc: A, script: &Script<A>) -> Result<Ran<A>, RunFault>
     ensures begun { IfOk result (λ ran. IsBegun script.now.asked ran.live ran.seats) }
     ensures fault { IfErr result (λ fault. Fails script.now fault) }
@@ -150,8 +150,8 @@ pub fn finish_in_turn<R: Wait, A: Allocator + Clone>(
 /// core's own, or one core after another where no thread can be made. Where all were done, each seat has the notes of
 /// just its core's tasks.
 ///
-/// A fault of the declaration is told before anything is made. A core stops at its first task that can't begin, while
-/// the others go on; of several such faults the least core's is told.
+/// A fault of the declaration is reported before anything is made. A core stops at its first task that can't begin, while
+/// the others go on; of several such faults the least core's is reported.
 pub fn run_script<R: Threads + Wait + Sync>(
     rt: &R,
     alloc: Global,

@@ -1,4 +1,4 @@
-//! A script's text that is run, and what is written of it: the notes of its seats, or what certifying them comes to.
+//! A script's text that is run, and what is written of it: the notes of its seats, or the result of certifying them.
 ghost use Rattle.std.specs.Prelude.{◌≡◌, ◌⊎◌, Err, IfErr, IfOk, None, OnOk, true};
 ghost use Rattle.trace_io.specs.Io.{IsWritten, read_from, written_to};
 ghost use Rattle.trace_io.specs.Source.{Reads};
@@ -177,7 +177,7 @@ fn send_verdict<W: Sink>(writer: &mut W, verdict: Verdict) -> Result<(), WriteFa
     writer.flush()
 }
 
-// Runs the script, and writes what certifying its notes comes to.
+// Runs the script, and writes the result of certifying its notes.
 fn certify_read<A: Allocator + Clone + Drop, T: Threads + Wait + Sync, R: Runner<A>, W: Sink>(
     rt: &T,
     runner: &R,

@@ -6,6 +6,7 @@ pub mod Folding
 pub mod Fresh
 pub mod Going
 pub mod Lost
+pub mod Never
 pub mod Noted
 pub mod Own
 pub mod Places

@@ -1,7 +1,8 @@
 -- What the steps of a call make of its seat's notes, and of how many slots it holds
-use Rattle.std.proofs.Common.{◌≡◌, ◌≤◌, ◌+◌, ℕ, Bool, true, false, length, arith, refl, sym, ap, ◌∙◌}
+use Rattle.std.proofs.Common.{◌≡◌, ◌≤◌, ◌+◌, ◌&&◌, ℕ, Bool, true, false, length, arith, refl, sym, ap, ◌∙◌}
+use Rattle.std.proofs.lemmas.Bool.Decides.{nat_tests}
 use Rattle.std.specs.Borrow.{MutBor}
-use Rattle.machine_model.specs.declared.event.Event.TheVariants.{GiveUp}
+use Rattle.machine_model.specs.declared.event.Event.TheVariants.{Guess, Whole}
 use Rattle.machine_model.specs.declared.event.Outcome.TheVariants.{Stepped}
 use Rattle.live_levels.specs.declared.act.Act.{Act}
 use Rattle.live_tree.specs.Held.{HeldView}
@@ -16,12 +17,16 @@ use Rattle.live_tree.specs.declared.held.Got.TheVariants as GotOf
 use Rattle.live_tree.specs.declared.held.Got.TheVariants.{Locked, Split, Unseen, Owned}
 use Rattle.seats.specs.Growing.{Grew, Steps}
 use Rattle.seats.specs.Notes.{SeatView, noted, with_note}
-use Rattle.seats.proofs.Growing.{grew_note, grew_steps, grew_none, grew_room, grew_next_page, grew_trans}
+use Rattle.seats.proofs.Growing.{grew_note, grew_steps, own_core, grew_none, grew_room, grew_next_page, grew_trans}
 use Rattle.live_pages.specs.Steps.{StepsOnce, StepsWith, Stays, Tries, Wants}
 use Rattle.live_pages.specs.declared.touching.Tried.{Tried}
 use Rattle.live_pages.specs.declared.touching.Tried.TheVariants as TriedOf
 use Rattle.live_pages.specs.declared.touching.Tried.TheVariants.{Served, Fault}
+use Rattle.slot_lock.specs.declared.plan.Place.{Place}
 use Rattle.slot_lock.specs.declared.plan.Touch.{Touch}
+use Rattle.slot_lock.specs.Plan.{IsSoundPlace}
+use Rattle.vm_base.specs.Pages.{is_page}
+use Rattle.live_space.specs.Placing.{IsInWindow}
 use Rattle.live_pages.specs.declared.frame.Wanted.{Wanted}
 use Rattle.live_pages.specs.declared.frame.Wanted.TheVariants as WantedOf
 use Rattle.live_pages.specs.declared.frame.Wanted.TheVariants.{Taken, NoFrame}
@@ -31,8 +36,26 @@ use Rattle.live_space.specs.InFlight.{GoesOn, HasStepsLeft}
 pub grew_once : (s t : SeatView) → StepsOnce s t → Grew s t
 grew_once s t h = grew_steps s t h.0 h.1
 
-pub grew_gives_up : (s t : SeatView) → (ticket : ℕ) × (t ≡ with_note s (noted ticket (GiveUp s.core) Stepped)) → Grew s t
-grew_gives_up s t h = grew_note s t (noted h.0 (GiveUp s.core) Stepped) h.1 refl
+-- ---- a guess at a page of the window, or none
+
+window_page : (place : Place) (first : ℕ) → IsSoundPlace place → IsInWindow place first → is_page first ≡ true
+window_page place first sound inside =
+    let low = sound.window.low in
+    let high = sound.window.high in
+    let some = sound.some in
+    let from = inside.0 in
+    let upto = inside.1 in
+    grind (arith, nat_tests)
+
+pub grew_guess : (s t : SeatView) (place : Place) (core page ticket : ℕ) → IsSoundPlace place → IsInWindow place page → core ≡ s.core
+    → t ≡ with_note s (noted ticket (Guess core page) Stepped) → Grew s t
+grew_guess s t place core page ticket sound inside e n =
+    let own = own_core core s.core e in
+    let valid = window_page place page sound inside in
+    grew_note s t (noted ticket (Guess core page) Stepped) n (λ i. own i && valid i)
+
+pub grew_whole : (s t : SeatView) (core ticket : ℕ) → core ≡ s.core → t ≡ with_note s (noted ticket (Whole core) Stepped) → Grew s t
+grew_whole s t core ticket e n = grew_note s t (noted ticket (Whole core) Stepped) n (own_core core s.core e)
 
 -- a step was noted at most, and as many slots are held
 pub record AtMostOne (s : SeatView) (h : HeldView) (t : SeatView) (k : HeldView) : Type 0 where
@@ -43,14 +66,14 @@ pub record AtMostOne (s : SeatView) (h : HeldView) (t : SeatView) (k : HeldView)
 pub one_once : (s t : SeatView) (h : HeldView) → StepsOnce s t → AtMostOne s h t h
 one_once s t h e = record {
   grew = grew_once s t e;
-  room = (let room = ap (λ (v : SeatView). v.room) e.1.0 in omega (arith, room));
+  room = (let room = ap (λ (v : SeatView). v.room) e.1 in omega (arith, room));
   count = refl;
 }
 
 pub one_with : (act : Act) (s t : SeatView) (h k : HeldView) → StepsWith act s h t k → AtMostOne s h t k
 one_with act s t h k w = record {
   grew = grew_steps s t w.ticket w.step;
-  room = (let room = ap (λ (v : SeatView). v.room) w.step.0 in omega (arith, room));
+  room = (let room = ap (λ (v : SeatView). v.room) w.step in omega (arith, room));
   count = same_count act s t h k w;
 }
 
@@ -78,10 +101,10 @@ one_wants s t h WantedOf.Lost e = one_stays s t h h (e, refl)
 -- the try of an access notes two steps at most
 pub room_tried : (touch : Touch) (s t : SeatView) (tried : Tried) → Tries touch s t tried → s.room ≤ t.room + 2
 room_tried touch s t (Served reply) e =
-    let step = ap (λ (v : SeatView). v.room) e.0.steps.1.0 in
+    let step = ap (λ (v : SeatView). v.room) e.0.steps.1 in
     let answer = ap (λ (v : SeatView). v.room) e.0.answers.1 in
     omega (arith, step, answer)
-room_tried touch s t Fault e = let step = ap (λ (v : SeatView). v.room) e.1.0 in omega (arith, step)
+room_tried touch s t Fault e = let step = ap (λ (v : SeatView). v.room) e.1 in omega (arith, step)
 room_tried touch s t TriedOf.Lost e = let same = ap (λ (v : SeatView). v.room) e in omega (arith, same)
 
 -- with room for one step more, so many are left after it

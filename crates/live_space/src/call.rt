@@ -30,7 +30,9 @@ use vm_calls::check;
 impl<A: Allocator + Clone> Live<A> {
     /// One call of the seat's core: it begins, is run to its answer, and each of its steps is noted
     /// while the locks are held of all that the step touches. It may wait for other calls, and where
-    /// the gate holds it.
+    /// the gate holds it. Its notes are first its beginning and last its answer, with steps of its own
+    /// and takes alone between them; but where the reply is `NoMemory`, and only there, one note says
+    /// that it is given up.
     ///
     /// A fault says why it didn't begin, and then nothing was noted. A call that has begun is always
     /// answered: where memory, or room for its notes, runs out before it has told another core

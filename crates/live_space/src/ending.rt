@@ -1,10 +1,10 @@
 //! How the steps of a call end.
-ghost use Rattle.std.specs.Prelude.{◌≡◌, ◌+◌, ◌<◌, ◌≤◌};
-ghost use Rattle.seats.specs.Growing.{Grew};
-ghost use Rattle.live_pages.specs.Ending.{Ends};
+ghost use Rattle.std.specs.Prelude.{◌≡◌, ◌≢◌, ◌+◌, ◌<◌, ◌≤◌};
+ghost use Rattle.vm_base.specs.declared.replies.Reply.TheVariants.{NoMemory};
+ghost use Rattle.live_pages.specs.Ending.{Ends, GivesUpFor};
 ghost use Rattle.live_space.specs.InFlight.{HasStepsLeft};
 ghost use Rattle.live_space.specs.Endings.{reply_of};
-ghost use Rattle.live_space.specs.Planned.{IsGivenUp};
+ghost use Rattle.live_space.specs.Planned.{EndsIn, IsGivenUp};
 
 use crate::giving_up::give_up;
 use crate::locking::let_go;
@@ -27,7 +27,7 @@ pub(crate) enum Ending {
     GiveBack(u32),
 }
 
-/// What the steps of a call came to.
+/// The result of the steps of a call.
 #[derive(Clone, Copy)]
 pub(crate) enum Ran {
     /// It was answered, under the locks of its last step.
@@ -45,7 +45,8 @@ impl<A: Allocator + Clone> Live<A> {
         held: Held<'_, A>,
         ending: Ending,
     ) -> Reply
-        requires { HasStepsLeft 0 held seat.old }
+        requires room { HasStepsLeft 0 held seat.old }
+        requires never { EndsIn (λ reply. reply ≢ NoMemory) ending }
         ensures reply { result ≡ reply_of ending }
         ensures ended { Ends seat.old result seat.new }
     {
@@ -54,12 +55,13 @@ impl<A: Allocator + Clone> Live<A> {
         reply
     }
 
-    // The reply of a call that ends so. Where it is given up, that is noted first.
-    #[tactic(auto, using(crate::proofs::Noted::grew_gives_up, seats::proofs::Growing::grew_none))]
+    // The reply of a call that ends so. Where it is given up, that is noted first, and only there.
+    #[tactic(auto, using(live_pages::proofs::Ending::gives_nothing, live_pages::proofs::Ending::gives_up))]
     fn reply_to<R: Wait>(&self, rt: &R, seat: &mut Seat<A>, ending: Ending) -> Reply
-        requires { 0 < seat.old.room }
+        requires room { 0 < seat.old.room }
+        requires never { EndsIn (λ reply. reply ≢ NoMemory) ending }
         ensures reply { result ≡ reply_of ending }
-        ensures grew { Grew seat.old seat.new }
+        ensures gives { GivesUpFor seat.old result seat.new }
         ensures room { seat.old.room ≤ seat.new.room + 1 }
     {
         match ending {

@@ -6,7 +6,7 @@ use seats::Seat;
 use std::alloc::Allocator;
 use thiserror::Error;
 
-/// Why nothing was begun. The first that holds is told, in this order.
+/// Why nothing was begun. The first that holds is reported, in this order.
 #[derive(Clone, Copy, Debug, PartialEq, Eq, Error)]
 pub enum LiveFault {
     /// The seat has begun its share of calls.

@@ -1,7 +1,7 @@
 //! The slots of a call: they are locked one after another from left to right, and let go so.
 ghost use Rattle.std.specs.Prelude.{◌≡◌, ◌+◌, ◌≤◌, [], IfNone, IfSome, length, IsTrue};
 ghost use Rattle.seats.specs.Growing.{Grew};
-ghost use Rattle.live_pages.specs.Ending.{Ends};
+ghost use Rattle.live_pages.specs.Ending.{Finishes};
 ghost use Rattle.live_space.specs.InFlight.{GoesOn};
 
 use crate::gate::Gate;
@@ -52,14 +52,14 @@ impl<'c, R: Wait, G: Gate, A: Allocator + Clone> InCall<'c, '_, '_, '_, R, G, A>
 
 /// Lets all slots go, each in a step of its own, from left to right. Where there is a reply, the call
 /// is answered right after the last of these steps, before its slot is unlocked.
-#[tactic(auto, using(live_pages::proofs::Ending::ends_after))]
+#[tactic(auto, using(live_pages::proofs::Ending::finishes_with))]
 pub(crate) fn let_go<A: Allocator + Clone>(
     held: Held<'_, A>,
     seat: &mut Seat<A>,
     reply: Option<Reply>,
 )
     requires { length held.slots + 1 ≤ seat.old.room }
-    ensures answered { IfSome reply (λ reply. Ends seat.old reply seat.new) }
+    ensures answered { IfSome reply (λ reply. Finishes seat.old reply seat.new) }
     ensures again { IfNone reply ((Grew seat.old seat.new)
         × (seat.new.room + length held.entry.slots ≡ seat.old.room)) }
 {

@@ -29,7 +29,7 @@ use vm_base::{CoreId, NoMemory};
 impl<A: Allocator + Clone> Live<A> {
     /// A space in which nothing is mapped, and a seat for each of its cores, in their order, which
     /// has noted nothing: these are all seats of the space. The bytes of the files are moved, not
-    /// copied. Of several faults the first is told, in the order of `SetupFault`.
+    /// copied. Of several faults the first is reported, in the order of `SetupFault`.
     pub fn new(alloc: A, setup: Setup<A>) -> Result<(Live<A>, Vec<Seat<A>, A>), SetupFault>
         ensures made { IfOk result (λ t. IsMade setup t.0 t.1.items) }
         ensures own { IfOk result (λ t. All (IsOf t.0) t.1.items) }

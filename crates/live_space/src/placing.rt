@@ -85,7 +85,7 @@ impl<'c, R: Wait, G: Gate, A: Allocator + Clone> InCall<'c, '_, '_, '_, R, G, A>
 
     // Notes which run of its window the mapping guesses to be free, or that it guesses none and takes
     // the window. None where the call is to be given up.
-    #[tactic(auto, using(crate::proofs::Noted::steps, seats::proofs::Growing::grew_note))]
+    #[tactic(auto, using(crate::proofs::Noted::steps, crate::proofs::Noted::grew_guess, crate::proofs::Noted::grew_whole))]
     fn guess(&mut self, place: Place) -> Option<Target>
         requires { IsSoundPlace place }
         ensures target { IfSome result (IsTarget place) }

@@ -34,7 +34,7 @@ use vm_base::{CoreId, NoMemory};
 // The guards of locked slots. Each is there but while it is changed.
 pub(crate) type Guards<'a, A> = SmallVec<Option<MutexGuard<'a, SlotState<A>>>, 4, &'a A>;
 
-/// What a step towards holding pages came to.
+/// The result of a step towards holding pages.
 #[derive(Clone, Copy, Debug, PartialEq, Eq)]
 pub enum Got {
     /// One slot more is held, which was noted.

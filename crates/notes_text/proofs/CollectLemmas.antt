@@ -1,9 +1,9 @@
 -- Whole texts, a line at a time.
-use Rattle.machine_laws.proofs.Words.{◌≡◌, ◌≢◌, true, false, cond, OnOk, ℕ, ◌+◌, ◌<◌, ◌≤◌, Bool, List, [], ◌∷◌, ◌++◌, Option, Some, None, Result, Ok, Err}
+use Rattle.machine_laws.proofs.Words.{◌≡◌, ◌≢◌, true, false, OnOk, ℕ, ◌+◌, ◌<◌, ◌≤◌, Bool, List, [], ◌∷◌, ◌++◌, Option, Some, None, Result, Ok, Err}
 use Rattle.machine_laws.proofs.Words.{length, take, ◌⊎◌, inl, inr, arith, refl, sym, ap, ◌∙◌, subst, append_assoc, append-nil, length-append, nat_tests}
 use Rattle.machine_laws.proofs.Words.{IsSomeAnd, Mode}
 use Rattle.std.proofs.Common.{IfErr, IfOk}
-use Rattle.std.specs.Prelude.{is_ok, is_err, ◌==◌}
+use Rattle.std.specs.Prelude.{is_err, ◌==◌}
 use Rattle.trace_io.specs.Lines.{lines_of, IsUnbroken, TakesLine}
 use Rattle.trace_text.specs.Words.{Word}
 use Rattle.trace.specs.declared.fault.TraceFault.{TraceFault}
@@ -122,9 +122,9 @@ no_items {T} (x ∷ xs) ys b e t s =
     let some : (length (x ∷ xs) == 0) ≡ false = grind (arith, nat_tests) in
     let clash : true ≡ false = sym e ∙ t ∙ ap (λ (l : List T). length l == 0) s ∙ some in absurd (cc)
 
-pub pushed : {T U E : Type 0} (r : Result U E) (xs ys : List T) (x : T) → ys ≡ cond (is_ok r) (xs ++ x ∷ []) xs → is_err r ≡ false → ys ≡ xs ++ x ∷ []
-pushed (Ok u) xs ys x e n = e
-pushed (Err e) xs ys x h n = absurd (cc)
+pub kept_ok : {U E : Type 0} (r : Result U E) (X : Type 0) → OnOk r X → is_err r ≡ false → X
+kept_ok (Ok u) X h n = h
+kept_ok (Err e) X h n = absurd (cc)
 
 -- ---- a turn
 

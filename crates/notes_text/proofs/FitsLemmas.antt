@@ -26,7 +26,8 @@ use Rattle.trace.specs.Events.{event_of}
 use Rattle.notes_text.specs.Grammar.{Ascend, NamesNote, NamesOutcome, NamesReply, event_said, with_cores}
 use Rattle.notes_text.specs.Collected.{Collected, nothing, Says as SaysLine, TakesAll, blank, space, file as of_file, item}
 use Rattle.notes_text.specs.Ends.{Collects}
-use Rattle.notes_text.specs.WrittenLaws.{FitsEvent, FitsOutcome, FitsReply, FitsRequest}
+use Rattle.seats.specs.Fitting.{FitsReply, FitsRequest}
+use Rattle.notes_text.specs.WrittenLaws.{FitsEvent, FitsOutcome}
 use Rattle.notes_text.specs.Scripts.{NamesTask}
 use Rattle.notes_text.specs.TextLaws.{IsDeclared, NamedFits, NotesDeclare, ScriptsDeclare}
 use Rattle.notes_text.proofs.OutcomeWritten.{power_same, with_one}

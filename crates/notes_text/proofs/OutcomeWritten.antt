@@ -12,7 +12,7 @@ use Rattle.trace_text.specs.Printing.{hexadecimal, text_of, core_text, cores_tex
 use Rattle.trace_text.proofs.SpellingLemmas.{decimal_is, hexadecimal_is}
 use Rattle.notes_text.specs.Written.{spaced}
 use Rattle.notes_text.specs.Grammar.{NamesReply, NamesAcks, Ascend, with_cores}
-use Rattle.notes_text.specs.WrittenLaws.{FitsReply}
+use Rattle.seats.specs.Fitting.{FitsReply}
 use Rattle.trace_text.proofs.WordLemmas.{words_join}
 use Rattle.notes_text.proofs.WrittenLemmas.{AreWords, address_word, decimal_word, words_spaced}
 

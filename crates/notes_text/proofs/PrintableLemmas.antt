@@ -7,7 +7,7 @@ use Rattle.trace_io.specs.Lines.{IsUnbroken}
 use Rattle.trace_text.specs.Line.{are_printable}
 use Rattle.trace_text.specs.Printing.{core_text, cores_text, text_of}
 use Rattle.trace_text.proofs.BytesLemmas.{append_has, decimal_has, fits_printable, reply_fits}
-use Rattle.notes_text.specs.WrittenLaws.{FitsReply}
+use Rattle.seats.specs.Fitting.{FitsReply}
 
 abbrev pub printable : ℕ → Bool
 printable c = nat_le 32 c && nat_le c 126

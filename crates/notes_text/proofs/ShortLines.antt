@@ -15,7 +15,8 @@ use Rattle.trace_text.specs.Spelling.{rights_text}
 use Rattle.trace_text.proofs.Choices.{of_four, of_three}
 use Rattle.trace_text.proofs.PrintingLemmas.{address_digits}
 use Rattle.notes_text.specs.Written.{event_words, flags_text, note_head, note_text, request_words, spaced}
-use Rattle.notes_text.specs.WrittenLaws.{FitsEvent, FitsNote, FitsOutcome, FitsReply, FitsRequest}
+use Rattle.seats.specs.Fitting.{FitsReply, FitsRequest}
+use Rattle.notes_text.specs.WrittenLaws.{FitsEvent, FitsNote, FitsOutcome}
 use Rattle.notes_text.specs.TextLaws.{LinesAreShort, WaitsGoing}
 use Rattle.notes_text.proofs.TextWritten.{AreShort, decimal_short, spaced_short}
 

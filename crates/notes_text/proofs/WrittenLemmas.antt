@@ -10,7 +10,7 @@ use Rattle.trace_text.proofs.BytesLemmas.{address_number, decimal_number, number
 use Rattle.trace_text.proofs.Choices.{of_four, of_three}
 use Rattle.trace_text.proofs.WordLemmas.{IsWord, one_word, unspaced, words_join}
 use Rattle.notes_text.specs.Written.{spaced, flags_text, request_words}
-use Rattle.notes_text.specs.WrittenLaws.{FitsRequest}
+use Rattle.seats.specs.Fitting.{FitsRequest}
 
 -- ---- words without spaces
 

@@ -20,7 +20,7 @@ use certifier::{CertifyFault, certify_standing};
 use core_steps::Setup;
 use live_tree::histories::Histories;
 use radix_range::RadixMap;
-use seats::{Noted, Notes};
+use seats::{NoteList, Noted, Notes};
 use slot_lock::SlotMap;
 use std::alloc::Allocator;
 use trace::declaration::Declaration;
@@ -36,7 +36,7 @@ fn no_histories<'a, A: Allocator>() -> Option<&'a Histories<A>>
     None
 }
 
-// What certifying these notes comes to, where it is known how each ticket stands. So memory is wanting only where each
+// The result of certifying these notes, where it is known how each ticket stands. So memory is wanting only where each
 // stands once.
 fn judge<A: Allocator + Clone + Drop>(
     alloc: A,
@@ -72,7 +72,7 @@ fn judge<A: Allocator + Clone + Drop>(
     }
 }
 
-// What certifying the notes of a space with this declaration comes to. Memory is wanting for the setup, for how each
+// The result of certifying the notes of a space with this declaration. Memory is wanting for the setup, for how each
 // ticket stands, or as `judge` says.
 fn judge_declared<A: Allocator + Clone + Drop>(
     alloc: A,
@@ -101,10 +101,10 @@ fn judge_declared<A: Allocator + Clone + Drop>(
     }
 }
 
-// What certifying the collected notes comes to.
+// The result of certifying the collected notes.
 fn judge_collected<A: Allocator + Clone + Drop>(
     alloc: A,
-    collected: &Collector<Noted, A>,
+    collected: &Collector<Noted, NoteList<A>>,
 ) -> Result<Verdict, TraceFault>
     requires { IsSomeAnd collected.now.asked (λ asked. asked_fault asked ≡ None) }
     ensures ok { IfOk result (λ verdict. IsSomeAnd collected.now.asked (λ asked. Judges A
@@ -116,7 +116,7 @@ fn judge_collected<A: Allocator + Clone + Drop>(
     let Some(declaration) = collected.declaration() else {
         return Err(TraceFault::NoMemory);
     };
-    let notes = Notes::of(collected.items());
+    let notes = collected.items().notes();
     match judge_declared(alloc, declaration, &notes) {
         Ok(verdict) => Ok(verdict),
         Err(_) => Err(TraceFault::NoMemory),
@@ -133,10 +133,17 @@ fn find_verdict<A: Allocator + Clone + Drop, S: Source>(
         ⟦<RadixMap<A> as SlotMap>⟧.folds input unread result) }
     ensures read { result ≡ Err ReadFailed → HasStopped (S.failed reader.new) (S.reads reader.new) }
 {
+    let Ok(for_text) = alloc.clone() else {
+        return Err(TraceFault::NoMemory);
+    };
     let Ok(for_notes) = alloc.clone() else {
         return Err(TraceFault::NoMemory);
     };
-    let collected: Collector<Noted, A> = match collect(for_notes, reader) {
+    let Ok(for_full) = alloc.clone() else {
+        return Err(TraceFault::NoMemory);
+    };
+    let notes = NoteList::new(for_notes, for_full);
+    let collected = match collect(for_text, notes, reader) {
         Ok(collected) => collected,
         Err(fault) => return Err(fault),
     };

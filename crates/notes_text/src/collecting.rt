@@ -1,5 +1,5 @@
 //! The lines of a text, taken in one by one until it ends.
-ghost use Rattle.std.specs.Prelude.{◌≡◌, ◌+◌, ◌^◌, ◌<◌, Err, Some, None, IfErr, IfOk, OnOk, IsSomeAnd, true};
+ghost use Rattle.std.specs.Prelude.{◌≡◌, [], ◌+◌, ◌^◌, ◌<◌, Err, Some, None, IfErr, IfOk, OnOk, IsSomeAnd, true};
 ghost use Rattle.trace_io.specs.Source.{HasStopped, Reads};
 ghost use Rattle.trace_io.specs.Window.{left, budget, opening};
 ghost use Rattle.trace.specs.Declarations.{Asked, asked_fault};
@@ -9,6 +9,7 @@ ghost use Rattle.notes_text.specs.Ends.{Collects, Stops};
 ghost use Rattle.notes_text.specs.Turns.{Turns, Scene};
 
 use crate::collector::{Collector, LineOf};
+use crate::kept::Kept;
 use std::alloc::Allocator;
 use trace::fault::TraceFault;
 use trace_io::lines::{Found, LineReader, NoLine, line_reader};
@@ -16,11 +17,11 @@ use trace_io::sink::Nowhere;
 use trace_io::source::Source;
 
 // Takes in the next line, or answers false where there is none.
-fn turn<T: LineOf + Drop, A: Allocator, S: Source>(
+fn turn<T: LineOf + Drop, K: Kept<T> + Drop, A: Allocator, S: Source>(
     lines: &mut LineReader<A>,
     reader: &mut S,
     nowhere: &mut Nowhere,
-    collector: &mut Collector<T, A>,
+    collector: &mut Collector<T, K>,
     number: u64,
 ) -> Result<bool, TraceFault>
     requires few { number + 1 < 2 ^ 64 }
@@ -48,10 +49,10 @@ fn turn<T: LineOf + Drop, A: Allocator, S: Source>(
 }
 
 // Takes in the lines until the text ends.
-fn collect_lines<T: LineOf + Drop, A: Allocator, S: Source>(
+fn collect_lines<T: LineOf + Drop, K: Kept<T> + Drop, A: Allocator, S: Source>(
     lines: &mut LineReader<A>,
     reader: &mut S,
-    collector: &mut Collector<T, A>,
+    collector: &mut Collector<T, K>,
 ) -> Result<(), TraceFault>
     requires fresh { lines.old ≡ opening }
     requires start { collector.old ≡ nothing }
@@ -73,13 +74,15 @@ fn collect_lines<T: LineOf + Drop, A: Allocator, S: Source>(
     }
 }
 
-/// What the text declares and names, in order of its lines. Where it can't be read whole, the fault is the first: of a line that
+/// What the text declares and names, in order of its lines, in the list, which is empty at first. Where it can't be read whole, the fault is the first: of a line that
 /// can't be taken, of a declaration of which no space can be made, of a read, or want of memory. 64 KiB for a chunk of
 /// lines are taken before anything is read.
-pub fn collect<T: LineOf + Drop, A: Allocator + Clone, S: Source>(
+pub fn collect<T: LineOf + Drop, K: Kept<T> + Drop, A: Allocator + Clone, S: Source>(
     alloc: A,
+    items: K,
     reader: &mut S,
-) -> Result<Collector<T, A>, TraceFault>
+) -> Result<Collector<T, K>, TraceFault>
+    requires { K.kept items ≡ [] }
     ensures ok { IfOk result (λ collected. Reads (S.stream reader.old) (S.stream reader.new) (λ input unread. (asked : Asked)
         × (collected.asked ≡ Some asked) × Collects T.needs_calls T.names input asked collected.items)) }
     ensures sound { IfOk result (λ collected. IsSomeAnd collected.asked (λ asked. asked_fault asked ≡ None)) }
@@ -90,7 +93,7 @@ pub fn collect<T: LineOf + Drop, A: Allocator + Clone, S: Source>(
     let Some(mut lines) = line_reader(&alloc) else {
         return Err(TraceFault::NoMemory);
     };
-    let mut collector = Collector::new(alloc);
+    let mut collector = Collector::new(items);
     match collect_lines(&mut lines, reader, &mut collector) {
         Ok(()) => Ok(collector),
         Err(fault) => Err(fault),

@@ -1,5 +1,5 @@
 //! A text with a declaration in front, between two lines: what was declared, and an item of each line
-//! behind that.
+//! after that.
 ghost use Rattle.std.specs.Prelude.{◌≡◌, ◌≢◌, ◌==◌, ◌⊎◌, ℕ, List, [], Bool, true, false, Option, None, Some, OnOk, IfErr, IfOk, length};
 ghost use Rattle.trace_text.specs.Words.{Word, words_of};
 ghost use Rattle.trace_text.specs.Line.{are_printable, line_of};
@@ -8,15 +8,15 @@ ghost use Rattle.trace.specs.Declarations.{asked_fault};
 ghost use Rattle.trace.specs.Stage.{OfSpace, OfFile, OfEvents, kind_of};
 ghost use Rattle.notes_text.specs.Collected.{Collected, nothing, late, Takes, Refuses, Wants};
 
+use crate::kept::Kept;
 use core_steps::SetupFault;
-use std::alloc::Allocator;
-use std::marker::Model;
+use std::marker::{Model, PhantomData};
 use trace::declaration::{Declaration, FileLine};
 use trace::fault::TraceFault;
 use trace_text::words::next_word;
 use trace_text::{Line, first_word_is_file, first_word_is_vm, is_printable_line, read_line};
 
-/// What a line behind the declaration names.
+/// What a line after the declaration names.
 pub trait LineOf: Copy {
     ghost use Rattle.std.specs.Prelude.{◌≡◌, ℕ, List, Bool, IfSome, IfNone};
     ghost use Rattle.trace_text.specs.Words.{Word, words_of};
@@ -39,17 +39,18 @@ pub trait LineOf: Copy {
 
 /// What the lines so far declare, and what they name.
 #[derive(Drop)]
-pub struct Collector<T, A: Allocator> {
+pub struct Collector<T, K: Kept<T>> {
     declaration: Option<Declaration>,
-    items: Vec<T, A>,
+    items: K,
+    of: PhantomData<T>,
 }
 
-impl<T, A: Allocator> Model for Collector<T, A> {
+impl<T, K: Kept<T>> Model for Collector<T, K> {
     ghost use Rattle.notes_text.specs.Collected.{Collected};
 
     ghost Value = { Collected T };
 
-    ghost view = { λ s. record { asked = s.declaration; items = s.items.items } };
+    ghost view = { λ s. record { asked = s.declaration; items = K.kept s.items } };
 }
 
 // Tells whether the line has four words.
@@ -87,7 +88,7 @@ fn late_fault(declaration: &Declaration, number: u64) -> TraceFault
     }
 }
 
-impl<T: LineOf + Drop, A: Allocator> Collector<T, A> {
+impl<T: LineOf + Drop, K: Kept<T> + Drop> Collector<T, K> {
     ghost use Rattle.std.specs.Prelude.{◌≡◌, ◌≢◌, ◌⊎◌, [], Some, None, OnOk, IfErr, IfOk, OnErr};
     ghost use Rattle.trace_text.specs.Words.{words_of};
     ghost use Rattle.trace_text.specs.Line.{are_printable, line_of};
@@ -98,13 +99,14 @@ impl<T: LineOf + Drop, A: Allocator> Collector<T, A> {
     ghost use Rattle.std.specs.Prelude.{option_map, IsSomeAnd};
     ghost use Rattle.trace.specs.Declarations.{Asked, asked_fault};
 
-    /// Nothing is declared yet. It takes no memory.
-    pub fn new(alloc: A) -> Collector<T, A>
-        ensures { result ≡ nothing }
+    /// Nothing is declared yet. Items come after those of the list. It takes no memory.
+    pub fn new(items: K) -> Collector<T, K>
+        ensures { result ≡ record { asked = None; items = K.kept items } }
     {
         Collector {
             declaration: None,
-            items: Vec::new(alloc),
+            items,
+            of: PhantomData,
         }
     }
 
@@ -147,7 +149,7 @@ impl<T: LineOf + Drop, A: Allocator> Collector<T, A> {
         ensures ok { OnOk result (Takes T.needs_calls T.names self.old line.now self.new) }
         ensures err { IfErr result (λ f. Refuses T.needs_calls T.names self.old number line.now f) }
     {
-        let is_first = self.items.as_slice().is_empty();
+        let is_first = self.items.has_none();
         let Some(declaration) = &mut self.declaration else {
             return Err(TraceFault::NoVmLine);
         };
@@ -188,7 +190,7 @@ impl<T: LineOf + Drop, A: Allocator> Collector<T, A> {
         let Some(item) = T::read(declaration.cores(), line) else {
             return Err(TraceFault::BadLine(number));
         };
-        if self.items.push(item).is_err() {
+        if self.items.keep(item).is_err() {
             return Err(TraceFault::NoMemory);
         }
         Ok(())
@@ -240,17 +242,17 @@ impl<T: LineOf + Drop, A: Allocator> Collector<T, A> {
     }
 
     /// What was declared, and the items, in order of their lines.
-    pub fn into_parts(self) -> (Option<Declaration>, Vec<T, A>)
+    pub fn into_parts(self) -> (Option<Declaration>, K)
         ensures asked { result.0 ≡ self.asked }
-        ensures items { result.1.items ≡ self.items }
+        ensures items { K.kept result.1 ≡ self.items }
     {
         (self.declaration, self.items)
     }
 
     /// The items, in order of their lines.
-    pub fn items(&self) -> &[T]
-        ensures { result.now ≡ self.now.items }
+    pub fn items(&self) -> &K
+        ensures { K.kept result.now ≡ self.now.items }
     {
-        self.items.as_slice()
+        &self.items
     }
 }

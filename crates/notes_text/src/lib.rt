@@ -6,6 +6,7 @@ pub mod collecting;
 pub mod collector;
 mod event_text;
 pub mod grammar;
+pub mod kept;
 mod merging;
 pub mod note_line;
 mod noted_line;

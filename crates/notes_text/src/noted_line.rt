@@ -1,4 +1,4 @@
-//! Notes as the lines behind a declaration.
+//! Notes as the lines after a declaration.
 ghost use Rattle.std.specs.Prelude.{true};
 ghost use Rattle.notes_text.specs.Grammar.{NamesNote};
 

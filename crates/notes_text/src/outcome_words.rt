@@ -117,7 +117,7 @@ fn read_segv(words: &[u8]) -> Option<Outcome>
     }
 }
 
-// The same, if no other word is behind it.
+// The same, if no other word is after it.
 fn read_alone(name: &[u8], rest: &[u8]) -> Option<Outcome>
     ensures { result ≡ alone (words_of rest.now) (single_of name.now) }
 {
@@ -127,7 +127,7 @@ fn read_alone(name: &[u8], rest: &[u8]) -> Option<Outcome>
     read_single(name)
 }
 
-// The outcome of this name, with the words behind it.
+// The outcome of this name, with the words after it.
 fn read_named(name: &[u8], rest: &[u8]) -> Option<Outcome>
     ensures { result ≡ named_of name.now (words_of rest.now) }
 {

@@ -34,7 +34,7 @@ fn push_flags(text: &mut LineText, flags: Flags)
     }
 }
 
-// Appends a range's address and length, each behind a space.
+// Appends a range's address and length, each after a space.
 fn push_range(text: &mut LineText, addr: u64, len: u64)
     requires { length text.old.bytes + 42 ≤ 256 }
     ensures bytes { text.new.bytes ≡ text.old.bytes ++ codes " " ++ address_of addr ++ codes " " ++ address_of len }
@@ -44,7 +44,7 @@ fn push_range(text: &mut LineText, addr: u64, len: u64)
     push_address(text, len);
 }
 
-// Appends what pages of a mapping may be used for, its flags, its file and its offset, each behind a space.
+// Appends what pages of a mapping may be used for, its flags, its file and its offset, each after a space.
 fn push_backing(text: &mut LineText, prot: Prot, flags: Flags, file: u64, off: u64)
     requires { length text.old.bytes + 51 ≤ 256 }
     ensures bytes { text.new.bytes ≡ text.old.bytes ++ spaced (rights_text prot ∷ flags_text flags ∷ decimal file ∷ address_of off ∷ []) }
@@ -56,8 +56,8 @@ fn push_backing(text: &mut LineText, prot: Prot, flags: Flags, file: u64, off: u
     push_address(text, off);
 }
 
-/// Appends the words of the request, each behind a space: addresses, lengths and offsets in hexadecimal digits
-/// behind `0x`, a file and a byte in decimal ones, the flags in the order `p`, `s`, `f`, `a`. File and offset are always
+/// Appends the words of the request, each after a space: addresses, lengths and offsets in hexadecimal digits
+/// after `0x`, a file and a byte in decimal ones, the flags in the order `p`, `s`, `f`, `a`. File and offset are always
 /// there.
 pub fn push_request(text: &mut LineText, request: Request)
     requires { length text.old.bytes + 100 ≤ 256 }

@@ -190,7 +190,7 @@ impl<A: Allocator> Script<A> {
 // The script of what was collected.
 fn script_of<A: Allocator + Clone + Drop>(
     alloc: A,
-    collected: Collector<ScriptLine, A>,
+    collected: Collector<ScriptLine, Vec<ScriptLine, A>>,
 ) -> Result<Script<A>, TraceFault>
     requires { IsSomeAnd collected.asked (λ asked. asked_fault asked ≡ None) }
     ensures ok { IfOk result (λ script. (collected.asked ≡ Some script.asked)
@@ -231,7 +231,11 @@ pub fn read_script<A: Allocator + Clone + Drop, S: Source>(
     let Ok(for_lines) = alloc.clone() else {
         return Err(TraceFault::NoMemory);
     };
-    let collected: Collector<ScriptLine, A> = match collect(for_lines, reader) {
+    let Ok(for_text) = alloc.clone() else {
+        return Err(TraceFault::NoMemory);
+    };
+    let lines: Vec<ScriptLine, A> = Vec::new(for_lines);
+    let collected = match collect(for_text, lines, reader) {
         Ok(collected) => collected,
         Err(fault) => return Err(fault),
     };

@@ -1,4 +1,4 @@
-//! What certifying a text of notes comes to, and the line that tells it.
+//! The result of certifying a text of notes, and the line that tells it.
 ghost use Rattle.std.specs.Prelude.{◌≡◌, ◌++◌, ◌≤◌, codes, decimal, length};
 ghost use Rattle.trace_io.specs.Io.{IsWritten, written_to};
 ghost use Rattle.trace.specs.OutcomeText.{outcome_text};
@@ -9,7 +9,7 @@ use trace::outcome_text::write_outcome;
 use trace_io::sink::{Sink, WriteFailed, write_all};
 use trace_text::{LineText, push_number};
 
-/// What certifying the notes of a text comes to.
+/// The result of certifying the notes of a text.
 #[derive(Clone, Copy, Debug, PartialEq, Eq)]
 pub enum Verdict {
     /// They are certified, with so many answered calls.
@@ -27,7 +27,7 @@ pub enum Verdict {
     Slot(u64),
 }
 
-// Writes two texts, one behind the other.
+// Writes two texts, one after the other.
 pub(crate) fn write_both<W: Sink>(
     writer: &mut W,
     first: &[u8],

@@ -50,7 +50,7 @@ fn put_space(text: &mut LineText, declaration: &Declaration)
     text.push_str("\n");
 }
 
-// Appends what a file is open for, its length and its first byte, each behind a space.
+// Appends what a file is open for, its length and its first byte, each after a space.
 fn push_contents(text: &mut LineText, file: FileLine)
     requires { length text.old.bytes + 45 ≤ 256 }
     ensures bytes { text.new.bytes

@@ -6,6 +6,7 @@ use Rattle.std.proofs.Math.Seq.{get_or-append_seam}
 use Rattle.std.proofs.lemmas.List.{get_or-map, length-map, map-append}
 use Rattle.std.proofs.lemmas.Option.{slice_get-get_or}
 use Rattle.std.proofs.lemmas.List.Elements.{All-append, All-cons, All-nil}
+use Rattle.seats.specs.Fitting.{FitsTypes}
 use Rattle.seats.specs.Notes.{ticket_of}
 use Rattle.seats.specs.Packing.{AreWithin, IsWithin, ListView, is_in_full, note_by, note_of, nothing, packed_or, unpacked}
 use Rattle.seats.specs.declared.noted.Noted.{Noted}
@@ -63,3 +64,12 @@ placed_more in_full ps p n h kind at =
     map-append (note_of (in_full ++ n ∷ [])) ps (p ∷ [])
     ∙ ap (λ ns. ns ++ note_of (in_full ++ n ∷ []) p ∷ []) (unpacked_longer in_full (n ∷ []) ps h)
     ∙ ap (λ m. unpacked in_full ps ++ m ∷ []) (placed_by (is_in_full p.kind) in_full n p (ap is_in_full kind) at)
+
+-- one more that stands packed
+pub packed_more : (in_full : List Noted) (ps : List Packed) (p : Packed) (n : Noted) → note_of in_full p ≡ n
+    → unpacked in_full (ps ++ p ∷ []) ≡ unpacked in_full ps ++ n ∷ []
+packed_more in_full ps p n is = map-append (note_of in_full) ps (p ∷ []) ∙ ap (λ m. unpacked in_full ps ++ m ∷ []) is
+
+-- one more note as its types have it
+pub fits_more : (ns : List Noted) (n : Noted) → All FitsTypes ns → FitsTypes n → All FitsTypes (ns ++ n ∷ [])
+fits_more ns n all one = All-append FitsTypes ns (n ∷ []) all (All-cons FitsTypes n [] one (All-nil FitsTypes))

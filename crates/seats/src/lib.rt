@@ -9,6 +9,7 @@ mod noted;
 pub mod packed;
 mod seat;
 mod tickets;
+mod typed;
 
 pub use gathering::gather;
 pub use note_list::{NoteList, Notes};

@@ -1,10 +1,12 @@
 //! A list of notes in little memory.
-ghost use Rattle.std.specs.Prelude.{◌≡◌, ◌+◌, ◌-◌, ◌^◌, ◌<◌, ◌≤◌, ◌↔◌, ◌==◌, [], ◌∷◌, ◌++◌, IsTrue, OnErr, OnOk, Some, drop, length, map, slice_get};
+ghost use Rattle.std.specs.Prelude.{◌≡◌, ◌+◌, ◌-◌, ◌^◌, ◌<◌, ◌≤◌, ◌↔◌, ◌==◌, [], ◌∷◌, ◌++◌, All, IsTrue, OnErr, OnOk, Some, drop, length, map, slice_get};
+ghost use Rattle.seats.specs.Fitting.{FitsTypes};
 ghost use Rattle.seats.specs.Notes.{ticket_of};
 ghost use Rattle.seats.specs.Packing.{ListView, shown};
 
 use crate::noted::Noted;
 use crate::packed::{Packed, pack, placed, ticket_beside, unpacked};
+use crate::typed::note_fits;
 use std::alloc::{AllocError, Allocator};
 use std::marker::Model;
 
@@ -21,7 +23,8 @@ pub struct NoteList<A: Allocator> {
 }
 
 impl<A: Allocator> Model for NoteList<A> {
-    ghost use Rattle.std.specs.Prelude.{◌+◌, ◌^◌, ◌≤◌, length, vec_capacity, vec_len};
+    ghost use Rattle.std.specs.Prelude.{◌+◌, ◌^◌, ◌≤◌, All, length, vec_capacity, vec_len};
+    ghost use Rattle.seats.specs.Fitting.{FitsTypes};
     ghost use Rattle.seats.specs.Packing.{AreWithin, ListView, unpacked};
 
     ghost Value = { ListView };
@@ -30,7 +33,8 @@ impl<A: Allocator> Model for NoteList<A> {
 
     ghost invariant = { λ l. AreWithin (length l.in_full.items) l.packed.items
         × (l.room + vec_len l.packed ≤ vec_capacity l.packed)
-        × (l.room + vec_len l.in_full ≤ vec_capacity l.in_full) × (l.room + vec_len l.packed ≤ 2 ^ 32) };
+        × (l.room + vec_len l.in_full ≤ vec_capacity l.in_full) × (l.room + vec_len l.packed ≤ 2 ^ 32)
+        × All FitsTypes (unpacked l.in_full.items l.packed.items) };
 }
 
 /// Notes that are lent: packed ones beside those that stand in full, or else a plain slice.
@@ -72,6 +76,7 @@ impl<'a> Notes<'a> {
     }
 
     /// The note at the place, from 0.
+    #[inline(always)]
     pub fn get(&self, at: usize) -> Noted
         requires { at < length (shown self.now) }
         ensures { slice_get (shown self.now) at ≡ Some result }
@@ -131,9 +136,10 @@ impl<A: Allocator> NoteList<A> {
         self.packed.len()
     }
 
-    /// The notes.
+    /// The notes. Each has numbers as its types have them.
     pub fn notes(&self) -> Notes<'_>
-        ensures { shown result ≡ self.now.notes }
+        ensures notes { shown result ≡ self.now.notes }
+        ensures fits { All FitsTypes self.now.notes }
     {
         Notes {
             packed: self.packed.as_slice(),
@@ -173,18 +179,31 @@ impl<A: Allocator> NoteList<A> {
     }
 
     /// Adds the note at the end, in room that was made before.
+    #[inline(always)]
     pub fn push_reserved(&mut self, note: Noted)
         requires { 0 < self.old.room }
         ensures { self.new ≡ record { notes = self.old.notes ++ note ∷ []; room = self.old.room - 1 } }
     {
-        self.room -= 1;
+        note_fits(&note);
         match pack(&note) {
-            Some(packed) => self.packed.push_reserved(packed),
-            None => {
-                self.packed.push_reserved(placed(self.in_full.len() as u64));
-                self.in_full.push_reserved(note);
+            Some(packed) => {
+                self.room -= 1;
+                self.packed.push_reserved(packed);
             }
+            None => self.push_in_full(note),
         }
+    }
+
+    // The same of a note that stands in full.
+    #[inline(never)]
+    fn push_in_full(&mut self, note: Noted)
+        requires { 0 < self.old.room }
+        ensures { self.new ≡ record { notes = self.old.notes ++ note ∷ []; room = self.old.room - 1 } }
+    {
+        note_fits(&note);
+        self.room -= 1;
+        self.packed.push_reserved(placed(self.in_full.len() as u64));
+        self.in_full.push_reserved(note);
     }
 
     /// Adds the note at the end. Where there is no memory, or the limit is reached, nothing is added.

@@ -80,6 +80,7 @@ fn say(kind: Kind, core: CoreId, byte: u8, word: u64) -> Brief
 }
 
 // The beginning of an access.
+#[inline(always)]
 fn brief_call(core: CoreId, request: &Request) -> Option<Brief>
     ensures { IfSome result (λ b. Says b (Call core request.now) Stepped) }
 {
@@ -92,6 +93,7 @@ fn brief_call(core: CoreId, request: &Request) -> Option<Brief>
 }
 
 // An event whose step comes to nothing else.
+#[inline(always)]
 fn brief_step(event: &Event) -> Option<Brief>
     ensures { IfSome result (λ b. Says b event.now Stepped) }
 {
@@ -125,6 +127,7 @@ fn refusal(errno: &Errno) -> Kind
 }
 
 // A step by which the core's call is answered.
+#[inline(always)]
 fn brief_answer(core: CoreId, reply: &Reply) -> Brief
     ensures { Says result (Go core) (Answered reply.now) }
 {
@@ -142,6 +145,7 @@ fn brief_answer(core: CoreId, reply: &Reply) -> Brief
 }
 
 // What says that the event comes to the outcome, where something does.
+#[inline(always)]
 fn brief_of(event: &Event, outcome: &Outcome) -> Option<Brief>
     ensures { IfSome result (λ b. Says b event.now outcome.now) }
 {
@@ -157,6 +161,7 @@ fn brief_of(event: &Event, outcome: &Outcome) -> Option<Brief>
 
 /// The note in sixteen bytes, where it goes into them: `None` where its step has no kind of its own, or its ticket
 /// isn't below 2^40.
+#[inline(always)]
 pub(crate) fn pack(note: &Noted) -> Option<Packed>
     ensures says { IfSome result (λ p. (in_full : List Noted) → note_of in_full p ≡ note.now) }
     ensures short { IfSome result (λ p. is_in_full p.kind ≡ false) }
@@ -191,6 +196,7 @@ pub(crate) fn placed(place: u64) -> Packed
 }
 
 // The event of a note of this kind.
+#[inline(always)]
 fn event_of(packed: &Packed) -> Event
     ensures { result ≡ event_said packed.now.kind packed.now.core packed.now.byte packed.now.word }
 {
@@ -219,7 +225,8 @@ fn event_of(packed: &Packed) -> Event
     }
 }
 
-// What a note of this kind came to.
+// The result of a note of this kind.
+#[inline(always)]
 fn outcome_of(packed: &Packed) -> Outcome
     ensures { result ≡ outcome_said packed.now.kind packed.now.byte packed.now.word }
 {
@@ -273,6 +280,7 @@ pub(crate) fn ticket_beside(packed: &Packed, in_full: &[Noted]) -> u64
 }
 
 /// The note, beside those that stand in full.
+#[inline(always)]
 pub(crate) fn unpacked(packed: &Packed, in_full: &[Noted]) -> Noted
     ensures { result ≡ note_of in_full.now packed.now }
 {

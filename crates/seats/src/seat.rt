@@ -32,11 +32,9 @@ pub struct Seat<A: Allocator> {
 }
 
 impl<A: Allocator> Model for Seat<A> {
-    ghost use Rattle.std.specs.Prelude.{◌≡◌, ◌+◌, ◌^◌, ◌≤◌, length, map, true};
+    ghost use Rattle.std.specs.Prelude.{◌≡◌, ◌+◌, ◌^◌, ◌≤◌, length, map};
     ghost use Rattle.std.specs.Arc.{arc_value};
     ghost use Rattle.seats.specs.Tickets.{Rises};
-    ghost use Rattle.machine_model.specs.declared.event.Outcome.TheVariants.{Stepped};
-    ghost use Rattle.seats.specs.Growing.{is_between};
     ghost use Rattle.seats.specs.Notes.{SeatView, ticket_of};
 
     ghost Value = { SeatView };
@@ -57,7 +55,6 @@ impl<A: Allocator> Model for Seat<A> {
     ghost invariant = { λ s. (arc_value s.tickets ≡ s.ticketer.word)
         × (s.ticketer.tickets ≡ map ticket_of s.notes.notes)
         × Rises (map ticket_of s.notes.notes) × (s.begun ≤ length s.notes.notes)
-        × (is_between s.plain Stepped ≡ true)
         × (s.notes.room + length s.notes.notes ≤ 2 ^ 32) };
 }
 
@@ -159,6 +156,7 @@ impl<A: Allocator> Seat<A> {
     /// Draws a ticket, and notes the event and its outcome under it, in room that was made before;
     /// answers the ticket, which is above all that the seat drew before. Whoever calls it holds the
     /// locks of all that the step touches.
+    #[inline(always)]
     pub fn note(&mut self, event: Event, outcome: Outcome) -> u64
         requires { 0 < self.old.room }
         ensures noted { self.new ≡ with_note self.old (noted result event outcome) }

@@ -51,7 +51,7 @@ impl<A: Allocator + Clone> Alone<A> {
         Alone { live, seat }
     }
 
-    /// What a call or a fold comes to; none of lines that ask for nothing.
+    /// The result of a call or a fold; none of lines that ask for nothing.
     pub fn done<R: Wait>(&mut self, rt: &R, line: Line) -> Option<Result<Outcome, LiveFault>> {
         match line {
             Line::Now(_, request) => Some(self.called(rt, request)),

@@ -97,7 +97,7 @@ fn noted_if(is_noted: bool) -> Outcome {
     }
 }
 
-/// What an action or a call of a lane comes to; what isn't one of them is `Full`.
+/// The result of an action or a call of a lane; what isn't one of them is `Full`.
 fn done<R: Wait, A: Allocator + Clone>(
     rt: &R,
     lane: &mut Lane<'_, A>,
@@ -129,7 +129,7 @@ fn core_of(line: &Line) -> Option<CoreId> {
     }
 }
 
-/// What a line of a script comes to, on the lane of its core; none of lines that ask for nothing.
+/// The result of a line of a script, on the lane of its core; none of lines that ask for nothing.
 pub fn done_by<R: Wait, A: Allocator + Clone>(
     rt: &R,
     lanes: &mut [Lane<'_, A>],

@@ -1,7 +1,7 @@
 //! The first core's call is held at a point of its way, while the other core makes its own. A row is `POINT | BEFORE | HELD | OTHERS`: the
 //! point, at which `long` says that the call is held until all others are done; a script that both run before; the call that is held; and
 //! what the other core does meanwhile. All notes are certified, whatever the calls are, and wherever one is held. Behind ` => ` a row may
-//! tell the replies of the first core's calls, those of the other's, and what certifying comes to.
+//! tell the replies of the first core's calls, those of the other's, and the result of certifying.
 ghost use Rattle.std.specs.Prelude.{All};
 ghost use Rattle.live_space.specs.Space.{IsOf};
 
@@ -26,7 +26,7 @@ struct Meeting<'a> {
     before: &'a str,
     held: &'a str,
     others: &'a str,
-    /// What is told of it; empty where the row doesn't say.
+    /// What is said about it; empty where the row doesn't say.
     told: &'a str,
 }
 
@@ -194,7 +194,7 @@ fn push_with_each(row: &str, parts: &str, out: &mut String<Global>) -> Result<()
     Ok(())
 }
 
-/// Each of these rows with each of these parts behind it.
+/// Each of these rows with each of these parts after it.
 pub fn with_each(alloc: Global, rows: &str, parts: &str) -> Result<String<Global>, NoMemory> {
     let mut out = String::new(alloc);
     for row in rows.lines() {

@@ -16,7 +16,7 @@ use trace::outcome_text::write_outcome;
 use trace_text::{LineText, read_line};
 use vm_base::NoMemory;
 
-// Appends what one thing came to.
+// Appends the result of one thing.
 fn push_part(out: &mut String<Global>, part: &str) -> Result<(), NoMemory> {
     if !out.as_str().is_empty() {
         out.push_str("; ")?;
@@ -25,7 +25,7 @@ fn push_part(out: &mut String<Global>, part: &str) -> Result<(), NoMemory> {
     Ok(())
 }
 
-/// Appends the text of what a line came to.
+/// Appends the text of the result of a line.
 fn push_told(
     alloc: Global,
     told: Result<Outcome, LiveFault>,
@@ -100,7 +100,7 @@ pub fn push_answers<A: Allocator>(
     Ok(())
 }
 
-/// Appends what certifying comes to.
+/// Appends the result of certifying.
 pub fn push_certified(
     alloc: Global,
     told: Result<Certified, CertifyFault>,
@@ -147,7 +147,7 @@ fn push_lines_in<R: Wait>(
     seats_of(alloc, lanes)
 }
 
-/// Appends what a script comes to, on a new space.
+/// Appends the result of a script, on a new space.
 fn push_told_by_seats<R: Wait>(
     rt: &R,
     alloc: Global,

@@ -21,7 +21,7 @@ use vm_base::{NoMemory, Reply};
 /// What the cores of a space are asked for.
 #[derive(Clone, Copy)]
 pub struct Asked<'a> {
-    /// Each core begins with the first of these lines, behind its number, and goes on with some of the others. In them `P` begins the
+    /// Each core begins with the first of these lines, after its number, and goes on with some of the others. In them `P` begins the
     /// address of one of eight pages around the border of two nodes of 512 pages, of which the last three digits follow, and `W` that
     /// of its window, of which the last eight do.
     pub lines: &'a str,

@@ -134,7 +134,7 @@ fn starved_call<'h, R: Wait>(
     Ok(call_by_first(rt, lanes, line))
 }
 
-/// What the call comes to, where all other lines come to what they are to come to.
+/// The result of the call, where all other lines come to what they are to come to.
 fn came_of<'h, R: Wait>(
     rt: &R,
     alloc: Global,
@@ -256,7 +256,7 @@ fn came_of_fault(fault: RunFault) -> Came {
     }
 }
 
-/// What certifying what was run comes to, in what is free of the heap.
+/// The result of certifying what was run, in what is free of the heap.
 fn came_of_ran<'h>(
     heap: &'h LocalHeap,
     script: &Script<&'h LocalHeap>,

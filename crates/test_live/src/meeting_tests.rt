@@ -7,7 +7,7 @@ use std::thread::Threads;
 use test_lanes::meeting::{met, with_each};
 use vm_base::NoMemory;
 
-/// A call is held until another core's are answered, on other pages or on pages that it doesn't hold there: a space behind one lock would hold
+/// A call is held until another core's are answered, on other pages or on pages that it doesn't hold there: a space with one lock would hold
 /// these, too. Of two calls that overlap the first is held until the other has begun, at each point of its way.
 const HELD: &str = "\
 begun, long | vm 2 4 | c0! mmap 0x10000 8192 rw- pfa | c1! mmap 0x11000 8192 rw- pfa; c1! munmap 0x10000 0x10000

@@ -15,7 +15,7 @@ vm 2 4; c0! mmap 0x10000 1 rw- pfa; c0! mmap 0x10000 1 rw- pfa; c0! mmap 0x10000
 
 /// The first access of an anonymous page, of a shared page of a file, which has its frame, and of a private one: the core has no tables for the
 /// page yet, so its entry wants memory, and is refused it once (late). The first store of a page that another core reads, which drops it, and reads the same
-/// bytes as before: what is told wants memory before its entry does (early and late). Where both cores have tables for the page, its entry wants no memory.
+/// bytes as before: what is told wants memory before its entry does (early and late). If both cores have tables for the page, its entry wants no memory.
 const ACCESSES: &str = "\
 vm 2 4; c0! mmap 0x10000 8192 rwx pfa | c0! load 0x10000 / c0! store 0x10000 1 / c0! fetch 0x10000 | c1! load 0x10001; c1! store 0x10000 7; c0! load 0x10000; c0! store 0x11000 1; c1! munmap 0x10000 8192 | 0x10000; 0; done; 7; done; done | late
 vm 2 4; file 0 rw 4096 3; c0! mmap 0x10000 4096 rw- sf 0 0; c0! mmap 0x20000 4096 rw- sf 0 0; c1! store 0x20001 9 | c0! load 0x10000 / c0! store 0x10000 1 | c1! load 0x10001; c1! store 0x10000 7; c0! load 0x10000; c0! load 0x20000; c1! munmap 0x10000 4096 | 0x10000; 0x20000; done; 9; done; 7; 7; done | late

@@ -1,4 +1,4 @@
-//! What a space tells of itself, the texts of faults, and what is told of histories that are another space's.
+//! What a space tells of itself, the texts of faults, and what is said about histories that are another space's.
 use core_steps::SetupFault;
 use live_script::RunFault;
 use live_space::fault::LiveFault;

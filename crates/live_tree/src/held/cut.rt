@@ -18,7 +18,7 @@ use std::alloc::Allocator;
 use std::sync::{MutexGuard, Wait};
 use vm_base::{CoreId, PageRange};
 
-/// What a step towards held slots that cross no edge of a range came to.
+/// The result of a step towards held slots that cross no edge of a range.
 #[derive(Clone, Copy, Debug, PartialEq, Eq)]
 pub enum Cutting {
     /// A slot was cut, which was noted.

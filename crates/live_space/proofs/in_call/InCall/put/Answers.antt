@@ -20,7 +20,7 @@ commit_slots-requires g c = (
       arith,
       alike_count _ _ c.reserve.ensures.same,
       c.cut_all.ensures.room (search rules),
-      ap (λ (s : SeatView). s.room) c.step-fits.ensures.0,
+      ap (λ (s : SeatView). s.room) c.step-fits.ensures,
     ),
   ),
 )

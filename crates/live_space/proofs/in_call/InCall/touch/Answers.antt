@@ -5,6 +5,7 @@ use Rattle.live_pages.proofs.Ending.{ends_after, ends_next}
 use Rattle.live_space.specs.Answering.{IsFault}
 use Rattle.live_space.specs.Planned.{EndsIn}
 use Rattle.live_space.proofs.Ended.{faults_touch, none_at}
+use Rattle.live_space.proofs.Never.{byte_never}
 use Rattle.live_space.proofs.Noted.{goes_then, goes_trans, grew_once, room_tried}
 use Rattle.live_space.proofs.in_call.InCall.touch.Goals as goal
 
@@ -17,7 +18,8 @@ invariant_of-self g c =
 pub returns-in-Served-clause-runs : goal.returns-in-Served-clause-runs
 returns-in-Served-clause-runs g c =
     let before = goes_trans _ _ _ c.tries.invariant.goes c.has_room.ensures.goes in
-    (before.same_reference, ends_after _ _ _ _ before.grew (ends_next _ _ _ c.in-Served.ensures.0))
+    let never = byte_never c.args.touch.access c.in-Served.ensures.1.0 _ c.in-Served.ensures.1.1 in
+    (before.same_reference, ends_after _ _ _ _ before.grew (ends_next _ _ _ c.in-Served.ensures.0 never))
 
 pub returns-in-Served-clause-answers : goal.returns-in-Served-clause-answers
 returns-in-Served-clause-answers g c = inl c.in-Served.ensures.1

@@ -1,11 +1,12 @@
-use Rattle.std.proofs.Common.{◌≡◌, ◌⊎◌, rules, inr, sym, subst}
+use Rattle.std.proofs.Common.{◌≡◌, ◌≢◌, ◌⊎◌, rules, inr, sym, subst}
 use Rattle.vm_base.specs.declared.replies.Reply.{Reply}
 use Rattle.vm_base.specs.declared.replies.Reply.TheVariants.{NoMemory}
 use Rattle.seats.specs.Notes.{SeatView}
 use Rattle.live_pages.specs.Ending.{Ends}
 use Rattle.live_pages.proofs.Ending.{ends_after}
 use Rattle.live_space.specs.Planned.{AnswersPlan}
-use Rattle.live_space.proofs.Ended.{answered_in, at_last, holds_none, open_in, reply_ends, runs_answered, runs_open}
+use Rattle.live_space.proofs.Ended.{answered_in, at_last, ends_map, holds_none, open_in, reply_ends, runs_answered, runs_open}
+use Rattle.live_space.proofs.Never.{planned_never}
 use Rattle.live_space.proofs.space.Live.go_on.Goals as goal
 
 pub returns-in-Answered : goal.returns-in-Answered
@@ -22,6 +23,16 @@ returns-in-Open g c = record {
   answers = subst (λ (r : Reply). (r ≡ NoMemory) ⊎ AnswersPlan c.args.plan r) (sym c.end.ensures.reply)
       (reply_ends (AnswersPlan c.args.plan) _ (open_in (AnswersPlan c.args.plan) _ _ c.run-ran.ensures.answers c.in-Open.is));
 }
+
+pub end-requires : goal.end-requires
+end-requires g c = (
+  search rules,
+  (
+    search rules,
+    ends_map (AnswersPlan c.args.plan) (λ (r : Reply). r ≢ NoMemory) _ (planned_never c.args.plan)
+        (open_in (AnswersPlan c.args.plan) _ _ c.run-ran.ensures.answers c.in-Open.is),
+  ),
+)
 
 pub finish-requires : goal.finish-requires
 finish-requires g c = (search rules, holds_none _ _ _ c.run-ran.ensures.none c.in-Answered.is)

@@ -2,7 +2,7 @@ use Rattle.std.proofs.Common.{◌≡◌, ◌⊎◌, sym, ap, ◌∙◌, subst}
 use Rattle.trace.specs.declared.fault.TraceFault.TheVariants.{NoMemory}
 use Rattle.trace_text.specs.Words.{words_of}
 use Rattle.notes_text.specs.Collected.{Collected, Takes, Refuses, Wants}
-use Rattle.notes_text.proofs.CollectLemmas.{item_taken, item_wanted, pushed}
+use Rattle.notes_text.proofs.CollectLemmas.{item_taken, item_wanted, kept_ok}
 use Rattle.notes_text.proofs.collector.Collector.take_item.Goals as goal
 
 pub returns-then-is_err-clause-err : goal.returns-then-is_err-clause-err
@@ -16,10 +16,10 @@ returns-then-is_err-clause-err g c =
 pub returns-clause-ok : goal.returns-clause-ok
 returns-clause-ok g c =
     let names = subst (λ n. g.T.LineOf.names n c.in-Some-read.item (words_of c.args.line.now)) c.cores.ensures c.in-Some-read.ensures.some in
-    let taken = item_taken g.T.LineOf.needs_calls g.T.LineOf.names (record { asked = c.self.inside.declaration; items = c.self.inside.items.items })
-    (record { asked = c.self.inside.declaration; items = c.push.new.self.items }) c.args.line.now c.in-Some.declaration c.in-Some-read.item
+    let taken = item_taken g.T.LineOf.needs_calls g.T.LineOf.names (record { asked = c.self.inside.declaration; items = g.K.Kept.kept c.self.inside.items })
+    (record { asked = c.self.inside.declaration; items = g.K.Kept.kept c.keep.new.self }) c.args.line.now c.in-Some.declaration c.in-Some-read.item
     c.requires.printable c.requires.some c.requires.kind c.in-Some.is (sym c.fault.ensures ∙ c.in_default-fault.is) names
     (ap (λ l. record { asked = c.self.inside.declaration; items = l })
-    (pushed _ _ _ _ c.push.ensures.items (sym c.is_err.ensures.value ∙ c.if-is_err.false))) in
+    (kept_ok _ _ c.keep.ensures.ok (sym c.is_err.ensures.value ∙ c.if-is_err.false))) in
     subst (λ (o : Collected _). Takes g.T.LineOf.needs_calls g.T.LineOf.names o c.args.line.now
-    (record { asked = c.self.inside.declaration; items = c.push.new.self.items })) c.self.view_is taken
+    (record { asked = c.self.inside.declaration; items = g.K.Kept.kept c.keep.new.self })) c.self.view_is taken

@@ -11,7 +11,7 @@ pub draw-ticket-requires-clause-room : goal.draw-ticket-requires-clause-room
 draw-ticket-requires-clause-room g c =
     let some = subst (λ (s : SeatView). 0 < s.room) (sym c.self.view_is) c.requires in
     let count = ap length c.self.invariant.1 ∙ length-map c.self.inside.notes.notes ticket_of in
-    omega (arith, some, count, c.self.invariant.5)
+    omega (arith, some, count, c.self.invariant.4)
 
 pub invariant_of-self : goal.invariant_of-self
 invariant_of-self g c =
@@ -24,6 +24,5 @@ invariant_of-self g c =
       tickets_next c.self.inside.ticketer.tickets _ c.self.inside.notes.notes _ new c.self.invariant.1 drawn notes,
       rises_next c.self.inside.ticketer.tickets c.self.inside.notes.notes _ new c.self.invariant.1 c.self.invariant.2 notes c.draw-ticket.ensures.later,
       subst (λ (ns : List Noted). c.self.inside.begun ≤ length ns) (sym notes) (omega (arith, more, c.self.invariant.3)),
-      c.self.invariant.4,
-      subst (λ (l : ListView). l.room + length l.notes ≤ 2 ^ 32) (sym c.push_reserved.ensures) (omega (arith, some, more, c.self.invariant.5)),
+      subst (λ (l : ListView). l.room + length l.notes ≤ 2 ^ 32) (sym c.push_reserved.ensures) (omega (arith, some, more, c.self.invariant.4)),
     )

@@ -1,0 +1,49 @@
+//! What the items of a text are kept in: a vector, or packed notes.
+ghost use Rattle.std.specs.Prelude.{◌≡◌, ◌++◌, ◌∷◌, ◌==◌, [], List, OnErr, OnOk, length};
+
+use seats::{NoteList, Noted};
+use std::alloc::Allocator;
+use vm_base::NoMemory;
+
+/// A list that grows at its end.
+pub trait Kept<T> {
+    /// What is in it, in order.
+    ghost kept: { Self → List T };
+
+    /// Tells whether nothing is in it.
+    fn has_none(&self) -> bool
+        ensures { result ≡ (length (kept self.now) == 0) };
+
+    /// Adds the item at the end. Where memory is wanting nothing is added.
+    fn keep(&mut self, item: T) -> Result<(), NoMemory>
+        ensures ok { OnOk result (kept self.new ≡ kept self.old ++ item ∷ []) }
+        ensures err { OnErr result (kept self.new ≡ kept self.old) };
+}
+
+impl<T: Drop, A: Allocator> Kept<T> for Vec<T, A> {
+    ghost kept = { λ all. all.items };
+
+    fn has_none(&self) -> bool {
+        self.is_empty()
+    }
+
+    fn keep(&mut self, item: T) -> Result<(), NoMemory> {
+        self.push(item)?;
+        Ok(())
+    }
+}
+
+impl<A: Allocator> Kept<Noted> for NoteList<A> {
+    ghost kept = { λ list. list.notes };
+
+    fn has_none(&self) -> bool {
+        self.len() == 0
+    }
+
+    fn keep(&mut self, item: Noted) -> Result<(), NoMemory> {
+        match self.push(item) {
+            Ok(()) => Ok(()),
+            Err(_) => Err(NoMemory),
+        }
+    }
+}
