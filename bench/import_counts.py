@@ -62,6 +62,8 @@ def log_counts(lines, files):
             counts["other"] += 1
             if "CLONE_THREAD" in text:
                 threads.add(gave.split()[0])
+        elif call == "madvise" and re.search(r"MADV_(DONTNEED(_LOCKED)?|FREE|REMOVE)\b", text) and not gave.startswith("-1"):
+            counts["drops"] += 1
         elif call not in ("mmap", "munmap", "mprotect", "brk", "mremap"):
             counts["other"] += 1
         elif gave.startswith("-1"):
@@ -147,7 +149,7 @@ def told(counts, keys):
 
 def tell_log(name, counts, replies):
     print("%s log: %s" % (name, told(counts, "kept heap moves files half failed elsewhere")))
-    print("%s log: %s" % (name, told(counts, "before unread still other")))
+    print("%s log: %s" % (name, told(counts, "before unread still drops other")))
     print("%s replies: %s" % (name, told(replies, "addresses done bytes refused")))
 
 

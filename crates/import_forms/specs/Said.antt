@@ -13,12 +13,30 @@ use Rattle.import_forms.specs.Stamps.{front_thread}
 use Rattle.import_forms.specs.Tokens.{Token, at_end, begins_by, front_count, front_token, from_token, occurs, only_count, split_at_last}
 use Rattle.import_forms.specs.declared.said.Call.{Call}
 use Rattle.import_forms.specs.declared.said.Call.TheVariants as Of
+use Rattle.import_forms.specs.declared.said.Lost.{Lost}
+use Rattle.import_forms.specs.declared.said.Lost.TheVariants as Lose
 use Rattle.import_forms.specs.declared.said.Outcome.{Outcome}
 use Rattle.import_forms.specs.declared.said.Outcome.TheVariants.{Gives, Fails, Unclear}
 use Rattle.import_forms.specs.declared.said.Said.{Said}
 use Rattle.import_forms.specs.declared.said.Said.TheVariants as Says
 
--- the calls that change what is mapped
+-- ---- the calls that change what is mapped, each by its name
+
+-- those whose every success no trace has
+abbrev pub lost_named : Token → Option Lost
+lost_named name = if bytes_eq name (codes "remap_file_pages") then Some Lose.Remaps
+    else if bytes_eq name (codes "userfaultfd") then Some Lose.Faults
+    else None
+
+-- those that a trace has otherwise, or some of whose successes it hasn't
+abbrev pub memory_named : Token → Option Call
+memory_named name = if bytes_eq name (codes "pkey_mprotect") then Some Of.Keyed
+    else if bytes_eq name (codes "madvise") || bytes_eq name (codes "process_madvise") then Some Of.Advise
+    else if bytes_eq name (codes "shmget") then Some Of.Size
+    else if bytes_eq name (codes "shmat") then Some Of.Attach
+    else if bytes_eq name (codes "shmdt") then Some Of.Detach
+    else option_map Of.Lost (lost_named name)
+
 abbrev pub call_named : Token → Option Call
 call_named name = if bytes_eq name (codes "mmap") then Some Of.Mmap
     else if bytes_eq name (codes "munmap") then Some Of.Munmap
@@ -28,7 +46,7 @@ call_named name = if bytes_eq name (codes "mmap") then Some Of.Mmap
     else if bytes_eq name (codes "clone") || bytes_eq name (codes "clone3") then Some Of.Make
     else if bytes_eq name (codes "fork") || bytes_eq name (codes "vfork") then Some Of.Make
     else if bytes_eq name (codes "execve") || bytes_eq name (codes "execveat") then Some Of.Begin
-    else None
+    else memory_named name
 
 -- the number of a thread with its name, which is all that stands here
 unfoldable pub only_thread : List ℕ → Option ℕ
@@ -150,6 +168,72 @@ mmap_said before addr = do
   flags ← front_token (past_comment prot.1)
   if is_plain flags.0 then Some (Mmap addr len.0 (prot_named prot.0) (flags_named flags.0) 0 off) else None
 
+-- the flags of `HINT, LEN, PROT, FLAGS, ..`
+unfoldable pub flags_of_mmap : List ℕ → Option Token
+flags_of_mmap before = do
+  hint ← front_token before
+  len ← front_token hint.1
+  prot ← front_token len.1
+  flags ← front_token (past_comment prot.1)
+  Some flags.0
+
+-- a mapping with these flags that isn't read: of pages of another size, or one that grows by itself
+abbrev pub lost_by : Option Token → Said
+lost_by None = Says.Unread
+lost_by (Some flags) = if has_flag (codes "MAP_HUGETLB") 262144 flags then Says.Loses Lose.Huge
+    else if has_flag (codes "MAP_GROWSDOWN") 256 flags then Says.Loses Lose.Grows
+    else Says.Unread
+
+-- a mapping that is read, or none
+abbrev pub mapping_said : List ℕ → Option Request → Said
+mapping_said before (Some request) = Says.Asks request
+mapping_said before None = lost_by (flags_of_mmap before)
+
+abbrev pub drops_in : Token → Option ℕ → Bool
+drops_in token (Some number) = (number == 4) || (number == 8) || (number == 9) || (number == 24)
+drops_in token None = begins_by (codes "MADV_DONTNEED") token || bytes_eq token (codes "MADV_FREE") || bytes_eq token (codes "MADV_REMOVE")
+
+-- advice that drops the bytes of pages: MADV_DONTNEED is 4, MADV_FREE 8, MADV_REMOVE 9, and MADV_DONTNEED_LOCKED 24
+abbrev pub drops : Token → Bool
+drops token = drops_in token (number_of token)
+
+-- `ADDR, LEN, ADVICE`
+unfoldable pub advice_said : List ℕ → Option Said
+advice_said before = do
+  addr ← front_count before
+  len ← front_count addr.1
+  advice ← front_token len.1
+  if drops advice.0 then Some (Says.Loses Lose.Drops) else Some Says.Other
+
+-- `KEY, LEN, FLAGS`: shared memory of this number; of a length of 0 its size was said before
+unfoldable pub size_said : List ℕ → ℕ → Option Said
+size_said before number = do
+  key ← front_token before
+  len ← front_count key.1
+  if len.0 == 0 then Some Says.Other else Some (Says.Sizes number len.0)
+
+-- shared memory may be read, and written but with SHM_RDONLY, and executed with SHM_EXEC
+abbrev pub prot_attached : Token → Prot
+prot_attached flags = record {
+  read = true;
+  write = not (has_flag (codes "SHM_RDONLY") 4096 flags);
+  exec = has_flag (codes "SHM_EXEC") 32768 flags;
+}
+
+-- `NUMBER, HINT, FLAGS`: shared memory at the address that the kernel gave
+unfoldable pub attach_said : List ℕ → ℕ → Option Said
+attach_said before addr = do
+  number ← front_count before
+  hint ← front_token number.1
+  flags ← front_token hint.1
+  Some (Says.Attaches number.0 addr (prot_attached flags.0))
+
+-- `ADDR`
+unfoldable pub detach_said : List ℕ → Option Said
+detach_said before = do
+  addr ← only_count before
+  Some (Says.Detaches addr)
+
 -- `ADDR, LEN`
 unfoldable pub munmap_said : List ℕ → ℕ → Option Request
 munmap_said before gave = do
@@ -180,15 +264,26 @@ abbrev pub asked : Option Request → Said
 asked (Some request) = Says.Asks request
 asked None = Says.Unread
 
+-- rights with a key, or a line that cannot be read
+abbrev pub keyed : Option Request → Said
+keyed (Some request) = Says.Keyed request
+keyed None = Says.Unread
+
 -- what a call says that gave this number, from what stands before the sign of equality
 abbrev pub done_said : Call → List ℕ → ℕ → Said
-done_said Of.Mmap before gave = asked (mmap_said before gave)
+done_said Of.Mmap before gave = mapping_said before (mmap_said before gave)
 done_said Of.Munmap before gave = asked (munmap_said before gave)
 done_said Of.Mprotect before gave = asked (mprotect_said before gave)
 done_said Of.Brk before gave = Says.Breaks gave
 done_said Of.Mremap before gave = unwrap_or (mremap_said before gave) Says.Unread
 done_said Of.Make before gave = Says.Makes gave (shares before)
 done_said Of.Begin before gave = Says.Begins
+done_said Of.Keyed before gave = keyed (mprotect_said before gave)
+done_said Of.Advise before gave = unwrap_or (advice_said before) Says.Unread
+done_said Of.Size before gave = unwrap_or (size_said before gave) Says.Unread
+done_said Of.Attach before gave = unwrap_or (attach_said before gave) Says.Unread
+done_said Of.Detach before gave = unwrap_or (detach_said before) Says.Unread
+done_said (Of.Lost lost) before gave = Says.Loses lost
 
 -- what a call says that came to this: a request only where it succeeded
 abbrev pub ended_said : Call → List ℕ → Outcome → Said

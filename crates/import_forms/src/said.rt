@@ -3,7 +3,8 @@ ghost use Rattle.std.specs.Prelude.{◌≡◌, ◌≤◌, ◌<◌, codes, drop, 
 ghost use Rattle.import_forms.specs.Tokens.{begins_by, occurs, split_at_last};
 ghost use Rattle.import_forms.specs.Said.{asked, behind, before_bar, call_named, comment_end, done_said, file_named, file_said, flags_named, from_sign};
 ghost use Rattle.import_forms.specs.Said.{has_flag, is_for_growing, outcome_else, has_kind, is_plain, is_private, known_said, mmap_said, mprotect_said, mremap_said, munmap_said};
-ghost use Rattle.import_forms.specs.Said.{only_thread, outcome_of, outcome_said, past_comment, past_flags, prot_named, said_of, shares, thread_bit};
+ghost use Rattle.import_forms.specs.Said.{advice_said, attach_said, detach_said, drops, flags_of_mmap, keyed, lost_by, lost_named, mapping_said, memory_named, size_said};
+ghost use Rattle.import_forms.specs.Said.{only_thread, outcome_of, outcome_said, past_comment, past_flags, prot_attached, prot_named, said_of, shares, thread_bit};
 
 use crate::stamps::front_thread;
 use crate::tokens::{begins, has, next_count, next_token, read_only, split_last, without_gaps};
@@ -22,9 +23,38 @@ enum Call {
     Make,
     // `execve` and `execveat`.
     Begin,
+    // `pkey_mprotect`.
+    Keyed,
+    // `madvise` and `process_madvise`.
+    Advise,
+    // `shmget`, `shmat` and `shmdt`.
+    Size,
+    Attach,
+    Detach,
+    // A call of which no trace has anything.
+    Lost(Lost),
 }
 
-// What stands behind the sign of equality.
+/// What changes an address space in a way that no trace has.
+#[derive(Clone, Copy, Debug, PartialEq, Eq)]
+pub enum Lost {
+    /// `shmat`: shared memory of a size that the log doesn't say is attached.
+    Attach,
+    /// `shmdt`: such memory is detached.
+    Detach,
+    /// `madvise` with `MADV_DONTNEED`, `MADV_FREE` or `MADV_REMOVE`: bytes of pages are dropped.
+    Drops,
+    /// `remap_file_pages`: a mapping's pages are another part of its file.
+    Remaps,
+    /// `mmap` with `MAP_GROWSDOWN`: the mapping grows by itself.
+    Grows,
+    /// `mmap` with `MAP_HUGETLB`: the pages are of another size.
+    Huge,
+    /// `userfaultfd`: the program answers faults of pages itself.
+    Faults,
+}
+
+// What stands after the sign of equality.
 #[derive(Clone, Copy, Debug, PartialEq, Eq)]
 enum Outcome {
     Gives(u64),
@@ -60,6 +90,28 @@ pub enum Said {
     },
     /// `execve`: a program begins, with a new address space.
     Begins,
+    /// `pkey_mprotect`, as `mprotect`.
+    Keyed(Request),
+    /// `shmget`: the shared memory of this number has so many bytes.
+    Sizes {
+        /// Its number.
+        number: u64,
+        /// How many bytes it has.
+        len: u64,
+    },
+    /// `shmat`: the shared memory of this number is mapped.
+    Attaches {
+        /// Its number.
+        number: u64,
+        /// Where it is mapped.
+        addr: u64,
+        /// The mapping's rights.
+        prot: Prot,
+    },
+    /// `shmdt`: the shared memory that was mapped here is unmapped.
+    Detaches(u64),
+    /// A call that changes the address space in a way that no trace has.
+    Loses(Lost),
     /// One of these calls failed.
     Fails,
     /// One of these calls in a form that isn't read.
@@ -88,6 +140,41 @@ fn call_named(name: &[u8]) -> Option<Call>
         Some(Call::Make)
     } else if name == b"execve".as_slice() || name == b"execveat".as_slice() {
         Some(Call::Begin)
+    } else {
+        memory_named(name)
+    }
+}
+
+// The call of this name, of those that change the space otherwise.
+fn memory_named(name: &[u8]) -> Option<Call>
+    ensures { result ≡ memory_named name.now }
+{
+    if name == b"pkey_mprotect".as_slice() {
+        Some(Call::Keyed)
+    } else if name == b"madvise".as_slice() || name == b"process_madvise".as_slice() {
+        Some(Call::Advise)
+    } else if name == b"shmget".as_slice() {
+        Some(Call::Size)
+    } else if name == b"shmat".as_slice() {
+        Some(Call::Attach)
+    } else if name == b"shmdt".as_slice() {
+        Some(Call::Detach)
+    } else {
+        match lost_named(name) {
+            Some(lost) => Some(Call::Lost(lost)),
+            None => None,
+        }
+    }
+}
+
+// What the call of this name changes whenever it succeeds, and no trace has.
+fn lost_named(name: &[u8]) -> Option<Lost>
+    ensures { result ≡ lost_named name.now }
+{
+    if name == b"remap_file_pages".as_slice() {
+        Some(Lost::Remaps)
+    } else if name == b"userfaultfd".as_slice() {
+        Some(Lost::Faults)
     } else {
         None
     }
@@ -211,7 +298,7 @@ fn flags_named(token: &[u8]) -> Flags
     }
 }
 
-// What stands behind the first such name.
+// What stands after the first such name.
 fn behind<'a>(bytes: &'a [u8], name: &[u8]) -> Option<&'a [u8]>
     ensures { option_map (λ f. f.now) result ≡ behind name.now bytes.now }
 {
@@ -237,7 +324,7 @@ fn before_bar(token: &[u8]) -> &[u8]
     }
 }
 
-// Whether the number behind `flags=`, if one is there, has the bit of `CLONE_THREAD`.
+// Whether the number after `flags=`, if one is there, has the bit of `CLONE_THREAD`.
 #[tactic(auto, unfolding(crate::specs::Said::thread_bit))]
 fn thread_bit(before: &[u8]) -> Option<bool>
     ensures { result ≡ thread_bit before.now }
@@ -307,7 +394,7 @@ fn is_plain(token: &[u8], flags: Flags) -> bool
     has_kind(flags)
 }
 
-// What stands behind a comment, `/* NAMES */`, if one stands first.
+// What stands after a comment, `/* NAMES */`, if one stands first.
 #[tactic(auto, unfolding(crate::specs::Said::comment_end))]
 fn comment_end(bytes: &[u8]) -> Option<&[u8]>
     ensures { option_map (λ f. f.now) result ≡ comment_end bytes.now }
@@ -365,6 +452,121 @@ fn read_mmap(before: &[u8], addr: u64) -> Option<Request>
         file: 0,
         off,
     })
+}
+
+// The flags of `HINT, LEN, PROT, FLAGS, ..`.
+#[tactic(auto, unfolding(crate::specs::Said::flags_of_mmap))]
+fn flags_of_mmap(before: &[u8]) -> Option<&[u8]>
+    ensures { option_map (λ f. f.now) result ≡ flags_of_mmap before.now }
+{
+    let (_, rest) = next_token(before)?;
+    let (_, rest) = next_token(rest)?;
+    let (_, rest) = next_token(rest)?;
+    let (flags, _) = next_token(past_comment(rest))?;
+    Some(flags)
+}
+
+// What a mapping with these flags is that isn't read.
+fn lost_by(flags: &[u8]) -> Said
+    ensures { result ≡ lost_by (Some flags.now) }
+{
+    if is_huge(flags) {
+        return Said::Loses(Lost::Huge);
+    }
+    if is_growing(flags) {
+        return Said::Loses(Lost::Grows);
+    }
+    Said::Unread
+}
+
+// What an `mmap` says that gave this address.
+fn read_mapping(before: &[u8], addr: u64) -> Said
+    ensures { result ≡ mapping_said before.now (mmap_said before.now addr) }
+{
+    match read_mmap(before, addr) {
+        Some(request) => Said::Asks(request),
+        None => match flags_of_mmap(before) {
+            Some(flags) => lost_by(flags),
+            None => Said::Unread,
+        },
+    }
+}
+
+// Tells whether this advice drops the bytes of pages.
+fn drops(token: &[u8]) -> bool
+    ensures { result ≡ drops token.now }
+{
+    match read_number(token) {
+        Some(number) => number == 4 || number == 8 || number == 9 || number == 24,
+        None => {
+            begins(token, b"MADV_DONTNEED".as_slice())
+                || token == b"MADV_FREE".as_slice()
+                || token == b"MADV_REMOVE".as_slice()
+        }
+    }
+}
+
+// `ADDR, LEN, ADVICE`: what the advice changes.
+#[tactic(auto, unfolding(crate::specs::Said::advice_said))]
+fn read_advice(before: &[u8]) -> Option<Said>
+    ensures { result ≡ advice_said before.now }
+{
+    let (_, rest) = next_count(before)?;
+    let (_, rest) = next_count(rest)?;
+    let (advice, _) = next_token(rest)?;
+    if drops(advice) {
+        Some(Said::Loses(Lost::Drops))
+    } else {
+        Some(Said::Other)
+    }
+}
+
+// `KEY, LEN, FLAGS`, which gave the number of shared memory; of a length of 0 it has one already.
+#[tactic(auto, unfolding(crate::specs::Said::size_said))]
+fn read_size(before: &[u8], number: u64) -> Option<Said>
+    ensures { result ≡ size_said before.now number }
+{
+    let (_, rest) = next_token(before)?;
+    let (len, _) = next_count(rest)?;
+    if len == 0 {
+        return Some(Said::Other);
+    }
+    Some(Said::Sizes { number, len })
+}
+
+// The rights of shared memory that is attached with these flags.
+fn prot_attached(flags: &[u8]) -> Prot
+    ensures { result ≡ prot_attached flags.now }
+{
+    Prot {
+        read: true,
+        write: !has_flag(flags, b"SHM_RDONLY".as_slice(), 4096),
+        exec: has_flag(flags, b"SHM_EXEC".as_slice(), 32768),
+    }
+}
+
+// `NUMBER, HINT, FLAGS`, attached at this address.
+#[tactic(auto, unfolding(crate::specs::Said::attach_said))]
+fn read_attach(before: &[u8], addr: u64) -> Option<Said>
+    ensures { result ≡ attach_said before.now addr }
+{
+    let (number, rest) = next_count(before)?;
+    let (_, rest) = next_token(rest)?;
+    let (flags, _) = next_token(rest)?;
+    Some(Said::Attaches {
+        number,
+        addr,
+        prot: prot_attached(flags),
+    })
+}
+
+// `ADDR`, which gave 0.
+#[tactic(auto, unfolding(crate::specs::Said::detach_said))]
+fn read_detach(before: &[u8]) -> Option<Said>
+    ensures { result ≡ detach_said before.now }
+{
+    let addr = read_only(before)?;
+    Some(Said::Detaches(addr))
 }
 
 // `ADDR, LEN`, which gave 0.
@@ -436,12 +638,22 @@ pub fn asked(request: Option<Request>) -> Said
     }
 }
 
+// Rights with a key, where they were read.
+fn keyed(request: Option<Request>) -> Said
+    ensures { result ≡ keyed request }
+{
+    match request {
+        Some(request) => Said::Keyed(request),
+        None => Said::Unread,
+    }
+}
+
 // What is said by a call that gave this number, from what stands before it.
 fn read_done(call: Call, before: &[u8], gave: u64) -> Said
     ensures { result ≡ done_said call before.now gave }
 {
     match call {
-        Call::Mmap => asked(read_mmap(before, gave)),
+        Call::Mmap => read_mapping(before, gave),
         Call::Munmap => asked(read_munmap(before, gave)),
         Call::Mprotect => asked(read_mprotect(before, gave)),
         Call::Brk => Said::Breaks(gave),
@@ -454,6 +666,24 @@ fn read_done(call: Call, before: &[u8], gave: u64) -> Said
             shares: is_thread(before),
         },
         Call::Begin => Said::Begins,
+        Call::Keyed => keyed(read_mprotect(before, gave)),
+        Call::Advise => match read_advice(before) {
+            Some(said) => said,
+            None => Said::Unread,
+        },
+        Call::Size => match read_size(before, gave) {
+            Some(said) => said,
+            None => Said::Unread,
+        },
+        Call::Attach => match read_attach(before, gave) {
+            Some(said) => said,
+            None => Said::Unread,
+        },
+        Call::Detach => match read_detach(before) {
+            Some(said) => said,
+            None => Said::Unread,
+        },
+        Call::Lost(lost) => Said::Loses(lost),
     }
 }
 
@@ -506,7 +736,7 @@ fn from_sign(bytes: &[u8]) -> &[u8]
     bytes
 }
 
-// What stands behind rights and flags, each with its comment.
+// What stands after rights and flags, each with its comment.
 #[tactic(auto, unfolding(crate::specs::Said::past_flags))]
 fn past_flags(bytes: &[u8]) -> Option<&[u8]>
     ensures { option_map (λ f. f.now) result ≡ past_flags bytes.now }

@@ -17,7 +17,7 @@ pub struct Speech<'a> {
     pub text: &'a [u8],
 }
 
-// The thread that the line names, `PID` or `[pid PID]`, and what stands behind it. Another number in brackets is a call's, or an address.
+// The thread that the line names, `PID` or `[pid PID]`, and what stands after it. Another number in brackets is a call's, or an address.
 #[tactic(auto, unfolding(crate::specs::Speech::numbered))]
 fn numbered(line: &[u8]) -> Option<(u64, &[u8])>
     ensures { option_map (λ f. (f.0, f.1.now)) result ≡ numbered line.now }
@@ -74,7 +74,7 @@ pub fn begun(text: &[u8]) -> Option<&[u8]>
     }
 }
 
-/// The name of a call that returns, `<... NAME resumed>`, and what stands behind that.
+/// The name of a call that returns, `<... NAME resumed>`, and what stands after that.
 #[tactic(auto, unfolding(crate::specs::Speech::returned_of))]
 pub fn returned(text: &[u8]) -> Option<(&[u8], &[u8])>
     ensures { option_map (λ f. (f.0.now, f.1.now)) result ≡ returned_of text.now }

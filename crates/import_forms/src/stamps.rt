@@ -1,4 +1,4 @@
-//! What strace writes before a call and behind it: a thread, times, the call's number, an address, and how long it took.
+//! What strace writes before a call and after it: a thread, times, the call's number, an address, and how long it took.
 ghost use Rattle.std.specs.Prelude.{◌≡◌, ◌≤◌, ◌<◌, drop, length, option_map, take};
 ghost use Rattle.import_forms.specs.Stamps.{are_marks, call_text, front_figures, front_thread, is_figure, is_mark, is_stamp, is_time};
 ghost use Rattle.import_forms.specs.Stamps.{past_figures, past_name, past_sign, past_stamp, past_stamps, without_time};
@@ -29,7 +29,7 @@ fn figure_count(bytes: &[u8]) -> usize
     count
 }
 
-// What stands behind the first `>`, where there is one.
+// What stands after the first `>`, where there is one.
 fn past_sign(bytes: &[u8]) -> Option<&[u8]>
     ensures { option_map (λ f. f.now) result ≡ past_sign bytes.now }
 {
@@ -44,7 +44,7 @@ fn past_sign(bytes: &[u8]) -> Option<&[u8]>
     None
 }
 
-// What stands behind a number that ends here: behind a name, `<NAME>`, or at a gap.
+// What stands after a number that ends here: after a name, `<NAME>`, or at a gap.
 fn past_name(bytes: &[u8]) -> Option<&[u8]>
     ensures { option_map (λ f. f.now) result ≡ past_name bytes.now }
 {
@@ -60,7 +60,7 @@ fn past_name(bytes: &[u8]) -> Option<&[u8]>
     None
 }
 
-/// The number of the thread that stands first, `NUMBER` or `NUMBER<NAME>`, and what stands behind it.
+/// The number of the thread that stands first, `NUMBER` or `NUMBER<NAME>`, and what stands after it.
 #[tactic(auto, unfolding(crate::specs::Stamps::front_thread))]
 pub fn front_thread(bytes: &[u8]) -> Option<(u64, &[u8])>
     ensures { option_map (λ f. (f.0, f.1.now)) result ≡ front_thread bytes.now }
@@ -103,7 +103,7 @@ fn is_stamp(token: &[u8]) -> bool
     are_marks(token) || token == b"+".as_slice()
 }
 
-// What stands behind the first token, where that stands before a call.
+// What stands after the first token, where that stands before a call.
 #[tactic(auto, unfolding(crate::specs::Stamps::past_stamp))]
 fn past_stamp(bytes: &[u8]) -> Option<&[u8]>
     ensures { option_map (λ f. f.now) result ≡ past_stamp bytes.now }
@@ -112,7 +112,7 @@ fn past_stamp(bytes: &[u8]) -> Option<&[u8]>
     if is_stamp(token) { Some(rest) } else { None }
 }
 
-// What stands behind all tokens, five at most, that stand before a call.
+// What stands after all tokens, five at most, that stand before a call.
 fn past_stamps(bytes: &[u8]) -> &[u8]
     ensures { result.now ≡ past_stamps 5 bytes.now }
 {
@@ -152,7 +152,7 @@ fn without_time(text: &[u8]) -> &[u8]
     }
 }
 
-/// The text of a call, without what strace writes before it and behind it.
+/// The text of a call, without what strace writes before it and after it.
 pub fn call_text(bytes: &[u8]) -> &[u8]
     ensures { result.now ≡ call_text bytes.now }
 {

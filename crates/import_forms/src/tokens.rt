@@ -100,7 +100,7 @@ pub fn read_hexadecimal(digits: &[u8]) -> Option<u64>
     Some(number)
 }
 
-/// What stands before the last of these bytes, and behind it.
+/// What stands before the last of these bytes, and after it.
 pub fn split_last(bytes: &[u8], mark: u8) -> Option<(&[u8], &[u8])>
     ensures { option_map (λ f. (f.0.now, f.1.now)) result ≡ split_at_last mark bytes.now }
 {

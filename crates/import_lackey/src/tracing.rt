@@ -199,6 +199,11 @@ fn placed(heap_end: Option<u64>, said: Said) -> Option<Mapped>
         Said::Asks(_)
         | Said::Makes { .. }
         | Said::Begins
+        | Said::Keyed(_)
+        | Said::Sizes { .. }
+        | Said::Attaches { .. }
+        | Said::Detaches(_)
+        | Said::Loses(_)
         | Said::Fails
         | Said::Unread
         | Said::Other => None,
@@ -260,6 +265,11 @@ fn take_said(alloc: Global, taken: &mut Taken, said: Said) -> Result<Fate, Alloc
         | Said::Breaks(_)
         | Said::Moves { .. }
         | Said::Makes { .. }
+        | Said::Keyed(_)
+        | Said::Sizes { .. }
+        | Said::Attaches { .. }
+        | Said::Detaches(_)
+        | Said::Loses(_)
         | Said::Fails
         | Said::Unread
         | Said::Other => {

@@ -5,7 +5,9 @@ use Rattle.trace_io.specs.Lines.{lines_of}
 use Rattle.vm_base.specs.declared.requests.Flags.{Flags}
 use Rattle.vm_base.specs.declared.requests.Request.{Request}
 use Rattle.vm_base.specs.declared.requests.Request.TheVariants.{Mmap}
-use Rattle.import_text.specs.Taking.{SoFar, file_place, files_with, nothing_taken, reaches}
+use Rattle.import_text.specs.Taking.{SoFar, file_place, files_with, last_name, no_name, nothing_taken, reaches}
+use Rattle.import_text.specs.Taking.{with_files, with_heap_end, with_name, with_names}
+use Rattle.import_text.specs.declared.names.Name.{Name}
 use Rattle.import_maps.specs.Entries.{counted, no_entries}
 use Rattle.import_maps.specs.Listed.{Entry, entry_said, kind_named}
 use Rattle.import_maps.specs.declared.entries.Entries.{Entries}
@@ -14,13 +16,16 @@ use Rattle.import_maps.specs.declared.entries.Entered.TheVariants as Is
 use Rattle.import_maps.specs.declared.listed.Kind.{Kind}
 use Rattle.import_maps.specs.declared.listed.Kind.TheVariants.{Kernel, Anonymous, File}
 
--- core 0's request
-abbrev pub with_request : SoFar → Request → SoFar
-with_request s request = record {
+-- core 0's request, of pages whose file's name stands here
+abbrev pub with_request : SoFar → Name → Request → SoFar
+with_request s name request = record {
   threads = s.threads;
   files = s.files;
   heap_end = s.heap_end;
-  steps = s.steps ++ record { core = 0; request = request } ∷ [];
+  pieces = s.pieces;
+  attached = s.attached;
+  names = s.names;
+  steps = s.steps ++ record { core = 0; name = name; request = request } ∷ [];
 }
 
 -- a line's mapping as a fixed one
@@ -28,28 +33,33 @@ abbrev pub flags_of : Bool → Bool → Flags
 flags_of shared anon = record { private = not shared; shared = shared; fixed = true; anon = anon }
 
 -- where the entry is the heap, it ends there
-abbrev pub heap_with : Option ℕ → Entry → Option ℕ
-heap_with end e = if bytes_eq e.name (codes "[heap]") then Some e.end else end
+abbrev pub heap_with : SoFar → Entry → SoFar
+heap_with s e = if bytes_eq e.name (codes "[heap]") then with_heap_end s e.end else s
 
 -- a mapping of no file
 abbrev pub without_file : SoFar → Entry → SoFar
-without_file s e = with_request (record { threads = s.threads; files = s.files; heap_end = heap_with s.heap_end e; steps = s.steps })
+without_file s e = with_request (heap_with s e) no_name
     (Mmap e.start (e.end - e.start) e.prot (flags_of e.shared true) 0 0)
 
 -- a file's name as strace shows it beside a descriptor
 abbrev pub shown_name : List ℕ → List ℕ
 shown_name name = codes "<" ++ name ++ codes ">"
 
+-- a mapping of no file, in place of the file of this name
+abbrev pub in_place_of_file : SoFar → Entry → List ℕ → SoFar
+in_place_of_file s e name =
+    let names = with_name s.names name in
+    with_request (with_names s names) (last_name names name) (Mmap e.start (e.end - e.start) e.prot (flags_of e.shared true) 0 e.off)
+
 -- a mapping of the file with this number, or of no file where it has none
 abbrev pub with_file : SoFar → Entry → Option ℕ → SoFar × Entered
-with_file s e (Some file) = (with_request s (Mmap e.start (e.end - e.start) e.prot (flags_of e.shared false) file e.off), Is.Kept)
-with_file s e None = (without_file s e, Is.Changed)
+with_file s e (Some file) = (with_request s no_name (Mmap e.start (e.end - e.start) e.prot (flags_of e.shared false) file e.off), Is.Kept)
+with_file s e None = (in_place_of_file s e (shown_name e.name), Is.Changed)
 
 -- a file is mapped if its pages lie within what a file may have, and else anonymous pages in its place
 abbrev pub file_listed : SoFar → Entry → SoFar × Entered
 file_listed s e = if reaches e.off (e.end - e.start)
-    then with_file
-    (record { threads = s.threads; files = files_with s.files (shown_name e.name) (e.off + (e.end - e.start)); heap_end = s.heap_end; steps = s.steps })
+    then with_file (with_files s (files_with s.files (shown_name e.name) (e.off + (e.end - e.start))))
     e (file_place s.files (shown_name e.name))
     else with_file s e None
 

@@ -44,7 +44,7 @@ fn read_rights(token: &[u8]) -> Prot
     }
 }
 
-// The bytes behind the first spaces.
+// The bytes after the first spaces.
 fn without_spaces(bytes: &[u8]) -> &[u8]
     ensures { result.now ≡ from_name bytes.now }
 {

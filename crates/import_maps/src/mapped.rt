@@ -17,12 +17,12 @@ use trace_io::IoFault;
 use trace_io::sink::Sink;
 use trace_io::source::{Source, read_all};
 
-/// What is told of an import.
+/// What is said about an import.
 #[derive(Debug, Drop)]
 pub struct Told {
     /// How many lines of the list became what.
     pub entries: Entries,
-    /// What is told of the log.
+    /// What is said about the log.
     pub report: Report,
 }
 
@@ -73,7 +73,7 @@ fn import_behind<S: Source, W: Sink>(
 }
 
 /// Reads a list of mappings and then a log of strace, both to their ends, and writes their trace: what the list says, and what
-/// the chosen process asked of its address space. Answers what is told of both. Nothing is written before all is read and found
+/// the chosen process asked of its address space. Answers what is said about both. Nothing is written before all is read and found
 /// its memory; and nothing at all where no request would be in the trace, or no line is about the thread that was named.
 pub fn import_mapped<L: Source, S: Source, W: Sink>(
     alloc: Global,

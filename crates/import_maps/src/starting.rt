@@ -4,11 +4,12 @@ ghost use Rattle.trace_io.specs.Lines.{lines_of};
 ghost use Rattle.import_text.specs.Taking.{so_far};
 ghost use Rattle.import_maps.specs.Entries.{total};
 ghost use Rattle.import_maps.specs.Listed.{entry_of, entry_said};
-ghost use Rattle.import_maps.specs.Starting.{entry_listed, file_listed, flags_of, heap_with, is_inside, line_listed};
+ghost use Rattle.import_maps.specs.Starting.{entry_listed, file_listed, flags_of, heap_with, in_place_of_file, is_inside, line_listed};
 ghost use Rattle.import_maps.specs.Starting.{shown_name, start_of, with_request, without_file};
 
 use crate::entries::{Entered, Entries};
 use crate::listed::{Kind, Listed, kind_of, read_listed};
+use import_text::names::{NO_NAME, Name, note_name};
 use import_text::taking::{ADDRESS_END, Step, Taken, reaches, use_file};
 use std::alloc::{AllocError, Global};
 use trace_io::lines::front_line;
@@ -26,12 +27,16 @@ pub struct Start {
     pub entries: Entries,
 }
 
-// Adds a request of core 0.
-fn place(taken: &mut Taken, request: Request) -> Result<(), AllocError>
-    ensures { OnOk result (so_far taken.new ≡ with_request (so_far taken.old) request) }
+// Adds a request of core 0, of pages whose file's name stands here.
+fn place(taken: &mut Taken, name: Name, request: Request) -> Result<(), AllocError>
+    ensures { OnOk result (so_far taken.new ≡ with_request (so_far taken.old) name request) }
 {
     let core = CoreId::new(0);
-    taken.steps.push(Step { core, request })?;
+    taken.steps.push(Step {
+        core,
+        name,
+        request,
+    })?;
     Ok(())
 }
 
@@ -47,14 +52,12 @@ fn flags(shared: bool, anon: bool) -> Flags
     }
 }
 
-// Where the heap ends.
-fn heap_end(end: Option<u64>, listed: &Listed<'_>) -> Option<u64>
-    ensures { result ≡ heap_with end (entry_of listed.now) }
+// Notes where the heap ends, where the line is about it.
+fn note_heap(taken: &mut Taken, listed: &Listed<'_>)
+    ensures { so_far taken.new ≡ heap_with (so_far taken.old) (entry_of listed.now) }
 {
     if listed.name == b"[heap]".as_slice() {
-        Some(listed.end)
-    } else {
-        end
+        taken.heap_end = Some(listed.end);
     }
 }
 
@@ -63,7 +66,7 @@ fn place_anonymous(taken: &mut Taken, listed: &Listed<'_>) -> Result<(), AllocEr
     requires { listed.now.start < listed.now.end }
     ensures { OnOk result (so_far taken.new ≡ without_file (so_far taken.old) (entry_of listed.now)) }
 {
-    taken.heap_end = heap_end(taken.heap_end, listed);
+    note_heap(taken, listed);
     let request = Request::Mmap {
         addr: listed.start,
         len: listed.end - listed.start,
@@ -72,7 +75,7 @@ fn place_anonymous(taken: &mut Taken, listed: &Listed<'_>) -> Result<(), AllocEr
         file: 0,
         off: 0,
     };
-    place(taken, request)
+    place(taken, NO_NAME, request)
 }
 
 // A file's name as strace shows it beside a descriptor.
@@ -86,14 +89,32 @@ fn shown(alloc: Global, name: &[u8]) -> Result<Vec<u8>, AllocError>
     Ok(shown)
 }
 
+// Adds a mapping of no file in place of one of the file of this name.
+fn place_unkept(taken: &mut Taken, listed: &Listed<'_>, name: &[u8]) -> Result<(), AllocError>
+    requires { listed.now.start < listed.now.end }
+    ensures { OnOk result (so_far taken.new ≡ in_place_of_file (so_far taken.old) (entry_of listed.now) name.now) }
+{
+    let name = note_name(&mut taken.names, name)?;
+    let len = listed.end - listed.start;
+    let request = Request::Mmap {
+        addr: listed.start,
+        len,
+        prot: listed.prot,
+        flags: flags(listed.shared, true),
+        file: 0,
+        off: listed.off,
+    };
+    place(taken, name, request)
+}
+
 // Adds a mapping of a file, or of no file where the trace hasn't it.
 fn place_file(alloc: Global, taken: &mut Taken, listed: &Listed<'_>) -> Result<Entered, AllocError>
     requires { listed.now.start < listed.now.end }
     ensures { IfOk result (λ e. (so_far taken.new, e) ≡ file_listed (so_far taken.old) (entry_of listed.now)) }
 {
     let len = listed.end - listed.start;
+    let name = shown(alloc, listed.name)?;
     if reaches(listed.off, len) {
-        let name = shown(alloc, listed.name)?;
         if let Some(file) = use_file(alloc, &mut taken.files, name.as_slice(), listed.off + len)? {
             let request = Request::Mmap {
                 addr: listed.start,
@@ -103,11 +124,11 @@ fn place_file(alloc: Global, taken: &mut Taken, listed: &Listed<'_>) -> Result<E
                 file,
                 off: listed.off,
             };
-            place(taken, request)?;
+            place(taken, NO_NAME, request)?;
             return Ok(Entered::Kept);
         }
     }
-    place_anonymous(taken, listed)?;
+    place_unkept(taken, listed, name.as_slice())?;
     Ok(Entered::Changed)
 }
 

@@ -1,5 +1,6 @@
 mod JoinLemmas
 mod MadeLemmas
+mod NameLemmas
 mod ProcessLemmas
 pub mod EndLemmas
 mod TakingLemmas

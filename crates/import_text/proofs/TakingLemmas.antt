@@ -9,7 +9,7 @@ use Rattle.import_text.specs.Counts.{counted}
 use Rattle.import_text.specs.Imported.{imported, counted_with, line_taken}
 use Rattle.import_forms.specs.Speech.{Spoken}
 use Rattle.import_text.specs.Taking.{SoFar, place_named, use_of, widened, files_with}
-use Rattle.import_text.specs.Texts.{use_line, use_lines}
+use Rattle.import_text.specs.Texts.{use_lines, use_text}
 use Rattle.import_text.specs.declared.counts.Counts.{Counts}
 use Rattle.import_text.specs.declared.made.Making.{Making}
 use Rattle.import_text.specs.declared.made.Hold.{Hold}
@@ -61,18 +61,18 @@ uses-append : (n : ℕ) (us vs : List (List ℕ × ℕ)) → use_lines n (us ++ 
 uses-append n [] vs = let e : n + 0 ≡ n = omega arith in rw e refl
 uses-append n (u ∷ us) vs =
     let e : n + 1 + length us ≡ n + length (u ∷ us) = omega arith in
-    ap (λ l. use_line n u.1 ++ l) (uses-append (n + 1) us vs ∙ ap (λ k. use_lines (n + 1) us ++ use_lines k vs) e)
-    ∙ sym (append_assoc (use_line n u.1) (use_lines (n + 1) us) (use_lines (n + length (u ∷ us)) vs))
+    ap (λ l. use_text n u ++ l) (uses-append (n + 1) us vs ∙ ap (λ k. use_lines (n + 1) us ++ use_lines k vs) e)
+    ∙ sym (append_assoc (use_text n u) (use_lines (n + 1) us) (use_lines (n + length (u ∷ us)) vs))
 
 pub uses_push : (init all line : List ℕ) (us : List (List ℕ × ℕ)) (n : ℕ) → n < length us → all ≡ init ++ use_lines 0 (take n us)
-    → line ≡ use_line n (get_or us n ([], 0)).1 → all ++ line ≡ init ++ use_lines 0 (take (n + 1) us)
+    → line ≡ use_text n (get_or us n ([], 0)) → all ++ line ≡ init ++ use_lines 0 (take (n + 1) us)
 uses_push init all line us n p h e =
     let u = get_or us n ([], 0) in
     let size : 0 + length (take n us) ≡ n = omega (arith, length-take-le n us (omega arith)) in
-    let more : use_lines 0 (take (n + 1) us) ≡ use_lines 0 (take n us) ++ use_line n u.1 =
+    let more : use_lines 0 (take (n + 1) us) ≡ use_lines 0 (take n us) ++ use_text n u =
     ap (use_lines 0) (take_more us n ([], 0) p) ∙ uses-append 0 (take n us) (u ∷ [])
     ∙ ap (λ k. use_lines 0 (take n us) ++ use_lines k (u ∷ [])) size
-    ∙ ap (λ l. use_lines 0 (take n us) ++ l) (append-nil (use_line n u.1)) in
+    ∙ ap (λ l. use_lines 0 (take n us) ++ l) (append-nil (use_text n u)) in
     ap (λ l. l ++ line) h ∙ (append_assoc init (use_lines 0 (take n us)) line
     ∙ (ap (λ l. init ++ (use_lines 0 (take n us) ++ l)) e ∙ ap (λ l. init ++ l) (sym more)))
 

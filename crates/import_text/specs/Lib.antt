@@ -1,7 +1,10 @@
 pub mod Joining
 pub mod Made
 pub mod Processes
+pub mod Names
+pub mod Shared
 pub mod Taking
+pub mod Losses
 pub mod Counts
 pub mod Imported
 pub mod Texts

@@ -8,7 +8,7 @@ use Rattle.import_text.specs.declared.processes.Process.{Process}
 use Rattle.import_forms.specs.declared.said.Said.{Said}
 use Rattle.import_forms.specs.declared.said.Said.TheVariants as Says
 
--- mmap, munmap, mprotect, brk and mremap ask for something of the address space
+-- mmap, munmap, mprotect, brk, mremap, shmat and shmdt ask for something of the address space
 abbrev pub asks : Option Said → Bool
 asks None = false
 asks (Some (Says.Asks request)) = true
@@ -16,6 +16,11 @@ asks (Some (Says.Breaks to)) = true
 asks (Some (Says.Moves from old to new)) = true
 asks (Some (Says.Makes thread shares)) = false
 asks (Some Says.Begins) = false
+asks (Some (Says.Keyed request)) = true
+asks (Some (Says.Sizes number len)) = false
+asks (Some (Says.Attaches number addr prot)) = true
+asks (Some (Says.Detaches addr)) = true
+asks (Some (Says.Loses lost)) = false
 asks (Some Says.Fails) = false
 asks (Some Says.Unread) = false
 asks (Some Says.Other) = false

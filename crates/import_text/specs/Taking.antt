@@ -1,18 +1,22 @@
 -- What a call becomes: requests of a trace, a change, or a reason for which it is left out.
 use Rattle.std.specs.Prelude.{ℕ, ◌+◌, ◌-◌, ◌*◌, ◌^◌, ◌/◌, ◌%◌, Bool, true, false, ◌||◌, List, [], ◌∷◌, ◌++◌, Option, None, Some, if◌then◌else◌, ◌==◌}
-use Rattle.std.specs.Prelude.{nat_lt, nat_le, length, map, max, slice_index_or, slice_set}
+use Rattle.std.specs.Prelude.{nat_lt, nat_le, drop, length, map, max, slice_index_or, slice_set}
 use Rattle.std.specs.Str.{bytes_eq}
 use Rattle.vm_base.specs.declared.rights.Prot.{Prot}
 use Rattle.vm_base.specs.declared.requests.Flags.{Flags}
 use Rattle.vm_base.specs.declared.requests.Request.{Request}
 use Rattle.vm_base.specs.declared.requests.Request.TheVariants.{Mmap, Munmap, Mprotect, Load, Store, Fetch}
 use Rattle.import_forms.specs.Said.{file_named}
+use Rattle.import_forms.specs.declared.said.Lost.TheVariants as Lose
 use Rattle.import_forms.specs.declared.said.Said.{Said}
 use Rattle.import_forms.specs.declared.said.Said.TheVariants as Says
+use Rattle.import_text.specs.Shared.{len_of, memory_name}
+use Rattle.import_text.specs.declared.shared.Piece.{Piece}
+use Rattle.import_text.specs.declared.names.Name.{Name}
 use Rattle.import_text.specs.declared.taking.Step.{Step}
 use Rattle.import_text.specs.declared.taking.FileUse.{FileUse}
 use Rattle.import_text.specs.declared.taking.Taken.{Taken}
-use Rattle.import_text.specs.declared.taking.Change.TheVariants.{Heap, Move, File}
+use Rattle.import_text.specs.declared.taking.Change.TheVariants.{Heap, Move, File, Key, Shared}
 use Rattle.import_text.specs.declared.taking.Reason.TheVariants as For
 use Rattle.import_text.specs.declared.taking.Fate.{Fate}
 use Rattle.import_text.specs.declared.taking.Fate.TheVariants.{Kept, Changed, Left}
@@ -22,20 +26,32 @@ abbrev pub use_of : FileUse → List ℕ × ℕ
 use_of f = (f.name.items, f.len)
 
 -- what was taken so far: threads in the order of their first request, files by their numbers, the heap's end once known,
--- and the requests
+-- shared memory by its numbers and where it is mapped, the names of files that became anonymous pages, one behind another, and the
+-- requests
 pub record SoFar : Type 0 where
   pub threads : List ℕ
   pub files : List (List ℕ × ℕ)
   pub heap_end : Option ℕ
+  pub pieces : List Piece
+  pub attached : List Piece
+  pub names : List ℕ
   pub steps : List Step
 
 -- what the code keeps, as a value
 abbrev pub so_far : Taken → SoFar
-so_far t = record { threads = t.threads.items; files = map use_of t.files.items; heap_end = t.heap_end; steps = t.steps.items }
+so_far t = record {
+  threads = t.threads.items;
+  files = map use_of t.files.items;
+  heap_end = t.heap_end;
+  pieces = t.pieces.items;
+  attached = t.attached.items;
+  names = t.names.items;
+  steps = t.steps.items;
+}
 
 -- before the first line
 abbrev pub nothing_taken : SoFar
-nothing_taken = record { threads = []; files = []; heap_end = None; steps = [] }
+nothing_taken = record { threads = []; files = []; heap_end = None; pieces = []; attached = []; names = []; steps = [] }
 
 -- where the thread stands, or would stand behind all
 abbrev pub place_of : ℕ → List ℕ → ℕ
@@ -47,14 +63,49 @@ abbrev pub place_named : List ℕ → List (List ℕ × ℕ) → ℕ
 place_named name [] = 0
 place_named name (f ∷ fs) = if bytes_eq f.0 name then 0 else place_named name fs + 1
 
--- the thread's request, on a core of its own; the 65th thread shares the first one's
-abbrev pub asked_by : SoFar → ℕ → Request → SoFar
-asked_by s thread request = record {
+-- the thread's request, on a core of its own, of pages of a file of this name; the 65th thread shares the first one's
+abbrev pub asked_of : SoFar → ℕ → Name → Request → SoFar
+asked_of s thread name request = record {
   threads = if place_of thread s.threads == length s.threads then s.threads ++ thread ∷ [] else s.threads;
   files = s.files;
   heap_end = s.heap_end;
-  steps = s.steps ++ record { core = place_of thread s.threads % 64; request = request } ∷ [];
+  pieces = s.pieces;
+  attached = s.attached;
+  names = s.names;
+  steps = s.steps ++ record { core = place_of thread s.threads % 64; name = name; request = request } ∷ [];
 }
+
+-- where no name is
+abbrev pub no_name : Name
+no_name = record { from = 0; len = 0 }
+
+abbrev pub asked_by : SoFar → ℕ → Request → SoFar
+asked_by s thread request = asked_of s thread no_name request
+
+-- the names with this one as the last; several mappings of a file often come one after another
+abbrev pub with_name : List ℕ → List ℕ → List ℕ
+with_name names name = if bytes_eq (drop (length names - length name) names) name then names else names ++ name
+
+-- where the last name stands
+abbrev pub last_name : List ℕ → List ℕ → Name
+last_name names name = record { from = length names - length name; len = length name }
+
+abbrev pub with_names : SoFar → List ℕ → SoFar
+with_names s names = record {
+  threads = s.threads;
+  files = s.files;
+  heap_end = s.heap_end;
+  pieces = s.pieces;
+  attached = s.attached;
+  names = names;
+  steps = s.steps;
+}
+
+-- the thread's request of pages whose file has this name
+abbrev pub asked_named : SoFar → ℕ → List ℕ → Request → SoFar
+asked_named s thread name request =
+    let names = with_name s.names name in
+    asked_of (with_names s names) thread (last_name names name) request
 
 -- ---- mappings
 
@@ -83,16 +134,29 @@ abbrev pub anonymous : Flags → Flags
 anonymous flags = record { private = flags.private; shared = flags.shared; fixed = flags.fixed; anon = true }
 
 -- a mapping of the file with this number, or of anonymous pages where it has none
-abbrev pub mapped_from : SoFar → ℕ → ℕ → ℕ → Prot → Flags → ℕ → Option ℕ → SoFar × Fate
-mapped_from s thread addr len prot flags off (Some file) = (asked_by s thread (Mmap addr len prot flags file off), Kept)
-mapped_from s thread addr len prot flags off None = (asked_by s thread (Mmap addr len prot (anonymous flags) 0 0), Changed File)
+abbrev pub mapped_from : SoFar → ℕ → List ℕ → ℕ → ℕ → Prot → Flags → ℕ → Option ℕ → SoFar × Fate
+mapped_from s thread name addr len prot flags off (Some file) = (asked_by s thread (Mmap addr len prot flags file off), Kept)
+mapped_from s thread name addr len prot flags off None =
+    (asked_named s thread name (Mmap addr len prot (anonymous flags) 0 off), Changed File)
+
+-- with these files
+abbrev pub with_files : SoFar → List (List ℕ × ℕ) → SoFar
+with_files s files = record {
+  threads = s.threads;
+  files = files;
+  heap_end = s.heap_end;
+  pieces = s.pieces;
+  attached = s.attached;
+  names = s.names;
+  steps = s.steps;
+}
 
 -- a mapped file is kept within the bytes that a file may have, and else becomes anonymous pages
 abbrev pub after_file : SoFar → ℕ → List ℕ → ℕ → ℕ → Prot → Flags → ℕ → SoFar × Fate
 after_file s thread name addr len prot flags off = if reaches off len
-    then mapped_from (record { threads = s.threads; files = files_with s.files name (off + len); heap_end = s.heap_end; steps = s.steps })
-    thread addr len prot flags off (file_place s.files name)
-    else mapped_from s thread addr len prot flags off None
+    then mapped_from (with_files s (files_with s.files name (off + len)))
+    thread name addr len prot flags off (file_place s.files name)
+    else mapped_from s thread name addr len prot flags off None
 
 -- a mapping is of anonymous pages, or of the file that its line names
 abbrev pub after_mapping : SoFar → ℕ → List ℕ → ℕ → ℕ → Prot → Flags → ℕ → SoFar × Fate
@@ -113,7 +177,15 @@ in_place addr len = Mmap addr len (record { read = true; write = true; exec = fa
 
 -- the heap ends here now
 abbrev pub with_heap_end : SoFar → ℕ → SoFar
-with_heap_end s end = record { threads = s.threads; files = s.files; heap_end = Some end; steps = s.steps }
+with_heap_end s end = record {
+  threads = s.threads;
+  files = s.files;
+  heap_end = Some end;
+  pieces = s.pieces;
+  attached = s.attached;
+  names = s.names;
+  steps = s.steps;
+}
 
 -- the heap ended at one address, in whole pages, and ends at another
 abbrev pub heap_moved : SoFar → ℕ → ℕ → ℕ → SoFar × Fate
@@ -147,7 +219,66 @@ after_move s thread from old to new =
     if nat_lt (2 ^ 47) from || nat_lt (2 ^ 47) old || nat_lt (2 ^ 47) to || nat_lt (2 ^ 47) new then (s, Left For.Unread)
     else moved s thread from (rounded old) to (rounded new)
 
+-- ---- shared memory
+
+-- the piece of this number has so many bytes
+abbrev pub with_piece : SoFar → ℕ → ℕ → SoFar
+with_piece s number len = record {
+  threads = s.threads;
+  files = s.files;
+  heap_end = s.heap_end;
+  pieces = s.pieces ++ record { key = number; len = len } ∷ [];
+  attached = s.attached;
+  names = s.names;
+  steps = s.steps;
+}
+
+-- what is attached here has so many bytes, 0 where that isn't known
+abbrev pub with_attached : SoFar → ℕ → ℕ → SoFar
+with_attached s addr len = record {
+  threads = s.threads;
+  files = s.files;
+  heap_end = s.heap_end;
+  pieces = s.pieces;
+  attached = s.attached ++ record { key = addr; len = len } ∷ [];
+  names = s.names;
+  steps = s.steps;
+}
+
+-- shared memory is mapped where the kernel says
+abbrev pub in_shared : Flags
+in_shared = record { private = false; shared = true; fixed = true; anon = false }
+
+-- a mapping of a file that is kept is a change of what attached memory
+abbrev pub as_shared : Fate → Fate
+as_shared Kept = Changed Shared
+as_shared (Changed change) = Changed change
+as_shared (Left reason) = Left reason
+
+abbrev pub with_fate_of_shared : SoFar × Fate → SoFar × Fate
+with_fate_of_shared after = (after.0, as_shared after.1)
+
+-- shmat is a mapping of a file, where the log says how many bytes the memory has
+abbrev pub attached_with : SoFar → ℕ → ℕ → ℕ → Prot → Option ℕ → SoFar × Fate
+attached_with s thread number addr prot None = (with_attached s addr 0, Left (For.Lost Lose.Attach))
+attached_with s thread number addr prot (Some len) =
+    with_fate_of_shared (after_file (with_attached s addr len) thread (memory_name number) addr len prot in_shared 0)
+
+-- shmdt unmaps such a mapping
+abbrev pub detached_with : SoFar → ℕ → ℕ → Option ℕ → SoFar × Fate
+detached_with s thread addr None = (s, Left (For.Lost Lose.Detach))
+detached_with s thread addr (Some len) = if len == 0 then (s, Left (For.Lost Lose.Detach))
+    else (asked_by s thread (Munmap addr len), Changed Shared)
+
+-- shmget changes nothing, and says how many bytes the memory has
+abbrev pub sized_with : SoFar → ℕ → ℕ → SoFar × Fate
+sized_with s number len = (with_piece s number len, Left For.Other)
+
 -- ---- all calls
+
+-- rights with a key are the same without it
+abbrev pub keyed_with : SoFar → ℕ → Request → SoFar × Fate
+keyed_with s thread request = (asked_by s thread request, Changed Key)
 
 -- what a request of the program becomes in the trace
 abbrev pub after_request : SoFar → ℕ → List ℕ → Request → SoFar × Fate
@@ -165,6 +296,11 @@ after_said start s thread text (Says.Breaks to) = after_break s thread to
 after_said start s thread text (Says.Moves from old to new) = after_move s thread from old to new
 after_said start s thread text (Says.Makes child shares) = (s, Left For.Other)
 after_said start s thread text Says.Begins = (start, Left For.Begins)
+after_said start s thread text (Says.Keyed request) = keyed_with s thread request
+after_said start s thread text (Says.Sizes number len) = sized_with s number len
+after_said start s thread text (Says.Attaches number addr prot) = attached_with s thread number addr prot (len_of number s.pieces)
+after_said start s thread text (Says.Detaches addr) = detached_with s thread addr (len_of addr s.attached)
+after_said start s thread text (Says.Loses lost) = (s, Left (For.Lost lost))
 after_said start s thread text Says.Fails = (s, Left For.Failed)
 after_said start s thread text Says.Unread = (s, Left For.Unread)
 after_said start s thread text Says.Other = (s, Left For.Other)

@@ -1,7 +1,8 @@
 //! How many lines became what.
 ghost use Rattle.std.specs.Prelude.{◌≡◌, ◌+◌, ◌<◌, ◌^◌};
-ghost use Rattle.import_text.specs.Counts.{changed_lines, counted, left_lines, no_counts, total};
+ghost use Rattle.import_text.specs.Counts.{begun_anew, changed_lines, counted, left_lines, no_counts, total};
 
+use crate::losses::Losses;
 use crate::taking::{Change, Fate, Reason};
 
 /// How many lines were kept, changed and left out, and why.
@@ -15,6 +16,10 @@ pub struct Counts {
     pub moves: u64,
     /// Mappings of files, as mappings of anonymous pages.
     pub files: u64,
+    /// `pkey_mprotect`, as `mprotect`.
+    pub keyed: u64,
+    /// `shmat` and `shmdt`, as `mmap` of a shared file and `munmap`.
+    pub shared: u64,
     /// Halves of calls that act in another line.
     pub half: u64,
     /// Calls that failed.
@@ -27,6 +32,8 @@ pub struct Counts {
     pub unread: u64,
     /// `brk` and `mremap` by which no page came or went.
     pub still: u64,
+    /// Calls that change the address space in a way that no trace has.
+    pub lost: Losses,
     /// Other calls, events, and lines that say nothing.
     pub other: u64,
 }
@@ -41,12 +48,15 @@ impl Counts {
             heap: 0,
             moves: 0,
             files: 0,
+            keyed: 0,
+            shared: 0,
             half: 0,
             failed: 0,
             elsewhere: 0,
             before: 0,
             unread: 0,
             still: 0,
+            lost: Losses::new(),
             other: 0,
         }
     }
@@ -56,7 +66,7 @@ impl Counts {
         requires { total self.now < 2 ^ 64 }
         ensures { result ≡ changed_lines self.now }
     {
-        self.heap + self.moves + self.files
+        self.heap + self.moves + self.files + self.keyed + self.shared
     }
 
     /// How many lines were left out.
@@ -70,7 +80,27 @@ impl Counts {
             + self.before
             + self.unread
             + self.still
+            + self.lost.total()
             + self.other
+    }
+
+    // One line more, at which a program begins.
+    fn begin(self) -> Counts
+        requires { total self + 1 < 2 ^ 64 }
+        ensures value { result ≡ begun_anew self }
+        ensures total { total result ≡ total self + 1 }
+    {
+        let before = self.before + self.kept + self.changed() + self.lost.total();
+        Counts {
+            before,
+            half: self.half,
+            failed: self.failed,
+            elsewhere: self.elsewhere,
+            unread: self.unread,
+            still: self.still,
+            other: self.other + 1,
+            ..Counts::new()
+        }
     }
 
     // One line more, which is left out.
@@ -87,18 +117,8 @@ impl Counts {
             Reason::Unread => counts.unread += 1,
             Reason::Still => counts.still += 1,
             Reason::Other => counts.other += 1,
-            Reason::Begins => {
-                counts.before = counts.before
-                    + counts.kept
-                    + counts.heap
-                    + counts.moves
-                    + counts.files;
-                counts.kept = 0;
-                counts.heap = 0;
-                counts.moves = 0;
-                counts.files = 0;
-                counts.other += 1;
-            }
+            Reason::Lost(lost) => counts.lost = counts.lost.and(lost),
+            Reason::Begins => return self.begin(),
         }
         counts
     }
@@ -115,6 +135,8 @@ impl Counts {
             Fate::Changed(Change::Heap) => counts.heap += 1,
             Fate::Changed(Change::Move) => counts.moves += 1,
             Fate::Changed(Change::File) => counts.files += 1,
+            Fate::Changed(Change::Key) => counts.keyed += 1,
+            Fate::Changed(Change::Shared) => counts.shared += 1,
             Fate::Left(reason) => return self.leave(reason),
         }
         counts

@@ -29,7 +29,7 @@ pub enum Ending {
     Absent,
 }
 
-/// What is told of an import of a log.
+/// What is said about an import of a log.
 #[derive(Debug, Drop)]
 pub struct Report {
     /// How it ended.
@@ -44,7 +44,7 @@ pub struct Report {
     pub unread: Vec<u8>,
 }
 
-/// What is taken of a log, and what is told of that.
+/// What is taken of a log, and what is said about that.
 #[derive(Debug, Drop)]
 pub struct Imported {
     /// What is taken.
@@ -117,6 +117,11 @@ fn is_unread(said: Said) -> bool
         | Said::Moves { .. }
         | Said::Makes { .. }
         | Said::Begins
+        | Said::Keyed(_)
+        | Said::Sizes { .. }
+        | Said::Attaches { .. }
+        | Said::Detaches(_)
+        | Said::Loses(_)
         | Said::Fails => false,
     }
 }
@@ -168,7 +173,7 @@ fn ending_by(is_there: bool, steps: usize) -> Ending
     }
 }
 
-// What is taken of the lines, for the process that is chosen, and what is told of that.
+// What is taken of the lines, for the process that is chosen, and what is said about that.
 fn import_speeches<'a>(
     alloc: Global,
     start: &Taken,

@@ -25,7 +25,7 @@ fn write_ended(alloc: Global, ending: Ending, taken: &Taken) -> Result<Vec<u8>, 
     }
 }
 
-// Writes the trace of a log, and answers what is told of it.
+// Writes the trace of a log, and answers what is said about it.
 #[tactic(auto, using(crate::proofs::EndLemmas::imports_all, crate::proofs::EndLemmas::imports_front, trace_io::proofs::IoLemmas::keeps_same))]
 fn write_import<W: Sink>(
     alloc: Global,
@@ -54,7 +54,7 @@ fn write_import<W: Sink>(
 }
 
 /// Reads a log of strace to its end, and writes its trace: what is there at the start, and what the chosen process asked of its
-/// address space. Answers what is told of that. Nothing is written before all is read and found its memory; and nothing at all
+/// address space. Answers what is said about that. Nothing is written before all is read and found its memory; and nothing at all
 /// where no request would be in the trace, or no line is about the thread that was named.
 pub fn import_log<S: Source, W: Sink>(
     alloc: Global,

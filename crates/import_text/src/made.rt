@@ -75,6 +75,11 @@ fn making_of<'a>(speeches: &[Speech<'a>], place: usize, said: Said) -> Option<Ma
         | Said::Breaks(_)
         | Said::Moves { .. }
         | Said::Begins
+        | Said::Keyed(_)
+        | Said::Sizes { .. }
+        | Said::Attaches { .. }
+        | Said::Detaches(_)
+        | Said::Loses(_)
         | Said::Fails
         | Said::Unread
         | Said::Other => None,
@@ -196,7 +201,7 @@ fn fork_of(made: &[Making], process: u64) -> Option<Making>
     }
 }
 
-/// The process, and behind it those whose address spaces it had before it was made: its parent's, and before that the parent's
+/// The process, and after it those whose address spaces it had before it was made: its parent's, and before that the parent's
 /// parent's, and so on.
 pub(crate) fn chain_of(
     alloc: Global,

@@ -64,8 +64,19 @@ fn asks(said: Said) -> bool
     ensures { result ≡ asks (Some said) }
 {
     match said {
-        Said::Asks(_) | Said::Breaks(_) | Said::Moves { .. } => true,
-        Said::Makes { .. } | Said::Begins | Said::Fails | Said::Unread | Said::Other => false,
+        Said::Asks(_)
+        | Said::Breaks(_)
+        | Said::Moves { .. }
+        | Said::Keyed(_)
+        | Said::Attaches { .. }
+        | Said::Detaches(_) => true,
+        Said::Makes { .. }
+        | Said::Begins
+        | Said::Sizes { .. }
+        | Said::Loses(_)
+        | Said::Fails
+        | Said::Unread
+        | Said::Other => false,
     }
 }
 
@@ -85,7 +96,7 @@ fn line_asks<'a>(
     }
 }
 
-// Where the process stands, or would stand behind all.
+// Where the process stands, or would stand after all.
 fn place_in(processes: &[Process], number: u64) -> usize
     ensures value { result ≡ place_in number processes.now }
     ensures within { result ≤ length processes.now }

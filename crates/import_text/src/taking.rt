@@ -1,11 +1,16 @@
 //! What a call becomes: requests of a trace, a change, or a reason for which it is left out.
-ghost use Rattle.std.specs.Prelude.{◌≡◌, ◌≤◌, ◌^◌, IfOk, OnOk, length, map};
+ghost use Rattle.std.specs.Prelude.{◌≡◌, ◌≤◌, ◌^◌, IfOk, OnOk, Some, length, map};
 ghost use Rattle.std.specs.Str.{bytes_eq};
 ghost use Rattle.import_text.specs.Taking.{after_break, after_file, after_mapping, after_move, after_request, after_said, anonymous, asked_by};
+ghost use Rattle.import_text.specs.Taking.{asked_named, asked_of};
 ghost use Rattle.import_text.specs.Taking.{file_place, files_with, heap_moved, in_place, nothing_taken, place_named, place_of};
-ghost use Rattle.import_text.specs.Taking.{reaches, resized, rounded, so_far, use_of, widened};
+ghost use Rattle.import_text.specs.Shared.{len_of};
+ghost use Rattle.import_text.specs.Taking.{as_shared, attached_with, detached_with, in_shared, reaches, resized, rounded, so_far, use_of, widened};
+ghost use Rattle.import_text.specs.Taking.{keyed_with, sized_with};
 
-use import_forms::said::{Said, read_file_name};
+use crate::names::{NO_NAME, Name, note_name};
+use crate::shared::{Piece, len_of, memory_name};
+use import_forms::said::{Lost, Said, read_file_name};
 use std::alloc::{AllocError, Global};
 use vm_base::limits::{FILE_BYTES, FILE_COUNT};
 use vm_base::{CoreId, Flags, Prot, Request};
@@ -18,6 +23,8 @@ pub const ADDRESS_END: u64 = 140_737_488_355_328;
 pub struct Step {
     /// The core that makes it.
     pub core: CoreId,
+    /// The name of the file whose pages a mapping of anonymous pages is for, where one is.
+    pub name: Name,
     /// What it asks for.
     pub request: Request,
 }
@@ -40,6 +47,12 @@ pub struct Taken {
     pub files: Vec<FileUse>,
     /// Where the heap ends, once a line has said so.
     pub heap_end: Option<u64>,
+    /// Shared memory by its numbers; of several that have one number the last counts.
+    pub pieces: Vec<Piece>,
+    /// Shared memory by the addresses at which it was attached, of no bytes where their number isn't known; the last counts.
+    pub attached: Vec<Piece>,
+    /// The names of files that became anonymous pages, one after another.
+    pub names: Vec<u8>,
     /// The requests.
     pub steps: Vec<Step>,
 }
@@ -69,6 +82,10 @@ pub enum Change {
     /// A mapping of a file, as one of anonymous pages: the file is the 17th or a later one, or the mapping reaches past its
     /// first 1,048,576 bytes.
     File,
+    /// `pkey_mprotect`, as `mprotect`: the key is lost.
+    Key,
+    /// `shmat` and `shmdt`, as `mmap` of a shared file and `munmap`.
+    Shared,
 }
 
 /// Why a line is left out.
@@ -84,6 +101,8 @@ pub enum Reason {
     Unread,
     /// `brk` or `mremap` by which no page comes or goes.
     Still,
+    /// A call that changes the address space in a way that no trace has.
+    Lost(Lost),
     /// Any other call, an event, or nothing.
     Other,
     /// A program begins: what stands before it is left out too.
@@ -107,6 +126,13 @@ const READ_WRITE: Prot = Prot {
     exec: false,
 };
 
+const SHARED: Flags = Flags {
+    private: false,
+    shared: true,
+    fixed: true,
+    anon: false,
+};
+
 const ANONYMOUS: Flags = Flags {
     private: true,
     shared: false,
@@ -123,7 +149,7 @@ fn rounded(number: u64) -> u64
     (number + 4095) / 4096 * 4096
 }
 
-// Where the thread stands among these, or would stand behind them.
+// Where the thread stands among these, or would stand after them.
 fn place_of(threads: &[u64], thread: u64) -> usize
     ensures value { result ≡ place_of thread threads.now }
     ensures within { result ≤ length threads.now }
@@ -142,7 +168,7 @@ fn is_named(file: &FileUse, name: &[u8]) -> bool
     file.name.as_slice() == name
 }
 
-// Where the file of this name stands among these, or would stand behind them.
+// Where the file of this name stands among these, or would stand after them.
 fn place_named(files: &[FileUse], name: &[u8]) -> usize
     ensures value { result ≡ place_named name.now (map use_of files.now) }
     ensures within { result ≤ length files.now }
@@ -161,12 +187,36 @@ fn place_named(files: &[FileUse], name: &[u8]) -> usize
 pub fn ask(taken: &mut Taken, thread: u64, request: Request) -> Result<(), AllocError>
     ensures { OnOk result (so_far taken.new ≡ asked_by (so_far taken.old) thread request) }
 {
+    ask_of(taken, thread, NO_NAME, request)
+}
+
+// Adds a request of this thread, of pages whose file has this name.
+fn ask_named(
+    taken: &mut Taken,
+    thread: u64,
+    name: &[u8],
+    request: Request,
+) -> Result<(), AllocError>
+    ensures { OnOk result (so_far taken.new ≡ asked_named (so_far taken.old) thread name.now request) }
+{
+    let name = note_name(&mut taken.names, name)?;
+    ask_of(taken, thread, name, request)
+}
+
+// Adds a request of this thread, of pages whose file's name stands here.
+fn ask_of(taken: &mut Taken, thread: u64, name: Name, request: Request) -> Result<(), AllocError>
+    ensures { OnOk result (so_far taken.new ≡ asked_of (so_far taken.old) thread name request) }
+{
     let place = place_of(taken.threads.as_slice(), thread);
     if place == taken.threads.len() {
         taken.threads.push(thread)?;
     }
     let core = CoreId::new((place % 64) as u8);
-    taken.steps.push(Step { core, request })?;
+    taken.steps.push(Step {
+        core,
+        name,
+        request,
+    })?;
     Ok(())
 }
 
@@ -283,16 +333,17 @@ pub fn take_file(
         }
     }
     let flags = anonymous(flags);
-    ask(
+    ask_named(
         taken,
         thread,
+        name,
         Request::Mmap {
             addr,
             len,
             prot,
             flags,
             file: 0,
-            off: 0,
+            off,
         },
     )?;
     Ok(Fate::Changed(Change::File))
@@ -449,6 +500,102 @@ fn take_move(
     Ok(Fate::Changed(Change::Move))
 }
 
+// Notes that the shared memory of this number has so many bytes.
+fn take_size(taken: &mut Taken, number: u64, len: u64) -> Result<Fate, AllocError>
+    ensures { IfOk result (λ fate. (so_far taken.new, fate) ≡ sized_with (so_far taken.old) number len) }
+{
+    taken.pieces.push(Piece { key: number, len })?;
+    Ok(Fate::Left(Reason::Other))
+}
+
+// What becomes of shared memory that is attached, of whose mapping as one of a file this became.
+fn as_shared(fate: Fate) -> Fate
+    ensures { result ≡ as_shared fate }
+{
+    match fate {
+        Fate::Kept => Fate::Changed(Change::Shared),
+        Fate::Changed(change) => Fate::Changed(change),
+        Fate::Left(reason) => Fate::Left(reason),
+    }
+}
+
+// Adds a mapping of the shared memory of this number, which has so many bytes.
+fn take_memory(
+    alloc: Global,
+    taken: &mut Taken,
+    thread: u64,
+    number: u64,
+    mapping: Mapping,
+) -> Result<Fate, AllocError>
+    requires flags { mapping.flags ≡ in_shared }
+    requires off { mapping.off ≡ 0 }
+    ensures { IfOk result (λ fate. (so_far taken.new, fate)
+        ≡ attached_with (so_far taken.old) thread number mapping.addr mapping.prot (Some mapping.len)) }
+{
+    let name = memory_name(alloc, number)?;
+    taken.attached.push(Piece {
+        key: mapping.addr,
+        len: mapping.len,
+    })?;
+    let fate = take_file(alloc, taken, thread, name.as_slice(), mapping)?;
+    Ok(as_shared(fate))
+}
+
+// Adds a mapping of the shared memory of this number, if the log has said how many bytes it has.
+fn take_attach(
+    alloc: Global,
+    taken: &mut Taken,
+    thread: u64,
+    number: u64,
+    addr: u64,
+    prot: Prot,
+) -> Result<Fate, AllocError>
+    ensures { IfOk result (λ fate. (so_far taken.new, fate)
+        ≡ attached_with (so_far taken.old) thread number addr prot (len_of number (so_far taken.old).pieces)) }
+{
+    match len_of(taken.pieces.as_slice(), number) {
+        Some(len) => {
+            let mapping = Mapping {
+                addr,
+                len,
+                prot,
+                flags: SHARED,
+                off: 0,
+            };
+            take_memory(alloc, taken, thread, number, mapping)
+        }
+        None => {
+            taken.attached.push(Piece { key: addr, len: 0 })?;
+            Ok(Fate::Left(Reason::Lost(Lost::Attach)))
+        }
+    }
+}
+
+// Takes away a mapping of shared memory, if it is known how many bytes that has.
+fn take_detach(taken: &mut Taken, thread: u64, addr: u64) -> Result<Fate, AllocError>
+    ensures { IfOk result (λ fate. (so_far taken.new, fate)
+        ≡ detached_with (so_far taken.old) thread addr (len_of addr (so_far taken.old).attached)) }
+{
+    match len_of(taken.attached.as_slice(), addr) {
+        Some(len) => {
+            if len == 0 {
+                return Ok(Fate::Left(Reason::Lost(Lost::Detach)));
+            }
+            ask(taken, thread, Request::Munmap { addr, len })?;
+            Ok(Fate::Changed(Change::Shared))
+        }
+        None => Ok(Fate::Left(Reason::Lost(Lost::Detach))),
+    }
+}
+
+// Adds a request of rights with a key.
+fn take_keyed(taken: &mut Taken, thread: u64, request: Request) -> Result<Fate, AllocError>
+    ensures { IfOk result (λ fate. (so_far taken.new, fate) ≡ keyed_with (so_far taken.old) thread request) }
+{
+    ask(taken, thread, request)?;
+    Ok(Fate::Changed(Change::Key))
+}
+
 // Adds a request as it stands, but for a mapping's file.
 fn take_request(
     alloc: Global,
@@ -503,6 +650,13 @@ pub fn take(
             Ok(Fate::Left(Reason::Begins))
         }
         Said::Makes { .. } | Said::Other => Ok(Fate::Left(Reason::Other)),
+        Said::Keyed(request) => take_keyed(taken, thread, request),
+        Said::Sizes { number, len } => take_size(taken, number, len),
+        Said::Attaches { number, addr, prot } => {
+            take_attach(alloc, taken, thread, number, addr, prot)
+        }
+        Said::Detaches(addr) => take_detach(taken, thread, addr),
+        Said::Loses(lost) => Ok(Fate::Left(Reason::Lost(lost))),
         Said::Fails => Ok(Fate::Left(Reason::Failed)),
         Said::Unread => Ok(Fate::Left(Reason::Unread)),
     }
@@ -517,6 +671,9 @@ impl Taken {
             threads: Vec::new(alloc),
             files: Vec::new(alloc),
             heap_end: None,
+            pieces: Vec::new(alloc),
+            attached: Vec::new(alloc),
+            names: Vec::new(alloc),
             steps: Vec::new(alloc),
         }
     }
@@ -527,11 +684,17 @@ impl Taken {
     {
         let threads = Vec::from_slice(alloc, self.threads.as_slice())?;
         let files = copy_files(alloc, self.files.as_slice())?;
+        let pieces = Vec::from_slice(alloc, self.pieces.as_slice())?;
+        let attached = Vec::from_slice(alloc, self.attached.as_slice())?;
+        let names = Vec::from_slice(alloc, self.names.as_slice())?;
         let steps = Vec::from_slice(alloc, self.steps.as_slice())?;
         Ok(Taken {
             threads,
             files,
             heap_end: self.heap_end,
+            pieces,
+            attached,
+            names,
             steps,
         })
     }

@@ -65,7 +65,7 @@ fn traced(alloc: Global, log: &[u8]) -> Option<(Vec<u8>, Counts)> {
     let mut log = Counted::new(log);
     let mut out = Noted::unbuffered(alloc, Vec::new(alloc));
     match trace_log(alloc, &mut log, &mut out) {
-        Ok(counts) => Some((out.writer.into_parts().0, counts)),
+        Ok(told) => Some((out.writer.into_parts().0, told.counts)),
         Err(_) => None,
     }
 }
@@ -130,13 +130,14 @@ fn tell_counts<W: Write>(out: &mut W, name: &str, counts: &Counts) {
     let (kept, heap, moves, files) = (counts.kept, counts.heap, counts.moves, counts.files);
     let (half, failed, elsewhere) = (counts.half, counts.failed, counts.elsewhere);
     let (before, unread, still, other) = (counts.before, counts.unread, counts.still, counts.other);
+    let drops = counts.lost.drops;
     let _ = writeln!(
         out,
         "{name} log: kept {kept}, heap {heap}, moves {moves}, files {files}, half {half}, failed {failed}, elsewhere {elsewhere}"
     );
     let _ = writeln!(
         out,
-        "{name} log: before {before}, unread {unread}, still {still}, other {other}"
+        "{name} log: before {before}, unread {unread}, still {still}, drops {drops}, other {other}"
     );
 }
 

@@ -1,6 +1,6 @@
-use Rattle.std.proofs.Common.{◌<◌, List, [], ℕ, length, map, arith, sym, ap, ◌∙◌}
+use Rattle.std.proofs.Common.{◌<◌, [], length, map, arith, sym, ap, ◌∙◌}
 use Rattle.import_text.specs.Taking.{use_of}
-use Rattle.import_text.specs.Texts.{use_line}
+use Rattle.import_text.specs.Texts.{use_text}
 use Rattle.import_text.proofs.TakingLemmas.{map-at, map-size, uses_push}
 use Rattle.import_text.proofs.writing.push_uses.Goals as goal
 
@@ -8,10 +8,9 @@ pub files-preserved : goal.files-preserved
 files-preserved c =
     let files = c.args.files.now in
     let low : c.files.at < length (map use_of files) = omega (arith, c.files-test.true, map-size use_of files) in
-    let here = map-at use_of files c.files.at c.index-files-at.result ([], 0) c.files-test.true in
-    let line = c.as_bytes.ensures.value ∙ c.as_str.ensures.value ∙ c.put_use.ensures in
+    let here = map-at use_of files c.files.at c.index-files-at.result ([], 0) c.files-test.true ∙ ap use_of (sym c.index-files-at.is) in
     record {
       within = omega (arith, c.files-test.true);
-      written = c.in_ok-extend_from_slice.ensures.items
-          ∙ uses_push _ _ _ (map use_of files) _ low c.files.invariant.written (line ∙ ap (λ (u : List ℕ × ℕ). use_line c.files.at u.1) (sym here));
+      written = c.in_ok-push_use.ensures
+          ∙ uses_push _ _ _ (map use_of files) _ low c.files.invariant.written (ap (use_text c.files.at) (sym here));
     }
