@@ -1,6 +1,6 @@
 #!/usr/bin/env bash
 # Measures how time and memory grow: the time of a line over the number of slots; time and memory over the number of lines; the memory
-# of sparse pages; what the log costs; and the list of mappings. The program and the plain one of bench/baseline.rs run in turn, five
+# of sparse pages; what the log costs; the list of mappings; and their lives. The program and the plain one of bench/baseline.rs run in turn, five
 # times each (or RUNS, if set; ten million lines once), and must write the same text. Writes docs/growth-slots.csv, docs/growth-lines.csv
 # and docs/growth-rest.csv, and prints them. Usage: bench/growth.sh [--tenth]; --tenth takes fewer lines and one run, and writes no file.
 set -euo pipefail
@@ -63,6 +63,12 @@ rest() {
     row 'maps of 100,000 slots, beside plain Rust' ms "$ours" "$theirs" 0.8
     read -r ours theirs <<< "$(bench/measure.py "$runs" "$trace" "$program" run -- "$plain")"
     row 'run of the same trace, beside plain Rust' ms "$ours" "$theirs" ''
+
+    for count in 100000 1000000; do # a machine begins at most 1,048,576 calls
+        bench/make_growth.sh map $((count / 10)) $((count * 9 / 10)) > "$trace"
+        read -r ours theirs <<< "$(bench/measure.py --own-texts "$runs" "$trace" "$program" picture --lives -- "$program" run)"
+        row "lives of $count requests, beside run" ms "$ours" "$theirs" ''
+    done
 }
 
 over_slots > "$work/growth-slots.csv"

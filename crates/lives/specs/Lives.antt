@@ -1,24 +1,19 @@
 -- The lives of mappings over a whole run.
-use Rattle.std.specs.Prelude.{ℕ, zero, suc, ◌+◌, ◌-◌, ◌*◌, ◌/◌, ◌^◌, Bool, List, [], ◌∷◌, ◌++◌, Option, None, Some, if◌then◌else◌}
+use Rattle.std.specs.Prelude.{ℕ, zero, suc, ◌+◌, ◌-◌, ◌*◌, ◌/◌, ◌^◌, Bool, List, [], ◌∷◌, ◌++◌, Option, None, Some, if◌then◌else◌, ◌==◌}
 use Rattle.std.specs.Prelude.{codes, decimal, length, min, nat_lt, slice_get, take}
 use Rattle.std.specs.List.{concat, flat_map}
-use Rattle.vm_base.specs.declared.page.PageRange.{PageRange}
 use Rattle.trace_text.specs.Lists.{start_of}
 use Rattle.trace_text.specs.Spelling.{rights_text}
 use Rattle.picture.specs.Canvas.{front_text}
 use Rattle.picture.specs.Drawing.{prot_class}
 use Rattle.picture.specs.Elements.{line_text, text_front}
 use Rattle.picture.specs.Parts.{span_text}
-use Rattle.picture.specs.Rows.{edges_of, first_stretches, rows_of}
 use Rattle.picture.specs.Style.{Shade, both_shade, exec_shade, nothing_shade, read_shade, shades, write_shade}
 use Rattle.picture.specs.declared.elements.Way.{Way}
+use Rattle.lives.specs.Living.{lives_of}
 use Rattle.lives.specs.declared.drawing.Chart.{Chart}
 use Rattle.picture.specs.declared.moments.Recorded.{Recorded}
 use Rattle.picture.specs.declared.shapes.Stretch.{Stretch}
-
--- a life is a stretch of a row: from a step in which its pages are mapped to the first that changes them
-abbrev pub lives_of : List Recorded → List PageRange → List Stretch
-lives_of all rows = first_stretches all rows (min (length rows) 2001)
 
 abbrev pub are_more : List Stretch → Bool
 are_more lives = nat_lt 2000 (length lives)
@@ -83,17 +78,18 @@ ticks_text chart (suc n) = ticks_text chart n ++ tick_text chart n
 abbrev pub count_of : Chart → ℕ
 count_of chart = min chart.rows 63
 
-abbrev pub first_of : Option PageRange → ℕ
-first_of (Some pages) = pages.first
-first_of None = 0
+-- the first page of a row, as its lives have it
+abbrev pub first_of : List Stretch → ℕ → ℕ
+first_of [] row = 0
+first_of (life ∷ lives) row = if life.row == row then life.pages.first else first_of lives row
 
-unfoldable pub page_text : Chart → List PageRange → ℕ → List ℕ
-page_text chart rows at = concat (text_front (codes "page") 8 (plot_height chart * at / count_of chart + 58)
-    ∷ start_of (first_of (slice_get rows (chart.rows * at / count_of chart))) ∷ codes "</text>\n" ∷ [])
+unfoldable pub page_text : Chart → List Stretch → ℕ → List ℕ
+page_text chart lives at = concat (text_front (codes "page") 8 (plot_height chart * at / count_of chart + 58)
+    ∷ start_of (first_of lives (chart.rows * at / count_of chart)) ∷ codes "</text>\n" ∷ [])
 
-abbrev pub pages_text : Chart → List PageRange → ℕ → List ℕ
-pages_text chart rows zero = []
-pages_text chart rows (suc n) = pages_text chart rows n ++ page_text chart rows n
+abbrev pub pages_text : Chart → List Stretch → ℕ → List ℕ
+pages_text chart lives zero = []
+pages_text chart lives (suc n) = pages_text chart lives n ++ page_text chart lives n
 
 -- a drawing of its own in the picture, whose units are a step and a row; step 1 lies at its left edge
 unfoldable pub frame_text : Chart → List ℕ
@@ -110,16 +106,13 @@ life_text chart life = concat (codes "<rect class=\"" ∷ prot_class life.prot �
     ∷ codes "\" width=\"" ∷ decimal (life_end chart life.end - life.begin) ∷ codes "\" height=\"1\"><title>" ∷ start_of life.pages.first ∷ codes "-"
     ∷ start_of life.pages.end ∷ codes " " ∷ rights_text life.prot ∷ span_text life.begin life.end ∷ codes "</title></rect>\n" ∷ [])
 
-unfoldable pub chart_text : Chart → List PageRange → Bool → List Stretch → List ℕ
-chart_text chart rows more lives = front_text 1360 (plot_height chart + 64) ++ style_text ++ head_text chart more (length lives)
-    ++ ticks_text chart 9 ++ pages_text chart rows (count_of chart) ++ frame_text chart ++ flat_map (life_text chart) lives ++ codes "</svg>\n</svg>\n"
+unfoldable pub chart_text : Chart → Bool → List Stretch → List ℕ
+chart_text chart more lives = front_text 1360 (plot_height chart + 64) ++ style_text ++ head_text chart more (length lives)
+    ++ ticks_text chart 9 ++ pages_text chart lives (count_of chart) ++ frame_text chart ++ flat_map (life_text chart) lives ++ codes "</svg>\n</svg>\n"
 
-abbrev pub drawn_of : ℕ → List PageRange → List Stretch → List ℕ
-drawn_of steps rows lives = chart_text (chart_of steps (shown lives)) rows (are_more lives) (shown lives)
-
-abbrev pub text_of : ℕ → List PageRange → List Recorded → List ℕ
-text_of steps rows all = drawn_of steps rows (lives_of all rows)
+abbrev pub drawn_of : ℕ → List Stretch → List ℕ
+drawn_of steps lives = chart_text (chart_of steps (shown lives)) (are_more lives) (shown lives)
 
 -- the lives of what is mapped over so many steps
 abbrev pub lives_text : ℕ → List Recorded → List ℕ
-lives_text steps all = text_of steps (rows_of all (edges_of [] all)) all
+lives_text steps all = drawn_of steps (lives_of all)

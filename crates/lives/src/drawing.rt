@@ -1,18 +1,17 @@
 //! The lives of mappings over a whole run: which pages were mapped over which steps, in one SVG text.
-ghost use Rattle.std.specs.Prelude.{◌≡◌, ◌+◌, ◌++◌, ◌<◌, ◌≤◌, IfOk, OnOk, slice_get};
+ghost use Rattle.std.specs.Prelude.{◌≡◌, ◌+◌, ◌++◌, ◌<◌, ◌≤◌, IfOk, OnOk};
 ghost use Rattle.std.specs.List.{flat_map};
-ghost use Rattle.lives.specs.Lives.{are_more, chart_of, chart_text, count_of, count_words, drawn_of, end_of, frame_text, head_text, life_end, life_text};
-ghost use Rattle.lives.specs.Lives.{first_of, lives_of, lives_text, page_text, pages_text, plot_height, shown, text_of, tick_text, ticks_text};
+ghost use Rattle.lives.specs.Lives.{are_more, chart_of, chart_text, count_of, count_words, drawn_of, end_of, first_of, frame_text, head_text};
+ghost use Rattle.lives.specs.Lives.{life_end, life_text, lives_text, page_text, pages_text, plot_height, shown, tick_text, ticks_text};
 
+use crate::living::lives_of;
 use picture::canvas::put_front;
 use picture::drawing::prot_class;
 use picture::elements::{Piece, Way, put, put_all, put_text};
 use picture::moments::Recorded;
 use picture::parts::{Part, put_parts};
-use picture::rows::{edges_of, put_stretches, rows_of};
 use picture::shapes::Stretch;
 use std::alloc::{AllocError, Global};
-use vm_base::PageRange;
 
 /// What the colours of lives are and mean: where rows are low, that of their edges is seen.
 pub const LIVES_STYLE: &str = "\
@@ -34,25 +33,6 @@ pub struct Chart {
     pub steps: u64,
     /// How many rows are shown.
     pub rows: u32,
-}
-
-// The lives of the first 2,001 rows; of more than 2,000 not all, but more than 2,000.
-fn lives_of(
-    alloc: Global,
-    moments: &[Recorded],
-    rows: &[PageRange],
-) -> Result<Vec<Stretch>, AllocError>
-    ensures shown { IfOk result (λ lives. shown lives.items ≡ shown (lives_of moments.now rows.now)) }
-    ensures more { IfOk result (λ lives. are_more lives.items ≡ are_more (lives_of moments.now rows.now)) }
-{
-    let mut lives: Vec<Stretch> = Vec::new(alloc);
-    let most = rows.len().min(2001);
-    let mut at = 0;
-    'rows: while at < most && lives.len() <= 2000 {
-        put_stretches(&mut lives, moments, at as u16, rows[at])?;
-        at += 1;
-    }
-    Ok(lives)
 }
 
 // Tells whether there are more lives than are shown.
@@ -172,14 +152,18 @@ fn put_ticks(out: &mut Vec<u8>, chart: Chart) -> Result<(), AllocError>
     Ok(())
 }
 
-// The first page of a row, 0 where there is none.
-fn first_of(rows: &[PageRange], row: u64) -> u64
-    ensures { result ≡ first_of (slice_get rows.now row) }
+// The first page of a row, as its lives have it; 0 where it has none.
+fn first_of(lives: &[Stretch], row: u64) -> u64
+    ensures { result ≡ first_of lives.now row }
 {
-    match rows.get(row as usize) {
-        Some(pages) => pages.first,
-        None => 0,
+    let mut at = 0;
+    'lives: while at < lives.len() {
+        if u64::from(lives[at].row) == row {
+            return lives[at].pages.first;
+        }
+        at += 1;
     }
+    0
 }
 
 // How many rows have their address beside them.
@@ -191,14 +175,14 @@ fn count_of(chart: Chart) -> u64
 }
 
 // Appends the address of one of the rows that are named.
-fn put_page(out: &mut Vec<u8>, chart: Chart, rows: &[PageRange], at: u64) -> Result<(), AllocError>
+fn put_page(out: &mut Vec<u8>, chart: Chart, lives: &[Stretch], at: u64) -> Result<(), AllocError>
     requires { at < count_of chart }
-    ensures { OnOk result (out.new.items ≡ out.old.items ++ page_text chart rows.now at) }
+    ensures { OnOk result (out.new.items ≡ out.old.items ++ page_text chart lives.now at) }
 {
     let all = u64::from(chart.rows);
     let count = count_of(chart);
     let y = plot_height(chart) * at / count + 58;
-    let page = first_of(rows, all * at / count);
+    let page = first_of(lives, all * at / count);
     put_parts(
         out,
         &[
@@ -210,13 +194,13 @@ fn put_page(out: &mut Vec<u8>, chart: Chart, rows: &[PageRange], at: u64) -> Res
 }
 
 // Appends the addresses of rows, of as many as have room.
-fn put_pages(out: &mut Vec<u8>, chart: Chart, rows: &[PageRange]) -> Result<(), AllocError>
-    ensures { OnOk result (out.new.items ≡ out.old.items ++ pages_text chart rows.now (count_of chart)) }
+fn put_pages(out: &mut Vec<u8>, chart: Chart, lives: &[Stretch]) -> Result<(), AllocError>
+    ensures { OnOk result (out.new.items ≡ out.old.items ++ pages_text chart lives.now (count_of chart)) }
 {
     let count = count_of(chart);
     let mut at = 0u64;
     'pages: while at < count {
-        put_page(out, chart, rows, at)?;
+        put_page(out, chart, lives, at)?;
         at += 1;
     }
     Ok(())
@@ -242,7 +226,7 @@ fn put_frame(out: &mut Vec<u8>, chart: Chart) -> Result<(), AllocError>
     )
 }
 
-// The step in which a life ends, or that behind the last one.
+// The step in which a life ends, or that after the last one.
 fn life_end(chart: Chart, end: Option<u64>) -> u64
     ensures { result ≡ life_end chart end }
 {
@@ -298,52 +282,31 @@ fn put_lives(out: &mut Vec<u8>, chart: Chart, lives: &[Stretch]) -> Result<(), A
 fn put_chart(
     out: &mut Vec<u8>,
     chart: Chart,
-    rows: &[PageRange],
     more: bool,
     lives: &[Stretch],
 ) -> Result<(), AllocError>
-    ensures { OnOk result (out.new.items ≡ out.old.items ++ chart_text chart rows.now more lives.now) }
+    ensures { OnOk result (out.new.items ≡ out.old.items ++ chart_text chart more lives.now) }
 {
     let high = plot_height(chart) + 64;
     put_front(out, 1360, high)?;
     put(out, LIVES_STYLE)?;
     put_head(out, chart, more, lives.len())?;
     put_ticks(out, chart)?;
-    put_pages(out, chart, rows)?;
+    put_pages(out, chart, lives)?;
     put_frame(out, chart)?;
     put_lives(out, chart, lives)?;
     put(out, "</svg>\n</svg>\n")?;
     Ok(())
 }
 
-// Appends the picture of these lives.
-fn put_shown(
-    out: &mut Vec<u8>,
-    steps: u64,
-    rows: &[PageRange],
-    lives: &[Stretch],
-) -> Result<(), AllocError>
-    ensures { OnOk result (out.new.items ≡ out.old.items ++ drawn_of steps rows.now lives.now) }
+// Appends the picture of these lives, of which the first 2,000 are shown.
+fn put_shown(out: &mut Vec<u8>, steps: u64, lives: &[Stretch]) -> Result<(), AllocError>
+    ensures { OnOk result (out.new.items ≡ out.old.items ++ drawn_of steps lives.now) }
 {
     let shown = shown(lives);
     let more = are_more(lives);
     let chart = chart_of(steps, shown);
-    put_chart(out, chart, rows, more, shown)
-}
-
-// Appends the picture of the lives of these rows.
-fn put_lives_of(
-    alloc: Global,
-    out: &mut Vec<u8>,
-    steps: u64,
-    rows: &[PageRange],
-    moments: &[Recorded],
-) -> Result<(), AllocError>
-    ensures { OnOk result (out.new.items ≡ out.old.items ++ text_of steps rows.now moments.now) }
-{
-    let lives = lives_of(alloc, moments, rows)?;
-    put_shown(out, steps, rows, lives.as_slice())?;
-    Ok(())
+    put_chart(out, chart, more, shown)
 }
 
 /// The picture of the lives of mappings in a run of so many steps: a rectangle for each stretch of pages, from the step
@@ -352,9 +315,8 @@ fn put_lives_of(
 pub fn draw_lives(alloc: Global, steps: u64, moments: &[Recorded]) -> Result<Vec<u8>, AllocError>
     ensures { IfOk result (λ text. text.items ≡ lives_text steps moments.now) }
 {
-    let edges = edges_of(alloc, moments)?;
-    let rows = rows_of(alloc, moments, edges.as_slice())?;
+    let lives = lives_of(alloc, moments)?;
     let mut out: Vec<u8> = Vec::new(alloc);
-    put_lives_of(alloc, &mut out, steps, rows.as_slice(), moments)?;
+    put_shown(&mut out, steps, lives.as_slice())?;
     Ok(out)
 }

@@ -2,3 +2,4 @@
 #![tactic(auto)]
 
 pub mod drawing;
+pub mod living;

@@ -99,4 +99,4 @@ drawn_of view rows all = drawn view rows (all_stretches all rows) (bars_of all a
 
 -- the picture of what happened
 abbrev pub picture_text : View → List Recorded → List ℕ
-picture_text view all = drawn_of view (rows_of all (edges_of [] all)) all
+picture_text view all = drawn_of view (rows_of all (edges_of all)) all

@@ -25,7 +25,7 @@ pub enum Part<'a> {
     Circle(&'a str, u64, u64),
     /// The beginning of a text of this class, and where it stands.
     Text(&'a str, u64, u64),
-    /// What a request asks for, behind its name.
+    /// What a request asks for, after its name.
     Arguments(Request),
     /// The step in which a call began, and what it came to.
     Outcome(u64, Option<Answer>),
@@ -35,7 +35,7 @@ pub enum Part<'a> {
     Label(View, CoreId, Option<Answer>),
 }
 
-// Appends an address, a length and rights, each behind a space.
+// Appends an address, a length and rights, each after a space.
 fn put_change(out: &mut Vec<u8>, addr: u64, len: u64, prot: Prot) -> Result<(), AllocError>
     ensures { OnOk result (out.new.items ≡ out.old.items ++ change_words addr len prot) }
 {
@@ -52,7 +52,7 @@ fn put_change(out: &mut Vec<u8>, addr: u64, len: u64, prot: Prot) -> Result<(), 
     )
 }
 
-// Appends an address and a length, each behind a space.
+// Appends an address and a length, each after a space.
 fn put_range(out: &mut Vec<u8>, addr: u64, len: u64) -> Result<(), AllocError>
     ensures { OnOk result (out.new.items ≡ out.old.items ++ range_words addr len) }
 {
@@ -67,14 +67,14 @@ fn put_range(out: &mut Vec<u8>, addr: u64, len: u64) -> Result<(), AllocError>
     )
 }
 
-// Appends an address behind a space.
+// Appends an address after a space.
 fn put_target(out: &mut Vec<u8>, addr: u64) -> Result<(), AllocError>
     ensures { OnOk result (out.new.items ≡ out.old.items ++ target_words addr) }
 {
     put_all(out, &[Piece::Words(" "), Piece::Address(addr)])
 }
 
-// Appends what a request asks for, behind its name.
+// Appends what a request asks for, after its name.
 fn put_arguments(out: &mut Vec<u8>, request: Request) -> Result<(), AllocError>
     ensures { OnOk result (out.new.items ≡ out.old.items ++ arguments_of request) }
 {

@@ -31,7 +31,7 @@ pub fn view_of(cores: u8, first: u64, last: u64) -> View
 }
 
 /// Where the step's column begins, from the left: at 104, and 52 more for each column before it. Steps before the
-/// first have its column, and steps behind the last one begin where that ends.
+/// first have its column, and steps after the last one begin where that ends.
 pub fn column(view: View, step: u64) -> u64
     ensures value { result ≡ column view step }
     ensures bounded { result ≤ 3500000 }
