@@ -3,5 +3,6 @@
 #![tactic(auto)]
 
 pub mod asked;
+pub mod laws;
 
 pub use asked::Asked;
