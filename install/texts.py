@@ -30,7 +30,7 @@ def topics():
 def words():
     """Each word with its flags, and with what stands behind a flag: {"run": [("--log", None), ..]}."""
     found = {}
-    for word, rest in re.findall(r"radixvm (\w+) (.*)", text("USAGE")):
+    for word, rest in re.findall(r"radixvm (\w+) (.*)", re.sub(r"\n {12,}", " ", text("USAGE"))):
         flags = re.findall(r"(--[a-z-]+)(?: ([A-Z]+))?", rest)
         found[word] = [(flag, value or None) for flag, value in flags]
     return found

@@ -14,7 +14,7 @@ use Rattle.slot_lock.specs.MapWalks.{info_meta, slot_metas}
 use Rattle.slot_lock.specs.declared.map_list.MapLine.{MapLine}
 use Rattle.audit.specs.Keeping.{entry_kept, plain_kept}
 use Rattle.audit_text.specs.Ends.{IsVerdict}
-use Rattle.audit_text.specs.Legal.{page_asked}
+use Rattle.audit_text.specs.Legal.{page_told}
 use Rattle.audit_text.specs.Steps.{IsFound, ShowsAround}
 use Rattle.audit_text.specs.declared.judging.Verdict.{Verdict}
 use Rattle.audit_text.specs.declared.judging.Verdict.TheVariants as Of
@@ -87,13 +87,13 @@ metas_kept s objects frames = fun_ext (λ p. meta_kept (frame_bytes frames) (s.i
 pub verdict_shown : (terms : Terms) (lines : List (List ℕ)) (verdict : Verdict) (u : Plain) (meta : ℕ → Option Meta) (around : List MapLine)
     → meta ≡ plain_metas u → IsFound terms lines verdict u → ShowsAround meta verdict around → IsVerdict terms lines verdict around
 verdict_shown terms lines (Of.Legal calls lacking passed) u meta around e found shown = (found, shown)
-verdict_shown terms lines (Of.Illegal line call due) u meta around e found shown = record {
+verdict_shown terms lines (Of.Illegal line item due) u meta around e found shown = record {
   plain = u;
   wrong = found;
-  shown = subst (λ m. IsAround m (page_asked call.request) around) e shown;
+  shown = subst (λ m. IsAround m (page_told item) around) e shown;
 }
-verdict_shown terms lines (Of.Undecided line call due) u meta around e found shown = record {
+verdict_shown terms lines (Of.Undecided line item due) u meta around e found shown = record {
   plain = u;
   wrong = found;
-  shown = subst (λ m. IsAround m (page_asked call.request) around) e shown;
+  shown = subst (λ m. IsAround m (page_told item) around) e shown;
 }

@@ -12,7 +12,7 @@ use Rattle.trace_io.proofs.LineLemmas.{reads_map, reads_none}
 use Rattle.vm_base.specs.Plain.{Plain}
 use Rattle.slot_lock.specs.declared.map_list.MapLine.{MapLine}
 use Rattle.audit_text.specs.Ends.{AuditEnds, IsAtFault, IsVerdict, verdict_text}
-use Rattle.audit_text.specs.Heard.{Declared, Front, Heard, behind, call_told, heard_after, nothing}
+use Rattle.audit_text.specs.Heard.{Declared, Front, Heard, behind, item_told, heard_after, nothing}
 use Rattle.audit_text.specs.Legal.{first_map}
 use Rattle.audit_text.specs.Steps.{EndsFront, IsCall}
 use Rattle.audit_text.specs.declared.allowing.Terms.{Terms}
@@ -32,7 +32,7 @@ call_begins terms lines more d h t said n ends space new first =
       at = ends.0;
       space = space;
       after = ends.1 ∙ ap (λ b. cond b (behind d (heard_after nothing said)) None) space;
-      told = ap (λ b. cond b (call_told nothing said) None) space;
+      told = ap (λ b. cond b (item_told nothing said) None) space;
       declared = refl;
       heard = refl;
       follows = refl;

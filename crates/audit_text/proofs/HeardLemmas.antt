@@ -11,10 +11,14 @@ use Rattle.audit.specs.Placing.{rule_of}
 use Rattle.audit.specs.declared.auditor.Call.{Call}
 use Rattle.audit.specs.declared.judging.Verdict.{Verdict}
 use Rattle.audit.specs.declared.judging.Verdict.TheVariants.{Legal as Right, Illegal as Wrong}
-use Rattle.audit_text.specs.Allowed.{Allows, AreAllowed, Lacks, is_lack, serves}
-use Rattle.audit_text.specs.Heard.{Heard, call_to, call_told, heard_after, is_certain, one_passed, waits, with_answer, with_call, with_waiting, without}
+use Rattle.audit_text.specs.Allowed.{Allows, AreAllowed, Lacks, MayBe, is_lack, serves}
+use Rattle.audit_text.specs.Heard.{Heard, call_to, item_told, heard_after, is_certain, one_passed, waits, with_answer, with_copy, with_item, with_told}
+use Rattle.audit_text.specs.Heard.{with_waiting, without}
 use Rattle.audit_text.specs.Steps.{Hears, JudgesCall, MayWant, Moves, Passes}
 use Rattle.audit_text.specs.declared.allowing.Terms.{Terms}
+use Rattle.audit_text.specs.declared.item.Item.{Item}
+use Rattle.audit_text.specs.declared.item.Item.TheVariants.{Answer, Copy}
+use Rattle.audit.specs.Copying.{Copies}
 use Rattle.audit_text.specs.declared.hearing.Turn.{Turn}
 use Rattle.audit_text.specs.declared.hearing.Turn.TheVariants.{Legal, Bad, Illegal}
 use Rattle.audit_text.specs.declared.reading.Said.{Said}
@@ -75,7 +79,7 @@ judged_let terms h k t u certain call v due j is lets e =
 pub judged_illegal : (terms : Terms) (h k : Heard) (t u : Plain) (certain : Bool) (call : Call) (v : Verdict) (due : Reply)
     → Judges (rule_of terms.any_place) t call.core call.request call.reply v u → v ≡ Wrong due
     → (not terms.is_strict && is_lack call.request due call.reply) ≡ false → k ≡ h
-    → JudgesCall terms h t certain call (Illegal call due certain) k u
+    → JudgesCall terms h t certain call (Illegal (Answer call) (Some due) certain) k u
 judged_illegal terms h k t u certain call v due j is lets e =
     let w = subst (λ (x : Verdict). Judges (rule_of terms.any_place) t call.core call.request call.reply x u) is j in
     (refl, w.2, refl, (none w, w.1), e)
@@ -90,12 +94,12 @@ judged_illegal terms h k t u certain call v due j is lets e =
 -- ---- a call that is answered at once
 
 -- the line tells this call
-told_now : (h : Heard) (call : Call) → is_some (waits h call.core) ≡ false → call_told h (Of.Answered call) ≡ Some call
-told_now h call idle = ap (λ b. cond b None (Some call)) idle
+told_now : (h : Heard) (call : Call) → is_some (waits h call.core) ≡ false → item_told h (Of.Answered call) ≡ Some (Answer call)
+told_now h call idle = ap (λ b. cond b None (Some (Answer call))) idle
 
 after_now : (h k : Heard) (certain : Bool) (call : Call) → is_some (waits h call.core) ≡ false → certain ≡ is_certain h (Of.Answered call)
     → k ≡ with_answer h certain call → heard_after h (Of.Answered call) ≡ Some k
-after_now h k certain call idle sure is = ap (option_map (with_call h (Of.Answered call))) (told_now h call idle)
+after_now h k certain call idle sure is = ap (option_map (with_told h (Of.Answered call))) (told_now h call idle)
     ∙ ap (λ c. Some (with_answer h c call)) (sym sure) ∙ ap Some (sym is)
 
 pub answered_hears : (terms : Terms) (h k : Heard) (t u : Plain) (certain : Bool) (call : Call) (turn : Turn) → is_some (waits h call.core) ≡ false
@@ -103,38 +107,38 @@ pub answered_hears : (terms : Terms) (h k : Heard) (t u : Plain) (certain : Bool
 answered_hears terms h k t u certain call Legal idle sure (is, allows) =
     (after_now h k certain call idle sure is, subst (λ o. Moves terms t o u) (sym (told_now h call idle)) allows)
 answered_hears terms h k t u certain call Bad idle sure j = absurd j
-answered_hears terms h k t u certain call (Illegal c due b) idle sure (is, same, told, refused, kept) = (
+answered_hears terms h k t u certain call (Illegal i due b) idle sure (is, same, told, refused, kept) = (
   told_now h call idle ∙ ap Some (sym is),
   same,
   told ∙ sure,
   refused,
   after_now h (with_answer h certain call) certain call idle sure refl ∙ ap (λ (e : Heard). Some (with_answer e certain call)) (sym kept)
-      ∙ ap (λ x. Some (with_answer k x call)) (sym told) ∙ ap (λ (x : Call). Some (with_answer k b x)) (sym is),
+      ∙ ap (λ x. Some (with_answer k x call)) (sym told) ∙ ap (λ (x : Item). Some (with_item k b x)) (sym is),
 )
 
 -- one that isn't, since another of its core waits
 pub answered_bad : (terms : Terms) (h k : Heard) (t u : Plain) (call : Call) → is_some (waits h call.core) ≡ true
     → Hears terms h t (Of.Answered call) Bad k u
-answered_bad terms h k t u call busy = ap (λ b. option_map (with_call h (Of.Answered call)) (cond b None (Some call))) busy
+answered_bad terms h k t u call busy = ap (λ b. option_map (with_told h (Of.Answered call)) (cond b None (Some (Answer call)))) busy
 
 -- memory is wanted for it
 pub answered_wants : {T E : Type 0} (r : Result T E) (terms : Terms) (h : Heard) (t : Plain) (call : Call) → is_some (waits h call.core) ≡ false
     → OnErr r (IsGiven (rule_of terms.any_place) t call.core call.request call.reply) → OnErr r (MayWant terms h t (Of.Answered call))
 answered_wants (Ok x) terms h t call idle given = tt
-answered_wants (Err e) terms h t call idle given = (call, ap (λ b. cond b None (Some call)) idle, (given.0, inl given.1))
+answered_wants (Err e) terms h t call idle given = (Answer call, told_now h call idle, (given.0, inl given.1))
 
 -- ---- one that waited
 
 told_end : (h : Heard) (core : ℕ) (reply : Reply) (request : Request) → waits h core ≡ Some request
-    → call_told h (Of.Ends core reply) ≡ Some (call_to core reply request)
-told_end h core reply request waited = ap (option_map (call_to core reply)) waited
+    → item_told h (Of.Ends core reply) ≡ Some (Answer (call_to core reply request))
+told_end h core reply request waited = ap (option_map (λ r. Answer (call_to core reply r))) waited
 
 after_end : (h g k : Heard) (certain : Bool) (core : ℕ) (reply : Reply) (request : Request) → waits h core ≡ Some request → g ≡ without h core
     → certain ≡ is_certain h (Of.Ends core reply) → k ≡ with_answer g certain (call_to core reply request)
     → heard_after h (Of.Ends core reply) ≡ Some k
 after_end h g k certain core reply request waited after sure is =
     let call = call_to core reply request in
-    ap (option_map (with_call h (Of.Ends core reply))) (told_end h core reply request waited)
+    ap (option_map (with_told h (Of.Ends core reply))) (told_end h core reply request waited)
     ∙ ap (λ c. Some (with_answer (without h core) c call)) (sym sure)
     ∙ ap (λ (e : Heard). Some (with_answer e certain call)) (sym after) ∙ ap Some (sym is)
 
@@ -146,7 +150,7 @@ ended_hears terms h g k t u certain core reply request Legal waited after sure (
   subst (λ o. Moves terms t o u) (sym (told_end h core reply request waited)) allows,
 )
 ended_hears terms h g k t u certain core reply request Bad waited after sure j = absurd j
-ended_hears terms h g k t u certain core reply request (Illegal c due b) waited after sure (is, same, told, refused, kept) =
+ended_hears terms h g k t u certain core reply request (Illegal i due b) waited after sure (is, same, told, refused, kept) =
     let call = call_to core reply request in (
       told_end h core reply request waited ∙ ap Some (sym is),
       same,
@@ -154,7 +158,7 @@ ended_hears terms h g k t u certain core reply request (Illegal c due b) waited 
       refused,
       after_end h g (with_answer g certain call) certain core reply request waited after sure refl
           ∙ ap (λ (e : Heard). Some (with_answer e certain call)) (sym kept)
-          ∙ ap (λ x. Some (with_answer k x call)) (sym told) ∙ ap (λ (x : Call). Some (with_answer k b x)) (sym is),
+          ∙ ap (λ x. Some (with_answer k x call)) (sym told) ∙ ap (λ (x : Item). Some (with_item k b x)) (sym is),
     )
 
 pub ended_wants : {T E : Type 0} (r : Result T E) (terms : Terms) (h : Heard) (t : Plain) (core : ℕ) (reply : Reply) (request : Request)
@@ -162,11 +166,12 @@ pub ended_wants : {T E : Type 0} (r : Result T E) (terms : Terms) (h : Heard) (t
     → OnErr r (MayWant terms h t (Of.Ends core reply))
 ended_wants (Ok x) terms h t core reply request waited given = tt
 ended_wants (Err e) terms h t core reply request waited given =
-    (call_to core reply request, ap (option_map (call_to core reply)) waited, (given.0, inl given.1))
+    (Answer (call_to core reply request), told_end h core reply request waited, (given.0, inl given.1))
 
 pub ended_bad : (terms : Terms) (h k : Heard) (t u : Plain) (core : ℕ) (reply : Reply) → waits h core ≡ None
     → Hears terms h t (Of.Ends core reply) Bad k u
-ended_bad terms h k t u core reply idle = ap (λ o. option_map (with_call h (Of.Ends core reply)) (option_map (call_to core reply) o)) idle
+ended_bad terms h k t u core reply idle =
+    ap (λ o. option_map (with_told h (Of.Ends core reply)) (option_map (λ r. Answer (call_to core reply r)) o)) idle
 
 -- ---- a call begins to wait
 
@@ -178,65 +183,96 @@ pub waits_bad : (terms : Terms) (h k : Heard) (t u : Plain) (core : ℕ) (reques
     → Hears terms h t (Of.Waits core request) Bad k u
 waits_bad terms h k t u core request busy = ap (λ b. cond b None (Some (with_waiting h core request))) busy
 
+-- ---- a page is copied
+
+pub copied_hears : (terms : Terms) (h k : Heard) (t u : Plain) (certain : Bool) (page : ℕ) → certain ≡ is_certain h (Of.Copies page)
+    → k ≡ with_copy h certain page → Copies t page u → Hears terms h t (Of.Copies page) Legal k u
+copied_hears terms h k t u certain page sure is copies =
+    (ap (λ b. Some (with_copy h b page)) (sym sure) ∙ ap Some (sym is), copies)
+
+pub uncopied_hears : (terms : Terms) (h k : Heard) (t u : Plain) (certain : Bool) (page : ℕ) → certain ≡ is_certain h (Of.Copies page) → k ≡ h
+    → u ≡ t → ((v : Plain) → ¬ Copies t page v) → Hears terms h t (Of.Copies page) (Illegal (Copy page) None certain) k u
+uncopied_hears terms h k t u certain page sure is same none = (
+  refl,
+  same,
+  sure,
+  (none, tt),
+  ap (λ b. Some (with_copy h b page)) (sym sure) ∙ ap (λ (e : Heard). Some (with_copy e certain page)) (sym is),
+)
+
+pub copy_wants : {T E : Type 0} (r : Result T E) (terms : Terms) (h : Heard) (t : Plain) (page : ℕ) → OnErr r ((u : Plain) × Copies t page u)
+    → OnErr r (MayWant terms h t (Of.Copies page))
+copy_wants (Ok x) terms h t page copies = tt
+copy_wants (Err e) terms h t page copies = (Copy page, refl, copies)
+
 -- ---- a line is passed over
 
 pub still_hears : (terms : Terms) (h k : Heard) (t u : Plain) (core : ℕ) (turn : Turn) → u ≡ t → Passes (is_some (waits h core)) h turn k
     → Hears terms h t (Of.StillWaits core) turn k u
 still_hears terms h k t u core Legal same (may, is) = (ap (λ b. cond b (Some (one_passed h)) None) may ∙ ap Some (sym is), same)
 still_hears terms h k t u core Bad same (may, is) = ap (λ b. cond b (Some (one_passed h)) None) may
-still_hears terms h k t u core (Illegal c due b) same p = absurd p
+still_hears terms h k t u core (Illegal i due b) same p = absurd p
 
 pub passes_hears : (terms : Terms) (h k : Heard) (t u : Plain) (turn : Turn) → u ≡ t → Passes true h turn k → Hears terms h t Of.Passes turn k u
 passes_hears terms h k t u Legal same (may, is) = (ap Some (sym is), same)
 passes_hears terms h k t u Bad same (may, is) = absurd (cc)
-passes_hears terms h k t u (Illegal c due b) same p = absurd p
+passes_hears terms h k t u (Illegal i due b) same p = absurd p
 
--- ---- the calls so far, with the one that a line tells
+-- ---- the items so far, with the one that a line tells
 
--- one more reply that may be there
-allowed_push : (terms : Terms) (t m u : Plain) (cs : List Call) (c : Call) → AreAllowed terms t cs m
-    → Allows terms m c.core c.request c.reply u → AreAllowed terms t (cs ++ c ∷ []) u
-allowed_push terms t m u [] c h a = (u, subst (λ x. Allows terms x c.core c.request c.reply u) h a, refl)
+-- one more that may be
+allowed_push : (terms : Terms) (t m u : Plain) (cs : List Item) (c : Item) → AreAllowed terms t cs m
+    → MayBe terms m c u → AreAllowed terms t (cs ++ c ∷ []) u
+allowed_push terms t m u [] c h a = (u, subst (λ x. MayBe terms x c u) h a, refl)
 allowed_push terms t m u (d ∷ cs) c h a = (h.0, h.1, allowed_push terms h.0 m u cs c h.2 a)
 
-same_calls : (terms : Terms) (first t u : Plain) (cs ds : List Call) → ds ≡ cs → u ≡ t → AreAllowed terms first cs t → AreAllowed terms first ds u
-same_calls terms first t u cs ds is same r =
+with_items : (h : Heard) (certain : Bool) (item : Item) → (with_item h certain item).items ≡ h.items ++ item ∷ []
+with_items h certain (Answer call) = refl
+with_items h certain (Copy page) = refl
+
+same_items : (terms : Terms) (first t u : Plain) (cs ds : List Item) → ds ≡ cs → u ≡ t → AreAllowed terms first cs t → AreAllowed terms first ds u
+same_items terms first t u cs ds is same r =
     subst (AreAllowed terms first ds) (sym same) (subst (λ l. AreAllowed terms first l t) (sym is) r)
 
--- where the line tells a call, or may not stand here
-told_moves : (terms : Terms) (first t u : Plain) (h k : Heard) (o : Option Call) (f : Call → Heard) → ((c : Call) → (f c).calls ≡ h.calls ++ c ∷ [])
-    → option_map f o ≡ Some k → Moves terms t o u → AreAllowed terms first h.calls t → AreAllowed terms first k.calls u
+-- where the line tells one, or may not stand here
+told_moves : (terms : Terms) (first t u : Plain) (h k : Heard) (o : Option Item) (f : Item → Heard) → ((c : Item) → (f c).items ≡ h.items ++ c ∷ [])
+    → option_map f o ≡ Some k → Moves terms t o u → AreAllowed terms first h.items t → AreAllowed terms first k.items u
 told_moves terms first t u h k None f adds e m r = absurd (cc)
 told_moves terms first t u h k (Some c) f adds e m r =
     let same : f c ≡ k = cc in
-    subst (λ l. AreAllowed terms first l u) (sym (adds c) ∙ ap (λ (x : Heard). x.calls) same) (allowed_push terms first t u h.calls c r m)
+    subst (λ l. AreAllowed terms first l u) (sym (adds c) ∙ ap (λ (x : Heard). x.items) same) (allowed_push terms first t u h.items c r m)
 
 -- where it tells none
 quiet_moves : (terms : Terms) (first t u : Plain) (h k : Heard) (b : Bool) (o p : Option Heard) → cond b o p ≡ Some k
-    → (o ≡ Some k → k.calls ≡ h.calls) → (p ≡ Some k → k.calls ≡ h.calls) → u ≡ t → AreAllowed terms first h.calls t
-    → AreAllowed terms first k.calls u
-quiet_moves terms first t u h k true o p e f g same r = same_calls terms first t u h.calls k.calls (f e) same r
-quiet_moves terms first t u h k false o p e f g same r = same_calls terms first t u h.calls k.calls (g e) same r
+    → (o ≡ Some k → k.items ≡ h.items) → (p ≡ Some k → k.items ≡ h.items) → u ≡ t → AreAllowed terms first h.items t
+    → AreAllowed terms first k.items u
+quiet_moves terms first t u h k true o p e f g same r = same_items terms first t u h.items k.items (f e) same r
+quiet_moves terms first t u h k false o p e f g same r = same_items terms first t u h.items k.items (g e) same r
 
 never : (k : Heard) (T : Type 0) → None ≡ Some k → T
 never k T e = absurd (cc)
 
-kept : (h x k : Heard) → x.calls ≡ h.calls → Some x ≡ Some k → k.calls ≡ h.calls
-kept h x k is e = let same : x ≡ k = cc in ap (λ (y : Heard). y.calls) (sym same) ∙ is
+kept : (h x k : Heard) → x.items ≡ h.items → Some x ≡ Some k → k.items ≡ h.items
+kept h x k is e = let same : x ≡ k = cc in ap (λ (y : Heard). y.items) (sym same) ∙ is
 
-pub moves_on : (terms : Terms) (first t u : Plain) (h k : Heard) (said : Said) → heard_after h said ≡ Some k → Moves terms t (call_told h said) u
-    → AreAllowed terms first h.calls t → AreAllowed terms first k.calls u
-moves_on terms first t u h k Of.Blank e m r = same_calls terms first t u h.calls k.calls (kept h h k refl e) m r
+pub moves_on : (terms : Terms) (first t u : Plain) (h k : Heard) (said : Said) → heard_after h said ≡ Some k → Moves terms t (item_told h said) u
+    → AreAllowed terms first h.items t → AreAllowed terms first k.items u
+moves_on terms first t u h k Of.Blank e m r = same_items terms first t u h.items k.items (kept h h k refl e) m r
 moves_on terms first t u h k (Of.Space cores frames calls) e m r = absurd (cc)
 moves_on terms first t u h k (Of.File number mode len seed) e m r = absurd (cc)
 moves_on terms first t u h k (Of.Answered call) e m r =
-    told_moves terms first t u h k (call_told h (Of.Answered call)) (with_call h (Of.Answered call)) (λ c. refl) e m r
+    told_moves terms first t u h k (item_told h (Of.Answered call)) (with_told h (Of.Answered call))
+    (λ c. with_items h (is_certain h (Of.Answered call)) c) e m r
 moves_on terms first t u h k (Of.Ends core reply) e m r =
-    told_moves terms first t u h k (call_told h (Of.Ends core reply)) (with_call h (Of.Ends core reply)) (λ c. refl) e m r
+    told_moves terms first t u h k (item_told h (Of.Ends core reply)) (with_told h (Of.Ends core reply))
+    (λ c. with_items (without h core) (is_certain h (Of.Ends core reply)) c) e m r
+moves_on terms first t u h k (Of.Copies page) e m r =
+    told_moves terms first t u h k (item_told h (Of.Copies page)) (with_told h (Of.Copies page))
+    (λ c. with_items h (is_certain h (Of.Copies page)) c) e m r
 moves_on terms first t u h k (Of.Waits core request) e m r =
-    quiet_moves terms first t u h k (is_some (waits h core)) None (Some (with_waiting h core request)) e (never k (k.calls ≡ h.calls))
+    quiet_moves terms first t u h k (is_some (waits h core)) None (Some (with_waiting h core request)) e (never k (k.items ≡ h.items))
     (kept h (with_waiting h core request) k refl) m r
 moves_on terms first t u h k (Of.StillWaits core) e m r =
     quiet_moves terms first t u h k (is_some (waits h core)) (Some (one_passed h)) None e (kept h (one_passed h) k refl)
-    (never k (k.calls ≡ h.calls)) m r
-moves_on terms first t u h k Of.Passes e m r = same_calls terms first t u h.calls k.calls (kept h (one_passed h) k refl e) m r
+    (never k (k.items ≡ h.items)) m r
+moves_on terms first t u h k Of.Passes e m r = same_items terms first t u h.items k.items (kept h (one_passed h) k refl e) m r

@@ -1,4 +1,5 @@
 pub mod ReplyLemmas
+pub mod CopyLemmas
 pub mod SaidLemmas
 pub mod TextLemmas
 pub mod FileLemmas

@@ -1,11 +1,10 @@
 -- A line says one thing: the words of an event begin with its core or with `fold`, and no declaration's words do.
-use Rattle.std.proofs.Common.{◌≡◌, ◌⊎◌, inl, inr, ℕ, Bool, true, false, cond, not, eqb, List, [], ◌∷◌, ◌++◌, Some}
+use Rattle.std.proofs.Common.{◌≡◌, ◌⊎◌, inl, inr, ℕ, Bool, true, false, cond, not, eqb, List, [], ◌∷◌, ◌++◌, Option, None, Some}
 use Rattle.std.proofs.Common.{codes, arith, refl, sym, ap, ◌∙◌, subst}
 use Rattle.std.proofs.lemmas.Bool.Decides.{nat_tests}
-use Rattle.trace_io.specs.Lines.{onto}
 use Rattle.trace_text.specs.Grammar.{Says}
 use Rattle.trace_text.specs.Line.{line_of, line_of_words}
-use Rattle.trace_text.specs.Words.{Word, begins_word, byte, words_of}
+use Rattle.trace_text.specs.Words.{Word, byte, words_of}
 use Rattle.trace_text.specs.declared.line.Line.{Line}
 use Rattle.trace_text.specs.declared.line.Line.TheVariants as Of
 use Rattle.trace_text.proofs.Choices.{bind_some}
@@ -13,20 +12,12 @@ use Rattle.trace_text.proofs.LineLemmas.{read_is_said}
 use Rattle.trace_text.proofs.WordLemmas.{words_join}
 use Rattle.audit_text.specs.Grammar.{TellsEvent}
 use Rattle.audit_text.specs.Laws.{LinesSayOne}
-use Rattle.audit_text.specs.Reading.{declaration_of, declared_said, event_said}
+use Rattle.audit_text.specs.Copying.{CopiesPage, copy_of}
+use Rattle.audit_text.specs.Reading.{copy_said, declaration_of, declared_said, event_said, or_copy, plain_said}
 use Rattle.audit_text.specs.declared.reading.Said.{Said}
+use Rattle.audit_text.specs.declared.reading.Said.TheVariants.{Copies}
+use Rattle.audit_text.proofs.CopyLemmas.{comment_word, copy_only, sign_not}
 use Rattle.audit_text.proofs.SaidLemmas.{comes_read, event_read, means_either}
-
--- ---- words
-
--- the first word of a line whose first byte is a #
-comment_word : (xs : List ℕ) (w : Word) (more : List Word) → words_of (35 ∷ xs) ≡ w ∷ more → byte w ≡ 35
-comment_word xs w more e = go (begins_word xs) (words_of xs) e
-  where
-    go : (b : Bool) (ws : List Word) → cond b (onto 35 ws) ((35 ∷ []) ∷ ws) ≡ w ∷ more → byte w ≡ 35
-    go true [] e = let same : 35 ∷ [] ≡ w = cc in sym (ap byte same)
-    go true (l ∷ ls) e = let same : 35 ∷ l ≡ w = cc in sym (ap byte same)
-    go false ws e = let same : 35 ∷ [] ≡ w = cc in sym (ap byte same)
 
 -- ---- the first word of an event, and of a declaration
 
@@ -95,9 +86,9 @@ apart_at (x ∷ xs) rest text line other said declared w more words e s read d =
         (declared_word other declared w (more ++ words_of rest) d
         (read_is_said other (w ∷ (more ++ words_of rest)) (sym (ap line_of_words split) ∙ k)))
 
-apart : (bytes : List ℕ) (said other : Said) → TellsEvent said bytes → declaration_of bytes ≡ Some other → ⊥
+apart_declared : (bytes : List ℕ) (said other : Said) → TellsEvent said bytes → declaration_of bytes ≡ Some other → ⊥
 unfolding declaration_of
-apart bytes said other t e =
+apart_declared bytes said other t e =
     let (line, read, is) = bind_some (line_of bytes) declared_said other e in
     go (words_of t.front) refl line (sym (ap line_of t.halves.is) ∙ read) is
   where
@@ -110,6 +101,20 @@ apart bytes said other t e =
     go (w ∷ more) words line read is =
         apart_at t.front (61 ∷ 32 ∷ t.text) t.text t.line line said other w more words happened (subst (Says t.line) words t.says) read is
 
+apart_copy : (bytes : List ℕ) (said other : Said) → TellsEvent said bytes → copy_said bytes ≡ Some other → ⊥
+unfolding copy_said
+apart_copy bytes said other t e =
+    let (page, read, is) = bind_some (copy_of (words_of bytes)) (λ p. Some (Copies p)) other e in
+    sign_not t.front t.text page (λ none. no_words t.line t.text said (comes_read said t.line t.text t.comes) (subst (Says t.line) none t.says))
+    (subst (λ l. CopiesPage page (words_of l)) t.halves.is (copy_only (words_of bytes) page read))
+
+apart : (bytes : List ℕ) (said other : Said) → TellsEvent said bytes → plain_said bytes ≡ Some other → ⊥
+apart bytes said other t e = go (declaration_of bytes) refl e
+  where
+    go : (o : Option Said) → declaration_of bytes ≡ o → or_copy o bytes ≡ Some other → ⊥
+    go (Some s) is k = apart_declared bytes said other t (is ∙ k)
+    go None is k = apart_copy bytes said other t k
+
 -- ---- the law
 
 events_one : (bytes : List ℕ) (said other : Said) → TellsEvent said bytes → TellsEvent other bytes → said ≡ other
@@ -119,8 +124,8 @@ events_one bytes said other t u =
     let same : Some said ≡ Some other = sym a ∙ b in
     cc
 
-means_one : (bytes : List ℕ) (said other : Said) → TellsEvent said bytes ⊎ (declaration_of bytes ≡ Some said)
-    → TellsEvent other bytes ⊎ (declaration_of bytes ≡ Some other) → said ≡ other
+means_one : (bytes : List ℕ) (said other : Said) → TellsEvent said bytes ⊎ (plain_said bytes ≡ Some said)
+    → TellsEvent other bytes ⊎ (plain_said bytes ≡ Some other) → said ≡ other
 means_one bytes said other (inl t) (inl u) = events_one bytes said other t u
 means_one bytes said other (inl t) (inr e) = absurd (apart bytes said other t e)
 means_one bytes said other (inr d) (inl u) = absurd (apart bytes other said u d)

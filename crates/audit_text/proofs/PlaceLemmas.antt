@@ -3,7 +3,7 @@ use Rattle.std.proofs.Common.{◌≡◌, inl, inr, ℕ, ◌+◌, ◌≤◌, Bool
 use Rattle.std.proofs.Common.{append_assoc, append-nil, length-append, arith, refl, sym, ap, ◌∙◌, subst}
 use Rattle.vm_base.specs.Plain.{Plain}
 use Rattle.vm_base.specs.declared.replies.Reply.{Reply}
-use Rattle.audit.specs.declared.auditor.Call.{Call}
+use Rattle.audit_text.specs.declared.item.Item.{Item}
 use Rattle.audit_text.specs.Allowed.{AreAllowed}
 use Rattle.audit_text.specs.Ends.{IsAtFault}
 use Rattle.audit_text.specs.Faults.{SaysNothing}
@@ -108,13 +108,13 @@ bad_at terms lines more n s t said a h none = record {
 
 after_legal : (terms : Terms) (lines more : List (List ℕ)) (d : Declared) (h k : Heard) (t u : Plain) (said : Said) (n : ℕ)
     → IsCall terms lines d h t said n more
-    → Hears terms h t said Legal k u → IsPlace lines n more (Behind d k) × AreAllowed terms (first_map d) k.calls u
+    → Hears terms h t said Legal k u → IsPlace lines n more (Behind d k) × AreAllowed terms (first_map d) k.items u
 after_legal terms lines more d h k t u said n c (is, moves) =
     let next : stage_after c.stage said ≡ Some (Behind d k) = c.after ∙ ap (behind d) is in
-    let same : AreAllowed terms (first_map d) (heard_in c.stage).calls t =
-    subst (λ (e : Declared). AreAllowed terms (first_map e) (heard_in c.stage).calls t) c.declared c.follows in
-    let told : AreAllowed terms (first_map d) h.calls t =
-    subst (λ (e : Heard). AreAllowed terms (first_map d) e.calls t) c.heard same in
+    let same : AreAllowed terms (first_map d) (heard_in c.stage).items t =
+    subst (λ (e : Declared). AreAllowed terms (first_map e) (heard_in c.stage).items t) c.declared c.follows in
+    let told : AreAllowed terms (first_map d) h.items t =
+    subst (λ (e : Heard). AreAllowed terms (first_map d) e.items t) c.heard same in
     (at_next lines more n c.stage (Behind d k) said c.at next, moves_on terms (first_map d) t u h k said is moves told)
 
 pub call_next : (terms : Terms) (lines rest more : List (List ℕ)) (d : Declared) (h k : Heard) (t u : Plain) (said other : Said) (n m : ℕ)
@@ -135,7 +135,7 @@ call_next terms lines rest more d h k t u said other n m line c hears e says up 
     }
 
 pub call_last : (terms : Terms) (lines rest : List (List ℕ)) (d : Declared) (h k : Heard) (t u : Plain) (said : Said) (n judged : ℕ)
-    → IsCall terms lines d h t said n rest → Hears terms h t said Legal k u → rest ≡ [] → judged ≡ length k.calls
+    → IsCall terms lines d h t said n rest → Hears terms h t said Legal k u → rest ≡ [] → judged ≡ k.calls
     → IsLegal terms lines judged k.lacking k.passed
 call_last terms lines rest d h k t u said n judged c hears e counted =
     let (place, follows) = after_legal terms lines rest d h k t u said n c hears in
@@ -159,10 +159,10 @@ call_fault terms lines rest more d h k t u said n m line f c hears e up says =
     let (place, follows) = after_legal terms lines rest d h k t u said n c hears in
     fault_here terms lines rest more n (Behind d k) u line f place follows e (subst (λ i. SaysNothing line i f) up says)
 
-call_wrong : (terms : Terms) (lines more : List (List ℕ)) (d : Declared) (h k : Heard) (t u : Plain) (said : Said) (n m : ℕ) (call : Call) (due : Reply)
-    (certain : Bool) → IsCall terms lines d h t said n more → m ≡ n → Hears terms h t said (Illegal call due certain) k u
-    → IsWrong terms lines m call due certain u
-call_wrong terms lines more d h k t u said n m call due certain c is (told, same, sure, refused, after) = record {
+call_wrong : (terms : Terms) (lines more : List (List ℕ)) (d : Declared) (h k : Heard) (t u : Plain) (said : Said) (n m : ℕ) (item : Item) (due : Option Reply)
+    (certain : Bool) → IsCall terms lines d h t said n more → m ≡ n → Hears terms h t said (Illegal item due certain) k u
+    → IsWrong terms lines m item due certain u
+call_wrong terms lines more d h k t u said n m item due certain c is (told, same, sure, refused, after) = record {
   stage = c.stage;
   line = c.at.line;
   more = more;
@@ -174,8 +174,8 @@ call_wrong terms lines more d h k t u said n m call due certain c is (told, same
   short = c.at.short;
   tells = c.at.tells;
   told = c.told ∙ told;
-  none = (subst (λ x. IsRefused terms x call due) (sym same) refused).0;
-  other = (subst (λ x. IsRefused terms x call due) (sym same) refused).1;
+  none = (subst (λ x. IsRefused terms x item due) (sym same) refused).0;
+  other = (subst (λ x. IsRefused terms x item due) (sym same) refused).1;
   certain_is = sure ∙ ap (λ (e : Heard). is_certain e said) (sym c.heard);
 }
 
@@ -183,10 +183,10 @@ call_wrong terms lines more d h k t u said n m call due certain c is (told, same
 pub turn_verdict : (terms : Terms) (lines more : List (List ℕ)) (d : Declared) (h k : Heard) (t u : Plain) (said : Said) (n : ℕ) (verdict : Verdict)
     → IsCall terms lines d h t said n more → TurnsOut terms h t said n (Ok (Some verdict)) k u → IsFound terms lines verdict u
 turn_verdict terms lines more d h k t u said n (Of.Legal calls lacking passed) c turns = absurd turns
-turn_verdict terms lines more d h k t u said n (Of.Illegal m call due) c turns =
-    call_wrong terms lines more d h k t u said n m call due true c turns.0 turns.1
-turn_verdict terms lines more d h k t u said n (Of.Undecided m call due) c turns =
-    call_wrong terms lines more d h k t u said n m call due false c turns.0 turns.1
+turn_verdict terms lines more d h k t u said n (Of.Illegal m item due) c turns =
+    call_wrong terms lines more d h k t u said n m item due true c turns.0 turns.1
+turn_verdict terms lines more d h k t u said n (Of.Undecided m item due) c turns =
+    call_wrong terms lines more d h k t u said n m item due false c turns.0 turns.1
 
 pub turn_fault : (terms : Terms) (lines more : List (List ℕ)) (d : Declared) (h k : Heard) (t u : Plain) (said : Said) (n : ℕ) (f : AuditFault)
     → IsCall terms lines d h t said n more → TurnsOut terms h t said n (Err f) k u → IsAtFault terms lines f

@@ -8,15 +8,16 @@ use Rattle.trace_io.specs.declared.fault.IoFault.TheVariants.{NoMemory, ReadFail
 use Rattle.audit_text.specs.Ends.{IsAtFault}
 use Rattle.audit_text.specs.Faults.{SaysNothing}
 use Rattle.audit_text.specs.Grammar.{Tells}
-use Rattle.audit_text.specs.Heard.{Declared, Heard, Stage, Front, Behind, Leads, behind, call_told, heard_after, is_certain, nothing, stage_after, undeclared}
-use Rattle.audit_text.specs.Heard.{with_answer}
+use Rattle.audit_text.specs.Heard.{Declared, Heard, Stage, Front, Behind, Leads, behind, item_told, heard_after, is_certain, nothing, stage_after, undeclared}
+use Rattle.audit_text.specs.Heard.{with_item}
 use Rattle.audit_text.specs.Legal.{IsPlace, first_map, heard_in, told_at}
 use Rattle.std.specs.Prelude.{OnOk}
 use Rattle.audit_text.specs.Reviewed.GoesOn.{there}
-use Rattle.audit_text.specs.Reviewed.{GoesOn, IsReviewed, IsThere, IsTextAtFault, Reviews, Turns, TurnsBy, wrong_at}
+use Rattle.audit_text.specs.Reviewed.{GoesOn, GoesOnBy, IsReviewed, IsThere, IsTextAtFault, Reviews, Turns, TurnsBy, wrong_at}
 use Rattle.audit_text.specs.Reviewing.{IsBefore, TurnsOutSo}
 use Rattle.audit_text.specs.Steps.{EndsFront, Hears}
 use Rattle.audit_text.specs.declared.allowing.Terms.{Terms}
+use Rattle.audit_text.specs.declared.item.Item.{Item}
 use Rattle.audit_text.specs.declared.hearing.Turn.TheVariants.{Legal, Illegal}
 use Rattle.audit_text.specs.declared.input.AuditFault.{AuditFault}
 use Rattle.audit_text.specs.declared.input.AuditFault.TheVariants.{BadLine, TooLong, NoVmLine, Io}
@@ -43,16 +44,16 @@ pub legal_turn : (terms : Terms) (h k : Heard) (t u : Plain) (said : Said) (line
     → Hears terms h t said Legal k u → TurnsOutSo {T = Unit {0}} terms h t said line found (Ok tt) k u new
 legal_turn terms h k t u said line found new same (is, moves) = (is, ([], same ∙ sym (append-nil found), inl (refl, moves)))
 
-pub wrong_turn : (terms : Terms) (h k m : Heard) (t v u : Plain) (said : Said) (line : ℕ) (call : Call) (due : Reply) (certain : Bool)
-    (found new : List Verdict) → Hears terms h t said (Illegal call due certain) k v → GoesOn terms v call due u
-    → m ≡ with_answer k certain call → new ≡ found ++ wrong_at line call due certain ∷ []
+pub wrong_turn : (terms : Terms) (h k m : Heard) (t v u : Plain) (said : Said) (line : ℕ) (item : Item) (due : Option Reply) (certain : Bool)
+    (found new : List Verdict) → Hears terms h t said (Illegal item due certain) k v → GoesOnBy terms v item due u
+    → m ≡ with_item k certain item → new ≡ found ++ wrong_at line item due certain ∷ []
     → TurnsOutSo {T = Unit {0}} terms h t said line found (Ok tt) m u new
-wrong_turn terms h k m t v u said line call due certain found new (told, same, sure, refused, after) goes is added = (
+wrong_turn terms h k m t v u said line item due certain found new (told, same, sure, refused, after) goes is added = (
   after ∙ ap Some (sym is),
   (
-    wrong_at line call due certain ∷ [],
+    wrong_at line item due certain ∷ [],
     added,
-    inr (call, due, told, refused, subst (λ x. GoesOn terms x call due u) same goes, ap (λ b. wrong_at line call due b ∷ []) sure),
+    inr (item, due, told, refused, subst (λ x. GoesOnBy terms x item due u) same goes, ap (λ b. wrong_at line item due b ∷ []) sure),
   ),
 )
 
@@ -133,7 +134,7 @@ heard_line terms lines more d h k t u found new said n b (is, (added, adds, turn
     let next : stage_after b.stage said ≡ Some (Behind d k) = b.after ∙ ap (behind d) is in
     let at : TurnsBy terms t n (told_at b.stage said) (is_certain (heard_in b.stage) said) added u =
     subst (λ o. TurnsBy terms t n o (is_certain (heard_in b.stage) said) added u) (sym b.told)
-    (subst (λ (x : Heard). TurnsBy terms t n (call_told h said) (is_certain x said) added u) (sym b.heard) turns) in
+    (subst (λ (x : Heard). TurnsBy terms t n (item_told h said) (is_certain x said) added u) (sym b.heard) turns) in
     let more_reviews = reviews_more terms (Front d) (first_map d) (length b.front) b.done found added b.stage (Behind d k) t u b.line said b.reviews
     b.short b.tells next (subst (λ i. Turns terms b.stage t i said added u) b.number_is at) in (
       b.front,
@@ -170,7 +171,7 @@ before_next terms lines rest more d h k t u found new said other n m line b turn
 
 pub before_last : (terms : Terms) (lines rest : List (List ℕ)) (d : Declared) (h k : Heard) (t u : Plain) (found new : List Verdict) (said : Said)
     (n judged : ℕ) → IsBefore terms lines d h t found said n rest → TurnsOutSo {T = Unit {0}} terms h t said n found (Ok tt) k u new → rest ≡ []
-    → judged ≡ length k.calls → IsReviewed terms lines new judged k.lacking
+    → judged ≡ k.calls → IsReviewed terms lines new judged k.lacking
 before_last terms lines rest d h k t u found new said n judged b turns e counted =
     let a = heard_line terms lines rest d h k t u found new said n b turns in
     record {
@@ -261,7 +262,7 @@ before_first terms lines more d h t found said n (at, ended) space new first non
   tells = at.tells;
   after = ended ∙ ap (λ b. cond b (behind d (heard_after nothing said)) None) space
       ∙ ap (λ (x : Heard). behind d (heard_after x said)) (sym new);
-  told = ap (λ b. cond b (call_told nothing said) None) space ∙ ap (λ (x : Heard). call_told x said) (sym new);
+  told = ap (λ b. cond b (item_told nothing said) None) space ∙ ap (λ (x : Heard). item_told x said) (sym new);
   heard = sym new;
 }
 

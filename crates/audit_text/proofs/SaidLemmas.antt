@@ -15,12 +15,14 @@ use Rattle.trace_text.specs.declared.line.Line.TheVariants as Of
 use Rattle.trace_text.proofs.Choices.{bind_some, chosen}
 use Rattle.trace_text.proofs.LineLemmas.{line_is_said, read_is_said, said_is_read}
 use Rattle.audit.specs.declared.auditor.Call.{Call as CallOf}
+use Rattle.audit_text.specs.Copying.{CopiesPage, copy_of}
 use Rattle.audit_text.specs.Grammar.{Comes, Means, Tells, TellsEvent, goes_on, is_event, is_passed}
 use Rattle.audit_text.specs.Reading.{act_said, answered, begun_said, call_said, declaration_of, declared_said, end_said, event_said, if_unanswered}
-use Rattle.audit_text.specs.Reading.{passed_said, said_of, told_or}
+use Rattle.audit_text.specs.Reading.{copy_said, or_copy, passed_said, plain_said, said_of, told_or}
 use Rattle.audit_text.specs.Replies.{NamesReply, is_nothing, is_step, is_unanswered, reply_of}
 use Rattle.audit_text.specs.declared.reading.Said.{Said}
-use Rattle.audit_text.specs.declared.reading.Said.TheVariants.{Blank, Space, File, Answered, Waits, Ends, StillWaits, Passes}
+use Rattle.audit_text.specs.declared.reading.Said.TheVariants.{Blank, Space, File, Answered, Waits, Ends, StillWaits, Copies, Passes}
+use Rattle.audit_text.proofs.CopyLemmas.{copy_all, copy_only, no_declaration}
 use Rattle.audit_text.proofs.ReplyLemmas.{nothing_alone, or_split, reply_only, reply_read, still_none, unanswered_none}
 use Rattle.trace_text.specs.Halves.{AreHalves}
 use Rattle.trace_text.proofs.HalvesLemmas.{halves_one}
@@ -258,6 +260,7 @@ pub event_means : (said : Said) (bytes : List ℕ) → TellsEvent said bytes →
 event_means Blank bytes t = absurd t.comes
 event_means (Space cores frames calls) bytes t = absurd t.comes
 event_means (File number mode len seed) bytes t = absurd t.comes
+event_means (Copies page) bytes t = absurd t.comes
 event_means said bytes t = t
 
 -- an event's line, if it is printable
@@ -295,28 +298,56 @@ bytes_read (b ∷ bs) line h = go (eqb b 35) h
     go true k = ap Some (sym k)
     go false k = said_is_read line (words_of (b ∷ bs)) k
 
--- what a line says is an event's, or is declared
-pub means_either : (said : Said) (bytes : List ℕ) → Means said bytes → TellsEvent said bytes ⊎ (declaration_of bytes ≡ Some said)
+-- what is declared
+declared_as : (bytes : List ℕ) (line : Line) (said : Said) → BytesSay line bytes → declared_said line ≡ Some said
+    → plain_said bytes ≡ Some said
 unfolding declaration_of
-means_either Blank bytes h = inr (ap (λ o. o >>= declared_said) (bytes_read bytes Of.Blank h))
-means_either (Space cores frames calls) bytes h = inr (ap (λ o. o >>= declared_said) (bytes_read bytes (Of.Space cores frames calls) h))
-means_either (File number mode len seed) bytes h = inr (ap (λ o. o >>= declared_said) (bytes_read bytes (Of.File number mode len seed) h))
+declared_as bytes line said h e =
+    ap (λ o. or_copy (o >>= declared_said) bytes) (bytes_read bytes line h) ∙ ap (λ o. or_copy o bytes) e
+
+-- what says that a page is copied
+copy_as : (bytes : List ℕ) (page : ℕ) → CopiesPage page (words_of bytes) → plain_said bytes ≡ Some (Copies page)
+unfolding declaration_of copy_said
+copy_as bytes page h =
+    ap (λ o. or_copy o bytes) (no_declaration bytes page h) ∙ ap (λ o. o >>= λ p. Some (Copies p)) (copy_all (words_of bytes) page h)
+
+-- what a line says is an event's, or stands in a line without a sign
+pub means_either : (said : Said) (bytes : List ℕ) → Means said bytes → TellsEvent said bytes ⊎ (plain_said bytes ≡ Some said)
+means_either Blank bytes h = inr (declared_as bytes Of.Blank Blank h refl)
+means_either (Space cores frames calls) bytes h = inr (declared_as bytes (Of.Space cores frames calls) (Space cores frames calls) h refl)
+means_either (File number mode len seed) bytes h = inr (declared_as bytes (Of.File number mode len seed) (File number mode len seed) h refl)
+means_either (Copies page) bytes h = inr (copy_as bytes page h)
 means_either said bytes h = inl h
 
-declared_read : (bytes : List ℕ) (said : Said) → (TellsEvent said bytes → ⊥) → Means said bytes → declaration_of bytes ≡ Some said
+declared_read : (bytes : List ℕ) (said : Said) → (TellsEvent said bytes → ⊥) → Means said bytes → plain_said bytes ≡ Some said
 declared_read bytes said never h = elim (means_either said bytes h) [
   | inl t ↦ absurd (never t)
   | inr e ↦ e
 ]
 
-pub line_some : (r : Option Said) (bytes : List ℕ) → are_printable bytes ≡ true → r ≡ declaration_of bytes → IfSome r (λ said. Tells said bytes)
+declaration_only : (bytes : List ℕ) (said : Said) → declaration_of bytes ≡ Some said → Means said bytes
 unfolding declaration_of
-line_some None bytes p e = tt
-line_some (Some said) bytes p e =
-    let (line, read, is) = bind_some (line_of bytes) declared_said said (sym e) in
-    (p, declared_only bytes line said (line_is_said bytes line read) is)
+declaration_only bytes said e =
+    let (line, read, is) = bind_some (line_of bytes) declared_said said e in
+    declared_only bytes line said (line_is_said bytes line read) is
 
-pub line_none : (r : Option Said) (bytes : List ℕ) → ((said : Said) → TellsEvent said bytes → ⊥) → r ≡ declaration_of bytes
+copied_only : (bytes : List ℕ) (said : Said) → copy_said bytes ≡ Some said → Means said bytes
+unfolding copy_said
+copied_only bytes said e =
+    let (page, read, is) = bind_some (copy_of (words_of bytes)) (λ p. Some (Copies p)) said e in
+    let same : Copies page ≡ said = cc in
+    subst (λ s. Means s bytes) same (copy_only (words_of bytes) page read)
+
+-- what is read of a line without a sign is said
+pub plain_only : (bytes : List ℕ) (said : Said) (o : Option Said) → declaration_of bytes ≡ o → or_copy o bytes ≡ Some said → Means said bytes
+plain_only bytes said (Some s) is e = declaration_only bytes said (is ∙ e)
+plain_only bytes said None is e = copied_only bytes said e
+
+pub line_some : (r : Option Said) (bytes : List ℕ) → are_printable bytes ≡ true → r ≡ plain_said bytes → IfSome r (λ said. Tells said bytes)
+line_some None bytes p e = tt
+line_some (Some said) bytes p e = (p, plain_only bytes said (declaration_of bytes) refl (sym e))
+
+pub line_none : (r : Option Said) (bytes : List ℕ) → ((said : Said) → TellsEvent said bytes → ⊥) → r ≡ plain_said bytes
     → IfNone r ((said : Said) → Tells said bytes → ⊥)
 line_none None bytes never e = λ said t. let read = declared_read bytes said (never said) t.1 in absurd (cc)
 line_none (Some s) bytes never e = tt

@@ -1,6 +1,6 @@
--- Which replies a call may have: those of the plain page map, and, unless these are ruled out, those of a call that found no
+-- Which replies a call may have, and which copies there may be: those of the plain page map, and, unless these are ruled out, those of a call that found no
 -- frame or no memory.
-use Rattle.std.specs.Prelude.{◌≡◌, ◌⊎◌, ℕ, Bool, true, false, List, [], ◌∷◌}
+use Rattle.std.specs.Prelude.{◌≡◌, ◌⊎◌, ⊤, ℕ, Bool, true, false, List, [], ◌∷◌, Option, None, Some}
 use Rattle.vm_base.specs.declared.requests.Request.{Request}
 use Rattle.vm_base.specs.declared.requests.Request.TheVariants.{Load, Store, Fetch}
 use Rattle.vm_base.specs.declared.replies.Reply.{Reply}
@@ -8,9 +8,11 @@ use Rattle.vm_base.specs.declared.replies.Reply.TheVariants.{Done, Byte, NoFrame
 use Rattle.vm_base.specs.Answers.{Answers}
 use Rattle.vm_base.specs.Places.{IsFirstPlace}
 use Rattle.vm_base.specs.Plain.{Plain}
+use Rattle.audit.specs.Copying.{Copies}
 use Rattle.audit.specs.Placing.{rule_of}
-use Rattle.audit.specs.declared.auditor.Call.{Call}
 use Rattle.audit_text.specs.declared.allowing.Terms.{Terms}
+use Rattle.audit_text.specs.declared.item.Item.{Item}
+use Rattle.audit_text.specs.declared.item.Item.TheVariants.{Answer, Copy}
 
 -- an access is served where this is due
 abbrev pub serves : Request → Reply → Bool
@@ -34,14 +36,26 @@ abbrev pub Allows : Terms → Plain → ℕ → Request → Reply → Plain → 
 Allows terms t core request y u =
     Answers (rule_of terms.any_place) t core request y u ⊎ ((terms.is_strict ≡ false) × Lacks t core request y u)
 
--- The replies of the calls, one after another, may be, from t on, and leave u.
-abbrev pub AreAllowed : Terms → Plain → List Call → Plain → Type 0
-AreAllowed terms t [] u = u ≡ t
-AreAllowed terms t (c ∷ cs) u = (m : Plain) × Allows terms t c.core c.request c.reply m × AreAllowed terms m cs u
+-- A call may have its reply, or a private page that shows its file's bytes and may be stored to gets its copy.
+abbrev pub MayBe : Terms → Plain → Item → Plain → Type 0
+MayBe terms t (Answer call) u = Allows terms t call.core call.request call.reply u
+MayBe terms t (Copy page) u = Copies t page u
 
--- some map is left by this reply
-abbrev pub IsAllowed : Terms → Plain → ℕ → Request → Reply → Type 0
-IsAllowed terms t core request y = (u : Plain) × Allows terms t core request y u
+-- The replies and copies, one after another, may be, from t on, and leave u.
+abbrev pub AreAllowed : Terms → Plain → List Item → Plain → Type 0
+AreAllowed terms t [] u = u ≡ t
+AreAllowed terms t (i ∷ is) u = (m : Plain) × MayBe terms t i m × AreAllowed terms m is u
+
+-- some map is left by it
+abbrev pub IsAllowed : Terms → Plain → Item → Type 0
+IsAllowed terms t item = (u : Plain) × MayBe terms t item u
+
+-- The first plain page map would give this reply; where no copy may be, none is due.
+abbrev pub IsDue : Plain → Item → Option Reply → Type 0
+IsDue t (Answer call) (Some due) = (v : Plain) × Answers IsFirstPlace t call.core call.request due v
+IsDue t (Answer call) None = ⊥
+IsDue t (Copy page) (Some due) = ⊥
+IsDue t (Copy page) None = ⊤
 
 -- what the code tests of a reply where this one is due
 abbrev pub is_lack : Request → Reply → Reply → Bool

@@ -1,5 +1,5 @@
 -- How an audit ends, and what it writes.
-use Rattle.std.specs.Prelude.{◌≡◌, ℕ, ⊤, nat_lt, true, false, List, [], ◌++◌, Option, Result, Ok, Err, codes, decimal, if◌then◌else◌}
+use Rattle.std.specs.Prelude.{◌≡◌, ℕ, ⊤, nat_lt, true, false, List, [], ◌++◌, Option, Some, Result, Ok, Err, codes, decimal, if◌then◌else◌}
 use Rattle.std.specs.List.{flat_map}
 use Rattle.std.specs.Io.KnownBytes.{Keeps, Appends}
 use Rattle.trace_io.specs.Io.{ReadFrom, TellsSent, WrittenTo}
@@ -10,7 +10,8 @@ use Rattle.trace_text.specs.Lists.{map_line}
 use Rattle.trace_text.specs.Printing.{text_of}
 use Rattle.slot_lock.specs.declared.map_list.MapLine.{MapLine}
 use Rattle.vm_base.specs.declared.replies.Reply.{Reply}
-use Rattle.audit.specs.declared.auditor.Call.{Call}
+use Rattle.audit_text.specs.declared.item.Item.{Item}
+use Rattle.audit_text.specs.declared.item.Item.TheVariants.{Answer}
 use Rattle.audit_text.specs.declared.allowing.Terms.{Terms}
 use Rattle.audit_text.specs.Legal.{IsBad, IsIllegal, IsLegal, IsOverlong, LacksSpace}
 use Rattle.audit_text.specs.declared.input.AuditFault.{AuditFault}
@@ -22,8 +23,8 @@ use Rattle.audit_text.specs.declared.judging.Verdict.TheVariants.{Legal, Illegal
 
 abbrev pub IsVerdict : Terms → List (List ℕ) → Verdict → List MapLine → Type 0
 IsVerdict terms lines (Legal calls lacking passed) around = IsLegal terms lines calls lacking passed × (around ≡ [])
-IsVerdict terms lines (Illegal line call due) around = IsIllegal terms lines line call due true around
-IsVerdict terms lines (Undecided line call due) around = IsIllegal terms lines line call due false around
+IsVerdict terms lines (Illegal line item due) around = IsIllegal terms lines line item due true around
+IsVerdict terms lines (Undecided line item due) around = IsIllegal terms lines line item due false around
 
 -- a text can't be judged, but for want of memory
 abbrev pub IsAtFault : Terms → List (List ℕ) → AuditFault → Type 0
@@ -42,15 +43,16 @@ some_lacking n = codes ", " ++ decimal n ++ codes " without memory"
 abbrev pub lacking_text : ℕ → List ℕ
 lacking_text n = if nat_lt 0 n then some_lacking n else []
 
--- what was replied at a line, and what would be due
-abbrev pub wrong_text : List ℕ → ℕ → Call → Reply → List ℕ
-wrong_text word line call due = word ++ decimal line ++ codes ": replied " ++ text_of call.reply
+-- what was replied at a line, and what would be due; or that a page was copied where none may be
+abbrev pub wrong_text : List ℕ → ℕ → Item → Option Reply → List ℕ
+wrong_text word line (Answer call) (Some due) = word ++ decimal line ++ codes ": replied " ++ text_of call.reply
     ++ codes ", due " ++ text_of due ++ codes "\n"
+wrong_text word line item due = word ++ decimal line ++ codes ": copied, due no copy\n"
 
 abbrev pub head_text : Verdict → List ℕ
 head_text (Legal calls lacking passed) = codes "legal " ++ decimal calls ++ lacking_text lacking ++ codes "\n"
-head_text (Illegal line call due) = wrong_text (codes "illegal ") line call due
-head_text (Undecided line call due) = wrong_text (codes "undecided ") line call due
+head_text (Illegal line item due) = wrong_text (codes "illegal ") line item due
+head_text (Undecided line item due) = wrong_text (codes "undecided ") line item due
 
 abbrev pub mapping_text : MapLine → List ℕ
 mapping_text line = map_line line.range line.prot line.back

@@ -10,9 +10,10 @@ use Rattle.trace_text.specs.declared.action.Action.TheVariants.{Call, Go, GiveUp
 use Rattle.trace_text.specs.declared.action.Action.TheVariants.{Take, Flush, Review, Walk, Evict}
 use Rattle.trace_text.specs.declared.line.Line.{Line}
 use Rattle.trace_text.specs.declared.line.Line.TheVariants as Of
+use Rattle.audit_text.specs.Copying.{CopiesPage}
 use Rattle.audit_text.specs.Replies.{NamesReply, is_nothing, is_step, is_unanswered}
 use Rattle.audit_text.specs.declared.reading.Said.{Said}
-use Rattle.audit_text.specs.declared.reading.Said.TheVariants.{Blank, Space, File, Answered, Waits, Ends, StillWaits, Passes}
+use Rattle.audit_text.specs.declared.reading.Said.TheVariants.{Blank, Space, File, Answered, Waits, Ends, StillWaits, Copies, Passes}
 
 -- the line asks for an event that changes nothing a user sees
 abbrev pub is_passed_action : Action → Bool
@@ -85,6 +86,7 @@ Means (Waits core request) bytes = TellsEvent (Waits core request) bytes
 Means (Ends core reply) bytes = TellsEvent (Ends core reply) bytes
 Means (StillWaits core) bytes = TellsEvent (StillWaits core) bytes
 Means Passes bytes = TellsEvent Passes bytes
+Means (Copies page) bytes = CopiesPage page (words_of bytes)
 
 -- the bytes of a line say this, and all are printable
 abbrev pub Tells : Said → List ℕ → Type 0

@@ -6,10 +6,12 @@ use Rattle.vm_base.specs.declared.replies.Reply.{Reply}
 use Rattle.vm_base.specs.Plain.{File as PlainFile, file_with}
 use Rattle.trace_text.specs.Line.{seeded}
 use Rattle.audit.specs.declared.auditor.Call.{Call}
+use Rattle.audit_text.specs.declared.item.Item.{Item}
+use Rattle.audit_text.specs.declared.item.Item.TheVariants.{Answer, Copy}
 use Rattle.audit_text.specs.Allowed.{is_given_up, is_lacking, is_store}
 use Rattle.audit_text.specs.Grammar.{Tells}
 use Rattle.audit_text.specs.declared.reading.Said.{Said}
-use Rattle.audit_text.specs.declared.reading.Said.TheVariants.{Blank, Space, File, Answered, Waits, Ends, StillWaits, Passes}
+use Rattle.audit_text.specs.declared.reading.Said.TheVariants.{Blank, Space, File, Answered, Waits, Ends, StillWaits, Copies, Passes}
 
 -- ---- the lines in front
 
@@ -33,18 +35,19 @@ with_file d number file len = if d.has_space && (number == length d.files) && na
 -- ---- the calls
 
 -- What the call of each core asks for that waits, and how many wait; the calls that were answered, in order of their replies,
--- and how many of them found no frame or no memory; how many lines were passed over; and whether so far no other order of the
--- calls, and no other map, can be behind these replies.
+-- and the copies between them; how many calls these are, and how many of them found no frame or no memory; how many lines were
+-- passed over; and whether so far no other order of the calls, and no other map, can be behind these replies.
 pub record Heard : Type 0 where
   pub waiting : List (Option Request)
   pub pending : ℕ
-  pub calls : List Call
+  pub items : List Item
+  pub calls : ℕ
   pub lacking : ℕ
   pub passed : ℕ
   pub is_sure : Bool
 
 abbrev pub nothing : Heard
-nothing = record { waiting = replicate 64 None; pending = 0; calls = []; lacking = 0; passed = 0; is_sure = true }
+nothing = record { waiting = replicate 64 None; pending = 0; items = []; calls = 0; lacking = 0; passed = 0; is_sure = true }
 
 abbrev pub waits : Heard → ℕ → Option Request
 waits h core = get_or h.waiting core None
@@ -52,17 +55,19 @@ waits h core = get_or h.waiting core None
 abbrev pub call_to : ℕ → Reply → Request → Call
 call_to core reply request = record { core = core; request = request; reply = reply }
 
--- the call whose reply a line tells: it is in the line, unless a call of its core waits, or it is the one that waits
-abbrev pub call_told : Heard → Said → Option Call
-call_told h (Answered call) = if is_some (waits h call.core) then None else Some call
-call_told h (Ends core reply) = option_map (call_to core reply) (waits h core)
-call_told h _ = None
+-- what a line tells that is judged: a call that is in the line, unless a call of its core waits, or the one that waits; or a copy
+abbrev pub item_told : Heard → Said → Option Item
+item_told h (Answered call) = if is_some (waits h call.core) then None else Some (Answer call)
+item_told h (Ends core reply) = option_map (λ r. Answer (call_to core reply r)) (waits h core)
+item_told h (Copies page) = Some (Copy page)
+item_told h _ = None
 
--- The order of the replies is the only one in which the calls may have taken effect: no reply so far, this line's too, came while
--- another core's call waited. And the map is known: no store so far may have left a copy behind.
+-- The order of the lines is the only one in which calls and copies may have taken effect: no reply or copy so far, this line's too,
+-- came while another call waited. And the map is known: no store so far may have left a copy behind.
 abbrev pub is_alone : Heard → Said → Bool
 is_alone h (Answered call) = nat_le h.pending 0
 is_alone h (Ends core reply) = nat_le h.pending 1
+is_alone h (Copies page) = nat_le h.pending 0
 is_alone h _ = true
 
 abbrev pub is_certain : Heard → Said → Bool
@@ -71,18 +76,27 @@ is_certain h said = h.is_sure && is_alone h said
 -- with one more call, at whose line this is certain
 abbrev pub with_answer : Heard → Bool → Call → Heard
 with_answer h certain call = record h {
-  calls = h.calls ++ call ∷ [];
+  items = h.items ++ Answer call ∷ [];
+  calls = suc h.calls;
   lacking = if is_lacking call.reply then suc h.lacking else h.lacking;
   is_sure = certain && not (is_store call.request && is_given_up call.reply);
 }
 
--- with the call that this line tells, which doesn't wait any more
+-- with a copy
+abbrev pub with_copy : Heard → Bool → ℕ → Heard
+with_copy h certain page = record h { items = h.items ++ Copy page ∷ []; is_sure = certain }
+
+abbrev pub with_item : Heard → Bool → Item → Heard
+with_item h certain (Answer call) = with_answer h certain call
+with_item h certain (Copy page) = with_copy h certain page
+
+-- with what this line tells, whose call doesn't wait any more
 abbrev pub without : Heard → ℕ → Heard
 without h core = record h { waiting = set h.waiting core None; pending = h.pending - 1 }
 
-abbrev pub with_call : Heard → Said → Call → Heard
-with_call h (Ends core reply) call = with_answer (without h core) (is_certain h (Ends core reply)) call
-with_call h said call = with_answer h (is_certain h said) call
+abbrev pub with_told : Heard → Said → Item → Heard
+with_told h (Ends core reply) item = with_item (without h core) (is_certain h (Ends core reply)) item
+with_told h said item = with_item h (is_certain h said) item
 
 -- a call that begins to wait
 abbrev pub with_waiting : Heard → ℕ → Request → Heard
@@ -94,8 +108,9 @@ one_passed h = record h { passed = suc h.passed }
 -- after a line of this; none, where it may not stand here
 abbrev pub heard_after : Heard → Said → Option Heard
 heard_after h Blank = Some h
-heard_after h (Answered call) = option_map (with_call h (Answered call)) (call_told h (Answered call))
-heard_after h (Ends core reply) = option_map (with_call h (Ends core reply)) (call_told h (Ends core reply))
+heard_after h (Answered call) = option_map (with_told h (Answered call)) (item_told h (Answered call))
+heard_after h (Ends core reply) = option_map (with_told h (Ends core reply)) (item_told h (Ends core reply))
+heard_after h (Copies page) = option_map (with_told h (Copies page)) (item_told h (Copies page))
 heard_after h (Waits core request) = if is_some (waits h core) then None else Some (with_waiting h core request)
 heard_after h (StillWaits core) = if is_some (waits h core) then Some (one_passed h) else None
 heard_after h Passes = Some (one_passed h)

@@ -4,19 +4,18 @@ use Rattle.std.specs.Prelude.{if◌then◌else◌}
 use Rattle.vm_base.specs.declared.requests.Request.{Request}
 use Rattle.vm_base.specs.declared.requests.Request.TheVariants.{Mmap, Munmap, Mprotect, Load, Store, Fetch}
 use Rattle.vm_base.specs.declared.replies.Reply.{Reply}
-use Rattle.vm_base.specs.Answers.{Answers}
 use Rattle.vm_base.specs.Pages.{page_of}
 use Rattle.vm_base.specs.Plain.{Plain, nothing_mapped}
 use Rattle.slot_lock.specs.MapList.{plain_metas}
 use Rattle.slot_lock.specs.declared.map_list.MapLine.{MapLine}
-use Rattle.audit.specs.declared.auditor.Call.{Call}
-use Rattle.audit_text.specs.Allowed.{Allows, AreAllowed}
+use Rattle.audit_text.specs.declared.item.Item.{Item}
+use Rattle.audit_text.specs.declared.item.Item.TheVariants.{Answer, Copy}
+use Rattle.audit_text.specs.Allowed.{AreAllowed, IsDue, MayBe}
 use Rattle.audit_text.specs.Around.{IsAround}
 use Rattle.audit_text.specs.Grammar.{Tells}
-use Rattle.audit_text.specs.Heard.{Declared, Heard, Stage, Front, Behind, Leads, call_told, is_certain, nothing, stage_after, undeclared}
+use Rattle.audit_text.specs.Heard.{Declared, Heard, Stage, Front, Behind, Leads, item_told, is_certain, nothing, stage_after, undeclared}
 use Rattle.audit_text.specs.declared.allowing.Terms.{Terms}
 use Rattle.audit_text.specs.declared.reading.Said.{Said}
-use Rattle.vm_base.specs.Places.{IsFirstPlace}
 
 abbrev pub declared_in : Stage → Declared
 declared_in (Front d) = d
@@ -30,19 +29,19 @@ heard_in (Behind d h) = h
 abbrev pub first_map : Declared → Plain
 first_map d = nothing_mapped (λ n. slice_get d.files n)
 
--- the replies told so far, one after another, may be, and lead to u
+-- the replies and copies told so far, one after another, may be, and lead to u
 abbrev pub Follows : Terms → Stage → Plain → Type 0
-Follows terms s u = AreAllowed terms (first_map (declared_in s)) (heard_in s).calls u
+Follows terms s u = AreAllowed terms (first_map (declared_in s)) (heard_in s).items u
 
 -- A text is legal, with so many calls, of which so many found no frame or no memory: its lines may stand where they are, a space is
--- declared, and the replies that they tell, one after another, may be.
+-- declared, and the replies and copies that they tell, one after another, may be.
 pub record IsLegal (terms : Terms) (lines : List (List ℕ)) (calls lacking passed : ℕ) : Type 0 where
   pub stage : Stage
   pub plain : Plain
   pub leads : Leads (Front undeclared) lines stage
   pub space : (declared_in stage).has_space ≡ true
   pub replies : Follows terms stage plain
-  pub calls_are : calls ≡ length (heard_in stage).calls
+  pub calls_are : calls ≡ (heard_in stage).calls
   pub lacking_are : lacking ≡ (heard_in stage).lacking
   pub passed_are : passed ≡ (heard_in stage).passed
 
@@ -55,10 +54,10 @@ pub record IsPlace (lines : List (List ℕ)) (number : ℕ) (more : List (List �
   pub count : length done ≡ number
   pub leads : Leads (Front undeclared) done s
 
--- the call whose reply a line tells at a stage
-abbrev pub told_at : Stage → Said → Option Call
-told_at (Front d) said = if d.has_space then call_told nothing said else None
-told_at (Behind d h) said = call_told h said
+-- what a line tells at a stage that is judged
+abbrev pub told_at : Stage → Said → Option Item
+told_at (Front d) said = if d.has_space then item_told nothing said else None
+told_at (Behind d h) said = item_told h said
 
 abbrev pub page_asked : Request → ℕ
 page_asked (Mmap addr len prot flags file off) = page_of addr
@@ -68,9 +67,13 @@ page_asked (Load addr) = page_of addr
 page_asked (Store addr b) = page_of addr
 page_asked (Fetch addr) = page_of addr
 
+abbrev pub page_told : Item → ℕ
+page_told (Answer call) = page_asked call.request
+page_told (Copy page) = page
+
 -- The lines before this one are legal, and lead to this map. It tells a reply that may not be there, and the first plain page map
--- gives another. Whether that is certain is told, too.
-pub record IsWrong (terms : Terms) (lines : List (List ℕ)) (number : ℕ) (call : Call) (due : Reply) (certain : Bool) (plain : Plain)
+-- gives another; or a copy that may not be. Whether that is certain is told, too.
+pub record IsWrong (terms : Terms) (lines : List (List ℕ)) (number : ℕ) (item : Item) (due : Option Reply) (certain : Bool) (plain : Plain)
     : Type 0 where
   pub stage : Stage
   pub line : List ℕ
@@ -82,17 +85,17 @@ pub record IsWrong (terms : Terms) (lines : List (List ℕ)) (number : ℕ) (cal
   pub replies : Follows terms stage plain
   pub short : length line ≤ 512
   pub tells : Tells said line
-  pub told : told_at stage said ≡ Some call
-  pub none : (v : Plain) → ¬ Allows terms plain call.core call.request call.reply v
-  pub other : (v : Plain) × Answers IsFirstPlace plain call.core call.request due v
+  pub told : told_at stage said ≡ Some item
+  pub none : (v : Plain) → ¬ MayBe terms plain item v
+  pub other : IsDue plain item due
   pub certain_is : certain ≡ is_certain (heard_in stage) said
 
--- and these mappings are around its request
-pub record IsIllegal (terms : Terms) (lines : List (List ℕ)) (number : ℕ) (call : Call) (due : Reply) (certain : Bool)
+-- and these mappings are around its page
+pub record IsIllegal (terms : Terms) (lines : List (List ℕ)) (number : ℕ) (item : Item) (due : Option Reply) (certain : Bool)
     (around : List MapLine) : Type 0 where
   pub plain : Plain
-  pub wrong : IsWrong terms lines number call due certain plain
-  pub shown : IsAround (plain_metas plain) (page_asked call.request) around
+  pub wrong : IsWrong terms lines number item due certain plain
+  pub shown : IsAround (plain_metas plain) (page_told item) around
 
 -- the line says nothing, or what it says may not stand here
 abbrev pub IsMisplaced : Stage → List ℕ → Type 0

@@ -1,4 +1,5 @@
 pub mod Replies
+pub mod Copying
 pub mod Grammar
 pub mod Reading
 pub mod Faults

@@ -4,14 +4,15 @@ use Rattle.vm_base.specs.declared.requests.Request.{Request}
 use Rattle.vm_base.specs.declared.replies.Reply.{Reply}
 use Rattle.trace_text.specs.Line.{line_of, line_of_words}
 use Rattle.trace_text.specs.Request.{◌>>=◌}
-use Rattle.trace_text.specs.Words.{Word}
+use Rattle.trace_text.specs.Words.{Word, words_of}
 use Rattle.trace_text.specs.declared.action.Action.{Action}
 use Rattle.trace_text.specs.declared.action.Action.TheVariants.{Call, Go, GiveUp, Frame, Guess, Whole}
 use Rattle.trace_text.specs.declared.line.Line.{Line}
 use Rattle.trace_text.specs.declared.line.Line.TheVariants as Of
+use Rattle.audit_text.specs.Copying.{copy_of}
 use Rattle.audit_text.specs.Replies.{is_nothing, is_step, is_unanswered, reply_of}
 use Rattle.audit_text.specs.declared.reading.Said.{Said}
-use Rattle.audit_text.specs.declared.reading.Said.TheVariants.{Blank, Space, File, Answered, Waits, Ends, StillWaits, Passes}
+use Rattle.audit_text.specs.declared.reading.Said.TheVariants.{Blank, Space, File, Answered, Waits, Ends, StillWaits, Copies, Passes}
 
 -- what is said where the text is a reply, and else
 abbrev pub told_or : Option Reply → (Reply → Said) → Option Said → Option Said
@@ -64,7 +65,7 @@ said_of words text = do
   line ← line_of_words words
   event_said line text
 
--- what a line without a sign says
+-- what a line of a trace says without a sign
 abbrev pub declared_said : Line → Option Said
 declared_said Of.Blank = Some Blank
 declared_said (Of.Space cores frames calls) = Some (Space cores frames calls)
@@ -75,6 +76,20 @@ unfoldable pub declaration_of : List ℕ → Option Said
 declaration_of bytes = do
   line ← line_of bytes
   declared_said line
+
+-- that a page is copied
+unfoldable pub copy_said : List ℕ → Option Said
+copy_said bytes = do
+  page ← copy_of (words_of bytes)
+  Some (Copies page)
+
+-- what a line without a sign says
+abbrev pub or_copy : Option Said → List ℕ → Option Said
+or_copy (Some said) bytes = Some said
+or_copy None bytes = copy_said bytes
+
+abbrev pub plain_said : List ℕ → Option Said
+plain_said bytes = or_copy (declaration_of bytes) bytes
 
 -- a reply stands behind the line's sign
 abbrev pub has_reply : Said → Bool

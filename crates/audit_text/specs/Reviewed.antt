@@ -16,6 +16,8 @@ use Rattle.vm_base.specs.declared.requests.Request.{Request}
 use Rattle.vm_base.specs.declared.requests.Request.TheVariants.{Mmap}
 use Rattle.audit.specs.Placing.{rule_of}
 use Rattle.audit.specs.declared.auditor.Call.{Call}
+use Rattle.audit_text.specs.declared.item.Item.{Item}
+use Rattle.audit_text.specs.declared.item.Item.TheVariants.{Answer}
 use Rattle.audit_text.specs.Ends.{head_text}
 use Rattle.audit_text.specs.Grammar.{Tells}
 use Rattle.audit_text.specs.Heard.{Declared, Heard, Stage, Front, Leads, is_certain, stage_after, undeclared}
@@ -55,18 +57,23 @@ pub data GoesOn (terms : Terms) (t : Plain) (call : Call) (due : Reply) (u : Pla
   as_was : ((v : Plain) → ¬ IsThere terms t call v) → ((v : Plain) → ¬ Answers (rule_of terms.any_place) t call.core call.request due v)
       → u ≡ t → GoesOn terms t call due u
 
+-- the same of what a line told; a copy that may not be is left out
+abbrev pub GoesOnBy : Terms → Plain → Item → Option Reply → Plain → Type 0
+GoesOnBy terms t (Answer call) (Some due) u = GoesOn terms t call due u
+GoesOnBy terms t item due u = u ≡ t
+
 -- ---- each line
 
--- what is told of a wrong reply
-abbrev pub wrong_at : ℕ → Call → Reply → Bool → Verdict
-wrong_at n call due true = Illegal n call due
-wrong_at n call due false = Undecided n call due
+-- what is told of a wrong reply, or of a copy that may not be
+abbrev pub wrong_at : ℕ → Item → Option Reply → Bool → Verdict
+wrong_at n item due true = Illegal n item due
+wrong_at n item due false = Undecided n item due
 
--- The call that the line with this number tells, if it tells one, may have its reply, or that is told as wrong; u is the map after it.
-abbrev pub TurnsBy : Terms → Plain → ℕ → Option Call → Bool → List Verdict → Plain → Type 0
+-- What the line with this number tells, if it tells something, may be, or is told as wrong; u is the map after it.
+abbrev pub TurnsBy : Terms → Plain → ℕ → Option Item → Bool → List Verdict → Plain → Type 0
 TurnsBy terms t n told certain new u = ((new ≡ []) × Moves terms t told u)
-    ⊎ ((call : Call) × (due : Reply) × (told ≡ Some call) × IsRefused terms t call due × GoesOn terms t call due u
-    × (new ≡ wrong_at n call due certain ∷ []))
+    ⊎ ((item : Item) × (due : Option Reply) × (told ≡ Some item) × IsRefused terms t item due × GoesOnBy terms t item due u
+    × (new ≡ wrong_at n item due certain ∷ []))
 
 abbrev pub Turns : Terms → Stage → Plain → ℕ → Said → List Verdict → Plain → Type 0
 Turns terms s t n said new u = TurnsBy terms t n (told_at s said) (is_certain (heard_in s) said) new u
@@ -90,7 +97,7 @@ pub record IsReviewed (terms : Terms) (lines : List (List ℕ)) (found : List Ve
   pub stage : Stage
   pub plain : Plain
   pub reviews : Reviews terms (Front declared) (first_map declared) (length front) rest found stage plain
-  pub calls_are : calls ≡ length (heard_in stage).calls
+  pub calls_are : calls ≡ (heard_in stage).calls
   pub lacking_are : lacking ≡ (heard_in stage).lacking
 
 -- ---- faults: of lines, whatever replies stand before them

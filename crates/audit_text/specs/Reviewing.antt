@@ -3,7 +3,7 @@ use Rattle.std.specs.Prelude.{◌≡◌, ℕ, suc, ◌+◌, ◌≤◌, ⊤, Bool
 use Rattle.trace_io.specs.declared.fault.IoFault.TheVariants.{NoMemory}
 use Rattle.vm_base.specs.Plain.{Plain}
 use Rattle.audit_text.specs.Grammar.{Tells}
-use Rattle.audit_text.specs.Heard.{Declared, Heard, Stage, Front, Leads, behind, call_told, heard_after, is_certain, stage_after, undeclared}
+use Rattle.audit_text.specs.Heard.{Declared, Heard, Stage, Front, Leads, behind, item_told, heard_after, is_certain, stage_after, undeclared}
 use Rattle.audit_text.specs.Legal.{first_map, heard_in, told_at}
 use Rattle.audit_text.specs.Reviewed.{Reviews, TurnsBy}
 use Rattle.audit_text.specs.declared.allowing.Terms.{Terms}
@@ -27,13 +27,13 @@ pub record IsBefore (terms : Terms) (lines : List (List ℕ)) (d : Declared) (h 
   pub short : length line ≤ 512
   pub tells : Tells said line
   pub after : stage_after stage said ≡ behind d (heard_after h said)
-  pub told : told_at stage said ≡ call_told h said
+  pub told : told_at stage said ≡ item_told h said
   pub heard : heard_in stage ≡ h
 
 -- what the line with this number comes to
 abbrev pub TurnsOutSo : {T : Type 0} → Terms → Heard → Plain → Said → ℕ → List Verdict → Result T AuditFault → Heard → Plain → List Verdict → Type 0
 TurnsOutSo terms h t said line old (Ok x) k u new = (heard_after h said ≡ Some k)
-    × ((added : List Verdict) × (new ≡ old ++ added) × TurnsBy terms t line (call_told h said) (is_certain h said) added u)
+    × ((added : List Verdict) × (new ≡ old ++ added) × TurnsBy terms t line (item_told h said) (is_certain h said) added u)
 TurnsOutSo terms h t said line old (Err (BadLine n)) k u new = (n ≡ line) × (heard_after h said ≡ None)
 TurnsOutSo terms h t said line old (Err (Io NoMemory)) k u new = ⊤
 TurnsOutSo terms h t said line old (Err _) k u new = ⊥

@@ -4,13 +4,12 @@ use Rattle.std.specs.Prelude.{if◌then◌else◌}
 use Rattle.slot_lock.specs.declared.slot_map.SlotMap.{Ghosts as MapGhosts}
 use Rattle.slot_lock.specs.declared.slot_map.SlotRead.{Ghosts as ReadGhosts}
 use Rattle.backing.specs.declared.file_spec.FileSpec.{FileSpec}
-use Rattle.vm_base.specs.Answers.{Answers}
 use Rattle.vm_base.specs.declared.replies.Reply.{Reply}
 use Rattle.vm_base.specs.Plain.{File, Plain, file_with}
-use Rattle.audit_text.specs.Allowed.{Allows, IsAllowed}
+use Rattle.audit_text.specs.Allowed.{Allows, IsAllowed, IsDue, MayBe}
 use Rattle.audit_text.specs.Grammar.{Tells}
-use Rattle.audit_text.specs.Heard.{Declared, Heard, Stage, Front, behind, call_told, heard_after, is_certain, nothing, one_passed, stage_after, with_answer}
-use Rattle.audit_text.specs.Legal.{Follows, IsLegal, IsPlace, IsWrong, declared_in, heard_in, page_asked, told_at}
+use Rattle.audit_text.specs.Heard.{Declared, Heard, Stage, Front, behind, item_told, heard_after, is_certain, nothing, one_passed, stage_after, with_answer, with_item}
+use Rattle.audit_text.specs.Legal.{Follows, IsLegal, IsPlace, IsWrong, declared_in, heard_in, page_told, told_at}
 use Rattle.audit_text.specs.Around.{IsAround}
 use Rattle.slot_lock.specs.declared.map_list.MapLine.{MapLine}
 use Rattle.vm_base.specs.declared.info.Meta.{Meta}
@@ -19,6 +18,8 @@ use Rattle.audit_text.specs.declared.declaring.Declaration.{Declaration}
 use Rattle.audit_text.specs.declared.declaring.Declares.{Declares}
 use Rattle.audit_text.specs.declared.declaring.Declares.TheVariants as Is
 use Rattle.audit.specs.declared.auditor.Call.{Call}
+use Rattle.audit_text.specs.declared.item.Item.{Item}
+use Rattle.audit_text.specs.declared.item.Item.TheVariants.{Answer}
 use Rattle.audit_text.specs.declared.hearing.Hearing.{Hearing}
 use Rattle.audit_text.specs.declared.hearing.Turn.{Turn}
 use Rattle.audit_text.specs.declared.hearing.Turn.TheVariants.{Legal, Bad, Illegal}
@@ -28,7 +29,6 @@ use Rattle.trace_io.specs.declared.fault.IoFault.TheVariants.{NoMemory}
 use Rattle.audit_text.specs.declared.judging.Verdict.{Verdict}
 use Rattle.audit_text.specs.declared.judging.Verdict.TheVariants as Of
 use Rattle.audit_text.specs.declared.reading.Said.{Said}
-use Rattle.vm_base.specs.Places.{IsFirstPlace}
 
 -- ---- a declaration
 
@@ -53,7 +53,8 @@ abbrev pub heard_of : {M A : Type 0} {map : MapGhosts M} {read : ReadGhosts M} �
 heard_of it = record {
   waiting = it.waiting.items;
   pending = it.pending;
-  calls = it.calls.items;
+  items = it.items.items;
+  calls = it.judged;
   lacking = it.lacking;
   passed = it.passed;
   is_sure = it.is_sure;
@@ -67,46 +68,44 @@ terms_of it = record { any_place = it.auditor.any_place; is_strict = it.is_stric
 abbrev pub count_of : {M A : Type 0} {map : MapGhosts M} {read : ReadGhosts M} → Hearing M A map read → ℕ
 count_of it = it.judged + it.passed + it.pending
 
--- each core has a place, and the calls are counted
+-- each core has a place, and those without memory are some of the calls
 pub record IsCounted {M A : Type 0} {map : MapGhosts M} {read : ReadGhosts M} (it : Hearing M A map read) : Type 0 where
   pub places : length it.waiting.items ≡ 64
-  pub judged : it.judged ≡ length it.calls.items
   pub lacking : it.lacking ≤ it.judged
 
--- this reply may not be there
-abbrev pub IsRefused : Terms → Plain → Call → Reply → Type 0
-IsRefused terms t call due = ((v : Plain) → ¬ Allows terms t call.core call.request call.reply v)
-    × ((v : Plain) × Answers IsFirstPlace t call.core call.request due v)
+-- this reply may not be there, or this copy
+abbrev pub IsRefused : Terms → Plain → Item → Option Reply → Type 0
+IsRefused terms t item due = ((v : Plain) → ¬ MayBe terms t item v) × IsDue t item due
 
--- the call that a line tells, if it tells one, may have its reply, which leaves u
-abbrev pub Moves : Terms → Plain → Option Call → Plain → Type 0
+-- what a line tells, if it tells something, may be, and leaves u
+abbrev pub Moves : Terms → Plain → Option Item → Plain → Type 0
 Moves terms t None u = u ≡ t
-Moves terms t (Some call) u = Allows terms t call.core call.request call.reply u
+Moves terms t (Some item) u = MayBe terms t item u
 
 abbrev pub Hears : Terms → Heard → Plain → Said → Turn → Heard → Plain → Type 0
-Hears terms h t said Legal k u = (heard_after h said ≡ Some k) × Moves terms t (call_told h said) u
+Hears terms h t said Legal k u = (heard_after h said ≡ Some k) × Moves terms t (item_told h said) u
 Hears terms h t said Bad k u = heard_after h said ≡ None
-Hears terms h t said (Illegal call due certain) k u = (call_told h said ≡ Some call) × (u ≡ t) × (certain ≡ is_certain h said)
-    × IsRefused terms t call due × (heard_after h said ≡ Some (with_answer k certain call))
+Hears terms h t said (Illegal item due certain) k u = (item_told h said ≡ Some item) × (u ≡ t) × (certain ≡ is_certain h said)
+    × IsRefused terms t item due × (heard_after h said ≡ Some (with_item k certain item))
 
 -- the same of one call, whoever tells it
 abbrev pub JudgesCall : Terms → Heard → Plain → Bool → Call → Turn → Heard → Plain → Type 0
 JudgesCall terms h t certain call Legal k u =
     (k ≡ with_answer h certain call) × Allows terms t call.core call.request call.reply u
 JudgesCall terms h t certain call Bad k u = ⊥
-JudgesCall terms h t certain call (Illegal c due sure) k u =
-    (c ≡ call) × (u ≡ t) × (sure ≡ certain) × IsRefused terms t c due × (k ≡ h)
+JudgesCall terms h t certain call (Illegal item due sure) k u =
+    (item ≡ Answer call) × (u ≡ t) × (sure ≡ certain) × IsRefused terms t item due × (k ≡ h)
 
--- Memory may be wanted for what the line says: it tells a call whose reply may be there.
+-- Memory may be wanted for what the line says: it tells a call whose reply may be there, or a copy that may.
 abbrev pub MayWant : Terms → Heard → Plain → Said → Type 0
 MayWant terms h t said =
-    (call : Call) × (call_told h said ≡ Some call) × IsAllowed terms t call.core call.request call.reply
+    (item : Item) × (item_told h said ≡ Some item) × IsAllowed terms t item
 
 -- a line is passed over, if it may be
 abbrev pub Passes : Bool → Heard → Turn → Heard → Type 0
 Passes may h Legal k = (may ≡ true) × (k ≡ one_passed h)
 Passes may h Bad k = (may ≡ false) × (k ≡ h)
-Passes may h (Illegal c due certain) k = ⊥
+Passes may h (Illegal item due certain) k = ⊥
 
 -- ---- a place in a text
 
@@ -131,7 +130,7 @@ pub record IsCall (terms : Terms) (lines : List (List ℕ)) (d : Declared) (h : 
   pub at : IsAtLine lines number said more stage
   pub space : d.has_space ≡ true
   pub after : stage_after stage said ≡ behind d (heard_after h said)
-  pub told : told_at stage said ≡ call_told h said
+  pub told : told_at stage said ≡ item_told h said
   pub declared : declared_in stage ≡ d
   pub heard : heard_in stage ≡ h
   pub follows : Follows terms stage t
@@ -140,8 +139,8 @@ pub record IsCall (terms : Terms) (lines : List (List ℕ)) (d : Declared) (h : 
 abbrev pub TurnsOut : Terms → Heard → Plain → Said → ℕ → Result (Option Verdict) AuditFault → Heard → Plain → Type 0
 TurnsOut terms h t said line (Ok None) k u = Hears terms h t said Legal k u
 TurnsOut terms h t said line (Ok (Some (Of.Legal calls lacking passed))) k u = ⊥
-TurnsOut terms h t said line (Ok (Some (Of.Illegal n call due))) k u = (n ≡ line) × Hears terms h t said (Illegal call due true) k u
-TurnsOut terms h t said line (Ok (Some (Of.Undecided n call due))) k u = (n ≡ line) × Hears terms h t said (Illegal call due false) k u
+TurnsOut terms h t said line (Ok (Some (Of.Illegal n item due))) k u = (n ≡ line) × Hears terms h t said (Illegal item due true) k u
+TurnsOut terms h t said line (Ok (Some (Of.Undecided n item due))) k u = (n ≡ line) × Hears terms h t said (Illegal item due false) k u
 TurnsOut terms h t said line (Err (BadLine n)) k u = (n ≡ line) × (heard_after h said ≡ None)
 TurnsOut terms h t said line (Err (Io NoMemory)) k u = MayWant terms h t said
 TurnsOut terms h t said line (Err _) k u = ⊥
@@ -160,11 +159,11 @@ pub record IsWanting (terms : Terms) (lines : List (List ℕ)) : Type 0 where
 -- the verdict, without the mappings around
 abbrev pub IsFound : Terms → List (List ℕ) → Verdict → Plain → Type 0
 IsFound terms lines (Of.Legal calls lacking passed) u = IsLegal terms lines calls lacking passed
-IsFound terms lines (Of.Illegal line call due) u = IsWrong terms lines line call due true u
-IsFound terms lines (Of.Undecided line call due) u = IsWrong terms lines line call due false u
+IsFound terms lines (Of.Illegal line item due) u = IsWrong terms lines line item due true u
+IsFound terms lines (Of.Undecided line item due) u = IsWrong terms lines line item due false u
 
--- the mappings around the verdict's request, if it has one
+-- the mappings around the verdict's page, if it has one
 abbrev pub ShowsAround : (ℕ → Option Meta) → Verdict → List MapLine → Type 0
 ShowsAround meta (Of.Legal calls lacking passed) around = around ≡ []
-ShowsAround meta (Of.Illegal line call due) around = IsAround meta (page_asked call.request) around
-ShowsAround meta (Of.Undecided line call due) around = IsAround meta (page_asked call.request) around
+ShowsAround meta (Of.Illegal line item due) around = IsAround meta (page_told item) around
+ShowsAround meta (Of.Undecided line item due) around = IsAround meta (page_told item) around

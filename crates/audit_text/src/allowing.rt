@@ -49,7 +49,7 @@ pub(crate) fn is_lacking(reply: Reply) -> bool
     matches!(reply, Reply::NoFrame | Reply::NoMemory)
 }
 
-/// Tells whether it may have left a copy behind: a store for which there was no memory.
+/// Tells whether it may have left a copy: a store for which there was no memory.
 pub(crate) fn may_copy(request: Request, reply: Reply) -> bool
     ensures { result ≡ (is_store request && is_given_up reply) }
 {

@@ -27,7 +27,7 @@ pub(crate) fn page_asked(request: Request) -> u64
 }
 
 /// The mappings around a page, in order of their pages: the last one that ends at the page or before, and those
-/// behind it, four at most. Memory is wanted only where some page is mapped.
+/// after it, four at most. Memory is wanted only where some page is mapped.
 pub(crate) fn mappings_around<M: SlotMap, A: Allocator>(
     map: &M,
     alloc: A,

@@ -7,49 +7,49 @@ ghost use Rattle.slot_lock.specs.Slots.{IsNew};
 ghost use Rattle.slot_lock.specs.MapWalks.{slot_metas};
 ghost use Rattle.audit_text.specs.Ends.{AuditEnds, IsAtFault, IsVerdict, TellsAudit};
 ghost use Rattle.audit_text.specs.Around.{IsAround};
-ghost use Rattle.audit_text.specs.Legal.{IsPlace, LacksSpace, page_asked};
+ghost use Rattle.audit_text.specs.Legal.{IsPlace, LacksSpace, page_told};
 ghost use Rattle.audit_text.specs.declared.allowing.Terms.{Terms};
 ghost use Rattle.audit_text.specs.Heard.{Front};
 ghost use Rattle.audit_text.specs.Steps.{EndsFront, IsFound, ShowsAround, declared_of};
 
 use crate::allowing::Terms;
-use crate::around::{mappings_around, page_asked};
+use crate::around::mappings_around;
 use crate::declaring::{Declaration, declare};
 use crate::hearing::Hearing;
 use crate::input::AuditFault;
+use crate::item::Item;
 use crate::judging::{Verdict, hear_lines};
 use crate::reading::Said;
 use crate::telling::verdict_text;
-use audit::Call;
 use slot_lock::{MapLine, SlotMap};
 use std::alloc::Allocator;
 use trace_io::IoFault;
 use trace_io::sink::{Sink, write_out};
 use trace_io::source::{Source, read_all};
 
-/// A verdict, and the mappings around the request of the reply that is illegal.
+/// A verdict, and the mappings around the page of the reply or the copy that is illegal.
 #[derive(Debug, Drop)]
 pub struct Judged<A: Allocator> {
     pub verdict: Verdict,
     pub around: Vec<MapLine, A>,
 }
 
-// The mappings around a call's request.
-fn around_call<M: SlotMap, A: Allocator>(
+// The mappings around an item's page.
+fn around_item<M: SlotMap, A: Allocator>(
     alloc: A,
     map: &M,
-    call: &Call,
+    item: &Item,
 ) -> Result<Vec<MapLine, A>, AuditFault>
-    ensures ok { IfOk result (λ around. IsAround (slot_metas (M.slots map.now)) (page_asked call.now.request) around.items) }
+    ensures ok { IfOk result (λ around. IsAround (slot_metas (M.slots map.now)) (page_told item.now) around.items) }
     ensures err { IfErr result (λ f. f ≡ AuditFault.Io IoFault.NoMemory) }
 {
-    match mappings_around(map, alloc, page_asked(call.request)) {
+    match mappings_around(map, alloc, item.page()) {
         Ok(around) => Ok(around),
         Err(_) => Err(AuditFault::Io(IoFault::NoMemory)),
     }
 }
 
-// The mappings around the verdict's request, if it has one.
+// The mappings around the verdict's page, if it has one.
 fn around_verdict<M: SlotMap, A: Allocator>(
     alloc: A,
     map: &M,
@@ -60,8 +60,8 @@ fn around_verdict<M: SlotMap, A: Allocator>(
 {
     match verdict {
         Verdict::Legal { .. } => Ok(Vec::new(alloc)),
-        Verdict::Illegal { call, .. } => around_call(alloc, map, call),
-        Verdict::Undecided { call, .. } => around_call(alloc, map, call),
+        Verdict::Illegal { item, .. } => around_item(alloc, map, item),
+        Verdict::Undecided { item, .. } => around_item(alloc, map, item),
     }
 }
 
@@ -209,8 +209,9 @@ fn judge_out<M: SlotMap + Drop, A: Allocator + Clone + Drop, W: Sink>(
 }
 
 /// Reads a text to its end, and writes whether its replies, one after another, may be by these terms, beside the plain page map that
-/// begins with nothing mapped: `legal CALLS`, or the first that isn't, what would be due, and the mappings around it. Where calls
-/// overlapped before it, so that another order may be behind the replies, it is undecided. The map has nothing mapped.
+/// begins with nothing mapped: `legal CALLS`, or the first that isn't, what would be due, and the mappings around it. A copy that
+/// may not be is told as such a one. Where calls overlapped before it, so that another order may explain the replies, it is
+/// undecided. The map has nothing mapped.
 pub fn audit_text<M: SlotMap + Drop, A: Allocator + Clone + Drop, S: Source, W: Sink>(
     alloc: A,
     map: M,

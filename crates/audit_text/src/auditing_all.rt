@@ -1,4 +1,4 @@
-//! A text is read whole, all its replies are judged, and each wrong one is told.
+//! A text is read whole, all its replies are judged, and each wrong one is reported.
 ghost use Rattle.std.specs.Prelude.{◌≡◌, ◌⊎◌, ◌+◌, ◌<◌, ◌≤◌, ◌^◌, ◌++◌, [], Err, IfErr, IfOk, OnOk, List, ℕ, Some, length, true};
 ghost use Rattle.std.specs.List.{flat_map};
 ghost use Rattle.trace_io.specs.Lines.{lines_of};
@@ -26,7 +26,7 @@ use trace_io::sink::{Sink, write_out};
 use trace_io::source::{Source, read_all};
 use trace_text::LineText;
 
-/// What judging all replies of a text comes to.
+/// The result of judging all replies of a text.
 #[derive(Debug, Drop)]
 pub struct Review<A: Allocator> {
     /// The wrong ones, in their order.

@@ -43,7 +43,7 @@ pub struct Behind<'a> {
     pub said: Option<Said>,
     /// That line's number, or how many lines there are.
     pub number: u64,
-    /// The lines behind that one.
+    /// The lines after that one.
     pub rest: &'a [u8],
 }
 
@@ -66,8 +66,8 @@ impl<A: Allocator + Clone> Declaration<A> {
         }
     }
 
-    // Takes in the line of a space.
-    fn add_space(&mut self, cores: u64) -> Declares
+    /// Takes in the line of a space of so many cores.
+    pub fn add_space(&mut self, cores: u64) -> Declares
         ensures part { result ≡ Is.Part → with_space (declared_of self.old) cores ≡ Some (declared_of self.new) }
         ensures bad { result ≡ Is.Bad → with_space (declared_of self.old) cores ≡ None }
         ensures ended { result ≡ Is.Ended → ⊥ }
@@ -80,8 +80,8 @@ impl<A: Allocator + Clone> Declaration<A> {
         Declares::Part
     }
 
-    // Takes in the line of a file.
-    fn add_file(
+    /// Takes in the line of a file. `Err`, where there is no memory for its bytes, leaves the declaration as it was.
+    pub fn add_file(
         &mut self,
         alloc: A,
         number: u64,

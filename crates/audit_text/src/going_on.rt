@@ -5,11 +5,11 @@ ghost use Rattle.vm_base.specs.Plain.{Plain, is_mapped};
 ghost use Rattle.vm_base.specs.Pages.{IsPageRange};
 ghost use Rattle.vm_calls.specs.Decisions.{entries};
 ghost use Rattle.audit.specs.Auditor.{plain_of};
-ghost use Rattle.audit_text.specs.Heard.{with_answer};
-ghost use Rattle.audit_text.specs.Reviewed.{GoesOn, IsThere, asked_there, count_asked};
+ghost use Rattle.audit_text.specs.Reviewed.{GoesOn, GoesOnBy, IsThere, asked_there, count_asked};
 ghost use Rattle.audit_text.specs.Steps.{IsCounted, count_of, heard_of, terms_of};
 
 use crate::hearing::Hearing;
+use crate::item::Item;
 use audit::{Call, Verdict};
 use slot_lock::SlotMap;
 use std::alloc::Allocator;
@@ -128,9 +128,9 @@ fn go_due<M: SlotMap + Drop, A: Allocator + Drop>(
     Ok(())
 }
 
-/// Goes on from the map after a wrong reply, for which this was due.
+// Goes on from the map after a wrong reply, for which this was due.
 #[tactic(auto, using(crate::proofs::ReviewLemmas::not_there, crate::proofs::ReviewLemmas::goes_so, crate::proofs::ReviewLemmas::goes_there))]
-pub(crate) fn go_on<M: SlotMap + Drop, A: Allocator + Drop>(
+fn go_on<M: SlotMap + Drop, A: Allocator + Drop>(
     hearing: &mut Hearing<M, A>,
     call: &Call,
     due: Reply,
@@ -145,5 +145,26 @@ pub(crate) fn go_on<M: SlotMap + Drop, A: Allocator + Drop>(
         Ok(true) => Ok(()),
         Ok(false) => go_due(hearing, call, due),
         Err(refused) => Err(refused),
+    }
+}
+
+/// Goes on from the map after a wrong reply, for which this was due, or after a copy that may not be.
+pub(crate) fn go_on_by<M: SlotMap + Drop, A: Allocator + Drop>(
+    hearing: &mut Hearing<M, A>,
+    item: &Item,
+    due: Option<Reply>,
+) -> Result<(), NoMemory>
+    ensures goes { OnOk result (GoesOnBy (terms_of hearing.old) (plain_of hearing.old.auditor) item.now due (plain_of hearing.new.auditor)) }
+    ensures heard { heard_of hearing.new ≡ heard_of hearing.old }
+    ensures counted { IsCounted hearing.old → IsCounted hearing.new }
+    ensures few { count_of hearing.new ≡ count_of hearing.old }
+    ensures terms { terms_of hearing.new ≡ terms_of hearing.old }
+{
+    match item {
+        Item::Answer(call) => match due {
+            Some(due) => go_on(hearing, call, due),
+            None => Ok(()),
+        },
+        Item::Copy(_) => Ok(()),
     }
 }

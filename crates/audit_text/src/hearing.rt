@@ -2,6 +2,7 @@
 ghost use Rattle.std.specs.Prelude.{◌≡◌, None, IfOk, replicate};
 
 use crate::allowing::{Terms, is_lacking, is_let, may_copy};
+use crate::item::Item;
 use crate::reading::Said;
 use audit::{Auditor, Call, Verdict};
 use backing::FileSpec;
@@ -13,16 +14,16 @@ use vm_base::{CoreId, NoMemory, Reply, Request};
 /// How many cores a space may have.
 const CORES: usize = 64;
 
-/// What hearing a line comes to.
+/// The result of hearing a line.
 #[derive(Clone, Copy, Debug, PartialEq, Eq)]
 pub enum Turn {
     /// It may stand here, and a reply that it tells is the plain page map's.
     Legal,
     /// It may not stand here.
     Bad,
-    /// Its call may not have this reply. The first plain page map would give this, and whether no other order of the calls, and no
-    /// other map, can be behind the replies so far.
-    Illegal(Call, Reply, bool),
+    /// Its call may not have this reply, or it tells a copy that may not be. The first plain page map would give this, and whether no
+    /// other order of the calls, and no other map, can be after the lines so far.
+    Illegal(Item, Option<Reply>, bool),
 }
 
 /// What was heard so far.
@@ -36,13 +37,13 @@ pub struct Hearing<M: SlotMap, A: Allocator> {
     pub waiting: Vec<Option<Request>, A>,
     /// How many wait.
     pub pending: u64,
-    /// The calls that were judged, all of them legal.
-    pub calls: GhostList<Call>,
-    /// How many these are.
+    /// The calls that were judged, and the copies between them, all of them legal.
+    pub items: GhostList<Item>,
+    /// How many calls these are.
     pub judged: u64,
     /// How many of them found no frame or no memory.
     pub lacking: u64,
-    /// Whether no other order of them, and no other map, can be behind their replies.
+    /// Whether no other order of them, and no other map, can explain their replies.
     pub is_sure: bool,
     /// How many lines were passed over.
     pub passed: u64,
@@ -90,7 +91,7 @@ impl<M: SlotMap + Drop, A: Allocator + Clone + Drop> Hearing<M, A> {
             is_strict: terms.is_strict,
             waiting,
             pending: 0,
-            calls: GhostList::new(),
+            items: GhostList::new(),
             judged: 0,
             lacking: 0,
             is_sure: true,
@@ -100,17 +101,17 @@ impl<M: SlotMap + Drop, A: Allocator + Clone + Drop> Hearing<M, A> {
 }
 
 impl<M: SlotMap + Drop, A: Allocator + Drop> Hearing<M, A> {
-    ghost use Rattle.std.specs.Prelude.{◌≡◌, ◌+◌, ◌≤◌, ◌<◌, ◌^◌, ◌&&◌, nat_le, Bool, IfOk, Ok, OnErr, OnOk};
+    ghost use Rattle.std.specs.Prelude.{◌≡◌, ◌+◌, ◌≤◌, ◌<◌, ◌^◌, ◌&&◌, nat_le, Bool, IfOk, Ok, OnErr, OnOk, Option};
     ghost use Rattle.vm_base.specs.declared.replies.Reply.{Reply};
-    ghost use Rattle.audit.specs.declared.auditor.Call.{Call};
     ghost use Rattle.audit.specs.Auditor.{plain_of};
     ghost use Rattle.audit.specs.Judging.{IsGiven};
     ghost use Rattle.audit.specs.Placing.{rule_of};
-    ghost use Rattle.audit_text.specs.Heard.{waits, with_answer};
+    ghost use Rattle.audit_text.specs.Heard.{waits, with_answer, with_copy, with_item};
+    ghost use Rattle.audit_text.specs.declared.item.Item.{Item};
     ghost use Rattle.audit_text.specs.Steps.{Hears, IsCounted, JudgesCall, MayWant, Passes, count_of, heard_of, terms_of};
     ghost use Rattle.audit_text.specs.declared.reading.Said.TheVariants as Of;
 
-    // Tells whether no other order of the calls, and no other map, can be behind the replies so far and the next one's, as which at most so
+    // Tells whether no other order of the calls, and no other map, can explain the replies so far and the next one's, as which at most so
     // many calls wait.
     fn is_certain(&self, most: u64) -> bool
         ensures { result ≡ (self.now.is_sure && nat_le self.now.pending most) }
@@ -120,7 +121,7 @@ impl<M: SlotMap + Drop, A: Allocator + Drop> Hearing<M, A> {
 
     // A call has this reply, which may be there.
     #[inline(always)]
-    pub(crate) fn note(&mut self, certain: bool, call: Call)
+    fn note_answer(&mut self, certain: bool, call: Call)
         requires counted { IsCounted self.old }
         requires room { count_of self.old + 1 < 2 ^ 64 }
         ensures heard { heard_of self.new ≡ with_answer (heard_of self.old) certain call }
@@ -133,8 +134,37 @@ impl<M: SlotMap + Drop, A: Allocator + Drop> Hearing<M, A> {
             self.lacking += 1;
         }
         self.is_sure = certain && !may_copy(call.request, call.reply);
-        self.calls = self.calls.and(&call);
+        self.items = self.items.and(&Item::Answer(call));
         self.judged += 1;
+    }
+
+    // A page gets its copy, which may be.
+    fn note_copy(&mut self, certain: bool, page: u64)
+        requires counted { IsCounted self.old }
+        ensures heard { heard_of self.new ≡ with_copy (heard_of self.old) certain page }
+        ensures same { self.new.auditor ≡ self.old.auditor }
+        ensures strict { self.new.is_strict ≡ self.old.is_strict }
+        ensures counted { IsCounted self.new }
+        ensures few { count_of self.new ≤ count_of self.old }
+    {
+        self.is_sure = certain;
+        self.items = self.items.and(&Item::Copy(page));
+    }
+
+    // What a line told is taken in.
+    pub(crate) fn note(&mut self, certain: bool, item: &Item)
+        requires counted { IsCounted self.old }
+        requires room { count_of self.old + 1 < 2 ^ 64 }
+        ensures heard { heard_of self.new ≡ with_item (heard_of self.old) certain item.now }
+        ensures same { self.new.auditor ≡ self.old.auditor }
+        ensures strict { self.new.is_strict ≡ self.old.is_strict }
+        ensures counted { IsCounted self.new }
+        ensures few { count_of self.new ≤ count_of self.old + 1 }
+    {
+        match item {
+            Item::Answer(call) => self.note_answer(certain, *call),
+            Item::Copy(page) => self.note_copy(certain, *page),
+        }
     }
 
     // Judges a call, at whose line this is certain.
@@ -149,20 +179,20 @@ impl<M: SlotMap + Drop, A: Allocator + Drop> Hearing<M, A> {
         ensures terms { terms_of self.new ≡ terms_of self.old }
         ensures counted { OnOk result (IsCounted self.new) }
         ensures few { OnOk result (count_of self.new ≤ count_of self.old + 1) }
-        ensures still { (call : Call) (due : Reply) (certain : Bool) → result ≡ Ok (Turn.Illegal call due certain)
+        ensures still { (item : Item) (due : Option Reply) (certain : Bool) → result ≡ Ok (Turn.Illegal item due certain)
             → count_of self.new ≤ count_of self.old }
     {
         match self.auditor.judge(call.core, call.request, call.reply)? {
             Verdict::Legal => {
-                self.note(certain, call);
+                self.note_answer(certain, call);
                 Ok(Turn::Legal)
             }
             Verdict::Illegal(due) => {
                 if is_let(self.is_strict, call.request, due, call.reply) {
-                    self.note(certain, call);
+                    self.note_answer(certain, call);
                     return Ok(Turn::Legal);
                 }
-                Ok(Turn::Illegal(call, due, certain))
+                Ok(Turn::Illegal(Item::Answer(call), Some(due), certain))
             }
         }
     }
@@ -187,7 +217,7 @@ impl<M: SlotMap + Drop, A: Allocator + Drop> Hearing<M, A> {
         ensures terms { terms_of self.new ≡ terms_of self.old }
         ensures counted { OnOk result (IsCounted self.new) }
         ensures few { OnOk result (count_of self.new ≤ count_of self.old + 1) }
-        ensures still { (call : Call) (due : Reply) (certain : Bool) → result ≡ Ok (Turn.Illegal call due certain)
+        ensures still { (item : Item) (due : Option Reply) (certain : Bool) → result ≡ Ok (Turn.Illegal item due certain)
             → count_of self.new ≤ count_of self.old }
     {
         if self.waits(call.core).is_some() {
@@ -227,7 +257,7 @@ impl<M: SlotMap + Drop, A: Allocator + Drop> Hearing<M, A> {
         ensures terms { terms_of self.new ≡ terms_of self.old }
         ensures counted { OnOk result (IsCounted self.new) }
         ensures few { OnOk result (count_of self.new ≤ count_of self.old + 1) }
-        ensures still { (call : Call) (due : Reply) (certain : Bool) → result ≡ Ok (Turn.Illegal call due certain)
+        ensures still { (item : Item) (due : Option Reply) (certain : Bool) → result ≡ Ok (Turn.Illegal item due certain)
             → count_of self.new ≤ count_of self.old }
     {
         let Some(request) = self.waits(core) else {
@@ -242,6 +272,26 @@ impl<M: SlotMap + Drop, A: Allocator + Drop> Hearing<M, A> {
             reply,
         };
         self.judge(certain, call)
+    }
+
+    // Gives a page its copy, if that may be.
+    #[tactic(auto, using(crate::proofs::HeardLemmas::copied_hears, crate::proofs::HeardLemmas::uncopied_hears, crate::proofs::HeardLemmas::copy_wants))]
+    fn copy(&mut self, page: u64) -> Result<Turn, NoMemory>
+        requires counted { IsCounted self.old }
+        ensures hears { IfOk result (λ turn. Hears (terms_of self.old) (heard_of self.old) (plain_of self.old.auditor) (Of.Copies page)
+            turn (heard_of self.new) (plain_of self.new.auditor)) }
+        ensures want { OnErr result (MayWant (terms_of self.old) (heard_of self.old) (plain_of self.old.auditor) (Of.Copies page)) }
+        ensures terms { terms_of self.new ≡ terms_of self.old }
+        ensures counted { IsCounted self.new }
+        ensures few { count_of self.new ≤ count_of self.old }
+    {
+        let sure = self.is_certain(0);
+        let copied = self.auditor.copy(page)?;
+        if !copied {
+            return Ok(Turn::Illegal(Item::Copy(page), None, sure));
+        }
+        self.note_copy(sure, page);
+        Ok(Turn::Legal)
     }
 
     // A line is passed over, if it may stand here.
@@ -273,7 +323,7 @@ impl<M: SlotMap + Drop, A: Allocator + Drop> Hearing<M, A> {
         ensures terms { terms_of self.new ≡ terms_of self.old }
         ensures counted { OnOk result (IsCounted self.new) }
         ensures few { OnOk result (count_of self.new ≤ count_of self.old + 1) }
-        ensures still { (call : Call) (due : Reply) (certain : Bool) → result ≡ Ok (Turn.Illegal call due certain)
+        ensures still { (item : Item) (due : Option Reply) (certain : Bool) → result ≡ Ok (Turn.Illegal item due certain)
             → count_of self.new ≤ count_of self.old }
     {
         match said {
@@ -286,6 +336,7 @@ impl<M: SlotMap + Drop, A: Allocator + Drop> Hearing<M, A> {
                 let may = self.waits(core).is_some();
                 Ok(self.pass(may))
             }
+            Said::Copies(page) => self.copy(page),
             Said::Passes => Ok(self.pass(true)),
         }
     }

@@ -8,15 +8,15 @@ ghost use Rattle.audit_text.specs.Steps.{IsCall, IsCounted, IsFound, IsWanting, 
 
 use crate::hearing::{Hearing, Turn};
 use crate::input::{AuditFault, said_at};
+use crate::item::Item;
 use crate::reading::Said;
-use audit::Call;
 use slot_lock::SlotMap;
 use std::alloc::Allocator;
 use trace_io::IoFault;
 use trace_io::lines::front_line;
 use vm_base::Reply;
 
-/// What judging the replies of a text comes to.
+/// The result of judging the replies of a text.
 #[derive(Clone, Copy, Debug, PartialEq, Eq)]
 pub enum Verdict {
     /// They are the plain page map's.
@@ -28,23 +28,23 @@ pub enum Verdict {
         /// How many lines were passed over.
         passed: u64,
     },
-    /// The first that isn't.
+    /// The first that isn't, or a copy before it that may not be.
     Illegal {
         /// The number of its line, from 1.
         line: u64,
-        /// Whose it is, and what the text says that it was answered.
-        call: Call,
-        /// What the first plain page map would give.
-        due: Reply,
+        /// The call, with what the text says that it was answered, or the copy.
+        item: Item,
+        /// What the first plain page map would give; `None` for a copy.
+        due: Option<Reply>,
     },
-    /// The same, but another order of calls that overlapped, or another map, may be behind the replies up to this one.
+    /// The same, but another order of calls that overlapped, or another map, may be after the lines up to this one.
     Undecided {
         /// The number of its line, from 1.
         line: u64,
-        /// Whose it is, and what the text says that it was answered.
-        call: Call,
-        /// What the first plain page map would give.
-        due: Reply,
+        /// The call, with what the text says that it was answered, or the copy.
+        item: Item,
+        /// What the first plain page map would give; `None` for a copy.
+        due: Option<Reply>,
     },
 }
 
@@ -65,13 +65,13 @@ fn turn<M: SlotMap + Drop, A: Allocator + Drop>(
     match hearing.hear(said) {
         Ok(Turn::Legal) => Ok(None),
         Ok(Turn::Bad) => Err(AuditFault::BadLine(line)),
-        Ok(Turn::Illegal(call, due, true)) => Ok(Some(Verdict::Illegal { line, call, due })),
-        Ok(Turn::Illegal(call, due, false)) => Ok(Some(Verdict::Undecided { line, call, due })),
+        Ok(Turn::Illegal(item, due, true)) => Ok(Some(Verdict::Illegal { line, item, due })),
+        Ok(Turn::Illegal(item, due, false)) => Ok(Some(Verdict::Undecided { line, item, due })),
         Err(_) => Err(AuditFault::Io(IoFault::NoMemory)),
     }
 }
 
-/// Hears what the line with this number says, and then the lines behind it. Memory is wanted only for a legal reply.
+/// Hears what the line with this number says, and then the lines after it. Memory is wanted only for a legal reply.
 pub(crate) fn hear_lines<M: SlotMap + Drop, A: Allocator + Drop>(
     hearing: &mut Hearing<M, A>,
     first: Said,

@@ -4,8 +4,10 @@ ghost use Rattle.trace_text.specs.Line.{are_printable};
 ghost use Rattle.trace_text.specs.Words.{words_of};
 ghost use Rattle.audit_text.specs.Grammar.{Tells, TellsEvent};
 ghost use Rattle.audit_text.specs.Replies.{is_unanswered};
-ghost use Rattle.audit_text.specs.Reading.{act_said, begun_said, call_said, declaration_of, declared_said, end_said, event_said, has_reply, if_unanswered, passed_said, said_of};
+ghost use Rattle.audit_text.specs.Reading.{act_said, begun_said, call_said, copy_said, declaration_of, declared_said, end_said, event_said, has_reply};
+ghost use Rattle.audit_text.specs.Reading.{if_unanswered, passed_said, plain_said, said_of};
 
+use crate::copy_line::read_copy;
 use crate::replies::{is_nothing, is_step, is_unanswered, read_reply};
 use audit::Call;
 use trace_text::sign::halves;
@@ -39,6 +41,8 @@ pub enum Said {
     Ends(CoreId, Reply),
     /// `cC finish = wait ..`, `cC go = step` and the like: the core's call still waits.
     StillWaits(CoreId),
+    /// `cC copy ADDR`: the private page with this number, the address's, gets its copy now.
+    Copies(u64),
     /// A take, walk, eviction, flush, review or fold, which no user sees, or a line that did nothing.
     Passes,
 }
@@ -176,13 +180,34 @@ fn declared_said(line: Line) -> Option<Said>
     }
 }
 
-// The same of a line, as its bytes.
+/// What a line says that is no event's, as its bytes. It doesn't look whether all of these are printable.
 #[tactic(auto, unfolding(crate::specs::Reading::declaration_of))]
-fn read_declared(bytes: &[u8]) -> Option<Said>
+pub fn read_declared(bytes: &[u8]) -> Option<Said>
     ensures { result ≡ declaration_of bytes.now }
 {
     let line = read_line(bytes)?;
     declared_said(line)
+}
+
+// That a page is copied, where the line says it. It isn't inlined: few lines come here.
+#[inline(never)]
+#[tactic(auto, unfolding(crate::specs::Reading::copy_said))]
+fn copy_said(bytes: &[u8]) -> Option<Said>
+    ensures { result ≡ copy_said bytes.now }
+{
+    let page = read_copy(bytes)?;
+    Some(Said::Copies(page))
+}
+
+// What a line without a sign says, as its bytes.
+fn read_plain(bytes: &[u8]) -> Option<Said>
+    ensures { result ≡ plain_said bytes.now }
+{
+    let declared = read_declared(bytes);
+    if declared.is_some() {
+        return declared;
+    }
+    copy_said(bytes)
 }
 
 // What an event's line says, `None` where it is no such line.
@@ -194,7 +219,7 @@ fn read_halves(bytes: &[u8]) -> Option<Said>
     read_event(front, text)
 }
 
-// Tells whether a line that says this has a reply behind its sign: then it is read to its last byte, and has none but printable ones.
+// Tells whether a line that says this has a reply after its sign: then it is read to its last byte, and has none but printable ones.
 fn has_reply(said: &Said) -> bool
     ensures { result ≡ has_reply said.now }
 {
@@ -227,5 +252,5 @@ pub(crate) fn read_said(line: &[u8]) -> Option<Said>
     if !is_printable(line) {
         return None;
     }
-    read_declared(line)
+    read_plain(line)
 }

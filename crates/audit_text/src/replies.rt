@@ -1,4 +1,4 @@
-//! What a call came to, as text: a reply, or a wait.
+//! The result of a call, as text: a reply, or a wait.
 ghost use Rattle.std.specs.Prelude.{◌≡◌};
 ghost use Rattle.std.specs.Str.{bytes_eq};
 ghost use Rattle.trace_text.specs.Printing.{text_of};
@@ -61,7 +61,7 @@ fn is_written_so(reply: Reply, text: &[u8]) -> bool
 
 /// The reply that is written so; `None` where none is.
 #[tactic(auto, unfolding(crate::specs::Replies::reply_of))]
-pub(crate) fn read_reply(text: &[u8]) -> Option<Reply>
+pub fn read_reply(text: &[u8]) -> Option<Reply>
     ensures { result ≡ reply_of text.now }
 {
     let Some(reply) = read_value(text) else {

@@ -2,68 +2,68 @@
 ghost use Rattle.std.specs.Prelude.{◌≡◌, ◌+◌, ◌≤◌, ◌<◌, ◌^◌, ◌∷◌, ◌++◌, [], IfErr, IfOk, List, ℕ, OnOk, Some, length};
 ghost use Rattle.trace_io.specs.Lines.{lines_of};
 ghost use Rattle.audit.specs.Auditor.{plain_of};
-ghost use Rattle.audit_text.specs.Heard.{Declared, heard_after, with_answer};
-ghost use Rattle.audit_text.specs.Reviewed.{GoesOn, IsReviewed, IsTextAtFault, wrong_at};
+ghost use Rattle.audit_text.specs.Heard.{Declared, heard_after, with_item};
+ghost use Rattle.audit_text.specs.Reviewed.{GoesOnBy, IsReviewed, IsTextAtFault, wrong_at};
 ghost use Rattle.audit_text.specs.Reviewing.{IsBefore, TurnsOutSo};
 ghost use Rattle.audit_text.specs.Steps.{IsCounted, count_of, heard_of, terms_of};
 
-use crate::going_on::go_on;
+use crate::going_on::go_on_by;
 use crate::hearing::{Hearing, Turn};
 use crate::input::{AuditFault, said_at};
+use crate::item::Item;
 use crate::judging::Verdict;
 use crate::reading::Said;
-use audit::Call;
 use slot_lock::SlotMap;
 use std::alloc::Allocator;
 use trace_io::IoFault;
 use trace_io::lines::front_line;
 use vm_base::Reply;
 
-// What is told of a wrong reply.
-fn wrong_at(line: u64, call: &Call, due: Reply, certain: bool) -> Verdict
-    ensures { result ≡ wrong_at line call.now due certain }
+// What is said about a wrong reply, or of a copy that may not be.
+fn wrong_at(line: u64, item: &Item, due: Option<Reply>, certain: bool) -> Verdict
+    ensures { result ≡ wrong_at line item.now due certain }
 {
     if certain {
         Verdict::Illegal {
             line,
-            call: *call,
+            item: *item,
             due,
         }
     } else {
         Verdict::Undecided {
             line,
-            call: *call,
+            item: *item,
             due,
         }
     }
 }
 
-// Tells a wrong reply, for which this was due, and goes on.
+// Tells it, and goes on.
 fn tell_wrong<M: SlotMap + Drop, A: Allocator + Drop, B: Allocator>(
     hearing: &mut Hearing<M, A>,
     found: &mut Vec<Verdict, B>,
     line: u64,
-    call: Call,
-    due: Reply,
+    item: Item,
+    due: Option<Reply>,
     certain: bool,
 ) -> Result<(), AuditFault>
     requires counted { IsCounted hearing.old }
     requires room { count_of hearing.old + 1 < 2 ^ 64 }
-    ensures goes { OnOk result (GoesOn (terms_of hearing.old) (plain_of hearing.old.auditor) call due (plain_of hearing.new.auditor)) }
-    ensures heard { OnOk result (heard_of hearing.new ≡ with_answer (heard_of hearing.old) certain call) }
-    ensures found { OnOk result (found.new.items ≡ found.old.items ++ wrong_at line call due certain ∷ []) }
+    ensures goes { OnOk result (GoesOnBy (terms_of hearing.old) (plain_of hearing.old.auditor) item due (plain_of hearing.new.auditor)) }
+    ensures heard { OnOk result (heard_of hearing.new ≡ with_item (heard_of hearing.old) certain item) }
+    ensures found { OnOk result (found.new.items ≡ found.old.items ++ wrong_at line item due certain ∷ []) }
     ensures err { IfErr result (λ f. f ≡ AuditFault.Io IoFault.NoMemory) }
     ensures counted { OnOk result (IsCounted hearing.new) }
     ensures few { OnOk result (count_of hearing.new ≤ count_of hearing.old + 1) }
     ensures terms { OnOk result (terms_of hearing.new ≡ terms_of hearing.old) }
 {
-    let Ok(()) = found.push(wrong_at(line, &call, due, certain)) else {
+    let Ok(()) = found.push(wrong_at(line, &item, due, certain)) else {
         return Err(AuditFault::Io(IoFault::NoMemory));
     };
-    let Ok(()) = go_on(hearing, &call, due) else {
+    let Ok(()) = go_on_by(hearing, &item, due) else {
         return Err(AuditFault::Io(IoFault::NoMemory));
     };
-    hearing.note(certain, call);
+    hearing.note(certain, &item);
     Ok(())
 }
 
@@ -86,8 +86,8 @@ fn turn<M: SlotMap + Drop, A: Allocator + Drop, B: Allocator>(
     match hearing.hear(said) {
         Ok(Turn::Legal) => Ok(()),
         Ok(Turn::Bad) => Err(AuditFault::BadLine(line)),
-        Ok(Turn::Illegal(call, due, certain)) => {
-            tell_wrong(hearing, found, line, call, due, certain)
+        Ok(Turn::Illegal(item, due, certain)) => {
+            tell_wrong(hearing, found, line, item, due, certain)
         }
         Err(_) => Err(AuditFault::Io(IoFault::NoMemory)),
     }

@@ -1,8 +1,10 @@
 //! The lines that tell a verdict.
-ghost use Rattle.std.specs.Prelude.{◌≡◌, ◌+◌, ◌≤◌, ◌++◌, IfOk, OnOk, codes, decimal, length};
+ghost use Rattle.std.specs.Prelude.{◌≡◌, ◌+◌, ◌≤◌, ◌++◌, IfOk, OnOk, Some, codes, decimal, length};
+ghost use Rattle.audit_text.specs.declared.item.Item.TheVariants.{Answer};
 ghost use Rattle.std.specs.List.{flat_map};
 ghost use Rattle.audit_text.specs.Ends.{head_text, lacking_text, mapping_text, some_lacking, verdict_text, wrong_text};
 
+use crate::item::Item;
 use crate::judging::Verdict;
 use audit::Call;
 use slot_lock::MapLine;
@@ -44,9 +46,9 @@ fn write_legal(text: &mut LineText, calls: u64, lacking: u64)
 }
 
 // Replaces the text by the line that begins with this word and tells the first reply that isn't.
-fn write_wrong(text: &mut LineText, word: &str, line: u64, call: &Call, due: Reply)
+fn write_reply(text: &mut LineText, word: &str, line: u64, call: &Call, due: Reply)
     requires { length word.now ≤ 10 }
-    ensures { text.new.bytes ≡ wrong_text word.now line call.now due }
+    ensures { text.new.bytes ≡ wrong_text word.now line (Answer call.now) (Some due) }
 {
     text.clear();
     text.push_str(word);
@@ -58,18 +60,43 @@ fn write_wrong(text: &mut LineText, word: &str, line: u64, call: &Call, due: Rep
     text.push_str("\n");
 }
 
+// Replaces the text by the line that begins with this word and tells the first copy that may not be.
+fn write_copy(text: &mut LineText, word: &str, line: u64)
+    requires { length word.now ≤ 10 }
+    ensures { text.new.bytes ≡ word.now ++ decimal line ++ codes ": copied, due no copy\n" }
+{
+    text.clear();
+    text.push_str(word);
+    push_number(text, line);
+    text.push_str(": copied, due no copy\n");
+}
+
+// Replaces the text by the line of either.
+fn write_wrong(text: &mut LineText, word: &str, line: u64, item: &Item, due: Option<Reply>)
+    requires { length word.now ≤ 10 }
+    ensures { text.new.bytes ≡ wrong_text word.now line item.now due }
+{
+    match item {
+        Item::Answer(call) => match due {
+            Some(due) => write_reply(text, word, line, call, due),
+            None => write_copy(text, word, line),
+        },
+        Item::Copy(_) => write_copy(text, word, line),
+    }
+}
+
 /// Replaces the text by the verdict's own line.
 pub(crate) fn write_head(text: &mut LineText, verdict: &Verdict)
     ensures { text.new.bytes ≡ head_text verdict.now }
 {
     match verdict {
         Verdict::Legal { calls, lacking, .. } => write_legal(text, *calls, *lacking),
-        Verdict::Illegal { line, call, due } => write_wrong(text, "illegal ", *line, call, *due),
-        Verdict::Undecided { line, call, due } => write_wrong(
+        Verdict::Illegal { line, item, due } => write_wrong(text, "illegal ", *line, item, *due),
+        Verdict::Undecided { line, item, due } => write_wrong(
             text,
             "undecided ",
             *line,
-            call,
+            item,
             *due,
         ),
     }

@@ -4,6 +4,12 @@ use Rattle.audit_text.specs.declared.input.AuditFault.{AuditFault}
 use Rattle.audit_text.specs.declared.input.AuditFault.TheVariants as For
 use Rattle.audit_text.specs.declared.judging.Verdict.{Verdict}
 use Rattle.audit_text.specs.declared.judging.Verdict.TheVariants.{Legal, Illegal, Undecided}
+use Rattle.import_lackey.specs.declared.traced.Told.{Told as ToldOfAccesses}
+use Rattle.orders_text.specs.declared.faults.HistoryFault.{HistoryFault}
+use Rattle.orders_text.specs.declared.faults.HistoryFault.TheVariants as Why
+use Rattle.overlapping.specs.declared.judging.Ruled.{Ruled}
+use Rattle.overlapping.specs.declared.judging.Ruling.{Ruling}
+use Rattle.overlapping.specs.declared.judging.Ruling.TheVariants as By
 use Rattle.import_maps.specs.declared.mapped.Told.{Told}
 use Rattle.import_text.specs.declared.import.Ending.{Ending}
 use Rattle.import_text.specs.declared.import.Ending.TheVariants.{Written, Nothing, Absent}
@@ -71,10 +77,10 @@ abbrev pub log_status : Result Told IoFault → ℕ
 log_status (Ok told) = ending_status told.report.ending
 log_status (Err f) = 3
 
--- of a log of lackey: 0 where its trace was written
-abbrev pub import_status : {T : Type 0} → Result T IoFault → ℕ
-import_status (Ok told) = 0
-import_status (Err f) = 3
+-- of a log of lackey
+abbrev pub accesses_status : Result ToldOfAccesses IoFault → ℕ
+accesses_status (Ok told) = ending_status told.ending
+accesses_status (Err f) = 3
 
 -- of replies that are judged: 0 where they are legal, 1 where one isn't, 3 where that is undecided
 abbrev pub audit_fault_status : AuditFault → ℕ
@@ -93,6 +99,19 @@ found_status (Some (Undecided line call due)) = 3
 abbrev pub audit_status : Result Verdict AuditFault → ℕ
 audit_status (Ok verdict) = found_status (Some verdict)
 audit_status (Err f) = audit_fault_status f
+
+-- of a history of calls that overlap: 0 where they have an order, 3 where none was found
+abbrev pub history_fault_status : HistoryFault → ℕ
+history_fault_status (Why.Io f) = 3
+history_fault_status _ = 2
+
+abbrev pub ruling_status : Ruling → ℕ
+ruling_status (By.Legal calls) = 0
+ruling_status (By.Undecided line) = 3
+
+abbrev pub judgement_status : {A : Type 0} → Result (Ruled A) HistoryFault → ℕ
+judgement_status (Ok ruled) = ruling_status ruled.ruling
+judgement_status (Err f) = history_fault_status f
 
 -- of all replies
 abbrev pub review_status : Result (Option Verdict) AuditFault → ℕ

@@ -1,11 +1,14 @@
 -- What each word of the command line does: how it ends, what is read and written by then, and the status.
-use Rattle.std.specs.Prelude.{◌≡◌, ℕ, Bool, List, Option, Result}
+use Rattle.std.specs.Prelude.{◌≡◌, ◌⊎◌, ℕ, Bool, List, Option, Result}
+use Rattle.std.specs.Io.KnownBytes.{Keeps}
+use Rattle.overlapping.specs.Ends.{JudgementEnds, TellsJudgement}
 use Rattle.audit_text.specs.Ends.{AuditEnds, TellsAudit}
 use Rattle.audit_text.specs.Reviewed.{ReviewEnds}
 use Rattle.audit_text.specs.declared.allowing.Terms.{Terms}
 use Rattle.command_line.specs.Echo.{EchoEnds}
 use Rattle.command_line.specs.Picture.{PictureEnds}
-use Rattle.command_line.specs.Status.{audit_status, certified_live_status, certified_status, import_status, live_status, log_status, picture_status}
+use Rattle.command_line.specs.Status.{accesses_status, audit_status, certified_live_status, certified_status, live_status, log_status, picture_status}
+use Rattle.command_line.specs.Status.{judgement_status}
 use Rattle.command_line.specs.Status.{review_status, told_status}
 use Rattle.command_line.specs.declared.words.Work.{Work}
 use Rattle.command_line.specs.declared.words.Work.TheVariants as For
@@ -16,6 +19,7 @@ use Rattle.import_lackey.specs.Traced.{TraceEnds}
 use Rattle.import_maps.specs.Mapped.{MapsEnds, TellsMaps}
 use Rattle.import_maps.specs.declared.mapped.Told.{Told}
 use Rattle.import_text.specs.declared.processes.Choice.{Choice}
+use Rattle.history_text.specs.Ends.{IsHistoryText}
 use Rattle.live_script.specs.Texts.{EndsText, IsNotesText, IsVerdictText, TellsText}
 use Rattle.notes_text.specs.CertifyEnds.{Certifies}
 use Rattle.shared_script.specs.Texts.{EndsShared, TellsShared}
@@ -55,6 +59,10 @@ CertifiesNotes A parts CanFold Folds text out n = EndsInOneWay certified_status 
 abbrev pub RunsScript : ReadFrom → WrittenTo → ℕ → Type 0
 RunsScript text out n = EndsInOneWay live_status (EndsText {T = Unit} (λ script done notes. IsNotesText script notes)) TellsText text out n
 
+-- such a run, the history of whose calls is written
+abbrev pub WritesHistory : ReadFrom → WrittenTo → ℕ → Type 0
+WritesHistory text out n = EndsInOneWay live_status (EndsText {T = Unit} (λ script done calls. IsHistoryText script calls)) TellsText text out n
+
 -- the certificate of such a run
 abbrev pub CertifiesRun : Type 0 → (PageRange → ℕ → ℕ → Bool) → (Slots → ℕ → Type 0) → (Slots → Slots → ℕ → Type 0)
     → ReadFrom → WrittenTo → ℕ → Type 0
@@ -74,7 +82,7 @@ ImportsLog choice list text out n = (r : Result Told IoFault) × (n ≡ log_stat
 
 -- the trace of a log of lackey
 abbrev pub ImportsAccesses : ReadFrom → WrittenTo → ℕ → Type 0
-ImportsAccesses text out n = EndsInOneWay import_status (λ input unread. TraceEnds input) (TellsSent (λ f. f)) text out n
+ImportsAccesses text out n = EndsInOneWay accesses_status (λ input unread. TraceEnds input) (TellsSent (λ f. f)) text out n
 
 -- the judgement of replies by these terms
 abbrev pub AuditsReplies : Terms → ReadFrom → WrittenTo → ℕ → Type 0
@@ -83,6 +91,15 @@ AuditsReplies terms text out n = EndsInOneWay audit_status (λ input unread. Aud
 -- the same, which goes on after a wrong one
 abbrev pub ReviewsReplies : Terms → ReadFrom → WrittenTo → ℕ → Type 0
 ReviewsReplies terms text out n = EndsInOneWay review_status (λ input unread. ReviewEnds terms input) TellsAudit text out n
+
+-- the judgement of calls that overlap
+abbrev pub JudgesCalls : Type 0 → Bool → ReadFrom → WrittenTo → ℕ → Type 0
+JudgesCalls A any_place text out n =
+    EndsInOneWay judgement_status (λ input unread. JudgementEnds {A = A} any_place input) TellsJudgement text out n
+
+-- the same, unless the order that is given can't be read: then nothing is written
+abbrev pub JudgesOrGivesUp : Type 0 → Bool → ReadFrom → WrittenTo → ℕ → Type 0
+JudgesOrGivesUp A any_place text out n = JudgesCalls A any_place text out n ⊎ ((n ≡ 3) × Keeps out.before out.after)
 
 -- a picture of a trace, of its steps or of lives
 abbrev pub PicturesTrace : Drawing → ReadFrom → WrittenTo → ℕ → Type 0
@@ -96,9 +113,11 @@ DoesWork A parts CanFold Folds (For.Echo limit coloured) list text out n = Echoe
 DoesWork A parts CanFold Folds For.Certify list text out n = CertifiesNotes A parts CanFold Folds text out n
 DoesWork A parts CanFold Folds For.Live list text out n = RunsScript text out n
 DoesWork A parts CanFold Folds For.CertifyLive list text out n = CertifiesRun A parts CanFold Folds text out n
+DoesWork A parts CanFold Folds For.LiveHistory list text out n = WritesHistory text out n
 DoesWork A parts CanFold Folds For.ShareLive list text out n = SharesScript text out n
 DoesWork A parts CanFold Folds (For.Import choice) list text out n = ImportsLog choice list text out n
 DoesWork A parts CanFold Folds For.ImportAccesses list text out n = ImportsAccesses text out n
 DoesWork A parts CanFold Folds (For.Audit terms) list text out n = AuditsReplies terms text out n
 DoesWork A parts CanFold Folds (For.AuditAll terms) list text out n = ReviewsReplies terms text out n
+DoesWork A parts CanFold Folds (For.Overlapping overlaps) list text out n = JudgesOrGivesUp A overlaps.any_place text out n
 DoesWork A parts CanFold Folds (For.Picture drawing) list text out n = PicturesTrace drawing text out n

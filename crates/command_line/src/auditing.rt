@@ -1,18 +1,21 @@
 //! What the word `audit` does.
 ghost use Rattle.std.specs.Prelude.{◌≡◌, ◌≤◌};
-ghost use Rattle.command_line.specs.Status.{audit_fault_status, found_status};
-ghost use Rattle.command_line.specs.Words.{AuditsReplies, ReviewsReplies};
+ghost use Rattle.command_line.specs.Status.{audit_fault_status, found_status, history_fault_status, ruling_status};
+ghost use Rattle.command_line.specs.Words.{AuditsReplies, JudgesCalls, JudgesOrGivesUp, ReviewsReplies};
 ghost use Rattle.trace_io.specs.Io.{read_from, written_to};
 
 use crate::ended::{Ended, Trouble};
+use crate::words::Overlaps;
 use audit_text::{AuditFault, Terms, Verdict, audit_all, audit_text};
+use orders_text::HistoryFault;
+use overlapping::{By, Ruling, judge_overlapping};
 use radix_range::RadixMap;
 use std::alloc::Global;
 use std::io::Write;
 use trace::fault::TraceFault;
 use trace_io::IoFault;
 use trace_io::sink::Sink;
-use trace_io::source::Source;
+use trace_io::source::{Source, read_all};
 
 // What more can be told of: a fault of the text.
 fn trouble_of(fault: AuditFault) -> Trouble {
@@ -40,7 +43,7 @@ fn refuse<E: Write>(fault: AuditFault, errors: &mut E) -> Ended
     }
 }
 
-// How the judgement of replies ended, of which this is the first wrong one, or what is told in its place.
+// How the judgement of replies ended, of which this is the first wrong one, or what is said in its place.
 fn ended_at(first: Option<Verdict>) -> Ended
     ensures value { result.status ≡ found_status first }
     ensures within { result.status ≤ 3 }
@@ -83,7 +86,7 @@ pub fn audit<S: Source, W: Sink, E: Write>(
     }
 }
 
-/// As `audit`, and goes on after a wrong reply: each one is told.
+/// As `audit`, and goes on after a wrong reply: each one is reported.
 pub fn audit_each<S: Source, W: Sink, E: Write>(
     alloc: Global,
     reader: &mut S,
@@ -101,5 +104,107 @@ pub fn audit_each<S: Source, W: Sink, E: Write>(
     match audit_all(alloc, map, reader, out, terms) {
         Ok(first) => ended_at(first),
         Err(fault) => refuse(fault, errors),
+    }
+}
+
+// Prints why a text is that of no history, as `radixvm: ` and its text, and answers the status.
+fn refuse_history<E: Write>(fault: HistoryFault, errors: &mut E) -> Ended
+    ensures value { result.status ≡ history_fault_status fault }
+    ensures within { result.status ≤ 3 }
+{
+    let _ = writeln!(errors, "radixvm: {fault}");
+    match fault {
+        HistoryFault::Io(_) => Ended {
+            status: 3,
+            trouble: Trouble::Nothing,
+        },
+        _ => Ended {
+            status: 2,
+            trouble: Trouble::History(fault),
+        },
+    }
+}
+
+// How the judgement of a history ended.
+fn ended_by(ruling: Ruling) -> Ended
+    ensures value { result.status ≡ ruling_status ruling }
+    ensures within { result.status ≤ 3 }
+{
+    match ruling {
+        Ruling::Legal(_) => Ended {
+            status: 0,
+            trouble: Trouble::Nothing,
+        },
+        Ruling::Undecided(line) => Ended {
+            status: 3,
+            trouble: Trouble::Unordered(line),
+        },
+    }
+}
+
+// Judges calls that overlap, by an order that is come by so.
+fn judge_by<S: Source, W: Sink, E: Write>(
+    alloc: Global,
+    by: By<'_>,
+    reader: &mut S,
+    out: &mut W,
+    errors: &mut E,
+    any_place: bool,
+    order: &mut Vec<u8>,
+) -> Ended
+    ensures ends { JudgesCalls Global any_place
+        (read_from S.Source reader.old reader.new) (written_to W.Sink out.old out.new) result.status }
+    ensures within { result.status ≤ 3 }
+{
+    let Ok(map) = RadixMap::new(alloc) else {
+        return refuse_history(HistoryFault::Io(IoFault::NoMemory), errors);
+    };
+    match judge_overlapping(alloc, map, reader, out, any_place, by) {
+        Ok(ruled) => {
+            let ruling = ruled.ruling;
+            *order = ruled.order;
+            ended_by(ruling)
+        }
+        Err(fault) => refuse_history(fault, errors),
+    }
+}
+
+/// Judges a history of calls that overlap, prints a fault as `radixvm: ` and its text, and answers the status: 0 where they have an order,
+/// 3 where none was found, or that of the fault. The order is searched, or read from `list`. It is left in `order`.
+pub fn audit_overlapping<L: Source, S: Source, W: Sink, E: Write>(
+    alloc: Global,
+    list: &mut L,
+    reader: &mut S,
+    out: &mut W,
+    errors: &mut E,
+    overlaps: Overlaps,
+    order: &mut Vec<u8>,
+) -> Ended
+    ensures ends { JudgesOrGivesUp Global overlaps.any_place
+        (read_from S.Source reader.old reader.new) (written_to W.Sink out.old out.new) result.status }
+    ensures within { result.status ≤ 3 }
+{
+    if !overlaps.is_given {
+        return judge_by(
+            alloc,
+            By::Search,
+            reader,
+            out,
+            errors,
+            overlaps.any_place,
+            order,
+        );
+    }
+    match read_all(alloc, list) {
+        Ok(given) => judge_by(
+            alloc,
+            By::Given(given.as_slice()),
+            reader,
+            out,
+            errors,
+            overlaps.any_place,
+            order,
+        ),
+        Err(fault) => refuse_history(HistoryFault::Io(fault), errors),
     }
 }

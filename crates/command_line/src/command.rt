@@ -3,16 +3,17 @@ ghost use Rattle.std.specs.Prelude.{◌≡◌, ◌≤◌, IfOk};
 ghost use Rattle.command_line.specs.Words.{DoesWork};
 ghost use Rattle.trace_io.specs.Io.{read_from, written_to};
 
-use crate::auditing::{audit, audit_each};
+use crate::auditing::{audit, audit_each, audit_overlapping};
 use crate::certifying::certify;
 use crate::ended::{Ended, Trouble};
 use crate::explain::{Manner, explain};
 use crate::forms::Kind;
+use crate::histories::{explain_history, explain_unordered};
 use crate::importing::{import, import_accesses};
 use crate::input::{Files, input, list};
 use crate::job::{run, run_echoing};
 use crate::keeping::{Keeping, Keeps};
-use crate::live::{certify_live, live, share_live};
+use crate::live::{certify_live, live, live_history, share_live};
 use crate::noting::{show_request, tell_notes, tell_undecided};
 use crate::picturing::picture;
 pub use crate::telling::{WordsFault, refuse_words};
@@ -56,6 +57,7 @@ fn act<T: Threads + Wait + Sync, R: Runner<Global>, L: Source, S: Source, W: Sin
     reader: &mut S,
     out: &mut W,
     errors: &mut E,
+    order: &mut Vec<u8>,
 ) -> Ended
     ensures does { IfOk parsed.entry (λ task. DoesWork Global
         ⟦<RadixMap<Global> as SlotMap>⟧.parts ⟦<RadixMap<Global> as SlotMap>⟧.can_fold
@@ -73,11 +75,15 @@ fn act<T: Threads + Wait + Sync, R: Runner<Global>, L: Source, S: Source, W: Sin
             Work::Certify => certify(alloc, reader, out, errors),
             Work::Live => live(rt, runner, alloc, reader, out, errors),
             Work::CertifyLive => certify_live(rt, runner, alloc, reader, out, errors),
+            Work::LiveHistory => live_history(rt, runner, alloc, reader, out, errors),
             Work::ShareLive => share_live(rt, alloc, reader, out, errors),
             Work::Import(choice) => import(alloc, list, reader, out, errors, choice),
             Work::ImportAccesses => import_accesses(alloc, reader, out, errors),
             Work::Audit(terms) => audit(alloc, reader, out, errors, terms),
             Work::AuditAll(terms) => audit_each(alloc, reader, out, errors, terms),
+            Work::Overlapping(overlaps) => audit_overlapping(
+                alloc, list, reader, out, errors, overlaps, order,
+            ),
             Work::Picture(drawing) => picture(alloc, reader, out, errors, drawing),
         },
         Err(told) => Ended {
@@ -87,14 +93,15 @@ fn act<T: Threads + Wait + Sync, R: Runner<Global>, L: Source, S: Source, W: Sin
     }
 }
 
-// ---- what is told beside it
+// ---- what is said beside it
 
-// What the words ask for, as far as more is told of it.
+// What the words ask for, as far as more is said about it.
 #[derive(Clone, Copy)]
 struct Asks<'a> {
-    // The names of the text's file and of the list of mappings, where there are any.
+    // The names of the text's file, of the list of mappings or an order that is read, and of an order that is written, where there are any.
     file: Option<&'a str>,
     maps: Option<&'a str>,
+    order: Option<&'a str>,
     // A line of the text, where one is read.
     example: Option<&'static str>,
     // How a text is read, and whether a word tells more of a fault.
@@ -113,10 +120,12 @@ fn manner_of(work: Work, coloured: bool) -> Manner {
         Work::Replay(shows) => (Kind::Trace, shows.limit, shows.limit == CallLimit::Usual),
         Work::Echo { limit, .. } => (Kind::Trace, limit, limit == CallLimit::Usual),
         Work::Certify => (Kind::Notes, CallLimit::Usual, false),
-        Work::Live | Work::CertifyLive | Work::ShareLive => {
+        Work::Live | Work::CertifyLive | Work::LiveHistory | Work::ShareLive => {
             (Kind::Script, CallLimit::Usual, false)
         }
-        Work::Audit(_) | Work::AuditAll(_) => (Kind::Replies, CallLimit::Usual, false),
+        Work::Audit(_) | Work::AuditAll(_) | Work::Overlapping(_) => {
+            (Kind::Replies, CallLimit::Usual, false)
+        }
         Work::Picture(_) | Work::Import(_) | Work::ImportAccesses => {
             (Kind::Trace, CallLimit::Usual, false)
         }
@@ -137,12 +146,14 @@ fn example_of(work: Work) -> &'static str {
         Work::ImportAccesses => " L 04001000,8",
         Work::Live
         | Work::CertifyLive
+        | Work::LiveHistory
         | Work::ShareLive
         | Work::Replay(_)
         | Work::Echo { .. }
         | Work::Picture(_)
         | Work::Audit(_)
-        | Work::AuditAll(_) => "vm 1 4",
+        | Work::AuditAll(_)
+        | Work::Overlapping(_) => "vm 1 4",
     }
 }
 
@@ -150,18 +161,20 @@ fn example_of(work: Work) -> &'static str {
 fn keeps_of(work: Work, explains: bool) -> Keeps {
     match work {
         Work::Audit(_) | Work::AuditAll(_) => Keeps::All,
+        Work::Overlapping(_) if explains => Keeps::All,
         Work::Import(_) | Work::ImportAccesses => Keeps::Nothing,
         _ if explains => Keeps::End,
         _ => Keeps::Nothing,
     }
 }
 
-// What is told beside this task; colours are those of standard error.
+// What is said beside this task; colours are those of standard error.
 fn asks_of<'a>(task: &Task<'a>, terminals: Terminals, coloured: bool) -> Asks<'a> {
     let explains = task.explains || terminals.errors;
     Asks {
         file: task.file,
         maps: task.maps,
+        order: task.order,
         example: Some(example_of(task.work)),
         manner: manner_of(task.work, coloured && terminals.errors),
         explains,
@@ -169,11 +182,12 @@ fn asks_of<'a>(task: &Task<'a>, terminals: Terminals, coloured: bool) -> Asks<'a
     }
 }
 
-// What is told beside what is printed in a task's place: nothing.
+// What is said beside what is printed in a task's place: nothing.
 fn asks_nothing<'a>() -> Asks<'a> {
     Asks {
         file: None,
         maps: None,
+        order: None,
         example: None,
         manner: Manner {
             kind: Kind::Trace,
@@ -186,7 +200,7 @@ fn asks_nothing<'a>() -> Asks<'a> {
     }
 }
 
-// What is told beside the words.
+// What is said beside the words.
 fn asked_beside<'a>(
     parsed: &Result<Task<'a>, Told>,
     terminals: Terminals,
@@ -214,7 +228,9 @@ fn end_of(trouble: Trouble) -> u64 {
         Trouble::Fault(TraceFault::BadLine(number)) | Trouble::Fault(TraceFault::TooLong(number)) =>
             number,
         Trouble::Fault(_) => 0,
-        Trouble::Nothing | Trouble::Illegal(_) | Trouble::Undecided(_) => u64::MAX,
+        Trouble::History(_) => 0,
+        Trouble::Nothing | Trouble::Illegal(_) | Trouble::Undecided(_) | Trouble::Unordered(_) =>
+            u64::MAX,
     }
 }
 
@@ -248,7 +264,42 @@ fn tell_more<L, R, E: Write>(
     if let Trouble::Fault(fault) = trouble {
         explain(fault, asks.manner, &read.kept, errors);
     }
+    if let Trouble::History(fault) = trouble {
+        explain_history(fault, &read.kept, errors);
+    }
+    if let Trouble::Unordered(number) = trouble {
+        explain_unordered(number, &read.kept, errors);
+    }
     tell_notes(asks.manner, &read.kept, end_of(trouble), errors);
+}
+
+// Writes the order that was found to the file that is named for it, and answers the status: that of the word, or 3 where this fails.
+fn save_order<F: Files, E: Write>(
+    files: &F,
+    asks: Asks<'_>,
+    order: &[u8],
+    status: u8,
+    errors: &mut E,
+) -> u8
+    requires { status ≤ 3 }
+    ensures { result ≤ 3 }
+{
+    let Some(name) = asks.order else {
+        return status;
+    };
+    if order.is_empty() {
+        return status;
+    }
+    match files.save(name, order) {
+        Ok(()) => status,
+        Err(error) => {
+            let _ = writeln!(errors, "radixvm: {}", TraceFault::WriteFailed);
+            if asks.explains {
+                tell_cause(name, error.kind(), errors);
+            }
+            3
+        }
+    }
 }
 
 /// Does what the words say, the program's name first, and answers the status: 0; 1 for notes
@@ -256,7 +307,7 @@ fn tell_more<L, R, E: Write>(
 /// failed, or a core of a script couldn't begin a task. A fault is printed on `errors` as
 /// `radixvm: ` and its text. The text is what the named file gives, or `standard` where none is
 /// named, or `-`; a file that can't be opened is a read that failed. The host is where files are
-/// opened, what has threads, and how scripts are run. At terminals more is told of faults, in colours where these are
+/// opened, what has threads, and how scripts are run. At terminals more is said about faults, in colours where these are
 /// asked for.
 pub fn command<
     A: Allocator,
@@ -292,6 +343,7 @@ pub fn command<
     greet(asks, terminals, errors);
     let mut list = Counted::new(Keeping::new(alloc, list, Keeps::Nothing));
     let mut reader = Counted::new(Keeping::new(alloc, input, asks.keeps));
+    let mut order = Vec::new(alloc);
     let ended = act(
         rt,
         runner,
@@ -301,9 +353,10 @@ pub fn command<
         &mut reader,
         out,
         errors,
+        &mut order,
     );
     tell_more(asks, ended.trouble, &list.reader, &reader.reader, errors);
-    ended.status
+    save_order(files, asks, order.as_slice(), ended.status, errors)
 }
 
 // Whether the environment lets colours be shown: `NO_COLOR` isn't there, or empty.

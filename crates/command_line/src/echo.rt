@@ -21,10 +21,10 @@ use trace_io::source::Source;
 use trace_text::{Line, LineText, read_line};
 use watched::Unwatched;
 
-// Room for a line of a trace, in colours, the sign behind it, and a line of output.
+// Room for a line of a trace, in colours, the sign after it, and a line of output.
 type EchoText = ArrayVec<u8, 528>;
 
-// These bytes, one behind the other.
+// These bytes, one after the other.
 fn joined(line: &[u8], sign: &[u8], text: &[u8]) -> EchoText
     requires { length line.now + length sign.now + length text.now ≤ 528 }
     ensures { result.items ≡ line.now ++ sign.now ++ text.now }
@@ -146,7 +146,7 @@ fn echo_read<A: Allocator + Clone + Drop, S: Source, W: Sink>(
 }
 
 /// Replays a trace that may ask for as many calls as this limit says, as `trace::replay` does, and
-/// writes each line of an event with its outcome behind ` = `, and each `vm` or `file` line as it
+/// writes each line of an event with its outcome after ` = `, and each `vm` or `file` line as it
 /// is, the lines faint where colours are asked for. Hands out the lines that were read, of which the last tells more of a fault.
 pub fn replay_echoing<A: Allocator + Clone + Drop, S: Source, W: Sink>(
     alloc: A,

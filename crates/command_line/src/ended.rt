@@ -1,5 +1,6 @@
 //! How a word of the program ends.
 
+use orders_text::HistoryFault;
 use trace::fault::TraceFault;
 
 /// What is wrong with a text, where more can be told of it.
@@ -11,8 +12,12 @@ pub enum Trouble {
     Fault(TraceFault),
     /// The reply of the line with this number is none that a plain page map gives.
     Illegal(u64),
-    /// The same, but another order of calls that overlapped, or another map, may be behind the replies.
+    /// The same, but another order of calls that overlapped, or another map, may explain the replies.
     Undecided(u64),
+    /// It is that of no history, for this fault.
+    History(HistoryFault),
+    /// No order of a history's calls was found that gets to the end of the call of this line.
+    Unordered(u64),
 }
 
 /// How a word ended: with this status of the program, and, where more can be told of it, for this.

@@ -1,4 +1,4 @@
-//! What is told of a fault beside its text: the line, a caret below the place where it goes wrong, and what was expected there.
+//! What is said about a fault beside its text: the line, a caret below the place where it goes wrong, and what was expected there.
 ghost use Rattle.std.specs.Prelude.{◌≡◌, ◌≤◌, ◌⊎◌, length};
 ghost use Rattle.std.specs.Io.KnownBytes.{Keeps};
 ghost use Rattle.trace.specs.declared.fault.TraceFault.TheVariants as Of;
@@ -15,7 +15,7 @@ use trace::fault::TraceFault;
 use trace_text::number::read_number;
 use trace_text::{Line, is_printable, read_line};
 
-/// What a text is read as, and how more is told of it.
+/// What a text is read as, and how more is said about it.
 #[derive(Clone, Copy, Debug, PartialEq, Eq)]
 pub struct Manner {
     /// Which lines it has.
@@ -42,7 +42,7 @@ fn first_unprintable(line: &[u8]) -> usize
     line.len()
 }
 
-// What is told of a byte that may not stand in a text.
+// What is said about a byte that may not stand in a text.
 fn byte_rule(byte: Option<&u8>) -> &'static str {
     match byte {
         Some(b'\t') => "spaces and visible ASCII: here is a tab",
@@ -54,7 +54,7 @@ fn byte_rule(byte: Option<&u8>) -> &'static str {
 
 // ---- words that are no line's
 
-// Where the event of a line begins: behind the ticket of a note.
+// Where the event of a line begins: after the ticket of a note.
 fn event_start(kind: Kind, line: &[u8]) -> usize {
     match kind {
         Kind::Notes => word_start(line, 1),
@@ -175,7 +175,7 @@ fn explain_bad<E: Write>(manner: Manner, line: &[u8], errors: &mut E) {
 
 // ---- the vm line and the lines of files
 
-// The line of the text that comes behind so many whose first word is this.
+// The line of the text that comes after so many whose first word is this.
 fn line_of<'a>(text: &'a [u8], name: &[u8], before: u64) -> Option<&'a [u8]> {
     let mut count = 0u64;
     for line in text.split(|byte| *byte == b'\n') {

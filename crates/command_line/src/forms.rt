@@ -108,7 +108,7 @@ fn may_have(kind: Kind, form: &str) -> bool {
     }
 }
 
-// Whether the first words are those of some line: the example's other words are put behind them.
+// Whether the first words are those of some line: the example's other words are put after them.
 fn goes_on(line: &[u8], count: usize, example: &[u8]) -> bool {
     let mut text = Text::new();
     let is_whole = text
@@ -166,7 +166,7 @@ pub(crate) fn reach(kind: Kind, line: &[u8]) -> usize {
     most
 }
 
-/// Whether it is a whole line of a text of this kind, if nothing more is to stand behind it.
+/// Whether it is a whole line of a text of this kind, if nothing more is to stand after it.
 pub(crate) fn is_line(kind: Kind, line: &[u8]) -> bool {
     read_line(line).is_some() && reach(kind, line) == words_in(line)
 }

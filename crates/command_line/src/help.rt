@@ -9,7 +9,7 @@ mod traces;
 use crate::help::texts::{AUDIT, IMPORT, NOTES, PICTURE, THREADS};
 use crate::help::traces::{CORES, FAULTS, LOG, MAPS, OUTCOMES, RUN, TRACE};
 
-/// What `--version` says behind the program's name.
+/// What `--version` says after the program's name.
 pub const VERSION: &str = "0.1.0";
 
 /// How the words go together.
@@ -17,10 +17,11 @@ pub const USAGE: &str = "\
 radixvm run [--log | [--echo | --summary] [--long]] [--explain] [FILE]
        radixvm maps [--long] [--explain] [FILE]
        radixvm certify [--explain] [FILE]
-       radixvm live [--certify | --shared] [--explain] [FILE]
+       radixvm live [--certify | --history | --shared] [--explain] [FILE]
        radixvm import [--lackey | [--pid N] [--one-process] [--maps FILE]]
                       [--explain] [FILE]
-       radixvm audit [--any-place] [--strict] [--all] [--explain] [FILE]
+       radixvm audit [--overlapping [--given IN] [--order OUT] |
+                     [--strict] [--all]] [--any-place] [--explain] [FILE]
        radixvm picture [--lives | [--from N] [--to N]] [--explain] [FILE]
        radixvm help [TOPIC]";
 
@@ -32,10 +33,11 @@ modelled cores, and replayed from a text, a trace, step by step.
 Usage: radixvm run [--log | [--echo | --summary] [--long]] [--explain] [FILE]
        radixvm maps [--long] [--explain] [FILE]
        radixvm certify [--explain] [FILE]
-       radixvm live [--certify | --shared] [--explain] [FILE]
+       radixvm live [--certify | --history | --shared] [--explain] [FILE]
        radixvm import [--lackey | [--pid N] [--one-process] [--maps FILE]]
                       [--explain] [FILE]
-       radixvm audit [--any-place] [--strict] [--all] [--explain] [FILE]
+       radixvm audit [--overlapping [--given IN] [--order OUT] |
+                     [--strict] [--all]] [--any-place] [--explain] [FILE]
        radixvm picture [--lives | [--from N] [--to N]] [--explain] [FILE]
        radixvm help [TOPIC]
 
@@ -53,6 +55,7 @@ Words:
                  they are a run of the machine, or refuses them
   live           runs a script, each core on a thread, and writes their notes
   live --certify certifies these notes, or refuses them, in their place
+  live --history writes when each call began and was answered, and its reply
   live --shared  runs it on one machine for all threads, whose replies are
                  proved, and writes each core's calls, and all in their order
   import         reads a log of strace, or with --lackey one of valgrind's, and

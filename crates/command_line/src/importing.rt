@@ -9,11 +9,12 @@ ghost use Rattle.trace_io.specs.Io.{read_from, written_to};
 use crate::ended::{Ended, Trouble};
 use crate::pointing::{expect, show_line};
 use import_forms::looks::{Looks, looks_of};
-use import_lackey::traced::trace_log;
+use import_lackey::traced::{Told, trace_log};
 use import_maps::entries::Entries;
 use import_maps::mapped::import_mapped;
 use import_text::counts::Counts;
 use import_text::import::{Ending, Report};
+use import_text::losses::Losses;
 use import_text::processes::{Choice, Process};
 use std::alloc::Global;
 use std::io::Write;
@@ -41,6 +42,43 @@ fn tell_changed<E: Write>(counts: &Counts, errors: &mut E) {
         "changed: a mapping of a file, as one of zero bytes",
         errors,
     );
+    tell_count(counts.keyed, "changed: pkey_mprotect, as mprotect", errors);
+    tell_count(
+        counts.shared,
+        "changed: shmat and shmdt, as mmap of a file and munmap",
+        errors,
+    );
+}
+
+// Prints how many calls were left out that change the address space, by their names.
+fn tell_lost<E: Write>(lost: &Losses, errors: &mut E) {
+    tell_count(
+        lost.attach,
+        "left out, and lost: shmat of memory whose size no line says",
+        errors,
+    );
+    tell_count(
+        lost.detach,
+        "left out, and lost: shmdt of such memory",
+        errors,
+    );
+    tell_count(
+        lost.drops,
+        "left out, and lost: madvise that drops bytes of pages",
+        errors,
+    );
+    tell_count(lost.remaps, "left out, and lost: remap_file_pages", errors);
+    tell_count(
+        lost.grows,
+        "left out, and lost: mmap with MAP_GROWSDOWN",
+        errors,
+    );
+    tell_count(
+        lost.huge,
+        "left out, and lost: mmap with MAP_HUGETLB",
+        errors,
+    );
+    tell_count(lost.faults, "left out, and lost: userfaultfd", errors);
 }
 
 // Prints how many lines were left out, and why.
@@ -60,6 +98,7 @@ fn tell_left<E: Write>(counts: &Counts, errors: &mut E) {
         errors,
     );
     tell_count(counts.unread, "left out: in a form that isn't read", errors);
+    tell_lost(&counts.lost, errors);
 }
 
 // Prints how many lines of a list were kept, changed and left out, and why, if there were any.
@@ -167,7 +206,7 @@ fn tell_absent<E: Write>(report: &Report, choice: Choice, errors: &mut E) {
     tell_processes(report.processes.as_slice(), errors);
 }
 
-// Prints what is told of an import.
+// Prints what is said about an import.
 fn tell_report<E: Write>(report: &Report, choice: Choice, errors: &mut E)
     requires { total report.now.counts < 2 ^ 64 }
 {
@@ -183,6 +222,19 @@ fn tell_report<E: Write>(report: &Report, choice: Choice, errors: &mut E)
         }
     }
     tell_counts(&report.counts, errors);
+}
+
+// Prints what is told of an import of a log of lackey.
+fn tell_accesses<E: Write>(told: &Told, errors: &mut E)
+    requires { total told.now.counts < 2 ^ 64 }
+{
+    match told.ending {
+        Ending::Nothing => {
+            let _ = writeln!(errors, "radixvm: nothing was kept");
+        }
+        Ending::Written | Ending::Absent => {}
+    }
+    tell_counts(&told.counts, errors);
 }
 
 // The status of an import that ended so: 2 where there is no trace.
@@ -236,7 +288,8 @@ pub fn import<L: Source, S: Source, W: Sink, E: Write>(
 }
 
 /// Makes a trace of a log of lackey, prints how many of its lines became what on `errors`, or a fault
-/// as `radixvm: ` and its text, and answers the status: 0, or 3 for a fault.
+/// as `radixvm: ` and its text, and answers the status: 0; 2 where there is no trace, since no request would be in it; or 3 for a
+/// fault.
 pub fn import_accesses<S: Source, W: Sink, E: Write>(
     alloc: Global,
     reader: &mut S,
@@ -248,10 +301,10 @@ pub fn import_accesses<S: Source, W: Sink, E: Write>(
     ensures within { result.status ≤ 3 }
 {
     match trace_log(alloc, reader, out) {
-        Ok(counts) => {
-            tell_counts(&counts, errors);
+        Ok(told) => {
+            tell_accesses(&told, errors);
             Ended {
-                status: 0,
+                status: status_of(told.ending),
                 trouble: Trouble::Nothing,
             }
         }

@@ -1,4 +1,4 @@
-//! What a trace is read from: standard input, or a file.
+//! What a trace is read from: standard input, or a file. And where an order is written to.
 ghost use Rattle.std.specs.Prelude.{◌≡◌, ℕ, List, Ok, Some, IfOk, option_map, ⊤};
 ghost use Rattle.either.specs.declared.Either.{Either};
 ghost use Rattle.command_line.specs.Input.{NamesStandard};
@@ -6,7 +6,7 @@ ghost use Rattle.command_line.specs.Input.{NamesStandard};
 use either::Either;
 use std::fs::File;
 use std::io;
-use std::io::{Empty, Read};
+use std::io::{Empty, Read, Write};
 
 /// Where files are opened.
 pub trait Files {
@@ -19,6 +19,9 @@ pub trait Files {
     /// Opens the file of this path for reading.
     fn open(&self, path: &str) -> io::Result<Self::Open>
         ensures { IfOk result (λ file. opens self.now path.now file) };
+
+    /// Writes the bytes to the file of this path, which is made, or emptied first.
+    fn save(&self, path: &str, bytes: &[u8]) -> io::Result<()>;
 }
 
 impl Files for HostRuntime {
@@ -28,6 +31,11 @@ impl Files for HostRuntime {
 
     fn open(&self, path: &str) -> io::Result<File> {
         File::open(self, path)
+    }
+
+    fn save(&self, path: &str, bytes: &[u8]) -> io::Result<()> {
+        let mut file = File::create(self, path)?;
+        file.write_all(bytes)
     }
 }
 

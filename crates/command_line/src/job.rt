@@ -40,7 +40,7 @@ pub(crate) fn tell_end<A: Allocator, E: Write>(replayed: &Replayed<A>, errors: &
     Ended { status, trouble }
 }
 
-// As `run`, step by step, and prints the numbers of the run behind it.
+// As `run`, step by step, and prints the numbers of the run after it.
 fn run_summing<A: Allocator + Clone + Drop, S: Source, W: Sink, E: Write>(
     alloc: A,
     reader: &mut S,
@@ -63,7 +63,7 @@ fn run_summing<A: Allocator + Clone + Drop, S: Source, W: Sink, E: Write>(
 
 /// Replays the trace, showing what is asked for, prints a fault as `radixvm: ` and its
 /// text, and answers the status: 0, or that of the fault. Where that is asked for, the numbers of a
-/// run without fault come behind it.
+/// run without fault come after it.
 pub fn run<A: Allocator + Clone + Drop, S: Source, W: Sink, E: Write>(
     alloc: A,
     reader: &mut S,

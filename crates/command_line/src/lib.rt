@@ -10,6 +10,7 @@ pub mod ended;
 mod explain;
 mod forms;
 pub mod help;
+mod histories;
 mod importing;
 pub mod input;
 pub mod job;

@@ -1,10 +1,11 @@
 //! What the word `live` does: a script is run on threads.
 ghost use Rattle.std.specs.Prelude.{◌≡◌, ◌≤◌};
 ghost use Rattle.command_line.specs.Status.{script_status, shared_status};
-ghost use Rattle.command_line.specs.Words.{CertifiesRun, RunsScript, SharesScript};
+ghost use Rattle.command_line.specs.Words.{CertifiesRun, RunsScript, SharesScript, WritesHistory};
 ghost use Rattle.trace_io.specs.Io.{read_from, written_to};
 
 use crate::ended::{Ended, Trouble};
+use history_text::history_of_text;
 use live_script::Runner;
 use live_script::texts::{TextFault, certify_run, run_text};
 use radix_range::RadixMap;
@@ -59,7 +60,29 @@ pub fn live<
     }
 }
 
-/// As `live`, but writes in place of the notes what certifying them beside the histories of slots comes to: the status is 1
+/// As `live`, but writes in place of the notes the history of the calls: of each that was answered a line with the tickets of its
+/// beginning and its answer.
+pub fn live_history<
+    A: Allocator + Clone + Drop,
+    T: Threads + Wait + Sync,
+    R: Runner<A>,
+    S: Source,
+    W: Sink,
+    E: Write,
+>(rt: &T, runner: &R, alloc: A, reader: &mut S, out: &mut W, errors: &mut E) -> Ended
+    ensures ends { WritesHistory (read_from S.Source reader.old reader.new) (written_to W.Sink out.old out.new) result.status }
+    ensures within { result.status ≤ 3 }
+{
+    match history_of_text(rt, runner, alloc, reader, out) {
+        Ok(()) => Ended {
+            status: 0,
+            trouble: Trouble::Nothing,
+        },
+        Err(fault) => tell_fault(fault, errors),
+    }
+}
+
+/// As `live`, but writes in place of the notes the result of certifying them beside the histories of slots: the status is 1
 /// where they are refused.
 pub fn certify_live<
     A: Allocator + Clone + Drop,

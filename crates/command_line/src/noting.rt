@@ -1,4 +1,4 @@
-//! What is told beside a text that was read: of lines that may be mistakes, and of the reply that is illegal.
+//! What is said beside a text that was read: of lines that may be mistakes, and of the reply that is illegal.
 
 use crate::explain::Manner;
 use crate::forms::Kind;

@@ -1,4 +1,4 @@
-//! What is told of the outcome or the reply that a line names.
+//! What is said about the outcome or the reply that a line names.
 
 use crate::forms::Kind;
 use crate::pointing::{behind, expect, point, tell, word_at, word_start};
@@ -55,7 +55,7 @@ fn passed_rule(kind: Kind, line: &[u8]) -> Option<&'static str> {
     None
 }
 
-// What may stand behind the sign.
+// What may stand after the sign.
 fn outcome_rule(kind: Kind) -> &'static str {
     match kind {
         Kind::Notes => "step, idle, full, wait slot C, wait acks C.., or a reply,",
@@ -100,7 +100,7 @@ fn explain_named<E: Write>(kind: Kind, line: &[u8], outcome: &[u8], errors: &mut
     }
 }
 
-/// Tells of a line whose event is right: of the sign at this place, and of what stands behind it.
+/// Tells of a line whose event is right: of the sign at this place, and of what stands after it.
 pub(crate) fn explain_outcome<E: Write>(
     kind: Kind,
     line: &[u8],
@@ -117,7 +117,7 @@ pub(crate) fn explain_outcome<E: Write>(
     explain_named(kind, line, outcome, errors);
 }
 
-// Writes the line, with a caret below the first word behind the sign.
+// Writes the line, with a caret below the first word after the sign.
 fn point_behind<E: Write>(line: &[u8], sign: usize, coloured: bool, errors: &mut E) {
     let from = sign.saturating_add(1);
     let word = word_start(behind(line, from), 0);

@@ -99,7 +99,7 @@ fn write_picture<W: Sink>(
     Ok(())
 }
 
-// How many steps there are, where the first that is asked for is behind them all.
+// How many steps there are, where the first that is asked for is after them all.
 fn lacking(recorder: &Recorder<Global>, first: u64) -> Option<u64>
     ensures { result ≡ lacking first recorder.now }
 {
@@ -123,7 +123,7 @@ fn tell_steps<E: Write>(recorder: &Recorder<Global>, steps: Steps, errors: &mut 
 }
 
 // Writes the picture of what was recorded in these steps, and says on `errors` which they are where that is due; or tells how many
-// there are, where the first is behind them all.
+// there are, where the first is after them all.
 fn show_steps<W: Sink, E: Write>(
     alloc: Global,
     recorder: &Recorder<Global>,
@@ -266,7 +266,7 @@ fn tell_end<E: Write>(ended: Result<Option<u64>, TraceFault>, errors: &mut E) ->
 /// Replays the trace, and writes a picture of it: of what happened in these steps, or in the first
 /// 2,000 of them, which is then said on `errors`; or of the lives of mappings over all steps. Prints
 /// a fault, of which there is no picture, as `radixvm: ` and its text, and answers the status: 0, or
-/// that of the fault. A trace that ends before the first of the steps has no picture either: that is told, and the status is 2.
+/// that of the fault. A trace that ends before the first of the steps has no picture either: that is reported, and the status is 2.
 pub fn picture<S: Source, W: Sink, E: Write>(
     alloc: Global,
     reader: &mut S,

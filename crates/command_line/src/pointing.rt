@@ -74,7 +74,7 @@ pub(crate) fn write_text<E: Write>(text: &mut Text, errors: &mut E) {
     let _ = errors.write_all(text);
 }
 
-/// Writes a line behind two spaces. One that can't be written isn't told of.
+/// Writes a line after two spaces. One that can't be written isn't told of.
 pub(crate) fn tell<E: Write>(what: &str, errors: &mut E) {
     let _ = writeln!(errors, "  {what}");
 }

@@ -1,9 +1,9 @@
-//! The numbers of a replay, told behind it.
+//! The numbers of a replay, told after it.
 
 use std::io::Write;
 use watched::{Replies, Summary};
 
-// One number, behind its name.
+// One number, after its name.
 fn tell<E: Write>(errors: &mut E, name: &str, number: u64) {
     let _ = writeln!(errors, "{name} {number}");
 }

@@ -1,4 +1,4 @@
-//! What is told of words that can't be acted on, and of files that can't be read.
+//! What is said about words that can't be acted on, and of files that can't be read.
 ghost use Rattle.std.specs.Prelude.{◌≡◌, ◌≤◌};
 ghost use Rattle.std.specs.Io.KnownBytes.{Appends};
 ghost use Rattle.command_line.specs.Help.{page_of};
@@ -82,7 +82,7 @@ fn tell_flags<E: Write>(letters: &str, usage: &str, errors: &mut E) {
     }
 }
 
-// Tells what is wrong with the words, as the parser says it, and behind it which flags begin so.
+// Tells what is wrong with the words, as the parser says it, and after it which flags begin so.
 fn tell_mistake<E: Write>(text: &str, errors: &mut E) {
     let (first, rest) = text.split_once("\n\n").unwrap_or((text, ""));
     let _ = write!(errors, "radixvm: {first}\n\n");
@@ -116,7 +116,7 @@ fn tell_words<W: Sink, E: Write>(alloc: Global, error: &Error, out: &mut W, erro
     }
 }
 
-/// Prints what is told in place of what is asked for, and answers the status.
+/// Prints what is said in place of what is asked for, and answers the status.
 pub(crate) fn tell<W: Sink, E: Write>(alloc: Global, told: &Told, out: &mut W, errors: &mut E) -> u8
     ensures page { (topic : Topic) → told.now ≡ Told.Page topic → result ≡ 0
         → Appends (W.contents out.old) (W.contents out.new) (page_of topic) }

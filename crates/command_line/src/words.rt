@@ -28,6 +28,8 @@ pub(crate) enum Work {
     Live,
     /// The certificate of such a run.
     CertifyLive,
+    /// A run of a script on threads, the history of whose calls is written.
+    LiveHistory,
     /// A run of a script on threads over one machine, whose replies and log are written.
     ShareLive,
     /// The trace of a log of strace, of the process that is chosen.
@@ -38,8 +40,19 @@ pub(crate) enum Work {
     Audit(Terms),
     /// The same, which goes on after a wrong one.
     AuditAll(Terms),
+    /// The judgement of calls that overlap, by an order that is searched, or given.
+    Overlapping(Overlaps),
     /// A picture of a trace, of its steps or of lives.
     Picture(Drawing),
+}
+
+/// How calls that overlap are judged.
+#[derive(Clone, Copy, Debug, PartialEq, Eq)]
+pub struct Overlaps {
+    /// A mapping without `MAP_FIXED` may have any place, and not just the first one.
+    pub any_place: bool,
+    /// Whether their order is given.
+    pub is_given: bool,
 }
 
 /// What is asked for.
@@ -48,9 +61,11 @@ pub(crate) struct Task<'a> {
     pub(crate) work: Work,
     /// The text's file, where it isn't standard input.
     pub(crate) file: Option<&'a str>,
-    /// The file of the list of mappings that an import begins with.
+    /// The file of the list of mappings that an import begins with, or of the order that an audit is given.
     pub(crate) maps: Option<&'a str>,
-    /// Whether more is told of a fault than its text.
+    /// The file that an audit writes an order to.
+    pub(crate) order: Option<&'a str>,
+    /// Whether more is said about a fault than its text.
     pub(crate) explains: bool,
 }
 
@@ -72,7 +87,7 @@ fn flag<'a>(alloc: Global, name: &'static str) -> Arg<'a> {
     Arg::new(alloc, name).long(name).action(ArgAction::SetTrue)
 }
 
-// A word behind which a number stands.
+// A word after which a number stands.
 fn number<'a>(alloc: Global, name: &'static str) -> Arg<'a> {
     Arg::new(alloc, name)
         .long(name)
@@ -98,16 +113,17 @@ const MAPS_USAGE: &str = "radixvm maps [--long] [--explain] [FILE]";
 
 const CERTIFY_USAGE: &str = "radixvm certify [--explain] [FILE]";
 
-const LIVE_USAGE: &str = "radixvm live [--certify | --shared] [--explain] [FILE]";
+const LIVE_USAGE: &str = "radixvm live [--certify | --history | --shared] [--explain] [FILE]";
 
 const IMPORT_USAGE: &str =
     "radixvm import [--lackey | [--pid N] [--one-process] [--maps FILE]] [--explain] [FILE]";
 
-const AUDIT_USAGE: &str = "radixvm audit [--any-place] [--strict] [--all] [--explain] [FILE]";
+const AUDIT_USAGE: &str =
+    "radixvm audit [--overlapping [--given IN] [--order OUT] | [--strict] [--all]] [--any-place] [--explain] [FILE]";
 
 const PICTURE_USAGE: &str = "radixvm picture [--lives | [--from N] [--to N]] [--explain] [FILE]";
 
-// The word `run` with what may stand behind it.
+// The word `run` with what may stand after it.
 fn running<'a>(alloc: Global) -> Result<Command<'a>, AllocError> {
     let echo = flag(alloc, "echo").conflicts_with("log")?;
     let long = flag(alloc, "long").conflicts_with("log")?;
@@ -122,7 +138,7 @@ fn running<'a>(alloc: Global) -> Result<Command<'a>, AllocError> {
     Ok(command)
 }
 
-// The word `picture` with what may stand behind it.
+// The word `picture` with what may stand after it.
 fn picturing<'a>(alloc: Global) -> Result<Command<'a>, AllocError> {
     let lives = flag(alloc, "lives")
         .conflicts_with("from")?
@@ -134,7 +150,7 @@ fn picturing<'a>(alloc: Global) -> Result<Command<'a>, AllocError> {
     Ok(command)
 }
 
-// The word `import` with what may stand behind it.
+// The word `import` with what may stand after it.
 fn import_word<'a>(alloc: Global) -> Result<Command<'a>, AllocError> {
     let list = Arg::new(alloc, "maps").long("maps");
     let lackey = flag(alloc, "lackey")
@@ -149,7 +165,7 @@ fn import_word<'a>(alloc: Global) -> Result<Command<'a>, AllocError> {
     Ok(command)
 }
 
-// The word `help` with what may stand behind it.
+// The word `help` with what may stand after it.
 fn help_word<'a>(alloc: Global) -> Result<Command<'a>, AllocError> {
     let topic = Arg::new(alloc, "TOPIC").value_parser(help::TOPICS);
     let command = Command::new(alloc, "help")
@@ -159,11 +175,15 @@ fn help_word<'a>(alloc: Global) -> Result<Command<'a>, AllocError> {
     Ok(command)
 }
 
-// The word `live` with what may stand behind it.
+// The word `live` with what may stand after it.
 fn living<'a>(alloc: Global) -> Result<Command<'a>, AllocError> {
-    let shared = flag(alloc, "shared").conflicts_with("certify")?;
+    let history = flag(alloc, "history").conflicts_with("certify")?;
+    let shared = flag(alloc, "shared")
+        .conflicts_with("certify")?
+        .conflicts_with("history")?;
     let command = reading(alloc, "live", LIVE_USAGE)?
         .arg(flag(alloc, "certify"))?
+        .arg(history)?
         .arg(shared)?;
     Ok(command)
 }
@@ -186,12 +206,24 @@ fn machine_words<'a>(alloc: Global) -> Result<Command<'a>, AllocError> {
     Ok(program)
 }
 
-// The word `audit` with what may stand behind it.
+// The word `audit` with what may stand after it.
 fn audit_word<'a>(alloc: Global) -> Result<Command<'a>, AllocError> {
+    let overlapping = flag(alloc, "overlapping")
+        .conflicts_with("strict")?
+        .conflicts_with("all")?;
+    let given = Arg::new(alloc, "given")
+        .long("given")
+        .requires_arg("overlapping")?;
+    let order = Arg::new(alloc, "order")
+        .long("order")
+        .requires_arg("overlapping")?;
     let command = reading(alloc, "audit", AUDIT_USAGE)?
         .arg(flag(alloc, "any-place"))?
         .arg(flag(alloc, "strict"))?
-        .arg(flag(alloc, "all"))?;
+        .arg(flag(alloc, "all"))?
+        .arg(overlapping)?
+        .arg(given)?
+        .arg(order)?;
     Ok(command)
 }
 
@@ -231,6 +263,7 @@ fn working<'a>(work: Work, words: &ArgMatches<'a>) -> Task<'a>
         work,
         file: words.get_str("FILE"),
         maps: None,
+        order: None,
         explains: words.get_flag("explain"),
     }
 }
@@ -265,11 +298,12 @@ fn importing<'a>(words: &ArgMatches<'a>) -> Task<'a>
         }),
         file: words.get_str("FILE"),
         maps: words.get_str("maps"),
+        order: None,
         explains: words.get_flag("explain"),
     }
 }
 
-// What the words behind `run` ask for, in colours or without.
+// What the words after `run` ask for, in colours or without.
 fn running_asked<'a>(words: &ArgMatches<'a>, coloured: bool) -> Task<'a> {
     if words.get_flag("log") {
         return replaying(Show::OutcomesAndLog, false, words);
@@ -289,6 +323,21 @@ fn topic_of<'a>(words: &ArgMatches<'a>) -> Topic {
     }
 }
 
+// What the words behind `audit` ask for of calls that overlap.
+fn overlapping<'a>(words: &ArgMatches<'a>) -> Task<'a> {
+    let given = words.get_str("given");
+    Task {
+        work: Work::Overlapping(Overlaps {
+            any_place: words.get_flag("any-place"),
+            is_given: given.is_some(),
+        }),
+        file: words.get_str("FILE"),
+        maps: given,
+        order: words.get_str("order"),
+        explains: words.get_flag("explain"),
+    }
+}
+
 // By what terms the words have replies judged.
 fn terms_asked<'a>(words: &ArgMatches<'a>) -> Terms {
     Terms {
@@ -297,17 +346,19 @@ fn terms_asked<'a>(words: &ArgMatches<'a>) -> Terms {
     }
 }
 
-// What the words behind one of the program's own ask for, or the page of the help.
+// What the words after one of the program's own ask for, or the page of the help.
 fn asked<'a>(name: &str, words: &ArgMatches<'a>, coloured: bool) -> Result<Task<'a>, Topic> {
     match name {
         "run" => Ok(running_asked(words, coloured)),
         "maps" => Ok(replaying(Show::Maps, false, words)),
         "certify" => Ok(working(Work::Certify, words)),
         "live" if words.get_flag("certify") => Ok(working(Work::CertifyLive, words)),
+        "live" if words.get_flag("history") => Ok(working(Work::LiveHistory, words)),
         "live" if words.get_flag("shared") => Ok(working(Work::ShareLive, words)),
         "live" => Ok(working(Work::Live, words)),
         "import" if words.get_flag("lackey") => Ok(working(Work::ImportAccesses, words)),
         "import" => Ok(importing(words)),
+        "audit" if words.get_flag("overlapping") => Ok(overlapping(words)),
         "audit" if words.get_flag("all") => {
             Ok(working(Work::AuditAll(terms_asked(words)), words))
         }

@@ -1,4 +1,4 @@
-//! What is told of the other words, and of the texts that they read and write.
+//! What is said about the other words, and of the texts that they read and write.
 
 /// What `certify` reads and writes.
 pub const NOTES: &str = "\
@@ -58,6 +58,14 @@ certifies that they are a run of the machine, or refuses them. live --certify
 writes only that verdict, and also compares how each slot of the space changed:
 
   refused C5 PAGE   the slot of this page, a number, changed in another way
+
+live --history writes in place of the notes the vm and file lines, and then of
+each call that was answered
+
+  BEGIN END cC! REQ = REPLY
+
+with the numbers of the notes with which it began and was answered, one core
+after another. So others can judge the replies, who know no machine.
 
 live --shared runs the script on one machine that all threads share. A core
 makes its call whole while no other core is in one; otherwise it pauses, and
@@ -131,12 +139,24 @@ Changed, since a trace has no such lines:
                  without -y by their descriptors. A mapping of another file, or
                  past a file's first 1048576 bytes, is one of zero bytes. What
                  files hold isn't in a log: each can be read and written, is as
-                 long as its mappings reach, and begins with its number
+                 long as its mappings reach, and begins with its number.
+                 Comments tell names: # file N NAME before a file's line, and
+                 # anon ADDR LEN OFF NAME before a mapping of zero bytes that
+                 the file of this name, from OFF on, should back. A name has
+                 \\xNN for a byte that isn't visible ASCII, and for \\, and
+                 .. behind its first 200 bytes, or 180 beside a range
+  pkey_mprotect  mprotect
+  shmat, shmdt   mmap of a shared file and munmap, where a shmget of the
+                 process says how many bytes the memory has
 
 Left out: calls that failed, other calls and events, other processes (fork, and
-clone without CLONE_THREAD), what a process did before execve, huge pages and
-MAP_GROWSDOWN, and all else that isn't read. How many lines became what is told
-on standard error, and each line is counted once.
+clone without CLONE_THREAD), what a process did before execve, and all else
+that isn't read. Calls that change the address space and can't be kept are
+lost, and counted by their names: shmat and shmdt of memory whose size isn't
+known, madvise that drops bytes (MADV_DONTNEED, MADV_FREE, MADV_REMOVE),
+remap_file_pages, mmap with MAP_GROWSDOWN or MAP_HUGETLB, and userfaultfd. How
+many lines became what is told on standard error, and each line is counted
+once.
 
 What was mapped before the log begins isn't known without --maps: an mprotect
 of such pages is kept, and run answers enomem. Pages of the program's own file,
@@ -163,10 +183,10 @@ by descriptors. A page that is accessed and that no line has mapped was there
 before the log, and is mapped, rwx, right before that access. All is core 0's,
 since an access names neither thread nor process, and there are 65536 frames.
 
-Status: 0; 2 for bad words, and where nothing was kept, of which the first line
-is shown that isn't read; 3 where reading, writing or memory failed. The log,
-what is taken of it and the trace are held in memory. With --explain it is told
-which of the two files couldn't be read, and why.
+Status: 0; 2 for bad words, and where nothing was kept: of a log of strace the
+first line is then shown that isn't read; 3 where reading, writing or memory
+failed. The log, what is taken of it and the trace are held in memory. With
+--explain it is told which of the two files couldn't be read, and why.
 ";
 
 /// What `audit` reads and writes.
@@ -179,6 +199,8 @@ as a trace does (help trace). Then each line is one that run --echo writes:
   cC! REQ = REPLY      core C made this call, and had this reply
   cC! REQ = wait ..    it didn't have it yet; cC call REQ = step says so, too
   cC finish = REPLY    core C's call that waited has it; so does cC go = REPLY
+  cC copy ADDR         the private page of this address gets its copy now, for
+                       a store of core C that may come later
 
 REQ is as in help trace, REPLY as in help outcomes. All other lines that run
 --echo writes are taken, and say nothing of replies. A line has at most 512
@@ -203,6 +225,9 @@ shown that was judged, with its line's number:
                        before it are legal, and none behind it is read
   undecided N: replied REPLY, due REPLY
                        it isn't in this order of the calls, as above
+  illegal N: copied, due no copy
+                       line N copies a page that isn't private, shows no bytes
+                       of its file, or may not be stored to; or undecided N: ..
 
 With --all it goes on after a wrong reply, and writes such a line for each of
 them and nothing else. A mapping is then where the reply says, if its pages
@@ -213,6 +238,29 @@ in the core's window. With --any-place it may have any place where all pages
 are valid and free, as POSIX leaves it to an implementation, and as a trace has
 it with a guess. CORES, FRAMES and CALLS of the vm line bound nothing but the
 cores' numbers, which are 0 to 63.
+
+With --overlapping it judges a history: calls of threads, which overlap, with
+the times between which each was under way. Behind the vm and file lines, and
+in any order, stand lines
+
+  BEGIN END cC! REQ = REPLY
+                       the call began after BEGIN and ended before END, two
+                       numbers below 2^64 of one clock
+
+A call that ended before another began (END below BEGIN) takes effect before
+it; of others any may be the first. Calls of one core may not overlap. A call
+that has no reply yet has no line. It writes one of these:
+
+  legal CALLS          some order of the calls has just these replies
+  undecided N          no order was found that gets to the end of line N's
+                       call, or the search met its limit there: 300,000
+                       configurations. There may be an order
+
+--order OUT writes the order that was found to a file, as a text for audit: a
+line cC copy ADDR says that a store's page gets its copy there, before the
+store. --given IN judges by such a text, and searches none; where it is no
+order, the answer is undecided. What is found or given is checked, so legal
+rests on no search.
 
 Example:
   printf '%s\\n' 'vm 1 4' 'c0! mmap 0x10000 4096 rw- pfa = 0x10000' \\

@@ -1,4 +1,4 @@
-//! What is told of `run` and `maps`, of the traces that they read, and of what they write.
+//! What is said about `run` and `maps`, of the traces that they read, and of what they write.
 
 /// What `run` does.
 pub const RUN: &str = "\
@@ -172,7 +172,7 @@ What to do if core 0 reads one of these:
   full          write more CALLS on the vm line
 ";
 
-/// What `run --log` writes behind the outcomes.
+/// What `run --log` writes after the outcomes.
 pub const LOG: &str = "\
 run --log writes the log after the outcomes, a line for each entry, in order:
 

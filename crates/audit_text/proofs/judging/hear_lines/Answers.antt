@@ -52,7 +52,7 @@ returns-then-is_empty-clause-ok g c = λ lines d k. call_last (terms_of c.args.h
     (hears_by (terms_of c.lines.hearing) (terms_of c.args.hearing.now) c.lines.invariant.terms (heard_of c.lines.hearing)
     (heard_of c.turn.new.hearing) (plain_of c.lines.hearing.auditor)
     (plain_of c.turn.new.hearing.auditor) c.lines.said c.lines.line c.in_ok-verdict.field-0 c.in_ok-verdict.ensures.turns c.in_default.is)
-    (lines_empty _ _ c.is_empty.ensures c.if-is_empty.true) c.in_ok-verdict.ensures.counted.judged
+    (lines_empty _ _ c.is_empty.ensures c.if-is_empty.true) refl
 
 pub overflow_add-line : goal.overflow_add-line
 overflow_add-line g c = omega (arith, c.lines.invariant.room, some_left _ _ c.is_empty.ensures c.if-is_empty.false)

@@ -9,7 +9,7 @@ pub returns-in-Some-clause-none : goal.returns-in-Some-clause-none
 returns-in-Some-clause-none c = shown_none _ c.args.line.now c.in-Some.said c.if_printable.ensures
 
 pub returns-clause-some : goal.returns-clause-some
-returns-clause-some c = line_some _ _ (search rules) c.read_declared.ensures
+returns-clause-some c = line_some _ _ (search rules) c.read_plain.ensures
 
 pub returns-clause-none : goal.returns-clause-none
-returns-clause-none c = line_none _ _ (c.in_default.ensures {u = tt}).none c.read_declared.ensures
+returns-clause-none c = line_none _ _ (c.in_default.ensures {u = tt}).none c.read_plain.ensures

@@ -38,7 +38,7 @@ returns-then-is_empty-clause-ok g c = λ lines d k. before_last (terms_of c.args
     (turns_by {T = Unit {0}} (terms_of c.lines.hearing) (terms_of c.args.hearing.now) (heard_of c.lines.hearing) (heard_of c.turn.new.hearing) (plain_of c.lines.hearing.auditor)
     (plain_of c.turn.new.hearing.auditor) c.lines.said c.lines.line c.lines.found.items c.turn.new.found.items
     (Ok tt) c.lines.invariant.terms c.in_ok-turn.ensures.turns)
-    (lines_empty _ _ c.is_empty.ensures c.if-is_empty.true) c.in_ok-turn.ensures.counted.judged
+    (lines_empty _ _ c.is_empty.ensures c.if-is_empty.true) refl
 
 pub overflow_add-line : goal.overflow_add-line
 overflow_add-line g c = omega (arith, c.lines.invariant.room, some_left _ _ c.is_empty.ensures c.if-is_empty.false)

@@ -15,6 +15,9 @@ returns-in-Live-clause-does g c = rw c.in-Ok.is (rw c.in-Live.is c.live.ensures.
 pub returns-in-CertifyLive-clause-does : goal.returns-in-CertifyLive-clause-does
 returns-in-CertifyLive-clause-does g c = rw c.in-Ok.is (rw c.in-CertifyLive.is c.certify_live.ensures.ends)
 
+pub returns-in-LiveHistory-clause-does : goal.returns-in-LiveHistory-clause-does
+returns-in-LiveHistory-clause-does g c = rw c.in-Ok.is (rw c.in-LiveHistory.is c.live_history.ensures.ends)
+
 pub returns-in-ShareLive-clause-does : goal.returns-in-ShareLive-clause-does
 returns-in-ShareLive-clause-does g c = rw c.in-Ok.is (rw c.in-ShareLive.is c.share_live.ensures.ends)
 

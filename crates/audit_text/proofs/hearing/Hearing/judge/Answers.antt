@@ -8,9 +8,9 @@ use Rattle.audit_text.proofs.hearing.Hearing.judge.Goals as goal
 
 pub returns-then-is_let-clause-judged : goal.returns-then-is_let-clause-judged
 returns-then-is_let-clause-judged g c =
-    let e : plain_of c.note-then-is_let.new.self.auditor ≡ plain_of c.judge.new.self = ap plain_of c.note-then-is_let.ensures.same in
+    let e : plain_of c.note_answer-then-is_let.new.self.auditor ≡ plain_of c.judge.new.self = ap plain_of c.note_answer-then-is_let.ensures.same in
     subst (λ (p : Plain). JudgesCall (terms_of c.args.self.now) (heard_of c.args.self.now) (plain_of c.args.self.now.auditor) c.args.certain
-    c.args.call Legal (heard_of c.note-then-is_let.new.self) p) (sym e)
-    (judged_let (terms_of c.args.self.now) (heard_of c.args.self.now) (heard_of c.note-then-is_let.new.self)
+    c.args.call Legal (heard_of c.note_answer-then-is_let.new.self) p) (sym e)
+    (judged_let (terms_of c.args.self.now) (heard_of c.args.self.now) (heard_of c.note_answer-then-is_let.new.self)
     (plain_of c.args.self.now.auditor) (plain_of c.judge.new.self) c.args.certain c.args.call _ c.in-Illegal.due c.in_ok-judge.ensures.judged
-    c.in-Illegal.is (sym c.is_let.ensures ∙ c.if-is_let.true) c.note-then-is_let.ensures.heard)
+    c.in-Illegal.is (sym c.is_let.ensures ∙ c.if-is_let.true) c.note_answer-then-is_let.ensures.heard)

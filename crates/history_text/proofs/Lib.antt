@@ -1,0 +1,3 @@
+pub mod CallLemmas
+pub mod LaterLemmas
+pub mod TextLemmas

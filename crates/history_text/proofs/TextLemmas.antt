@@ -1,0 +1,52 @@
+-- What is written of a script's calls
+use Rattle.std.proofs.Common.{◌≡◌, inr, ℕ, List, Option, Ok, Err, Result, sym, ap, ◌∙◌, subst, map, All}
+use Rattle.std.proofs.lemmas.List.Elements.{recursion_from_All}
+use Rattle.seats.specs.Notes.{SeatView}
+use Rattle.seats.specs.Packing.{shown}
+use Rattle.seats.specs.declared.noted.Noted.{Noted}
+use Rattle.seats.specs.declared.note_list.Notes.{Notes}
+use Rattle.trace.specs.Declarations.{Asked}
+use Rattle.trace.specs.declared.fault.TraceFault.{TraceFault}
+use Rattle.trace.specs.declared.fault.TraceFault.TheVariants as Of
+use Rattle.live_space.specs.Space.{LiveView}
+use Rattle.notes_text.specs.Scripts.{ReadWhole, Scripted, Unread, unmade, unread_text, wanting}
+use Rattle.notes_text.proofs.CollectLemmas.{stops_own}
+use Rattle.live_script.specs.Certified.{AreRising}
+use Rattle.live_script.specs.Runs.{RunsAll}
+use Rattle.live_script.specs.Texts.{EndsText, Yields}
+use Rattle.live_script.specs.declared.texts.TextFault.{TextFault}
+use Rattle.orders.specs.declared.history.Timed.{Timed}
+use Rattle.history_text.specs.Ends.{IsHistoryText, calls_in}
+use Rattle.history_text.specs.History.{history_of}
+use Rattle.history_text.specs.Text.{history_text}
+use Rattle.history_text.proofs.LaterLemmas.{history_later}
+
+-- no fault of reading a script is one of writing
+pub unread_own : {X : Type 0} (input unread : List ℕ) (f : TraceFault) → Unread input unread f → f ≡ Of.WriteFailed → X
+unread_own input unread f (unread_text s) w = stops_own _ _ input unread f s w
+unread_own input unread f (unmade e u) w = let clash : Of.NoMemory ≡ Of.WriteFailed = sym e ∙ w in absurd (cc)
+unread_own input unread f (wanting e a n c) w = let clash : Of.NoMemory ≡ Of.WriteFailed = sym e ∙ w in absurd (cc)
+
+-- what is written of a script that was read is so of its text
+module _ {T : Type 0} (Gives : Scripted → T → List ℕ → Type 0) (script : Scripted) (old new : Option (List ℕ)) where
+  pub ends_as_yields : (input unread : List ℕ) (r : Result T TextFault) → ReadWhole input script → Yields Gives script old new r
+      → EndsText Gives input unread old new r
+  ends_as_yields input unread (Ok x) whole y = (script, whole, y)
+  ends_as_yields input unread (Err f) whole y = inr (script, whole, y)
+
+-- what is lent is what the seats noted
+pub calls_are : (slice : List Notes) (all : List Notes) (calls lent : List Timed) (seats : List SeatView) → slice ≡ all
+    → map shown all ≡ map (λ s. s.notes) seats → calls ≡ history_of (map shown slice) → lent ≡ calls → lent ≡ calls_in seats
+calls_are slice all calls lent seats same are is lends = lends ∙ is ∙ ap (λ l. history_of (map shown l)) same ∙ ap history_of are
+
+-- the text of the calls
+pub history_given : (script : Scripted) (live : LiveView) (seats : List SeatView) (calls : List Timed) (all : List (List Noted)) (asked : Asked)
+    → RunsAll script live seats → All AreRising all → all ≡ map (λ s. s.notes) seats → calls ≡ calls_in seats → asked ≡ script.asked
+    → IsHistoryText script (history_text asked calls)
+history_given script live seats calls all asked runs rising are is declared = record {
+  live = live;
+  seats = seats;
+  runs = runs;
+  later = history_later (map (λ s. s.notes) seats) (recursion_from_All AreRising _ (subst (All AreRising) are rising));
+  says = ap (λ a. history_text a calls) declared ∙ ap (history_text script.asked) is;
+}

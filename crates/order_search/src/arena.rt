@@ -1,0 +1,460 @@
+//! The maps of all configurations, each as two parts of long lists: its runs, and its bytes. A map is never changed; a new one is appended.
+
+use crate::configs::Config;
+use crate::pages::{
+    Cell, add_copy, drop_pages, file_key, first_byte, is_copied, own_key, put_byte, shown_byte,
+};
+use crate::runs::{Run, all_mapped, change_runs, least_room, meta_at, none_mapped};
+use crate::under::Under;
+use backing::Objects;
+use slot_lock::{Change, Place, Plan, Touch};
+use std::alloc::Allocator;
+use vm_base::page::{PAGE_LIMIT, PAGE_SIZE, is_page_start};
+use vm_base::{Access, Back, Errno, Meta, NoMemory, PageRange, Reply, SegvCode, allows, page_of};
+
+/// How long the lists are at least before what nobody needs is left out.
+const FEW: usize = 100_000;
+
+/// How long they may be.
+const MOST: usize = 20_000_000;
+
+/// A part of a list.
+#[derive(Clone, Copy, Debug, PartialEq, Eq)]
+pub(crate) struct Span {
+    pub first: usize,
+    pub end: usize,
+}
+
+/// Where a map is, and numbers that two maps share only by chance.
+#[derive(Clone, Copy, Debug, PartialEq, Eq)]
+pub(crate) struct Spot {
+    pub runs: Span,
+    pub cells: Span,
+    pub runs_print: u64,
+    pub cells_print: u64,
+}
+
+/// All maps.
+#[derive(Drop)]
+pub(crate) struct Arena<A: Allocator> {
+    runs: Vec<Run, A>,
+    cells: Vec<Cell, A>,
+    new_runs: Vec<Run, A>,
+    new_cells: Vec<Cell, A>,
+    most: usize,
+}
+
+// A part of a list of runs.
+fn runs_in(runs: &[Run], span: Span) -> &[Run] {
+    if span.first <= span.end && span.end <= runs.len() {
+        return &runs[span.first..span.end];
+    }
+    &runs[0..0]
+}
+
+// A part of a list of cells.
+fn cells_in(cells: &[Cell], span: Span) -> &[Cell] {
+    if span.first <= span.end && span.end <= cells.len() {
+        return &cells[span.first..span.end];
+    }
+    &cells[0..0]
+}
+
+/// A number and another, mixed.
+pub(crate) fn mixed(print: u64, number: u64) -> u64 {
+    let mut mixed = (print ^ number).wrapping_mul(0x9e37_79b9_7f4a_7c15);
+    mixed ^= mixed >> 29;
+    mixed = mixed.wrapping_mul(0xbf58_476d_1ce4_e5b9);
+    mixed ^ (mixed >> 32)
+}
+
+// A number for a mapping. What is small is mixed before more is: else two small numbers could stand for two others.
+fn meta_print(meta: &Meta) -> u64 {
+    let prot = u64::from(meta.prot.read)
+        + 2 * u64::from(meta.prot.write)
+        + 4 * u64::from(meta.prot.exec);
+    match meta.back {
+        Back::Anon => mixed(prot, 0),
+        Back::Shared { file, page } => mixed(mixed(mixed(8 + prot, 0), u64::from(file)), page),
+        Back::Private { file, page } => mixed(mixed(mixed(16 + prot, 0), u64::from(file)), page),
+    }
+}
+
+// A number for runs.
+fn runs_print(runs: &[Run]) -> u64 {
+    let mut print = 1u64;
+    for run in runs {
+        print = mixed(
+            mixed(mixed(print, run.first), run.end),
+            meta_print(&run.meta),
+        );
+    }
+    print
+}
+
+// A number for cells.
+fn cells_print(cells: &[Cell]) -> u64 {
+    let mut print = 2u64;
+    for cell in cells {
+        print = mixed(mixed(print, cell.key), u64::from(cell.byte));
+    }
+    print
+}
+
+// What an access is answered where this is mapped.
+fn access_due<A: Allocator>(
+    objects: &Objects<A>,
+    runs: &[Run],
+    cells: &[Cell],
+    touch: Touch,
+) -> Reply {
+    let Some(meta) = meta_at(runs, touch.page) else {
+        return Reply::Segv(SegvCode::MapErr);
+    };
+    if !allows(meta.prot, touch.access) {
+        return Reply::Segv(SegvCode::AccErr);
+    }
+    match (
+        shown_byte(objects, cells, meta.back, touch.page, touch.offset),
+        touch.access,
+    ) {
+        (None, _) => Reply::Bus,
+        (Some(_), Access::Store) => Reply::Done,
+        (Some(byte), _) => Reply::Byte(byte),
+    }
+}
+
+// Tells whether a run is of a shared file that isn't open for writing.
+fn is_read_only<A: Allocator>(objects: &Objects<A>, back: Back) -> bool {
+    match back {
+        Back::Shared { file, .. } => match objects.mode(u64::from(file)) {
+            Some(mode) => !mode.can_write(),
+            None => false,
+        },
+        _ => false,
+    }
+}
+
+// Why a change is refused, if it is.
+fn refusal<A: Allocator>(objects: &Objects<A>, runs: &[Run], change: Change) -> Option<Errno> {
+    let Change::Protect { range, prot } = change else {
+        return None;
+    };
+    if !all_mapped(runs, range) {
+        return Some(Errno::ENOMEM);
+    }
+    if !prot.write {
+        return None;
+    }
+    for run in runs {
+        if run.first < range.end && range.first < run.end && is_read_only(objects, run.meta.back) {
+            return Some(Errno::EACCES);
+        }
+    }
+    None
+}
+
+// Tells whether a mapping may be at this page, or nowhere.
+fn is_allowed(runs: &[Run], any_place: bool, place: &Place, found: Option<u64>) -> bool {
+    if any_place {
+        let all = PageRange {
+            first: 1,
+            end: PAGE_LIMIT,
+        };
+        return match found {
+            Some(first) => {
+                let end = first.saturating_add(place.count);
+                first >= 1 && end <= PAGE_LIMIT && none_mapped(runs, PageRange { first, end })
+            }
+            None => least_room(runs, all, place.count).is_none(),
+        };
+    }
+    if let Some(hint) = place.hint {
+        if none_mapped(runs, hint) {
+            return found == Some(hint.first);
+        }
+    }
+    found == least_room(runs, place.window, place.count)
+}
+
+// The change that a mapping is that was put at this address, if it may be there.
+fn placed(runs: &[Run], any_place: bool, place: &Place, addr: u64) -> Option<Change> {
+    if !is_page_start(addr) {
+        return None;
+    }
+    let first = page_of(addr);
+    if !is_allowed(runs, any_place, place, Some(first)) {
+        return None;
+    }
+    let range = PageRange {
+        first,
+        end: first.saturating_add(place.count),
+    };
+    Some(Change::Put {
+        range,
+        meta: place.meta,
+    })
+}
+
+// Tells whether a reply is that of a change.
+fn is_reply_to(change: Change, reply: Reply) -> bool {
+    match change {
+        Change::Put { range, .. } => reply == Reply::Mapped(range.first.wrapping_mul(PAGE_SIZE)),
+        Change::Clear { .. } | Change::Protect { .. } => reply == Reply::Done,
+    }
+}
+
+impl<A: Allocator + Clone + Drop> Arena<A> {
+    /// No map is there but the empty one.
+    pub fn new(alloc: &A) -> Result<Arena<A>, NoMemory> {
+        Ok(Arena {
+            runs: Vec::new(alloc.clone()?),
+            cells: Vec::new(alloc.clone()?),
+            new_runs: Vec::new(alloc.clone()?),
+            new_cells: Vec::new(alloc.clone()?),
+            most: FEW,
+        })
+    }
+
+    /// Where the empty map is.
+    pub fn empty(&self) -> Spot {
+        let nowhere = Span { first: 0, end: 0 };
+        Spot {
+            runs: nowhere,
+            cells: nowhere,
+            runs_print: 1,
+            cells_print: 2,
+        }
+    }
+
+    /// How long the lists are.
+    pub fn ends(&self) -> (usize, usize) {
+        (self.runs.len(), self.cells.len())
+    }
+
+    /// Lets go what was appended since they were so long.
+    pub fn cut(&mut self, ends: (usize, usize)) {
+        self.runs.truncate(ends.0);
+        self.cells.truncate(ends.1);
+    }
+
+    /// Tells whether they are longer than they may be.
+    pub fn is_full(&self) -> bool {
+        self.runs.len() > MOST || self.cells.len() > MOST
+    }
+
+    /// Tells whether what nobody needs should be left out.
+    pub fn is_long(&self) -> bool {
+        self.runs.len() > self.most || self.cells.len() > self.most
+    }
+
+    /// Tells whether a call, which changes nothing, has its reply in a map.
+    pub fn holds(&self, objects: &Objects<A>, any_place: bool, spot: &Spot, under: &Under) -> bool {
+        let runs = runs_in(self.runs.as_slice(), spot.runs);
+        let cells = cells_in(self.cells.as_slice(), spot.cells);
+        match (under.reply, under.plan) {
+            (Reply::NoMemory, _) => true,
+            (Reply::NoFrame, Ok(Plan::Touch(touch))) => matches!(
+                access_due(objects, runs, cells, touch),
+                Reply::Byte(_) | Reply::Done
+            ),
+            (reply, Err(due)) => reply == due,
+            (reply, Ok(Plan::Touch(touch))) => access_due(objects, runs, cells, touch) == reply,
+            (Reply::Refused(errno), Ok(Plan::Change(change))) => {
+                refusal(objects, runs, change) == Some(errno)
+            }
+            (Reply::Refused(Errno::ENOMEM), Ok(Plan::Place(place))) => {
+                is_allowed(runs, any_place, &place, None)
+            }
+            _ => false,
+        }
+    }
+
+    // Appends the new runs.
+    fn keep_runs(&mut self, spot: &mut Spot) -> Result<(), NoMemory> {
+        let first = self.runs.len();
+        self.runs.extend_from_slice(self.new_runs.as_slice())?;
+        spot.runs = Span {
+            first,
+            end: self.runs.len(),
+        };
+        spot.runs_print = runs_print(self.new_runs.as_slice());
+        Ok(())
+    }
+
+    // Appends the new cells.
+    fn keep_cells(&mut self, spot: &mut Spot) -> Result<(), NoMemory> {
+        let first = self.cells.len();
+        self.cells.extend_from_slice(self.new_cells.as_slice())?;
+        spot.cells = Span {
+            first,
+            end: self.cells.len(),
+        };
+        spot.cells_print = cells_print(self.new_cells.as_slice());
+        Ok(())
+    }
+
+    // The map after a change.
+    fn change(&mut self, spot: &Spot, change: Change) -> Result<Spot, NoMemory> {
+        let mut new = *spot;
+        change_runs(
+            &mut self.new_runs,
+            runs_in(self.runs.as_slice(), spot.runs),
+            change,
+        )?;
+        self.keep_runs(&mut new)?;
+        match change {
+            Change::Protect { .. } => {}
+            Change::Put { range, .. } | Change::Clear { range } => {
+                let cells = cells_in(self.cells.as_slice(), spot.cells);
+                drop_pages(&mut self.new_cells, cells, range)?;
+                if self.new_cells.len() != cells.len() {
+                    self.keep_cells(&mut new)?;
+                }
+            }
+        }
+        Ok(new)
+    }
+
+    // Takes the bytes of a map as the new ones, to be changed, with a copy of the page's own, if one is due.
+    fn take_cells(&mut self, spot: &Spot, back: Back, page: u64) -> Result<(), NoMemory> {
+        let cells = cells_in(self.cells.as_slice(), spot.cells);
+        self.new_cells.clear();
+        self.new_cells.extend_from_slice(cells)?;
+        match back {
+            Back::Private { file, page: at } if !is_copied(cells, page) => {
+                add_copy(&mut self.new_cells, cells, file, at, page)
+            }
+            _ => Ok(()),
+        }
+    }
+
+    // The map after a store that is done.
+    fn store(
+        &mut self,
+        objects: &Objects<A>,
+        spot: &Spot,
+        touch: Touch,
+    ) -> Result<Option<Spot>, NoMemory> {
+        let runs = runs_in(self.runs.as_slice(), spot.runs);
+        let Some(meta) = meta_at(runs, touch.page) else {
+            return Ok(None);
+        };
+        self.take_cells(spot, meta.back, touch.page)?;
+        let (key, first) = match meta.back {
+            Back::Anon => (own_key(touch.page, touch.offset), Some(0)),
+            Back::Shared { file, page } => (
+                file_key(file, page, touch.offset),
+                first_byte(objects, file, page, touch.offset),
+            ),
+            Back::Private { file, page } => (
+                own_key(touch.page, touch.offset),
+                first_byte(objects, file, page, touch.offset),
+            ),
+        };
+        put_byte(&mut self.new_cells, key, touch.byte, first.unwrap_or(0))?;
+        let mut new = *spot;
+        self.keep_cells(&mut new)?;
+        Ok(Some(new))
+    }
+
+    /// The map after a call that changes something, if it has its reply in this one.
+    pub fn apply(
+        &mut self,
+        objects: &Objects<A>,
+        any_place: bool,
+        spot: &Spot,
+        under: &Under,
+    ) -> Result<Option<Spot>, NoMemory> {
+        let runs = runs_in(self.runs.as_slice(), spot.runs);
+        match under.plan {
+            Err(_) => Ok(None),
+            Ok(Plan::Touch(touch)) => {
+                let cells = cells_in(self.cells.as_slice(), spot.cells);
+                if under.reply != Reply::Done
+                    || access_due(objects, runs, cells, touch) != Reply::Done
+                {
+                    return Ok(None);
+                }
+                self.store(objects, spot, touch)
+            }
+            Ok(Plan::Change(change)) => {
+                if !is_reply_to(change, under.reply) || refusal(objects, runs, change).is_some() {
+                    return Ok(None);
+                }
+                Ok(Some(self.change(spot, change)?))
+            }
+            Ok(Plan::Place(place)) => {
+                let Reply::Mapped(addr) = under.reply else {
+                    return Ok(None);
+                };
+                let Some(change) = placed(runs, any_place, &place, addr) else {
+                    return Ok(None);
+                };
+                Ok(Some(self.change(spot, change)?))
+            }
+        }
+    }
+
+    /// The map after a page's copy, if one is due.
+    pub fn copy(
+        &mut self,
+        objects: &Objects<A>,
+        spot: &Spot,
+        page: u64,
+    ) -> Result<Option<Spot>, NoMemory> {
+        let runs = runs_in(self.runs.as_slice(), spot.runs);
+        let cells = cells_in(self.cells.as_slice(), spot.cells);
+        let Some(meta) = meta_at(runs, page) else {
+            return Ok(None);
+        };
+        let Back::Private { file, page: at } = meta.back else {
+            return Ok(None);
+        };
+        if !allows(meta.prot, Access::Store)
+            || is_copied(cells, page)
+            || objects.is_past_end(file, at)
+        {
+            return Ok(None);
+        }
+        self.take_cells(spot, meta.back, page)?;
+        let mut new = *spot;
+        self.keep_cells(&mut new)?;
+        Ok(Some(new))
+    }
+
+    /// Leaves out what no configuration needs, and tells these where their maps are.
+    pub fn shorten(&mut self, alloc: &A, configs: &mut [Config]) -> Result<(), NoMemory> {
+        let mut runs = Vec::new(alloc.clone()?);
+        let mut cells = Vec::new(alloc.clone()?);
+        let mut old = self.empty();
+        let mut new = self.empty();
+        for at in 0..configs.len() {
+            let spot = configs[at].spot;
+            if spot.runs != old.runs {
+                let first = runs.len();
+                runs.extend_from_slice(runs_in(self.runs.as_slice(), spot.runs))?;
+                new.runs = Span {
+                    first,
+                    end: runs.len(),
+                };
+            }
+            if spot.cells != old.cells {
+                let first = cells.len();
+                cells.extend_from_slice(cells_in(self.cells.as_slice(), spot.cells))?;
+                new.cells = Span {
+                    first,
+                    end: cells.len(),
+                };
+            }
+            old = spot;
+            configs[at].spot.runs = new.runs;
+            configs[at].spot.cells = new.cells;
+        }
+        let most = runs.len().max(cells.len());
+        self.most = most.saturating_mul(2).saturating_add(FEW);
+        self.runs = runs;
+        self.cells = cells;
+        Ok(())
+    }
+}

@@ -1,0 +1,173 @@
+//! Mappings as a sorted list of runs, each as long as it can be.
+
+use slot_lock::Change;
+use std::alloc::Allocator;
+use vm_base::{Back, Meta, NoMemory, PageRange, Prot};
+
+/// Pages that are mapped alike, one file page after another.
+#[derive(Clone, Copy, Debug, PartialEq, Eq)]
+pub(crate) struct Run {
+    pub first: u64,
+    pub end: u64,
+    /// That of the first page.
+    pub meta: Meta,
+}
+
+// What backs the page so many pages on.
+fn back_after(back: Back, by: u64) -> Back {
+    match back {
+        Back::Anon => Back::Anon,
+        Back::Shared { file, page } => Back::Shared {
+            file,
+            page: page.wrapping_add(by),
+        },
+        Back::Private { file, page } => Back::Private {
+            file,
+            page: page.wrapping_add(by),
+        },
+    }
+}
+
+/// What the page is mapped to.
+pub(crate) fn meta_at(runs: &[Run], page: u64) -> Option<Meta> {
+    for run in runs {
+        if page < run.first {
+            return None;
+        }
+        if page < run.end {
+            return Some(Meta {
+                back: back_after(run.meta.back, page.wrapping_sub(run.first)),
+                prot: run.meta.prot,
+            });
+        }
+    }
+    None
+}
+
+// The part of a run that lies in these pages.
+fn part(run: &Run, range: PageRange) -> Option<Run> {
+    let first = run.first.max(range.first);
+    let end = run.end.min(range.end);
+    if first >= end {
+        return None;
+    }
+    let back = back_after(run.meta.back, first.wrapping_sub(run.first));
+    Some(Run {
+        first,
+        end,
+        meta: Meta {
+            back,
+            prot: run.meta.prot,
+        },
+    })
+}
+
+// Tells whether a run goes on with this one.
+fn goes_on(run: &Run, next: &Run) -> bool {
+    run.end == next.first
+        && run.meta.prot == next.meta.prot
+        && back_after(run.meta.back, next.first.wrapping_sub(run.first)) == next.meta.back
+}
+
+// Appends a run, or lengthens the last by it.
+fn append<A: Allocator>(runs: &mut Vec<Run, A>, run: Run) -> Result<(), NoMemory> {
+    let last = runs.last().copied();
+    if let Some(last) = last {
+        if goes_on(&last, &run) {
+            let _ = runs.pop();
+            runs.push(Run {
+                first: last.first,
+                end: run.end,
+                meta: last.meta,
+            })?;
+            return Ok(());
+        }
+    }
+    runs.push(run)?;
+    Ok(())
+}
+
+// Appends the parts of runs that lie in these pages, with this protection, if one is given.
+fn append_parts<A: Allocator>(
+    new: &mut Vec<Run, A>,
+    runs: &[Run],
+    range: PageRange,
+    prot: Option<Prot>,
+) -> Result<(), NoMemory> {
+    for run in runs {
+        if let Some(mut run) = part(run, range) {
+            if let Some(prot) = prot {
+                run.meta.prot = prot;
+            }
+            append(new, run)?;
+        }
+    }
+    Ok(())
+}
+
+/// Fills `new` with the runs after a change.
+pub(crate) fn change_runs<A: Allocator>(
+    new: &mut Vec<Run, A>,
+    runs: &[Run],
+    change: Change,
+) -> Result<(), NoMemory> {
+    let range = change.range();
+    let before = PageRange {
+        first: 0,
+        end: range.first,
+    };
+    let behind = PageRange {
+        first: range.end,
+        end: u64::MAX,
+    };
+    new.clear();
+    append_parts(new, runs, before, None)?;
+    match change {
+        Change::Put { range, meta } => append(
+            new,
+            Run {
+                first: range.first,
+                end: range.end,
+                meta,
+            },
+        )?,
+        Change::Clear { .. } => {}
+        Change::Protect { prot, .. } => append_parts(new, runs, range, Some(prot))?,
+    }
+    append_parts(new, runs, behind, None)
+}
+
+/// Tells whether all pages of the range are mapped.
+pub(crate) fn all_mapped(runs: &[Run], range: PageRange) -> bool {
+    let mut next = range.first;
+    for run in runs {
+        if run.first <= next && next < run.end {
+            next = run.end;
+        }
+    }
+    next >= range.end
+}
+
+/// Tells whether no page of the range is mapped.
+pub(crate) fn none_mapped(runs: &[Run], range: PageRange) -> bool {
+    for run in runs {
+        if part(run, range).is_some() {
+            return false;
+        }
+    }
+    true
+}
+
+/// The least page from which so many on are free in the window.
+pub(crate) fn least_room(runs: &[Run], window: PageRange, count: u64) -> Option<u64> {
+    let mut first = window.first;
+    for run in runs {
+        if run.end > first && run.first < first.saturating_add(count) {
+            first = run.end;
+        }
+    }
+    if first.saturating_add(count) <= window.end {
+        return Some(first);
+    }
+    None
+}

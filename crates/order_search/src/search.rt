@@ -1,0 +1,373 @@
+//! The search itself.
+
+use crate::arena::{Arena, Spot, mixed};
+use crate::configs::Config;
+use crate::seen::Seen;
+use crate::trail::Trail;
+use crate::under::{Under, has_copies};
+use backing::Objects;
+use orders::{Item, Timed};
+use std::alloc::Allocator;
+use vm_base::{CoreId, CoreSet, NoMemory};
+
+/// How many configurations may come into question at one end of a call.
+pub const LIMIT: usize = 300_000;
+
+/// What a search comes to. Nothing of it is claimed.
+#[derive(Debug, Drop)]
+pub enum Found<A: Allocator> {
+    /// An order of the calls.
+    Order(Vec<Item, A>),
+    /// No order of the calls so far gets to the end of this one.
+    Stuck(usize),
+    /// At the end of this one there were more configurations than the limit.
+    Full(usize),
+}
+
+// What the end of a call comes to.
+#[derive(Clone, Copy, Debug, PartialEq, Eq)]
+enum Reach {
+    Reached,
+    Stuck,
+    Full,
+}
+
+// The state of a search between two begins or ends.
+#[derive(Drop)]
+struct Search<'a, A: Allocator> {
+    objects: &'a Objects<A>,
+    any_place: bool,
+    has_copies: bool,
+    arena: Arena<A>,
+    trail: Trail<A>,
+    seen: Seen<A>,
+    under: Vec<Under, A>,
+    configs: Vec<Config, A>,
+    work: Vec<Config, A>,
+    reached: Vec<Config, A>,
+}
+
+// The number of a call in an order.
+fn item_number(call: usize) -> u32 {
+    if call < 0xffff_ffff {
+        call as u32
+    } else {
+        0xffff_ffff
+    }
+}
+
+// A number for a map and the calls that have taken effect.
+fn print_of(spot: &Spot, done: CoreSet) -> u64 {
+    let mut print = mixed(spot.runs_print, spot.cells_print);
+    let mut left = done;
+    for _ in 0..64u8 {
+        let Some(core) = left.first() else {
+            return print;
+        };
+        print = mixed(print, u64::from(core.index()));
+        left = left.without(core);
+    }
+    print
+}
+
+impl<'a, A: Allocator + Clone + Drop> Search<'a, A> {
+    // Nothing has begun.
+    fn new(
+        alloc: &A,
+        objects: &'a Objects<A>,
+        any_place: bool,
+        has_copies: bool,
+    ) -> Result<Search<'a, A>, NoMemory> {
+        let arena = Arena::new(alloc)?;
+        let mut configs = Vec::new(alloc.clone()?);
+        configs.push(Config {
+            spot: arena.empty(),
+            done: CoreSet::empty(),
+            trail: 0,
+        })?;
+        Ok(Search {
+            objects,
+            any_place,
+            has_copies,
+            arena,
+            trail: Trail::new(alloc)?,
+            seen: Seen::new(alloc.clone()?)?,
+            under: Vec::new(alloc.clone()?),
+            configs,
+            work: Vec::new(alloc.clone()?),
+            reached: Vec::new(alloc.clone()?),
+        })
+    }
+
+    // Lets a call take effect in a configuration in which it has its reply and changes nothing.
+    fn settle(&mut self, at: usize, under: &Under) -> Result<(), NoMemory> {
+        let Some(mut config) = self.configs.get(at).copied() else {
+            return Ok(());
+        };
+        if self
+            .arena
+            .holds(self.objects, self.any_place, &config.spot, under)
+        {
+            config.done = config.done.with(under.core);
+            config.trail = self.trail.add(config.trail, Item::Reply(under.number))?;
+            if let Some(place) = self.configs.get_mut(at) {
+                *place = config;
+            }
+        }
+        Ok(())
+    }
+
+    // A call begins.
+    fn begin(&mut self, history: &[Timed], call: usize) -> Result<(), NoMemory> {
+        let Some(timed) = history.get(call).copied() else {
+            return Ok(());
+        };
+        let under = Under::new(
+            self.objects,
+            item_number(call),
+            &timed.call,
+            self.has_copies,
+        );
+        if !under.is_late() {
+            for at in 0..self.configs.len() {
+                self.settle(at, &under)?;
+            }
+        }
+        self.under.push(under)?;
+        Ok(())
+    }
+
+    // The calls that have taken effect once those that change nothing have, as far as they can.
+    fn settled(&self, spot: &Spot, done: CoreSet) -> CoreSet {
+        let mut settled = done;
+        for under in self.under.as_slice() {
+            if !under.is_late()
+                && !done.contains(under.core)
+                && self.arena.holds(self.objects, self.any_place, spot, under)
+            {
+                settled = settled.with(under.core);
+            }
+        }
+        settled
+    }
+
+    // Takes a configuration in: one in which the core's call has taken effect, or one to go on from.
+    fn take_in(&mut self, config: Config, core: CoreId) -> Result<(), NoMemory> {
+        if config.done.contains(core) {
+            self.reached.push(config)?;
+        } else {
+            self.work.push(config)?;
+        }
+        Ok(())
+    }
+
+    // Adds the configuration to which an item leads from another one, if it is new.
+    fn add(
+        &mut self,
+        from: &Config,
+        item: Item,
+        spot: Spot,
+        done: CoreSet,
+        core: CoreId,
+    ) -> Result<bool, NoMemory> {
+        let settled = self.settled(&spot, done);
+        if !self.seen.is_new(print_of(&spot, settled)) {
+            return Ok(false);
+        }
+        let mut trail = self.trail.add(from.trail, item)?;
+        for at in 0..self.under.len() {
+            let under = self.under[at];
+            if settled.contains(under.core) && !done.contains(under.core) {
+                trail = self.trail.add(trail, Item::Reply(under.number))?;
+            }
+        }
+        self.take_in(
+            Config {
+                spot,
+                done: settled,
+                trail,
+            },
+            core,
+        )?;
+        Ok(true)
+    }
+
+    // Adds what a call under way leads to from a configuration as it takes effect.
+    fn reply(&mut self, from: &Config, under: &Under, core: CoreId) -> Result<(), NoMemory> {
+        let ends = self.arena.ends();
+        let spot = if under.changes() {
+            self.arena
+                .apply(self.objects, self.any_place, &from.spot, under)?
+        } else if self
+            .arena
+            .holds(self.objects, self.any_place, &from.spot, under)
+        {
+            Some(from.spot)
+        } else {
+            None
+        };
+        if let Some(spot) = spot {
+            let done = from.done.with(under.core);
+            let is_new = self.add(from, Item::Reply(under.number), spot, done, core)?;
+            if !is_new {
+                self.arena.cut(ends);
+            }
+        }
+        Ok(())
+    }
+
+    // Adds what a store under way leads to from a configuration as its page gets a copy.
+    fn copy(&mut self, from: &Config, under: &Under, core: CoreId) -> Result<(), NoMemory> {
+        let Some(page) = under.stores_to else {
+            return Ok(());
+        };
+        let ends = self.arena.ends();
+        let copied = self.arena.copy(self.objects, &from.spot, page)?;
+        if let Some(spot) = copied {
+            let is_new = self.add(from, Item::Copy(under.number), spot, from.done, core)?;
+            if !is_new {
+                self.arena.cut(ends);
+            }
+        }
+        Ok(())
+    }
+
+    // Adds all that the calls under way lead to from a configuration, one of them more.
+    fn expand(&mut self, from: &Config, core: CoreId) -> Result<(), NoMemory> {
+        for at in 0..self.under.len() {
+            let Some(under) = self.under.get(at).copied() else {
+                return Ok(());
+            };
+            if !from.done.contains(under.core) {
+                self.reply(from, &under, core)?;
+                self.copy(from, &under, core)?;
+            }
+        }
+        Ok(())
+    }
+
+    // Goes on to all configurations in which the core's call has taken effect, and none of the others later than need be.
+    fn reach(&mut self, core: CoreId) -> Result<Reach, NoMemory> {
+        self.seen.begin();
+        self.work.clear();
+        self.reached.clear();
+        for at in 0..self.configs.len() {
+            let Some(config) = self.configs.get(at).copied() else {
+                break;
+            };
+            if self.seen.is_new(print_of(&config.spot, config.done)) {
+                self.take_in(config, core)?;
+            }
+        }
+        for at in 0..LIMIT {
+            let Some(config) = self.work.get(at).copied() else {
+                break;
+            };
+            self.expand(&config, core)?;
+            if self.work.len().saturating_add(self.reached.len()) > LIMIT || self.arena.is_full() {
+                return Ok(Reach::Full);
+            }
+        }
+        if self.reached.is_empty() {
+            return Ok(Reach::Stuck);
+        }
+        self.configs.clear();
+        self.configs.extend_from_slice(self.reached.as_slice())?;
+        Ok(Reach::Reached)
+    }
+
+    // Tells whether the core's call has taken effect in all configurations.
+    fn is_done(&self, core: CoreId) -> bool {
+        for config in self.configs.as_slice() {
+            if !config.done.contains(core) {
+                return false;
+            }
+        }
+        true
+    }
+
+    // The core's call isn't under way any more.
+    fn forget(&mut self, core: CoreId) {
+        let mut found = self.under.len();
+        for at in 0..self.under.len() {
+            if self.under[at].core == core {
+                found = at;
+            }
+        }
+        if found < self.under.len() {
+            let _ = self.under.remove(found);
+        }
+        for at in 0..self.configs.len() {
+            self.configs[at].done = self.configs[at].done.without(core);
+        }
+    }
+
+    // A call ends.
+    fn end(&mut self, alloc: &A, core: CoreId) -> Result<Reach, NoMemory> {
+        if !self.is_done(core) {
+            let reach = self.reach(core)?;
+            if reach != Reach::Reached {
+                return Ok(reach);
+            }
+        }
+        self.forget(core);
+        if self.trail.is_long() {
+            self.trail.shorten(alloc, &mut self.configs)?;
+        }
+        if self.arena.is_long() {
+            self.arena.shorten(alloc, &mut self.configs)?;
+        }
+        Ok(Reach::Reached)
+    }
+
+    // The order of the first configuration.
+    fn into_order(self, alloc: &A) -> Result<Vec<Item, A>, NoMemory> {
+        match self.configs.get(0).copied() {
+            Some(config) => self.trail.into_order(alloc, &config),
+            None => Ok(Vec::new(alloc.clone()?)),
+        }
+    }
+}
+
+// The begins and ends of calls by their times; at one time the begins come first. An end has the number of its call and that of all calls.
+fn events<A: Allocator + Clone>(
+    alloc: &A,
+    history: &[Timed],
+) -> Result<Vec<(u64, usize), A>, NoMemory> {
+    let count = history.len();
+    let mut events = Vec::new(alloc.clone()?);
+    for call in 0..count {
+        events.push((history[call].begin, call))?;
+        events.push((history[call].end, count.saturating_add(call)))?;
+    }
+    events.sort_unstable();
+    Ok(events)
+}
+
+/// Searches an order of the calls of a space with these files, from the map on in which nothing is mapped.
+pub fn find_order<A: Allocator + Clone + Drop>(
+    alloc: &A,
+    objects: &Objects<A>,
+    any_place: bool,
+    history: &[Timed],
+) -> Result<Found<A>, NoMemory> {
+    let events = events(alloc, history)?;
+    let mut search = Search::new(alloc, objects, any_place, has_copies(history))?;
+    for at in 0..events.len() {
+        let (_, code) = events[at];
+        if code < history.len() {
+            search.begin(history, code)?;
+            continue;
+        }
+        let call = code - history.len();
+        let Some(timed) = history.get(call).copied() else {
+            return Ok(Found::Stuck(call));
+        };
+        match search.end(alloc, timed.call.core)? {
+            Reach::Reached => {}
+            Reach::Stuck => return Ok(Found::Stuck(call)),
+            Reach::Full => return Ok(Found::Full(call)),
+        }
+    }
+    Ok(Found::Order(search.into_order(alloc)?))
+}

@@ -1,0 +1,64 @@
+//! Calls that are under way.
+
+use audit::Call;
+use backing::Objects;
+use orders::Timed;
+use slot_lock::Plan;
+use std::alloc::Allocator;
+use vm_base::{CoreId, Reply, Request, page_of};
+use vm_calls::check;
+
+/// A call that is under way: its number, and what it does.
+#[derive(Clone, Copy, Debug, PartialEq, Eq)]
+pub(crate) struct Under {
+    pub number: u32,
+    pub core: CoreId,
+    pub plan: Result<Plan, Reply>,
+    pub reply: Reply,
+    /// The page that it stores to, if it is a store, and pages may get copies.
+    pub stores_to: Option<u64>,
+}
+
+impl Under {
+    /// A call of this number; pages may get copies, or not.
+    pub fn new<A: Allocator>(
+        objects: &Objects<A>,
+        number: u32,
+        call: &Call,
+        has_copies: bool,
+    ) -> Under {
+        let stores_to = match call.request {
+            Request::Store { addr, .. } if has_copies => Some(page_of(addr)),
+            _ => None,
+        };
+        Under {
+            number,
+            core: call.core,
+            plan: check(objects, call.core, call.request),
+            reply: call.reply,
+            stores_to,
+        }
+    }
+
+    /// Tells whether its reply says that it changed something.
+    pub fn changes(&self) -> bool {
+        matches!(self.reply, Reply::Done | Reply::Mapped(_))
+    }
+
+    /// Tells whether something may be lost where it takes effect as soon as it can: it changes something, or its page may get a copy before.
+    pub fn is_late(&self) -> bool {
+        self.changes() || self.stores_to.is_some()
+    }
+}
+
+/// Tells whether pages may get copies: some call asks for a private mapping of a file.
+pub(crate) fn has_copies(history: &[Timed]) -> bool {
+    for timed in history {
+        if let Request::Mmap { flags, .. } = timed.call.request {
+            if flags.private && !flags.anon {
+                return true;
+            }
+        }
+    }
+    false
+}

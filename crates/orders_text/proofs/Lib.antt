@@ -1,0 +1,4 @@
+pub mod LineLemmas
+pub mod ReadLemmas
+pub mod PlaceLemmas
+pub mod ApartLemmas

@@ -1,0 +1,85 @@
+-- What one line leaves.
+use Rattle.std.proofs.Common.{◌≡◌, ◌≢◌, ℕ, suc, ◌<◌, ◌≤◌, Bool, true, false, cond, List, [], ◌∷◌, ◌++◌, Option, None, Some, Result, Ok, Err, IfErr, OnOk}
+use Rattle.std.proofs.Common.{ap, arith, nat_lt, refl, subst, sym, ◌∙◌}
+use Rattle.std.specs.Prelude.{◌&&◌, option_map}
+use Rattle.std.proofs.lemmas.Bool.Decides.{nat_tests}
+use Rattle.audit_text.specs.Heard.{Declared, undeclared, with_file, with_space}
+use Rattle.audit_text.specs.declared.declaring.Declares.{Declares}
+use Rattle.audit_text.specs.declared.declaring.Declares.TheVariants as Is
+use Rattle.audit_text.specs.declared.reading.Said.{Said}
+use Rattle.audit_text.specs.declared.reading.Said.TheVariants as Says
+use Rattle.orders.specs.declared.history.Timed.{Timed}
+use Rattle.orders_text.specs.History.{Read, declared_after, part_after, read_after, unread, with_call, with_declared}
+use Rattle.orders_text.specs.Lines.{needs_space}
+use Rattle.orders_text.specs.Steps.{ComesTo, Refuses}
+use Rattle.orders_text.specs.declared.faults.HistoryFault.{HistoryFault}
+use Rattle.orders_text.specs.declared.faults.HistoryFault.TheVariants.{BadLine, TooLong, NoVmLine, Backwards, Overlap, Io}
+use Rattle.orders_text.specs.declared.lines.Told.{Told}
+use Rattle.orders_text.specs.declared.lines.Told.TheVariants.{Part, Timed as TimedCall}
+
+-- nothing is read at first
+pub none_read : (d : Declared) (cs : List Timed) (ls : List ℕ) → d ≡ undeclared → cs ≡ [] → ls ≡ []
+    → record { declared = d; calls = cs; lines = ls } ≡ unread
+none_read d cs ls e f g = subst (λ (x : Declared). record { declared = x; calls = cs; lines = ls } ≡ unread) (sym e)
+    (subst (λ (x : List Timed). record { declared = undeclared; calls = x; lines = ls } ≡ unread) (sym f)
+    (subst (λ (x : List ℕ). record { declared = undeclared; calls = []; lines = x } ≡ unread) (sym g) refl))
+
+-- ---- declarations
+
+-- a said that isn't blank, in front of all calls
+declares_so : (n : ℕ) (r : Read) (said : Said) → said ≢ Says.Blank → r.calls ≡ []
+    → read_after n r (Part said) ≡ option_map (with_declared r) (part_after r.declared said)
+declares_so n r said b e = go said b (ap (λ cs. declared_after r cs said) e)
+  where
+    go : (s : Said) → s ≢ Says.Blank → declared_after r r.calls s ≡ declared_after r [] s
+        → read_after n r (Part s) ≡ option_map (with_declared r) (part_after r.declared s)
+    go Says.Blank b h = absurd (b refl)
+    go s b h = h
+
+-- after a line of a declaration came to this
+pub declared_ok : (n : ℕ) (r : Read) (e : Declared) (said : Said) (res : Result Unit HistoryFault) (d : Declares) → said ≢ Says.Blank → r.calls ≡ []
+    → (d ≡ Is.Part → part_after r.declared said ≡ Some e) → ComesTo d n res → OnOk res (read_after n r (Part said) ≡ Some (with_declared r e))
+declared_ok n r e said (Ok u) Is.Part b calls part comes = declares_so n r said b calls ∙ ap (option_map (with_declared r)) (part refl)
+declared_ok n r e said (Ok u) Is.Bad b calls part comes = absurd comes
+declared_ok n r e said (Ok u) Is.Ended b calls part comes = absurd comes
+declared_ok n r e said (Err f) d b calls part comes = tt
+
+bad_line : (n : ℕ) (r : Read) (told : Told) (f : HistoryFault) → f ≡ BadLine n → read_after n r told ≡ None → Refuses n r told f
+bad_line n r told f e h = subst (λ x. Refuses n r told x) (sym e) (refl, h)
+
+pub declared_err : (n : ℕ) (r : Read) (said : Said) (res : Result Unit HistoryFault) (d : Declares) → said ≢ Says.Blank → r.calls ≡ []
+    → (d ≡ Is.Bad → part_after r.declared said ≡ None)
+    → (d ≡ Is.Ended → (r.declared.has_space ≡ false) × (needs_space (Part said) ≡ true)) → ComesTo d n res
+    → IfErr res (λ f. Refuses n r (Part said) f)
+declared_err n r said (Ok u) d b calls bad ended comes = tt
+declared_err n r said (Err f) Is.Part b calls bad ended comes = absurd comes
+declared_err n r said (Err f) Is.Bad b calls bad ended comes =
+    bad_line n r (Part said) f comes (declares_so n r said b calls ∙ ap (option_map (with_declared r)) (bad refl))
+declared_err n r said (Err f) Is.Ended b calls bad ended comes = subst (λ x. Refuses n r (Part said) x) (sym comes) (ended refl)
+
+-- one that is no declaration's
+pub other_refused : (n : ℕ) (r : Read) (said : Said) → said ≢ Says.Blank → r.calls ≡ [] → part_after r.declared said ≡ None
+    → Refuses n r (Part said) (BadLine n)
+other_refused n r said b calls none =
+    bad_line n r (Part said) (BadLine n) refl (declares_so n r said b calls ∙ ap (option_map (with_declared r)) none)
+
+-- behind calls
+pub late_refused : (n : ℕ) (r : Read) (said : Said) → said ≢ Says.Blank → r.calls ≢ [] → Refuses n r (Part said) (BadLine n)
+late_refused n r said b some = bad_line n r (Part said) (BadLine n) refl (go said b r.calls refl)
+  where
+    late : (s : Said) (cs : List Timed) → cs ≡ r.calls → declared_after r cs s ≡ None
+    late s [] e = absurd (some (sym e))
+    late s (c ∷ cs) e = refl
+
+    go : (s : Said) → s ≢ Says.Blank → (cs : List Timed) → cs ≡ r.calls → read_after n r (Part s) ≡ None
+    go Says.Blank b cs e = absurd (b refl)
+    go s b cs e = late s r.calls refl
+
+-- ---- calls
+
+pub call_read : (n : ℕ) (r q : Read) (c : Timed) → r.declared.has_space ≡ true → c.begin < c.end → q ≡ with_call n r c
+    → read_after n r (TimedCall c) ≡ Some q
+call_read n r q c space forward e =
+    let less : nat_lt c.begin c.end ≡ true = grind (arith, nat_tests, forward) in
+    ap (λ b. cond (b && nat_lt c.begin c.end) (Some (with_call n r c)) None) space
+    ∙ (ap (λ b. cond b (Some (with_call n r c)) None) less ∙ sym (ap Some e))

@@ -1,0 +1,49 @@
+-- What taking in one line comes to.
+use Rattle.std.specs.Prelude.{◌≡◌, ℕ, ◌<◌, ◌≤◌, false, true, List, length, slice_get, Option, None, Some, ⊤, Result, Ok, Err}
+use Rattle.audit_text.specs.declared.declaring.Declares.{Declares}
+use Rattle.audit_text.specs.declared.declaring.Declares.TheVariants as Is
+use Rattle.audit_text.specs.Steps.{declared_of}
+use Rattle.trace_io.specs.declared.fault.IoFault.TheVariants.{NoMemory}
+use Rattle.orders_text.specs.History.{Read, read_after}
+use Rattle.orders_text.specs.Lines.{Tells, needs_space}
+use Rattle.orders_text.specs.declared.faults.HistoryFault.{HistoryFault}
+use Rattle.orders_text.specs.declared.faults.HistoryFault.TheVariants.{BadLine, TooLong, NoVmLine, Backwards, Overlap, Io}
+use Rattle.orders_text.specs.declared.lines.Told.{Told}
+use Rattle.orders_text.specs.declared.lines.Told.TheVariants.{Part, Timed as TimedCall}
+use Rattle.orders_text.specs.declared.reading.History.{History}
+
+-- what a history that is kept says
+abbrev pub read_of : {A : Type 0} → History A → Read
+read_of h = record { declared = declared_of h.declaration; calls = h.calls.items; lines = h.lines.items }
+
+-- the line, which has this number, can't be read
+abbrev pub SaysNothing : List ℕ → ℕ → HistoryFault → Type 0
+SaysNothing line number (BadLine n) = (n ≡ number) × ((told : Told) → Tells told line → ⊥)
+SaysNothing line number (TooLong n) = (n ≡ number) × (512 < length line)
+SaysNothing line number _ = ⊥
+
+-- it is a call that doesn't begin below its end
+abbrev pub IsBackward : Told → Type 0
+IsBackward (TimedCall c) = c.end ≤ c.begin
+IsBackward (Part said) = ⊥
+
+-- what the line with this number says may not stand here
+abbrev pub Refuses : ℕ → Read → Told → HistoryFault → Type 0
+Refuses number r told (BadLine n) = (n ≡ number) × (read_after number r told ≡ None)
+Refuses number r told NoVmLine = (r.declared.has_space ≡ false) × (needs_space told ≡ true)
+Refuses number r told (Backwards n) = (n ≡ number) × IsBackward told
+Refuses number r told (Io NoMemory) = ⊤
+Refuses number r told _ = ⊥
+
+-- taking in the line of a declaration, which has this number, comes to this
+abbrev pub ComesTo : Declares → ℕ → Result Unit HistoryFault → Type 0
+ComesTo Is.Part number (Ok u) = ⊤
+ComesTo Is.Bad number (Err f) = f ≡ BadLine number
+ComesTo Is.Ended number (Err f) = f ≡ NoVmLine
+ComesTo _ number _ = ⊥
+
+-- why the text is that of no history in which these calls overlap: by their lines
+abbrev pub TellsOverlap : List ℕ → ℕ → ℕ → HistoryFault → Type 0
+TellsOverlap lines one other (Overlap number before) = (slice_get lines one ≡ Some number) × (slice_get lines other ≡ Some before)
+TellsOverlap lines one other (Io NoMemory) = ⊤
+TellsOverlap lines one other _ = ⊥

@@ -1,0 +1,140 @@
+//! Judging a text of calls that overlap.
+ghost use Rattle.std.specs.Prelude.{◌≡◌, ◌≤◌, ℕ, List, IfErr, IfOk, Ok, length, true};
+ghost use Rattle.trace_io.specs.Lines.{lines_of};
+ghost use Rattle.slot_lock.specs.Slots.{IsNew};
+ghost use Rattle.audit.specs.Placing.{rule_of};
+ghost use Rattle.audit_text.specs.Legal.{first_map};
+ghost use Rattle.orders.specs.Orders.{HasOrder};
+ghost use Rattle.orders_text.specs.Faults.{IsAtFault};
+ghost use Rattle.orders_text.specs.History.{IsHistory};
+ghost use Rattle.orders_text.specs.Steps.{read_of};
+ghost use Rattle.overlapping.specs.Rulings.{IsRuling};
+
+use crate::found::{Order, search};
+use crate::given::given_order;
+use crate::order_text::order_text;
+use audit::Auditor;
+use orders::{Item, follow};
+use orders_text::{History, HistoryFault, read_history};
+use slot_lock::SlotMap;
+use std::alloc::Allocator;
+use trace_io::IoFault;
+use vm_base::NoMemory;
+
+/// What is told of a history.
+#[derive(Clone, Copy, Debug, PartialEq, Eq)]
+pub enum Ruling {
+    /// Its calls, which are so many, have an order.
+    Legal(u64),
+    /// No order of its calls was found by the end of the call of this line. It may have one.
+    Undecided(u64),
+}
+
+/// How an order is come by.
+#[derive(Clone, Copy, Debug)]
+pub enum By<'a> {
+    /// It is searched.
+    Search,
+    /// This text has it.
+    Given(&'a [u8]),
+}
+
+/// A ruling, and the text of the order that it rests on.
+#[derive(Debug, Drop)]
+pub struct Ruled<A: Allocator> {
+    pub ruling: Ruling,
+    pub order: Vec<u8, A>,
+}
+
+// Tells whether the items are an order of the history's calls.
+#[tactic(auto, using(crate::proofs::RuleLemmas::order_there))]
+fn is_order<M: SlotMap + Drop, A: Allocator + Clone + Drop>(
+    alloc: &A,
+    map: M,
+    history: History<A>,
+    any_place: bool,
+    items: &[Item],
+) -> Result<bool, NoMemory>
+    requires new { IsNew (M.slots map) }
+    requires few { length history.declaration.files.items ≤ 16 }
+    ensures { result ≡ Ok true → HasOrder (rule_of any_place) (first_map (read_of history).declared) (read_of history).calls }
+{
+    let calls = history.calls;
+    let files = history.declaration.files;
+    let mut auditor = Auditor::new(alloc.clone()?, map, files, any_place)?;
+    follow(alloc.clone()?, &mut auditor, calls.as_slice(), items)
+}
+
+// The ruling by the order that was found.
+#[tactic(auto, using(crate::proofs::RuleLemmas::legal_there))]
+fn rule_by<M: SlotMap + Drop, A: Allocator + Clone + Drop>(
+    alloc: &A,
+    map: M,
+    history: History<A>,
+    any_place: bool,
+    order: Order<A>,
+) -> Result<Ruling, NoMemory>
+    requires new { IsNew (M.slots map) }
+    requires few { length history.declaration.files.items ≤ 16 }
+    ensures { IfOk result (λ ruling. (lines : List (List ℕ)) → IsHistory lines (read_of history) → IsRuling any_place lines ruling) }
+{
+    let count = history.calls.len() as u64;
+    match order {
+        Order::Of(items, line) => {
+            if is_order(alloc, map, history, any_place, items.as_slice())? {
+                Ok(Ruling::Legal(count))
+            } else {
+                Ok(Ruling::Undecided(line))
+            }
+        }
+        Order::None(line) => Ok(Ruling::Undecided(line)),
+    }
+}
+
+// Judges a history that was read from the text.
+fn rule<M: SlotMap + Drop, A: Allocator + Clone + Drop>(
+    alloc: &A,
+    map: M,
+    text: &[u8],
+    history: History<A>,
+    any_place: bool,
+    by: By<'_>,
+) -> Result<Ruled<A>, NoMemory>
+    requires new { IsNew (M.slots map) }
+    requires few { length history.declaration.files.items ≤ 16 }
+    ensures { IfOk result (λ ruled. (lines : List (List ℕ)) → IsHistory lines (read_of history) → IsRuling any_place lines ruled.ruling) }
+{
+    let order = match by {
+        By::Search => search(alloc, &history, any_place)?,
+        By::Given(given) => given_order(alloc, &history, given)?,
+    };
+    let written = order_text(alloc, text, &history, &order)?;
+    let ruling = rule_by(alloc, map, history, any_place, order)?;
+    Ok(Ruled {
+        ruling,
+        order: written,
+    })
+}
+
+/// Judges a text: it is that of a history, whose calls have an order, or of which none was found; or it isn't, and why. Beside a
+/// ruling that it is legal stands the text of the order.
+pub fn judge_text<M: SlotMap + Drop, A: Allocator + Clone + Drop>(
+    alloc: &A,
+    map: M,
+    text: &[u8],
+    any_place: bool,
+    by: By<'_>,
+) -> Result<Ruled<A>, HistoryFault>
+    requires new { IsNew (M.slots map) }
+    ensures ok { IfOk result (λ ruled. IsRuling any_place (lines_of text.now) ruled.ruling) }
+    ensures err { IfErr result (λ f. IsAtFault (lines_of text.now) f) }
+{
+    let history = match read_history(alloc, text) {
+        Ok(history) => history,
+        Err(fault) => return Err(fault),
+    };
+    match rule(alloc, map, text, history, any_place, by) {
+        Ok(ruled) => Ok(ruled),
+        Err(_) => Err(HistoryFault::Io(IoFault::NoMemory)),
+    }
+}
