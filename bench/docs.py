@@ -164,7 +164,7 @@ def usage():
     """The options of each word of the program, as its help has them."""
     told = subprocess.run(["./radixvm", "help"], cwd=ROOT, capture_output=True, text=True, check=True).stdout
     options = {}
-    for word, rest in re.findall(r"radixvm (\w+)((?: .*)?)\n", told):
+    for word, rest in re.findall(r"radixvm (\w+)((?: .*)?)\n", re.sub(r"\n {12,}", " ", told)):
         options.setdefault(word, {"--help"}).update(re.findall(r"--[a-z-]+", rest))
     return options
 

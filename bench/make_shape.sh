@@ -23,7 +23,15 @@ files-shared 500000 two cores store and load through four files of 1 MiB
 files-private 200000 two cores read private pages of a file, and one stores: shootdown and copy
 files-stored 500000 64 cores store, and one line in four loads, through 16 files of 1 MiB that are mapped shared
 shootdowns 200000 a page mapped, loaded by 64 cores, and unmapped, which 63 of them have to acknowledge
-sparse 30001 10,000 pages 1,000 apart mapped, stored to, and loaded from'
+sparse 30001 10,000 pages 1,000 apart mapped, stored to, and loaded from
+protect-thousand 20000 mprotect of 1,000 pages, to rw- every other time, while a file is open
+protect-file 200000 as protect, while a file is open
+no-frame 500000 loads of untouched pages, after the last free frame is taken
+first-stores 65256 the first store to each of 65,000 private pages of a file
+read-then-store 130256 each of 65,000 private pages of a file loaded, and then stored to
+idle-reviews 500000 flushes and reviews of cores that have nothing to flush or review
+gib-touched 60000 1 GiB mapped, a page in each 2 MiB of it stored to, and all unmapped
+behind-fragments 20000 mappings without a hint, whose room is behind 16,000 single pages'
 
 [ $# -gt 0 ] || { echo "$shapes"; exit; }
 default=$(awk -v name="$1" '$1 == name { print $2 }' <<< "$shapes")
@@ -70,8 +78,9 @@ function overlaps(    page, pages) {
         if (draw(5) < 3) map(page, pages, draw(2) ? "rw-" : "r--"); else unmap(page, pages)
     }
 }
-function protects(    i, page, pages) {
+function protects(has_file,    i, page, pages) {
     emit("vm 1 8192 1048576")
+    if (has_file) emit("file 0 rw 4096 7")
     map(0, 4096, "rw-")
     for (i = 0; i < 4096; i += 2) store(0, i)
     split("r-- rw- rwx ---", prots, " ")
@@ -80,6 +89,46 @@ function protects(    i, page, pages) {
         emit("c0! mprotect " at(page, 0) " " pages * 4096 " " prots[1 + draw(4)])
         access(0, page + draw(pages))
     }
+}
+function protects_all(    round) {
+    emit("vm 1 8192 1048576")
+    emit("file 0 rw 4096 7")
+    map(0, 1000, "rw-")
+    for (round = 0; count < lines; round++) {
+        emit("c0! mprotect " at(0, 0) " " 1000 * 4096 " " (round % 2 ? "rw-" : "r--"))
+        load(0, draw(1000))
+    }
+}
+function no_frames(    i) {
+    emit("vm 1 64 1048576")
+    map(0, 4096, "rw-")
+    for (i = 0; i < 64; i++) load(0, i)
+    while (count < lines) load(0, 64 + draw(4032))
+}
+# Each 256 pages show the file anew. A page that is read shows the frame of the file, and its store gives it one of its own.
+function private_pages(is_read,    i) {
+    emit("vm 1 65536 1048576")
+    emit("file 0 rw 1048576 7")
+    for (i = 0; i < 254; i++) emit("c0! mmap " at(i * 256, 0) " 1048576 rw- pf 0 0")
+    for (i = 0; i < 65000 && count < lines; i++) { if (is_read) load(0, i); store(0, i) }
+}
+function idle_reviews(    core) {
+    emit("vm 4 64 1048576")
+    while (count < lines) { core = draw(4); emit("c" core (count % 2 ? " flush" : " review")) }
+}
+function gib_touched(    i, round) {
+    emit("vm 1 65536 1048576")
+    for (round = 0; round < 127 && count < lines; round++) {
+        map(0, 262144, "rw-")
+        for (i = 0; i < 512; i++) store(0, i * 512 + round)
+        unmap(0, 262144)
+    }
+}
+# Each second page is mapped, from the beginning of the window of core 0 on.
+function behind_fragments(    i) {
+    emit("vm 1 64 1048576")
+    for (i = 0; i < int(lines * 4 / 5); i++) emit(sprintf("c0! mmap 0x80%05x000 4096 rw- pfa", 2 * i))
+    while (count < lines) emit("c0! mmap 0 8192 rw- pa")
 }
 function refusals(    page) {
     emit("vm 1 1024 1048576")
@@ -160,7 +209,7 @@ BEGIN {
     if (shape == "map-one") cycles(1)
     if (shape == "map-thousand") cycles(1000)
     if (shape == "map-overlap") overlaps()
-    if (shape == "protect") protects()
+    if (shape == "protect") protects(0)
     if (shape == "refused") refusals()
     if (shape == "faults") faults()
     if (shape == "files-shared") shared_files()
@@ -168,4 +217,12 @@ BEGIN {
     if (shape == "files-stored") stored_files()
     if (shape == "shootdowns") shootdowns()
     if (shape == "sparse") sparse(10000)
+    if (shape == "protect-thousand") protects_all()
+    if (shape == "protect-file") protects(1)
+    if (shape == "no-frame") no_frames()
+    if (shape == "first-stores") private_pages(0)
+    if (shape == "read-then-store") private_pages(1)
+    if (shape == "idle-reviews") idle_reviews()
+    if (shape == "gib-touched") gib_touched()
+    if (shape == "behind-fragments") behind_fragments()
 }'

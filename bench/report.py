@@ -40,11 +40,10 @@ AIM = "0.8"  # of every shape
 
 def shapes_table(rows, counted):
     return table(
-        ["Trace", "What its lines do", ">Lines", ">Ours (ms)", ">Plain (ms)", ">Ratio", ">Instructions", ">Steps a line"],
+        ["Trace", ">Lines", ">Ours (ms)", ">Plain (ms)", ">Ratio", ">Instructions", ">Steps a line"],
         [
             [
                 row["shape"],
-                row["what"],
                 f"{int(row['lines']):,}",
                 row["ours_ms"],
                 row["plain_ms"],

@@ -253,7 +253,7 @@ impl Machine {
                 file,
                 off,
             } => self
-                .check_mmap(addr, len, prot, flags, file, off)
+                .check_mmap(core, addr, len, prot, flags, file, off)
                 .map(|(range, back)| (range, Change::Put(prot, back))),
             Request::Munmap { addr, len } => {
                 check_munmap(addr, len).map(|range| (range, Change::Clear))
@@ -270,8 +270,10 @@ impl Machine {
         }
     }
 
+    #[allow(clippy::too_many_arguments)]
     fn check_mmap(
         &self,
+        core: usize,
         addr: u64,
         len: u64,
         prot: Prot,
@@ -286,12 +288,19 @@ impl Machine {
         {
             return Err("einval");
         }
-        if !flags.fixed {
+        if flags.fixed && pages(addr, len).is_none() {
             return Err("enomem");
         }
-        let range = pages(addr, len).ok_or("enomem")?;
+        let range = || {
+            if flags.fixed {
+                pages(addr, len)
+            } else {
+                self.place(core, addr, len)
+            }
+            .ok_or("enomem")
+        };
         if flags.anon {
-            return Ok((range, Back::Anon));
+            return Ok((range()?, Back::Anon));
         }
         let number = usize::try_from(file).map_err(|_| "ebadf")?;
         let open = self.files.get(number).ok_or("ebadf")?;
@@ -301,6 +310,7 @@ impl Machine {
         if !open.can_read || (flags.shared && prot.write && !open.can_write) {
             return Err("eacces");
         }
+        let range = range()?;
         let from = (off / PAGE_SIZE).wrapping_sub(range.first);
         let back = if flags.shared {
             Back::Shared { file: number, from }
@@ -308,6 +318,22 @@ impl Machine {
             Back::Private { file: number, from }
         };
         Ok((range, back))
+    }
+
+    /// Where a mapping goes without MAP_FIXED: to its hint, if that is free, else to the first room of the core's window.
+    fn place(&self, core: usize, addr: u64, len: u64) -> Option<Range> {
+        let (hint, count) = (addr / PAGE_SIZE, len.div_ceil(PAGE_SIZE));
+        let range = |first| Range {
+            first,
+            end: first + count,
+        };
+        if let Some(hinted) = pages(hint * PAGE_SIZE, count.checked_mul(PAGE_SIZE)?) {
+            if self.slots.room(hinted.first, hinted.end, count).is_some() {
+                return Some(hinted);
+            }
+        }
+        let window = (core as u64 + 1) << 27;
+        self.slots.room(window, window + (1 << 27), count).map(range)
     }
 
     // ---- changes of ranges

@@ -94,6 +94,26 @@ impl Node {
         }
     }
 
+    /// The first of so many free pages in a row, from `first` up to `end`. `run` is where the free pages before them begin.
+    fn room(&self, base: u64, first: u64, end: u64, count: u64, run: &mut u64) -> Option<u64> {
+        for k in self.places(first, end) {
+            let start = base + ((k as u64) << self.shift);
+            let stop = start + (1 << self.shift);
+            let (from, to) = (first.max(start), end.min(stop));
+            match &self.slots[k] {
+                Slot::Own(state) if state.page.is_some() => *run = to,
+                Slot::Own(_) if to - *run >= count => return Some(*run),
+                Slot::Own(_) => {}
+                Slot::Child(node) => {
+                    if let Some(found) = node.room(start, from, to, count, run) {
+                        return Some(found);
+                    }
+                }
+            }
+        }
+        None
+    }
+
     /// Shows the mapped slots, from left to right, with their pages.
     fn each_mapped(&self, base: u64, act: &mut impl FnMut(u64, u64, &Page)) {
         for (k, slot) in (0u64..).zip(&self.slots) {
@@ -137,6 +157,11 @@ impl Slots {
 
     pub fn each(&mut self, first: u64, end: u64, mut act: impl FnMut(&mut State)) {
         self.root.each(0, first, end, &mut act);
+    }
+
+    /// The first of so many free pages in a row, from `first` up to `end`.
+    pub fn room(&self, first: u64, end: u64, count: u64) -> Option<u64> {
+        self.root.room(0, first, end, count, &mut { first })
     }
 
     /// Shows the mapped slots, from left to right, with their pages.
