@@ -1,27 +1,35 @@
-/* RadixVM, verified: one virtual address space that 1 to 64 modelled cores share, as a library.
+/* RadixVM, verified: one virtual address space that 1 to 64 modelled cores share, as a C library.
  *
- * A batch makes a new machine, gives it events or whole calls one after another, and writes what each
- * came to; a machine that is kept takes them as they come. What is proved, by the contracts of
- * crates/radixvm_c/src/lib.rt: of radixvm_run, that the outcomes are a run of the abstract machine whose
- * log is that of a plain page map (POSIX.1-2017 mmap, munmap, mprotect); of radixvm_calls and of a machine
- * that is kept, that each call or event comes to what the abstract machine's steps give from the state
- * before it, and that the state it leaves is one that a run leads to, with the log of a plain page map; and
- * of a machine that threads share, that for every schedule each seat got the replies of a plain page map, in
- * one order that has each seat's calls in the order in which it made them (radixvm_share below).
+ * There are three ways to use it:
+ *   - A batch (radixvm_run, radixvm_calls) makes a new machine, gives it a list of events or calls, and writes
+ *     an outcome for each.
+ *   - A kept machine (radixvm_new to radixvm_free) takes events or calls as they come.
+ *   - A shared machine (radixvm_share) gives each of your threads a seat, which makes the calls of one core.
  *
- * Units: addresses, lengths and offsets are bytes; a page or frame is 4096 bytes, and is named by its
- * number (page = address / 4096). Buffers are the caller's, each with its number of items; the library
- * keeps none of them, and frees what it takes from malloc before it returns, but for the machines that
- * are kept. It has no static state, so threads may call it side by side, each with buffers, machines and
- * seats of its own. A machine, or a seat, may be handed to another thread as anything is that isn't atomic:
- * by a lock, a thread's start or its end. Each is one call's at a time.
+ * What is proved, by the contracts of crates/radixvm_c/src/lib.rt:
+ *   - radixvm_run: the outcomes are a run of the abstract machine, and its log is that of a plain page map
+ *     (POSIX.1-2017 mmap, munmap, mprotect).
+ *   - radixvm_calls and kept machines: each call or event has the outcome that the abstract machine's steps
+ *     give from the state before it. Each state is one that a run reaches, with the log of a plain page map.
+ *   - Shared machines, for every schedule: each seat gets the replies of a plain page map, in one order of all
+ *     calls. Each seat's calls stand in that order as the seat made them.
  *
- * Pointers: null is taken where its length is 0, and is told (RADIXVM_NULL) where it isn't. The buffers
- * must be as long as said, aligned, and not overlap; `outcomes` must be initialised memory. None of that
- * can be checked, but that a length above 2^32 is told (RADIXVM_TOO_LONG) before any memory is read. Nor
- * can it be told that a radixvm_machine or a radixvm_seat was not begun as {0}, was copied and freed by the
- * copy, was written by others, or is in another call: use one place for each, and give it to the functions
- * below alone. Don't call from a signal handler, nor in the forked child of a process with threads. */
+ * Units: addresses, lengths and offsets are in bytes. A page or a frame has 4096 bytes, and its number is its
+ * name (page = address / 4096).
+ *
+ * Memory: all buffers are yours, and you pass each with its number of items. The library keeps no pointer to
+ * them. It frees what it allocates before it returns, except for kept machines and seats.
+ *
+ * Threads: the library has no static state. Threads may call it at the same time if each has its own buffers,
+ * machines and seats. You may hand a machine or a seat to another thread as you hand over any plain object:
+ * through a lock, or when a thread starts or ends. Only one call at a time may use a machine or a seat.
+ *
+ * Pointers: a null pointer is accepted if its length is 0; otherwise the status is RADIXVM_NULL. A length above
+ * 2^32 gives RADIXVM_TOO_LONG before any memory is read. The library can't check the rest, so you must:
+ *   - each buffer is as long as you say, is aligned, and overlaps no other; `outcomes` is initialised memory;
+ *   - a radixvm_machine or a radixvm_seat begins as {0}, stays in one place, is never copied, and is changed
+ *     by the functions below alone;
+ *   - no function is called from a signal handler, nor in the forked child of a process with threads. */
 #ifndef RADIXVM_H
 #define RADIXVM_H
 #include <stddef.h>
@@ -32,30 +40,30 @@
 #include <sched.h>
 #endif
 
-#define RADIXVM_VERSION 4 /* what radixvm_version() answers where it is the library of this header */
+#define RADIXVM_VERSION 4 /* radixvm_version() returns this if the library fits this header */
 
-/* What a machine has. */
+/* The size of a machine. */
 typedef struct {
     uint64_t cores;  /* 1 to 64 */
-    uint64_t frames; /* of 4096 bytes, at most 65536 */
-    uint64_t calls;  /* that may begin, at most 2^40, or 1048576 with a log */
-    uint32_t log;    /* 0: no log is kept; else radixvm_log tells it of a machine that is kept */
+    uint64_t frames; /* frames of 4096 bytes, at most 65536 */
+    uint64_t calls;  /* how many calls may begin: at most 2^40, or 1048576 with a log */
+    uint32_t log;    /* 0: no log. Otherwise a kept machine has a log, which radixvm_log reads */
 } radixvm_setup;
 
-/* A file that is open from the start, named by its place in the list; its bytes lie in `bytes`. */
+/* A file that is open from the start. Its number is its place in the list, and its bytes are a part of `bytes`. */
 typedef struct {
     uint32_t mode;       /* RADIXVM_O_.. */
-    uint64_t start, len; /* of its bytes in `bytes`; at most 1048576 bytes, 16 files */
+    uint64_t start, len; /* its part of `bytes`; at most 1048576 bytes a file, and 16 files */
 } radixvm_file;
 enum { RADIXVM_O_RDONLY = 1, RADIXVM_O_WRONLY = 2, RADIXVM_O_RDWR = 3 };
 
-/* An event. What its kind doesn't name isn't read, but for `core`, which is below 64 in each. */
+/* An event. Only the fields that its kind names are read, and `core`, which is always below 64. */
 typedef struct {
     uint32_t kind, core;
     uint64_t at, len, file, off;
     uint32_t prot, flags, byte;
 } radixvm_event;
-enum { /* kinds; the first six begin a call */
+enum { /* The kinds. The first six begin a call. */
     RADIXVM_MMAP = 1, /* at, len, prot, flags, file, off: POSIX mmap; `at` is addr */
     RADIXVM_MUNMAP,   /* at, len */
     RADIXVM_MPROTECT, /* at, len, prot */
@@ -63,33 +71,33 @@ enum { /* kinds; the first six begin a call */
     RADIXVM_STORE,    /* at, byte (below 256) */
     RADIXVM_FETCH,    /* at */
     RADIXVM_GO,       /* one step of the core's call */
-    RADIXVM_FRAME,    /* at: the call takes this frame */
-    RADIXVM_GUESS,    /* at: the call guesses that there is room from this page on */
-    RADIXVM_WHOLE,    /* the call takes its whole window */
-    RADIXVM_TAKE,     /* the core acts on the oldest message of its inbox */
-    RADIXVM_WALK,     /* at: the core's TLB gets the translation of this page */
-    RADIXVM_EVICT,    /* at: the core's TLB drops the translation of this page */
-    RADIXVM_FLUSH,    /* the core flushes a count, or ends its part of the epoch */
+    RADIXVM_FRAME,    /* at: the frame that the call is to take */
+    RADIXVM_GUESS,    /* at: the page at which the call is to look for room first */
+    RADIXVM_WHOLE,    /* the call is to search its whole window */
+    RADIXVM_TAKE,     /* the core does what the oldest message of its inbox asks */
+    RADIXVM_WALK,     /* at: the page whose translation the core's TLB gets */
+    RADIXVM_EVICT,    /* at: the page whose translation the core's TLB drops */
+    RADIXVM_FLUSH,    /* the core flushes one count, or ends its part of the epoch */
     RADIXVM_REVIEW,   /* the core reviews the front of its queue */
-    RADIXVM_FOLD,     /* at: slots are joined at this page */
-    RADIXVM_GIVE_UP,  /* the core's call is given up for want of memory */
-    RADIXVM_FINISH,   /* radixvm_calls alone: the core's call goes on to its end, or until it waits */
-    RADIXVM_BEGIN = 64 /* radixvm_calls alone: added to a kind, makes it one step, as in radixvm_run */
+    RADIXVM_FOLD,     /* at: the page at which slots are joined */
+    RADIXVM_GIVE_UP,  /* the core gives its call up for want of memory */
+    RADIXVM_FINISH,   /* radixvm_calls only: the core's call goes on until it ends or waits */
+    RADIXVM_BEGIN = 64 /* radixvm_calls only: added to a kind, it asks for one step, as in radixvm_run */
 };
 enum { RADIXVM_PROT_READ = 1, RADIXVM_PROT_WRITE = 2, RADIXVM_PROT_EXEC = 4 };                /* as on Linux */
 enum { RADIXVM_MAP_SHARED = 1, RADIXVM_MAP_PRIVATE = 2, RADIXVM_MAP_FIXED = 16, RADIXVM_MAP_ANONYMOUS = 32 };
 
-/* What an event came to. */
+/* The outcome of an event. */
 typedef struct {
     uint32_t kind;
-    uint64_t value; /* named below; else 0 */
+    uint64_t value; /* what it means stands below; otherwise 0 */
 } radixvm_outcome;
-enum { /* kinds of outcomes; from RADIXVM_MAPPED to RADIXVM_NO_MEMORY they are replies */
+enum { /* The kinds of outcomes. RADIXVM_MAPPED to RADIXVM_NO_MEMORY are replies. */
     RADIXVM_STEPPED = 1,
     RADIXVM_WAIT_SLOT,   /* value: the core that holds a slot of the call's pages */
-    RADIXVM_WAIT_ACKS,   /* value: the set of cores that are to take a message; bit c is core c */
-    RADIXVM_IDLE,        /* the event isn't possible now */
-    RADIXVM_FULL,        /* the limit of calls, or of 2^64 - 1 events, is reached */
+    RADIXVM_WAIT_ACKS,   /* value: the cores that still have to take a message; bit c is core c */
+    RADIXVM_IDLE,        /* the event can't happen now */
+    RADIXVM_FULL,        /* the limit of calls is reached, or that of 2^64 - 1 events */
     RADIXVM_MAPPED,      /* value: the mapping's first address */
     RADIXVM_DONE,        /* unmapped, protected or stored */
     RADIXVM_BYTE,        /* value: the byte that was loaded or fetched */
@@ -99,73 +107,74 @@ enum { /* kinds of outcomes; from RADIXVM_MAPPED to RADIXVM_NO_MEMORY they are r
     RADIXVM_BUS,         /* SIGBUS: past the end of the file */
     RADIXVM_NO_FRAME,    /* no frame was free */
     RADIXVM_NO_MEMORY,   /* the call was given up */
-    RADIXVM_STUCK        /* radixvm_calls alone: each of 2^40 steps was made, and the call isn't at its end */
+    RADIXVM_STUCK        /* radixvm_calls only: 2^40 steps were made, and the call hasn't ended */
 };
 enum { RADIXVM_EBADF = 9, RADIXVM_ENOMEM = 12, RADIXVM_EACCES = 13, RADIXVM_EINVAL = 22, RADIXVM_EOVERFLOW = 75 };
 
-/* A machine that is kept until it is freed, or none: begin with {0}. The pointer is the library's, and is
- * read and written by it alone; it is null where there is none. */
+/* A place for a kept machine. Begin with {0}, which says that there is none. The pointer is the library's: don't
+ * read or write it. */
 typedef struct {
     uint8_t *at;
 } radixvm_machine;
 
-/* The right to call as one core of a machine that threads share, or none: begin with {0}. */
+/* A place for a seat: the right to make the calls of one core of a shared machine. Begin with {0}, which says
+ * that there is none. */
 typedef struct {
     uint8_t *at;
 } radixvm_seat;
 
-/* Neighbouring pages with the same protection, whose backing goes on from page to page. */
+/* Neighbouring pages with one protection, whose backing goes on from page to page. */
 typedef struct {
-    uint64_t first, end; /* pages; `end` is the one behind the last */
-    uint64_t page;       /* of the file: what backs the first; 0 where no file does */
-    uint32_t file, back; /* its number, else 0; RADIXVM_BACK_.. */
+    uint64_t first, end; /* the first page, and the page after the last */
+    uint64_t page;       /* the page of the file that backs the first page; 0 without a file */
+    uint32_t file, back; /* the file's number, or 0; RADIXVM_BACK_.. */
     uint32_t prot;       /* RADIXVM_PROT_.. */
 } radixvm_line;
 enum { RADIXVM_BACK_ZEROS = 0, RADIXVM_BACK_SHARED, RADIXVM_BACK_PRIVATE };
 
-/* An entry of the log: a reply was given to a call, or a private page that showed its file got a copy of its
- * own, for a store. Events and calls that began are numbered from 1. */
+/* An entry of the log. Either a call got its reply, or a private page that showed its file got a copy of its own
+ * because of a store. Events are numbered from 1, and so are calls, in the order in which they began. */
 typedef struct {
     uint32_t kind;         /* RADIXVM_ENTRY_.. */
-    uint32_t core;         /* of a reply: the core whose call it is; else 0 */
-    uint64_t step, call;   /* the event that made the entry; the call that it is of */
-    uint64_t page;         /* of a copy: the page that got it; else 0 */
-    radixvm_event asked;   /* of a reply: the call as it was asked for, what its kind doesn't name being 0; else 0 */
-    radixvm_outcome reply; /* of a reply: RADIXVM_MAPPED to RADIXVM_NO_MEMORY; else 0 */
+    uint32_t core;         /* of a reply: the core that made the call; otherwise 0 */
+    uint64_t step, call;   /* the event that made the entry, and its call */
+    uint64_t page;         /* of a copy: the page that got it; otherwise 0 */
+    radixvm_event asked;   /* of a reply: the call; fields that its kind doesn't name are 0. Otherwise all 0 */
+    radixvm_outcome reply; /* of a reply: RADIXVM_MAPPED to RADIXVM_NO_MEMORY; otherwise 0 */
 } radixvm_log_entry;
 enum { RADIXVM_ENTRY_REPLY = 1, RADIXVM_ENTRY_COPY };
 
-/* How a batch ended. The first `count` events were taken, and outcomes[0] to outcomes[count - 1] tell
- * what each came to; all others are as they were. From RADIXVM_NO_ROOM on no event was taken. */
+/* How a batch ended. The first `count` events were taken, and outcomes[0] to outcomes[count - 1] are theirs; all
+ * other outcomes are unchanged. With RADIXVM_NO_ROOM or a later status, no event was taken. */
 typedef struct {
     uint32_t status;
     uint64_t count;
 } radixvm_done;
 enum {
     RADIXVM_OK = 0,
-    RADIXVM_BAD_EVENT,     /* events[count] is none: its kind, core, prot, flags or byte is out of range */
-    RADIXVM_OUT_OF_MEMORY, /* malloc refused memory to events[count] */
-    RADIXVM_NO_ROOM,       /* fewer outcomes than events */
+    RADIXVM_BAD_EVENT,     /* events[count] isn't an event: its kind, core, prot, flags or byte is out of range */
+    RADIXVM_OUT_OF_MEMORY, /* malloc refused memory during events[count] */
+    RADIXVM_NO_ROOM,       /* there are fewer outcomes than events */
     RADIXVM_TOO_LONG,      /* a length is above 2^32 */
-    RADIXVM_BAD_FILE,      /* files[count]: no such mode, or its bytes don't lie in `bytes` */
+    RADIXVM_BAD_FILE,      /* files[count] has no such mode, or its part isn't inside `bytes` */
     RADIXVM_NULL,          /* a null pointer whose length isn't 0 */
-    RADIXVM_EMPTY,         /* there is no machine, or no seat, in its place */
-    RADIXVM_IN_USE,        /* there is one already; or the machine has another seat */
-    RADIXVM_ABSENT,        /* the machine has no such core, or no more cores; or no page has this number */
+    RADIXVM_EMPTY,         /* the place has no machine or no seat */
+    RADIXVM_IN_USE,        /* the place is taken already, or the machine has another seat */
+    RADIXVM_ABSENT,        /* there is no such core, no further core, or no such page */
     RADIXVM_NO_LOG,        /* the machine keeps no log */
     RADIXVM_BAD_CORES, RADIXVM_BAD_FRAMES, RADIXVM_TOO_MANY_FILES, RADIXVM_FILE_TOO_LONG, RADIXVM_BAD_CALLS,
-    RADIXVM_NO_MACHINE,    /* malloc refused memory to the new machine */
+    RADIXVM_NO_MACHINE,    /* malloc refused memory for the new machine */
     RADIXVM_BUSY,          /* another seat is in a call */
-    RADIXVM_IN_FLIGHT,     /* a core of the machine has a call that isn't at its end */
-    RADIXVM_LOST,          /* the machine is gone with a seat that was freed amid its call */
-    RADIXVM_AT_LIMIT       /* radixvm_seat_calls alone: the limit of calls, or of 2^64 - 1 events, is reached */
+    RADIXVM_IN_FLIGHT,     /* a core of the machine has a call that hasn't ended */
+    RADIXVM_LOST,          /* a seat was freed in the middle of its call, and the machine is gone with it */
+    RADIXVM_AT_LIMIT       /* radixvm_seat_calls only: the limit of calls or of events is reached */
 };
 
 #ifdef __cplusplus
 extern "C" {
 #endif
 uint32_t radixvm_version(void);
-/* As radixvm_run and radixvm_calls below, but that no pointer may be null, not even where its length is 0. */
+/* Like radixvm_run and radixvm_calls below, but no pointer may be null, not even if its length is 0. */
 radixvm_done radixvm_run_batch(const radixvm_setup *setup, const radixvm_file *files, size_t file_count,
     const uint8_t *bytes, size_t byte_count, const radixvm_event *events, size_t event_count,
     radixvm_outcome *outcomes, size_t room);
@@ -173,7 +182,7 @@ radixvm_done radixvm_calls_batch(const radixvm_setup *setup, const radixvm_file 
     const uint8_t *bytes, size_t byte_count, const radixvm_event *events, size_t event_count,
     radixvm_outcome *outcomes, size_t room);
 
-/* Each event is one step. */
+/* Runs a new machine. Each event is one step. */
 static inline radixvm_done radixvm_run(const radixvm_setup *setup, const radixvm_file *files, size_t file_count,
     const uint8_t *bytes, size_t byte_count, const radixvm_event *events, size_t event_count,
     radixvm_outcome *outcomes, size_t room) {
@@ -188,8 +197,8 @@ static inline radixvm_done radixvm_run(const radixvm_setup *setup, const radixvm
     return radixvm_run_batch(setup, files ? files : &no_file, file_count, bytes ? bytes : &no_byte, byte_count,
         events ? events : &no_event, event_count, outcomes ? outcomes : &no_outcome, room);
 }
-/* Each of the first six kinds is a whole call, made to its end or until it waits for another core: then
- * its outcome is a wait, TAKEs of the awaited cores let it go on, and a FINISH ends it. */
+/* Runs a new machine. Each event of the first six kinds is a whole call. It goes on until it ends, or until it
+ * waits for other cores: then its outcome is a wait. TAKEs of the awaited cores and then a FINISH end it. */
 static inline radixvm_done radixvm_calls(const radixvm_setup *setup, const radixvm_file *files, size_t file_count,
     const uint8_t *bytes, size_t byte_count, const radixvm_event *events, size_t event_count,
     radixvm_outcome *outcomes, size_t room) {
@@ -205,10 +214,10 @@ static inline radixvm_done radixvm_calls(const radixvm_setup *setup, const radix
         events ? events : &no_event, event_count, outcomes ? outcomes : &no_outcome, room);
 }
 
-/* ---- A machine that is kept. Each function changes nothing where its status isn't RADIXVM_OK, but for the
- * steps that a call made before RADIXVM_OUT_OF_MEMORY, and for the first `count` events of a batch. */
+/* ---- Kept machines. If the status isn't RADIXVM_OK, the machine is unchanged, with two exceptions: the steps
+ * that a call made before RADIXVM_OUT_OF_MEMORY stay made, and so do the first `count` events of a batch. */
 
-/* As those below, but that no pointer may be null, not even where its length is 0. */
+/* Like those below, but no pointer may be null, not even if its length is 0. */
 radixvm_done radixvm_new_held(const radixvm_setup *setup, const radixvm_file *files, size_t file_count,
     const uint8_t *bytes, size_t byte_count, radixvm_machine *machine);
 void radixvm_free_held(radixvm_machine *machine);
@@ -223,8 +232,8 @@ uint32_t radixvm_entry_held(radixvm_machine *machine, uint32_t core, uint64_t pa
 radixvm_done radixvm_maps_held(radixvm_machine *machine, radixvm_line *lines, size_t room);
 radixvm_done radixvm_log_held(radixvm_machine *machine, radixvm_log_entry *entries, size_t room);
 
-/* Makes a machine, where there is none yet. The files' bytes are copied. With a log, memory is taken for all of
- * it at once: about 100 bytes for each call that may begin. */
+/* Makes a machine in an empty place, and copies the bytes of the files. With a log, it takes the memory of the
+ * whole log at once: about 100 bytes for each call that may begin. */
 static inline radixvm_done radixvm_new(const radixvm_setup *setup, const radixvm_file *files, size_t file_count,
     const uint8_t *bytes, size_t byte_count, radixvm_machine *machine) {
     const radixvm_file no_file = {0, 0, 0};
@@ -235,11 +244,11 @@ static inline radixvm_done radixvm_new(const radixvm_setup *setup, const radixvm
     }
     return radixvm_new_held(setup, files ? files : &no_file, file_count, bytes ? bytes : &no_byte, byte_count, machine);
 }
-/* Frees it, if there is one. There is none then. */
+/* Frees the machine, if there is one, and leaves the place empty. */
 static inline void radixvm_free(radixvm_machine *machine) {
     if (machine) radixvm_free_held(machine);
 }
-/* One event, as in radixvm_run. The answer is a status: RADIXVM_OK where `outcome` was written. */
+/* One event, as in radixvm_run. Returns a status; with RADIXVM_OK, `outcome` was written. */
 static inline uint32_t radixvm_step(radixvm_machine *machine, const radixvm_event *event, radixvm_outcome *outcome) {
     if (!machine || !event || !outcome) return RADIXVM_NULL;
     return radixvm_step_held(machine, event, outcome);
@@ -249,18 +258,18 @@ static inline uint32_t radixvm_call(radixvm_machine *machine, const radixvm_even
     if (!machine || !event || !outcome) return RADIXVM_NULL;
     return radixvm_call_held(machine, event, outcome);
 }
-/* A call is begun, and no step of it made; radixvm_step with RADIXVM_GO, or radixvm_finish, goes on. */
+/* Begins a call and makes no step of it. Go on with radixvm_step and RADIXVM_GO, or with radixvm_finish. */
 static inline uint32_t radixvm_begin(radixvm_machine *machine, const radixvm_event *event, radixvm_outcome *outcome) {
     if (event && event->kind > RADIXVM_FETCH) return RADIXVM_BAD_EVENT;
     return radixvm_step(machine, event, outcome);
 }
-/* The core's call goes on to its end, or until it waits. */
+/* Goes on with the core's call until it ends or waits. */
 static inline uint32_t radixvm_finish(radixvm_machine *machine, uint32_t core, radixvm_outcome *outcome) {
     radixvm_event event = {RADIXVM_FINISH, 0, 0, 0, 0, 0, 0, 0, 0};
     event.core = core;
     return radixvm_call(machine, &event, outcome);
 }
-/* As radixvm_run and radixvm_calls, from where the machine is. */
+/* Like radixvm_run and radixvm_calls, from the machine's present state. */
 static inline radixvm_done radixvm_run_on(radixvm_machine *machine, const radixvm_event *events, size_t event_count,
     radixvm_outcome *outcomes, size_t room) {
     const radixvm_event no_event = {0, 0, 0, 0, 0, 0, 0, 0, 0};
@@ -282,18 +291,18 @@ static inline radixvm_done radixvm_calls_on(radixvm_machine *machine, const radi
     return radixvm_calls_held(machine, events ? events : &no_event, event_count, outcomes ? outcomes : &no_outcome,
         room);
 }
-/* How many cores it has; 0 where there is no machine. */
+/* The number of cores; 0 if there is no machine. */
 static inline uint64_t radixvm_cores(const radixvm_machine *machine) {
     return machine ? radixvm_cores_held((radixvm_machine *)machine) : 0;
 }
-/* The entry that the core's page tables have for the page, as x86-64's hardware would read it (Intel SDM
- * volume 3A, 4-level paging, the entry of a 4 KiB page); 0 where they have none. A page is 1 to 2^35 - 1. */
+/* Reads the core's page-table entry of a page, in the format of x86-64 (Intel SDM volume 3A, 4-level paging, the
+ * entry of a 4 KiB page). It is 0 if the tables have none. A page is 1 to 2^35 - 1. */
 static inline uint32_t radixvm_entry(const radixvm_machine *machine, uint32_t core, uint64_t page, uint64_t *word) {
     if (!machine || !word) return RADIXVM_NULL;
     return radixvm_entry_held((radixvm_machine *)machine, core, page, word);
 }
-/* All mappings, in order of pages, as far as there is room: `count` is how many there are. The list takes
- * memory for a moment. */
+/* Writes the mappings in order of pages, as many as there is room for. `count` is how many there are. The
+ * function allocates, and frees it again. */
 static inline radixvm_done radixvm_maps(const radixvm_machine *machine, radixvm_line *lines, size_t room) {
     radixvm_line no_line = {0, 0, 0, 0, 0, 0};
     if (!machine || (!lines && room)) {
@@ -302,8 +311,8 @@ static inline radixvm_done radixvm_maps(const radixvm_machine *machine, radixvm_
     }
     return radixvm_maps_held((radixvm_machine *)machine, lines ? lines : &no_line, room);
 }
-/* The log of a machine that keeps it, from its first entry on, as far as there is room: `count` is how many
- * entries it has. Each call's reply stands in it once, in the order in which a plain page map would answer. */
+/* Writes the log from its first entry on, as many entries as there is room for. `count` is how many there are.
+ * Each answered call stands in it once, in the order in which a plain page map gives these replies. */
 static inline radixvm_done radixvm_log(const radixvm_machine *machine, radixvm_log_entry *entries, size_t room) {
     radixvm_log_entry no_entry = {0, 0, 0, 0, 0, {0, 0, 0, 0, 0, 0, 0, 0, 0}, {0, 0}};
     if (!machine || (!entries && room)) {
@@ -313,18 +322,19 @@ static inline radixvm_done radixvm_log(const radixvm_machine *machine, radixvm_l
     return radixvm_log_held((radixvm_machine *)machine, entries ? entries : &no_entry, room);
 }
 
-/* ---- A machine that threads share. Each thread has a seat, which is one core's, and makes whole calls with it, side by
- * side with the others. What is proved of it, for every schedule of any threads: what a seat has seen is a beginning of the
- * machine's log, which is that of a plain page map (POSIX.1-2017 mmap, munmap, mprotect), and in which the seat's calls are
- * just those that it made, in order, with the replies that it got. There is no certificate to check, and the log need not
- * be kept. It isn't said that a call ever finds the machine free, nor in which order threads come to it.
+/* ---- Shared machines. Each thread has a seat, which makes whole calls of one core, beside the other threads.
+ * What is proved, for every schedule of any threads: the machine's log is that of a plain page map (POSIX.1-2017
+ * mmap, munmap, mprotect). What a seat has seen is a beginning of that log. The seat's calls in it are just the
+ * calls that it made, in its order, with the replies that it got. There is no certificate to check, and the log
+ * need not be kept. Not proved: that a call ever finds the machine free, and in which order threads get it.
  *
- * No function waits: where another seat is in a call, RADIXVM_BUSY is told, and nothing was done. A thread that dies inside a
- * call leaves all other seats RADIXVM_BUSY for ever, and nothing wrong; so don't cancel one there (pthread_cancel of the
- * asynchronous kind), and don't call from a signal handler. One call of a seat at a time, and no seat in two places.
- * Each function changes nothing where its status isn't RADIXVM_OK, but for RADIXVM_LOST, and for the first `count` calls of many. */
+ * No function waits. If another seat is in a call, the status is RADIXVM_BUSY, and nothing was done. If a thread
+ * dies inside a call, all other seats stay RADIXVM_BUSY for ever, and nothing is wrong. So don't cancel a thread
+ * there (asynchronous pthread_cancel), and don't call from a signal handler. A seat makes one call at a time, and
+ * stays in one place. If the status isn't RADIXVM_OK, nothing has changed, with two exceptions: RADIXVM_LOST, and
+ * the first `count` calls of a list. */
 
-/* As those below, but that no pointer may be null. */
+/* Like those below, but no pointer may be null. */
 uint32_t radixvm_share_held(radixvm_machine *machine, radixvm_seat *seat);
 uint32_t radixvm_split_seat(radixvm_seat *first, radixvm_seat *other);
 uint32_t radixvm_try_seat(radixvm_seat *seat, const radixvm_event *event, radixvm_outcome *outcome);
@@ -334,24 +344,27 @@ uint32_t radixvm_return_seat(radixvm_seat *first, radixvm_seat *other);
 uint32_t radixvm_unshare_seat(radixvm_seat *seat, radixvm_machine *machine);
 void radixvm_free_seat(radixvm_seat *seat);
 
-/* The machine goes from its place into the seat, which is core 0's. RADIXVM_OUT_OF_MEMORY, RADIXVM_EMPTY: there is no machine;
- * RADIXVM_IN_USE: there is a seat already; RADIXVM_IN_FLIGHT: a core has a call that isn't at its end. */
+/* Moves the machine from its place into a first seat, that of core 0. RADIXVM_EMPTY: there is no machine.
+ * RADIXVM_IN_USE: there is a seat already. RADIXVM_IN_FLIGHT: a core has a call that hasn't ended.
+ * RADIXVM_OUT_OF_MEMORY: malloc refused memory. */
 static inline uint32_t radixvm_share(radixvm_machine *machine, radixvm_seat *seat) {
     return machine && seat ? radixvm_share_held(machine, seat) : (uint32_t)RADIXVM_NULL;
 }
-/* One more seat, in an empty place, by core 0's. The first is the last core's, and so on down to core 1's; then RADIXVM_ABSENT. */
+/* Makes one more seat in an empty place, by means of core 0's seat. The first one is the last core's, the next that
+ * of the core before it, down to core 1; then the status is RADIXVM_ABSENT. */
 static inline uint32_t radixvm_seat_split(radixvm_seat *first, radixvm_seat *other) {
     return first && other ? radixvm_split_seat(first, other) : (uint32_t)RADIXVM_NULL;
 }
-/* A whole call of this seat's core, of the first six kinds; `event->core` isn't read. Its outcome is a reply, or RADIXVM_FULL:
- * cores that the call waits for take what they are told by the way, and a call that malloc refuses memory to is answered
- * RADIXVM_NO_MEMORY, so that none is left in flight. Or what the core does beside calls: RADIXVM_WALK, RADIXVM_EVICT,
- * RADIXVM_FLUSH, RADIXVM_REVIEW or RADIXVM_FOLD. Its outcome is RADIXVM_STEPPED, RADIXVM_IDLE or RADIXVM_FULL, and the log stays as
- * it is. RADIXVM_BAD_EVENT: another kind. RADIXVM_BUSY: another seat is in a call. */
+/* Makes a whole call of this seat's core: one of the first six kinds. `event->core` isn't read. The outcome is a
+ * reply or RADIXVM_FULL. The function itself makes the takes of the cores that the call waits for. If malloc refuses
+ * memory, the reply is RADIXVM_NO_MEMORY. So no call is left in flight.
+ * It also makes one step beside calls: RADIXVM_WALK, RADIXVM_EVICT, RADIXVM_FLUSH, RADIXVM_REVIEW or RADIXVM_FOLD. Its
+ * outcome is RADIXVM_STEPPED, RADIXVM_IDLE or RADIXVM_FULL, and the log is unchanged.
+ * RADIXVM_BAD_EVENT: another kind. RADIXVM_BUSY: another seat is in a call. */
 static inline uint32_t radixvm_seat_try(radixvm_seat *seat, const radixvm_event *event, radixvm_outcome *outcome) {
     return seat && event && outcome ? radixvm_try_seat(seat, event, outcome) : (uint32_t)RADIXVM_NULL;
 }
-/* Gives the processor's other thread, or another thread, its turn. */
+/* Pauses for a moment at first, and later lets another thread run. */
 static inline void radixvm_relax(uint32_t tries) {
 #if defined(__GNUC__) && (defined(__x86_64__) || defined(__i386__))
     if (tries < 20) {
@@ -367,8 +380,9 @@ static inline void radixvm_relax(uint32_t tries) {
     sched_yield();
 #endif
 }
-/* The same, tried until it isn't RADIXVM_BUSY: after 20 pauses other threads get their turn between tries. Under many threads
- * a mutex of your own round radixvm_seat_try waits in the system's order instead; nothing that is proved rests on it. */
+/* Like radixvm_seat_try, but it tries again while the status is RADIXVM_BUSY. After 20 pauses it lets other threads run
+ * between tries. With many threads, a mutex of your own around radixvm_seat_try gives the system's order instead; no
+ * proof depends on it. */
 static inline uint32_t radixvm_seat_call(radixvm_seat *seat, const radixvm_event *event, radixvm_outcome *outcome) {
     uint32_t tries = 0, status = radixvm_seat_try(seat, event, outcome);
     while (status == RADIXVM_BUSY) {
@@ -378,12 +392,12 @@ static inline uint32_t radixvm_seat_call(radixvm_seat *seat, const radixvm_event
     }
     return status;
 }
-/* Whole calls of this seat's core, of the first six kinds, one after another, with no call of another seat between them: it is
- * told once that the machine is free, which makes short calls cheaper. The first `count` were made, and outcomes[0] to
- * outcomes[count - 1] are their replies; all others are as they were. RADIXVM_OK: all were made. RADIXVM_BAD_EVENT: events[count] is
- * no call. RADIXVM_OUT_OF_MEMORY: malloc refused memory to the last that was made, which is answered RADIXVM_NO_MEMORY.
- * RADIXVM_AT_LIMIT: no more can be made. RADIXVM_BUSY: another seat is in a call, and none was made. Others wait as long as all of
- * them take. */
+/* Makes a list of whole calls of this seat's core, all of the first six kinds, with no call of another seat between
+ * them. The seat takes the machine once for all, which makes short calls cheaper; other seats wait for the whole list.
+ * The first `count` calls were made, and outcomes[0] to outcomes[count - 1] are their replies; all other outcomes are
+ * unchanged. RADIXVM_OK: all were made. RADIXVM_BAD_EVENT: events[count] isn't a call. RADIXVM_OUT_OF_MEMORY: malloc
+ * refused memory to the last call made, whose reply is RADIXVM_NO_MEMORY. RADIXVM_AT_LIMIT: no further call can be made.
+ * RADIXVM_BUSY: another seat is in a call, and none was made. */
 static inline radixvm_done radixvm_seat_try_calls(radixvm_seat *seat, const radixvm_event *events, size_t event_count,
     radixvm_outcome *outcomes, size_t room) {
     const radixvm_event no_event = {0, 0, 0, 0, 0, 0, 0, 0, 0};
@@ -394,7 +408,7 @@ static inline radixvm_done radixvm_seat_try_calls(radixvm_seat *seat, const radi
     }
     return radixvm_calls_seat(seat, events ? events : &no_event, event_count, outcomes ? outcomes : &no_outcome, room);
 }
-/* The same, tried until it isn't RADIXVM_BUSY, as radixvm_seat_call. */
+/* Like radixvm_seat_try_calls, but it tries again while the status is RADIXVM_BUSY, as radixvm_seat_call does. */
 static inline radixvm_done radixvm_seat_calls(radixvm_seat *seat, const radixvm_event *events, size_t event_count,
     radixvm_outcome *outcomes, size_t room) {
     uint32_t tries = 0;
@@ -406,26 +420,26 @@ static inline radixvm_done radixvm_seat_calls(radixvm_seat *seat, const radixvm_
     }
     return done;
 }
-/* The other seat's core is done; its place is left empty. Both seats are different ones of one machine, which can't be checked
- * for you. What the other seat was told is then among what radixvm_unshare says of the log. */
+/* Gives the other seat back, and leaves its place empty. Both must be different seats of one machine: the library
+ * can't check that. The proof about the log that radixvm_unshare returns then covers what the other seat was told. */
 static inline uint32_t radixvm_seat_return(radixvm_seat *first, radixvm_seat *other) {
     return first && other ? radixvm_return_seat(first, other) : (uint32_t)RADIXVM_NULL;
 }
-/* The machine goes from its last seat back into an empty place, with its log. RADIXVM_IN_USE: there is a machine, or another
- * seat is left. RADIXVM_LOST: a seat was freed whose thread had died inside a call, and the machine is gone with it. */
+/* Moves the machine, with its log, from its last seat back into an empty place. RADIXVM_IN_USE: the place is taken, or
+ * another seat is left. RADIXVM_LOST: a thread died inside a call, its seat was freed, and the machine is gone. */
 static inline uint32_t radixvm_unshare(radixvm_seat *seat, radixvm_machine *machine) {
     return seat && machine ? radixvm_unshare_seat(seat, machine) : (uint32_t)RADIXVM_NULL;
 }
-/* Lets the seat go, if there is one, and with the last one the machine. Nobody else gets its core. */
+/* Frees the seat, if there is one. The last seat frees the machine too. Nobody else gets this seat's core. */
 static inline void radixvm_seat_free(radixvm_seat *seat) {
     if (seat) radixvm_free_seat(seat);
 }
 
 /* ---- Texts. */
 
-/* What a status says, in words; "unknown status" where it is none. */
+/* A status in words; "unknown status" if it isn't one. */
 static inline const char *radixvm_text(uint32_t status) {
-    static const char *const texts[] = {"done", "the event is none: its kind, core, prot, flags or byte is out of range",
+    static const char *const texts[] = {"done", "not an event: its kind, core, prot, flags or byte is out of range",
         "malloc refused memory", "fewer outcomes than events", "a length is above 2^32",
         "a file has no such mode, or its bytes don't lie in the buffer", "a null pointer", "there is no machine or seat in its place",
         "there is one already, or the machine has another seat", "no such core or page", "the machine keeps no log",
@@ -435,7 +449,7 @@ static inline const char *radixvm_text(uint32_t status) {
         "the limit of calls or of events is reached"};
     return status < sizeof texts / sizeof texts[0] ? texts[status] : "unknown status";
 }
-/* What the kind of an outcome says, in words; "unknown outcome" where it is none. */
+/* The kind of an outcome in words; "unknown outcome" if it isn't one. */
 static inline const char *radixvm_outcome_text(uint32_t kind) {
     static const char *const texts[] = {"unknown outcome", "a step was made", "waits for a core that holds a slot",
         "waits for cores that are to take a message", "not possible now", "a limit is reached", "mapped", "done", "a byte",

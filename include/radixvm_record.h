@@ -1,33 +1,34 @@
-/* RadixVM, verified: a recorder for tests of kernels, hypervisors and unikernels. It records the calls of threads on one address
- * space, which may overlap, and writes them as a history that `radixvm audit --overlapping` judges: is there an order of the calls
- * in which a plain page map gives their replies? One header, in C11 or C++17, to be included in one file of a program. It proves
- * nothing: what it writes is believed by whoever judges it.
+/* RadixVM, verified: a recorder for tests of kernels, hypervisors and unikernels. It records the calls that threads make on one
+ * address space. The calls may overlap. It writes them as a history that `radixvm audit --overlapping` judges: is there an order of
+ * the calls in which a plain page map gives these replies? It is one header, in C11 or C++17, for one file of a program. Nothing of
+ * it is proved: the judge believes what it writes.
  *
  *     #define _GNU_SOURCE                                  where the compiler has not (g++ has)
  *     #include "radixvm_record.h"
- *     rv_start();                                          once: faults of the accesses below are caught
- *     struct rv_ring *mine = rv_thread(0, 100000);         in each thread: core 0 makes at most so many calls
+ *     rv_start();                                          once: it catches the faults of the accesses below
+ *     struct rv_ring *mine = rv_thread(0, 100000);         in each thread: core 0, at most 100000 calls
  *     rv_mmap(mine, at, 4096, PROT_READ | PROT_WRITE, MAP_PRIVATE | MAP_ANONYMOUS | MAP_FIXED, -1, 0, 0);
  *     rv_store(mine, at, 41);  rv_load(mine, at, &byte);   in place of the calls and accesses themselves
  *     rv_head(stdout, 4);  rv_write(stdout);               at the end, when no thread makes calls any more
  *
- * Each line is `BEGIN END cC! REQUEST = REPLY`, with a stamp from before the call and one from behind it. Stamps are too wide where a
- * thread is stopped between a call and its stamp: then a judge sees less. They must never be too narrow, since then it accuses wrongly.
+ * Each line is `BEGIN END cC! REQUEST = REPLY`. BEGIN is a stamp taken before the call, END one taken after it. If a thread is stopped
+ * between a call and its stamp, the stamps are wider than the call, and the judge sees less. They are never narrower: then the judge
+ * would accuse wrongly.
  *
- * Stamps. By default they are numbers of one counter that all threads add to: no belief in clocks is needed, and on x86-64 and Arm the
- * addition is a fence. With RV_TSC defined they are the processor's time stamps (rdtscp), where those of all processors agree
- * (constant_tsc, nonstop_tsc). A store is in the processor's store buffer when its instruction ends, and no other processor sees it
- * yet: so with RV_TSC a fence stands before a store's end stamp. Without it innocent kernels are accused. RV_STAMP() may be defined as
- * another clock, which never goes back from one thread to another, and is a fence.
+ * Stamps. By default they are numbers of one counter that all threads increment. Then nobody has to believe in clocks, and on x86-64
+ * and Arm the increment is a fence. With RV_TSC defined they are the processor's time stamps (rdtscp); use it only if those of all
+ * processors agree (constant_tsc, nonstop_tsc). When a store instruction ends, its byte may still be in the store buffer, where no
+ * other processor sees it. So with RV_TSC a fence stands before a store's end stamp. Without the fence innocent kernels are accused.
+ * You may define RV_STAMP() as another clock. It must be a fence, and never go back from one thread to another.
  *
- * A full ring ends the record. A judge needs every call from the first on: one that isn't recorded could be seen by others that are. So
- * where a ring is full no further call is recorded, of no thread, and none is made before those that are being recorded have ended. The
- * calls go on being made. rv_write tells it, by a comment and by what it returns.
+ * A full ring ends the record, for all threads. A judge needs every call from the first on, since recorded calls can see the effect of
+ * one that isn't recorded. So the calls that are being recorded end first, and then further calls are made and not recorded. rv_write
+ * says so in a comment and by what it returns.
  *
- * Where there are no signals (a unikernel, a simulator, a guest's exits) call rv_begin and rv_end around each call, and rv_line for its
- * text. With RV_FREESTANDING defined nothing of a C library is used, and rings are joined by rv_join.
+ * Without signals (in a unikernel, a simulator, or a hypervisor) call rv_begin and rv_end around each call, and rv_line for its text.
+ * With RV_FREESTANDING defined the header uses no C library, and rv_join joins the rings.
  *
- * Units: addresses, lengths and offsets are bytes. Cores are 0 to 63, each the calls of one thread at a time. */
+ * Units: addresses, lengths and offsets are in bytes. Cores are 0 to 63, and one thread at a time makes the calls of a core. */
 #ifndef RADIXVM_RECORD_H
 #define RADIXVM_RECORD_H
 #include <stddef.h>
@@ -50,8 +51,8 @@
 
 enum rv_kind { RV_MMAP, RV_MUNMAP, RV_MPROTECT, RV_LOAD, RV_STORE, RV_FETCH };
 
-/* What a call was answered. RV_ADDRESS and RV_BYTE have a value. RV_NOFRAME and RV_NOMEMORY are of a kernel that found no memory for a
- * call that it would have made. RV_OTHER is an error that a plain page map never gives: its line is none that can be judged. */
+/* The reply to a call. RV_ADDRESS and RV_BYTE have a value. RV_NOFRAME and RV_NOMEMORY say that the kernel had no memory for a call that
+ * it would have made otherwise. RV_OTHER is an error that a plain page map never gives; no judge reads its line. */
 enum rv_told {
     RV_ADDRESS, RV_DONE, RV_BYTE, RV_MAPERR, RV_ACCERR, RV_BUS, RV_EINVAL, RV_ENOMEM, RV_EBADF, RV_EOVERFLOW, RV_EACCES, RV_NOFRAME,
     RV_NOMEMORY, RV_OTHER
@@ -61,7 +62,7 @@ enum rv_told {
 enum { RV_READ = 1, RV_WRITE = 2, RV_EXEC = 4 };
 enum { RV_PRIVATE = 1, RV_SHARED = 2, RV_FIXED = 4, RV_ANONYMOUS = 8 };
 
-/* A call. What its kind doesn't have isn't read: length of mmap, munmap and mprotect; rights of mmap and mprotect; flags, file and offset
+/* A call. Only the fields of its kind are read: length of mmap, munmap and mprotect; rights of mmap and mprotect; flags, file and offset
  * of mmap; byte of a store. */
 struct rv_call {
     uint64_t begin, end, address, length, offset, value;
@@ -121,21 +122,21 @@ static inline void rv_relax(void) { sched_yield(); }
 
 /* ---- the record */
 
-/* Joins a ring of `room` calls, the caller's, to the record, for a core that makes no call yet. */
+/* Adds a ring to the record. It has `room` calls, belongs to the caller, and is for a core that makes no call yet. */
 static inline void rv_join(struct rv_ring *ring, struct rv_call *calls, uint64_t room, int core) {
     ring->calls = calls, ring->room = room, ring->count = 0, ring->core = core, ring->busy = 0;
     ring->next = __atomic_load_n(&rv_rings, __ATOMIC_SEQ_CST);
     while (!__atomic_compare_exchange_n(&rv_rings, &ring->next, ring, 0, __ATOMIC_SEQ_CST, __ATOMIC_SEQ_CST)) {}
 }
 
-/* Ends the record, and waits until no call is being recorded: what the caller does from here on no recorded call has seen. */
+/* Ends the record, and waits until no call is being recorded. No recorded call has seen what the caller does afterwards. */
 static inline void rv_stop(void) {
     __atomic_store_n(&rv_ended, 1, __ATOMIC_SEQ_CST);
     for (struct rv_ring *ring = __atomic_load_n(&rv_rings, __ATOMIC_SEQ_CST); ring; ring = ring->next)
         while (__atomic_load_n(&ring->busy, __ATOMIC_SEQ_CST)) rv_relax();
 }
 
-/* Begins a call of the ring's core. Null: it isn't recorded, since the record has ended, and may be made all the same. */
+/* Begins a call of the ring's core. Null: the record has ended, so the call isn't recorded; make it all the same. */
 static inline struct rv_call *rv_begin(struct rv_ring *ring, struct rv_call call) {
     __atomic_store_n(&ring->busy, 1, __ATOMIC_SEQ_CST);
     if (ring->count == ring->room || __atomic_load_n(&rv_ended, __ATOMIC_SEQ_CST)) {
@@ -149,7 +150,7 @@ static inline struct rv_call *rv_begin(struct rv_ring *ring, struct rv_call call
     return recorded;
 }
 
-/* Ends the call that was begun, with its reply. Null is passed over. */
+/* Ends the call that was begun, with its reply. Does nothing if `call` is null. */
 static inline void rv_end(struct rv_ring *ring, struct rv_call *call, enum rv_told told, uint64_t value) {
     if (!call) return;
     if (call->kind == RV_STORE) rv_fence();
@@ -162,7 +163,7 @@ static inline void rv_end(struct rv_ring *ring, struct rv_call *call, enum rv_to
 
 /* ---- its text */
 
-/* What a call was answered, as a judge of histories reads it; NULL where it has a value, or is RV_OTHER. */
+/* A reply as text, as a judge of histories reads it; NULL if it has a value or is RV_OTHER. */
 static inline const char *rv_told_text(unsigned told) {
     static const char *const texts[] = {NULL,     "done",  "",          "segv maperr", "segv accerr", "bus",      "einval",
                                         "enomem", "ebadf", "eoverflow", "eacces",      "noframe",     "nomemory"};
@@ -185,10 +186,10 @@ static inline char *rv_put_number(char *to, uint64_t number, unsigned base) {
 
 static inline char *rv_put_address(char *to, uint64_t number) { return rv_put_number(rv_put(to, " 0x"), number, 16); }
 
-/* How long a line is at most, with its newline and the zero behind it. */
+/* The longest line, with its newline and the final zero. */
 enum { RV_LINE = 256 };
 
-/* The line of a call of a core, with a newline and a zero behind it. */
+/* Writes the line of a core's call, with a newline and a final zero. */
 static inline void rv_line(char text[RV_LINE], int core, const struct rv_call *call) {
     static const char *const names[] = {"mmap", "munmap", "mprotect", "load", "store", "fetch"};
     char *to = rv_put_number(text, call->begin, 10);
@@ -217,7 +218,8 @@ static inline void rv_line(char text[RV_LINE], int core, const struct rv_call *c
 
 #ifndef RV_FREESTANDING
 
-/* Joins a new ring of `room` calls, for a core that makes no call yet; NULL for want of memory. It is never freed. */
+/* Makes a ring of `room` calls for a core that makes no call yet, and adds it to the record. NULL: there was no memory. It is never
+ * freed. */
 static inline struct rv_ring *rv_thread(int core, uint64_t room) {
     struct rv_ring *ring = (struct rv_ring *)calloc(1, sizeof *ring);
     struct rv_call *calls = (struct rv_call *)calloc((size_t)room, sizeof *calls);
@@ -231,7 +233,7 @@ static inline struct rv_ring *rv_thread(int core, uint64_t room) {
     return ring;
 }
 
-/* What a text begins with; lines `file N MODE LEN SEED` come behind it, the caller's. */
+/* Writes the first line of a text. The caller writes its lines `file N MODE LEN SEED` next. */
 static inline void rv_head(FILE *file, int cores) { fprintf(file, "vm %d 65536\n", cores); }
 
 /* Writes all lines, when no thread makes calls any more. Returns 0; 1 where a full ring ended the record before the last call, which a
@@ -277,7 +279,7 @@ static inline void *rv_mmap(struct rv_ring *ring, void *address, size_t length, 
     return mapped;
 }
 
-/* munmap or mprotect has returned this. */
+/* The reply for what munmap or mprotect returned. */
 static inline int rv_returned(struct rv_ring *ring, struct rv_call *recorded, int failed) {
     int error = errno;
     rv_end(ring, recorded, failed ? rv_error(error) : RV_DONE, (uint64_t)error);
@@ -295,11 +297,11 @@ static inline int rv_mprotect(struct rv_ring *ring, void *address, size_t length
     return rv_returned(ring, recorded, mprotect(address, length, prot));
 }
 
-/* ---- accesses of this processor, whose faults are caught */
+/* ---- accesses of this processor, with their faults caught */
 
 #if defined __x86_64__ && defined __linux__
 
-/* Each access that may fault, and where it goes on: two addresses an item. */
+/* Each access that may fault, and the address at which to go on: two addresses an item. */
 #ifdef __cplusplus
 extern "C" {
 #endif
@@ -315,7 +317,7 @@ extern const uint64_t __stop_rv_accesses[] __attribute__((weak, visibility("hidd
 static __thread uint64_t rv_fetched __attribute__((unused));
 static const uint64_t rv_nowhere __attribute__((unused)) = 8;
 
-/* A byte is loaded from the address. */
+/* Loads a byte from the address. */
 static inline enum rv_told rv_try_load(const void *address, uint8_t *byte) {
     uint32_t value = 0;
     uint64_t told = RV_BYTE;
@@ -324,7 +326,7 @@ static inline enum rv_told rv_try_load(const void *address, uint8_t *byte) {
     return (enum rv_told)told;
 }
 
-/* A byte is stored to it. */
+/* Stores a byte to the address. */
 static inline enum rv_told rv_try_store(void *address, uint8_t byte) {
     uint64_t told = RV_DONE;
     __asm__ volatile(RV_ACCESS("movb %1, (%2)") : "+d"(told) : "q"(byte), "r"(address) : "memory");
