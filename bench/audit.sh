@@ -1,6 +1,7 @@
 #!/usr/bin/env bash
 # Judges the replies of random traces (1,000 where left out) by `audit`, beside bench/plain_map.py (bench/audit_traces.py says how), and then
-# measures `audit` beside `run` on the same million lines: the median of five, one after the other in turn.
+# measures `audit` beside `run` on the same million lines: the median of five, one after the other in turn. At last bench/overlapping.py
+# judges histories of 4 and of 8 threads, and says how many calls a second.
 # Usage: bench/audit.sh [TRACES [SEED]]
 set -euo pipefail
 cd "$(dirname "$0")/.."
@@ -18,4 +19,5 @@ done > "$work/all"
 cat "$work/out"
 median() { cut -d " " -f "$1" "$work/all" | sort -n | sed -n 3p; }
 echo "$(median 1) $(median 2)" | awk '{ printf "a million lines: run %.2f s, audit %.2f s, %.2f of it\n", $1, $2, $2 / $1 }'
+RADIXVM_PROGRAM=$program python3 bench/overlapping.py 100000 1
 describe_machine

@@ -1,7 +1,8 @@
 #!/usr/bin/env python3
 """Sends traces through `run --echo | audit`: those of examples/, and random ones of each kind. None may be called illegal or a bad text, since their
-replies are those of a machine that is proved; a text without calls that overlap and without a store that had nomemory has to be legal. One reply in
-each random trace is then changed to one that no page map gives there: no such text may be called legal.
+replies are those of a machine that is proved; a text without calls that overlap and without a store that had nomemory has to be legal, and with
+--overlapping any text at whose end no call waits. One reply in each random trace is then changed to one that no page map gives there: no such text
+may be called legal.
 Usage: echo_audit.py PROGRAM [TRACES [SEED]] (300 of each kind, and 0)"""
 import collections
 import pathlib
@@ -83,6 +84,22 @@ def is_plain(lines):
     return True
 
 
+def is_cut(lines):
+    """Whether the text ends while a call waits, which may have taken effect: then the others need not have an order."""
+    waiting = set()
+    for said in lines:
+        front, sign, text = said.rpartition(" = ")
+        if not sign or text in ("idle", "full") or front.startswith("fold"):
+            continue
+        words = front.split()
+        core, event = words[0].rstrip("!"), words[1]
+        if words[0].endswith("!") and text.startswith(("wait", "stuck")) or event == "call":
+            waiting.add(core)
+        elif event in ("finish", "go", "giveup", "frame", "guess", "whole") and not text.startswith(("wait", "step", "stuck")):
+            waiting.discard(core)
+    return bool(waiting)
+
+
 def changed(rng, lines):
     """The lines with a byte, or a mapping's address, that no page map gives: none, if there is neither."""
     at = [i for i, said in enumerate(lines) if said.rpartition(" = ")[2].isdigit() or said.rpartition(" = ")[2].startswith("0x")]
@@ -105,9 +122,13 @@ def main():
             text = "\n".join(lines) + "\n"
             said = run(["audit", "--any-place"], text, (0,) if is_plain(lines) else (0, 3))
             counts[kind, said.split()[0], "without memory" in said] += 1
+            ordered = run(["audit", "--overlapping", "--any-place"], text, (0, 3) if is_cut(lines) else (0,))
+            counts[kind, "by an order: " + ordered.split()[0], False] += 1
             other = changed(rng, lines)
             if other:
-                counts[kind, "changed: " + run(["audit", "--any-place"], "\n".join(other) + "\n", (1, 3)).split()[0], False] += 1
+                text = "\n".join(other) + "\n"
+                counts[kind, "changed: " + run(["audit", "--any-place"], text, (1, 3)).split()[0], False] += 1
+                counts[kind, "changed, by an order: " + run(["audit", "--overlapping", "--any-place"], text, (3,)).split()[0], False] += 1
     for (kind, verdict, lacks), count in sorted(counts.items()):
         print(f"{kind}: {verdict}{', some without memory' if lacks else ''}: {count}")
 

@@ -2,7 +2,9 @@
    unmap and protect a few pages, and load, store and fetch bytes there. At the repository's root:
    cc -O2 -pthread -I include -o /tmp/kernel examples/kernel/kernel.c && /tmp/kernel 4 100000 | ./radixvm audit --overlapping
    usage: kernel [THREADS [CALLS [PAGES [MOST [SEED]]]]]: each thread makes so many calls, on at most MOST pages of PAGES at once (4, 100000,
-   8, 1 and 1 where they are left out). Where MOST is above 1 a kernel may show a range half changed: POSIX allows it, a page map doesn't. */
+   8, 0 and 1 where they are left out). 0 stands for single pages, which are mapped anew and protected, and never unmapped. POSIX allows a
+   kernel what no page map does: to show a range half changed, where MOST is above 1; and, where it is 1, to serve one thread's access to a
+   page that is being unmapped after another's was refused. Linux does both, the second once in a million calls or two. */
 #ifndef _GNU_SOURCE
 #define _GNU_SOURCE
 #endif
@@ -13,7 +15,7 @@
 
 enum { PAGE = 4096, FILE_PAGES = 3, FILE_FIRST = 0xc3 };
 
-static uint64_t calls = 100000, pages = 8, most = 1, seed = 1;
+static uint64_t calls = 100000, pages = 8, most = 0, seed = 1;
 static uint8_t *base;
 static int fd;
 static int waiting;
@@ -49,11 +51,11 @@ static void touch(struct core *core, uint8_t *page) {
 static void change(struct core *core) {
     static const int rights[] = {PROT_NONE, PROT_READ, PROT_READ | PROT_WRITE, PROT_READ | PROT_WRITE, PROT_READ | PROT_EXEC,
                                  PROT_READ | PROT_WRITE | PROT_EXEC};
-    uint64_t count = 1 + below(core, most), page = below(core, pages - count + 1);
+    uint64_t count = most ? 1 + below(core, most) : 1, page = below(core, pages - count + 1);
     uint8_t *at = base + page * PAGE;
     size_t length = (size_t)count * PAGE;
     int prot = rights[below(core, 6)];
-    switch (below(core, 5)) {
+    switch (most ? below(core, 5) : 1 + below(core, 4)) {
     case 0: rv_munmap(core->ring, at, length); break;
     case 1: rv_mprotect(core->ring, at, length, prot); break;
     case 2: /* no page past the file's end: where one may not be executed, Linux answers a fetch by SIGBUS, and a page map by SIGSEGV */
@@ -100,7 +102,7 @@ int main(int argc, char **argv) {
     uint64_t threads = 4, *numbers[] = {&threads, &calls, &pages, &most, &seed};
     static struct core cores[64];
     for (int i = 1; i < argc && i < 6; i++) *numbers[i - 1] = strtoull(argv[i], NULL, 10);
-    if (threads < 1 || threads > 64 || calls < 1 || pages < 1 || most < 1 || most > pages) return 2;
+    if (threads < 1 || threads > 64 || calls < 1 || pages < 1 || most > pages) return 2;
     if (make_file() || find_base() || rv_start()) return 3;
     waiting = (int)threads;
     for (uint64_t i = 0; i < threads; i++) {

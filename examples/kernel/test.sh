@@ -34,5 +34,5 @@ for compiler in "gcc -std=c11" "clang -std=c11" "g++ -std=c++17 -x c++" "clang++
     done
 done
 gcc -std=c11 -O2 $warnings -pthread -I "$top/include" "$top/examples/kernel/kernel.c" -o "$work/kernel"
-"$work/kernel" 4 "$calls" 8 1 > "$work/history"
+"$work/kernel" 4 "$calls" 8 0 > "$work/history"
 if "$program" help audit | grep -q overlapping; then "$program" audit --overlapping "$work/history"; fi

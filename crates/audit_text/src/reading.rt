@@ -242,7 +242,7 @@ fn if_printable(said: Said, line: &[u8]) -> Option<Said>
 }
 
 /// What the line says; `None` where it says nothing that an audited text may have at any place.
-pub(crate) fn read_said(line: &[u8]) -> Option<Said>
+pub fn read_said(line: &[u8]) -> Option<Said>
     ensures some { IfSome result (λ said. Tells said line.now) }
     ensures none { IfNone result ((said : Said) → Tells said line.now → ⊥) }
 {

@@ -1,4 +1,6 @@
 //! The search itself.
+ghost use Rattle.std.specs.Prelude.{IfOk, length};
+ghost use Rattle.order_search.specs.Founds.{IsFound};
 
 use crate::arena::{Arena, Spot, mixed};
 use crate::configs::Config;
@@ -6,17 +8,17 @@ use crate::seen::Seen;
 use crate::trail::Trail;
 use crate::under::{Under, has_copies};
 use backing::Objects;
-use orders::{Item, Timed};
+use orders::{Item, Timed, each_once};
 use std::alloc::Allocator;
 use vm_base::{CoreId, CoreSet, NoMemory};
 
 /// How many configurations may come into question at one end of a call.
 pub const LIMIT: usize = 300_000;
 
-/// What a search comes to. Nothing of it is claimed.
+/// What a search comes to. That it is right isn't claimed.
 #[derive(Debug, Drop)]
 pub enum Found<A: Allocator> {
-    /// An order of the calls.
+    /// An order of the calls: each of them once, and copies before them.
     Order(Vec<Item, A>),
     /// No order of the calls so far gets to the end of this one.
     Stuck(usize),
@@ -122,12 +124,7 @@ impl<'a, A: Allocator + Clone + Drop> Search<'a, A> {
         let Some(timed) = history.get(call).copied() else {
             return Ok(());
         };
-        let under = Under::new(
-            self.objects,
-            item_number(call),
-            &timed.call,
-            self.has_copies,
-        );
+        let under = Under::new(self.objects, item_number(call), &timed, self.has_copies);
         if !under.is_late() {
             for at in 0..self.configs.len() {
                 self.settle(at, &under)?;
@@ -302,6 +299,41 @@ impl<'a, A: Allocator + Clone + Drop> Search<'a, A> {
         }
     }
 
+    // The call under way that ends first, if it ends before this time, or if none is given.
+    fn first_end(&self, time: Option<u64>) -> Option<Under> {
+        let mut first = 0usize;
+        let mut end = u64::MAX;
+        for at in 0..self.under.len() {
+            if self.under[at].end < end {
+                first = at;
+                end = self.under[at].end;
+            }
+        }
+        let found = self.under.get(first).copied()?;
+        match time {
+            Some(time) if found.end >= time => None,
+            _ => Some(found),
+        }
+    }
+
+    // The calls end that end before this time, or all, if none is given. It tells the first that none of them reaches.
+    fn end_all(
+        &mut self,
+        alloc: &A,
+        time: Option<u64>,
+    ) -> Result<Option<(Reach, usize)>, NoMemory> {
+        for _ in 0..self.under.len() {
+            let Some(under) = self.first_end(time) else {
+                return Ok(None);
+            };
+            let reach = self.end(alloc, under.core)?;
+            if reach != Reach::Reached {
+                return Ok(Some((reach, under.number as usize)));
+            }
+        }
+        Ok(None)
+    }
+
     // A call ends.
     fn end(&mut self, alloc: &A, core: CoreId) -> Result<Reach, NoMemory> {
         if !self.is_done(core) {
@@ -329,45 +361,74 @@ impl<'a, A: Allocator + Clone + Drop> Search<'a, A> {
     }
 }
 
-// The begins and ends of calls by their times; at one time the begins come first. An end has the number of its call and that of all calls.
-fn events<A: Allocator + Clone>(
+// The begins of calls by their times.
+fn begins<A: Allocator + Clone>(
     alloc: &A,
     history: &[Timed],
 ) -> Result<Vec<(u64, usize), A>, NoMemory> {
-    let count = history.len();
-    let mut events = Vec::new(alloc.clone()?);
-    for call in 0..count {
-        events.push((history[call].begin, call))?;
-        events.push((history[call].end, count.saturating_add(call)))?;
+    let mut begins = Vec::with_capacity(alloc.clone()?, history.len())?;
+    for call in 0..history.len() {
+        begins.push((history[call].begin, call))?;
     }
-    events.sort_unstable();
-    Ok(events)
+    begins.sort_unstable();
+    Ok(begins)
 }
 
-/// Searches an order of the calls of a space with these files, from the map on in which nothing is mapped.
+// What the search comes to that went no further than a call of so many.
+fn stopped<A: Allocator>(count: usize, reach: Reach, call: usize) -> Result<Found<A>, NoMemory>
+    ensures { IfOk result (λ found. IsFound count found) }
+{
+    if call >= count {
+        // (this never comes, since it is one of the calls)
+        return Err(NoMemory);
+    }
+    match reach {
+        Reach::Full => Ok(Found::Full(call)),
+        Reach::Stuck | Reach::Reached => Ok(Found::Stuck(call)),
+    }
+}
+
+// What the search comes to that led to these items: an order, if they have each of so many calls once.
+fn found_by<A: Allocator + Clone + Drop>(
+    alloc: &A,
+    count: usize,
+    items: Vec<Item, A>,
+) -> Result<Found<A>, NoMemory>
+    ensures { IfOk result (λ found. IsFound count found) }
+{
+    let mut marks = vec![in alloc.clone()?; false; count]?;
+    if each_once(&mut marks, items.as_slice()) {
+        return Ok(Found::Order(items));
+    }
+    // (neither comes, since all calls have taken effect at their ends)
+    if count == 0 {
+        return Err(NoMemory);
+    }
+    Ok(Found::Stuck(count - 1))
+}
+
+/// Searches an order of the calls of a space with these files, from the map on in which nothing is mapped. The items that it answers
+/// have each call once; whether they are an order is the caller's to judge. `Err` says that memory was wanting.
 pub fn find_order<A: Allocator + Clone + Drop>(
     alloc: &A,
     objects: &Objects<A>,
     any_place: bool,
     history: &[Timed],
-) -> Result<Found<A>, NoMemory> {
-    let events = events(alloc, history)?;
+) -> Result<Found<A>, NoMemory>
+    ensures { IfOk result (λ found. IsFound (length history.now) found) }
+{
+    let begins = begins(alloc, history)?;
     let mut search = Search::new(alloc, objects, any_place, has_copies(history))?;
-    for at in 0..events.len() {
-        let (_, code) = events[at];
-        if code < history.len() {
-            search.begin(history, code)?;
-            continue;
+    for at in 0..begins.len() {
+        let (begin, call) = begins[at];
+        // at one time begins come before ends
+        if let Some((reach, call)) = search.end_all(alloc, Some(begin))? {
+            return stopped(history.len(), reach, call);
         }
-        let call = code - history.len();
-        let Some(timed) = history.get(call).copied() else {
-            return Ok(Found::Stuck(call));
-        };
-        match search.end(alloc, timed.call.core)? {
-            Reach::Reached => {}
-            Reach::Stuck => return Ok(Found::Stuck(call)),
-            Reach::Full => return Ok(Found::Full(call)),
-        }
+        search.begin(history, call)?;
     }
-    Ok(Found::Order(search.into_order(alloc)?))
+    if let Some((reach, call)) = search.end_all(alloc, None)? {
+        return stopped(history.len(), reach, call);
+    }
+    found_by(alloc, history.len(), search.into_order(alloc)?)
 }

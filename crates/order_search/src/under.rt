@@ -1,6 +1,5 @@
 //! Calls that are under way.
 
-use audit::Call;
 use backing::Objects;
 use orders::Timed;
 use slot_lock::Plan;
@@ -13,6 +12,8 @@ use vm_calls::check;
 pub(crate) struct Under {
     pub number: u32,
     pub core: CoreId,
+    /// A time at which it has taken effect.
+    pub end: u64,
     pub plan: Result<Plan, Reply>,
     pub reply: Reply,
     /// The page that it stores to, if it is a store, and pages may get copies.
@@ -24,9 +25,10 @@ impl Under {
     pub fn new<A: Allocator>(
         objects: &Objects<A>,
         number: u32,
-        call: &Call,
+        timed: &Timed,
         has_copies: bool,
     ) -> Under {
+        let call = timed.call;
         let stores_to = match call.request {
             Request::Store { addr, .. } if has_copies => Some(page_of(addr)),
             _ => None,
@@ -34,15 +36,16 @@ impl Under {
         Under {
             number,
             core: call.core,
+            end: timed.end,
             plan: check(objects, call.core, call.request),
             reply: call.reply,
             stores_to,
         }
     }
 
-    /// Tells whether its reply says that it changed something.
+    /// Tells whether its reply says that it changed something. A call that is answered at its check changes nothing.
     pub fn changes(&self) -> bool {
-        matches!(self.reply, Reply::Done | Reply::Mapped(_))
+        self.plan.is_ok() && matches!(self.reply, Reply::Done | Reply::Mapped(_))
     }
 
     /// Tells whether something may be lost where it takes effect as soon as it can: it changes something, or its page may get a copy before.

@@ -9,3 +9,4 @@ mod timing;
 
 pub use following::follow;
 pub use history::{Item, Timed};
+pub use timing::each_once;

@@ -1,3 +1,4 @@
+pub mod EventLemmas
 pub mod LineLemmas
 pub mod ReadLemmas
 pub mod PlaceLemmas

@@ -1,7 +1,7 @@
 -- One line after another.
-use Rattle.std.proofs.Common.{◌≡◌, inl, inr, ℕ, zero, suc, ◌+◌, ◌<◌, ◌≤◌, cond, Bool, true, false, List, [], ◌∷◌, ◌++◌, length, slice_get, Option, Some, None}
+use Rattle.std.proofs.Common.{◌≡◌, ◌⊎◌, inl, inr, ℕ, zero, suc, ◌+◌, ◌<◌, ◌≤◌, cond, get_or, is_some, set, Bool, true, false, List, [], ◌∷◌, ◌++◌, length, slice_get, Option, Some, None}
 use Rattle.std.proofs.Common.{append_assoc, append-nil, length-append, arith, refl, sym, ap, ◌∙◌, subst}
-use Rattle.std.specs.Prelude.{◌&&◌, nat_lt, option_map}
+use Rattle.std.specs.Prelude.{◌&&◌, nat_lt, option_map, replicate}
 use Rattle.audit_text.specs.Heard.{Declared}
 use Rattle.std.proofs.lemmas.Bool.Decides.{nat_tests}
 use Rattle.trace_io.specs.declared.fault.IoFault.TheVariants.{NoMemory}
@@ -10,13 +10,17 @@ use Rattle.audit_text.specs.declared.reading.Said.TheVariants as Says
 use Rattle.orders.specs.declared.history.Timed.{Timed}
 use Rattle.orders_text.specs.Apart.{AreApart, AreForward, DoOverlap}
 use Rattle.orders_text.specs.Faults.{IsAt, IsAtFault, IsPlace, LacksSpace}
-use Rattle.orders_text.specs.History.{IsHistory, Leads, Read, declared_after, part_after, read_after, unread, with_declared}
-use Rattle.orders_text.specs.Lines.{Tells}
+use Rattle.orders_text.specs.History.{IsHistory, Leads, Read, begun, between, by_lines, declared_after, ended, event_after, may_event, may_stamp}
+use Rattle.orders_text.specs.History.{part_after, read_after, unread, with_call, with_declared, with_waiting}
+use Rattle.orders_text.specs.Lines.{Tells, call_to}
 use Rattle.orders_text.specs.Steps.{Refuses, SaysNothing, TellsOverlap}
+use Rattle.orders_text.specs.declared.clock.Begun.{Begun}
+use Rattle.orders_text.specs.declared.clock.Clock.{Clock}
+use Rattle.orders_text.specs.declared.clock.Clock.TheVariants.{Unset, Stamps, Lines}
 use Rattle.orders_text.specs.declared.faults.HistoryFault.{HistoryFault}
 use Rattle.orders_text.specs.declared.faults.HistoryFault.TheVariants.{BadLine, TooLong, NoVmLine, Backwards, Overlap, Io}
 use Rattle.orders_text.specs.declared.lines.Told.{Told}
-use Rattle.orders_text.specs.declared.lines.Told.TheVariants.{Part, Timed as TimedCall}
+use Rattle.orders_text.specs.declared.lines.Told.TheVariants.{Part, Timed as TimedCall, Event}
 
 leads_more : (n : ℕ) (a : Read) (ls : List (List ℕ)) (m t : Read) (l : List ℕ) (told : Told) → Leads n a ls m → length l ≤ 512 → Tells told l
     → read_after (n + length ls) m told ≡ Some t → Leads n a (ls ++ l ∷ []) t
@@ -96,7 +100,7 @@ refused_here lines rest more n r line (TimedCall c) (Backwards k) p e tells (is,
   tells = tells;
   backwards = backwards;
 }
-refused_here lines rest more n r line (Part said) (Backwards k) p e tells h = absurd h.1
+refused_here lines rest more n r line told (Backwards k) p e tells h = absurd h.1
 refused_here lines rest more n r line told (TooLong k) p e tells h = absurd h
 refused_here lines rest more n r line told (Overlap k m) p e tells h = absurd h
 refused_here lines rest more n r line told (Io NoMemory) p e tells h = tt
@@ -124,34 +128,119 @@ one_more h c all forward i a is = go h i all is
     go (x ∷ xs) zero all is = all zero a is
     go (x ∷ xs) (suc i) all is = go xs i (λ j b e. all (suc j) b e) is
 
-step_forward : (n : ℕ) (r q : Read) (told : Told) → read_after n r told ≡ Some q → AreForward r.calls → AreForward q.calls
-step_forward n r q (TimedCall c) h all = by r.declared.has_space (nat_lt c.begin c.end) refl h
+-- in front of this line calls have begun that are told, below their ends, or wait
+pub record IsTimely (n : ℕ) (r : Read) : Type 0 where
+  pub forward : AreForward r.calls
+  pub before : (core : ℕ) (b : Begun) → begun r core ≡ Some b → b.line < n
+
+later : (n : ℕ) (r : Read) → IsTimely n r → IsTimely (suc n) r
+later n r t = record { forward = t.forward; before = λ core b e. let less = t.before core b e in omega (arith, less) }
+
+-- with another call or none for one core
+set_either : {X : Type 0} (xs : List X) (i j : ℕ) (x d : X) → (get_or (set xs i x) j d ≡ x) ⊎ (get_or (set xs i x) j d ≡ get_or xs j d)
+set_either [] i j x d = inr refl
+set_either (y ∷ ys) zero zero x d = inl refl
+set_either (y ∷ ys) zero (suc j) x d = inr refl
+set_either (y ∷ ys) (suc i) zero x d = inr refl
+set_either (y ∷ ys) (suc i) (suc j) x d = set_either ys i j x d
+
+one_waits : (n : ℕ) (r : Read) (core : ℕ) (o : Option Begun) → ((b : Begun) → o ≡ Some b → b.line < suc n) → IsTimely n r
+    → IsTimely (suc n) (with_waiting r core o)
+one_waits n r core o low t = record {
+  forward = t.forward;
+  before = λ k b e. go k b e (set_either r.waiting core k o None);
+}
   where
-    by : (s b : Bool) → nat_lt c.begin c.end ≡ b
-        → cond (s && b) (Some (record { declared = r.declared; calls = r.calls ++ c ∷ []; lines = r.lines ++ n ∷ [] })) None ≡ Some q → AreForward q.calls
-    by true true less e =
+    go : (k : ℕ) (b : Begun) → get_or (set r.waiting core o) k None ≡ Some b
+        → (get_or (set r.waiting core o) k None ≡ o) ⊎ (get_or (set r.waiting core o) k None ≡ get_or r.waiting k None) → b.line < suc n
+    go k b e (inl is) = low b (sym is ∙ e)
+    go k b e (inr is) = let less = t.before k b (sym is ∙ e) in omega (arith, less)
+
+one_called : (clock : Clock) (number n : ℕ) (r : Read) (c : Timed) → c.begin < c.end → IsTimely n r
+    → IsTimely n (with_call clock number r c)
+one_called clock number n r c less t = record { forward = one_more r.calls c t.forward less; before = t.before }
+
+same_timely : (n : ℕ) (r q : Read) → Some r ≡ Some q → IsTimely n r → IsTimely n q
+same_timely n r q e t = let same : r ≡ q = cc in subst (IsTimely n) same t
+
+event_timely : (n : ℕ) (r q : Read) (said : Said) → event_after n r said ≡ Some q → IsTimely n r → IsTimely (suc n) q
+event_timely n r q (Says.Answered call) h t = go (is_some (begun r call.core)) h
+  where
+    go : (b : Bool) → cond b None (Some (with_call Lines n r (between n n call))) ≡ Some q → IsTimely (suc n) q
+    go true e = absurd cc
+    go false e = same_timely (suc n) (with_call Lines n r (between n n call)) q e
+        (later n (with_call Lines n r (between n n call)) (one_called Lines n n r (between n n call) (omega arith) t))
+event_timely n r q (Says.Waits core request) h t = go (is_some (begun r core)) h
+  where
+    low : (b : Begun) → Some (record { line = n; request = request }) ≡ Some b → b.line < suc n
+    low b e =
+        let one : record { line = n; request = request } ≡ b = cc in
+        let same : n ≡ b.line = ap (λ (x : Begun). x.line) one in omega (arith, same)
+
+    go : (b : Bool) → cond b None (Some (with_waiting r core (Some (record { line = n; request = request })))) ≡ Some q → IsTimely (suc n) q
+    go true e = absurd cc
+    go false e = same_timely (suc n) (with_waiting r core (Some (record { line = n; request = request }))) q e
+        (one_waits n r core (Some (record { line = n; request = request })) low t)
+event_timely n r q (Says.Ends core reply) h t = go (begun r core) refl h
+  where
+    go : (o : Option Begun) → begun r core ≡ o → option_map (ended n r core reply) o ≡ Some q → IsTimely (suc n) q
+    go None is e = absurd cc
+    go (Some b) is e =
+        let less : b.line < n = t.before core b is in
+        same_timely (suc n) (ended n r core reply b) q e (one_called Lines n (suc n) (with_waiting r core None)
+        (between b.line n (call_to core b.request reply)) (omega (arith, less)) (one_waits n r core None (λ x none. absurd cc) t))
+event_timely n r q (Says.StillWaits core) h t = go (is_some (begun r core)) h
+  where
+    go : (b : Bool) → cond b (Some (by_lines r)) None ≡ Some q → IsTimely (suc n) q
+    go true e = same_timely (suc n) (by_lines r) q e (later n (by_lines r) (record { forward = t.forward; before = t.before }))
+    go false e = absurd cc
+event_timely n r q Says.Passes h t =
+    same_timely (suc n) (by_lines r) q h (later n (by_lines r) (record { forward = t.forward; before = t.before }))
+event_timely n r q said h t = absurd cc
+
+step_timely : (n : ℕ) (r q : Read) (told : Told) → read_after n r told ≡ Some q → IsTimely n r → IsTimely (suc n) q
+step_timely n r q (TimedCall c) h t = by r.declared.has_space (may_stamp r.clock) (nat_lt c.begin c.end) refl h
+  where
+    by : (s m b : Bool) → nat_lt c.begin c.end ≡ b → cond (s && m && b) (Some (with_call Stamps n r c)) None ≡ Some q → IsTimely (suc n) q
+    by true true true less e =
         let forward : c.begin < c.end = grind (arith, nat_tests, less) in
-        let same : record { declared = r.declared; calls = r.calls ++ c ∷ []; lines = r.lines ++ n ∷ [] } ≡ q = cc in
-        subst (λ (x : Read). AreForward x.calls) same (one_more r.calls c all forward)
-    by true false less e = absurd cc
-    by false b less e = absurd cc
-step_forward n r q (Part Says.Blank) h all = let same : r ≡ q = cc in subst (λ (x : Read). AreForward x.calls) same all
-step_forward n r q (Part said) h all = go r.calls refl said h
+        same_timely (suc n) (with_call Stamps n r c) q e (later n (with_call Stamps n r c) (one_called Stamps n n r c forward t))
+    by true true false less e = absurd cc
+    by true false b less e = absurd cc
+    by false m b less e = absurd cc
+step_timely n r q (Event said) h t = by r.declared.has_space (may_event r.clock) h
   where
-    go : (cs : List Timed) → cs ≡ r.calls → (s : Said) → declared_after r cs s ≡ Some q → AreForward q.calls
-    go [] e s h = keeps (part_after r.declared s) h
+    by : (s m : Bool) → cond (s && m) (event_after n r said) None ≡ Some q → IsTimely (suc n) q
+    by true true e = event_timely n r q said e t
+    by true false e = absurd cc
+    by false m e = absurd cc
+step_timely n r q (Part Says.Blank) h t = same_timely (suc n) r q h (later n r t)
+step_timely n r q (Part said) h t = go r.clock said h
+  where
+    go : (k : Clock) (s : Said) → declared_after r k s ≡ Some q → IsTimely (suc n) q
+    go Unset s h = keeps (part_after r.declared s) h
       where
-        keeps : (o : Option Declared) → option_map (with_declared r) o ≡ Some q → AreForward q.calls
+        keeps : (o : Option Declared) → option_map (with_declared r) o ≡ Some q → IsTimely (suc n) q
         keeps None h = absurd cc
-        keeps (Some d) h = let same : with_declared r d ≡ q = cc in subst (λ (x : Read). AreForward x.calls) same all
-    go (c ∷ cs) e s h = absurd cc
+        keeps (Some d) h = same_timely (suc n) (with_declared r d) q h
+            (later n (with_declared r d) (record { forward = t.forward; before = t.before }))
+    go k s h = absurd cc
 
-pub all_forward : (n : ℕ) (a b : Read) (ls : List (List ℕ)) → Leads n a ls b → AreForward a.calls → AreForward b.calls
-all_forward n a b [] h all = subst (λ (x : Read). AreForward x.calls) (sym h) all
-all_forward n a b (l ∷ ls) h all = all_forward (suc n) h.1 b ls h.5 (step_forward n a h.1 h.0 h.4 all)
+all_timely : (n : ℕ) (a b : Read) (ls : List (List ℕ)) → Leads n a ls b → IsTimely n a → AreForward b.calls
+all_timely n a b [] h t = subst (λ (x : Read). AreForward x.calls) (sym h) t.forward
+all_timely n a b (l ∷ ls) h t = all_timely (suc n) h.1 b ls h.5 (step_timely n a h.1 h.0 h.4 t)
 
-pub none_forward : AreForward []
-none_forward i a is = absurd cc
+-- none is there at first
+unread_timely : IsTimely 1 unread
+unread_timely = record { forward = λ i a is. absurd cc; before = λ core b e. absurd (never 64 core b e) }
+  where
+    never : (n core : ℕ) (b : Begun) → get_or (replicate n None) core None ≡ Some b → ⊥
+    never zero core b e = absurd cc
+    never (suc n) zero b e = absurd cc
+    never (suc n) (suc core) b e = never n core b e
+
+pub all_forward : (b : Read) (ls : List (List ℕ)) → Leads 1 unread ls b → AreForward b.calls
+all_forward b ls h = all_timely 1 unread b ls h unread_timely
 
 -- ---- the end
 

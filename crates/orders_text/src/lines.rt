@@ -1,10 +1,12 @@
 //! What a line of a history says.
 ghost use Rattle.std.specs.Prelude.{◌≡◌, IfNone, IfSome};
 ghost use Rattle.trace_text.specs.Words.{words_of};
-ghost use Rattle.orders_text.specs.Lines.{Tells, TellsTimed, call_of, timed_of};
+ghost use Rattle.audit_text.specs.Grammar.{Tells as AuditTells};
+ghost use Rattle.orders_text.specs.Lines.{Tells, TellsTimed, call_of, is_event, timed_of};
+ghost use Rattle.orders_text.specs.declared.lines.Told.TheVariants.{Event};
 
 use audit::Call;
-use audit_text::reading::{Said, read_declared};
+use audit_text::reading::{Said, read_declared, read_said};
 use audit_text::replies::read_reply;
 use orders::Timed;
 use trace_text::number::next_number;
@@ -18,6 +20,8 @@ pub enum Told {
     Part(Said),
     /// `BEGIN END cC! REQ = REPLY`: a call, and when it was under way.
     Timed(Timed),
+    /// A line of an audited text that tells an event, and what it came to.
+    Event(Said),
 }
 
 // The call that a line asks for, with this text as its reply.
@@ -60,6 +64,42 @@ fn read_timed(line: &[u8]) -> Option<Timed>
     timed_of(front, text)
 }
 
+// Tells whether a line that says this tells an event.
+fn is_event(said: &Said) -> bool
+    ensures { result ≡ is_event said.now }
+{
+    match said {
+        Said::Answered(_) | Said::Waits(..) | Said::Ends(..) | Said::StillWaits(_) | Said::Passes =>
+            true,
+        Said::Blank | Said::Space { .. } | Said::File { .. } | Said::Copies(_) => false,
+    }
+}
+
+// The event that a line tells which says this.
+#[tactic(auto, using(crate::proofs::LineLemmas::one_event, crate::proofs::LineLemmas::other_event))]
+fn if_event(line: &[u8], said: Said) -> Option<Said>
+    requires { AuditTells said line.now }
+    ensures some { IfSome result (λ said. Tells (Event said) line.now) }
+    ensures none { IfNone result ((said : Said) → Tells (Event said) line.now → ⊥) }
+{
+    if is_event(&said) {
+        return Some(said);
+    }
+    None
+}
+
+// The event that a line tells.
+#[tactic(auto, using(crate::proofs::LineLemmas::no_event))]
+fn read_event(line: &[u8]) -> Option<Said>
+    ensures some { IfSome result (λ said. Tells (Event said) line.now) }
+    ensures none { IfNone result ((said : Said) → Tells (Event said) line.now → ⊥) }
+{
+    match read_said(line) {
+        Some(said) => if_event(line, said),
+        None => None,
+    }
+}
+
 /// What the line says; `None` where it says nothing that a history may have at any place.
 #[tactic(auto, using(crate::proofs::LineLemmas::dark_none, crate::proofs::LineLemmas::told_none, crate::proofs::LineLemmas::part_some))]
 pub(crate) fn read_told(line: &[u8]) -> Option<Told>
@@ -72,8 +112,11 @@ pub(crate) fn read_told(line: &[u8]) -> Option<Told>
     if let Some(timed) = read_timed(line) {
         return Some(Told::Timed(timed));
     }
-    match read_declared(line) {
-        Some(said) => Some(Told::Part(said)),
+    if let Some(said) = read_declared(line) {
+        return Some(Told::Part(said));
+    }
+    match read_event(line) {
+        Some(said) => Some(Told::Event(said)),
         None => None,
     }
 }

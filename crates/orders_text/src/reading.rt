@@ -4,57 +4,68 @@ ghost use Rattle.trace_io.specs.Lines.{lines_of};
 ghost use Rattle.orders_text.specs.Faults.{IsAtFault};
 ghost use Rattle.orders_text.specs.History.{IsHistory, Leads, unread};
 ghost use Rattle.orders_text.specs.Lines.{Tells};
-ghost use Rattle.orders_text.specs.Steps.{ComesTo, SaysNothing, TellsOverlap, read_of};
+ghost use Rattle.orders_text.specs.Steps.{ComesTo, HasPlaces, SaysNothing, TellsOverlap, read_of};
 
 use crate::apart::find_overlap;
+use crate::clock::{Begun, Clock, between, none_waits};
 use crate::faults::{HistoryFault, LINE_LIMIT};
 use crate::lines::{Told, read_told};
+use audit::Call;
 use audit_text::declaring::{Declaration, Declares};
 use audit_text::reading::Said;
 use orders::Timed;
 use std::alloc::{AllocError, Allocator};
 use trace_io::IoFault;
 use trace_io::lines::front_line;
+use vm_base::{CoreId, NoMemory, Reply, Request};
 
 /// A history: what its text declares, and its calls.
 #[derive(Drop)]
 pub struct History<A: Allocator> {
     /// The space and its files.
     pub declaration: Declaration<A>,
-    /// The calls with their times, in the order of their lines.
+    /// By which clock the calls have their times.
+    pub clock: Clock,
+    /// The call of each core that waits for its reply, where lines are the clock.
+    pub waiting: Vec<Option<Begun>, A>,
+    /// The calls that have a reply, with their times, in the order of their lines.
     pub calls: Vec<Timed, A>,
-    /// The number of the line of each call.
+    /// The number of the line of each call: of its reply, where lines are the clock.
     pub lines: Vec<u64, A>,
 }
 
 impl<A: Allocator + Clone> History<A> {
-    ghost use Rattle.std.specs.Prelude.{◌≡◌, ◌≢◌, ◌≤◌, [], IfErr, IfOk, OnOk, Some, length};
-    ghost use Rattle.orders_text.specs.History.{read_after, unread};
-    ghost use Rattle.orders_text.specs.Steps.{Refuses, read_of};
-    ghost use Rattle.orders_text.specs.declared.lines.Told.TheVariants.{Part, Timed as TimedCall};
+    ghost use Rattle.std.specs.Prelude.{◌≡◌, ◌≢◌, ◌≤◌, IfErr, IfOk, OnOk, Some, false, length, true};
+    ghost use Rattle.orders_text.specs.History.{begun, by_lines, event_after, may_event, read_after, unread, with_call, with_waiting};
+    ghost use Rattle.orders_text.specs.Steps.{HasPlaces, Refuses, Unfit, read_of};
+    ghost use Rattle.orders_text.specs.declared.lines.Told.TheVariants.{Event, Part, Timed as TimedCall};
 
-    // Nothing is read yet.
+    // Nothing is read yet, and there is room for so many calls.
     #[tactic(auto, using(crate::proofs::ReadLemmas::none_read))]
-    fn new(alloc: &A) -> Result<History<A>, AllocError>
+    fn new(alloc: &A, room: usize) -> Result<History<A>, AllocError>
         ensures read { IfOk result (λ h. read_of h ≡ unread) }
         ensures few { IfOk result (λ h. length h.declaration.files.items ≤ 16) }
+        ensures places { IfOk result (λ h. HasPlaces h) }
     {
         Ok(History {
             declaration: Declaration::new(alloc.clone()?),
-            calls: Vec::new(alloc.clone()?),
-            lines: Vec::new(alloc.clone()?),
+            clock: Clock::Unset,
+            waiting: none_waits(alloc.clone()?)?,
+            calls: Vec::with_capacity(alloc.clone()?, room)?,
+            lines: Vec::with_capacity(alloc.clone()?, room)?,
         })
     }
 
     // Takes in the line of a declaration, which has this number, behind no call.
     #[tactic(auto, using(crate::proofs::ReadLemmas::declared_ok, crate::proofs::ReadLemmas::declared_err, crate::proofs::ReadLemmas::other_refused))]
     fn declare(&mut self, alloc: &A, number: u64, said: &Said) -> Result<(), HistoryFault>
-        requires calls { self.old.calls.items ≡ [] }
+        requires front { self.old.clock ≡ Clock.Unset }
         requires some { said.now ≢ Said.Blank }
         requires few { length self.old.declaration.files.items ≤ 16 }
         ensures ok { OnOk result (read_after number (read_of self.old) (Part said.now) ≡ Some (read_of self.new)) }
         ensures err { IfErr result (λ f. Refuses number (read_of self.old) (Part said.now) f) }
         ensures few { OnOk result (length self.new.declaration.files.items ≤ 16) }
+        ensures waiting { self.new.waiting ≡ self.old.waiting }
     {
         match said {
             Said::Space { cores, .. } => come_to(self.declaration.add_space(*cores), number),
@@ -86,22 +97,36 @@ impl<A: Allocator + Clone> History<A> {
         ensures ok { OnOk result (read_after number (read_of self.old) (Part said.now) ≡ Some (read_of self.new)) }
         ensures err { IfErr result (λ f. Refuses number (read_of self.old) (Part said.now) f) }
         ensures few { OnOk result (length self.new.declaration.files.items ≤ 16) }
+        ensures waiting { self.new.waiting ≡ self.old.waiting }
     {
         if is_blank(said) {
             return Ok(());
         }
-        if !self.calls.is_empty() {
+        if !self.clock.is_unset() {
             return Err(HistoryFault::BadLine(number));
         }
         self.declare(alloc, number, said)
     }
 
-    // Takes in the line of a call, which has this number.
-    #[tactic(auto, using(crate::proofs::ReadLemmas::call_read))]
+    // Takes in a call with its times, by this clock, whose line has this number.
+    fn push_call(&mut self, clock: Clock, number: u64, timed: Timed) -> Result<(), NoMemory>
+        ensures ok { OnOk result (read_of self.new ≡ with_call clock number (read_of self.old) timed) }
+        ensures files { self.new.declaration ≡ self.old.declaration }
+        ensures waiting { self.new.waiting ≡ self.old.waiting }
+    {
+        self.calls.push(timed)?;
+        self.lines.push(number)?;
+        self.clock = clock;
+        Ok(())
+    }
+
+    // Takes in the line of a call with its times, which has this number.
+    #[tactic(auto, using(crate::proofs::ReadLemmas::call_read, crate::proofs::ReadLemmas::call_late))]
     fn add_call(&mut self, number: u64, timed: Timed) -> Result<(), HistoryFault>
         ensures ok { OnOk result (read_after number (read_of self.old) (TimedCall timed) ≡ Some (read_of self.new)) }
         ensures err { IfErr result (λ f. Refuses number (read_of self.old) (TimedCall timed) f) }
         ensures files { self.new.declaration ≡ self.old.declaration }
+        ensures waiting { self.new.waiting ≡ self.old.waiting }
     {
         if !self.declaration.has_space {
             return Err(HistoryFault::NoVmLine);
@@ -109,25 +134,175 @@ impl<A: Allocator + Clone> History<A> {
         if timed.begin >= timed.end {
             return Err(HistoryFault::Backwards(number));
         }
-        let Ok(()) = self.calls.push(timed) else {
-            return Err(HistoryFault::Io(IoFault::NoMemory));
-        };
-        let Ok(()) = self.lines.push(number) else {
+        if !self.clock.may_stamp() {
+            return Err(HistoryFault::BadLine(number));
+        }
+        let Ok(()) = self.push_call(Clock::Stamps, number, timed) else {
             return Err(HistoryFault::Io(IoFault::NoMemory));
         };
         Ok(())
     }
 
+    // The call of a core that waits.
+    fn begun(&self, core: CoreId) -> Option<Begun>
+        requires { HasPlaces self.now }
+        ensures { result ≡ begun (read_of self.now) core }
+    {
+        self.waiting[core.index() as usize]
+    }
+
+    // Takes in which call of a core waits, if one does.
+    fn put(&mut self, core: CoreId, waits: Option<Begun>)
+        requires places { HasPlaces self.old }
+        ensures read { read_of self.new ≡ with_waiting (read_of self.old) core waits }
+        ensures files { self.new.declaration ≡ self.old.declaration }
+        ensures places { HasPlaces self.new }
+    {
+        self.waiting[core.index() as usize] = waits;
+        self.clock = Clock::Lines;
+    }
+
+    // Takes in an answered call that begins and ends in the line with this number.
+    #[tactic(auto, using(crate::proofs::EventLemmas::answered_bad, crate::proofs::EventLemmas::answered_ok))]
+    fn answer(&mut self, number: u64, call: Call) -> Result<(), HistoryFault>
+        requires places { HasPlaces self.old }
+        ensures ok { OnOk result (event_after number (read_of self.old) (Said.Answered call) ≡ Some (read_of self.new)) }
+        ensures err { IfErr result (λ f. Unfit number (read_of self.old) (Said.Answered call) f) }
+        ensures files { self.new.declaration ≡ self.old.declaration }
+        ensures places { HasPlaces self.new }
+    {
+        if self.begun(call.core).is_some() {
+            return Err(HistoryFault::BadLine(number));
+        }
+        let Some(timed) = between(number, number, call) else {
+            // (this never comes, since no text has so many lines)
+            return Err(HistoryFault::Io(IoFault::NoMemory));
+        };
+        let Ok(()) = self.push_call(Clock::Lines, number, timed) else {
+            return Err(HistoryFault::Io(IoFault::NoMemory));
+        };
+        Ok(())
+    }
+
+    // Takes in a call that begins to wait in the line with this number.
+    #[tactic(auto, using(crate::proofs::EventLemmas::waits_bad, crate::proofs::EventLemmas::waits_ok))]
+    fn wait(&mut self, number: u64, core: CoreId, request: Request) -> Result<(), HistoryFault>
+        requires places { HasPlaces self.old }
+        ensures ok { OnOk result (event_after number (read_of self.old) (Said.Waits core request) ≡ Some (read_of self.new)) }
+        ensures err { IfErr result (λ f. Unfit number (read_of self.old) (Said.Waits core request) f) }
+        ensures files { self.new.declaration ≡ self.old.declaration }
+        ensures places { HasPlaces self.new }
+    {
+        if self.begun(core).is_some() {
+            return Err(HistoryFault::BadLine(number));
+        }
+        self.put(
+            core,
+            Some(Begun {
+                line: number,
+                request,
+            }),
+        );
+        Ok(())
+    }
+
+    // Takes in the reply, in the line with this number, of the core's call that waits.
+    #[tactic(auto, using(crate::proofs::EventLemmas::ends_bad, crate::proofs::EventLemmas::ends_ok))]
+    fn end(&mut self, number: u64, core: CoreId, reply: Reply) -> Result<(), HistoryFault>
+        requires places { HasPlaces self.old }
+        ensures ok { OnOk result (event_after number (read_of self.old) (Said.Ends core reply) ≡ Some (read_of self.new)) }
+        ensures err { IfErr result (λ f. Unfit number (read_of self.old) (Said.Ends core reply) f) }
+        ensures files { self.new.declaration ≡ self.old.declaration }
+        ensures places { HasPlaces self.new }
+    {
+        let Some(waits) = self.begun(core) else {
+            return Err(HistoryFault::BadLine(number));
+        };
+        let call = Call {
+            core,
+            request: waits.request,
+            reply,
+        };
+        let Some(timed) = between(waits.line, number, call) else {
+            // (this never comes, since no text has so many lines)
+            return Err(HistoryFault::Io(IoFault::NoMemory));
+        };
+        self.put(core, None);
+        let Ok(()) = self.push_call(Clock::Lines, number, timed) else {
+            return Err(HistoryFault::Io(IoFault::NoMemory));
+        };
+        Ok(())
+    }
+
+    // Takes in the line with this number, of an event that changes nothing, if it may stand here.
+    fn pass(&mut self, number: u64, may: bool) -> Result<(), HistoryFault>
+        ensures ok { OnOk result ((may ≡ true) × (read_of self.new ≡ by_lines (read_of self.old))) }
+        ensures err { IfErr result (λ f. (may ≡ false) × (f ≡ HistoryFault.BadLine number)) }
+        ensures files { self.new.declaration ≡ self.old.declaration }
+        ensures waiting { self.new.waiting ≡ self.old.waiting }
+    {
+        if !may {
+            return Err(HistoryFault::BadLine(number));
+        }
+        self.clock = Clock::Lines;
+        Ok(())
+    }
+
+    // Takes in what the line of an event tells, which has this number.
+    #[tactic(auto, using(crate::proofs::EventLemmas::still_ok, crate::proofs::EventLemmas::still_bad, crate::proofs::EventLemmas::passes_ok, crate::proofs::EventLemmas::passes_bad))]
+    fn take(&mut self, number: u64, said: &Said) -> Result<(), HistoryFault>
+        requires places { HasPlaces self.old }
+        ensures ok { OnOk result (event_after number (read_of self.old) said.now ≡ Some (read_of self.new)) }
+        ensures err { IfErr result (λ f. Unfit number (read_of self.old) said.now f) }
+        ensures files { self.new.declaration ≡ self.old.declaration }
+        ensures places { HasPlaces self.new }
+    {
+        match said {
+            Said::Answered(call) => self.answer(number, *call),
+            Said::Waits(core, request) => self.wait(number, *core, *request),
+            Said::Ends(core, reply) => self.end(number, *core, *reply),
+            Said::StillWaits(core) => {
+                let may = self.begun(*core).is_some();
+                self.pass(number, may)
+            }
+            Said::Passes => self.pass(number, true),
+            Said::Blank | Said::Space { .. } | Said::File { .. } | Said::Copies(_) => Err(
+                HistoryFault::BadLine(number),
+            ),
+        }
+    }
+
+    // Takes in the line of an event, which has this number.
+    #[tactic(auto, using(crate::proofs::EventLemmas::event_ok, crate::proofs::EventLemmas::event_err, crate::proofs::EventLemmas::event_late))]
+    fn add_event(&mut self, number: u64, said: &Said) -> Result<(), HistoryFault>
+        requires places { HasPlaces self.old }
+        ensures ok { OnOk result (read_after number (read_of self.old) (Event said.now) ≡ Some (read_of self.new)) }
+        ensures err { IfErr result (λ f. Refuses number (read_of self.old) (Event said.now) f) }
+        ensures files { self.new.declaration ≡ self.old.declaration }
+        ensures places { HasPlaces self.new }
+    {
+        if !self.declaration.has_space {
+            return Err(HistoryFault::NoVmLine);
+        }
+        if !self.clock.may_event() {
+            return Err(HistoryFault::BadLine(number));
+        }
+        self.take(number, said)
+    }
+
     // Takes in what the line with this number says.
     fn add(&mut self, alloc: &A, number: u64, told: &Told) -> Result<(), HistoryFault>
         requires few { length self.old.declaration.files.items ≤ 16 }
+        requires places { HasPlaces self.old }
         ensures ok { OnOk result (read_after number (read_of self.old) told.now ≡ Some (read_of self.new)) }
         ensures err { IfErr result (λ f. Refuses number (read_of self.old) told.now f) }
         ensures few { OnOk result (length self.new.declaration.files.items ≤ 16) }
+        ensures places { HasPlaces self.new }
     {
         match told {
             Told::Part(said) => self.add_part(alloc, number, said),
             Told::Timed(timed) => self.add_call(number, *timed),
+            Told::Event(said) => self.add_event(number, said),
         }
     }
 }
@@ -164,6 +339,17 @@ fn told_at(line: &[u8], number: u64) -> Result<Told, HistoryFault>
     }
 }
 
+// How many lines a text may have: so many newlines, and one more.
+fn line_count(text: &[u8]) -> usize {
+    let mut count = 1usize;
+    for byte in text {
+        if *byte == b'\n' {
+            count = count.wrapping_add(1);
+        }
+    }
+    count
+}
+
 // Takes in all lines of a text.
 fn read_lines<A: Allocator + Clone>(
     history: &mut History<A>,
@@ -172,6 +358,7 @@ fn read_lines<A: Allocator + Clone>(
 ) -> Result<(), HistoryFault>
     requires fresh { read_of history.old ≡ unread }
     requires few { length history.old.declaration.files.items ≤ 16 }
+    requires places { HasPlaces history.old }
     ensures ok { OnOk result (Leads 1 unread (lines_of text.now) (read_of history.new)) }
     ensures few { OnOk result (length history.new.declaration.files.items ≤ 16) }
     ensures err { IfErr result (λ f. IsAtFault (lines_of text.now) f) }
@@ -207,7 +394,8 @@ fn overlap_fault(lines: &[u64], one: usize, other: usize) -> HistoryFault
 }
 
 /// Reads a text whole: the history that it is, or why it is none, by the first line that may not stand where it is. The lines of calls
-/// may stand in any order behind those of the space and its files.
+/// with their times may stand in any order behind those of the space and its files. In a text of events, as `audit` reads it, a call is
+/// under way from the line in which it begins to that of its reply.
 #[tactic(auto, using(crate::proofs::PlaceLemmas::end_refused, crate::proofs::PlaceLemmas::overlap_told, crate::proofs::PlaceLemmas::is_history))]
 pub fn read_history<A: Allocator + Clone + Drop>(
     alloc: &A,
@@ -217,7 +405,7 @@ pub fn read_history<A: Allocator + Clone + Drop>(
     ensures few { IfOk result (λ h. length h.declaration.files.items ≤ 16) }
     ensures err { IfErr result (λ f. IsAtFault (lines_of text.now) f) }
 {
-    let Ok(mut history) = History::new(alloc) else {
+    let Ok(mut history) = History::new(alloc, line_count(text)) else {
         return Err(HistoryFault::Io(IoFault::NoMemory));
     };
     read_lines(&mut history, alloc, text)?;

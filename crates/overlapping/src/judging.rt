@@ -72,7 +72,7 @@ fn rule_by<M: SlotMap + Drop, A: Allocator + Clone + Drop>(
     map: M,
     history: History<A>,
     any_place: bool,
-    order: Order<A>,
+    order: &Order<A>,
 ) -> Result<Ruling, NoMemory>
     requires new { IsNew (M.slots map) }
     requires few { length history.declaration.files.items ≤ 16 }
@@ -84,10 +84,10 @@ fn rule_by<M: SlotMap + Drop, A: Allocator + Clone + Drop>(
             if is_order(alloc, map, history, any_place, items.as_slice())? {
                 Ok(Ruling::Legal(count))
             } else {
-                Ok(Ruling::Undecided(line))
+                Ok(Ruling::Undecided(*line))
             }
         }
-        Order::None(line) => Ok(Ruling::Undecided(line)),
+        Order::None(line) => Ok(Ruling::Undecided(*line)),
     }
 }
 
@@ -108,8 +108,8 @@ fn rule<M: SlotMap + Drop, A: Allocator + Clone + Drop>(
         By::Search => search(alloc, &history, any_place)?,
         By::Given(given) => given_order(alloc, &history, given)?,
     };
-    let written = order_text(alloc, text, &history, &order)?;
-    let ruling = rule_by(alloc, map, history, any_place, order)?;
+    let ruling = rule_by(alloc, map, history, any_place, &order)?;
+    let written = order_text(alloc, text, &order)?;
     Ok(Ruled {
         ruling,
         order: written,

@@ -1,102 +1,207 @@
 //! The text of an order, which `audit` judges.
 
 use crate::found::Order;
-use audit_text::reading::read_declared;
-use orders::{Item, Timed};
-use orders_text::History;
+use audit_text::reading::{Said, read_declared, read_said};
+use orders::Item;
 use std::alloc::Allocator;
-use trace_io::lines::front_line;
+use trace_text::sign::halves;
 use trace_text::words::next_word;
-use trace_text::{LineText, push_address, push_number};
+use trace_text::{Action, Line, LineText, push_address, read_words};
 use vm_base::page::PAGE_SIZE;
-use vm_base::{NoMemory, Request, page_of};
+use vm_base::{CoreId, NoMemory, Request, page_of};
 
-// What stands behind the two times of a line.
-fn behind_times(line: &[u8]) -> &[u8] {
-    let Some((_, rest)) = next_word(line) else {
-        return line;
-    };
-    let Some((_, rest)) = next_word(rest) else {
-        return rest;
-    };
-    for at in 0..rest.len() {
-        if rest[at] != b' ' {
-            return &rest[at..];
+/// How many cores a space may have.
+const CORES: usize = 64;
+
+// A call as its text tells it: its core's word and its request, and behind its line's sign, or that of another line, its reply.
+#[derive(Clone, Copy, Debug)]
+struct Call<'a> {
+    request: &'a [u8],
+    reply: &'a [u8],
+}
+
+// The bytes without the spaces in front.
+fn without_spaces(bytes: &[u8]) -> &[u8] {
+    for at in 0..bytes.len() {
+        if bytes[at] != b' ' {
+            return &bytes[at..];
         }
     }
-    rest
+    bytes
+}
+
+// What stands behind the first word.
+fn behind_word(line: &[u8]) -> &[u8] {
+    match next_word(line) {
+        Some((_, rest)) => without_spaces(rest),
+        None => line,
+    }
+}
+
+// The parts of a line on both sides of its sign.
+fn call_of(line: &[u8]) -> Call<'_> {
+    match halves(line) {
+        Some((request, reply)) => Call { request, reply },
+        None => Call {
+            request: line,
+            reply: line,
+        },
+    }
+}
+
+// The calls of a text so far, and the requests of those that wait, by their cores.
+#[derive(Drop)]
+struct Calls<'a, A: Allocator> {
+    calls: Vec<Call<'a>, A>,
+    waiting: Vec<&'a [u8], A>,
+}
+
+impl<'a, A: Allocator + Clone + Drop> Calls<'a, A> {
+    // None, with a text that is another's.
+    fn new(alloc: &A, none: &'a [u8]) -> Result<Calls<'a, A>, NoMemory> {
+        Ok(Calls {
+            calls: Vec::new(alloc.clone()?),
+            waiting: vec![in alloc.clone()?; none; CORES]?,
+        })
+    }
+
+    // A core's call begins to wait in this line.
+    fn wait(&mut self, core: CoreId, line: &'a [u8]) {
+        if let Some(place) = self.waiting.get_mut(usize::from(core.index())) {
+            *place = call_of(line).request;
+        }
+    }
+
+    // One call more.
+    fn push(&mut self, call: Call<'a>) -> Result<(), NoMemory> {
+        self.calls.push(call)?;
+        Ok(())
+    }
+
+    // A core's call that waited has its reply in this line.
+    fn end(&mut self, core: CoreId, line: &'a [u8]) -> Result<(), NoMemory> {
+        let request = match self.waiting.get(usize::from(core.index())) {
+            Some(request) => *request,
+            None => line,
+        };
+        let reply = call_of(line).reply;
+        self.push(Call { request, reply })
+    }
+
+    // Takes in the line of an event.
+    fn add_event(&mut self, said: &Said, line: &'a [u8]) -> Result<(), NoMemory> {
+        match said {
+            Said::Answered(_) => self.push(call_of(line)),
+            Said::Ends(core, _) => self.end(*core, line),
+            Said::Waits(core, _) => {
+                self.wait(*core, line);
+                Ok(())
+            }
+            _ => Ok(()),
+        }
+    }
+
+    // Takes in the line of a call or of an event.
+    fn add(&mut self, line: &'a [u8]) -> Result<(), NoMemory> {
+        match read_said(line) {
+            Some(said) => self.add_event(&said, line),
+            None => self.push(call_of(behind_word(behind_word(line)))),
+        }
+    }
+}
+
+// The calls of a text, in the order of their lines. Those in front go out.
+fn split<'a, A: Allocator + Clone + Drop>(
+    alloc: &A,
+    out: &mut Vec<u8, A>,
+    text: &'a [u8],
+) -> Result<Calls<'a, A>, NoMemory> {
+    let mut calls = Calls::new(alloc, text)?;
+    for line in text.split(|byte| *byte == b'\n') {
+        if read_declared(line).is_none() {
+            calls.add(line)?;
+        } else if !line.is_empty() {
+            out.extend_from_slice(line)?;
+            out.extend_from_slice(b"\n")?;
+        }
+    }
+    Ok(calls)
+}
+
+// The word of a core without the mark that its call is finished.
+fn without_mark(name: &[u8]) -> &[u8] {
+    let count = name.len();
+    if count > 0 && name[count - 1] == b'!' {
+        return &name[..count - 1];
+    }
+    name
+}
+
+// The word of a call's core, and what it asks for, without the word `call`.
+fn parts(request: &[u8]) -> (&[u8], &[u8]) {
+    let Some((name, rest)) = next_word(request) else {
+        return (request, request);
+    };
+    if let Some((word, args)) = next_word(rest) {
+        if word == b"call".as_slice() {
+            return (without_mark(name), without_spaces(args));
+        }
+    }
+    (without_mark(name), without_spaces(rest))
+}
+
+// Appends the line of a call.
+fn push_call<A: Allocator>(out: &mut Vec<u8, A>, call: &Call<'_>) -> Result<(), NoMemory> {
+    let (name, asked) = parts(call.request);
+    out.extend_from_slice(name)?;
+    out.extend_from_slice(b"! ")?;
+    out.extend_from_slice(asked)?;
+    out.extend_from_slice(b" = ")?;
+    out.extend_from_slice(call.reply)?;
+    out.extend_from_slice(b"\n")?;
+    Ok(())
+}
+
+// The page that a call stores to.
+fn page_stored(call: &Call<'_>) -> Option<u64> {
+    match read_words(call.request)? {
+        Line::Now(_, Request::Store { addr, .. }) => Some(page_of(addr)),
+        Line::Act(_, Action::Call(Request::Store { addr, .. })) => Some(page_of(addr)),
+        _ => None,
+    }
 }
 
 // Appends the line of a copy for a call.
-fn push_copy<A: Allocator>(out: &mut Vec<u8, A>, timed: &Timed) -> Result<(), NoMemory> {
-    let Request::Store { addr, .. } = timed.call.request else {
+fn push_copy<A: Allocator>(out: &mut Vec<u8, A>, call: &Call<'_>) -> Result<(), NoMemory> {
+    let Some(page) = page_stored(call) else {
         return Ok(());
     };
+    let (name, _) = parts(call.request);
     let mut line = LineText::new();
-    line.push_str("c");
-    push_number(&mut line, u64::from(timed.call.core.index()));
     line.push_str(" copy");
-    push_address(&mut line, page_of(addr).wrapping_mul(PAGE_SIZE));
+    push_address(&mut line, page.wrapping_mul(PAGE_SIZE));
     line.push_str("\n");
+    out.extend_from_slice(name)?;
     out.extend_from_slice(line.as_str().as_bytes())?;
     Ok(())
 }
 
-// The lines of the calls of a text, in their order. Those in front go out.
-fn split<'a, A: Allocator + Clone>(
-    alloc: &A,
-    out: &mut Vec<u8, A>,
-    text: &'a [u8],
-) -> Result<Vec<&'a [u8], A>, NoMemory> {
-    let mut lines = Vec::new(alloc.clone()?);
-    for line in text.split(|byte| *byte == b'\n') {
-        if read_declared(line).is_some() {
-            if !line.is_empty() {
-                out.extend_from_slice(line)?;
-                out.extend_from_slice(b"\n")?;
-            }
-        } else {
-            lines.push(line)?;
-        }
-    }
-    Ok(lines)
-}
-
-// Appends the line of an item.
-fn push_item<A: Allocator>(
-    out: &mut Vec<u8, A>,
-    lines: &[&[u8]],
-    calls: &[Timed],
-    item: Item,
-) -> Result<(), NoMemory> {
-    match item {
-        Item::Reply(call) => {
-            if let Some(line) = lines.get(call as usize) {
-                out.extend_from_slice(behind_times(line))?;
-                out.extend_from_slice(b"\n")?;
-            }
-        }
-        Item::Copy(call) => {
-            if let Some(timed) = calls.get(call as usize) {
-                push_copy(out, timed)?;
-            }
-        }
-    }
-    Ok(())
-}
-
-/// The text of an order of a history's calls, if there is one.
+/// The text of an order of the calls of a text, if there is one.
 pub(crate) fn order_text<A: Allocator + Clone + Drop>(
     alloc: &A,
     text: &[u8],
-    history: &History<A>,
     order: &Order<A>,
 ) -> Result<Vec<u8, A>, NoMemory> {
     let mut out = Vec::new(alloc.clone()?);
     if let Order::Of(items, _) = order {
-        let lines = split(alloc, &mut out, text)?;
+        let calls = split(alloc, &mut out, text)?;
         for item in items.as_slice() {
-            push_item(&mut out, lines.as_slice(), history.calls.as_slice(), *item)?;
+            if let Some(call) = calls.calls.get(item.call() as usize) {
+                match *item {
+                    Item::Reply(_) => push_call(&mut out, call)?,
+                    Item::Copy(_) => push_copy(&mut out, call)?,
+                }
+            }
         }
     }
     Ok(out)

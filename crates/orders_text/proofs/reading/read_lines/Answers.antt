@@ -9,6 +9,7 @@ pub lines-init : goal.lines-init
 lines-init g c = record {
   place = place_first _ (read_of c.args.history.now) c.requires.fresh;
   few = c.requires.few;
+  places = c.requires.places;
   most = search rules;
   room = omega arith;
 }
@@ -38,6 +39,7 @@ lines-preserved g c = record {
   place = place_more _ _ _ c.lines.number (read_of c.lines.history) (read_of c.add.new.self) c.front_line.result.0.now c.in_ok-told.told
       c.lines.invariant.place c.front_line.ensures.lines c.in_ok-told.ensures.ok.0 c.in_ok-told.ensures.ok.1 c.in_ok-add.ensures.ok;
   few = c.in_ok-add.ensures.few;
+  places = c.in_ok-add.ensures.places;
   most = c.lines.invariant.most;
   room = omega (arith, c.front_line.ensures.less, c.lines.invariant.room);
 }

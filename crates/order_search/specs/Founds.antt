@@ -1,0 +1,11 @@
+-- What a search among so many calls comes to.
+use Rattle.std.specs.Prelude.{ℕ, ◌<◌}
+use Rattle.orders.specs.Orders.{EachOnce}
+use Rattle.order_search.specs.declared.search.Found.{Found}
+use Rattle.order_search.specs.declared.search.Found.TheVariants.{Order, Stuck, Full}
+
+-- Items that have each call once, and copies only before their calls; or one of the calls.
+abbrev pub IsFound : {A : Type 0} → ℕ → Found A → Type 0
+IsFound count (Order items) = EachOnce count items.items
+IsFound count (Stuck call) = call < count
+IsFound count (Full call) = call < count
