@@ -1,0 +1,25 @@
+use Rattle.std.proofs.Common.{arith, false, refl, true, ◌≡◌}
+use Rattle.vm_base.specs.Apply.{is_absent}
+use Rattle.merges.specs.Steps.{map_of}
+use Rattle.merges.proofs.Pages.{no_page, none_more, none_yet, one_page}
+use Rattle.merges.proofs.protecting.has_absent.Goals as goal
+
+pub pages-init : goal.pages-init
+pages-init g c = none_yet is_absent (map_of c.args.objects.now c.args.steps.now).entry c.args.range
+
+pub pages-preserved : goal.pages-preserved
+pages-preserved g c = none_more is_absent (map_of c.args.objects.now c.args.steps.now).entry c.args.range c.pages.page c.pages.invariant c.if-is_absent.ensures
+
+pub returns-then-is_absent : goal.returns-then-is_absent
+returns-then-is_absent g c =
+    let low = c.pages.auto.page in (
+      (λ h. one_page is_absent (map_of c.args.objects.now c.args.steps.now).entry c.args.range c.pages.page low c.pages-test.true c.if-is_absent.ensures),
+      (λ h. refl),
+    )
+
+pub returns : goal.returns
+returns g c =
+    let end = c.pages-test.false in (
+      (λ h. let wrong : false ≡ true = h in absurd cc),
+      (λ h. absurd (no_page is_absent (map_of c.args.objects.now c.args.steps.now).entry c.args.range c.pages.page (omega (arith, end)) c.pages.invariant h)),
+    )

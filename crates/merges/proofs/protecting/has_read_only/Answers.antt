@@ -1,0 +1,31 @@
+use Rattle.std.proofs.Common.{arith, false, refl, true, ◌≡◌}
+use Rattle.vm_base.specs.Apply.{is_read_only}
+use Rattle.merges.specs.Steps.{map_of}
+use Rattle.merges.proofs.Pages.{no_page, none_more, none_yet, one_page}
+use Rattle.merges.proofs.protecting.has_read_only.Goals as goal
+
+pub pages-init : goal.pages-init
+pages-init g c =
+    let t = map_of c.args.objects.now c.args.steps.now in
+    none_yet (is_read_only t.file) t.entry c.args.range
+
+pub pages-preserved : goal.pages-preserved
+pages-preserved g c =
+    let t = map_of c.args.objects.now c.args.steps.now in
+    none_more (is_read_only t.file) t.entry c.args.range c.pages.page c.pages.invariant c.if-is_read_only.ensures
+
+pub returns-then-is_read_only : goal.returns-then-is_read_only
+returns-then-is_read_only g c =
+    let t = map_of c.args.objects.now c.args.steps.now in
+    let low = c.pages.auto.page in (
+      (λ h. one_page (is_read_only t.file) t.entry c.args.range c.pages.page low c.pages-test.true c.if-is_read_only.ensures),
+      (λ h. refl),
+    )
+
+pub returns : goal.returns
+returns g c =
+    let t = map_of c.args.objects.now c.args.steps.now in
+    let end = c.pages-test.false in (
+      (λ h. let wrong : false ≡ true = h in absurd cc),
+      (λ h. absurd (no_page (is_read_only t.file) t.entry c.args.range c.pages.page (omega (arith, end)) c.pages.invariant h)),
+    )

@@ -1,0 +1,8 @@
+use Rattle.vm_base.specs.Apply.{is_read_only}
+use Rattle.merges.specs.Steps.{map_of}
+use Rattle.merges.proofs.Pages.{NoneBefore}
+use Rattle.merges.proofs.protecting.has_read_only.Given as goal
+
+-- none so far is a shared one of a file for reading alone
+abbrev pub invariant-pages : goal.invariant-pages
+invariant-pages g l = NoneBefore (is_read_only (map_of l.objects l.steps).file) (map_of l.objects l.steps).entry l.fn.range l.page

@@ -1,0 +1,5 @@
+//! Which replies small calls of several cores can have: sets that were found by hand.
+#![tactic(auto)]
+
+#[cfg(test)]
+mod merge_tests;
