@@ -121,7 +121,7 @@ def access_counts(lines):
         if call[1] == "mmap":
             _, length, _, flags, descriptor, offset = numbers
             if flags & 256:
-                counts["unread"] += 1
+                counts["grows"] += 1
                 continue
             counts["kept" if flags & 32 or within(files, descriptor, offset + length) else "files"] += 1
             replies["addresses"] += 1

@@ -1,14 +1,13 @@
 -- Lines that are shown, one at a time.
-use Rattle.std.proofs.Common.{◌≡◌, ℕ, ◌+◌, ◌<◌, ◌≤◌, false, Bool, List, [], ◌∷◌, ◌++◌, Option, None, Some, Result, Ok, Err, IfErr, OnOk, length, take}
-use Rattle.std.proofs.Common.{◌⊎◌, inl, inr, arith, refl, sym, ap, ◌∙◌, subst, append_assoc, append-nil, length-append}
+use Rattle.std.proofs.Common.{◌≡◌, ℕ, ◌+◌, ◌≤◌, false, Bool, List, [], ◌∷◌, ◌++◌, Option, Result, Ok, Err, IfErr, OnOk, length}
+use Rattle.std.proofs.Common.{refl, sym, ap, ◌∙◌, subst, append_assoc, append-nil}
 use Rattle.std.proofs.KnownBytes.{Appends-nil, Appends-trans, Appends-kept}
 use Rattle.std.specs.Io.KnownBytes.{Keeps, Appends}
-use Rattle.trace_io.specs.Lines.{lines_of, TakesLine}
-use Rattle.trace_io.specs.Sink.{AppendsFront}
+use Rattle.trace_io.specs.Lines.{lines_of}
 use Rattle.trace_io.proofs.IoLemmas.{front_kept, front_more, whole_front}
 use Rattle.core_steps.specs.declared.setup.CallLimit.{CallLimit}
 use Rattle.trace.specs.declared.fault.TraceFault.{TraceFault}
-use Rattle.trace.specs.declared.fault.TraceFault.TheVariants.{TooLong, ReadFailed, NoMemory, WriteFailed}
+use Rattle.trace.specs.declared.fault.TraceFault.TheVariants.{TooLong, ReadFailed, WriteFailed}
 use Rattle.trace.specs.Stage.{Stage, Start, LineFails, LineWants, CanOpen, OpenFails, Acts}
 use Rattle.trace.specs.Turns.{Scene, Advances, IsOver, Fails, read_fails, unsent, too_long, no_memory, refused, unwritten}
 use Rattle.trace.proofs.RunLemmas.{lines-first, long_first, HasTaken, none_taken, line_taken, all_taken}

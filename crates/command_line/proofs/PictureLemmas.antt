@@ -1,8 +1,8 @@
 -- A picture of a trace, written and flushed
-use Rattle.std.proofs.Common.{◌≡◌, ℕ, ◌⊎◌, inl, inr, true, false, Bool, List, Option, None, Some, Result, Ok, Err}
-use Rattle.std.proofs.Common.{OnOk, IfOk, IfErr, refl, sym, ap, ◌∙◌, subst}
+use Rattle.std.proofs.Common.{◌≡◌, ℕ, ◌⊎◌, inl, inr, true, List, Option, None, Some, Result, Ok, Err}
+use Rattle.std.proofs.Common.{IfOk, IfErr, refl, sym, ◌∙◌, subst}
 use Rattle.std.proofs.KnownBytes.{Appends-kept, Keeps-refl, Keeps-trans}
-use Rattle.std.specs.Io.KnownBytes.{Keeps, Appends}
+use Rattle.std.specs.Io.KnownBytes.{Keeps}
 use Rattle.trace_io.proofs.IoLemmas.{front_kept, whole_front}
 use Rattle.trace_io.proofs.LineLemmas.{reads_map}
 use Rattle.trace_io.specs.Io.{ReadFrom, TellsIo, WrittenTo}
@@ -19,7 +19,7 @@ use Rattle.trace.specs.Ends.{Ends, TellsFaults, fault_named}
 use Rattle.trace.specs.Seen.{IsSeen}
 use Rattle.command_line.specs.declared.picturing.Drawing.{Drawing}
 use Rattle.command_line.specs.declared.picturing.Drawing.TheVariants.{Steps, Lives}
-use Rattle.command_line.specs.Picture.{Draws, Fails, PictureEnds, Records, ShowsText, TextEnds}
+use Rattle.command_line.specs.Picture.{Fails, PictureEnds, Records, ShowsText, TextEnds}
 
 -- what one who watches may be after each step
 abbrev After : Type 0 → Type 1

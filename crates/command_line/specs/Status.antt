@@ -1,5 +1,5 @@
 -- The status that the program ends with.
-use Rattle.std.specs.Prelude.{ℕ, Bool, true, false, Option, None, Some, Result, Ok, Err}
+use Rattle.std.specs.Prelude.{ℕ, Bool, true, false, List, [], ◌∷◌, Option, None, Some, Result, Ok, Err, Vec, if◌then◌else◌, ◌==◌}
 use Rattle.audit_text.specs.declared.input.AuditFault.{AuditFault}
 use Rattle.audit_text.specs.declared.input.AuditFault.TheVariants as For
 use Rattle.audit_text.specs.declared.judging.Verdict.{Verdict}
@@ -11,6 +11,7 @@ use Rattle.overlapping.specs.declared.judging.Ruled.{Ruled}
 use Rattle.overlapping.specs.declared.judging.Ruling.{Ruling}
 use Rattle.overlapping.specs.declared.judging.Ruling.TheVariants as By
 use Rattle.import_maps.specs.declared.mapped.Told.{Told}
+use Rattle.import_text.specs.declared.each.Part.{Part}
 use Rattle.import_text.specs.declared.import.Ending.{Ending}
 use Rattle.import_text.specs.declared.import.Ending.TheVariants.{Written, Nothing, Absent}
 use Rattle.live_script.specs.declared.texts.TextFault.{TextFault}
@@ -76,6 +77,15 @@ ending_status Absent = 2
 abbrev pub log_status : Result Told IoFault → ℕ
 log_status (Ok told) = ending_status told.report.ending
 log_status (Err f) = 3
+
+-- of a log of strace, each process apart: 2 where none has a trace
+abbrev pub parts_status : List Part → ℕ
+parts_status [] = 2
+parts_status (p ∷ ps) = if ending_status p.ending == 0 then 0 else parts_status ps
+
+abbrev pub each_status : {A : Type 0} → Result (Vec Part A) IoFault → ℕ
+each_status (Ok parts) = parts_status parts.items
+each_status (Err f) = 3
 
 -- of a log of lackey
 abbrev pub accesses_status : Result ToldOfAccesses IoFault → ℕ

@@ -1,5 +1,5 @@
 -- What each word of the command line does: how it ends, what is read and written by then, and the status.
-use Rattle.std.specs.Prelude.{◌≡◌, ◌⊎◌, ℕ, Bool, List, Option, Result}
+use Rattle.std.specs.Prelude.{◌≡◌, ◌⊎◌, ℕ, Bool, List, Option, Result, Err, Vec}
 use Rattle.std.specs.Io.KnownBytes.{Keeps}
 use Rattle.overlapping.specs.Ends.{JudgementEnds, TellsJudgement}
 use Rattle.audit_text.specs.Ends.{AuditEnds, TellsAudit}
@@ -8,7 +8,7 @@ use Rattle.audit_text.specs.declared.allowing.Terms.{Terms}
 use Rattle.command_line.specs.Echo.{EchoEnds}
 use Rattle.command_line.specs.Picture.{PictureEnds}
 use Rattle.command_line.specs.Status.{accesses_status, audit_status, certified_live_status, certified_status, live_status, log_status, picture_status}
-use Rattle.command_line.specs.Status.{judgement_status}
+use Rattle.command_line.specs.Status.{each_status, judgement_status}
 use Rattle.command_line.specs.Status.{review_status, told_status}
 use Rattle.command_line.specs.declared.words.Work.{Work}
 use Rattle.command_line.specs.declared.words.Work.TheVariants as For
@@ -18,18 +18,22 @@ use Rattle.core_steps.specs.declared.setup.CallLimit.{CallLimit}
 use Rattle.import_lackey.specs.Traced.{TraceEnds}
 use Rattle.import_maps.specs.Mapped.{MapsEnds, TellsMaps}
 use Rattle.import_maps.specs.declared.mapped.Told.{Told}
+use Rattle.import_text.specs.Each.{EachEnds}
+use Rattle.import_text.specs.declared.each.Part.{Part}
 use Rattle.import_text.specs.declared.processes.Choice.{Choice}
 use Rattle.history_text.specs.Ends.{IsHistoryText}
 use Rattle.live_script.specs.Texts.{EndsText, IsNotesText, IsVerdictText, TellsText}
 use Rattle.notes_text.specs.CertifyEnds.{Certifies}
 use Rattle.shared_script.specs.Texts.{EndsShared, TellsShared}
 use Rattle.slot_lock.specs.Slots.{Slots}
+use Rattle.std.specs.declared.alloc.Global.{Global}
 use Rattle.trace.specs.Ends.{Ends, TellsFaults}
 use Rattle.trace.specs.Shown.{limit_for}
 use Rattle.trace.specs.Status.{status_of}
 use Rattle.trace_io.specs.Io.{ReadFrom, TellsSent, WrittenTo}
-use Rattle.trace_io.specs.Source.{Reads}
+use Rattle.trace_io.specs.Source.{HasStopped, Reads}
 use Rattle.trace_io.specs.declared.fault.IoFault.{IoFault}
+use Rattle.trace_io.specs.declared.fault.IoFault.TheVariants.{ReadFailed}
 use Rattle.vm_base.specs.declared.page.PageRange.{PageRange}
 
 -- It ends in one way, which gives the status. What was read and written is as `Ended` says of that end, and what failed as `Tells` does.
@@ -80,6 +84,11 @@ ImportsLog choice list text out n = (r : Result Told IoFault) × (n ≡ log_stat
     Reads text.before text.after (λ input unread. MapsEnds listed choice input out.before out.after r))
     × TellsMaps r list text out
 
+-- the traces of a log of strace, one for each process; `read failed` is told only of a read that failed or was one too many
+abbrev pub ImportsEach : ReadFrom → ℕ → Type 0
+ImportsEach text n = (r : Result (Vec Part Global) IoFault) × (n ≡ each_status r)
+    × Reads text.before text.after (λ input unread. EachEnds input r) × (r ≡ Err ReadFailed → HasStopped text.failed text.reads)
+
 -- the trace of a log of lackey
 abbrev pub ImportsAccesses : ReadFrom → WrittenTo → ℕ → Type 0
 ImportsAccesses text out n = EndsInOneWay accesses_status (λ input unread. TraceEnds input) (TellsSent (λ f. f)) text out n
@@ -116,6 +125,7 @@ DoesWork A parts CanFold Folds For.CertifyLive list text out n = CertifiesRun A 
 DoesWork A parts CanFold Folds For.LiveHistory list text out n = WritesHistory text out n
 DoesWork A parts CanFold Folds For.ShareLive list text out n = SharesScript text out n
 DoesWork A parts CanFold Folds (For.Import choice) list text out n = ImportsLog choice list text out n
+DoesWork A parts CanFold Folds For.ImportEach list text out n = ImportsEach text n × (out.after ≡ out.before)
 DoesWork A parts CanFold Folds For.ImportAccesses list text out n = ImportsAccesses text out n
 DoesWork A parts CanFold Folds (For.Audit terms) list text out n = AuditsReplies terms text out n
 DoesWork A parts CanFold Folds (For.AuditAll terms) list text out n = ReviewsReplies terms text out n

@@ -1,5 +1,5 @@
 //! The words of the command line, and what each does.
-ghost use Rattle.std.specs.Prelude.{◌≡◌, ◌≤◌, IfOk};
+ghost use Rattle.std.specs.Prelude.{◌≡◌, ◌≤◌, IfErr, IfOk};
 ghost use Rattle.command_line.specs.Words.{DoesWork};
 ghost use Rattle.trace_io.specs.Io.{read_from, written_to};
 
@@ -8,8 +8,9 @@ use crate::certifying::certify;
 use crate::ended::{Ended, Trouble};
 use crate::explain::{Manner, explain};
 use crate::forms::Kind;
+use crate::gathering::{Ungathered, gather, save_parts};
 use crate::histories::{explain_history, explain_unordered};
-use crate::importing::{import, import_accesses};
+use crate::importing::{import, import_accesses, import_each};
 use crate::input::{Files, input, list};
 use crate::job::{run, run_echoing};
 use crate::keeping::{Keeping, Keeps};
@@ -21,6 +22,7 @@ use crate::telling::{tell, tell_cause, tell_of_terminal};
 use crate::terminals::Terminals;
 use crate::words::{Task, Told, Work, parse};
 use core_steps::CallLimit;
+use import_text::each::Part;
 use live_script::Runner;
 use radix_range::RadixMap;
 use slot_lock::SlotMap;
@@ -58,6 +60,7 @@ fn act<T: Threads + Wait + Sync, R: Runner<Global>, L: Source, S: Source, W: Sin
     out: &mut W,
     errors: &mut E,
     order: &mut Vec<u8>,
+    parts: &mut Vec<Part>,
 ) -> Ended
     ensures does { IfOk parsed.entry (λ task. DoesWork Global
         ⟦<RadixMap<Global> as SlotMap>⟧.parts ⟦<RadixMap<Global> as SlotMap>⟧.can_fold
@@ -78,6 +81,7 @@ fn act<T: Threads + Wait + Sync, R: Runner<Global>, L: Source, S: Source, W: Sin
             Work::LiveHistory => live_history(rt, runner, alloc, reader, out, errors),
             Work::ShareLive => share_live(rt, alloc, reader, out, errors),
             Work::Import(choice) => import(alloc, list, reader, out, errors, choice),
+            Work::ImportEach => import_each(alloc, reader, errors, parts),
             Work::ImportAccesses => import_accesses(alloc, reader, out, errors),
             Work::Audit(terms) => audit(alloc, reader, out, errors, terms),
             Work::AuditAll(terms) => audit_each(alloc, reader, out, errors, terms),
@@ -98,10 +102,12 @@ fn act<T: Threads + Wait + Sync, R: Runner<Global>, L: Source, S: Source, W: Sin
 // What the words ask for, as far as more is said about it.
 #[derive(Clone, Copy)]
 struct Asks<'a> {
-    // The names of the text's file, of the list of mappings or an order that is read, and of an order that is written, where there are any.
+    // The names of the text's file, of the list of mappings or an order that is read, of an order that is written, and of the folder
+    // that traces are written to, where there are any.
     file: Option<&'a str>,
     maps: Option<&'a str>,
     order: Option<&'a str>,
+    folder: Option<&'a str>,
     // A line of the text, where one is read.
     example: Option<&'static str>,
     // How a text is read, and whether a word tells more of a fault.
@@ -126,7 +132,7 @@ fn manner_of(work: Work, coloured: bool) -> Manner {
         Work::Audit(_) | Work::AuditAll(_) | Work::Overlapping(_) => {
             (Kind::Replies, CallLimit::Usual, false)
         }
-        Work::Picture(_) | Work::Import(_) | Work::ImportAccesses => {
+        Work::Picture(_) | Work::Import(_) | Work::ImportEach | Work::ImportAccesses => {
             (Kind::Trace, CallLimit::Usual, false)
         }
     };
@@ -142,7 +148,7 @@ fn manner_of(work: Work, coloured: bool) -> Manner {
 fn example_of(work: Work) -> &'static str {
     match work {
         Work::Certify => "vm 1 4 4096",
-        Work::Import(_) => "10 munmap(0x7f0000000000, 4096) = 0",
+        Work::Import(_) | Work::ImportEach => "10 munmap(0x7f0000000000, 4096) = 0",
         Work::ImportAccesses => " L 04001000,8",
         Work::Live
         | Work::CertifyLive
@@ -162,7 +168,7 @@ fn keeps_of(work: Work, explains: bool) -> Keeps {
     match work {
         Work::Audit(_) | Work::AuditAll(_) => Keeps::All,
         Work::Overlapping(_) if explains => Keeps::All,
-        Work::Import(_) | Work::ImportAccesses => Keeps::Nothing,
+        Work::Import(_) | Work::ImportEach | Work::ImportAccesses => Keeps::Nothing,
         _ if explains => Keeps::End,
         _ => Keeps::Nothing,
     }
@@ -175,6 +181,7 @@ fn asks_of<'a>(task: &Task<'a>, terminals: Terminals, coloured: bool) -> Asks<'a
         file: task.file,
         maps: task.maps,
         order: task.order,
+        folder: task.folder,
         example: Some(example_of(task.work)),
         manner: manner_of(task.work, coloured && terminals.errors),
         explains,
@@ -188,6 +195,7 @@ fn asks_nothing<'a>() -> Asks<'a> {
         file: None,
         maps: None,
         order: None,
+        folder: None,
         example: None,
         manner: Manner {
             kind: Kind::Trace,
@@ -302,11 +310,130 @@ fn save_order<F: Files, E: Write>(
     }
 }
 
+// Writes the traces of processes to the folder that is named for them, where there is one, and answers the status: that of the word,
+// or 3 where this fails.
+fn save_traces<F: Files, E: Write>(
+    files: &F,
+    alloc: Global,
+    asks: Asks<'_>,
+    parts: &[Part],
+    status: u8,
+    errors: &mut E,
+) -> u8
+    requires { status ≤ 3 }
+    ensures { result ≤ 3 }
+{
+    let Some(folder) = asks.folder else {
+        return status;
+    };
+    if status != 0 {
+        return status;
+    }
+    match save_parts(files, alloc, folder, parts) {
+        Ok(()) => status,
+        Err(error) => {
+            let _ = writeln!(errors, "radixvm: {}", TraceFault::WriteFailed);
+            if asks.explains {
+                tell_cause(folder, error.kind(), errors);
+            }
+            3
+        }
+    }
+}
+
+// Tells why files weren't read as one log, and answers the status.
+fn refuse_files<E: Write>(asks: Asks<'_>, why: Ungathered<'_>, errors: &mut E) -> u8
+    ensures { result ≡ 3 }
+{
+    if let Some(cause) = why.cause {
+        return refuse_file(asks, why.name, cause, errors);
+    }
+    let fault = why.fault;
+    let _ = writeln!(errors, "radixvm: {fault}");
+    3
+}
+
+// The log that several files come to, where several are named; nothing where one is, or none. An `Err` is the status.
+fn gathered<F: Files, E: Write>(
+    files: &F,
+    alloc: Global,
+    asks: Asks<'_>,
+    names: &[&str],
+    errors: &mut E,
+) -> Result<Option<Vec<u8>>, u8>
+    ensures { IfErr result (λ status. status ≤ 3) }
+{
+    if names.len() < 2 {
+        return Ok(None);
+    }
+    match gather(files, alloc, names) {
+        Ok(joined) => {
+            let lines = joined.untimed;
+            if lines > 0 {
+                let _ = writeln!(
+                    errors,
+                    "import: {lines} lines tell no time: they come first, in the order of the FILEs"
+                );
+            }
+            Ok(Some(joined.text))
+        }
+        Err(why) => Err(refuse_files(asks, why, errors)),
+    }
+}
+
+// Does what the parsed words ask for with this input, and answers the status.
+fn command_on<
+    I: Read + Drop,
+    F: Files,
+    T: Threads + Wait + Sync,
+    R: Runner<Global>,
+    W: Sink,
+    E: Write,
+>(
+    alloc: Global,
+    parsed: Result<Task<'_>, Told>,
+    asks: Asks<'_>,
+    host: (&F, &T, &R),
+    input: I,
+    out: &mut W,
+    errors: &mut E,
+    terminals: Terminals,
+) -> u8
+    ensures { result ≤ 3 }
+{
+    let (files, rt, runner) = host;
+    let list = match list(files, asks.maps) {
+        Ok(list) => list,
+        Err(error) => return refuse_file(asks, asks.maps.unwrap_or("-"), error.kind(), errors),
+    };
+    greet(asks, terminals, errors);
+    let mut list = Counted::new(Keeping::new(alloc, list, Keeps::Nothing));
+    let mut reader = Counted::new(Keeping::new(alloc, input, asks.keeps));
+    let mut order = Vec::new(alloc);
+    let mut parts = Vec::new(alloc);
+    let ended = act(
+        rt,
+        runner,
+        alloc,
+        parsed,
+        &mut list,
+        &mut reader,
+        out,
+        errors,
+        &mut order,
+        &mut parts,
+    );
+    tell_more(asks, ended.trouble, &list.reader, &reader.reader, errors);
+    let status = save_order(files, asks, order.as_slice(), ended.status, errors);
+    save_traces(files, alloc, asks, parts.as_slice(), status, errors)
+}
+
 /// Does what the words say, the program's name first, and answers the status: 0; 1 for notes
 /// that are refused, or a reply that is illegal; 2 for a fault of the words or of the text; 3 where reading, writing or memory
 /// failed, or a core of a script couldn't begin a task. A fault is printed on `errors` as
 /// `radixvm: ` and its text. The text is what the named file gives, or `standard` where none is
-/// named, or `-`; a file that can't be opened is a read that failed. The host is where files are
+/// named, or `-`, and of several files that an import names their lines in the order of their times; a file that can't be opened is
+/// a read that failed. The host is where files are
 /// opened, what has threads, and how scripts are run. At terminals more is said about faults, in colours where these are
 /// asked for.
 pub fn command<
@@ -328,35 +455,31 @@ pub fn command<
 ) -> u8
     ensures { result ≤ 3 }
 {
-    let (files, rt, runner) = host;
+    let (files, _, _) = host;
     let (terminals, coloured) = at;
-    let parsed = parse(alloc, words, coloured && terminals.output);
+    let mut names = Vec::new(alloc);
+    let parsed = parse(alloc, words, coloured && terminals.output, &mut names);
     let asks = asked_beside(&parsed, terminals, coloured);
-    let input = match input(files, standard, asks.file) {
-        Ok(input) => input,
-        Err(error) => return refuse_file(asks, asks.file.unwrap_or("-"), error.kind(), errors),
+    let gathered = match gathered(files, alloc, asks, names.as_slice(), errors) {
+        Ok(gathered) => gathered,
+        Err(status) => return status,
     };
-    let list = match list(files, asks.maps) {
-        Ok(list) => list,
-        Err(error) => return refuse_file(asks, asks.maps.unwrap_or("-"), error.kind(), errors),
-    };
-    greet(asks, terminals, errors);
-    let mut list = Counted::new(Keeping::new(alloc, list, Keeps::Nothing));
-    let mut reader = Counted::new(Keeping::new(alloc, input, asks.keeps));
-    let mut order = Vec::new(alloc);
-    let ended = act(
-        rt,
-        runner,
-        alloc,
-        parsed,
-        &mut list,
-        &mut reader,
-        out,
-        errors,
-        &mut order,
-    );
-    tell_more(asks, ended.trouble, &list.reader, &reader.reader, errors);
-    save_order(files, asks, order.as_slice(), ended.status, errors)
+    if let Some(text) = &gathered {
+        return command_on(
+            alloc,
+            parsed,
+            asks,
+            host,
+            text.as_slice(),
+            out,
+            errors,
+            terminals,
+        );
+    }
+    match input(files, standard, asks.file) {
+        Ok(input) => command_on(alloc, parsed, asks, host, input, out, errors, terminals),
+        Err(error) => refuse_file(asks, asks.file.unwrap_or("-"), error.kind(), errors),
+    }
 }
 
 // Whether the environment lets colours be shown: `NO_COLOR` isn't there, or empty.

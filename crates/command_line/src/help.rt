@@ -18,8 +18,9 @@ radixvm run [--log | [--echo | --summary] [--long]] [--explain] [FILE]
        radixvm maps [--long] [--explain] [FILE]
        radixvm certify [--explain] [FILE]
        radixvm live [--certify | --history | --shared] [--explain] [FILE]
-       radixvm import [--lackey | [--pid N] [--one-process] [--maps FILE]]
-                      [--explain] [FILE]
+       radixvm import [--lackey | --all DIR |
+                      [--pid N] [--one-process] [--maps FILE]]
+                      [--explain] [FILE..]
        radixvm audit [--overlapping [--given IN] [--order OUT] |
                      [--strict] [--all]] [--any-place] [--explain] [FILE]
        radixvm picture [--lives | [--from N] [--to N]] [--explain] [FILE]
@@ -34,8 +35,9 @@ Usage: radixvm run [--log | [--echo | --summary] [--long]] [--explain] [FILE]
        radixvm maps [--long] [--explain] [FILE]
        radixvm certify [--explain] [FILE]
        radixvm live [--certify | --history | --shared] [--explain] [FILE]
-       radixvm import [--lackey | [--pid N] [--one-process] [--maps FILE]]
-                      [--explain] [FILE]
+       radixvm import [--lackey | --all DIR |
+                      [--pid N] [--one-process] [--maps FILE]]
+                      [--explain] [FILE..]
        radixvm audit [--overlapping [--given IN] [--order OUT] |
                      [--strict] [--all]] [--any-place] [--explain] [FILE]
        radixvm picture [--lives | [--from N] [--to N]] [--explain] [FILE]

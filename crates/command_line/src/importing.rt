@@ -1,10 +1,13 @@
 //! What the word `import` does.
-ghost use Rattle.std.specs.Prelude.{◌≡◌, ◌<◌, ◌≤◌, ◌^◌};
+ghost use Rattle.std.specs.Prelude.{◌≡◌, ◌≢◌, ◌<◌, ◌≤◌, ◌^◌, All, map};
 ghost use Rattle.import_maps.specs.Entries.{total as entries_total};
 ghost use Rattle.import_text.specs.Counts.{total};
-ghost use Rattle.command_line.specs.Status.{ending_status};
-ghost use Rattle.command_line.specs.Words.{ImportsAccesses, ImportsLog};
+ghost use Rattle.import_text.specs.Each.{parted, parts_of};
+ghost use Rattle.import_text.specs.Taking.{nothing_taken};
+ghost use Rattle.command_line.specs.Status.{ending_status, parts_status};
+ghost use Rattle.command_line.specs.Words.{ImportsAccesses, ImportsEach, ImportsLog};
 ghost use Rattle.trace_io.specs.Io.{read_from, written_to};
+ghost use Rattle.trace_io.specs.Source.{Reads};
 
 use crate::ended::{Ended, Trouble};
 use crate::pointing::{expect, show_line};
@@ -13,9 +16,11 @@ use import_lackey::traced::{Told, trace_log};
 use import_maps::entries::Entries;
 use import_maps::mapped::import_mapped;
 use import_text::counts::Counts;
+use import_text::each::{Part, import_log_each};
 use import_text::import::{Ending, Report};
 use import_text::losses::Losses;
 use import_text::processes::{Choice, Process};
+use import_text::programs::Program;
 use std::alloc::Global;
 use std::io::Write;
 use trace_io::IoFault;
@@ -148,12 +153,63 @@ fn tell_counts<E: Write>(counts: &Counts, errors: &mut E)
     tell_left(counts, errors);
 }
 
+// Prints a process, the program that it began last, if that is known, and how much it asks for.
+fn tell_process<E: Write>(process: Process, program: &[u8], errors: &mut E) {
+    let number = process.number;
+    let requests = process.requests;
+    let _ = write!(errors, "process {number}");
+    if !program.is_empty() {
+        let _ = errors.write_all(b" (");
+        let _ = errors.write_all(program);
+        let _ = errors.write_all(b")");
+    }
+    let _ = write!(errors, ": {requests} requests");
+}
+
+// The program with this index, nothing where it isn't known.
+fn program_at(programs: &[Program], at: usize) -> &[u8] {
+    match programs.get(at) {
+        Some(program) => program.name.as_slice(),
+        None => b"",
+    }
+}
+
 // Prints the processes of a log.
-fn tell_processes<E: Write>(processes: &[Process], errors: &mut E) {
-    for process in processes {
-        let number = process.number;
-        let requests = process.requests;
-        let _ = writeln!(errors, "  process {number}: {requests} requests");
+fn tell_processes<E: Write>(report: &Report, errors: &mut E) {
+    for (at, process) in report.processes.iter().enumerate() {
+        let _ = errors.write_all(b"  ");
+        tell_process(*process, program_at(report.programs.as_slice(), at), errors);
+        let _ = errors.write_all(b"\n");
+    }
+}
+
+// Prints what came of a log for one process.
+fn tell_part<E: Write>(part: &Part, errors: &mut E)
+    requires { total part.now.counts < 2 ^ 64 }
+{
+    let number = part.process.number;
+    tell_process(part.process, part.program.name.as_slice(), errors);
+    match part.ending {
+        Ending::Written => {
+            let _ = writeln!(errors, ", {number}.trace");
+        }
+        Ending::Nothing | Ending::Absent => {
+            let _ = writeln!(errors, ", no trace");
+        }
+    }
+    tell_counts(&part.counts, errors);
+}
+
+// Prints what came of a log for each of its processes.
+fn tell_parts<E: Write>(parts: &[Part], errors: &mut E)
+    requires { All (λ p. total p.counts < 2 ^ 64) parts.now }
+{
+    let count = parts.len();
+    let _ = writeln!(errors, "import: {count} processes");
+    let mut at = 0;
+    'parts: while at < parts.len() {
+        tell_part(&parts[at], errors);
+        at += 1;
     }
 }
 
@@ -168,7 +224,7 @@ fn tell_taken<E: Write>(report: &Report, choice: Choice, errors: &mut E) {
         errors,
         "import: {count} processes; {process} is taken, which has the most requests (--pid N takes another)"
     );
-    tell_processes(report.processes.as_slice(), errors);
+    tell_processes(report, errors);
 }
 
 // What a line looks like that isn't read.
@@ -203,7 +259,7 @@ fn tell_nothing<E: Write>(report: &Report, errors: &mut E) {
 fn tell_absent<E: Write>(report: &Report, choice: Choice, errors: &mut E) {
     let thread = choice.thread.unwrap_or(0);
     let _ = writeln!(errors, "radixvm: no line is about thread {thread}");
-    tell_processes(report.processes.as_slice(), errors);
+    tell_processes(report, errors);
 }
 
 // Prints what is said about an import.
@@ -248,6 +304,21 @@ fn status_of(ending: Ending) -> u8
     }
 }
 
+// The status of an import of each process: 2 where none has a trace.
+fn status_of_parts(parts: &[Part]) -> u8
+    ensures status { result ≡ parts_status parts.now }
+    ensures below { result ≤ 2 }
+{
+    let mut at = 0;
+    'parts: while at < parts.len() {
+        if status_of(parts[at].ending) == 0 {
+            return 0;
+        }
+        at += 1;
+    }
+    2
+}
+
 // Prints the fault as `radixvm: ` and its text, and answers the status.
 fn tell_fault<E: Write>(fault: IoFault, errors: &mut E) -> Ended
     ensures { result.status ≡ 3 }
@@ -280,6 +351,35 @@ pub fn import<L: Source, S: Source, W: Sink, E: Write>(
             tell_report(&told.report, choice, errors);
             Ended {
                 status: status_of(told.report.ending),
+                trouble: Trouble::Nothing,
+            }
+        }
+        Err(fault) => tell_fault(fault, errors),
+    }
+}
+
+/// Makes a trace of each process of a log of strace, prints what became of the log's lines for each on `errors`, or a fault as
+/// `radixvm: ` and its text, and answers the status: 0; 2 where no process has a trace; or 3 for a fault, at which there are no
+/// traces.
+pub fn import_each<S: Source, E: Write>(
+    alloc: Global,
+    reader: &mut S,
+    errors: &mut E,
+    parts: &mut Vec<Part>,
+) -> Ended
+    ensures ends { ImportsEach (read_from S.Source reader.old reader.new) result.status }
+    ensures parts { result.status ≢ 3 → Reads (S.stream reader.old) (S.stream reader.new) (λ input unread.
+        map parted parts.new.items ≡ parts_of nothing_taken input) }
+    ensures none { result.status ≡ 3 → parts.new ≡ parts.old }
+    ensures within { result.status ≤ 3 }
+{
+    match import_log_each(alloc, reader) {
+        Ok(found) => {
+            tell_parts(found.as_slice(), errors);
+            let status = status_of_parts(found.as_slice());
+            *parts = found;
+            Ended {
+                status,
                 trouble: Trouble::Nothing,
             }
         }

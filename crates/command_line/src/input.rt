@@ -5,8 +5,8 @@ ghost use Rattle.command_line.specs.Input.{NamesStandard};
 
 use either::Either;
 use std::fs::File;
-use std::io;
 use std::io::{Empty, Read, Write};
+use std::{fs, io};
 
 /// Where files are opened.
 pub trait Files {
@@ -16,18 +16,27 @@ pub trait Files {
     // What may come of opening the file of this path.
     ghost opens: { Self → List ℕ → Self.Open → Type 0 };
 
+    // What it means that the file of this path has these bytes, and no others.
+    ghost saved: { Self → List ℕ → List ℕ → Type 0 };
+
     /// Opens the file of this path for reading.
     fn open(&self, path: &str) -> io::Result<Self::Open>
         ensures { IfOk result (λ file. opens self.now path.now file) };
 
     /// Writes the bytes to the file of this path, which is made, or emptied first.
-    fn save(&self, path: &str, bytes: &[u8]) -> io::Result<()>;
+    fn save(&self, path: &str, bytes: &[u8]) -> io::Result<()>
+        ensures { IfOk result (λ x. saved self.now path.now bytes.now) };
+
+    /// Makes the folder of this path. Where there is one already that is no failure.
+    fn make_folder(&self, path: &str) -> io::Result<()>;
 }
 
 impl Files for HostRuntime {
     type Open = File;
 
     ghost opens = { λ files path file. ⊤ };
+
+    ghost saved = { λ files path bytes. ⊤ };
 
     fn open(&self, path: &str) -> io::Result<File> {
         File::open(self, path)
@@ -36,6 +45,13 @@ impl Files for HostRuntime {
     fn save(&self, path: &str, bytes: &[u8]) -> io::Result<()> {
         let mut file = File::create(self, path)?;
         file.write_all(bytes)
+    }
+
+    fn make_folder(&self, path: &str) -> io::Result<()> {
+        match fs::create_dir(self, path) {
+            Err(error) if error.kind() != io::ErrorKind::AlreadyExists => Err(error),
+            _ => Ok(()),
+        }
     }
 }
 

@@ -9,6 +9,7 @@ mod echo;
 pub mod ended;
 mod explain;
 mod forms;
+mod gathering;
 pub mod help;
 mod histories;
 mod importing;

@@ -34,6 +34,8 @@ pub(crate) enum Work {
     ShareLive,
     /// The trace of a log of strace, of the process that is chosen.
     Import(Choice),
+    /// The traces of a log of strace, one for each process.
+    ImportEach,
     /// The trace of a log of lackey.
     ImportAccesses,
     /// The judgement of replies by these terms.
@@ -65,6 +67,8 @@ pub(crate) struct Task<'a> {
     pub(crate) maps: Option<&'a str>,
     /// The file that an audit writes an order to.
     pub(crate) order: Option<&'a str>,
+    /// The folder that an import writes traces to.
+    pub(crate) folder: Option<&'a str>,
     /// Whether more is said about a fault than its text.
     pub(crate) explains: bool,
 }
@@ -78,6 +82,8 @@ pub(crate) enum Told {
     Page(Topic),
     /// No step is from the first of these to the last.
     NoSteps(Steps),
+    /// Several files stand where one is read.
+    ManyFiles,
 }
 
 // ---- what they are
@@ -100,11 +106,21 @@ fn reading<'a>(
     name: &'static str,
     usage: &'static str,
 ) -> Result<Command<'a>, AllocError> {
+    reading_from(alloc, name, usage, Arg::new(alloc, "FILE"))
+}
+
+// A word of the program that reads what these words name.
+fn reading_from<'a>(
+    alloc: Global,
+    name: &'static str,
+    usage: &'static str,
+    file: Arg<'a>,
+) -> Result<Command<'a>, AllocError> {
     Command::new(alloc, name)
         .override_help(page(topic_named(name)))
         .override_usage(usage)
         .arg(flag(alloc, "explain"))?
-        .arg(Arg::new(alloc, "FILE"))
+        .arg(file)
 }
 
 const RUN_USAGE: &str = "radixvm run [--log | [--echo | --summary] [--long]] [--explain] [FILE]";
@@ -116,7 +132,7 @@ const CERTIFY_USAGE: &str = "radixvm certify [--explain] [FILE]";
 const LIVE_USAGE: &str = "radixvm live [--certify | --history | --shared] [--explain] [FILE]";
 
 const IMPORT_USAGE: &str =
-    "radixvm import [--lackey | [--pid N] [--one-process] [--maps FILE]] [--explain] [FILE]";
+    "radixvm import [--lackey | --all DIR | [--pid N] [--one-process] [--maps FILE]] [--explain] [FILE..]";
 
 const AUDIT_USAGE: &str =
     "radixvm audit [--overlapping [--given IN] [--order OUT] | [--strict] [--all]] [--any-place] [--explain] [FILE]";
@@ -156,11 +172,19 @@ fn import_word<'a>(alloc: Global) -> Result<Command<'a>, AllocError> {
     let lackey = flag(alloc, "lackey")
         .conflicts_with("pid")?
         .conflicts_with("one-process")?
+        .conflicts_with("maps")?
+        .conflicts_with("all")?;
+    let all = Arg::new(alloc, "all")
+        .long("all")
+        .conflicts_with("pid")?
+        .conflicts_with("one-process")?
         .conflicts_with("maps")?;
-    let command = reading(alloc, "import", IMPORT_USAGE)?
+    let files = Arg::new(alloc, "FILE").num_args(0..);
+    let command = reading_from(alloc, "import", IMPORT_USAGE, files)?
         .arg(number(alloc, "pid"))?
         .arg(flag(alloc, "one-process"))?
         .arg(list)?
+        .arg(all)?
         .arg(lackey)?;
     Ok(command)
 }
@@ -264,6 +288,7 @@ fn working<'a>(work: Work, words: &ArgMatches<'a>) -> Task<'a>
         file: words.get_str("FILE"),
         maps: None,
         order: None,
+        folder: None,
         explains: words.get_flag("explain"),
     }
 }
@@ -299,6 +324,21 @@ fn importing<'a>(words: &ArgMatches<'a>) -> Task<'a>
         file: words.get_str("FILE"),
         maps: words.get_str("maps"),
         order: None,
+        folder: None,
+        explains: words.get_flag("explain"),
+    }
+}
+
+// An import of each process, into the folder that the words name.
+fn importing_each<'a>(words: &ArgMatches<'a>) -> Task<'a>
+    ensures { result.work ≡ Work.ImportEach }
+{
+    Task {
+        work: Work::ImportEach,
+        file: words.get_str("FILE"),
+        maps: None,
+        order: None,
+        folder: words.get_str("all"),
         explains: words.get_flag("explain"),
     }
 }
@@ -334,6 +374,7 @@ fn overlapping<'a>(words: &ArgMatches<'a>) -> Task<'a> {
         file: words.get_str("FILE"),
         maps: given,
         order: words.get_str("order"),
+        folder: None,
         explains: words.get_flag("explain"),
     }
 }
@@ -357,6 +398,7 @@ fn asked<'a>(name: &str, words: &ArgMatches<'a>, coloured: bool) -> Result<Task<
         "live" if words.get_flag("shared") => Ok(working(Work::ShareLive, words)),
         "live" => Ok(working(Work::Live, words)),
         "import" if words.get_flag("lackey") => Ok(working(Work::ImportAccesses, words)),
+        "import" if words.get_str("all").is_some() => Ok(importing_each(words)),
         "import" => Ok(importing(words)),
         "audit" if words.get_flag("overlapping") => Ok(overlapping(words)),
         "audit" if words.get_flag("all") => {
@@ -368,23 +410,42 @@ fn asked<'a>(name: &str, words: &ArgMatches<'a>, coloured: bool) -> Result<Task<
     }
 }
 
+// Adds the names of the files that these words name, where they may be several.
+fn add_names<'a>(
+    name: &str,
+    words: &ArgMatches<'a>,
+    names: &mut Vec<&'a str>,
+) -> Result<(), AllocError> {
+    if name == "import"
+        && let Some(all) = words.get_strs("FILE")
+    {
+        names.extend_from_slice(all)?;
+    }
+    Ok(())
+}
+
 // Parses the words: what they ask for, or the page of the help.
 fn matched<'a, A: Allocator>(
     alloc: Global,
     words: &'a [String<A>],
     coloured: bool,
+    names: &mut Vec<&'a str>,
 ) -> Result<Result<Task<'a>, Topic>, Error> {
     let program = grammar(alloc)?;
     let matches = program.try_get_matches_from(words)?;
     match matches.subcommand() {
-        Some((name, words)) => Ok(asked(name, words, coloured)),
+        Some((name, words)) => {
+            add_names(name, words, names)?;
+            Ok(asked(name, words, coloured))
+        }
         None => Ok(Err(Topic::Overview)),
     }
 }
 
-// The task, if a picture of steps has one that it may show.
-fn with_steps<'a>(task: Task<'a>) -> Result<Task<'a>, Told> {
+// The task, if it may read so many files, and a picture of steps has one that it may show.
+fn checked<'a>(task: Task<'a>, files: usize) -> Result<Task<'a>, Told> {
     match task.work {
+        Work::ImportAccesses if files > 1 => Err(Told::ManyFiles),
         Work::Picture(Drawing::Steps(steps)) if steps.last < steps.first => {
             Err(Told::NoSteps(steps))
         }
@@ -392,14 +453,16 @@ fn with_steps<'a>(task: Task<'a>) -> Result<Task<'a>, Told> {
     }
 }
 
-/// Parses the words: what they ask for, or what is printed in its place. What goes to standard output may have colours.
+/// Parses the words: what they ask for, or what is printed in its place, and the names of the files of an import. What goes to
+/// standard output may have colours.
 pub(crate) fn parse<'a, A: Allocator>(
     alloc: Global,
     words: &'a [String<A>],
     coloured: bool,
+    names: &mut Vec<&'a str>,
 ) -> Result<Task<'a>, Told> {
-    match matched(alloc, words, coloured) {
-        Ok(Ok(task)) => with_steps(task),
+    match matched(alloc, words, coloured, names) {
+        Ok(Ok(task)) => checked(task, names.len()),
         Ok(Err(topic)) => Err(Told::Page(topic)),
         Err(error) => Err(Told::Words(error)),
     }

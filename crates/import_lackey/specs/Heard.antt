@@ -1,5 +1,5 @@
 -- What a line of lackey says.
-use Rattle.std.specs.Prelude.{ℕ, ◌^◌, ◌/◌, ◌%◌, Bool, true, false, List, Option, None, Some, if◌then◌else◌, ◌==◌, nat_lt, codes, unwrap_or}
+use Rattle.std.specs.Prelude.{ℕ, ◌^◌, ◌/◌, ◌%◌, Bool, true, false, ◌||◌, List, Option, None, Some, if◌then◌else◌, ◌==◌, nat_lt, codes, option_map, unwrap_or}
 use Rattle.std.specs.Str.{bytes_eq}
 use Rattle.trace_text.specs.Number.{number_of}
 use Rattle.trace_text.specs.Request.{◌>>=◌}
@@ -10,6 +10,8 @@ use Rattle.vm_base.specs.declared.requests.Request.{Request}
 use Rattle.vm_base.specs.declared.requests.Request.TheVariants.{Mmap, Munmap, Mprotect}
 use Rattle.import_forms.specs.Said.{asked, has_kind}
 use Rattle.import_forms.specs.Tokens.{Token, front_count, front_token, hexadecimal, only_count, split_at_last}
+use Rattle.import_forms.specs.declared.said.Lost.{Lost}
+use Rattle.import_forms.specs.declared.said.Lost.TheVariants as Lose
 use Rattle.import_forms.specs.declared.said.Said.{Said}
 use Rattle.import_forms.specs.declared.said.Said.TheVariants as Says
 use Rattle.import_lackey.specs.declared.heard.Access.{Access}
@@ -39,13 +41,23 @@ touch_heard line = do
   size ← only_count digits.1
   Some (record { access = access; addr = addr; size = size })
 
+-- a call of such a name changes the address space in a way that no trace has
+abbrev pub lost_named : Token → Option Lost
+lost_named name = if bytes_eq name (codes "sys_shmat") then Some Lose.Attach
+    else if bytes_eq name (codes "sys_shmdt") then Some Lose.Detach
+    else if bytes_eq name (codes "sys_remap_file_pages") then Some Lose.Remaps
+    else if bytes_eq name (codes "sys_userfaultfd") then Some Lose.Faults
+    else None
+
 abbrev pub call_named : Token → Option Call
 call_named name = if bytes_eq name (codes "sys_mmap") then Some Of.Mmap
     else if bytes_eq name (codes "sys_munmap") then Some Of.Munmap
     else if bytes_eq name (codes "sys_mprotect") then Some Of.Mprotect
     else if bytes_eq name (codes "sys_brk") then Some Of.Brk
     else if bytes_eq name (codes "sys_mremap") then Some Of.Mremap
-    else None
+    else if bytes_eq name (codes "sys_pkey_mprotect") then Some Of.Keyed
+    else if bytes_eq name (codes "sys_madvise") then Some Of.Advise
+    else option_map Of.Lost (lost_named name)
 
 -- a call answers with this word and number
 abbrev pub outcome_heard : List ℕ → ℕ → Outcome
@@ -88,6 +100,27 @@ mmap_heard args addr = do
   off ← front_count token.1
   if is_plain bits.0 then Some (Mmap addr len.0 (rights_heard prot.0) (flags_heard bits.0) file off.0) else None
 
+-- the bits of `HINT, LEN, PROT, FLAGS, ..`
+unfoldable pub bits_of_mmap : List ℕ → Option ℕ
+bits_of_mmap args = do
+  hint ← front_count args
+  len ← front_count hint.1
+  prot ← front_count len.1
+  bits ← front_count prot.1
+  Some bits.0
+
+-- a mapping with these bits that isn't read: of pages of another size, or one that grows by itself
+abbrev pub lost_by : Option ℕ → Said
+lost_by None = Says.Unread
+lost_by (Some bits) = if bits / 2 ^ 18 % 2 == 1 then Says.Loses Lose.Huge
+    else if bits / 256 % 2 == 1 then Says.Loses Lose.Grows
+    else Says.Unread
+
+-- a mapping that is read, or none
+abbrev pub mapping_heard : List ℕ → Option Request → Said
+mapping_heard args (Some request) = Says.Asks request
+mapping_heard args None = lost_by (bits_of_mmap args)
+
 -- `ADDR, LEN`
 unfoldable pub munmap_heard : List ℕ → Option Request
 munmap_heard args = do
@@ -112,19 +145,51 @@ mremap_heard args to = do
   bits ← front_count new.1
   if old.0 == 0 then None else if nat_lt 3 bits.0 then None else Some (Says.Moves from.0 old.0 to new.0)
 
+-- rights with a key
+abbrev pub keyed_heard : Option Request → Said
+keyed_heard (Some request) = Says.Keyed request
+keyed_heard None = Says.Unread
+
+-- advice that drops the bytes of pages: MADV_DONTNEED is 4, MADV_FREE 8, MADV_REMOVE 9, and MADV_DONTNEED_LOCKED 24
+abbrev pub drops : ℕ → Bool
+drops advice = (advice == 4) || (advice == 8) || (advice == 9) || (advice == 24)
+
+-- `ADDR, LEN, ADVICE`
+unfoldable pub advice_heard : List ℕ → Option Said
+advice_heard args = do
+  addr ← front_count args
+  len ← front_count addr.1
+  advice ← front_count len.1
+  if drops advice.0 then Some (Says.Loses Lose.Drops) else Some Says.Other
+
+-- What a call says whose end stands in another line. What changes the address space as no trace has is told where it begins:
+-- whether it fails then isn't looked for.
+abbrev pub begun_heard : Call → List ℕ → Said
+begun_heard Of.Mmap args = Says.Unread
+begun_heard Of.Munmap args = Says.Unread
+begun_heard Of.Mprotect args = Says.Unread
+begun_heard Of.Brk args = Says.Unread
+begun_heard Of.Mremap args = Says.Unread
+begun_heard Of.Keyed args = Says.Unread
+begun_heard Of.Advise args = unwrap_or (advice_heard args) Says.Unread
+begun_heard (Of.Lost lost) args = Says.Loses lost
+
 -- what a call says that gave this number, from its arguments on
 abbrev pub done_heard : Call → List ℕ → ℕ → Said
-done_heard Of.Mmap args gave = asked (mmap_heard args gave)
+done_heard Of.Mmap args gave = mapping_heard args (mmap_heard args gave)
 done_heard Of.Munmap args gave = asked (munmap_heard args)
 done_heard Of.Mprotect args gave = asked (mprotect_heard args)
 done_heard Of.Brk args gave = Says.Breaks gave
 done_heard Of.Mremap args gave = unwrap_or (mremap_heard args gave) Says.Unread
+done_heard Of.Keyed args gave = keyed_heard (mprotect_heard args)
+done_heard Of.Advise args gave = begun_heard Of.Advise args
+done_heard (Of.Lost lost) args gave = Says.Loses lost
 
 abbrev pub call_heard : Call → List ℕ → Option Outcome → Said
 call_heard call args (Some (Gives gave)) = done_heard call args gave
 call_heard call args (Some Fails) = Says.Fails
 call_heard call args (Some Unclear) = Says.Unread
-call_heard call args None = Says.Unread
+call_heard call args None = begun_heard call args
 
 -- `SYSCALL[PROCESS,THREAD](NUMBER) NAME ( ARGS )`, and how it ended
 unfoldable pub known_heard : List ℕ → Option Said

@@ -1,9 +1,10 @@
 //! What a line of lackey says: an access, or a call of the system.
 ghost use Rattle.std.specs.Prelude.{◌≡◌, option_map};
-ghost use Rattle.import_lackey.specs.Heard.{access_named, call_heard, call_named, descriptor_heard, done_heard, flags_heard, heard_of, is_plain, known_heard};
+ghost use Rattle.import_lackey.specs.Heard.{access_named, advice_heard, begun_heard, bits_of_mmap, call_heard, call_named, descriptor_heard, done_heard, drops};
+ghost use Rattle.import_lackey.specs.Heard.{flags_heard, heard_of, is_plain, keyed_heard, known_heard, lost_by, lost_named, mapping_heard};
 ghost use Rattle.import_lackey.specs.Heard.{mmap_heard, mprotect_heard, mremap_heard, munmap_heard, outcome_heard, outcome_of, rights_heard, touch_heard};
 
-use import_forms::said::{Said, asked, has_kind};
+use import_forms::said::{Lost, Said, asked, has_kind};
 use import_forms::tokens::{next_count, next_token, read_hexadecimal, read_only, split_last};
 use trace_text::number::read_number;
 use vm_base::{Flags, Prot, Request};
@@ -49,6 +50,9 @@ enum Call {
     Mprotect,
     Brk,
     Mremap,
+    Keyed,
+    Advise,
+    Lost(Lost),
 }
 
 // How a call ended.
@@ -89,6 +93,23 @@ fn read_touch(line: &[u8]) -> Option<Touch>
     Some(Touch { access, addr, size })
 }
 
+// What the call of this name changes in a way that no trace has, if it does so.
+fn lost_named(name: &[u8]) -> Option<Lost>
+    ensures { result ≡ lost_named name.now }
+{
+    if name == b"sys_shmat".as_slice() {
+        Some(Lost::Attach)
+    } else if name == b"sys_shmdt".as_slice() {
+        Some(Lost::Detach)
+    } else if name == b"sys_remap_file_pages".as_slice() {
+        Some(Lost::Remaps)
+    } else if name == b"sys_userfaultfd".as_slice() {
+        Some(Lost::Faults)
+    } else {
+        None
+    }
+}
+
 // The call of this name.
 fn call_named(name: &[u8]) -> Option<Call>
     ensures { result ≡ call_named name.now }
@@ -103,8 +124,15 @@ fn call_named(name: &[u8]) -> Option<Call>
         Some(Call::Brk)
     } else if name == b"sys_mremap".as_slice() {
         Some(Call::Mremap)
+    } else if name == b"sys_pkey_mprotect".as_slice() {
+        Some(Call::Keyed)
+    } else if name == b"sys_madvise".as_slice() {
+        Some(Call::Advise)
     } else {
-        None
+        match lost_named(name) {
+            Some(lost) => Some(Call::Lost(lost)),
+            None => None,
+        }
     }
 }
 
@@ -204,6 +232,44 @@ fn read_mmap(args: &[u8], addr: u64) -> Option<Request>
     })
 }
 
+// The flags' bits of `HINT, LEN, PROT, FLAGS, ..`.
+#[tactic(auto, unfolding(crate::specs::Heard::bits_of_mmap))]
+fn bits_of_mmap(args: &[u8]) -> Option<u64>
+    ensures { result ≡ bits_of_mmap args.now }
+{
+    let (_, rest) = next_count(args)?;
+    let (_, rest) = next_count(rest)?;
+    let (_, rest) = next_count(rest)?;
+    let (bits, _) = next_count(rest)?;
+    Some(bits)
+}
+
+// What a mapping with these flags is that isn't read.
+fn lost_by(bits: u64) -> Said
+    ensures { result ≡ lost_by (Some bits) }
+{
+    if bits / 262_144 % 2 == 1 {
+        return Said::Loses(Lost::Huge);
+    }
+    if bits / 256 % 2 == 1 {
+        return Said::Loses(Lost::Grows);
+    }
+    Said::Unread
+}
+
+// What an `mmap` says that gave this address.
+fn read_mapping(args: &[u8], addr: u64) -> Said
+    ensures { result ≡ mapping_heard args.now (mmap_heard args.now addr) }
+{
+    match read_mmap(args, addr) {
+        Some(request) => Said::Asks(request),
+        None => match bits_of_mmap(args) {
+            Some(bits) => lost_by(bits),
+            None => Said::Unread,
+        },
+    }
+}
+
 // `ADDR, LEN`.
 #[tactic(auto, unfolding(crate::specs::Heard::munmap_heard))]
 fn read_munmap(args: &[u8]) -> Option<Request>
@@ -250,12 +316,59 @@ fn read_mremap(args: &[u8], to: u64) -> Option<Said>
     Some(Said::Moves { from, old, to, new })
 }
 
+// What is said by a request of rights with a key.
+fn read_keyed(args: &[u8]) -> Said
+    ensures { result ≡ keyed_heard (mprotect_heard args.now) }
+{
+    match read_mprotect(args) {
+        Some(request) => Said::Keyed(request),
+        None => Said::Unread,
+    }
+}
+
+// Tells whether this advice drops the bytes of pages.
+fn drops(advice: u64) -> bool
+    ensures { result ≡ drops advice }
+{
+    advice == 4 || advice == 8 || advice == 9 || advice == 24
+}
+
+// `ADDR, LEN, ADVICE`: what the advice changes.
+#[tactic(auto, unfolding(crate::specs::Heard::advice_heard))]
+fn read_advice(args: &[u8]) -> Option<Said>
+    ensures { result ≡ advice_heard args.now }
+{
+    let (_, rest) = next_count(args)?;
+    let (_, rest) = next_count(rest)?;
+    let (advice, _) = next_count(rest)?;
+    if drops(advice) {
+        Some(Said::Loses(Lost::Drops))
+    } else {
+        Some(Said::Other)
+    }
+}
+
+// What is said by a call that changes the address space as no trace has, or whose end stands in another line.
+fn read_begun(call: Call, args: &[u8]) -> Said
+    ensures { result ≡ begun_heard call args.now }
+{
+    match call {
+        Call::Advise => match read_advice(args) {
+            Some(said) => said,
+            None => Said::Unread,
+        },
+        Call::Lost(lost) => Said::Loses(lost),
+        Call::Mmap | Call::Munmap | Call::Mprotect | Call::Brk | Call::Mremap | Call::Keyed =>
+            Said::Unread,
+    }
+}
+
 // What is said by a call that gave this number, from its arguments on.
 fn read_done(call: Call, args: &[u8], gave: u64) -> Said
     ensures { result ≡ done_heard call args.now gave }
 {
     match call {
-        Call::Mmap => asked(read_mmap(args, gave)),
+        Call::Mmap => read_mapping(args, gave),
         Call::Munmap => asked(read_munmap(args)),
         Call::Mprotect => asked(read_mprotect(args)),
         Call::Brk => Said::Breaks(gave),
@@ -263,6 +376,8 @@ fn read_done(call: Call, args: &[u8], gave: u64) -> Said
             Some(moves) => moves,
             None => Said::Unread,
         },
+        Call::Keyed => read_keyed(args),
+        Call::Advise | Call::Lost(_) => read_begun(call, args),
     }
 }
 
@@ -274,7 +389,7 @@ fn read_args(call: Call, args: &[u8]) -> Said
         Some(Outcome::Gives(gave)) => read_done(call, args, gave),
         Some(Outcome::Fails) => Said::Fails,
         Some(Outcome::Unclear) => Said::Unread,
-        None => Said::Unread,
+        None => read_begun(call, args),
     }
 }
 

@@ -1,3 +1,4 @@
+mod EachLemmas
 mod JoinLemmas
 mod MadeLemmas
 mod NameLemmas

@@ -1,5 +1,5 @@
 -- How an import ends.
-use Rattle.std.specs.Prelude.{◌≡◌, ℕ, List, [], Option, Result, Ok, Err, length}
+use Rattle.std.specs.Prelude.{◌≡◌, ℕ, List, [], Option, Result, Ok, Err, length, map}
 use Rattle.std.specs.Io.KnownBytes.{Keeps, Appends}
 use Rattle.trace_io.specs.Lines.{lines_of}
 use Rattle.trace_io.specs.Sink.{AppendsFront}
@@ -7,6 +7,7 @@ use Rattle.trace_io.specs.declared.fault.IoFault.{IoFault}
 use Rattle.trace_io.specs.declared.fault.IoFault.TheVariants.{ReadFailed, NoMemory, WriteFailed}
 use Rattle.import_text.specs.Counts.{total}
 use Rattle.import_text.specs.Imported.{ending_of, import_of, process_in, processes_of, unread_of}
+use Rattle.import_text.specs.Programs.{program_name, programs_in}
 use Rattle.import_text.specs.Taking.{SoFar}
 use Rattle.import_text.specs.Texts.{imported_text}
 use Rattle.import_text.specs.declared.counts.Counts.{Counts}
@@ -48,6 +49,7 @@ pub record ImportsAll (start : SoFar) (choice : Choice) (input : List ℕ) (old 
   pub log : MakesText (made_text start choice input) (import_of start choice input).1 report.counts input old new
   pub ending : report.ending ≡ ending_of start choice input
   pub processes : report.processes.items ≡ processes_of choice.joined input
+  pub programs : map program_name report.programs.items ≡ programs_in choice.joined input
   pub process : report.process ≡ process_in choice input
   pub unread : report.unread.items ≡ unread_of start choice input
 

@@ -7,5 +7,7 @@ pub mod Taking
 pub mod Losses
 pub mod Counts
 pub mod Imported
+pub mod Programs
 pub mod Texts
 pub mod Ends
+pub mod Each

@@ -6,12 +6,14 @@ ghost use Rattle.import_text.specs.Counts.{total};
 ghost use Rattle.import_text.specs.Imported.{chosen_all, ending_all, import_all, processes_all};
 ghost use Rattle.import_text.specs.Imported.{ending_by, ending_of, first_unread, import_of, imported, is_unread, processes_of, process_in, taken_if, unread_for, unread_of};
 ghost use Rattle.import_text.specs.Processes.{is_there};
+ghost use Rattle.import_text.specs.Programs.{program_name, programs_all, programs_in};
 ghost use Rattle.import_text.specs.Taking.{so_far};
 
 use crate::counts::Counts;
 use crate::joining::put_call;
 use crate::made::{Hold, Making, all_makings, chain_of, holder};
 use crate::processes::{Choice, Process, chosen, is_there, look, read_processes, recall};
+use crate::programs::{Program, read_programs};
 use crate::taking::{Fate, Reason, Taken, take};
 use import_forms::said::{Said, read_call};
 use import_forms::speech::{Speech, read_speech, read_speeches};
@@ -38,6 +40,8 @@ pub struct Report {
     pub counts: Counts,
     /// The processes of the log, in the order of their first lines.
     pub processes: Vec<Process>,
+    /// The programs that they began last, where there are several processes.
+    pub programs: Vec<Program>,
     /// The process that is imported.
     pub process: u64,
     /// The first line that isn't read, 80 bytes at most, where there is no trace.
@@ -78,8 +82,8 @@ fn take_line<'a>(
     take(alloc, start, taken, thread, text.as_slice(), said)
 }
 
-// Takes what all lines of this process say.
-fn take_lines<'a>(
+/// Takes what all lines of this process say.
+pub(crate) fn take_lines<'a>(
     alloc: Global,
     start: &Taken,
     speeches: &[Speech<'a>],
@@ -160,8 +164,8 @@ fn copy_unread(alloc: Global, log: &[u8], ending: Ending) -> Result<Vec<u8>, All
     }
 }
 
-// How an import ended of which this is taken, of a log that has lines of the thread or not.
-fn ending_by(is_there: bool, steps: usize) -> Ending
+/// How an import ended of which this is taken, of a log that has lines of the thread or not.
+pub(crate) fn ending_by(is_there: bool, steps: usize) -> Ending
     ensures { result ≡ ending_by is_there steps }
 {
     if !is_there {
@@ -184,6 +188,7 @@ fn import_speeches<'a>(
     ensures value { IfOk result (λ i. (so_far i.0, i.1.counts) ≡ import_all (so_far start.now) choice (map spoken speeches.now)) }
     ensures ending { IfOk result (λ i. i.1.ending ≡ ending_all (so_far start.now) choice (map spoken speeches.now)) }
     ensures processes { IfOk result (λ i. i.1.processes.items ≡ processes_all choice.joined (map spoken speeches.now)) }
+    ensures programs { IfOk result (λ i. map program_name i.1.programs.items ≡ programs_all choice.joined (map spoken speeches.now)) }
     ensures process { IfOk result (λ i. i.1.process ≡ chosen_all choice (map spoken speeches.now)) }
     ensures unread { IfOk result (λ i. i.1.unread.items ≡ unread_for i.1.ending log.now) }
     ensures total { IfOk result (λ i. total i.1.counts ≡ length speeches.now) }
@@ -192,6 +197,13 @@ fn import_speeches<'a>(
     let mut text: Vec<u8> = Vec::new(alloc);
     let made = all_makings(alloc, speeches, choice.joined, &mut text)?;
     let processes = read_processes(alloc, speeches, made.as_slice(), &mut text)?;
+    let programs = read_programs(
+        alloc,
+        speeches,
+        made.as_slice(),
+        processes.as_slice(),
+        &mut text,
+    )?;
     let process = chosen(choice, made.as_slice(), processes.as_slice());
     let chain = chain_of(alloc, made.as_slice(), process)?;
     let imported = take_lines(
@@ -208,6 +220,7 @@ fn import_speeches<'a>(
         ending,
         counts: imported.counts,
         processes,
+        programs,
         process,
         unread,
     };
@@ -225,6 +238,7 @@ pub fn import_lines(
     ensures value { IfOk result (λ i. (so_far i.0, i.1.counts) ≡ import_of (so_far start.now) choice log.now) }
     ensures ending { IfOk result (λ i. i.1.ending ≡ ending_of (so_far start.now) choice log.now) }
     ensures processes { IfOk result (λ i. i.1.processes.items ≡ processes_of choice.joined log.now) }
+    ensures programs { IfOk result (λ i. map program_name i.1.programs.items ≡ programs_in choice.joined log.now) }
     ensures process { IfOk result (λ i. i.1.process ≡ process_in choice log.now) }
     ensures unread { IfOk result (λ i. i.1.unread.items ≡ unread_of (so_far start.now) choice log.now) }
     ensures total { IfOk result (λ i. total i.1.counts ≡ length (lines_of log.now)) }

@@ -2,6 +2,7 @@
 #![tactic(auto)]
 
 pub mod counts;
+pub mod each;
 pub mod import;
 pub mod joining;
 pub mod log;
@@ -9,6 +10,7 @@ pub mod losses;
 pub mod made;
 pub mod names;
 pub mod processes;
+pub mod programs;
 pub mod shared;
 pub mod taking;
 pub mod writing;

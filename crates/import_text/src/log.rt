@@ -15,8 +15,12 @@ use trace_io::IoFault;
 use trace_io::sink::{Sink, write_out};
 use trace_io::source::{Source, read_all};
 
-// The text of a trace, where an import ended with one.
-fn write_ended(alloc: Global, ending: Ending, taken: &Taken) -> Result<Vec<u8>, AllocError>
+/// The text of a trace, where an import ended with one.
+pub(crate) fn write_ended(
+    alloc: Global,
+    ending: Ending,
+    taken: &Taken,
+) -> Result<Vec<u8>, AllocError>
     ensures { IfOk result (λ all. all.items ≡ ended_text ending (so_far taken.now)) }
 {
     match ending {

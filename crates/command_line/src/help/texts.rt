@@ -105,15 +105,26 @@ the program asked of its address space:
   radixvm import LOG | radixvm run
 
 Give strace -o FILE: at a terminal it breaks lines where a thread begins. Read
-are lines with -t, -tt, -ttt, -r, -T, -i, -n, -Y, -X raw and -X verbose too. Of
-strace -ff, strace-log-merge makes one log of the files.
+are lines with -t, -tt, -ttt, -r, -T, -i, -n, -Y, -X raw and -X verbose too.
+
+Several FILEs are one log. strace -ff writes one for each thread, LOG.NUMBER:
+each line is one of the thread with the number behind its file's last dot. Give
+strace -ttt or -tt beside it: the lines go in the order of their times, which
+are those at which calls began. In a file no time goes back: at midnight -tt
+begins anew, and -ttt doesn't. Lines before the first time of their file come
+first, in the order of the FILEs, and standard error tells how many there are.
 
   --pid N        the process of thread N, else the one with the most requests:
-                 several are then listed on standard error. A forked process
+                 several are then listed on standard error, with the programs
+                 that they began last. A forked process
                  begins with its parent's mappings. It is an error, and they
                  are listed, if no line is about thread N
   --one-process  all threads of whose creation no line tells are of one
                  process, as strace -f -p N leaves it; else each is one
+  --all DIR      a trace of each process, NUMBER.trace in the folder DIR, which
+                 is made if it isn't there: what --pid writes of it. What it
+                 tells on standard error is told of each. A process without
+                 requests has no trace. It goes beside none of the others
   --maps FILE    a copy of /proc/PID/maps, as it was where the trace begins: at
                  the log's first line, or, where the log has an execve of the
                  process, right behind it
@@ -249,7 +260,9 @@ in any order, stand lines
 
 A call that ended before another began (END below BEGIN) takes effect before
 it; of others any may be the first. Calls of one core may not overlap. A call
-that has no reply yet has no line. It writes one of these:
+that has no reply yet has no line. Instead of all such lines there may be those
+of run --echo, as above: a call is then under way from the line in which it
+begins to that of its reply. It writes one of these:
 
   legal CALLS          some order of the calls has just these replies
   undecided N          no order was found that gets to the end of line N's

@@ -1,3 +1,4 @@
+use Rattle.std.proofs.Common.{refl}
 use Rattle.command_line.proofs.command.act.Goals as goal
 
 pub returns-in-Replay-clause-does : goal.returns-in-Replay-clause-does
@@ -23,6 +24,9 @@ returns-in-ShareLive-clause-does g c = rw c.in-Ok.is (rw c.in-ShareLive.is c.sha
 
 pub returns-in-Import-clause-does : goal.returns-in-Import-clause-does
 returns-in-Import-clause-does g c = rw c.in-Ok.is (rw c.in-Import.is c.import.ensures.ends)
+
+pub returns-in-ImportEach-clause-does : goal.returns-in-ImportEach-clause-does
+returns-in-ImportEach-clause-does g c = rw c.in-Ok.is (rw c.in-ImportEach.is (c.import_each.ensures.ends, refl))
 
 pub returns-in-ImportAccesses-clause-does : goal.returns-in-ImportAccesses-clause-does
 returns-in-ImportAccesses-clause-does g c = rw c.in-Ok.is (rw c.in-ImportAccesses.is c.import_accesses.ensures.ends)

@@ -1,0 +1,28 @@
+-- Several files that an import reads as one log, and the files that it writes.
+use Rattle.std.specs.Prelude.{◌≡◌, ℕ, List, ◌++◌, All, Option, codes, decimal, map}
+use Rattle.import_files.specs.Joined.{IsJoined, all_lines, thread_in, untimed}
+use Rattle.import_text.specs.declared.each.Part.{Part}
+use Rattle.import_text.specs.declared.import.Ending.TheVariants.{Written}
+use denote.Ref.{Bor}
+
+-- The text has the lines of logs of these threads in the order of their times, and so many lines have no time.
+pub record IsGathered (threads : List (Option ℕ)) (text : List ℕ) (count : ℕ) : Type 0 where
+  pub logs : List (Option ℕ × List ℕ)
+  pub named : map (λ f. f.0) logs ≡ threads
+  pub joined : IsJoined logs text
+  pub timeless : count ≡ untimed (all_lines logs)
+
+-- the thread that a file's name ends with
+abbrev pub thread_of : Bor (List ℕ) → Option ℕ
+thread_of name = thread_in name.now
+
+-- the trace of a process in a folder
+abbrev pub path_in : List ℕ → ℕ → List ℕ
+path_in folder number = folder ++ codes "/" ++ decimal number ++ codes ".trace"
+
+-- where a process has a trace, the file of it in the folder has that
+abbrev pub IsSaved : (List ℕ → List ℕ → Type 0) → List ℕ → Part → Type 0
+IsSaved Has folder p = p.ending ≡ Written → Has (path_in folder p.process.number) p.text.items
+
+abbrev pub AreSaved : (List ℕ → List ℕ → Type 0) → List ℕ → List Part → Type 0
+AreSaved Has folder parts = All (IsSaved Has folder) parts

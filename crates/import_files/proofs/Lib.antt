@@ -1,0 +1,2 @@
+mod TimeLemmas
+mod JoinedLemmas

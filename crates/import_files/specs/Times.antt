@@ -1,0 +1,61 @@
+-- When a line of strace was written, as its first words say.
+use Rattle.std.specs.Prelude.{ℕ, zero, suc, ◌+◌, ◌-◌, ◌*◌, ◌^◌, Bool, true, ◌&&◌, ◌||◌, List, [], ◌∷◌, Option, None, Some, if◌then◌else◌, ◌==◌, codes, drop, min, nat_le, nat_lt}
+use Rattle.std.specs.Str.{bytes_eq}
+use Rattle.trace_text.specs.Words.{byte}
+use Rattle.import_forms.specs.Tokens.{Token, begins_by, front_token}
+
+-- a decimal digit
+abbrev pub is_digit : ℕ → Bool
+is_digit x = nat_le (byte (codes "0")) x && nat_le x (byte (codes "9"))
+
+-- how many digits stand first
+abbrev pub front_digits : List ℕ → ℕ
+front_digits [] = 0
+front_digits (x ∷ xs) = if is_digit x then front_digits xs + 1 else 0
+
+-- a digit, or a sign that divides those of a time
+abbrev pub is_of_time : ℕ → Bool
+is_of_time x = is_digit x || (x == byte (codes ":")) || (x == byte (codes "."))
+
+abbrev pub are_of_time : List ℕ → Bool
+are_of_time [] = true
+are_of_time (x ∷ xs) = is_of_time x && are_of_time xs
+
+-- n with one digit more, at most 2^64 - 1; another byte says nothing
+abbrev pub with_digit : ℕ → ℕ → ℕ
+with_digit n x = if nat_lt x 48 then n else if nat_lt 57 x then n else min (min (n * 10) (2 ^ 64 - 1) + (x - 48)) (2 ^ 64 - 1)
+
+-- the number that n and the digits behind it spell
+abbrev pub digits_from : ℕ → List ℕ → ℕ
+digits_from n [] = n
+digits_from n (x ∷ xs) = digits_from (with_digit n x) xs
+
+-- a time of the day, `HH:MM:SS`, or the seconds since 1970, which have ten digits since 2001; both may have parts of a second behind them
+abbrev pub is_moment : Token → Bool
+is_moment token = are_of_time token
+    && (nat_le 10 (front_digits token) || ((front_digits token == 2) && begins_by (codes ":") (drop (front_digits token) token)))
+
+-- The number that its digits spell. Times of one log have one form, so they are in the order of these.
+abbrev pub moment_named : Token → Option ℕ
+moment_named token = if is_moment token then Some (digits_from 0 token) else None
+
+-- what may stand before a time: a number, or the word `pid` before one
+abbrev pub goes_before : Token → Bool
+goes_before token = nat_le 1 (front_digits token) || bytes_eq token (codes "pid")
+
+abbrev pub moment_first : Option ℕ → Option ℕ → Option ℕ
+moment_first None later = later
+moment_first (Some moment) later = Some moment
+
+abbrev pub moment_next : (List ℕ → Option ℕ) → Option (Token × List ℕ) → Option ℕ
+moment_next more None = None
+moment_next more (Some t) = moment_first (moment_named t.0) (if goes_before t.0 then more t.1 else None)
+
+-- the time among the first n words, behind such words alone
+abbrev pub moment_within : ℕ → List ℕ → Option ℕ
+moment_within zero bytes = None
+moment_within (suc n) bytes = moment_next (moment_within n) (front_token bytes)
+
+-- the time that a line tells, behind at most `pid` and a number
+abbrev pub moment_of : List ℕ → Option ℕ
+moment_of line = moment_within 3 line

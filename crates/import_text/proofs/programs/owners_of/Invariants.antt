@@ -1,0 +1,15 @@
+use Rattle.std.proofs.Common.{◌≡◌, ◌≤◌, ◌-◌, map, length, take}
+use Rattle.import_forms.specs.Speech.{spoken}
+use Rattle.import_text.specs.Made.{process_of}
+use Rattle.import_text.specs.Programs.{owners}
+use Rattle.import_text.proofs.programs.owners_of.Given as goal
+
+abbrev pub invariant-lines : goal.invariant-lines
+invariant-lines l = record {
+  within : l.at ≤ length l.speeches;
+  value : l.owned.items ≡ owners l.made (take l.at (map spoken l.speeches));
+  known : l.known.process ≡ process_of l.made l.known.thread;
+}
+
+abbrev pub decreases-lines : goal.decreases-lines
+decreases-lines l = length l.speeches - l.at

@@ -1,0 +1,85 @@
+-- Which programs the processes of a log ran.
+use Rattle.std.specs.Prelude.{ℕ, zero, suc, Bool, true, false, List, [], ◌∷◌, Option, None, Some, if◌then◌else◌, ◌==◌, codes, length, map, nat_lt, slice_index_or, unwrap_or}
+use Rattle.trace_text.specs.Words.{byte}
+use Rattle.import_forms.specs.Said.{said_of}
+use Rattle.import_forms.specs.Speech.{Spoken}
+use Rattle.import_forms.specs.declared.said.Said.{Said}
+use Rattle.import_forms.specs.declared.said.Said.TheVariants as Says
+use Rattle.import_text.specs.Imported.{processes_all, speeches_of}
+use Rattle.import_text.specs.Joining.{call_at}
+use Rattle.import_text.specs.Made.{all_makings, process_of}
+use Rattle.import_text.specs.Names.{name_shown}
+use Rattle.import_text.specs.declared.made.Making.{Making}
+use Rattle.import_text.specs.declared.processes.Process.{Process}
+use Rattle.import_text.specs.declared.programs.Program.{Program}
+
+-- what stands behind the first quote
+abbrev pub past_quote : List ℕ → List ℕ
+past_quote [] = []
+past_quote (x ∷ xs) = if x == byte (codes "\"") then xs else past_quote xs
+
+-- what stands before the first quote
+abbrev pub up_to_quote : List ℕ → List ℕ
+up_to_quote [] = []
+up_to_quote (x ∷ xs) = if x == byte (codes "\"") then [] else x ∷ up_to_quote xs
+
+-- what stands between the first two quotes
+abbrev pub quoted : List ℕ → List ℕ
+quoted text = up_to_quote (past_quote text)
+
+-- a program begins
+abbrev pub begins : Said → Bool
+begins (Says.Asks request) = false
+begins (Says.Breaks to) = false
+begins (Says.Moves from old to new) = false
+begins (Says.Makes thread shares) = false
+begins Says.Begins = true
+begins (Says.Keyed request) = false
+begins (Says.Sizes number len) = false
+begins (Says.Attaches number addr prot) = false
+begins (Says.Detaches addr) = false
+begins (Says.Loses lost) = false
+begins Says.Fails = false
+begins Says.Unread = false
+begins Says.Other = false
+
+-- the file of the program that a call begins, if it does so
+abbrev pub program_in : Option (List ℕ) → Option (List ℕ)
+program_in None = None
+program_in (Some text) = if begins (said_of text) then Some (quoted text) else None
+
+-- of which process each line's thread is
+abbrev pub owners : List Making → List Spoken → List ℕ
+owners made all = map (λ s. process_of made s.0) all
+
+-- the file of the program that the process begins at line k, if it does so
+abbrev pub program_at : List Spoken → List ℕ → ℕ → ℕ → Option (List ℕ)
+program_at all owned number k = if slice_index_or owned k 0 == number then program_in (call_at all k) else None
+
+-- the file of the program that the process began last in the first n lines, nothing where it began none
+abbrev pub program_before : List Spoken → List ℕ → ℕ → ℕ → List ℕ
+program_before all owned number zero = []
+program_before all owned number (suc n) = unwrap_or (program_at all owned number n) (program_before all owned number n)
+
+-- what is shown of it in 80 bytes
+abbrev pub program_of : List Spoken → List ℕ → ℕ → List ℕ
+program_of all owned number = name_shown 80 (program_before all owned number (length all))
+
+-- that of each process
+abbrev pub programs_of : List Spoken → List ℕ → List Process → List (List ℕ)
+programs_of all owned ps = map (λ p. program_of all owned p.number) ps
+
+-- where there are several
+abbrev pub programs_for : List Spoken → List Making → List Process → List (List ℕ)
+programs_for all made ps = if nat_lt (length ps) 2 then [] else programs_of all (owners made all) ps
+
+abbrev pub programs_all : Bool → List Spoken → List (List ℕ)
+programs_all joined all = programs_for all (all_makings joined all) (processes_all joined all)
+
+-- of a log
+abbrev pub programs_in : Bool → List ℕ → List (List ℕ)
+programs_in joined log = programs_all joined (speeches_of log)
+
+-- what the code keeps of a program, as bytes
+abbrev pub program_name : Program → List ℕ
+program_name p = p.name.items
