@@ -33,7 +33,7 @@ pub struct Wrong {
     pub due: Reply,
 }
 
-/// How many frames an audit has: at most so many pages have own bytes, or are pages of files that
+/// How many frames an audit has: at most this many pages have own bytes, or are pages of files that
 /// stores have changed.
 const FRAMES: u32 = 65_536;
 
@@ -137,7 +137,7 @@ impl<M: SlotMap, A: Allocator> Auditor<M, A> {
     /// Gives a page its own copy of its file's bytes, as a step by itself, and tells whether it did: `true` where it is a private
     /// page that shows its file's bytes and a store to it is allowed, as the entry of a log that tells a copy. Such a copy may come
     /// long before its store is done, and may be all that a store did that got no memory. Elsewhere nothing changes; nor where
-    /// memory is wanting, or bytes of more than 65,536 pages would be kept, which comes only where a copy is due.
+    /// memory is refused, or bytes of more than 65,536 pages would be kept, which comes only where a copy is due.
     pub fn copy(&mut self, page: u64) -> Result<bool, NoMemory>
         ensures yes { result ≡ Ok true → Copies (plain_of self.old) page (plain_of self.new) }
         ensures no { result ≡ Ok false → (u : Plain) → ¬ Copies (plain_of self.old) page u }
@@ -165,7 +165,7 @@ impl<M: SlotMap, A: Allocator> Auditor<M, A> {
     ghost use Rattle.audit.specs.Placing.{rule_of};
 
     /// Judges the replies of calls, which come one after another behind those judged before: none is
-    /// wrong exactly where they are the plain page map's, and else the first one is told, before which
+    /// wrong exactly where they are the plain page map's, and else the first wrong one is reported, before which
     /// it has stopped. Memory is wanted only for a legal reply, before which it has then stopped.
     pub fn judge_all(&mut self, calls: &[Call]) -> Result<Option<Wrong>, NoMemory>
         ensures legal { IfOk result (λ found. IfNone found (AreReplies (rule_of self.old.any_place)

@@ -29,7 +29,7 @@ fn is_copy_due<A: Allocator>(objects: &Objects<A>, info: &PageInfo) -> bool
 }
 
 /// Gives a page a copy of its own, where it is a private one that shows its file's bytes and a store to it is allowed, and
-/// tells whether it did. Otherwise, and where memory or frames are wanting for it, the plain page map stays.
+/// tells whether it did. Otherwise, and where memory or frames run out for it, the plain page map stays.
 pub fn copy_page<M: SlotMap, A: Allocator>(
     map: &mut M,
     objects: &Objects<A>,

@@ -39,7 +39,7 @@ pub fn first_place<M: SlotMap>(map: &M, place: Place) -> Option<u64>
     map.first_free_run(place.window, place.count)
 }
 
-/// Tells whether no run of so many valid pages is free.
+/// Tells whether no run of this many valid pages is free.
 fn has_no_room<M: SlotMap>(map: &M, count: u64) -> bool
     requires some { 1 ≤ count }
     ensures { IsTrue result ↔ IsAnyPlace (is_mapped (entries (M.slots map.now))) all_pages 0 count None }
@@ -50,8 +50,8 @@ fn has_no_room<M: SlotMap>(map: &M, count: u64) -> bool
     }
 }
 
-/// Tells whether so many pages from this one on are valid, and none of them is mapped; of no page,
-/// whether no run of so many valid pages is free.
+/// Tells whether this many pages from this one on are valid, and none of them is mapped; of no page,
+/// whether no run of this many valid pages is free.
 fn is_any_place<M: SlotMap>(map: &M, count: u64, found: Option<u64>) -> bool
     requires some { 1 ≤ count }
     requires count { count ≤ 2 ^ 35 }

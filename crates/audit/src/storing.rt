@@ -105,7 +105,7 @@ fn store_shared<A: Allocator>(
 }
 
 /// The frame of a page's own bytes from here on: a new one, with the bytes that the page shows, where
-/// it has none yet. Where memory or frames are wanting nothing changes.
+/// it has none yet. Where memory or frames run out nothing changes.
 pub fn own_frame<M: SlotMap, A: Allocator>(
     map: &mut M,
     objects: &Objects<A>,
@@ -169,7 +169,7 @@ fn store_own<M: SlotMap, A: Allocator>(
 }
 
 /// Stores a byte to a page that has this, and bytes: to its file's page where it is a shared one, and
-/// else to its own bytes, which it gets before where it has none. Where memory or frames are wanting
+/// else to its own bytes, which it gets before where it has none. Where memory or frames run out
 /// nothing changes.
 pub fn store<M: SlotMap, A: Allocator>(
     map: &mut M,

@@ -30,7 +30,7 @@ impl<A: Allocator> Model for FileObject<A> {
     ghost invariant = { λ s. length s.cached.items ≡ page_count (length s.bytes.items) };
 }
 
-/// No frame caches any of so many pages yet.
+/// No frame caches any of this many pages yet.
 fn uncached<A: Allocator>(alloc: A, count: usize) -> Result<Vec<CachedFrame, A>, AllocError>
     ensures { IfOk result (λ v. v.items ≡ replicate count None) }
 {

@@ -2,7 +2,7 @@
 use std::alloc::Allocator;
 use vm_base::Mode;
 
-/// A file that is to be open from the start: for what, and its bytes.
+/// A file that is open from the start: its access mode, and its bytes.
 #[derive(Drop)]
 pub struct FileSpec<A: Allocator> {
     /// For what the file is open.

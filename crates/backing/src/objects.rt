@@ -94,7 +94,7 @@ impl<A: Allocator> Objects<A> {
 
     /// Tells whether the file lets itself be mapped so (POSIX.1-2017, mmap, ERRORS), in this order:
     /// `EBADF` where there is no such file; `EACCES` where it isn't open for reading, or where
-    /// pages are to be shared and written and it isn't open for writing.
+    /// pages have to be shared and written and it isn't open for writing.
     pub fn may(&self, file: u64, sharing: Sharing, prot: Prot) -> Result<(), Errno>
         ensures { (len : ℕ) (off : ℕ) (flags : Flags) → flags.shared ≡ is_shared sharing
             → off + len ≤ 2 ^ 47

@@ -31,7 +31,7 @@ fn slots_of<A: Allocator>(histories: Option<&Histories<A>>) -> &[SlotHistory<A>]
     }
 }
 
-/// What `certify` comes to for a setup without a fault, where it is known how each ticket stands. So a ticket that doesn't
+/// What `certify` answers for a setup without a fault, where it is known how each ticket stands. So a ticket that doesn't
 /// stand once is always told: memory is wanted for a run alone.
 #[tactic(auto, using(crate::proofs::Notes::amiss, crate::proofs::Notes::all_numbered, crate::proofs::Notes::any_numbered))]
 pub fn certify_standing<A: Allocator + Clone + Drop>(
@@ -77,8 +77,8 @@ pub fn certify_standing<A: Allocator + Clone + Drop>(
 /// its changes up to then come to. Page 0 and pages from 2^35 on aren't looked at.
 ///
 /// A setup that makes no machine is reported first, then a ticket that doesn't stand once, then an
-/// outcome that differs, and then a slot. What is told rules out what it says: notes of which an outcome
-/// differs are, in order of tickets, no run of such a machine, and histories of which a slot is told are
+/// outcome that differs, and then a slot. What is reported is ruled out: notes of which an outcome
+/// differs are, in order of tickets, no run of such a machine, and histories of which a slot is reported are
 /// those of none that they are. Besides the notes it takes 12 bytes a note, a look of some 80 bytes for
 /// each slot that has a history, and the machine.
 pub fn certify<A: Allocator + Clone + Drop>(

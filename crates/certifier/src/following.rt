@@ -35,7 +35,7 @@ fn answers(note: &Noted) -> u64
     }
 }
 
-/// Tells whether the machine came to what was noted.
+/// Tells whether the machine's outcome is the one that was noted.
 fn is_same(noted: &Outcome, outcome: &Outcome) -> bool
     ensures yes { result ≡ true → outcome.now ≡ noted.now }
     ensures no { result ≡ false → outcome.now ≢ noted.now }
@@ -111,7 +111,7 @@ fn follow_notes<M: SlotMap, A: Allocator + Clone, L: Ledger>(
 }
 
 /// Gives each noted event, in order of tickets, to a new machine over a new tree of slots. The notes are
-/// certified where each ticket stands once, each event comes to just the outcome that was noted, and
+/// certified where each ticket stands once, each event has exactly the outcome that was noted, and
 /// the slots went along.
 pub fn follow<M: SlotMap + Drop, A: Allocator + Clone + Drop, L: Opening<A> + Drop>(
     alloc: A,

@@ -3,7 +3,7 @@ use core_steps::SetupFault;
 use machine_model::Outcome;
 use thiserror::Error;
 
-/// What notes that are a run of the machine come to.
+/// What certifying notes that are a run of the machine answers.
 #[derive(Clone, Copy, Debug, PartialEq, Eq)]
 pub struct Certified {
     /// How many calls were answered.
@@ -20,7 +20,7 @@ pub enum CertifyFault {
     /// Of the tickets below the number of the notes, this is the least that doesn't stand once.
     #[error("C1 {0}")]
     Ticket(u64),
-    /// After all earlier notes the machine comes to another outcome than the note with this ticket.
+    /// After all earlier notes the machine's outcome isn't the one in the note with this ticket.
     #[error("C2 {ticket}")]
     Differs {
         ticket: u64,

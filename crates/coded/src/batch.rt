@@ -48,7 +48,7 @@ pub fn take_event<M: SlotMap, A: Allocator + Clone, L: Ledger>(
     Ok(())
 }
 
-/// The events, one after another, as far as they can be taken. What each came to is told in its
+/// The events, one after another, as far as they can be taken. The result of each is written in its
 /// place.
 pub fn run_events<M: SlotMap, A: Allocator + Clone, L: Ledger>(
     machine: &mut Machine<M, A, L>,
@@ -107,7 +107,7 @@ fn step<M: SlotMap, A: Allocator + Clone, L: Ledger>(
     }
 }
 
-/// One item. Where it isn't made, what is told stays as it was.
+/// One item. Where it isn't made, `told` stays as it was.
 #[inline(always)]
 pub fn take_item<M: SlotMap, A: Allocator + Clone, L: Ledger>(
     machine: &mut Machine<M, A, L>,
@@ -128,7 +128,7 @@ pub fn take_item<M: SlotMap, A: Allocator + Clone, L: Ledger>(
     Ok(())
 }
 
-/// The items, one after another, as far as they can be made. What each came to is told in its place.
+/// The items, one after another, as far as they can be made. The result of each is written in its place.
 pub fn make_items<M: SlotMap, A: Allocator + Clone, L: Ledger>(
     machine: &mut Machine<M, A, L>,
     raws: &[RawEvent],
@@ -174,7 +174,7 @@ pub fn refusal_of(files: usize, bytes: usize, raws: usize, room: usize) -> Optio
     None
 }
 
-/// The events on a new machine. After a refusal no event was taken, and nothing is told.
+/// The events on a new machine. After a refusal no event was taken, and `told` is unchanged.
 pub fn run_batch(
     alloc: Global,
     setup: &RawSetup,
@@ -192,7 +192,7 @@ pub fn run_batch(
     Ok(run_events(&mut machine, raws, told))
 }
 
-/// The calls on a new machine. After a refusal none was made, and nothing is told.
+/// The calls on a new machine. After a refusal none was made, and `told` is unchanged.
 pub fn calls_batch(
     alloc: Global,
     setup: &RawSetup,
@@ -210,7 +210,7 @@ pub fn calls_batch(
     Ok(make_items(&mut machine, raws, told))
 }
 
-/// What a batch came to, as C reads it.
+/// The result of a batch, as C reads it.
 #[repr(C)]
 #[derive(Clone, Copy, Drop)]
 pub struct Done {

@@ -421,7 +421,7 @@ pub fn outcome_code(outcome: Outcome) -> RawOutcome
     }
 }
 
-/// What C reads for what a whole call came to.
+/// What C reads as the result of a whole call.
 #[inline(always)]
 pub fn finished_code(finished: Finished) -> RawOutcome
     ensures { result ≡ finished_code finished }

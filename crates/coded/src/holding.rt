@@ -47,7 +47,7 @@ pub fn take_event_on(held: &mut Held, raw: &RawEvent, told: &mut RawOutcome) -> 
     }
 }
 
-/// One item. Where it isn't made, what is told stays as it was.
+/// One item. Where it isn't made, `told` stays as it was.
 pub fn take_item_on(held: &mut Held, raw: &RawEvent, told: &mut RawOutcome) -> Result<(), Stop>
     ensures { TakesItemOn (held_state held.old) raw.now told.old result told.new (held_state held.new) }
 {
@@ -57,7 +57,7 @@ pub fn take_item_on(held: &mut Held, raw: &RawEvent, told: &mut RawOutcome) -> R
     }
 }
 
-/// More events. After a refusal none was taken, and nothing is told.
+/// More events. After a refusal none was taken, and `told` is unchanged.
 pub fn run_on(held: &mut Held, raws: &[RawEvent], told: &mut [RawOutcome]) -> Result<Ended, Refusal>
     ensures { RunsOn (held_state held.old) raws.now told.old result told.new (held_state held.new) }
 {
@@ -70,7 +70,7 @@ pub fn run_on(held: &mut Held, raws: &[RawEvent], told: &mut [RawOutcome]) -> Re
     }
 }
 
-/// More items. After a refusal none was made, and nothing is told.
+/// More items. After a refusal none was made, and `told` is unchanged.
 pub fn calls_on(
     held: &mut Held,
     raws: &[RawEvent],

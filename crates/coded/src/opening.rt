@@ -159,7 +159,7 @@ fn limit_of(setup: &RawSetup) -> CallLimit
     }
 }
 
-/// A new machine with what C asked for, but for the log, which is its ledger's. At an error nothing is
+/// A new machine with what C asked for, except for the log, which is its ledger's. At an error nothing is
 /// made: it tells the first fault of the setup, or else the first file that isn't there, or else that
 /// memory was refused.
 pub fn open<L: Opening<Global> + Drop>(

@@ -175,7 +175,7 @@ fn explain_bad<E: Write>(manner: Manner, line: &[u8], errors: &mut E) {
 
 // ---- the vm line and the lines of files
 
-// The line of the text that comes after so many whose first word is this.
+// The line of the text that comes after this many whose first word is this.
 fn line_of<'a>(text: &'a [u8], name: &[u8], before: u64) -> Option<&'a [u8]> {
     let mut count = 0u64;
     for line in text.split(|byte| *byte == b'\n') {

@@ -16,7 +16,7 @@ use trace_text::number_text;
 /// Why files weren't read as one log.
 #[derive(Clone, Copy, Debug)]
 pub(crate) struct Ungathered<'a> {
-    /// A read failed, or memory was wanting.
+    /// A read failed, or memory was refused.
     pub(crate) fault: IoFault,
     /// The file that was read.
     pub(crate) name: &'a str,

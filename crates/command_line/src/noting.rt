@@ -10,7 +10,7 @@ use vm_base::{CoreId, Flags, Request};
 
 // ---- lines that are taken, and may be mistakes
 
-// How many cores there are, where a line gives that, or else so many as before.
+// How many cores there are, where a line gives that, or else this many as before.
 fn cores_given(before: u64, said: Line) -> u64 {
     match said {
         Line::Space { cores, .. } => cores,
@@ -56,7 +56,7 @@ fn flags_of(said: Line) -> Option<Flags> {
     }
 }
 
-// What is to be told of the flags of a mapping.
+// What is told of the flags of a mapping.
 fn flags_rule(flags: Flags) -> Option<&'static str> {
     match (flags.private, flags.shared) {
         (false, false) => Some(
@@ -67,7 +67,7 @@ fn flags_rule(flags: Flags) -> Option<&'static str> {
     }
 }
 
-// What is to be told of a line that asks for a mapping.
+// What is told of a line that asks for a mapping.
 fn rule_of(line: &[u8]) -> Option<&'static str> {
     let said = read_line(line)?;
     let flags = flags_of(said)?;

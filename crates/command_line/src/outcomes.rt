@@ -22,12 +22,12 @@ const REPLIES: &[&str] = &[
 // What else a step may come to.
 const STEPS: &[&str] = &["step", "idle", "full"];
 
-// Whether a text is this one, but for the case of its letters.
+// Whether a text is this one, except for the case of its letters.
 fn is_but_for_case(text: &[u8], name: &str) -> bool {
     text.eq_ignore_ascii_case(name.as_bytes())
 }
 
-// The one of these that a text is, but for the case of its letters.
+// The one of these that a text is, except for the case of its letters.
 fn named_so(text: &[u8], names: &[&'static str]) -> Option<&'static str> {
     for name in names {
         if is_but_for_case(text, *name) {

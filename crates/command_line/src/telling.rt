@@ -27,7 +27,7 @@ fn show<W: Sink, E: Write>(text: &str, out: &mut W, errors: &mut E) -> u8
     3
 }
 
-/// Why the program's words can't be acted on, but for what they say.
+/// Why the program's words can't be acted on, except for what they say.
 #[derive(Clone, Copy, Debug, PartialEq, Eq)]
 pub enum WordsFault {
     /// A word isn't UTF-8.
@@ -36,7 +36,7 @@ pub enum WordsFault {
     NoMemory,
 }
 
-/// Prints the fault, and answers the status: 3 where memory was wanting, else 2.
+/// Prints the fault, and answers the status: 3 where memory was refused, else 2.
 pub fn refuse_words<E: Write>(fault: WordsFault, errors: &mut E) -> u8
     ensures { result ≡ words_status fault }
 {

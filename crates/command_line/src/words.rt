@@ -15,7 +15,7 @@ use import_text::processes::Choice;
 use std::alloc::{AllocError, Allocator, Global};
 use trace::shown::Show;
 
-/// What is to be done with a text.
+/// What has to be done with a text.
 #[derive(Clone, Copy)]
 pub(crate) enum Work {
     /// A replay, which shows this.

@@ -16,7 +16,7 @@ use vm_base::{CoreId, CoreSet, Entry, NoMemory, PageInfo, PageRange, Request};
 /// How many steps finish a call at the most.
 const FINISH_LIMIT: u64 = 1 << 40;
 
-/// What finishing a call came to.
+/// The result of finishing a call.
 #[derive(Clone, Copy, Debug, PartialEq, Eq)]
 pub enum Finished {
     /// The outcome that ended it.
@@ -46,7 +46,7 @@ impl<M: SlotMap + Drop, A: Allocator + Clone + Drop, L: Opening<A> + Drop> Machi
 
     /// A machine over a new slot map, of a setup that may ask for 1,048,576 calls. Its ledger has room
     /// for the reply of each call, so that logging one takes no memory. The bytes of the files are
-    /// moved, not copied. Of several faults the first is told, in the order of `SetupFault`.
+    /// moved, not copied. Of several faults the first is reported, in the order of `SetupFault`.
     pub fn new(alloc: A, map: M, setup: Setup<A>) -> Result<Machine<M, A, L>, SetupFault>
         requires { IsNew (M.slots map) }
         ensures opening { IfOk result (λ machine. state machine ≡ new_world (made_of setup) (M.slots map)) }
@@ -102,9 +102,9 @@ impl<M: SlotMap, A: Allocator + Clone, L: Ledger> Machine<M, A, L> {
     ghost use Rattle.core_steps.specs.MapLines.{HasNoMap, IsLineStart, IsNextMap, ListsMaps};
 
     /// One event. A refusal for memory leaves the machine unchanged, and comes only at a step of a call
-    /// at which a slot is to be divided, which installs the first entry of a table of the last level,
+    /// at which a slot has to be divided, which installs the first entry of a table of the last level,
     /// or which makes a private page's copy where the log keeps its entries. Slots are joined just where
-    /// the map can join them, and one that is to be locked or cut is divided just where it crosses an
+    /// the map can join them, and one that has to be locked or cut is divided just where it crosses an
     /// edge, as the map divides it. The state that is left is one of a plain page map's (POSIX.1-2017,
     /// mmap, munmap and mprotect). The step's log entry, if it made one, was due, a frame became free
     /// only by a review or by the call that had taken it and gave it to no page, and what is waited for
@@ -125,7 +125,7 @@ impl<M: SlotMap, A: Allocator + Clone, L: Ledger> Machine<M, A, L> {
         self.engine.step(event)
     }
 
-    // Steps of the core's call until one isn't Stepped, where so many plain ones were made before, at
+    // Steps of the core's call until one isn't Stepped, where this many plain ones were made before, at
     // most 2^40 with them.
     fn go_on(&mut self, core: CoreId, steps: u64) -> Result<Finished, NoMemory>
         requires { steps < finish_limit }

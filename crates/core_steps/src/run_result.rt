@@ -1,4 +1,4 @@
-//! What running a list of events comes to.
+//! The result of running a list of events.
 use crate::ledger::Ledger;
 use crate::machine::Machine;
 use crate::setup::SetupFault;
@@ -13,7 +13,7 @@ pub struct Run<M: SlotMap, A: Allocator + Clone, L: Ledger>
 where
     Cpu<A>: Hardware,
 {
-    /// What each event came to, in order.
+    /// The outcome of each event, in order.
     pub outcomes: Vec<Outcome, A>,
     /// The machine after the last event.
     pub machine: Machine<M, A, L>,

@@ -63,7 +63,7 @@ pub fn run<M: SlotMap + Drop, A: Allocator + Clone + Drop, L: Opening<A> + Drop>
 }
 
 // Takes all events, in order, and their outcomes into a list that has room for them. Where one is
-// refused for memory, its place is told.
+// refused for memory, its place is reported.
 fn take_events<M: SlotMap, A: Allocator + Clone, L: Ledger>(
     machine: &mut Machine<M, A, L>,
     events: &[Event],

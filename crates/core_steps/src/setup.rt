@@ -17,7 +17,7 @@ pub enum CallLimit {
 }
 
 impl CallLimit {
-    /// So many calls.
+    /// This many calls.
     pub fn calls(self) -> u64
         ensures { result ≡ most_calls self }
     {
@@ -41,7 +41,7 @@ pub struct Setup<A: Allocator> {
     pub calls: u64,
 }
 
-/// Why a setup makes no machine. The first that holds is told, in this order.
+/// Why a setup makes no machine. The first that holds is reported, in this order.
 #[derive(Clone, Copy, Debug, PartialEq, Eq)]
 pub enum SetupFault {
     /// There is no core, or there are more than 64.
@@ -71,7 +71,7 @@ impl fmt::Display for SetupFault {
     }
 }
 
-/// The first fault of so many cores, frames, files and calls, at most 1,048,576 of these,
+/// The first fault of this many cores, frames, files and calls, at most 1,048,576 of these,
 /// if they have one; `has_long` tells whether one of the files has more bytes than a file may
 /// have. No memory is looked at, so that a setup can be tested before its files are there.
 pub fn first_fault(
@@ -86,7 +86,7 @@ pub fn first_fault(
     first_fault_within(CallLimit::Usual, cores, frames, files, has_long, calls)
 }
 
-/// The first fault of so many cores, frames, files and calls, as `first_fault` tells it, where
+/// The first fault of this many cores, frames, files and calls, as `first_fault` tells it, where
 /// this limit is asked for.
 pub fn first_fault_within(
     limit: CallLimit,

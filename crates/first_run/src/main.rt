@@ -21,7 +21,7 @@ use trace::shown::Show;
 use trace_io::sink::{Noted, Sink};
 use trace_io::source::{Counted, Source};
 
-// What the word behind the program's name shows: the mappings at the end where it is `maps`, else the outcomes.
+// What the word after the program's name shows: the mappings at the end where it is `maps`, else the outcomes.
 fn shown_by(word: Option<&str>) -> Show
     ensures maps { option_map (λ w. w.now) word.entry ≡ Some (codes "maps") → result ≡ Show.Maps }
     ensures others { (option_map (λ w. w.now) word.entry ≡ Some (codes "maps") → ⊥) → result ≡ Show.Outcomes }

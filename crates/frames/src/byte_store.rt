@@ -33,7 +33,7 @@ impl<A: Allocator> Model for ByteStore<A> {
     }) };
 }
 
-/// No frame of so many has a page yet.
+/// No frame of this many has a page yet.
 fn no_places<A: Allocator>(alloc: A, count: usize) -> Result<Vec<Option<u32>, A>, AllocError>
     ensures { IfOk result (λ v. v.items ≡ replicate count None) }
 {

@@ -114,7 +114,7 @@ fn add_calls<A: Allocator>(calls: &mut Vec<Timed, A>, notes: Notes<'_>) -> Resul
 }
 
 /// The answered calls of notes of cores, one core after another, and those of a core in order of their beginnings. A call that was
-/// never answered is none of them. Their memory may be wanting.
+/// never answered is none of them. Their memory may be refused.
 pub fn history_of<A: Allocator>(alloc: A, seats: &[Notes<'_>]) -> Result<Vec<Timed, A>, NoMemory>
     ensures { IfOk result (λ calls. calls.items ≡ history_of (map shown seats.now)) }
 {

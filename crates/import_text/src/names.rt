@@ -6,7 +6,7 @@ ghost use Rattle.import_text.specs.Taking.{last_name, with_name};
 
 use std::alloc::AllocError;
 
-/// How many bytes show a file's name at most, but for the two dots after it.
+/// How many bytes show a file's name at most, except for the two dots after it.
 pub const NAME: usize = 200;
 
 /// How many do beside a range.
@@ -97,7 +97,7 @@ fn push_byte(all: &mut Vec<u8>, byte: u8) -> Result<(), AllocError>
     Ok(())
 }
 
-/// Appends a name, as far as so many bytes show it, and two dots where it goes on.
+/// Appends a name, as far as this many bytes show it, and two dots where it goes on.
 #[tactic(auto, using(crate::proofs::NameLemmas::name_more, crate::proofs::NameLemmas::name_cut))]
 pub fn push_name(all: &mut Vec<u8>, name: &[u8], room: usize) -> Result<(), AllocError>
     ensures { OnOk result (all.new.items ≡ all.old.items ++ name_shown room name.now) }

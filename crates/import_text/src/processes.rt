@@ -19,7 +19,7 @@ pub struct Process {
     pub requests: u64,
 }
 
-/// What is to be taken of a log.
+/// What is taken of a log.
 #[derive(Clone, Copy, Debug, PartialEq, Eq)]
 pub struct Choice {
     /// A thread of the process, if one was named; else it is the process with the most requests.

@@ -245,7 +245,7 @@ fn copy_file(alloc: Global, file: &FileUse) -> Result<FileUse, AllocError>
     })
 }
 
-// A mapping of the file reaches so many bytes.
+// A mapping of the file reaches this many bytes.
 fn widen(file: &mut FileUse, reach: u64)
     ensures { use_of file.new ≡ widened (use_of file.old) reach }
 {
@@ -254,7 +254,7 @@ fn widen(file: &mut FileUse, reach: u64)
     }
 }
 
-/// The number of the file of this name, of which a mapping reaches so many bytes; `None` where it would be the 17th. Where
+/// The number of the file of this name, of which a mapping reaches this many bytes; `None` where it would be the 17th. Where
 /// there is no memory the files stay as they are.
 pub fn use_file(
     alloc: Global,
@@ -500,7 +500,7 @@ fn take_move(
     Ok(Fate::Changed(Change::Move))
 }
 
-// Notes that the shared memory of this number has so many bytes.
+// Notes that the shared memory of this number has this many bytes.
 fn take_size(taken: &mut Taken, number: u64, len: u64) -> Result<Fate, AllocError>
     ensures { IfOk result (λ fate. (so_far taken.new, fate) ≡ sized_with (so_far taken.old) number len) }
 {
@@ -519,7 +519,7 @@ fn as_shared(fate: Fate) -> Fate
     }
 }
 
-// Adds a mapping of the shared memory of this number, which has so many bytes.
+// Adds a mapping of the shared memory of this number, which has this many bytes.
 fn take_memory(
     alloc: Global,
     taken: &mut Taken,
@@ -596,7 +596,7 @@ fn take_keyed(taken: &mut Taken, thread: u64, request: Request) -> Result<Fate, 
     Ok(Fate::Changed(Change::Key))
 }
 
-// Adds a request as it stands, but for a mapping's file.
+// Adds a request as it stands, except for a mapping's file.
 fn take_request(
     alloc: Global,
     taken: &mut Taken,
@@ -629,7 +629,7 @@ fn take_request(
 }
 
 /// Takes what the thread's call says, and answers what becomes of its line. A program that begins has a new address space,
-/// so what was taken before is forgotten, but for what is there at the start.
+/// so what was taken before is forgotten, except for what is there at the start.
 pub fn take(
     alloc: Global,
     start: &Taken,

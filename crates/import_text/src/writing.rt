@@ -128,7 +128,7 @@ fn put_use(text: &mut LineText, number: u64, len: u64)
     text.push_str("\n");
 }
 
-// Replaces the text by the first line, of so many frames, threads and requests.
+// Replaces the text by the first line, of this many frames, threads and requests.
 fn put_first(text: &mut LineText, frames: u64, threads: usize, steps: usize)
     ensures { text.new.bytes ≡ first_line frames threads steps }
 {

@@ -6,7 +6,7 @@ ghost use Rattle.live_levels.specs.Slots.{Suits};
 
 use vm_base::{Back, CoreId, CoreSet, Meta, PageInfo, Prot};
 
-/// What a step does to a slot's pages. A slot that is unmapped stays so but for `Put`.
+/// What a step does to a slot's pages. A slot that is unmapped stays so except for `Put`.
 #[derive(Clone, Copy, Debug, PartialEq, Eq)]
 pub enum Act {
     /// The pages are mapped anew, the first as said, without frames and without recorded cores.
@@ -66,7 +66,7 @@ pub fn after(info: Option<PageInfo>, act: &Act) -> Option<PageInfo>
     }
 }
 
-/// Tells whether the act can be done to a slot of so many pages.
+/// Tells whether the act can be done to a slot of this many pages.
 pub fn suits(act: &Act, count: u64) -> bool
     ensures { IsTrue result ↔ Suits act.now count }
 {

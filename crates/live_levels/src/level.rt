@@ -33,7 +33,7 @@ pub trait Stepper {
         ensures { stepped self.old result self.new };
 }
 
-/// What a try to lock the next slot came to.
+/// The result of a try to lock the next slot.
 pub enum Next<'a, A: Allocator> {
     /// The slot is locked. It begins at the cursor and ends by the end.
     Whole(MutexGuard<'a, SlotState<A>>),
@@ -49,7 +49,7 @@ pub enum Next<'a, A: Allocator> {
     Lost,
 }
 
-/// What a try to cut a slot came to.
+/// The result of a try to cut a slot.
 #[derive(Clone, Copy, Debug)]
 pub enum SlotCut {
     /// The slot was divided, which was noted: threads reach its parts in its place.
@@ -65,7 +65,7 @@ pub enum SlotCut {
 
 /// A level of the tree.
 pub trait Level<A: Allocator + Clone>: Drop {
-    /// A level with room for 512 slots of so many pages each, from the page `first` on.
+    /// A level with room for 512 slots of this many pages each, from the page `first` on.
     fn new(alloc: A, first: u64, pages: u64) -> Result<Self, NoMemory>;
 
     /// Takes the slots over, in their order and as far as there is room, each under a lock of its
@@ -121,7 +121,7 @@ pub trait Level<A: Allocator + Clone>: Drop {
         ensures { Folds S.stepped stepper.old stepper.new page result };
 }
 
-/// The number of the slot that has the page, in a level of slots of so many pages from the page
+/// The number of the slot that has the page, in a level of slots of this many pages from the page
 /// `first` on.
 pub(crate) fn index_of(first: u64, pages: u64, page: u64) -> Option<usize> {
     let from = page.checked_sub(first)?;
@@ -133,7 +133,7 @@ pub(crate) fn index_of(first: u64, pages: u64, page: u64) -> Option<usize> {
     }
 }
 
-/// Puts the item behind the others, where there is room. It takes no memory.
+/// Puts the item after the others, where there is room. It takes no memory.
 pub(crate) fn put<T: Drop, A: Allocator>(items: &mut Vec<T, A>, item: T)
     ensures { vec_len items.old < vec_capacity items.old
         → items.new.items ≡ items.old.items ++ item ∷ [] }

@@ -22,7 +22,7 @@ pub struct Divided {
     pub ticket: u64,
 }
 
-/// 512 unmapped slots of so many pages each, side by side, with no history.
+/// 512 unmapped slots of this many pages each, side by side, with no history.
 pub fn side_by_side<A: Allocator + Clone>(
     alloc: &A,
     first: u64,
@@ -53,7 +53,7 @@ pub fn carry_on<A: Allocator>(slots: &mut Vec<SlotState<A>, A>, divided: &Divide
     }
 }
 
-/// The act by which a slot begins with what another has so many pages further on.
+/// The act by which a slot begins with what another has this many pages further on.
 fn carried_act(content: Option<PageInfo>, by: u64) -> Act
     requires fits { info_file_page content + by < 2 ^ 64 }
     ensures act { result ≡ carried_act content by }

@@ -40,7 +40,7 @@ impl<A: Allocator> Model for FreeFrames<A> {
 }
 
 impl<A: Allocator> FreeFrames<A> {
-    // So many frames, all taken.
+    // This many frames, all taken.
     fn none(alloc: A, frames: u32) -> Result<FreeFrames<A>, AllocError>
         requires { frames ≤ 65536 }
         ensures free { IfOk result (λ s. free_frames s ≡ (λ f. false)) }

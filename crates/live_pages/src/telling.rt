@@ -70,7 +70,7 @@ impl<'a, A: Allocator + Clone> Telling<'a, A> {
     ghost use Rattle.vm_base.specs.Cores.{with_member};
 
     /// Locks the core and each other one of the set. None where one isn't there or can't be told,
-    /// or memory is wanting; then nobody is told.
+    /// or there is no memory; then no core gets a message.
     pub fn of<R: Wait>(
         rt: &R,
         alloc: &'a A,
@@ -115,7 +115,7 @@ impl<'a, A: Allocator + Clone> Telling<'a, A> {
 }
 
 // Locks the cores of the set, ascending. False where one of them isn't there or can't be told by
-// the core, or memory is wanting.
+// the core, or memory is refused.
 fn lock_set<'a, R: Wait, A: Allocator + Clone>(
     rt: &R,
     cores: &'a [CachePadded<Mutex<CoreState<A>>>],
@@ -154,7 +154,7 @@ fn lock_member<'a, R: Wait, A: Allocator + Clone>(
 }
 
 // Locks the core of that number. False where it isn't there or can't be told by the other one, or
-// memory is wanting.
+// memory is refused.
 fn lock_core<'a, R: Wait, A: Allocator + Clone>(
     rt: &R,
     cores: &'a [CachePadded<Mutex<CoreState<A>>>],
@@ -174,7 +174,7 @@ fn lock_core<'a, R: Wait, A: Allocator + Clone>(
     push(places, number, state)
 }
 
-// One locked core more. False where memory is wanting.
+// One locked core more. False where memory is refused.
 fn push<'a, A: Allocator + Clone>(
     places: &mut Places<'a, A>,
     number: CoreId,
@@ -218,7 +218,7 @@ fn post_to<'a, A: Allocator + Clone>(
     ticket
 }
 
-// The locked core, which is there, drops its translations of the range or is told to.
+// The locked core, which is there, drops its translations of the range or gets a message to do so.
 fn tell<A: Allocator + Clone>(place: &mut Option<LockedCore<'_, A>>, core: CoreId, range: PageRange)
     requires some { IsSome place.old }
     requires ready { CanBeTold core (inbox_of place.old) }

@@ -1,4 +1,4 @@
-//! Scripts that are run: each core's tasks on a thread of its own, all in one space, and what they come to.
+//! Scripts that are run: each core's tasks on a thread of its own, all in one space, and their results.
 #![tactic(auto)]
 
 pub mod certifying;

@@ -44,7 +44,7 @@ impl<A: Allocator + Clone> Ran<A> {
     }
 
     /// Takes all seats back: what is left is what each noted, in order of cores. The tickets of each seat rise, and
-    /// those of all are the numbers below that of all notes, each once. Memory may be wanting.
+    /// those of all are the numbers below that of all notes, each once. Memory may be refused.
     pub fn into_notes(self, alloc: A) -> Result<Vec<NoteList<A>, A>, NoMemory>
         ensures are { IfOk result (λ all. map (λ list. list.notes) all.items ≡ map (λ s. s.notes) self.seats) }
         ensures whole { IfOk result (λ all. AreWhole (map (λ list. list.notes) all.items)) }

@@ -29,7 +29,7 @@ use trace_io::source::Source;
 /// Why a script's text wasn't run, or what came of it wasn't written.
 #[derive(Clone, Copy, Debug, PartialEq, Eq, Error)]
 pub enum TextFault {
-    /// The text can't be read, it makes no space, memory is wanting, or a write failed.
+    /// The text can't be read, it makes no space, memory is refused, or a write failed.
     #[error("{0}")]
     Text(TraceFault),
     /// A task of a core couldn't begin. Of several cores it is the least one's fault.
@@ -87,7 +87,7 @@ fn write_run<A: Allocator + Clone + Drop, T: Threads + Wait + Sync, R: Runner<A>
 }
 
 /// Reads a script, runs it, and writes the notes of all seats, in order of tickets. Faults come in this order: of the text, of
-/// the making of the space, of a core's task, and of writing; nothing is written before the last. Memory may be wanting at any
+/// the making of the space, of a core's task, and of writing; nothing is written before the last. Memory may be refused at any
 /// time.
 pub fn run_text<
     A: Allocator + Clone + Drop,
@@ -203,9 +203,9 @@ fn certify_read<A: Allocator + Clone + Drop, T: Threads + Wait + Sync, R: Runner
     }
 }
 
-/// Reads a script, runs it, and writes what certifying its notes beside the histories of the space's slots comes to: a
+/// Reads a script, runs it, and writes the verdict on its notes beside the histories of the space's slots: a
 /// line as of `write_verdict`, which is never `refused C1`. Answers whether they are certified. Faults come as those of
-/// `run_text`; also where the space couldn't be ended, memory was wanting.
+/// `run_text`; also where the space couldn't be ended, memory was refused.
 pub fn certify_run<
     A: Allocator + Clone + Drop,
     T: Threads + Wait + Sync,

@@ -65,7 +65,7 @@ impl<'c, R: Wait, G: Gate, A: Allocator + Clone> InCall<'c, '_, '_, '_, R, G, A>
     }
 
     // The page is held until it has its frame and its entry, or the call is to end. None where the
-    // access is to be tried again.
+    // access has to be tried again.
     #[tactic(auto, using(crate::proofs::Noted::steps))]
     fn fault(&mut self, touch: Touch) -> Option<Ending>
         requires { IsSoundTouch touch }
@@ -232,7 +232,7 @@ impl<'c, R: Wait, G: Gate, A: Allocator + Clone> InCall<'c, '_, '_, '_, R, G, A>
         }
     }
 
-    // The core's tables get the page's entry. The access is to be tried again then.
+    // The core's tables get the page's entry. The access has to be tried again then.
     #[tactic(auto, using(crate::proofs::Noted::steps))]
     fn install(&mut self, touch: Touch) -> Option<Ending>
         requires { IsSoundTouch touch }

@@ -26,8 +26,8 @@ use std::sync::{Mutex, Wait};
 use vm_base::{CoreId, CoreSet, Reply};
 
 impl<A: Allocator + Clone> Live<A> {
-    // The locks of a change that the core makes alone. None where memory is wanting, or something
-    // that is to be locked isn't there.
+    // The locks of a change that the core makes alone. None where memory is refused, or something
+    // that has to be locked isn't there.
     fn locked_for<'a, R: Wait>(
         &'a self,
         rt: &R,
@@ -40,7 +40,7 @@ impl<A: Allocator + Clone> Live<A> {
         if locks.are_there { Some(locks) } else { None }
     }
 
-    // What the core counts down. None where memory is wanting.
+    // What the core counts down. None where memory is refused.
     fn counting<'a, R: Wait>(
         &'a self,
         rt: &R,
@@ -110,7 +110,7 @@ impl<'c, R: Wait, G: Gate, A: Allocator + Clone> InCall<'c, '_, '_, '_, R, G, A>
         }
     }
 
-    // Makes the change, whose pages are held. False where the call is to be given up.
+    // Makes the change, whose pages are held. False where the call has to be given up.
     #[tactic(auto, using(crate::proofs::Noted::steps))]
     fn make(&mut self, change: Change, losses: Losses<'c, A>) -> bool
         requires sound { IsSoundChange change }

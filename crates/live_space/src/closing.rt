@@ -47,7 +47,7 @@ impl<A: Allocator + Clone> Live<A> {
 
     /// Takes all seats of the space back, and hands out what they noted, a list for each, in their
     /// order: the tickets of each list rise, and those of all lists are the numbers below that of all
-    /// notes, each once. Where memory is wanting the seats come back.
+    /// notes, each once. Where memory is refused the seats come back.
     pub fn gather(&self, seats: Vec<Seat<A>, A>) -> Result<Vec<NoteList<A>, A>, Vec<Seat<A>, A>>
         requires { AreAll self.now.word seats.items }
         ensures notes { IfOk result (λ all. map (λ list. list.notes) all.items
@@ -62,7 +62,7 @@ impl<A: Allocator + Clone> Live<A> {
     }
 
     /// Ends the space, and hands out the histories of its slots, which lie side by side and have all
-    /// valid pages: those of the space's word, and so of no other space. Where memory is wanting, or
+    /// valid pages: those of the space's word, and so of no other space. Where memory is refused, or
     /// a slot was in a wrong place, which never comes, the space comes back, with the same word, files
     /// and sizes; its slots were only read.
     pub fn close(mut self) -> Result<Histories<A>, Live<A>>

@@ -31,7 +31,7 @@ pub(crate) enum Decided<'a, A: Allocator> {
     Act(Losses<'a, A>),
 }
 
-/// What a call of the core does that holds the pages of its change. None where memory is wanting.
+/// What a call of the core does that holds the pages of its change. None where memory is refused.
 pub(crate) fn decide_held<'a, A: Allocator + Clone>(
     objects: &Objects<A>,
     alloc: &'a A,
@@ -63,7 +63,7 @@ fn lost_by(change: Change, info: &Option<PageInfo>) -> Option<u32>
     }
 }
 
-/// Adds the frame, if there is one. False where memory is wanting.
+/// Adds the frame, if there is one. False where memory is refused.
 pub(crate) fn add_frame<'a, A: Allocator>(frames: &mut Frames<'a, A>, frame: Option<u32>) -> bool
     ensures { IsTrue result → frames.new.items ≡ frames.old.items ++ option_to_list frame }
 {
@@ -73,7 +73,7 @@ pub(crate) fn add_frame<'a, A: Allocator>(frames: &mut Frames<'a, A>, frame: Opt
     }
 }
 
-// The frame that a page, which has this, loses by the change. None where memory is wanting.
+// The frame that a page, which has this, loses by the change. None where memory is refused.
 fn frame_lost<'a, A: Allocator>(
     alloc: &'a A,
     change: Change,

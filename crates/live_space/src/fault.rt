@@ -20,7 +20,7 @@ pub enum LiveFault {
     NoMemory,
 }
 
-/// Makes room for so many more notes of the seat. After a fault the room is what may have changed.
+/// Makes room for this many more notes of the seat. After a fault the room is what may have changed.
 pub(crate) fn reserve_notes<A: Allocator>(seat: &mut Seat<A>, count: usize) -> Result<(), LiveFault>
     ensures room { OnOk result (count ≤ seat.new.room) }
     ensures limit { OnOk result (length seat.old.notes + count ≤ 2 ^ 32) }

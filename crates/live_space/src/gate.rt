@@ -19,9 +19,9 @@ pub enum Point {
     Answer,
 }
 
-/// Who is told how far a call has come, and may hold it there.
+/// Hears how far a call has come, and may hold it there.
 pub trait Gate {
-    /// The core's call has come to the point. It goes on once this returns.
+    /// The core's call has reached the point. It goes on once this returns.
     fn at<R: Wait>(&self, rt: &R, core: CoreId, point: Point);
 }
 

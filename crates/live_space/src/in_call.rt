@@ -29,12 +29,12 @@ pub(crate) struct InCall<'c, 's, 'r, 'g, R, G, A: Allocator + Clone> {
 }
 
 impl<'c, R: Wait, G: Gate, A: Allocator + Clone> InCall<'c, '_, '_, '_, R, G, A> {
-    /// The call has come to this point.
+    /// The call has reached this point.
     pub fn at(&self, point: Point) {
         self.gate.at(self.rt, self.seat.core(), point);
     }
 
-    /// Makes room for so many steps more; tells whether it could.
+    /// Makes room for this many steps more; tells whether it could.
     #[tactic(auto, using(seats::proofs::Growing::grew_room))]
     pub fn has_room(&mut self, steps: usize) -> bool
         ensures goes { GoesOn self.old.seat self.new.seat }

@@ -18,7 +18,7 @@ use vm_base::Reply;
 
 impl<'c, R: Wait, G: Gate, A: Allocator + Clone> InCall<'c, '_, '_, '_, R, G, A> {
     /// Locks the slots up to the end, each with room for so many changes, and waits for those that
-    /// other calls hold. False where the call is to be given up: memory, or room for its notes, is
+    /// other calls hold. False where the call has to be given up: memory, or room for its notes, is
     /// wanting, or a slot was in a wrong place, which never comes. What is held stays held.
     #[tactic(auto, using(crate::proofs::Noted::steps))]
     pub(crate) fn lock_all(&mut self, end: u64, changes: usize) -> bool

@@ -111,7 +111,7 @@ struct Seating<A: Allocator> {
     seats: Vec<Seat<A>, A>,
 }
 
-// A new tree, and all seats of its word, so many, which have noted nothing, by their cores.
+// A new tree, and all seats of its word, this many, which have noted nothing, by their cores.
 fn new_seating<A: Allocator + Clone>(alloc: &A, count: u8) -> Result<Seating<A>, NoMemory>
     requires { (1 ≤ count) × (count ≤ 64) }
     ensures fresh { IfOk result (λ made. AreFresh (arc_value made.tree.tickets) count made.seats.items) }
@@ -122,7 +122,7 @@ fn new_seating<A: Allocator + Clone>(alloc: &A, count: u8) -> Result<Seating<A>,
     Ok(Seating { tree, seats })
 }
 
-// All seats of one word, so many, which have noted nothing, by their cores.
+// All seats of one word, this many, which have noted nothing, by their cores.
 fn new_seats<A: Allocator + Clone>(
     alloc: &A,
     tickets: &Arc<Tickets<A>, A>,
@@ -172,7 +172,7 @@ fn new_pages<A: Allocator + Clone>(
     Ok(pages)
 }
 
-// The pages of a file of so many bytes, none of which a frame caches.
+// The pages of a file of this many bytes, none of which a frame caches.
 fn new_file_pages<A: Allocator + Clone>(
     alloc: &A,
     bytes: usize,
@@ -187,7 +187,7 @@ fn new_file_pages<A: Allocator + Clone>(
     Ok(pages)
 }
 
-// So many frames, all free.
+// This many frames, all free.
 fn new_frames<A: Allocator + Clone>(
     alloc: &A,
     count: u32,
@@ -205,7 +205,7 @@ fn new_frames<A: Allocator + Clone>(
     Ok(frames)
 }
 
-// So many cores without entries, messages and translations.
+// This many cores without entries, messages and translations.
 fn new_cores<A: Allocator + Clone>(
     alloc: &A,
     count: u8,

@@ -84,7 +84,7 @@ impl<'c, R: Wait, G: Gate, A: Allocator + Clone> InCall<'c, '_, '_, '_, R, G, A>
     }
 
     // Notes which run of its window the mapping guesses to be free, or that it guesses none and takes
-    // the window. None where the call is to be given up.
+    // the window. None where the call has to be given up.
     #[tactic(auto, using(crate::proofs::Noted::steps, crate::proofs::Noted::grew_guess, crate::proofs::Noted::grew_whole))]
     fn guess(&mut self, place: Place) -> Option<Target>
         requires { IsSoundPlace place }
@@ -183,9 +183,9 @@ impl<'c, R: Wait, G: Gate, A: Allocator + Clone> InCall<'c, '_, '_, '_, R, G, A>
         Some(decision)
     }
 
-    // The pages of the range are to be mapped: the held slots that cross an edge of it are cut, and
+    // The pages of the range have to be mapped: the held slots that cross an edge of it are cut, and
     // then they are mapped in one step. Nothing was mapped there, so that no frame is counted down, and
-    // no other core is told.
+    // no other core gets a message.
     #[tactic(auto, using(crate::proofs::Noted::steps))]
     fn put(&mut self, range: PageRange, meta: Meta) -> Ending
         requires sound { IsSoundPut range meta }
@@ -206,7 +206,7 @@ impl<'c, R: Wait, G: Gate, A: Allocator + Clone> InCall<'c, '_, '_, '_, R, G, A>
         Ending::Answer(Reply::Mapped(range.first * PAGE_SIZE))
     }
 
-    // Cuts the held slots that cross an edge of the range. False where the call is to be given up.
+    // Cuts the held slots that cross an edge of the range. False where the call has to be given up.
     #[tactic(auto, using(crate::proofs::Noted::steps))]
     fn cut_all(&mut self, range: PageRange) -> bool
         ensures goes { GoesOn self.old.seat self.new.seat }

@@ -1,4 +1,4 @@
-//! The slots that a call holds: how it comes to hold them, and the commit of its change. What else is
+//! The slots that a call holds: how it takes them, and the commit of its change. What else is
 //! done with them stands in held/.
 ghost use Rattle.std.specs.Prelude.{◌≡◌, ℕ, ◌+◌, ◌-◌, ◌<◌, ◌≤◌, ◌^◌, true, [], ◌∷◌, ◌++◌, length, map};
 ghost use Rattle.std.specs.Prelude.{All, OnOk, OnErr, IsSome, None};
@@ -106,7 +106,7 @@ impl<'a, A: Allocator + Clone> Held<'a, A> {
         self.guards.len()
     }
 
-    /// One locked slot more, which begins where the others end. Where memory is wanting, it is
+    /// One locked slot more, which begins where the others end. Where memory is refused, it is
     /// unlocked, and the others stay held.
     pub fn push(&mut self, guard: MutexGuard<'a, SlotState<A>>) -> Result<(), NoMemory>
         requires next { (mutex_guard_value guard).first ≡ self.old.end }
@@ -124,7 +124,7 @@ impl<'a, A: Allocator + Clone> Held<'a, A> {
     }
 
     /// One step of the core towards holding the pages up to the end: the deepest slot that has the
-    /// next page is locked, where it begins there and ends by the end, with room for so many
+    /// next page is locked, where it begins there and ends by the end, with room for this many
     /// changes; else it is divided into 512. Either is noted while the slot is locked. It waits
     /// while another thread has the slot locked. Want of memory leaves the held slots as they are,
     /// and lets go of the slot that was to be one of them.
@@ -175,7 +175,7 @@ impl<'a, A: Allocator + Clone> Held<'a, A> {
         } = self;
     }
 
-    /// All held slots are to be let go.
+    /// All held slots have to be let go.
     pub fn letting(self) -> Letting<'a, A>
         ensures { result ≡ letting_view self.entry.slots None }
     {

@@ -32,7 +32,7 @@ impl<'a, A: Allocator> Model for Letting<'a, A> {
 }
 
 impl<'a, A: Allocator> Letting<'a, A> {
-    /// All of these are to be let go.
+    /// All of these have to be let go.
     pub(crate) fn of(mut guards: Guards<'a, A>) -> Letting<'a, A>
         requires { All IsSome guards.items }
         ensures { result ≡ letting_view (map slot_of guards.entry.items) None }

@@ -147,7 +147,7 @@ impl<A: Allocator + Clone> SharedTree<A> {
         self.root.fold(stepper, page)
     }
 
-    /// The first of so many unmapped pages side by side, from the page `from` on and up to `end`.
+    /// The first of this many unmapped pages side by side, from the page `from` on and up to `end`.
     /// The slots are locked one after another, each alone, whoever holds their pages, until enough
     /// are found: of a page that was unmapped then, another thread may make what it likes since.
     /// `None` where there are no such pages, or a slot was in a wrong place. It takes no memory.

@@ -309,7 +309,7 @@ fn put_shown(out: &mut Vec<u8>, steps: u64, lives: &[Stretch]) -> Result<(), All
     put_chart(out, chart, more, shown)
 }
 
-/// The picture of the lives of mappings in a run of so many steps: a rectangle for each stretch of pages, from the step
+/// The picture of the lives of mappings in a run of this many steps: a rectangle for each stretch of pages, from the step
 /// in which they are mapped to the first that changes them, or to the end. The first 2,000 lives are shown, from the
 /// lowest pages on, and the picture says so where there are more. It is one SVG text. An error is a refusal of memory.
 pub fn draw_lives(alloc: Global, steps: u64, moments: &[Recorded]) -> Result<Vec<u8>, AllocError>

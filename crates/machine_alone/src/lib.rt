@@ -1,11 +1,11 @@
-//! What a call of the abstract machine comes to beside which no other call runs.
+//! The result of a call of the abstract machine while no other call runs.
 #![tactic(auto)]
 
 ghost use Rattle.machine_alone.specs.Apart.{AllCallsKeepApart};
 ghost use Rattle.machine_alone.specs.Alone.{AllLoneCallsAreAnswered, AllStepsBesideRest};
 ghost use Rattle.machine_alone.specs.Alone.{AllWaitingCallsAreAnswered};
 
-/// A call that begins in a reached state where no core has a call, and beside which no other call
+/// A call that begins in a reached state where no core has a call, and during which no other call
 /// runs, takes fewer than 2^40 plain steps. The first that isn't plain hands out its reply, or
 /// waits for just the other cores that are recorded on its pages. The reply and what it leaves are
 /// those of the plain page map (POSIX.1-2017, mmap, munmap and mprotect) to which the log led
@@ -18,7 +18,7 @@ pub fn lone_calls_are_answered()
     ensures { AllLoneCallsAreAnswered }
 {}
 
-/// The same of a call that waits for other cores, and beside which no other call runs: it waits for
+/// The same of a call that waits for other cores, and during which no other call runs: it waits for
 /// just those that still have a take before them, and is answered once there are none. (A mapping
 /// without MAP_FIXED that is about to be made waits for nobody, and may have any place.)
 pub fn waiting_calls_are_answered()

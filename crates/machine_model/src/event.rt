@@ -66,7 +66,7 @@ pub enum Blocker {
     Acks(CoreSet),
 }
 
-/// What a step came to.
+/// The outcome of a step.
 #[derive(Clone, Copy, Debug, PartialEq, Eq)]
 pub enum Outcome {
     Stepped,

@@ -7,16 +7,16 @@ use vm_base::{CoreSet, PageRange, Reply, Request};
 pub enum Phase {
     /// The core has no call.
     Free,
-    /// The arguments are to be checked.
+    /// The arguments have to be checked.
     Check(Request),
-    /// The goal's pages below the cursor are held, the others are to be locked.
+    /// The goal's pages below the cursor are held, the others have to be locked.
     Lock {
         goal: Goal,
         cursor: u64,
     },
-    /// A run of the mapping's window is to be guessed to be free, or the window is to be taken.
+    /// A run of the mapping's window has to be guessed to be free, or the window has to be taken.
     Guess(Place),
-    /// All pages of the target are held, and whether the mapping goes there is to be decided.
+    /// All pages of the target are held, and whether the mapping goes there has to be decided.
     Find {
         place: Place,
         target: Target,
@@ -29,15 +29,15 @@ pub enum Phase {
         held: PageRange,
     },
     /// The mapping goes to this range of its target, and the slots that cross an edge of the range
-    /// are to be cut.
+    /// have to be cut.
     Cut {
         place: Place,
         target: Target,
         range: PageRange,
     },
-    /// All pages are held, and whether the change may be made is to be decided.
+    /// All pages are held, and whether the change may be made has to be decided.
     Decide(Change),
-    /// The cores that are recorded on the pages are to be told.
+    /// The cores that are recorded on the pages have to be told.
     Post {
         change: Change,
         shoot: CoreSet,
@@ -52,13 +52,13 @@ pub enum Phase {
         held: PageRange,
         reply: Reply,
     },
-    /// The reply is to be handed out.
+    /// The reply has to be handed out.
     Answer(Reply),
-    /// The page is to be translated, and its byte read or written.
+    /// The page has to be translated, and its byte read or written.
     Try(Touch),
-    /// The page is held, and what its slot says is to be read.
+    /// The page is held, and what its slot says has to be read.
     Settle(Touch),
-    /// A frame is to be taken: for a copy of this one, where the page has it.
+    /// A frame has to be taken: for a copy of this one, where the page has it.
     Want {
         touch: Touch,
         old: Option<u32>,
@@ -69,7 +69,7 @@ pub enum Phase {
         touch: Touch,
         frame: Option<u32>,
     },
-    /// The page is to get a copy in this frame, and the cores that are recorded on it are to be told.
+    /// The page gets a copy in this frame, and the cores that are recorded on it have to be told.
     CopyPost {
         touch: Touch,
         frame: u32,
@@ -79,8 +79,8 @@ pub enum Phase {
         touch: Touch,
         frame: u32,
     },
-    /// The core is to be recorded on the page, and its translation installed.
+    /// The core has to be recorded on the page, and its translation installed.
     Install(Touch),
-    /// The page's slot is to be unlocked.
+    /// The page's slot has to be unlocked.
     Release(Touch),
 }

@@ -129,7 +129,7 @@ fn first_node<A: Allocator + Clone>(
 /// order, on the plain page map that the opening makes with these files. Each end's replies come by the turns in its order.
 /// Where the answer says that it is whole, each combination that some merge gives is there: so those that aren't there
 /// can't come. At most `limit` points of merges are kept; where there are more, the answer isn't whole. No call may leave its
-/// place open. `Err` says that memory was wanting.
+/// place open. `Err` says that memory was refused.
 pub fn explore<A: Allocator + Clone + Drop>(
     objects: &Objects<A>,
     opening: &[Step],

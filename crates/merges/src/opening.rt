@@ -40,7 +40,7 @@ pub fn are_named(calls: &[Asked]) -> bool
 }
 
 /// Gives the core's request, which leaves no place open, its turn behind those before it: its reply, or none where the page that
-/// it stores to got a copy first, and its own turn is still to come. `Err` says that memory was wanting; the map is as it was.
+/// it stores to got a copy first, and its own turn is still to come. `Err` says that memory was refused; the map is as it was.
 pub fn lead<A: Allocator>(
     objects: &Objects<A>,
     opening: &mut Vec<Step, A>,

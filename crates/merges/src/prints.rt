@@ -114,7 +114,7 @@ pub(crate) struct Seats<A: Allocator> {
 }
 
 impl<A: Allocator> Seats<A> {
-    /// Free places for so many nodes.
+    /// Free places for this many nodes.
     pub fn new(alloc: A, limit: usize) -> Result<Seats<A>, NoMemory> {
         let count = limit.min(MOST / 2) * 2 + 1;
         let seats = vec![in alloc; FREE; count]?;

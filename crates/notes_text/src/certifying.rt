@@ -36,7 +36,7 @@ fn no_histories<'a, A: Allocator>() -> Option<&'a Histories<A>>
     None
 }
 
-// The result of certifying these notes, where it is known how each ticket stands. So memory is wanting only where each
+// The result of certifying these notes, where it is known how each ticket stands. So memory is refused only where each
 // stands once.
 fn judge<A: Allocator + Clone + Drop>(
     alloc: A,
@@ -72,7 +72,7 @@ fn judge<A: Allocator + Clone + Drop>(
     }
 }
 
-// The result of certifying the notes of a space with this declaration. Memory is wanting for the setup, for how each
+// The result of certifying the notes of a space with this declaration. Memory is refused for the setup, for how each
 // ticket stands, or as `judge` says.
 fn judge_declared<A: Allocator + Clone + Drop>(
     alloc: A,
@@ -123,7 +123,7 @@ fn judge_collected<A: Allocator + Clone + Drop>(
     }
 }
 
-// Reads the notes, and finds their verdict. Memory may be wanting once all lines were read, too.
+// Reads the notes, and finds their verdict. Memory may be refused once all lines were read, too.
 fn find_verdict<A: Allocator + Clone + Drop, S: Source>(
     alloc: A,
     reader: &mut S,
@@ -175,10 +175,10 @@ fn certify_lines<A: Allocator + Clone + Drop, S: Source, W: Sink>(
 }
 
 /// Reads notes, in any order of their tickets, and writes one line: `certified CALLS` where in order of tickets they
-/// are a run of the machine with just the noted outcomes, with so many answered calls; `refused C1 TICKET` where a ticket
+/// are a run of the machine with just the noted outcomes, with this many answered calls; `refused C1 TICKET` where a ticket
 /// below their number doesn't stand once, the least of them; or `refused C2 TICKET: noted OUTCOME, expected OUTCOME` where the
-/// machine comes to another outcome. Answers whether they are certified. What is written goes out at the end; a write or a
-/// flush that fails is told even where another fault came first. Nothing is written where a fault is told, or, where it is that
+/// machine's outcome is another. Answers whether they are certified. What is written goes out at the end; a write or a
+/// flush that fails is reported even where another fault came first. Nothing is written where a fault is reported, or, where it is that
 /// of a write, a front of the line.
 pub fn certify_text<A: Allocator + Clone + Drop, S: Source, W: Sink>(
     alloc: A,

@@ -24,14 +24,14 @@ pub trait LineOf: Copy {
     /// Whether the `vm` line has to say how many calls may begin.
     ghost needs_calls: { Bool };
 
-    /// The words of a line name this, in a space of so many cores.
+    /// The words of a line name this, in a space of this many cores.
     ghost names: { ℕ → Self → List Word → Type 0 };
 
     /// Tells whether the `vm` line has to say how many calls may begin.
     fn needs_calls() -> bool
         ensures { result ≡ needs_calls };
 
-    /// What the line names in a space of so many cores, `None` where it names nothing.
+    /// What the line names in a space of this many cores, `None` where it names nothing.
     fn read(cores: u64, line: &[u8]) -> Option<Self>
         ensures some { IfSome result (λ item. names cores item (words_of line.now)) }
         ensures none { IfNone result ((item : Self) → names cores item (words_of line.now) → ⊥) };

@@ -21,7 +21,7 @@ pub fn written_notes()
 
 /// The text that `write_notes` writes says what is declared and the notes, in the order in which they are written, each with its
 /// ticket, event and outcome (`written`), and no text says other notes beside those that it says, or declares otherwise (`one`). So
-/// whoever reads it is given those, or is told that a read failed or memory was wanting (`read`).
+/// whoever reads it is given those, or learns that a read failed or that there was no memory (`read`).
 pub fn written_texts()
     ensures written { WrittenIsSaid }
     ensures one { SaysOne }

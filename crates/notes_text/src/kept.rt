@@ -14,7 +14,7 @@ pub trait Kept<T> {
     fn has_none(&self) -> bool
         ensures { result ≡ (length (kept self.now) == 0) };
 
-    /// Adds the item at the end. Where memory is wanting nothing is added.
+    /// Adds the item at the end. Where memory is refused nothing is added.
     fn keep(&mut self, item: T) -> Result<(), NoMemory>
         ensures ok { OnOk result (kept self.new ≡ kept self.old ++ item ∷ []) }
         ensures err { OnErr result (kept self.new ≡ kept self.old) };

@@ -12,11 +12,11 @@ use trace_text::{LineText, push_number};
 /// The result of certifying the notes of a text.
 #[derive(Clone, Copy, Debug, PartialEq, Eq)]
 pub enum Verdict {
-    /// They are certified, with so many answered calls.
+    /// They are certified, with this many answered calls.
     Certified(u64),
     /// Of the tickets below the number of the notes, this is the least that doesn't stand once.
     Ticket(u64),
-    /// After all earlier notes the machine comes to another outcome than the note with this ticket.
+    /// After all earlier notes the machine's outcome isn't the one in the note with this ticket.
     Differs {
         ticket: u64,
         noted: Outcome,

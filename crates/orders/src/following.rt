@@ -14,7 +14,7 @@ use vm_base::NoMemory;
 
 /// Tells whether the items are an order of the history's calls, from the auditor's plain page map on: they keep time, each call
 /// takes effect once, and each reply is the plain page map's. `false` says that this order is none, and not that there is none.
-/// `Err` says that memory was wanting. The auditor is used up: its map is where the items led.
+/// `Err` says that memory was refused. The auditor is used up: its map is where the items led.
 pub fn follow<M: SlotMap, A: Allocator + Drop>(
     alloc: A,
     auditor: &mut Auditor<M, A>,

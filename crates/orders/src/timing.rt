@@ -5,7 +5,7 @@ ghost use Rattle.orders.specs.Orders.{EachOnce, KeepsTime};
 
 use crate::history::{Item, Timed, call_at};
 
-/// Tells whether nothing stands behind what began after it ended.
+/// Tells whether no call stands after one that began after it ended.
 pub fn keeps_time(history: &[Timed], items: &[Item]) -> bool
     requires { EachOnce (length history.now) items.now }
     ensures { IsTrue result ↔ KeepsTime history.now items.now }

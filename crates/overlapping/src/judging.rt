@@ -24,7 +24,7 @@ use vm_base::NoMemory;
 /// What is told of a history.
 #[derive(Clone, Copy, Debug, PartialEq, Eq)]
 pub enum Ruling {
-    /// Its calls, which are so many, have an order.
+    /// Its calls, which are this many, have an order.
     Legal(u64),
     /// No order of its calls was found by the end of the call of this line. It may have one.
     Undecided(u64),

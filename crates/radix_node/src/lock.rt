@@ -11,7 +11,7 @@ use crate::state::SlotState;
 use std::alloc::Allocator;
 use vm_base::CoreId;
 
-/// What an attempt to lock the slot of a page came to, which has to begin at the page and to have
+/// The result of an attempt to lock the slot of a page, which has to begin at the page and to have
 /// at most so many pages.
 #[derive(Clone, Copy, Debug, PartialEq, Eq)]
 pub enum Lock {

@@ -20,7 +20,7 @@ pub struct ChairHandle {
     pub ghost value: { Option Chair },
 }
 
-// What lies behind it may go to another thread.
+// What it points to may go to another thread.
 unsafe impl Send for ChairHandle {}
 
 impl Model for ChairHandle {

@@ -19,7 +19,7 @@ pub struct Handle {
     pub ghost value: { Option Held },
 }
 
-// What lies behind it may go to another thread.
+// What it points to may go to another thread.
 unsafe impl Send for Handle {}
 
 impl Model for Handle {

@@ -8,7 +8,7 @@ pub fn events_have_codes()
     ensures items { AllItemsHaveCodes }
 {}
 
-/// Different outcomes are told by different codes or values, and so are different ends, and different
+/// Different outcomes have different codes or values, and so are different ends, and different
 /// entries of a log.
 pub fn outcomes_differ()
     ensures outcomes { AllOutcomesDiffer }

@@ -48,8 +48,8 @@ pub extern "C" fn radixvm_version() -> u32
     VERSION
 }
 
-/// Takes the events, one after another, on a new machine, as far as they can be taken, and tells what
-/// each came to in its place of `told`.
+/// Takes the events, one after another, on a new machine, as far as they can be taken, and writes
+/// the result of each in its place of `told`.
 #[unsafe(no_mangle)]
 pub extern "C" fn radixvm_run_batch(
     alloc: Global,
@@ -65,7 +65,7 @@ pub extern "C" fn radixvm_run_batch(
 }
 
 /// Makes the calls, each to its end, and the events between them, on a new machine, as far as they
-/// can be made, and tells what each came to in its place of `told`.
+/// can be made, and writes the result of each in its place of `told`.
 #[unsafe(no_mangle)]
 pub extern "C" fn radixvm_calls_batch(
     alloc: Global,

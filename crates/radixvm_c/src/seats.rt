@@ -114,7 +114,7 @@ fn tell(answer: Answer, told: &mut RawOutcome) -> u32
     }
 }
 
-// Tells what the aside came to.
+// Writes the outcome of the aside.
 fn tell_passed(passed: Passed, told: &mut RawOutcome) -> u32
     ensures { TellsPassed passed told.old result told.new }
 {
@@ -168,7 +168,7 @@ fn try_seat(seat: &mut Seat, raw: &RawEvent, told: &mut RawOutcome) -> u32
     tell(call_on(&seat.room, &mut seat.core, request), told)
 }
 
-/// A whole call of the seat's core, or a step beside calls, or it is told that another seat is in a call.
+/// A whole call of the seat's core, or a step beside calls; or the answer is that another seat is in a call.
 pub fn try_chair(chair: &mut Chair, raw: &RawEvent, told: &mut RawOutcome) -> u32
     ensures { TellsTry (core_on chair.old) raw.now told.old result told.new (core_on chair.new) }
 {
@@ -232,7 +232,7 @@ fn call_seat(seat: &mut Seat, raws: &[RawEvent], told: &mut [RawOutcome]) -> Don
     calls_done(calls_on(&seat.room, &mut seat.core, raws, told))
 }
 
-/// Whole calls of the seat's core, one after another, or it is told that another seat is in a call.
+/// Whole calls of the seat's core, one after another; or the answer is that another seat is in a call.
 pub fn call_chair(chair: &mut Chair, raws: &[RawEvent], told: &mut [RawOutcome]) -> Done
     ensures { TellsCalls (core_on chair.old) raws.now told.old result told.new (core_on chair.new) }
 {

@@ -63,7 +63,7 @@ fn kept_from(unshared: Unshared<Placed>) -> Kept
     }
 }
 
-// The seat of core 0 of the machine. All memory is taken before the machine is, but for what
+// The seat of core 0 of the machine. All memory is taken before the machine is, except for what
 // `Space::new` takes, which hands it back.
 fn seat_first(alloc: Global, held: Box<Held, Global>) -> Result<Seat, Kept>
     ensures ok { IfOk result (λ seat. IsFirst held.value seat.core) }
@@ -117,7 +117,7 @@ pub fn share(alloc: Global, handle: &mut Handle, chair: &mut ChairHandle) -> u32
     }
 }
 
-/// What ending a space comes to.
+/// The result of ending a space.
 #[derive(Drop)]
 pub enum Closed {
     /// The machine, with its history.

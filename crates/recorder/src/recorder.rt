@@ -180,7 +180,7 @@ impl<A: Allocator> Recorder<A> {
         }
     }
 
-    /// The next step begins, of a machine with so many cores. In the first one of the range the calls are recorded that
+    /// The next step begins, of a machine with this many cores. In the first one of the range the calls are recorded that
     /// aren't answered yet.
     pub fn advance(&mut self, cores: u64)
         ensures { self.new ≡ advanced self.old cores }

@@ -210,7 +210,7 @@ fn begin<A: Allocator>(objects: &mut Vec<ObjectCount, A>, object: usize, count: 
     objects[object].begin(count);
 }
 
-/// So many counts of 0.
+/// This many counts of 0.
 fn zero_counts<A: Allocator>(alloc: A, objects: usize) -> Result<Vec<ObjectCount, A>, AllocError>
     ensures count { IfOk result (λ v. length v.items ≡ objects) }
     ensures zero { IfOk result (λ v. All IsNewCount v.items) }
@@ -222,7 +222,7 @@ fn zero_counts<A: Allocator>(alloc: A, objects: usize) -> Result<Vec<ObjectCount
     Ok(counts)
 }
 
-/// So many cores without entries, whose queues have room for so many objects and one more.
+/// This many cores without entries, whose queues have room for this many objects and one more.
 fn empty_cores<A: Allocator + Clone>(
     alloc: A,
     cores: u8,

@@ -8,7 +8,7 @@ use crate::tickets::Tickets;
 use std::alloc::Allocator;
 
 /// What all seats of the word noted, a list for each, in their order: the tickets of each list rise, and those of all lists
-/// are the numbers below that of all notes, each once. Where memory is wanting the seats come back.
+/// are the numbers below that of all notes, each once. Where memory is refused the seats come back.
 pub fn gather<A: Allocator>(
     alloc: A,
     word: &Tickets<A>,

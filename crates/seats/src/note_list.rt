@@ -100,7 +100,7 @@ impl<'a> Notes<'a> {
         }
     }
 
-    /// The notes but for the first.
+    /// The notes except for the first.
     pub fn rest(&self) -> Notes<'a>
         requires { 0 < length (shown self.now) }
         ensures { shown result ≡ drop 1 (shown self.now) }
@@ -148,7 +148,7 @@ impl<A: Allocator> NoteList<A> {
         }
     }
 
-    /// Tells whether so many more notes stay within the limit of 2^32.
+    /// Tells whether this many more notes stay within the limit of 2^32.
     pub fn is_within_limit(&self, count: usize) -> bool
         ensures { IsTrue result ↔ length self.now.notes + count ≤ 2 ^ 32 }
     {
@@ -156,7 +156,7 @@ impl<A: Allocator> NoteList<A> {
         len <= LIMIT && count <= LIMIT - len
     }
 
-    /// Makes room for so many more notes, and tells whether it could: not where room is missing and they would pass the limit,
+    /// Makes room for this many more notes, and tells whether it could: not where room is missing and they would pass the limit,
     /// or there is no memory.
     pub fn reserve(&mut self, count: usize) -> bool
         ensures room { IsTrue result → count ≤ self.new.room }

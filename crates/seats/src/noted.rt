@@ -1,7 +1,7 @@
-//! One note: a step with its ticket and what it came to.
+//! One note: a step with its ticket and its outcome.
 use machine_model::{Event, Outcome};
 
-/// A step as a thread took it: its ticket, its event and what it came to.
+/// A step as a thread took it: its ticket, its event and its outcome.
 #[derive(Clone, Copy, Debug, PartialEq, Eq)]
 pub struct Noted {
     pub ticket: u64,

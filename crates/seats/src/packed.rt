@@ -46,7 +46,7 @@ pub enum Kind {
     InFull,
 }
 
-/// What a packed note says but for its ticket.
+/// What a packed note says except for its ticket.
 #[derive(Clone, Copy, Debug, PartialEq, Eq)]
 pub struct Brief {
     pub kind: Kind,
@@ -92,7 +92,7 @@ fn brief_call(core: CoreId, request: &Request) -> Option<Brief>
     }
 }
 
-// An event whose step comes to nothing else.
+// An event whose step has this outcome alone.
 #[inline(always)]
 fn brief_step(event: &Event) -> Option<Brief>
     ensures { IfSome result (λ b. Says b event.now Stepped) }
@@ -144,7 +144,7 @@ fn brief_answer(core: CoreId, reply: &Reply) -> Brief
     }
 }
 
-// What says that the event comes to the outcome, where something does.
+// What says that the event has the outcome, where something does.
 #[inline(always)]
 fn brief_of(event: &Event, outcome: &Outcome) -> Option<Brief>
     ensures { IfSome result (λ b. Says b event.now outcome.now) }

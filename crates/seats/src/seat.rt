@@ -134,14 +134,14 @@ impl<A: Allocator> Seat<A> {
         Parts { ticketer, notes }
     }
 
-    /// Tells whether so many more notes stay within the limit of 2^32.
+    /// Tells whether this many more notes stay within the limit of 2^32.
     pub fn is_within_limit(&self, count: usize) -> bool
         ensures { IsTrue result ↔ length self.now.notes + count ≤ 2 ^ 32 }
     {
         self.notes.is_within_limit(count)
     }
 
-    /// Makes room for so many more notes, and tells whether it could: not where room is missing and
+    /// Makes room for this many more notes, and tells whether it could: not where room is missing and
     /// they would pass the limit, or there is no memory.
     pub fn reserve(&mut self, count: usize) -> bool
         ensures room { IsTrue result → count ≤ self.new.room }

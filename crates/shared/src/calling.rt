@@ -92,7 +92,7 @@ fn call_given_up<M: SlotMap, A: Allocator + Clone, L: Ledger>(
     }
 }
 
-// What finishing a call came to.
+// The result of finishing a call.
 fn ended_by(finished: Finished) -> Ended
     ensures { result ≡ ended_by finished }
 {

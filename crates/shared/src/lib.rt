@@ -1,5 +1,5 @@
 //! One machine for threads, each of which makes whole calls as a core of its own. No thread ever
-//! waits: who finds the machine out with another is told so.
+//! waits: who finds the machine with another seat gets a busy answer.
 #![tactic(auto)]
 
 pub mod asides;

@@ -48,7 +48,7 @@ impl Tell for Reply {
     }
 }
 
-/// Why a series of calls came to its end.
+/// Why a series of calls ended.
 #[derive(Clone, Copy, Debug, PartialEq, Eq)]
 pub enum Stop {
     /// All calls were made.
@@ -68,11 +68,11 @@ pub enum Stop {
 pub struct Series {
     /// How many calls were made, and told.
     pub made: usize,
-    /// Why it came to its end.
+    /// Why it ended.
     pub stop: Stop,
 }
 
-// Why a series comes to its end behind a call with this reply, if it does.
+// Why a series ends after a call with this reply, if it does.
 fn stop_after(reply: Reply) -> Stop
     ensures { result ≡ stop_after reply }
 {

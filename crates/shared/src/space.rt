@@ -59,7 +59,7 @@ pub enum Answer {
     Full,
 }
 
-/// What an aside came to.
+/// The outcome of an aside.
 #[derive(Clone, Copy, Debug, PartialEq, Eq)]
 pub enum Passed {
     /// The machine's outcome: it was made (Stepped), there was nothing to do (Idle), or the limit of
@@ -69,10 +69,10 @@ pub enum Passed {
     Busy,
 }
 
-/// What a series of calls comes to.
+/// The result of a series of calls.
 #[derive(Clone, Copy, Debug, PartialEq, Eq)]
 pub enum Calls {
-    /// So many were made.
+    /// This many were made.
     Made(Series),
     /// Another core is in a call. Nothing was done.
     Busy,
@@ -282,7 +282,7 @@ impl<S: Whole + Drop> Space<S> {
     }
 
     /// A whole call of this core. Where another core is in one, nothing is done. Below the machine's
-    /// limits of calls and of events it has a reply: that it is full is told at a limit alone. What the core has
+    /// limits of calls and of events it has a reply: only at a limit is the answer that it is full. What the core has
     /// seen of the machine's history is a beginning of it, whose log is that of a plain page map
     /// (POSIX.1-2017, mmap, munmap and mprotect), and in which this core's calls are just those that
     /// it made, in order, each with the reply that it got.
@@ -303,7 +303,7 @@ impl<S: Whole + Drop> Space<S> {
         answer_of(ended)
     }
 
-    /// Whole calls of this core, one after another, with nothing of another core between them. Each reply is told in its place, as
+    /// Whole calls of this core, one after another, with nothing of another core between them. Each reply is written in its place, as
     /// far as calls were made, and the other places stay as they were: up to what is no call, to a call to which memory is refused,
     /// or to a limit of the machine. Of each that was made the same is so as of `call`. Where another core is in a call, nothing
     /// is done.
@@ -423,7 +423,7 @@ fn word_after(stop: Stop) -> u64
     if stop == Stop::Spent { SPENT } else { HOME }
 }
 
-// What the caller is told.
+// What the caller gets.
 fn answer_of(ended: Ended) -> Answer
     ensures { result ≡ answer_of ended }
 {

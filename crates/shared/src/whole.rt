@@ -9,7 +9,7 @@ use crate::asides::Aside;
 use machine_model::Outcome;
 use vm_base::{CoreId, Reply, Request};
 
-/// What a whole call came to.
+/// The result of a whole call.
 #[derive(Clone, Copy, Debug, PartialEq, Eq)]
 pub enum Ended {
     /// It was made, and has this reply.

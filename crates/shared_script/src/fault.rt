@@ -5,7 +5,7 @@ use trace::fault::TraceFault;
 /// Why a script's text wasn't run to its end, or what came of it wasn't written.
 #[derive(Clone, Copy, Debug, PartialEq, Eq, Error)]
 pub enum SharedFault {
-    /// The text can't be read, it makes no machine, memory is wanting, or a write failed.
+    /// The text can't be read, it makes no machine, memory is refused, or a write failed.
     #[error("{0}")]
     Text(TraceFault),
     /// The machine is at a limit: that of calls, or that of events.

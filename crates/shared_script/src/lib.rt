@@ -1,4 +1,4 @@
-//! Scripts that are run on threads over one machine that all of them share: what each core is told is proved for every
+//! Scripts that are run on threads over one machine that all of them share: each core's replies are proved for every
 //! order in which the threads take turns, so that no run needs a certificate.
 #![tactic(auto)]
 

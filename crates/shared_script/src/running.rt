@@ -35,7 +35,7 @@ fn lane_of<S>(alloc: Global, number: usize, core: Core<S>) -> Lane<S>
     }
 }
 
-// Splits off all cores of the space, of which so many are left: a lane for each, from the last to the first.
+// Splits off all cores of the space, of which this many are left: a lane for each, from the last to the first.
 fn lanes_of<S: Whole + Drop>(
     alloc: Global,
     space: &Space<S>,
@@ -125,7 +125,7 @@ fn gather<S: Whole + Drop>(
 
 /// Does each core's tasks, in their order, on a thread of the core's own, or one core after another where no thread can be
 /// made, over one machine that has begun no call. A core stops at its first call for which the machine has no room, while the
-/// others go on; of several such faults the least core's is told. Memory may be wanting at any time.
+/// others go on; of several such faults the least core's is reported. Memory may run out at any time.
 pub fn run_shared<S: Whole + Drop + Send, R: Threads + Wait + Sync>(
     rt: &R,
     alloc: Global,

@@ -74,7 +74,7 @@ fn share_read<T: Threads + Wait + Sync, W: Sink>(
 /// Reads a script, runs it on threads over one machine, and writes what each core was told, and the log: each core's lines are the
 /// calls of its tasks, in order, with the replies that its thread got, and these are the log's, which is one of a plain page map,
 /// whatever the order in which the threads took turns. Faults come in this order: of the text, of the making of the machine, of a
-/// core that found the machine at a limit, and of writing; nothing is written before the last. Memory may be wanting at any time.
+/// core that found the machine at a limit, and of writing; nothing is written before the last. Memory may be refused at any time.
 pub fn share_text<T: Threads + Wait + Sync, S: Source, W: Sink>(
     rt: &T,
     alloc: Global,

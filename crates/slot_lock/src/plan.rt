@@ -56,9 +56,9 @@ pub enum Target {
 /// What a call locks its pages for.
 #[derive(Clone, Copy, Debug, PartialEq, Eq)]
 pub enum Goal {
-    /// The mapping is to be placed, if its target has room.
+    /// The mapping has to be placed, if its target has room.
     Place { place: Place, target: Target },
-    /// All pages of the change are to be changed.
+    /// All pages of the change have to be changed.
     Change(Change),
     /// An access of the page faulted.
     Access(Touch),

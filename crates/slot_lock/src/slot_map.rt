@@ -162,9 +162,9 @@ pub trait SlotMap: SlotRead {
         requires slot { IsSlotBy (Self.slots self.old) cursor end }
         ensures { Unlocks (Self.slots self.old) (Self.slots self.new) core cursor end result };
 
-    /// Locks free slots that end by `end`, one after another from the cursor on: what so many calls
+    /// Locks free slots that end by `end`, one after another from the cursor on: what this many calls
     /// of `lock_next` do. How many, the map chooses: those that it finds side by side, at most
-    /// `most`, and none where the cursor's slot is held or is to be divided.
+    /// `most`, and none where the cursor's slot is held or has to be divided.
     fn lock_run(&mut self, core: CoreId, cursor: u64, end: u64, most: u64) -> SlotRun
         requires ordered { cursor < end }
         requires valid { (1 ≤ cursor) × (end ≤ 2 ^ 35) }

@@ -36,7 +36,7 @@ impl Default for FileLine {
     }
 }
 
-/// What the `vm` line and the `file` lines behind it ask for. It takes no memory: the
+/// What the `vm` line and the `file` lines after it ask for. It takes no memory: the
 /// bytes of a file are made where a setup is.
 #[derive(Drop)]
 pub struct Declaration {
@@ -166,14 +166,14 @@ impl Declaration {
         true
     }
 
-    /// The first fault of what is asked for, but for want of memory. At most 1,048,576 calls may be.
+    /// The first fault of what is asked for, except for want of memory. At most 1,048,576 calls may be.
     pub fn fault(&self) -> Option<SetupFault>
         ensures { result ≡ asked_fault self.now }
     {
         self.fault_within(CallLimit::Usual)
     }
 
-    /// The first fault of what is asked for, but for want of memory, where this limit of calls holds.
+    /// The first fault of what is asked for, except for want of memory, where this limit of calls holds.
     pub fn fault_within(&self, limit: CallLimit) -> Option<SetupFault>
         ensures { result ≡ asked_fault_within limit self.now }
     {

@@ -1,4 +1,4 @@
-//! What the lines of a trace come to, one after another.
+//! The results of the lines of a trace, one after another.
 ghost use Rattle.trace.specs.EventRuns.{AllTracesAreRuns};
 ghost use Rattle.trace.specs.PlainLaw.{AllTracesArePlain};
 
@@ -19,7 +19,7 @@ pub fn traces_are_runs()
 /// drops the page's other users. No part of the machine is needed to tell it, but that walks,
 /// evictions, flushes and reviews of the setup's cores, and folds, may be `step` or `idle`.
 ///
-/// Behind the text come, where they are to be shown, the lines of the log, whose replies are those of
+/// Behind the text come, where they are shown, the lines of the log, whose replies are those of
 /// the lines before, in order, and which leads to the plain page map that the lines reach; or the
 /// list of all mappings of that map. A trace without the line of an event has an empty log, and no
 /// mapping.

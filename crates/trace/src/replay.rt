@@ -69,7 +69,7 @@ pub fn turn<A: Allocator, S: Source, W: Sink, R: Staged, H: Showing>(
     }
 }
 
-// Ends the trace, and writes what comes behind the text of its lines. A log that is to be
+// Ends the trace, and writes what follows the text of its lines. A log that is
 // shown is kept.
 fn close<W: Sink, R: Staged>(
     writer: &mut W,
@@ -175,7 +175,7 @@ fn replay_over<
     }
 }
 
-// Acts on all lines. The log is kept only where it is to be shown, and then the usual limit of calls
+// Acts on all lines. The log is kept only where it is shown, and then the usual limit of calls
 // holds.
 fn replay_text<A: Allocator + Clone + Drop, S: Source, W: Sink, X: Watch + Drop>(
     alloc: A,
@@ -347,10 +347,10 @@ pub fn replay_summing<A: Allocator + Clone + Drop, S: Source, W: Sink>(
 }
 
 /// Acts on each line as it is read, and writes its text before the next line is acted on;
-/// at the end of the trace, if no fault came, the log comes behind the text, or the list
-/// of mappings in place of it, where it is to be shown. What is written goes out before
+/// at the end of the trace, if no fault came, the log follows the text, or the list
+/// of mappings in place of it, where it is shown. What is written goes out before
 /// each read that a line has to wait for, and at the end, after a fault too. A write or a
-/// flush that fails ends the replay, and is told even where another fault came first.
+/// flush that fails ends the replay, and is reported even where another fault came first.
 ///
 /// Up to the first line that takes a call apart (`call`, `go`) or begins one while another waits, what
 /// is written is what a plain page map gives: `laws::traces_are_plain` says it in words.

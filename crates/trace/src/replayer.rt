@@ -118,7 +118,7 @@ fn made<A: Allocator + Clone + Drop, L: Opening<A> + Drop>(
     }
 }
 
-// What is told of a bad line at which a machine is to be made: why none can be, or else
+// What is reported of a bad line at which a machine is made: why none can be, or else
 // that the line is bad.
 #[tactic(auto, using(crate::proofs::Acting::late_err, crate::proofs::Acting::late_ok))]
 fn late_fault<A: Allocator + Clone + Drop, L: Opening<A> + Drop>(
@@ -193,7 +193,7 @@ impl<A: Allocator + Clone + Drop, L: Opening<A> + Drop, X: Watch + Drop> Replaye
         Ok(())
     }
 
-    // What is told of a line that says nothing that a trace may say.
+    // What is reported of a line that says nothing that a trace may say.
     #[tactic(auto, using(crate::proofs::Acting::bad_file, crate::proofs::Acting::bad_late, crate::proofs::Acting::bad_other, crate::proofs::Acting::bad_running, crate::proofs::Acting::bad_space))]
     fn fault_of_bad(&self, number: u64, line: &[u8]) -> TraceFault
         ensures { BadFails (⟦<Self as Staged>⟧.stage self.now) number (kind_of (words_of line.now)) result }

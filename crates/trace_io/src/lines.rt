@@ -123,7 +123,7 @@ impl<A: Allocator> LineReader<A> {
         }
     }
 
-    // Reads more behind the bytes held.
+    // Reads more after the bytes held.
     fn fill<S: Source>(&mut self, reader: &mut S) -> Result<usize, ReadFailed>
         requires { length self.old.held ≤ 256 }
         ensures kept { Reads (S.stream reader.old) (S.stream reader.new)

@@ -120,7 +120,7 @@ fn read_single_word(name: &[u8]) -> Option<Action>
     }
 }
 
-// What stands behind `walk` and a space.
+// What follows `walk` and a space.
 #[inline(always)]
 fn behind_walk(bytes: &[u8]) -> Option<&[u8]>
     ensures { IfSome result (λ args. bytes.now ≡ codes "walk " ++ args.now) }
@@ -131,7 +131,7 @@ fn behind_walk(bytes: &[u8]) -> Option<&[u8]>
     }
 }
 
-// What stands behind `evict` and a space.
+// What follows `evict` and a space.
 #[inline(always)]
 fn behind_evict(bytes: &[u8]) -> Option<&[u8]>
     ensures { IfSome result (λ args. bytes.now ≡ codes "evict " ++ args.now) }

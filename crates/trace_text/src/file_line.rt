@@ -43,7 +43,7 @@ fn read_contents(number: u64, mode: Mode, args: &[u8]) -> Option<Line>
 }
 
 /// The line of these words after `file`; `None` where they are no such line. Whether its number
-/// is the next one, and whether there may be so many files and bytes, isn't tested here.
+/// is the next one, and whether there may be this many files and bytes, isn't tested here.
 #[tactic(auto, unfolding(crate::specs::Line::file_line_of))]
 pub(crate) fn read_file(args: &[u8]) -> Option<Line>
     ensures { result ≡ file_line_of (words_of args.now) }

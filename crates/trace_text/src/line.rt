@@ -18,7 +18,7 @@ use vm_base::{CoreId, Mode, Request};
 pub enum Line {
     /// Nothing: no word, or a comment.
     Blank,
-    /// `vm CORES FRAMES CALLS`: a space of so many cores and frames, in which so many calls may begin.
+    /// `vm CORES FRAMES CALLS`: a space of this many cores and frames, in which this many calls may begin.
     Space {
         cores: u64,
         frames: u64,
@@ -176,7 +176,7 @@ pub(crate) fn front_now(bytes: &[u8]) -> Option<(CoreId, &[u8])>
     two_digits_now(bytes)
 }
 
-// A core of one digit that is told one thing, and the bytes of that.
+// A core of one digit with one action, and the bytes of the action.
 #[inline(always)]
 fn one_digit_core(bytes: &[u8]) -> Option<(CoreId, &[u8])>
     ensures { IfSome result (λ f. BeginsCore bytes.now f.0 f.1.now) }
@@ -190,7 +190,7 @@ fn one_digit_core(bytes: &[u8]) -> Option<(CoreId, &[u8])>
     }
 }
 
-// A core of two digits that is told one thing, and the bytes of that.
+// A core of two digits with one action, and the bytes of the action.
 #[inline(always)]
 fn two_digits_core(bytes: &[u8]) -> Option<(CoreId, &[u8])>
     ensures { IfSome result (λ f. BeginsCore bytes.now f.0 f.1.now) }
@@ -204,7 +204,7 @@ fn two_digits_core(bytes: &[u8]) -> Option<(CoreId, &[u8])>
     }
 }
 
-// A core that is told one thing, and the bytes of that.
+// A core with one action, and the bytes of the action.
 #[inline(always)]
 fn front_core(bytes: &[u8]) -> Option<(CoreId, &[u8])>
     ensures { IfSome result (λ f. BeginsCore bytes.now f.0 f.1.now) }

@@ -1,7 +1,7 @@
 //! The lines of a log, one behind another, in a buffer of fixed size that is handed on when it is full.
 //!
 //! Steps and calls are numbered in order, so that most numbers begin as the one before: the digits
-//! before the last two are kept, and copied as so many bytes whatever their number is.
+//! before the last two are kept, and copied as this many bytes whatever their number is.
 ghost use Rattle.std.specs.Prelude.{◌≡◌, ◌+◌, ◌≤◌, ◌++◌, decimal, length, take};
 ghost use Rattle.trace_text.specs.Printing.{text_of};
 
@@ -18,7 +18,7 @@ const LONGEST_LINE: usize = 256;
 /// How many digits a number has at the most.
 const MOST_DIGITS: usize = 20;
 
-// Writes the piece at the place, and answers the place behind it.
+// Writes the piece at the place, and answers the place after it.
 #[inline(always)]
 fn put(bytes: &mut [u8], at: usize, piece: &[u8]) -> usize
     requires { at + length piece.now ≤ length bytes.old }
@@ -83,7 +83,7 @@ impl Leading {
         }
     }
 
-    // Writes the digits, and whatever is behind them in the array.
+    // Writes the digits, and whatever follows them in the array.
     #[inline(always)]
     fn put_into(&self, bytes: &mut [u8], at: usize) -> usize
         requires { at + 20 ≤ length bytes.old }
@@ -150,7 +150,7 @@ pub struct LogLines {
     ghost fits: { len ≤ 16384 },
 }
 
-// Zeros, where lines are to be.
+// Zeros, where lines will be.
 fn blank() -> [u8; ROOM] {
     [0; ROOM]
 }
@@ -173,7 +173,7 @@ impl LogLines {
         }
     }
 
-    /// Whether they are to be handed on before one more.
+    /// Whether they have to be handed on before one more is added.
     #[inline(always)]
     pub fn is_full(&self) -> bool
         ensures { result ≡ false → HasRoom self.now }

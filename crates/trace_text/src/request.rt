@@ -193,7 +193,7 @@ fn read_fetch(args: &[u8]) -> Option<Request>
     Some(Request::Fetch { addr })
 }
 
-/// What stands behind `load` and a space.
+/// What follows `load` and a space.
 #[inline(always)]
 pub(crate) fn behind_load(bytes: &[u8]) -> Option<&[u8]>
     ensures { IfSome result (λ args. bytes.now ≡ codes "load " ++ args.now) }
@@ -204,7 +204,7 @@ pub(crate) fn behind_load(bytes: &[u8]) -> Option<&[u8]>
     }
 }
 
-/// What stands behind `store` and a space.
+/// What follows `store` and a space.
 #[inline(always)]
 pub(crate) fn behind_store(bytes: &[u8]) -> Option<&[u8]>
     ensures { IfSome result (λ args. bytes.now ≡ codes "store " ++ args.now) }
@@ -215,7 +215,7 @@ pub(crate) fn behind_store(bytes: &[u8]) -> Option<&[u8]>
     }
 }
 
-// What stands behind `fetch` and a space.
+// What follows `fetch` and a space.
 #[inline(always)]
 fn behind_fetch(bytes: &[u8]) -> Option<&[u8]>
     ensures { IfSome result (λ args. bytes.now ≡ codes "fetch " ++ args.now) }
@@ -226,7 +226,7 @@ fn behind_fetch(bytes: &[u8]) -> Option<&[u8]>
     }
 }
 
-// What stands behind `mmap` and a space.
+// What follows `mmap` and a space.
 #[inline(always)]
 fn behind_mmap(bytes: &[u8]) -> Option<&[u8]>
     ensures { IfSome result (λ args. bytes.now ≡ codes "mmap " ++ args.now) }
@@ -237,7 +237,7 @@ fn behind_mmap(bytes: &[u8]) -> Option<&[u8]>
     }
 }
 
-// What stands behind `munmap` and a space.
+// What follows `munmap` and a space.
 #[inline(always)]
 fn behind_munmap(bytes: &[u8]) -> Option<&[u8]>
     ensures { IfSome result (λ args. bytes.now ≡ codes "munmap " ++ args.now) }
@@ -248,7 +248,7 @@ fn behind_munmap(bytes: &[u8]) -> Option<&[u8]>
     }
 }
 
-// What stands behind `mprotect` and a space.
+// What follows `mprotect` and a space.
 #[inline(always)]
 fn behind_mprotect(bytes: &[u8]) -> Option<&[u8]>
     ensures { IfSome result (λ args. bytes.now ≡ codes "mprotect " ++ args.now) }
@@ -271,7 +271,7 @@ fn behind_mprotect(bytes: &[u8]) -> Option<&[u8]>
 }
 
 // The request that the words say, whichever it is. Behind `read_request`'s tests by bytes it finds none,
-// since a name with nothing behind it isn't a request; that this is so is said by this function alone.
+// since a name with nothing after it isn't a request; only this function says so.
 #[inline(never)]
 #[tactic(auto, unfolding(crate::specs::Request::request_of))]
 fn read_by_name(words: &[u8]) -> Option<Request>

@@ -1,5 +1,5 @@
-//! The halves of a line that tells what something came to: what stands before its last ` = `, and
-//! what stands behind it.
+//! The halves of a line with a result: what stands before its last ` = `, and
+//! what stands after it.
 ghost use Rattle.std.specs.Prelude.{◌≡◌, ◌∷◌, ◌++◌, [], ◌<◌, ℕ, suc, List, true, IfSome, IfNone, length, get_or, drop};
 ghost use Rattle.trace_text.specs.Halves.{AreHalves, are_clear};
 
@@ -42,7 +42,7 @@ fn behind_sign(bytes: &[u8]) -> Option<&[u8]>
     }
 }
 
-/// What stands before the last `=` of the bytes and behind it, where a space stands on each side of it.
+/// What stands before the last `=` of the bytes and after it, where a space stands on each side of it.
 pub fn halves(bytes: &[u8]) -> Option<(&[u8], &[u8])>
     ensures some { IfSome result (λ h. AreHalves bytes.now h.0.now h.1.now) }
     ensures none { IfNone result ((front : List ℕ) (behind : List ℕ)

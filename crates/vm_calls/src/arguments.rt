@@ -39,7 +39,7 @@ fn back_at<A: Allocator>(objects: &Objects<A>, flags: Flags, file: u64, off: u64
     flags.back(file, off)
 }
 
-/// How many pages are to be placed for so many bytes. So many as `PAGE_LIMIT` are more than there are,
+/// How many pages have to be placed for this many bytes. As many as `PAGE_LIMIT` are more than there are,
 /// and find no place.
 fn placed_count(len: u64) -> u64
     ensures { result ≡ placed_count len }

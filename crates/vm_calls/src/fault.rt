@@ -22,7 +22,7 @@ pub enum Settled {
     Copies(u32),
     /// The page has no frame, and this one caches its file page.
     Cached(u32),
-    /// A frame is to be taken for the page.
+    /// A frame has to be taken for the page.
     Wants,
 }
 

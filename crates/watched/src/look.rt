@@ -16,11 +16,11 @@ use vm_base::{CoreId, CoreSet};
 pub enum Stand {
     /// The access is tried.
     Trying,
-    /// After a fault its page is to be locked.
+    /// After a fault its page has to be locked.
     Locking,
     /// The page is to get its frame.
     Filling,
-    /// It has one, and its translation is to be installed.
+    /// It has one, and its translation has to be installed.
     Installing,
     /// Anywhere else, or the core isn't there.
     Elsewhere,

@@ -55,8 +55,8 @@ impl<M: SlotMap, H: Hardware, A: Allocator, L: Ledger> Engine<M, H, A, L> {
     }
 
     /// The events of the steps from the lock of a change's page to its unlock, if it has just one page,
-    /// which is free to be changed at once, and so many events may be taken. It answers how many they
-    /// were: none where the plain steps are to be made.
+    /// which is free to be changed at once, and this many events may be taken. It answers how many they
+    /// were: none where the plain steps have to be made.
     pub fn change_at_once(&mut self, core: CoreId, change: Change, cursor: u64, most: u64) -> u64
         requires at { IsAt (world M.slots self.old) core (Phase.Lock (GoalOf.Change change) cursor) }
         requires room { self.old.calls.events + most ≤ event_limit }

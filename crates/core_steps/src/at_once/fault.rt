@@ -59,7 +59,7 @@ impl<M: SlotMap, H: Hardware, A: Allocator, L: Ledger> Engine<M, H, A, L> {
         self.log_at_once(core, reply, 2);
     }
 
-    // Where the page's frame comes from, if neither a message is to be sent nor a file to be read.
+    // Where the page's frame comes from, if neither a message has to be sent nor a file to be read.
     fn source_of(&self, settled: Settled, back: Back) -> Option<Source>
         ensures { IfSome result (IsSource settled back (free_frames self.now.frames)) }
     {
@@ -124,11 +124,11 @@ impl<M: SlotMap, H: Hardware, A: Allocator, L: Ledger> Engine<M, H, A, L> {
         self.try_page(core, touch)
     }
 
-    /// The steps of an access whose page is to be locked, where that is a slot of its own that nobody
+    /// The steps of an access whose page has to be locked, where that is a slot of its own that nobody
     /// holds: up to the next try of the page, or up to the reply where the access fails. It answers the
     /// access's reply, which is logged; without one the call is to lock its page. The core's phase isn't
     /// written. No step is made where a plain one has to look, since there may be no memory or no frame,
-    /// a file is to be read, or other cores are to be told.
+    /// a file has to be read, or other cores have to be told.
     pub fn make_fault(&mut self, core: CoreId, touch: Touch) -> Option<Reply>
         requires here { core < length self.old.calls.phases.items }
         requires reached { ∥ IsReached (at_lock core touch (world M.slots self.old)) ∥₁ }

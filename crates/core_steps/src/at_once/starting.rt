@@ -22,7 +22,7 @@ const MOST_EVENTS: u64 = 3 + MOST_STEPS + 1;
 /// How far a call has come that was begun.
 #[derive(Clone, Copy, Debug, PartialEq, Eq)]
 pub(crate) enum Started {
-    /// It began, and so many plain steps of it were made.
+    /// It began, and this many plain steps of it were made.
     Begun { steps: u64 },
     /// This outcome ended it: its reply, or why it didn't begin.
     Ended(Outcome),

@@ -80,7 +80,7 @@ impl<M: SlotMap, H: Hardware, A: Allocator, L: Ledger> Engine<M, H, A, L> {
         }
     }
 
-    /// The events of the next steps of the core's call that can be made at once, at most so many: those
+    /// The events of the next steps of the core's call that can be made at once, at most this many: those
     /// that lock or unlock slots which the map finds side by side, and those of a fault, or of a change
     /// of one page, at a page that nobody holds. It answers how many they were: none where the call does
     /// something else next, or can't go on. No slot is divided by them.

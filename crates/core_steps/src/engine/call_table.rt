@@ -11,7 +11,7 @@ use machine_model::Phase;
 use std::alloc::Allocator;
 use vm_base::NoMemory;
 
-/// A table for so many cores without a call, which has room for so many calls.
+/// A table for this many cores without a call, which has room for this many calls.
 pub fn new_call_table<A: Allocator + Clone, L: Opening<A>>(
     alloc: A,
     cores: usize,

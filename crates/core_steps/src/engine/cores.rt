@@ -40,7 +40,7 @@ impl<H: Bare<A>, A: Allocator + Clone> Cores<H, A> {
     ghost use Rattle.machine_model.specs.World.{no_translations};
     ghost use Rattle.core_steps.specs.Parts.{parts};
 
-    /// So many cores, whose tables, TLBs and inboxes are empty.
+    /// This many cores, whose tables, TLBs and inboxes are empty.
     pub fn new(alloc: A, cores: u8) -> Result<Self, NoMemory>
         requires { cores ≤ 64 }
         ensures count { IfOk result (λ made. (parts made).count ≡ cores) }
@@ -88,7 +88,7 @@ impl<H: Hardware, A: Allocator> Cores<H, A> {
         self.cpus[core.index() as usize].translate(touch.page, touch.access)
     }
 
-    /// The core's tables get the page's entry. Memory may be wanting only where none of the 512
+    /// The core's tables get the page's entry. Memory may be refused only where none of the 512
     /// pages has one that share the page's table of the last level; then nothing changes.
     pub fn install(
         &mut self,

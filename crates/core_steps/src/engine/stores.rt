@@ -25,7 +25,7 @@ pub(crate) struct Stores<A: Allocator> {
 }
 
 /// The files, of which no page is cached, and so many frames, all of them free and of zeros, that
-/// so many cores count. The bytes of the files are moved, not copied.
+/// this many cores count. The bytes of the files are moved, not copied.
 pub(crate) fn new_stores<A: Allocator + Clone>(
     alloc: A,
     files: Vec<FileSpec<A>, A>,

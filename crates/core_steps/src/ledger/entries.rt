@@ -4,7 +4,7 @@ ghost use Rattle.std.specs.Prelude.{◌≡◌, ◌+◌, ◌<◌, ◌≤◌, ◌+
 use std::alloc::{AllocError, Allocator};
 use vm_base::Entry;
 
-/// Entries, with room for so many.
+/// Entries, with room for this many.
 #[derive(Drop)]
 pub struct KeptEntries<A: Allocator> {
     /// The entries so far.
@@ -16,7 +16,7 @@ pub struct KeptEntries<A: Allocator> {
 }
 
 impl<A: Allocator> KeptEntries<A> {
-    /// None, with room for so many.
+    /// None, with room for this many.
     pub fn with_room(alloc: A, limit: u64) -> Result<KeptEntries<A>, AllocError>
         ensures items { IfOk result (λ entries. entries.items.items ≡ []) }
         ensures limit { IfOk result (λ entries. entries.limit ≡ limit) }

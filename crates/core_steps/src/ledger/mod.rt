@@ -69,7 +69,7 @@ pub trait Ledger {
 
 /// A ledger that can be made.
 pub trait Opening<A>: Ledger {
-    /// An empty one, with room for so many requests and as many entries: up to 2^40, or 1,048,576
+    /// An empty one, with room for this many requests and as many entries: up to 2^40, or 1,048,576
     /// where entries are kept.
     fn open(alloc: A, limit: u64) -> Result<Self, AllocError>
     where

@@ -15,7 +15,7 @@ use slot_lock::{Goal, Got, SlotMap};
 use std::alloc::Allocator;
 use vm_base::{CoreId, NoMemory};
 
-/// All pages of the goal are to be locked, from the first on.
+/// All pages of the goal have to be locked, from the first on.
 pub fn locking(goal: Goal) -> Phase
     requires { IsSoundGoal goal }
     ensures { result ≡ locking goal }

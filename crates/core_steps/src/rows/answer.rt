@@ -69,7 +69,7 @@ impl<M: SlotMap, H: Hardware, A: Allocator, L: Ledger> Engine<M, H, A, L> {
         self.go_to(core, let_go(held, reply));
     }
 
-    /// The last steps of a call that need not lock its page: the reply is logged at the event so many
+    /// The last steps of a call that need not lock its page: the reply is logged at the event this many
     /// later, and at the next one the page is let go. The core's phase isn't written.
     pub fn log_at_once(&mut self, core: CoreId, reply: Reply, steps: u64)
         requires here { core < length self.old.calls.phases.items }
@@ -83,7 +83,7 @@ impl<M: SlotMap, H: Hardware, A: Allocator, L: Ledger> Engine<M, H, A, L> {
         self.calls.events += 1;
     }
 
-    /// The same, and the reply is to be handed out.
+    /// The same, and the reply has to be handed out.
     pub fn reply_at_once(&mut self, core: CoreId, reply: Reply, steps: u64)
         requires here { core < length self.old.calls.phases.items }
         requires room { answer_count (L.entries self.old.calls.ledger) < self.old.calls.limit }

@@ -25,7 +25,7 @@ use std::alloc::Allocator;
 use vm_base::{CoreId, NoMemory, PageRange, Reply};
 use vm_calls::{Decision, decide};
 
-/// The pages of the target are to be locked, from the first on.
+/// The pages of the target have to be locked, from the first on.
 fn trying(place: Place, target: Target) -> Phase
     requires { IsSoundGoal (GoalOf.Place place target) }
     ensures { result ≡ trying place target }

@@ -27,7 +27,7 @@ pub struct Losses<'a, A: Allocator> {
 
 impl<'a, A: Allocator + Clone> Held<'a, A> {
     /// What these pages lose, which are held. Each slot is read where it is, and only the list takes
-    /// memory. `None` where that is wanting.
+    /// memory. `None` where that is refused.
     pub fn losses<'b>(&self, alloc: &'b A, range: PageRange) -> Option<Losses<'b, A>>
         requires { Covers self.now range }
         ensures { IfSome result
