@@ -1,3 +1,4 @@
 pub mod Turns
 pub mod Merging
 pub mod Laws
+pub mod Finals

@@ -1,4 +1,5 @@
 //! What follows from the definitions in specs/.
+ghost use Rattle.combinations.specs.Finals.{LoadsShow};
 ghost use Rattle.combinations.specs.Laws.{ClosedListsHaveAllEnds, OrdersAreMerges, TurnsLeadToOnePoint};
 
 /// Where no call leaves a place open, a turn of a call leads from a point to one other alone: its reply and the map after it
@@ -16,4 +17,10 @@ pub fn orders_are_merges()
 /// ends. So such a list, however it was found, shows which combinations of replies there are, and that there is no other.
 pub fn closed_lists_have_all_ends()
     ensures { ClosedListsHaveAllEnds }
+{}
+
+/// Loads alone change nothing: the replies that loads of some addresses by one core can have are what they show on the map as it
+/// stands.
+pub fn loads_show()
+    ensures { LoadsShow }
 {}

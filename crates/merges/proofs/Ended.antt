@@ -1,5 +1,5 @@
 -- Ends of nodes
-use Rattle.std.proofs.Common.{◌≡◌, ◌≢◌, ℕ, zero, ◌+◌, ◌<◌, ◌≤◌, ◌⊎◌, inl, inr, List, [], ◌∷◌, ◌++◌, Some, arith, ap, length, map, refl, slice_get, sym, subst, ◌∙◌}
+use Rattle.std.proofs.Common.{◌≡◌, ℕ, zero, ◌+◌, ◌<◌, ◌≤◌, ◌⊎◌, inl, inr, List, [], ◌∷◌, ◌++◌, Some, arith, ap, length, map, refl, slice_get, sym, subst, ◌∙◌}
 use Rattle.vm_base.specs.declared.replies.Reply.{Reply}
 use Rattle.backing.specs.Files.{FileParts}
 use Rattle.combinations.specs.declared.asked.Asked.{Asked}
@@ -7,7 +7,9 @@ use Rattle.combinations.specs.Laws.{Follows}
 use Rattle.combinations.specs.Merging.{TurnAt}
 use Rattle.merges.specs.declared.ending.End.{End}
 use Rattle.merges.specs.declared.nodes.Node.{Node}
-use Rattle.merges.specs.Nodes.{AreBackward, AreEnds, AreOnce, HasEnd, HaveEnds, IsExplored, IsOrderTo, point_of}
+use Rattle.combinations.specs.Finals.{AreShown}
+use Rattle.merges.specs.Nodes.{AreBackward, AreEnds, AreOnce, HasEnd, HasEndOf, HaveEnds, IsExplored, IsOrderTo, point_of}
+use Rattle.merges.specs.Steps.{map_of}
 use Rattle.merges.proofs.Lists.{below, get_new, get_old, get_one, get_within, old_or_new, told_one}
 
 -- ---- orders
@@ -41,82 +43,98 @@ nearer nodes at node back is l within = let more = back at node is l in omega (a
 
 -- ---- one more node looked at
 
-pub end_kept : {A : Type 0} (ends : List (End A)) (end : End A) (replies : List Reply) → HasEnd ends replies → HasEnd (ends ++ end ∷ []) replies
-end_kept ends end replies h = (h.0, h.1, get_old ends end h.1 h.0 h.2, h.3)
+pub end_kept : {A : Type 0} (ends : List (End A)) (end : End A) (replies finals : List Reply) → HasEnd ends replies finals → HasEnd (ends ++ end ∷ []) replies finals
+end_kept ends end replies finals h = (h.0, h.1, get_old ends end h.1 h.0 h.2, h.3, h.4)
 
-pub ends_more : {A : Type 0} (nodes : List (Node A)) (ends : List (End A)) (end : End A) (j : ℕ) (node : Node A) → AreEnds nodes ends
-    → slice_get nodes j ≡ Some node → node.told.items ≡ map Some end.replies.items → IsOrderTo nodes j end.order.items
-    → AreEnds nodes (ends ++ end ∷ [])
-ends_more {A} nodes ends end j node all is told way k other e = by (old_or_new ends end other k e)
+pub ends_more : {A : Type 0} (o : List FileParts) (addrs : List ℕ) (nodes : List (Node A)) (ends : List (End A)) (end : End A) (j : ℕ) (node : Node A)
+    → AreEnds o addrs nodes ends → slice_get nodes j ≡ Some node → node.told.items ≡ map Some end.replies.items
+    → AreShown (map_of o node.steps.items) addrs end.finals.items → IsOrderTo nodes j end.order.items → AreEnds o addrs nodes (ends ++ end ∷ [])
+ends_more {A} o addrs nodes ends end j node all is told shown way k other e = by (old_or_new ends end other k e)
   where
     by : (slice_get ends k ≡ Some other) ⊎ ((k ≡ length ends) × (end ≡ other))
-        → (i : ℕ) × (x : Node A) × (slice_get nodes i ≡ Some x) × (x.told.items ≡ map Some other.replies.items) × IsOrderTo nodes i other.order.items
+        → (i : ℕ) × (x : Node A) × (slice_get nodes i ≡ Some x) × (x.told.items ≡ map Some other.replies.items)
+        × AreShown (map_of o x.steps.items) addrs other.finals.items × IsOrderTo nodes i other.order.items
     by (inl old) = all k other old
     by (inr new) = subst (λ (y : End A). (i : ℕ) × (x : Node A) × (slice_get nodes i ≡ Some x) × (x.told.items ≡ map Some y.replies.items)
-        × IsOrderTo nodes i y.order.items) new.1 (j, node, is, told, way)
+        × AreShown (map_of o x.steps.items) addrs y.finals.items × IsOrderTo nodes i y.order.items) new.1 (j, node, is, told, shown, way)
 
-pub once_more : {A : Type 0} (ends : List (End A)) (end : End A) → AreOnce ends → ¬ HasEnd ends end.replies.items → AreOnce (ends ++ end ∷ [])
-once_more {A} ends end once none j k one other e f same = by (old_or_new ends end one j e) (old_or_new ends end other k f)
+pub once_more : {A : Type 0} (ends : List (End A)) (end : End A) → AreOnce ends → ¬ HasEnd ends end.replies.items end.finals.items → AreOnce (ends ++ end ∷ [])
+once_more {A} ends end once none j k one other e f same alike = by (old_or_new ends end one j e) (old_or_new ends end other k f)
   where
+    its : (x y : End A) → x ≡ y → (x.replies.items ≡ y.replies.items) × (x.finals.items ≡ y.finals.items)
+    its x y e = (ap (λ (z : End A). z.replies.items) e, ap (λ (z : End A). z.finals.items) e)
+
     by : (slice_get ends j ≡ Some one) ⊎ ((j ≡ length ends) × (end ≡ one)) → (slice_get ends k ≡ Some other) ⊎ ((k ≡ length ends) × (end ≡ other)) → j ≡ k
-    by (inl a) (inl b) = once j k one other a b same
-    by (inl a) (inr b) = absurd (none (j, one, a, same ∙ ap (λ (x : End A). x.replies.items) (sym b.1)))
-    by (inr a) (inl b) = absurd (none (k, other, b, sym same ∙ ap (λ (x : End A). x.replies.items) (sym a.1)))
+    by (inl a) (inl b) = once j k one other a b same alike
+    by (inl a) (inr b) = let z = its end other b.1 in absurd (none (j, one, a, same ∙ sym z.0, alike ∙ sym z.1))
+    by (inr a) (inl b) = let z = its end one a.1 in absurd (none (k, other, b, sym same ∙ sym z.0, sym alike ∙ sym z.1))
     by (inr a) (inr b) = a.0 ∙ sym b.0
 
-pub have_none : {A : Type 0} (nodes : List (Node A)) (ends : List (End A)) (last : ℕ) (node : Node A) → HaveEnds nodes last ends
-    → slice_get nodes last ≡ Some node → ((replies : List Reply) → ¬ node.told.items ≡ map Some replies) → HaveEnds nodes (last + 1) ends
-have_none {A} nodes ends last node have is none j other replies l e told = by (below j last l)
+pub have_none : {A : Type 0} (o : List FileParts) (addrs : List ℕ) (nodes : List (Node A)) (ends : List (End A)) (last : ℕ) (node : Node A)
+    → HaveEnds o addrs nodes last ends → slice_get nodes last ≡ Some node → ((replies : List Reply) → ¬ node.told.items ≡ map Some replies)
+    → HaveEnds o addrs nodes (last + 1) ends
+have_none {A} o addrs nodes ends last node have is none j other replies l e told = by (below j last l)
   where
-    by : (j < last) ⊎ (j ≡ last) → HasEnd ends replies
+    by : (j < last) ⊎ (j ≡ last) → HasEndOf ends replies addrs (map_of o other.steps.items)
     by (inl lt) = have j other replies lt e told
     by (inr eq) = absurd (none replies (ap (λ (x : Node A). x.told.items)
         (get_one nodes last node other is (subst (λ (k : ℕ). slice_get nodes k ≡ Some other) eq e)) ∙ told))
 
-pub have_more : {A : Type 0} (nodes : List (Node A)) (ends new : List (End A)) (last : ℕ) (node : Node A) (its : List Reply) → HaveEnds nodes last ends
-    → slice_get nodes last ≡ Some node → node.told.items ≡ map Some its → ((replies : List Reply) → HasEnd ends replies → HasEnd new replies)
-    → HasEnd new its → HaveEnds nodes (last + 1) new
-have_more {A} nodes ends new last node its have is its_told keeps has j other replies l e told = by (below j last l)
+pub have_more : {A : Type 0} (o : List FileParts) (addrs : List ℕ) (nodes : List (Node A)) (ends new : List (End A)) (last : ℕ) (node : Node A)
+    (its finals : List Reply) → HaveEnds o addrs nodes last ends → slice_get nodes last ≡ Some node → node.told.items ≡ map Some its
+    → AreShown (map_of o node.steps.items) addrs finals → ((replies shown : List Reply) → HasEnd ends replies shown → HasEnd new replies shown)
+    → HasEnd new its finals → HaveEnds o addrs nodes (last + 1) new
+have_more {A} o addrs nodes ends new last node its finals have is its_told shows keeps has j other replies l e told = by (below j last l)
   where
-    by : (j < last) ⊎ (j ≡ last) → HasEnd new replies
-    by (inl lt) = keeps replies (have j other replies lt e told)
+    by : (j < last) ⊎ (j ≡ last) → HasEndOf new replies addrs (map_of o other.steps.items)
+    by (inl lt) = let z = have j other replies lt e told in (z.0, z.1, keeps replies z.0 z.2)
     by (inr eq) =
-        let same : node ≡ other = get_one nodes last node other is (subst (λ (k : ℕ). slice_get nodes k ≡ Some other) eq e) in
-        subst (HasEnd new) (told_one its replies (sym its_told ∙ (ap (λ (x : Node A). x.told.items) same ∙ told))) has
+        let same : node ≡ other = get_one nodes last node other is (subst (λ (k : ℕ). slice_get nodes k ≡ Some other) eq e) in (
+          finals,
+          subst (λ (x : Node A). AreShown (map_of o x.steps.items) addrs finals) same shows,
+          subst (λ (ys : List Reply). HasEnd new ys finals) (told_one its replies (sym its_told ∙ (ap (λ (x : Node A). x.told.items) same ∙ told))) has,
+        )
 
-pub has_new : {A : Type 0} (ends : List (End A)) (end : End A) → HasEnd (ends ++ end ∷ []) end.replies.items
-has_new ends end = (length ends, end, get_new ends end, refl)
+pub has_new : {A : Type 0} (ends : List (End A)) (end : End A) → HasEnd (ends ++ end ∷ []) end.replies.items end.finals.items
+has_new ends end = (length ends, end, get_new ends end, refl, refl)
 
--- none of the first so many ends has these replies
-abbrev pub NoneHas : {A : Type 0} → List (End A) → ℕ → List Reply → Type 0
-NoneHas {A} ends n replies = (j : ℕ) (end : End A) → j < n → slice_get ends j ≡ Some end → end.replies.items ≢ replies
+-- the end has these replies and finals
+abbrev pub IsThis : {A : Type 0} → End A → List Reply → List Reply → Type 0
+IsThis end replies finals = (end.replies.items ≡ replies) × (end.finals.items ≡ finals)
 
-pub none_has : {A : Type 0} (ends : List (End A)) (replies : List Reply) → NoneHas ends zero replies
-none_has ends replies j end l e = absurd (omega (arith, l))
+-- none of the first so many ends has these
+abbrev pub NoneHas : {A : Type 0} → List (End A) → ℕ → List Reply → List Reply → Type 0
+NoneHas {A} ends n replies finals = (j : ℕ) (end : End A) → j < n → slice_get ends j ≡ Some end → ¬ IsThis end replies finals
 
-pub more_none : {A : Type 0} (ends : List (End A)) (k : ℕ) (end : End A) (replies : List Reply) → slice_get ends k ≡ Some end → end.replies.items ≢ replies
-    → NoneHas ends k replies → NoneHas ends (k + 1) replies
-more_none {A} ends k end replies is ne h j other l e = by (below j k l)
+pub none_has : {A : Type 0} (ends : List (End A)) (replies finals : List Reply) → NoneHas ends zero replies finals
+none_has ends replies finals j end l e = absurd (omega (arith, l))
+
+pub more_none : {A : Type 0} (ends : List (End A)) (k : ℕ) (end : End A) (replies finals : List Reply) → slice_get ends k ≡ Some end
+    → ¬ IsThis end replies finals → NoneHas ends k replies finals → NoneHas ends (k + 1) replies finals
+more_none {A} ends k end replies finals is ne h j other l e = by (below j k l)
   where
-    by : (j < k) ⊎ (j ≡ k) → other.replies.items ≢ replies
+    by : (j < k) ⊎ (j ≡ k) → ¬ IsThis other replies finals
     by (inl lt) = h j other lt e
-    by (inr eq) = λ same. ne (ap (λ (x : End A). x.replies.items) (get_one ends k end other is (subst (λ (n : ℕ). slice_get ends n ≡ Some other) eq e)) ∙ same)
+    by (inr eq) = subst (λ (x : End A). ¬ IsThis x replies finals)
+        (get_one ends k end other is (subst (λ (n : ℕ). slice_get ends n ≡ Some other) eq e)) ne
 
-pub has_none : {A : Type 0} (ends : List (End A)) (k : ℕ) (replies : List Reply) → length ends ≤ k → NoneHas ends k replies → ¬ HasEnd ends replies
-has_none ends k replies le h x =
+pub has_none : {A : Type 0} (ends : List (End A)) (k : ℕ) (replies finals : List Reply) → length ends ≤ k → NoneHas ends k replies finals
+    → ¬ HasEnd ends replies finals
+has_none ends k replies finals le h x =
     let within = get_within ends x.0 x.1 x.2 in
-    h x.0 x.1 (omega (arith, le, within)) x.2 x.3
+    h x.0 x.1 (omega (arith, le, within)) x.2 (x.3, x.4)
 
 -- ---- all nodes
 
-pub no_ends : {A : Type 0} (nodes : List (Node A)) (ends : List (End A)) → ends ≡ [] → AreEnds nodes ends
-no_ends {A} nodes ends none = subst (AreEnds nodes) (sym none) (λ k end e. absurd cc)
+pub no_ends : {A : Type 0} (o : List FileParts) (addrs : List ℕ) (nodes : List (Node A)) (ends : List (End A)) → ends ≡ [] → AreEnds o addrs nodes ends
+no_ends {A} o addrs nodes ends none = subst (AreEnds o addrs nodes) (sym none) (λ k end e. absurd cc)
 
 pub once_none : {A : Type 0} (ends : List (End A)) → ends ≡ [] → AreOnce ends
-once_none {A} ends none = subst AreOnce (sym none) (λ j k one other e f same. absurd cc)
+once_none {A} ends none = subst AreOnce (sym none) (λ j k one other e f same alike. absurd cc)
 
-pub have_zero : {A : Type 0} (nodes : List (Node A)) (ends : List (End A)) → HaveEnds nodes zero ends
-have_zero nodes ends j node replies l e told = absurd (omega (arith, l))
+pub have_zero : {A : Type 0} (o : List FileParts) (addrs : List ℕ) (nodes : List (Node A)) (ends : List (End A)) → HaveEnds o addrs nodes zero ends
+have_zero o addrs nodes ends j node replies l e told = absurd (omega (arith, l))
 
-pub have_all : {A : Type 0} (nodes : List (Node A)) (ends : List (End A)) (n : ℕ) → length nodes ≤ n → HaveEnds nodes n ends → HaveEnds nodes (length nodes) ends
-have_all nodes ends n le h j node replies l e told = h j node replies (omega (arith, l, le)) e told
+pub have_all : {A : Type 0} (o : List FileParts) (addrs : List ℕ) (nodes : List (Node A)) (ends : List (End A)) (n : ℕ) → length nodes ≤ n
+    → HaveEnds o addrs nodes n ends → HaveEnds o addrs nodes (length nodes) ends
+have_all o addrs nodes ends n le h j node replies l e told = h j node replies (omega (arith, l, le)) e told

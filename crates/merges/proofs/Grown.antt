@@ -15,7 +15,7 @@ use Rattle.combinations.proofs.Orders.{all_ends}
 use Rattle.merges.specs.declared.ending.End.{End}
 use Rattle.merges.specs.declared.nodes.Node.{Node}
 use Rattle.merges.specs.declared.change.Step.{Step}
-use Rattle.merges.specs.Nodes.{AreAll, AreBackward, AreEnds, AreReached, Comes, HasAlike, HasPoint, HaveEnds, IsExplored, IsNext, IsNextNode, IsNode, IsTurned, Keeps, point_of}
+use Rattle.merges.specs.Nodes.{AreAll, AreAllSound, AreBackward, AreEnds, AreReached, Comes, HasAlike, HasEndOf, HasPoint, HaveEnds, IsExplored, IsNext, IsNextNode, IsNode, IsTurned, Keeps, point_of}
 use Rattle.merges.specs.Steps.{AreSound, StepsAfter, after_any, map_of}
 use Rattle.merges.proofs.Lists.{below, get_new, get_old, get_one, get_some, get_within, old_or_new}
 
@@ -196,6 +196,9 @@ first_explored {A} o calls node is = record {
 pub backward : {A : Type 0} (o : List FileParts) (calls : List Asked) (nodes : List (Node A)) (n : ℕ) → IsExplored o calls nodes n → AreBackward nodes
 backward o calls nodes n h j node e l = (h.comes j node e l).earlier
 
+pub all_sound : {A : Type 0} (o : List FileParts) (calls : List Asked) (nodes : List (Node A)) (n : ℕ) → IsExplored o calls nodes n → AreAllSound nodes
+all_sound o calls nodes n h j node e = (h.each j node e).sound
+
 -- ---- what was explored
 
 start_is : {A : Type 0} (o : List FileParts) (calls : List Asked) (opening : List Step) (first : Node A) → first.told.items ≡ replicate (length calls) None
@@ -203,18 +206,19 @@ start_is : {A : Type 0} (o : List FileParts) (calls : List Asked) (opening : Lis
 start_is o calls opening first told steps = ap (λ (x : List (Option Reply)). as_point x (map_of o first.steps.items)) told
     ∙ ap (λ (x : List Step). as_point (replicate (length calls) None) (map_of o x)) steps
 
-pub reached : {A : Type 0} (o : List FileParts) (calls : List Asked) (opening : List Step) (nodes : List (Node A)) (ends : List (End A)) (n : ℕ) (first : Node A)
-    → first.told.items ≡ replicate (length calls) None → first.steps.items ≡ opening → slice_get nodes zero ≡ Some first
-    → IsExplored o calls nodes n → AreEnds nodes ends → AreReached calls (map_of o opening) ends
-reached o calls opening nodes ends n first told steps is h all k end e =
+pub reached : {A : Type 0} (o : List FileParts) (calls : List Asked) (addrs : List ℕ) (opening : List Step) (nodes : List (Node A)) (ends : List (End A)) (n : ℕ)
+    (first : Node A) → first.told.items ≡ replicate (length calls) None → first.steps.items ≡ opening → slice_get nodes zero ≡ Some first
+    → IsExplored o calls nodes n → AreEnds o addrs nodes ends → AreReached calls addrs (map_of o opening) ends
+reached o calls addrs opening nodes ends n first told steps is h all k end e =
     let z = all k end e in
     let node = z.1 in
     let node_j = z.2 in
     let told_j = z.3 in
-    let way = z.4 o calls n first node h is node_j in (
+    let way = z.5 o calls n first node h is node_j in (
       map_of o node.steps.items,
       subst (λ (p : Point). Follows calls p end.order.items (as_point (map Some end.replies.items) (map_of o node.steps.items))) (start_is o calls opening first told steps)
           (subst (λ (x : List (Option Reply)). Follows calls (point_of o first) end.order.items (as_point x (map_of o node.steps.items))) told_j way),
+      z.4,
     )
 
 option_point : {A : Type 0} (o : List FileParts) (x : Option (Node A)) (q : Point) → option_map (point_of o) x ≡ Some q → (node : Node A) × (x ≡ Some node) × (point_of o node ≡ q)
@@ -240,13 +244,14 @@ closed_list {A} o calls opening nodes first told steps is h = record {
     next : (p q : Point) (at : ℕ) → HasPoint o nodes p → TurnAt calls p at q → HasPoint o nodes q
     next p q at x turn = h.closed x.0 x.1 at q (get_within nodes x.0 x.1 x.2) x.2 (subst (λ (y : Point). TurnAt calls y at q) (sym x.3) turn)
 
-pub all_found : {A : Type 0} (o : List FileParts) (calls : List Asked) (opening : List Step) (nodes : List (Node A)) (ends : List (End A)) (first : Node A)
-    → first.told.items ≡ replicate (length calls) None → first.steps.items ≡ opening → slice_get nodes zero ≡ Some first
-    → IsExplored o calls nodes (length nodes) → HaveEnds nodes (length nodes) ends → AreAll calls (map_of o opening) ends
-all_found o calls opening nodes ends first told steps is h have replies comb =
-    let has = has_point o nodes (as_point (map Some replies) comb.0)
-    (all_ends calls (map_of o opening) comb.0 (map (point_of o) nodes) replies (closed_list o calls opening nodes first told steps is h) comb.1) in
-    have has.0 has.1 replies (get_within nodes has.0 has.1 has.2) has.2 (ap (λ (p : Point). p.told) has.3)
+pub all_found : {A : Type 0} (o : List FileParts) (calls : List Asked) (addrs : List ℕ) (opening : List Step) (nodes : List (Node A)) (ends : List (End A))
+    (first : Node A) → first.told.items ≡ replicate (length calls) None → first.steps.items ≡ opening → slice_get nodes zero ≡ Some first
+    → IsExplored o calls nodes (length nodes) → HaveEnds o addrs nodes (length nodes) ends → AreAll calls addrs (map_of o opening) ends
+all_found o calls addrs opening nodes ends first told steps is h have replies u end =
+    let has = has_point o nodes (as_point (map Some replies) u)
+    (all_ends calls (map_of o opening) u (map (point_of o) nodes) replies (closed_list o calls opening nodes first told steps is h) end) in
+    subst (HasEndOf ends replies addrs) (ap (λ (p : Point). p.map) has.3)
+    (have has.0 has.1 replies (get_within nodes has.0 has.1 has.2) has.2 (ap (λ (p : Point). p.told) has.3))
 
 -- ---- one call's turn
 

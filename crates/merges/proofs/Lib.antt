@@ -5,3 +5,9 @@ pub mod Pages
 pub mod Turned
 pub mod Grown
 pub mod Ended
+pub mod Shown
+pub mod Acted
+pub mod Passed
+pub mod AlikePages
+pub mod Putting
+pub mod Numbered

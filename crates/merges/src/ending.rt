@@ -1,17 +1,23 @@
 //! Ends: nodes at which each call has its reply.
 ghost use Rattle.std.specs.Prelude.{◌≡◌, ◌↔◌, ◌<◌, ◌+◌, IfOk, IfNone, IfSome, IsTrue, List, Some, length, map};
 ghost use Rattle.vm_base.specs.declared.replies.Reply.{Reply as ReplyOf};
-ghost use Rattle.merges.specs.Nodes.{AreBackward, AreEnds, AreOnce, HasEnd, HaveEnds, IsOrderTo};
+ghost use Rattle.merges.specs.Numbers.{AreNumbered, number_of};
+ghost use Rattle.merges.specs.Nodes.{AreAllSound, AreBackward, AreEnds, AreOnce, HasEnd, HaveEnds, IsOrderTo};
 
+use crate::finals::loads;
 use crate::nodes::Node;
+use crate::numbers::number_of;
+use backing::Objects;
 use std::alloc::Allocator;
 use vm_base::{NoMemory, Reply};
 
-/// A combination of replies, with one order of turns that gives it.
+/// A combination of replies, with one order of turns that gives it, and what loads show once all calls are answered.
 #[derive(Drop)]
 pub struct End<A: Allocator> {
     /// The reply to each call, in the order of the calls.
     pub replies: Vec<Reply, A>,
+    /// What a load of each address that was asked for is answered at the end.
+    pub finals: Vec<Reply, A>,
     /// Whose turn comes: the places of the calls, one turn after another. The place of a store comes twice where the page is
     /// copied first.
     pub order: Vec<usize, A>,
@@ -80,62 +86,109 @@ fn are_same(one: &[Reply], other: &[Reply]) -> bool
     true
 }
 
-/// Tells whether an end has these replies.
-fn has_end<A: Allocator>(ends: &[End<A>], replies: &[Reply]) -> bool
-    ensures { IsTrue result ↔ HasEnd ends.now replies.now }
+/// Tells whether an end has these replies and finals, by its number and theirs.
+fn is_end<A: Allocator>(
+    end: &End<A>,
+    its: u64,
+    number: u64,
+    replies: &[Reply],
+    finals: &[Reply],
+) -> bool
+    requires its { its ≡ number_of end.now.replies.items end.now.finals.items }
+    requires number { number ≡ number_of replies.now finals.now }
+    ensures { IsTrue result ↔ ((end.now.replies.items ≡ replies.now) × (end.now.finals.items ≡ finals.now)) }
+{
+    if its != number {
+        return false;
+    }
+    are_same(end.replies.as_slice(), replies) && are_same(end.finals.as_slice(), finals)
+}
+
+/// Tells whether some end has these replies and finals, whose number is this one.
+fn has_end<A: Allocator>(
+    ends: &[End<A>],
+    numbers: &[u64],
+    number: u64,
+    replies: &[Reply],
+    finals: &[Reply],
+) -> bool
+    requires numbered { AreNumbered ends.now numbers.now }
+    requires number { number ≡ number_of replies.now finals.now }
+    ensures { IsTrue result ↔ HasEnd ends.now replies.now finals.now }
 {
     'ends: for k in 0..ends.len() {
-        if are_same(ends[k].replies.as_slice(), replies) {
+        let its = numbers[k];
+        if is_end(&ends[k], its, number, replies, finals) {
             return true;
         }
     }
     false
 }
 
-/// Takes the end of a node in, if each call has its reply there and no other end has these.
+/// Takes the end of a node in, if each call has its reply there and no other end has these replies and finals.
 fn add_end<A: Allocator + Clone + Drop>(
+    objects: &Objects<A>,
+    addrs: &[u64],
     ends: &mut Vec<End<A>, A>,
+    numbers: &mut Vec<u64, A>,
     nodes: &[Node<A>],
     last: usize,
     alloc: &A,
 ) -> Result<(), NoMemory>
+    requires numbered { AreNumbered ends.old.items numbers.old.items }
     requires within { last < length nodes.now }
     requires backward { AreBackward nodes.now }
-    requires ends { AreEnds nodes.now ends.old.items }
+    requires sound { AreAllSound nodes.now }
+    requires ends { AreEnds objects.now addrs.now nodes.now ends.old.items }
     requires once { AreOnce ends.old.items }
-    requires have { HaveEnds nodes.now last ends.old.items }
-    ensures ends { IfOk result (λ _. AreEnds nodes.now ends.new.items) }
+    requires have { HaveEnds objects.now addrs.now nodes.now last ends.old.items }
+    ensures numbered { IfOk result (λ _. AreNumbered ends.new.items numbers.new.items) }
+    ensures ends { IfOk result (λ _. AreEnds objects.now addrs.now nodes.now ends.new.items) }
     ensures once { IfOk result (λ _. AreOnce ends.new.items) }
-    ensures have { IfOk result (λ _. HaveEnds nodes.now (last + 1) ends.new.items) }
+    ensures have { IfOk result (λ _. HaveEnds objects.now addrs.now nodes.now (last + 1) ends.new.items) }
 {
-    let told = nodes[last].told.as_slice();
+    let node = &nodes[last];
+    let told = node.told.as_slice();
     let all = all_told(told, alloc)?;
     let Some(replies) = all else {
         return Ok(());
     };
+    let steps = node.steps.as_slice();
+    let finals = loads(objects, steps, addrs, alloc)?;
     let listed = ends.as_slice();
     let its = replies.as_slice();
-    if has_end(listed, its) {
+    let shown = finals.as_slice();
+    let number = number_of(its, shown);
+    if has_end(listed, numbers.as_slice(), number, its, shown) {
         return Ok(());
     }
     let order = order_to(nodes, last, alloc)?;
-    ends.push(End { replies, order })?;
+    numbers.push(number)?;
+    ends.push(End {
+        replies,
+        finals,
+        order,
+    })?;
     Ok(())
 }
 
-/// The ends of all nodes at which each call has its reply: no two with the same replies.
+/// The ends of all nodes at which each call has its reply: no two with the same replies and finals.
 pub(crate) fn list_ends<A: Allocator + Clone + Drop>(
+    objects: &Objects<A>,
+    addrs: &[u64],
     nodes: &[Node<A>],
     alloc: &A,
 ) -> Result<Vec<End<A>, A>, NoMemory>
     requires backward { AreBackward nodes.now }
-    ensures ends { IfOk result (λ ends. AreEnds nodes.now ends.items) }
+    requires sound { AreAllSound nodes.now }
+    ensures ends { IfOk result (λ ends. AreEnds objects.now addrs.now nodes.now ends.items) }
     ensures once { IfOk result (λ ends. AreOnce ends.items) }
-    ensures have { IfOk result (λ ends. HaveEnds nodes.now (length nodes.now) ends.items) }
+    ensures have { IfOk result (λ ends. HaveEnds objects.now addrs.now nodes.now (length nodes.now) ends.items) }
 {
     let mut ends = Vec::new(alloc.clone()?);
+    let mut numbers = Vec::new(alloc.clone()?);
     'nodes: for last in 0..nodes.len() {
-        add_end(&mut ends, nodes, last, alloc)?;
+        add_end(objects, addrs, &mut ends, &mut numbers, nodes, last, alloc)?;
     }
     Ok(ends)
 }

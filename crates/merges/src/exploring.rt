@@ -13,10 +13,13 @@ use combinations::Asked;
 use std::alloc::Allocator;
 use vm_base::NoMemory;
 
+/// For how many nodes there are places at first.
+const FEW: usize = 64;
+
 /// Which combinations of replies the calls can have.
 #[derive(Drop)]
 pub struct Explored<A: Allocator> {
-    /// The combinations that were found, no two of them the same.
+    /// The combinations that were found, no two of them with the same replies and finals.
     pub ends: Vec<End<A>, A>,
     /// Whether these are all.
     pub whole: bool,
@@ -47,7 +50,7 @@ fn take_turn<A: Allocator + Clone + Drop>(
     let Some(node) = next else {
         return Ok(true);
     };
-    let more = add(nodes, seats, node, limit)?;
+    let more = add(nodes, seats, node, limit, alloc)?;
     Ok(more)
 }
 
@@ -126,28 +129,31 @@ fn first_node<A: Allocator + Clone>(
 }
 
 /// Which combinations of replies the calls can have, where each core makes its own in order and the cores' turns come in any
-/// order, on the plain page map that the opening makes with these files. Each end's replies come by the turns in its order.
-/// Where the answer says that it is whole, each combination that some merge gives is there: so those that aren't there
-/// can't come. At most `limit` points of merges are kept; where there are more, the answer isn't whole. No call may leave its
-/// place open. `Err` says that memory was refused.
+/// order, on the plain page map that the opening makes with these files; and what loads of the addresses in `finals` are
+/// answered once all calls are. Each end's replies come by the turns in its order, and its finals are what loads show there.
+/// Where the answer says that it is whole, each combination that some merge gives is there, with what loads show at its end:
+/// so those that aren't there can't come. At most `limit` points of merges are kept; where there are more, the answer isn't
+/// whole. No call may leave its place open. `Err` says that memory was refused.
 pub fn explore<A: Allocator + Clone + Drop>(
     objects: &Objects<A>,
     opening: &[Step],
     calls: &[Asked],
+    finals: &[u64],
     limit: usize,
     alloc: A,
 ) -> Result<Explored<A>, NoMemory>
     requires named { AreNamed calls.now }
     requires sound { AreSound opening.now }
-    ensures reached { IfOk result (λ it. AreReached calls.now (map_of objects.now opening.now) it.ends.items) }
+    ensures reached { IfOk result (λ it. AreReached calls.now finals.now (map_of objects.now opening.now) it.ends.items) }
     ensures once { IfOk result (λ it. AreOnce it.ends.items) }
-    ensures all { IfOk result (λ it. it.whole ≡ true → AreAll calls.now (map_of objects.now opening.now) it.ends.items) }
+    ensures all { IfOk result (λ it. it.whole ≡ true
+        → AreAll calls.now finals.now (map_of objects.now opening.now) it.ends.items) }
 {
     let mut nodes = Vec::new(alloc.clone()?);
     let first = first_node(calls, opening, &alloc)?;
     nodes.push(first)?;
-    let mut seats = Seats::new(alloc.clone()?, limit)?;
+    let mut seats = Seats::new(alloc.clone()?, FEW)?;
     let whole = run(objects, calls, limit, &mut nodes, &mut seats, &alloc)?;
-    let ends = list_ends(nodes.as_slice(), &alloc)?;
+    let ends = list_ends(objects, finals, nodes.as_slice(), &alloc)?;
     Ok(Explored { ends, whole })
 }

@@ -5,11 +5,16 @@
 pub mod change;
 mod ending;
 pub mod exploring;
+mod finals;
 mod nodes;
+mod normal;
+mod numbers;
 pub mod opening;
+mod passing;
 mod prints;
 mod protecting;
 mod reading;
+mod runs;
 mod seen;
 mod turning;
 

@@ -4,9 +4,9 @@ ghost use Rattle.combinations.specs.declared.asked.Asked.{Asked};
 ghost use Rattle.combinations.specs.Laws.{AreNamed};
 ghost use Rattle.combinations.specs.Merging.{IsNext as IsNextCall};
 ghost use Rattle.merges.specs.Nodes.{HasAlike, IsNext, IsNode};
-ghost use Rattle.merges.specs.Steps.{AreSound, IsSoundStep, StepsAfter};
 
 use crate::change::Step;
+use crate::normal::steps_after;
 use crate::prints::{Seats, print_of};
 use crate::turning::{Turn, turn_of};
 use backing::Objects;
@@ -64,26 +64,6 @@ fn told_after<A: Allocator + Clone>(
     let mut new = Vec::with_capacity(alloc.clone()?, told.len())?;
     new.extend_from_slice(told)?;
     new[at] = reply;
-    Ok(new)
-}
-
-/// The steps with one more, if there is one.
-fn steps_after<A: Allocator + Clone>(
-    steps: &[Step],
-    step: Option<Step>,
-    alloc: &A,
-) -> Result<Vec<Step, A>, NoMemory>
-    requires sound { AreSound steps.now }
-    requires sound_step { IfSome step IsSoundStep }
-    ensures map { IfOk result (λ new. StepsAfter steps.now step new.items) }
-    ensures sound { IfOk result (λ new. AreSound new.items) }
-{
-    let mut new = Vec::with_capacity(alloc.clone()?, steps.len() + 1)?;
-    new.extend_from_slice(steps)?;
-    let Some(step) = step else {
-        return Ok(new);
-    };
-    new.push(step)?;
     Ok(new)
 }
 
@@ -205,12 +185,30 @@ fn has_alike<A: Allocator>(nodes: &[Node<A>], seats: &Seats<A>, node: &Node<A>) 
     false
 }
 
+/// Makes places for one more node beside these.
+fn make_room<A: Allocator + Clone + Drop>(
+    nodes: &[Node<A>],
+    seats: &mut Seats<A>,
+    alloc: &A,
+) -> Result<(), NoMemory> {
+    if seats.has_room(nodes.len()) {
+        return Ok(());
+    }
+    let mut more = Seats::new(alloc.clone()?, nodes.len().saturating_mul(2))?;
+    'nodes: for place in 0..nodes.len() {
+        more.take(nodes[place].print, place);
+    }
+    *seats = more;
+    Ok(())
+}
+
 /// Takes a node in, unless there is one like it. `false` where there would be more than `limit` nodes.
-pub(crate) fn add<A: Allocator + Drop>(
+pub(crate) fn add<A: Allocator + Clone + Drop>(
     nodes: &mut Vec<Node<A>, A>,
     seats: &mut Seats<A>,
     node: Node<A>,
     limit: usize,
+    alloc: &A,
 ) -> Result<bool, NoMemory>
     ensures grows { (nodes.new.items ≡ nodes.old.items) ⊎ (nodes.new.items ≡ nodes.old.items ++ node ∷ []) }
     ensures added { result ≡ Ok true → HasAlike nodes.new.items node }
@@ -221,6 +219,7 @@ pub(crate) fn add<A: Allocator + Drop>(
     if nodes.len() >= limit {
         return Ok(false);
     }
+    make_room(nodes.as_slice(), seats, alloc)?;
     let print = node.print;
     let place = nodes.len();
     nodes.push(node)?;

@@ -9,8 +9,8 @@ use vm_base::{Back, Errno, Meta, NoMemory, PageRange, Prot, Reply, SegvCode};
 /// What a free place has.
 const FREE: usize = usize::MAX;
 
-/// How many places there are at most.
-const MOST: usize = 1 << 21;
+/// For how many nodes there are places at most.
+const MOST: usize = 1 << 32;
 
 /// A number and another, mixed.
 fn mixed(print: u64, number: u64) -> u64 {
@@ -41,7 +41,7 @@ fn meta_print(print: u64, meta: Meta) -> u64 {
 }
 
 /// A number for a step, with that of the steps before it.
-fn step_print(print: u64, step: Step) -> u64 {
+pub(crate) fn step_print(print: u64, step: Step) -> u64 {
     match step {
         Step::Change(Change::Put { range, meta }) => {
             meta_print(range_print(mixed(print, 1), range), meta)
@@ -115,10 +115,15 @@ pub(crate) struct Seats<A: Allocator> {
 
 impl<A: Allocator> Seats<A> {
     /// Free places for this many nodes.
-    pub fn new(alloc: A, limit: usize) -> Result<Seats<A>, NoMemory> {
-        let count = limit.min(MOST / 2) * 2 + 1;
+    pub fn new(alloc: A, nodes: usize) -> Result<Seats<A>, NoMemory> {
+        let count = nodes.min(MOST) * 2 + 1;
         let seats = vec![in alloc; FREE; count]?;
         Ok(Seats { seats })
+    }
+
+    /// Whether one more node beside so many is still found soon.
+    pub fn has_room(&self, nodes: usize) -> bool {
+        nodes < self.seats.len() / 2
     }
 
     /// How many places there are.

@@ -6,6 +6,7 @@ ghost use Rattle.merges.specs.Steps.{AreSound, map_of};
 
 use crate::change::Step;
 use crate::reading::look;
+use crate::runs::run_end;
 use crate::seen::Spot;
 use backing::Objects;
 use std::alloc::Allocator;
@@ -31,10 +32,12 @@ pub(crate) fn has_absent<A: Allocator>(
     requires { AreSound steps.now }
     ensures { IsTrue result ↔ HasPage is_absent (map_of objects.now steps.now).entry range }
 {
-    'pages: for page in range.first..range.end {
+    let mut page = range.first;
+    'pages: while page < range.end {
         if is_absent(objects, steps, page) {
             return true;
         }
+        page = run_end(steps, page, range.end);
     }
     false
 }
@@ -73,10 +76,12 @@ pub(crate) fn has_read_only<A: Allocator>(
     ensures { IsTrue result ↔ HasPage (is_read_only (map_of objects.now steps.now).file)
         (map_of objects.now steps.now).entry range }
 {
-    'pages: for page in range.first..range.end {
+    let mut page = range.first;
+    'pages: while page < range.end {
         if is_read_only(objects, steps, page) {
             return true;
         }
+        page = run_end(steps, page, range.end);
     }
     false
 }

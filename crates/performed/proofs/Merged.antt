@@ -1,15 +1,14 @@
 -- The replies that a run performs are a combination: each entry that it logs is a turn.
 use Rattle.machine_laws.proofs.Words.{◌≡◌, ◌≢◌, ℕ, zero, suc, ◌==◌, ◌++◌, ◌∷◌, [], Bool, true, false, List, length, Option, Some, None, refl, sym, ◌∙◌, ap, subst}
-use Rattle.machine_laws.proofs.Words.{slice_get, nth, put, Plain, Entry, Detach, EntryLeads, Replays, Reply, NoFrame, NoMemory, Request, Event, Call, Go, Outcome, Stepped, Answered}
+use Rattle.machine_laws.proofs.Words.{nth, put, Plain, EntryLeads, Replays, Reply, NoFrame, NoMemory, Request, Event, Call, Go, Outcome, Stepped, Answered}
 use Rattle.machine_laws.proofs.Words.{World, Phase, Free, Check, Step, Run, after_call, to, answer_entry, detach_entry, put_other, put_same}
 use Rattle.std.proofs.Common.{map, replicate, set}
 use Rattle.std.proofs.lemmas.List.{length-replicate, length-set}
-use Rattle.vm_base.specs.declared.log.Entry.TheVariants.{Answer}
 use Rattle.vm_base.specs.Plain.{nothing_mapped}
 use Rattle.vm_base.proofs.Functions.{eq_true, eq_false}
 use Rattle.machine_model.specs.Step.{with_event}
 use Rattle.machine_laws.specs.Brackets.{IsStoreTo}
-use Rattle.machine_laws.proofs.Effects.{Status, Closed, Asked, Told, status, statuses, SameCalls, Effect, keeps, tells, detaches, opens, closes, effect_of}
+use Rattle.machine_laws.proofs.Effects.{Status, Closed, Asked, Told, status, statuses, Effect, keeps, tells, detaches, opens, closes, effect_of}
 use Rattle.machine_laws.proofs.Numbered.{at_new, at_old}
 use Rattle.machine_laws.proofs.Shapes.{Comes, IsInner, acts, comes, stopped}
 use Rattle.machine_sound.specs.Invariant.{IsWellFormed}
@@ -17,9 +16,11 @@ use Rattle.machine_sound.specs.Log.{LeadsTo}
 use Rattle.machine_sound.proofs.Kept.{fine_step, reached_fine}
 use Rattle.machine_sound.proofs.Logs.{replays_requests}
 use Rattle.combinations.specs.declared.asked.Asked.{Asked as Call'}
-use Rattle.combinations.specs.Merging.{IsCombination, IsEnd, Merges, Point, TurnAt, start}
+use Rattle.combinations.specs.Finals.{loads_by}
+use Rattle.combinations.proofs.Loads.{loads_are_shown, loads_stay}
+use Rattle.combinations.specs.Merging.{IsEnd, Merges, TurnAt, start}
 use Rattle.combinations.specs.Turns.{TurnsTo}
-use Rattle.performed.specs.Performed.{ArePlain, PerformedAreCombinations, PerformsScript, Said, said}
+use Rattle.performed.specs.Performed.{ArePlain, FinalsAreShown, IsAtRest, PerformedAreCombinations, PerformedEndAtRest, PerformsScript, Said, said}
 use Rattle.performed.specs.Performed.Said.{Asks, Tells}
 use Rattle.performed.proofs.Entries.{answer_turns, copy_turns, entry_leads}
 use Rattle.performed.proofs.Handed.{call_says, call_silent, handed, inner_more, reply_says, reply_silent}
@@ -320,41 +321,75 @@ one_more calls replies t0 w v x e o es os plain fine step run h = go (comes w e 
 
 -- nothing more is said, so each core is through
 through : (calls : List Call') (told : List (Option Reply)) (replies : List Reply) (rs : List Request) (number core : ℕ) (s : Status)
-    → Fits (untold core calls told replies) rs number s [] → [] ≡ untold core calls told replies
-through calls told replies rs number core Closed h = h
+    → Fits (untold core calls told replies) rs number s [] → ([] ≡ untold core calls told replies) × (s ≡ Closed)
+through calls told replies rs number core Closed h = (h, refl)
 through calls told replies rs number core Asked h =
     let next = next_call core calls told replies h.0 [] h.2 in
     let more = next.tells next.reply in
     absurd cc
 through calls told replies rs number core (Told y) h = absurd cc
 
+closed_free : (p : Phase) → status p ≡ Closed → p ≡ Free
+closed_free Free e = refl
+closed_free p e = absurd cc
+
+-- all turns were had, and no core has a call
+record Ended (calls : List Call') (replies : List Reply) (t0 : Plain) (v : World) : Type 0 where
+  map : Plain
+  end : IsEnd calls t0 replies map
+  rest : IsAtRest v map
+  fine : IsWellFormed v
+
 all_events : (calls : List Call') (replies : List Reply) (t0 : Plain) (w v : World) (es : List Event) (os : List Outcome) → ArePlain replies
-    → length replies ≡ length calls → IsWellFormed w → Run w es os v → Here calls replies t0 w es os → IsCombination calls t0 replies
-all_events calls replies t0 w v [] [] plain each fine run h = (
-  h.map,
-  (
+    → length replies ≡ length calls → IsWellFormed w → Run w es os v → Here calls replies t0 w es os → Ended calls replies t0 v
+all_events calls replies t0 w v [] [] plain each fine run h = subst (Ended calls replies t0) (sym run) (record {
+  map = h.map;
+  end = (
     h.turns,
     subst (λ (l : List (Option Reply)). Merges calls (start calls t0) h.turns (record { told = l; map = h.map }))
-        (all_told calls h.told replies h.long each h.agrees
-        (λ core. through calls h.told replies w.calls.requests (w.calls.number core) core (statuses w core) (h.fits core))) h.merges,
-  ),
-)
+        (all_told calls h.told replies h.long each h.agrees (λ core. (still core).0)) h.merges,
+  );
+  rest = record { free = λ core. closed_free (w.calls.phase core) (still core).1; leads = h.leads };
+  fine = fine;
+})
+  where
+    still : (core : ℕ) → ([] ≡ untold core calls h.told replies) × (statuses w core ≡ Closed)
+    still core = through calls h.told replies w.calls.requests (w.calls.number core) core (statuses w core) (h.fits core)
 all_events calls replies t0 w v [] (o ∷ os) plain each fine run h = absurd run
 all_events calls replies t0 w v (e ∷ es) [] plain each fine run h = absurd run
 all_events calls replies t0 w v (e ∷ es) (o ∷ os) plain each fine run h =
     all_events calls replies t0 run.0 v es os plain each (fine_step w run.0 e o fine run.1).0 run.2
     (one_more calls replies t0 w run.0 v e o es os plain fine run.1 run.2 h)
 
-pub performed_are_combinations : PerformedAreCombinations
-performed_are_combinations w v t es os calls replies reached free leads run performs plain =
-    all_events calls replies t w v es os plain performs.each (reached_fine w reached) run (record {
+ended : (w v : World) (t : Plain) (es : List Event) (os : List Outcome) (calls : List Call') (replies : List Reply) → IsWellFormed w → IsAtRest w t
+    → Run w es os v → PerformsScript calls replies es os → ArePlain replies → Ended calls replies t v
+ended w v t es os calls replies fine rest run performs plain =
+    all_events calls replies t w v es os plain performs.each fine run (record {
       told = replicate (length calls) None;
       map = t;
       turns = zero;
-      leads = leads;
+      leads = rest.leads;
       merges = refl;
       long = length-replicate (length calls) None;
       agrees = none_agrees (length calls) replies;
       fits = λ core. as_is (untold core calls (replicate (length calls) None) replies) w.calls.requests (w.calls.number core) Closed (statuses w core)
-          (said core es os) (sym (ap status (free core))) (performs.says core ∙ sym (at_first core calls replies));
+          (said core es os) (sym (ap status (rest.free core))) (performs.says core ∙ sym (at_first core calls replies));
     })
+
+pub performed_end_at_rest : PerformedEndAtRest
+performed_end_at_rest w v t es os calls replies reached rest run performs plain =
+    let z = ended w v t es os calls replies (reached_fine w reached) rest run performs plain in
+    (z.map, z.end, z.rest)
+
+pub performed_are_combinations : PerformedAreCombinations
+performed_are_combinations w v t es os calls replies reached free leads run performs plain =
+    let z = performed_end_at_rest w v t es os calls replies reached (record { free = free; leads = leads }) run performs plain in
+    (z.0, z.1)
+
+-- loads then show the map that was left, and leave it
+pub finals_shown : FinalsAreShown
+finals_shown w v x t es later os ends calls replies finals core addrs reached rest run performs plain again loads whole =
+    let z = ended w v t es os calls replies (reached_fine w reached) rest run performs plain in
+    let l = ended v x z.map later ends (loads_by core addrs) finals z.fine z.rest again loads whole in
+    let still = loads_stay z.map l.map core addrs finals l.end in
+    (z.map, z.end, loads_are_shown z.map core addrs finals (l.map, l.end), subst (IsAtRest x) still l.rest)

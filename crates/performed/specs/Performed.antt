@@ -15,7 +15,8 @@ use Rattle.machine_model.specs.Step.{Run}
 use Rattle.machine_sound.specs.Log.{LeadsTo}
 use Rattle.machine_sound.specs.Sound.{IsReached}
 use Rattle.combinations.specs.declared.asked.Asked.{Asked}
-use Rattle.combinations.specs.Merging.{IsCombination}
+use Rattle.combinations.specs.Finals.{AreShown, loads_by}
+use Rattle.combinations.specs.Merging.{IsCombination, IsEnd}
 
 -- what is said between a core and the address space: the core asks, and is told a reply
 pub data Said : Type 0 where
@@ -71,3 +72,24 @@ PerformedAreCombinations =
     → IsReached w → ((c : ℕ) → w.calls.phase c ≡ Free) → LeadsTo w t
     → Run w es os v → PerformsScript calls replies es os → ArePlain replies
     → IsCombination calls t replies
+
+-- no core has a call, and the log leads to this plain page map
+pub record IsAtRest (w : World) (t : Plain) : Type 0 where
+  pub free : (c : ℕ) → w.calls.phase c ≡ Free
+  pub leads : LeadsTo w t
+
+-- what performs the calls ends without calls, and its log leads to a map that these replies leave
+abbrev pub PerformedEndAtRest : Type 0
+PerformedEndAtRest =
+    (w v : World) (t : Plain) (es : List Event) (os : List Outcome) (calls : List Asked) (replies : List Reply)
+    → IsReached w → IsAtRest w t → Run w es os v → PerformsScript calls replies es os → ArePlain replies
+    → (u : Plain) × IsEnd calls t replies u × IsAtRest v u
+
+-- and a core that then loads from some addresses sees what that map shows
+abbrev pub FinalsAreShown : Type 0
+FinalsAreShown =
+    (w v x : World) (t : Plain) (es later : List Event) (os ends : List Outcome) (calls : List Asked)
+    (replies finals : List Reply) (core : ℕ) (addrs : List ℕ)
+    → IsReached w → IsAtRest w t → Run w es os v → PerformsScript calls replies es os → ArePlain replies
+    → Run v later ends x → PerformsScript (loads_by core addrs) finals later ends → ArePlain finals
+    → (u : Plain) × IsEnd calls t replies u × AreShown u addrs finals × IsAtRest x u

@@ -3,3 +3,5 @@
 
 #[cfg(test)]
 mod merge_tests;
+#[cfg(test)]
+mod shown_tests;

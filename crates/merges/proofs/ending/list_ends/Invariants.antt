@@ -1,10 +1,12 @@
 use Rattle.merges.specs.Nodes.{AreEnds, AreOnce, HaveEnds}
+use Rattle.merges.specs.Numbers.{AreNumbered}
 use Rattle.merges.proofs.ending.list_ends.Given as goal
 
 -- the ends of the nodes so far
 abbrev pub invariant-nodes : goal.invariant-nodes
 invariant-nodes g l = record {
-  are : AreEnds l.nodes l.ends.items;
+  numbered : AreNumbered l.ends.items l.numbers.items;
+  are : AreEnds l.objects l.addrs l.nodes l.ends.items;
   once : AreOnce l.ends.items;
-  have : HaveEnds l.nodes l.last l.ends.items;
+  have : HaveEnds l.objects l.addrs l.nodes l.last l.ends.items;
 }

@@ -1,3 +1,4 @@
+use Rattle.std.proofs.Common.{◌-◌, ◌≤◌}
 use Rattle.vm_base.specs.Apply.{is_read_only}
 use Rattle.merges.specs.Steps.{map_of}
 use Rattle.merges.proofs.Pages.{NoneBefore}
@@ -5,4 +6,10 @@ use Rattle.merges.proofs.protecting.has_read_only.Given as goal
 
 -- none so far is a shared one of a file for reading alone
 abbrev pub invariant-pages : goal.invariant-pages
-invariant-pages g l = NoneBefore (is_read_only (map_of l.objects l.steps).file) (map_of l.objects l.steps).entry l.fn.range l.page
+invariant-pages g l = record {
+  low : l.range.first ≤ l.page;
+  none : NoneBefore (is_read_only (map_of l.objects l.steps).file) (map_of l.objects l.steps).entry l.range l.page;
+}
+
+abbrev pub decreases-pages : goal.decreases-pages
+decreases-pages g l = l.range.end - l.page
