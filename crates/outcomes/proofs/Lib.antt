@@ -1,0 +1,4 @@
+pub mod Dues
+pub mod Led
+pub mod Lines
+pub mod Assembled
