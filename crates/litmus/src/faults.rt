@@ -1,0 +1,40 @@
+//! Why nothing is told of a litmus test.
+ghost use Rattle.litmus.specs.Tells.{IsLate};
+
+use litmus_text::LitmusFault;
+use outcomes::OutcomesFault;
+use thiserror::Error;
+use trace_io::IoFault;
+
+/// Why nothing is told of a litmus test.
+#[derive(Clone, Copy, Debug, PartialEq, Eq, Error)]
+pub enum RunFault {
+    /// The text is none.
+    #[error("{0}")]
+    Text(LitmusFault),
+    /// The opening leaves the call of a core open.
+    #[error("the opening leaves a call of core {0} open")]
+    Open(u64),
+    /// There are fewer outcomes.
+    #[error("there is no outcome {0}")]
+    NoOutcome(u64),
+    /// The outcome isn't known to come about.
+    #[error("outcome {0} is open, and has no witness")]
+    NoWitness(u64),
+}
+
+/// Memory was refused.
+pub(crate) const NO_MEMORY: RunFault = RunFault::Text(LitmusFault::Io(IoFault::NoMemory));
+
+/// The same as a fault of the opening, or as want of memory. Of a test that was read the others never come.
+pub(crate) fn fault_by(fault: OutcomesFault) -> RunFault
+    ensures { IsLate result }
+{
+    match fault {
+        OutcomesFault::Open(core) => RunFault::Open(u64::from(core.index())),
+        OutcomesFault::Setup(_)
+        | OutcomesFault::Placed
+        | OutcomesFault::NotLed
+        | OutcomesFault::NoMemory => NO_MEMORY,
+    }
+}

@@ -1,0 +1,11 @@
+//! Litmus tests: a text is read, the outcomes of its calls are listed, and what comes of it is written.
+#![tactic(auto)]
+
+pub mod faults;
+mod lacking;
+mod lists;
+mod opening;
+pub mod telling;
+
+pub use faults::RunFault;
+pub use telling::{Told, View, tell_litmus};

@@ -1,0 +1,232 @@
+//! What is told of a litmus test.
+ghost use Rattle.std.specs.Prelude.{◌≡◌, IfErr, IfOk};
+ghost use Rattle.trace_io.specs.Lines.{lines_of};
+ghost use Rattle.litmus_text.specs.Scripts.{read_of};
+ghost use Rattle.litmus_report.specs.Reports.{AreSorted, texts_of};
+ghost use Rattle.litmus.specs.Tells.{Fails, IsLate, IsUnshown, Lists, Reports, Shows, Tells, Witnesses, known_of, status_at};
+ghost use Rattle.litmus.specs.declared.telling.View.TheVariants as ViewOf;
+
+use crate::faults::{NO_MEMORY, RunFault, fault_by};
+use crate::lacking::may_lack;
+use crate::lists::list_text;
+use crate::opening::opening_of;
+use litmus_report::{Named, Row, Searched, in_order, report, status_of, trace_of};
+use litmus_text::{LitmusFault, Script, read_litmus};
+use outcomes::{Outcome, Outcomes, list_outcomes};
+use std::alloc::Allocator;
+use vm_base::NoMemory;
+
+/// What is written of a litmus test.
+#[derive(Clone, Copy, Debug, PartialEq, Eq)]
+pub enum View {
+    /// Its outcomes, and what its clauses come to.
+    Report,
+    /// The outcomes, one in a line, divided by tabs.
+    List,
+    /// A trace that is a witness of the outcome with this number, from 1.
+    Witness(u64),
+}
+
+/// What is written, and the status that tells what the clauses come to.
+#[derive(Drop)]
+pub struct Told<A: Allocator> {
+    pub text: Vec<u8, A>,
+    pub status: u8,
+}
+
+// The outcomes of a test.
+fn outcomes_of<A: Allocator + Clone + Drop>(
+    alloc: &A,
+    script: &Script<A>,
+    limit: usize,
+) -> Result<Outcomes<A>, RunFault>
+    ensures ok { IfOk result (λ found. Lists (read_of script.now) found) }
+    ensures err { IfErr result IsLate }
+{
+    // A test that was read has a declaration.
+    let Some(declaration) = &script.declaration else {
+        return Err(NO_MEMORY);
+    };
+    let Ok(for_opening) = alloc.clone() else {
+        return Err(NO_MEMORY);
+    };
+    let Ok(opening) = opening_of(for_opening, script.opening.as_slice()) else {
+        return Err(NO_MEMORY);
+    };
+    let Ok(for_all) = alloc.clone() else {
+        return Err(NO_MEMORY);
+    };
+    match list_outcomes(
+        for_all,
+        declaration,
+        opening.as_slice(),
+        script.calls.as_slice(),
+        script.finals.as_slice(),
+        limit,
+    ) {
+        Ok(found) => Ok(found),
+        Err(fault) => Err(fault_by(fault)),
+    }
+}
+
+// How many frames are declared.
+fn frames_of<A: Allocator>(script: &Script<A>) -> u64 {
+    match &script.declaration {
+        Some(declaration) => declaration.frames(),
+        None => 0,
+    }
+}
+
+// The trace that is a witness of the outcome with this number.
+fn witness_text<A: Allocator + Clone>(
+    alloc: &A,
+    script: &Script<A>,
+    found: &Outcomes<A>,
+    rows: &[Row<A>],
+    number: u64,
+) -> Result<Vec<u8, A>, RunFault>
+    requires order { AreSorted (texts_of (known_of (read_of script.now) found.now)) rows.now }
+    ensures ok { IfOk result (λ text. Witnesses (read_of script.now) found.now number text.items) }
+    ensures err { IfErr result (IsUnshown (ViewOf.Witness number)) }
+{
+    if number == 0 {
+        return Err(RunFault::NoOutcome(number));
+    }
+    let Some(row) = rows.get((number - 1) as usize) else {
+        return Err(RunFault::NoOutcome(number));
+    };
+    let Some(outcome) = found.list.as_slice().get(row.1) else {
+        return Err(RunFault::NoOutcome(number));
+    };
+    let Some(events) = &outcome.witness else {
+        return Err(RunFault::NoWitness(number));
+    };
+    match trace_of(
+        alloc,
+        row.0.as_slice(),
+        script.front.as_slice(),
+        events.as_slice(),
+    ) {
+        Ok(text) => Ok(text),
+        Err(_) => Err(NO_MEMORY),
+    }
+}
+
+// The report of a test.
+fn report_text<A: Allocator + Clone>(
+    alloc: &A,
+    name: &[u8],
+    script: &Script<A>,
+    found: &Outcomes<A>,
+    rows: &[Row<A>],
+    limit: usize,
+) -> Result<Vec<u8, A>, NoMemory>
+    requires order { AreSorted (texts_of (known_of (read_of script.now) found.now)) rows.now }
+    ensures { IfOk result (λ text. Reports name.now (read_of script.now) found.now limit text.items) }
+{
+    let named = Named {
+        calls: script.calls.as_slice(),
+        addrs: script.finals.as_slice(),
+    };
+    let lacks_frames = may_lack(
+        frames_of(script),
+        script.opening.as_slice(),
+        script.calls.as_slice(),
+    );
+    let searched = Searched {
+        whole: found.whole,
+        lacks_frames,
+        limit: limit as u64,
+    };
+    let text = report(
+        alloc,
+        name,
+        &named,
+        found.list.as_slice(),
+        rows,
+        searched,
+        script.clauses.as_slice(),
+    )?;
+    Ok(text)
+}
+
+// What is shown of a test and its outcomes.
+fn show_test<A: Allocator + Clone + Drop>(
+    alloc: &A,
+    name: &[u8],
+    script: &Script<A>,
+    found: &Outcomes<A>,
+    view: View,
+    limit: usize,
+) -> Result<Vec<u8, A>, RunFault>
+    ensures ok { IfOk result (λ text. Shows view name.now (read_of script.now) found.now limit text.items) }
+    ensures err { IfErr result (IsUnshown view) }
+{
+    let named = Named {
+        calls: script.calls.as_slice(),
+        addrs: script.finals.as_slice(),
+    };
+    let outcomes = found.list.as_slice();
+    let Ok(rows) = in_order(alloc, &named, outcomes) else {
+        return Err(NO_MEMORY);
+    };
+    match view {
+        View::Report => match report_text(alloc, name, script, found, rows.as_slice(), limit) {
+            Ok(text) => Ok(text),
+            Err(_) => Err(NO_MEMORY),
+        },
+        View::List => match list_text(alloc, outcomes, rows.as_slice()) {
+            Ok(text) => Ok(text),
+            Err(_) => Err(NO_MEMORY),
+        },
+        View::Witness(number) => witness_text(alloc, script, found, rows.as_slice(), number),
+    }
+}
+
+// The status of what is shown: of a witness 0.
+fn status_at<A: Allocator>(script: &Script<A>, found: &Outcomes<A>, view: View) -> u8
+    ensures { result ≡ status_at view (read_of script.now) found.now }
+{
+    let named = Named {
+        calls: script.calls.as_slice(),
+        addrs: script.finals.as_slice(),
+    };
+    match view {
+        View::Report | View::List => status_of(
+            &named,
+            found.list.as_slice(),
+            found.whole,
+            script.clauses.as_slice(),
+        ),
+        View::Witness(_) => 0,
+    }
+}
+
+/// Reads the text of a litmus test with this name, lists its outcomes, of at most `limit` points of merges, and answers what is written of
+/// it, and the status: 0 where all clauses hold, 1 where one fails, 3 where one is open or the limit was reached; of a witness 0. `Err`
+/// tells the text's first fault, an opening that leaves a call open, an outcome that isn't there, or want of memory.
+pub fn tell_litmus<A: Allocator + Clone + Drop>(
+    alloc: &A,
+    name: &[u8],
+    text: &[u8],
+    view: View,
+    limit: usize,
+) -> Result<Told<A>, RunFault>
+    ensures ok { IfOk result (λ told. Tells A name.now view limit (lines_of text.now) told.text.items told.status) }
+    ensures err { IfErr result (Fails view (lines_of text.now)) }
+{
+    let script = match read_litmus(alloc, text) {
+        Ok(script) => script,
+        Err(fault) => return Err(RunFault::Text(fault)),
+    };
+    let found = match outcomes_of(alloc, &script, limit) {
+        Ok(found) => found,
+        Err(fault) => return Err(fault),
+    };
+    let text = match show_test(alloc, name, &script, &found, view, limit) {
+        Ok(text) => text,
+        Err(fault) => return Err(fault),
+    };
+    let status = status_at(&script, &found, view);
+    Ok(Told { text, status })
+}

@@ -1,0 +1,4 @@
+pub mod Verdicts
+pub mod Texts
+pub mod Reports
+pub mod Witness

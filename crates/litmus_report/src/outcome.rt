@@ -1,0 +1,25 @@
+//! Listed outcomes, as they are told.
+ghost use Rattle.std.specs.Prelude.{is_some};
+
+use crate::verdict::Ended;
+use outcomes::Outcome;
+use std::alloc::Allocator;
+use vm_base::Reply;
+
+impl<A: Allocator> Ended for Outcome<A> {
+    ghost use Rattle.std.specs.Prelude.{is_some};
+
+    ghost outcome = { λ o. record { replies = o.replies.items; finals = o.finals.items; reached = is_some o.witness } };
+
+    fn replies(&self) -> &[Reply] {
+        self.replies.as_slice()
+    }
+
+    fn finals(&self) -> &[Reply] {
+        self.finals.as_slice()
+    }
+
+    fn is_reached(&self) -> bool {
+        self.witness.is_some()
+    }
+}

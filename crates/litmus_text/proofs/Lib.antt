@@ -1,0 +1,3 @@
+pub mod FactLemmas
+pub mod LineLemmas
+pub mod PlaceLemmas

@@ -1,0 +1,111 @@
+//! What the first word of a line of a litmus test says that it is.
+ghost use Rattle.std.specs.Prelude.{◌≡◌};
+ghost use Rattle.trace_io.specs.Lines.{lines_of};
+ghost use Rattle.trace_text.specs.Words.{words_of};
+ghost use Rattle.litmus_text.specs.Kinds.{args_of, has_none, has_together, is_together, kind_named, kind_of};
+
+use trace_io::lines::front_line;
+use trace_text::words::next_word;
+
+/// Of which outcomes a clause speaks.
+#[derive(Clone, Copy, Debug, PartialEq, Eq)]
+pub enum Quantifier {
+    /// There is an outcome of which the condition holds.
+    Exists,
+    /// There is none.
+    Never,
+    /// It holds of each outcome.
+    Forall,
+}
+
+/// What a line is, by its first word.
+#[derive(Clone, Copy, Debug, PartialEq, Eq)]
+pub enum Kind {
+    /// `vm CORES FRAMES CALLS`
+    Space,
+    /// `file N MODE LEN SEED`
+    File,
+    /// `together`: the lists come behind it.
+    Together,
+    /// `final ADDR`: what a load of the address would show in the end belongs to an outcome.
+    Final,
+    /// `exists C`, `never C` or `forall C`.
+    Clause(Quantifier),
+    /// An event of the opening, or a call of a core's list.
+    Event,
+}
+
+// What a line is that begins with this word.
+fn kind_named(name: &[u8]) -> Kind
+    ensures { result ≡ kind_named name.now }
+{
+    if name == b"vm".as_slice() {
+        Kind::Space
+    } else if name == b"file".as_slice() {
+        Kind::File
+    } else if name == b"together".as_slice() {
+        Kind::Together
+    } else if name == b"final".as_slice() {
+        Kind::Final
+    } else if name == b"exists".as_slice() {
+        Kind::Clause(Quantifier::Exists)
+    } else if name == b"never".as_slice() {
+        Kind::Clause(Quantifier::Never)
+    } else if name == b"forall".as_slice() {
+        Kind::Clause(Quantifier::Forall)
+    } else {
+        Kind::Event
+    }
+}
+
+/// What a line is, by its first word.
+pub fn kind_of(line: &[u8]) -> Kind
+    ensures { result ≡ kind_of (words_of line.now) }
+{
+    match next_word(line) {
+        Some((name, _)) => kind_named(name),
+        None => Kind::Event,
+    }
+}
+
+/// What stands behind the first word.
+pub(crate) fn args_of(line: &[u8]) -> &[u8]
+    ensures { words_of result.now ≡ args_of (words_of line.now) }
+{
+    match next_word(line) {
+        Some((_, args)) => args,
+        None => line,
+    }
+}
+
+/// Tells whether there is no word.
+pub(crate) fn has_none(words: &[u8]) -> bool
+    ensures { result ≡ has_none (words_of words.now) }
+{
+    next_word(words).is_none()
+}
+
+// Tells whether this is the line `together`.
+fn is_together(line: &[u8]) -> bool
+    ensures { result ≡ is_together (words_of line.now) }
+{
+    match next_word(line) {
+        Some((name, args)) => name == b"together".as_slice() && has_none(args),
+        None => false,
+    }
+}
+
+/// Tells whether a line of the text is `together`.
+pub fn has_together(text: &[u8]) -> bool
+    ensures { result ≡ has_together (lines_of text.now) }
+{
+    let mut rest = text;
+    'lines: while !rest.is_empty() {
+        let (line, more) = front_line(rest);
+        if is_together(line) {
+            return true;
+        }
+        rest = more;
+    }
+    false
+}
