@@ -1,14 +1,15 @@
 #!/usr/bin/env python3
-"""Sends traces through `run --echo | audit`: those of examples/, and random ones of each kind. None may be called illegal or a bad text, since their
-replies are those of a machine that is proved; a text without calls that overlap and without a store that had nomemory has to be legal, and with
---overlapping any text at whose end no call waits. One reply in each random trace is then changed to one that no page map gives there: no such text
-may be called legal.
+"""Sends traces through `run --echo | audit`: those of examples/, and random ones of each kind. Their replies are those of a machine that is proved, so
+each has to be legal, with --overlapping and without: but a text at whose end a call waits for a mapping that may have any place may be undecided, since
+only some of its places are tried. What is legal is judged again by the order that is written. One reply in each random trace is then changed to one
+that no page map gives there: no such text may be called legal.
 Usage: echo_audit.py PROGRAM [TRACES [SEED]] (300 of each kind, and 0)"""
 import collections
 import pathlib
 import random
 import subprocess
 import sys
+import tempfile
 
 PROGRAM = sys.argv[1]
 TRACES = int(sys.argv[2]) if len(sys.argv) > 2 else 300
@@ -62,31 +63,9 @@ def run(words, text, statuses):
     return ran.stdout
 
 
-def is_plain(lines):
-    """Whether no call overlaps another one, and no store had nomemory."""
-    waiting = set()
-    stores = {}
-    for said in lines:
-        front, sign, text = said.rpartition(" = ")
-        if not sign or text in ("idle", "full"):
-            continue
-        words = front.split()
-        core = words[0].rstrip("!")
-        begins = words[0].endswith("!") or words[1:2] == ["call"]
-        if begins:
-            stores[core] = "store" in words
-        if begins and (words[0].endswith("!") and text.startswith("wait") or words[1] == "call"):
-            waiting.add(core)
-        elif words[0].endswith("!") or words[1:2] in (["finish"], ["go"], ["giveup"]) and not text.startswith(("wait", "step")):
-            if waiting - {core} or text == "nomemory" and stores[core]:
-                return False
-            waiting.discard(core)
-    return True
-
-
 def is_cut(lines):
-    """Whether the text ends while a call waits, which may have taken effect: then the others need not have an order."""
-    waiting = set()
+    """Whether the text ends while a call waits for a mapping that may have any place."""
+    waiting = {}
     for said in lines:
         front, sign, text = said.rpartition(" = ")
         if not sign or text in ("idle", "full") or front.startswith("fold"):
@@ -94,10 +73,10 @@ def is_cut(lines):
         words = front.split()
         core, event = words[0].rstrip("!"), words[1]
         if words[0].endswith("!") and text.startswith(("wait", "stuck")) or event == "call":
-            waiting.add(core)
+            waiting[core] = words[words.index("mmap") + 4] if "mmap" in words else "f"
         elif event in ("finish", "go", "giveup", "frame", "guess", "whole") and not text.startswith(("wait", "step", "stuck")):
-            waiting.discard(core)
-    return bool(waiting)
+            waiting.pop(core, None)
+    return any("f" not in flags for flags in waiting.values())
 
 
 def changed(rng, lines):
@@ -110,6 +89,15 @@ def changed(rng, lines):
     return lines[:at] + [f"{front} = {(int(reply) + 100) % 256 if reply.isdigit() else '0x1001'}"] + lines[at + 1 :]
 
 
+def by_its_order(text):
+    """The order that is found is written, is legal line by line, and is an order of the text again."""
+    with tempfile.TemporaryDirectory() as folder:
+        order = pathlib.Path(folder) / "order"
+        run(["audit", "--overlapping", "--any-place", "--order", str(order)], text, (0,))
+        run(["audit", "--any-place"], order.read_text(), (0,))
+        run(["audit", "--overlapping", "--any-place", "--given", str(order)], text, (0,))
+
+
 def main():
     counts = collections.Counter()
     for path in sorted((TOP / "examples").glob("*.trace")):
@@ -120,10 +108,13 @@ def main():
             rng = random.Random(f"{kind} {seed}")
             lines = run(["run", "--echo"], "\n".join(trace(rng, kind)) + "\n", (0,)).splitlines()
             text = "\n".join(lines) + "\n"
-            said = run(["audit", "--any-place"], text, (0,) if is_plain(lines) else (0, 3))
+            statuses = (0, 3) if is_cut(lines) else (0,)
+            said = run(["audit", "--any-place"], text, statuses)
             counts[kind, said.split()[0], "without memory" in said] += 1
-            ordered = run(["audit", "--overlapping", "--any-place"], text, (0, 3) if is_cut(lines) else (0,))
+            ordered = run(["audit", "--overlapping", "--any-place"], text, statuses)
             counts[kind, "by an order: " + ordered.split()[0], False] += 1
+            if ordered.startswith("legal"):
+                by_its_order(text)
             other = changed(rng, lines)
             if other:
                 text = "\n".join(other) + "\n"

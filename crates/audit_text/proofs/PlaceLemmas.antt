@@ -8,8 +8,8 @@ use Rattle.audit_text.specs.Allowed.{AreAllowed}
 use Rattle.audit_text.specs.Ends.{IsAtFault}
 use Rattle.audit_text.specs.Faults.{SaysNothing}
 use Rattle.audit_text.specs.Grammar.{Tells}
-use Rattle.audit_text.specs.Heard.{Declared, Heard, Stage, Front, Behind, Leads, behind, is_certain, stage_after, undeclared}
-use Rattle.audit_text.specs.Legal.{Follows, IsLegal, IsPlace, IsWrong, first_map, heard_in}
+use Rattle.audit_text.specs.Heard.{Declared, Heard, Stage, Front, Behind, Leads, behind, is_certain, needs_space, stage_after, undeclared}
+use Rattle.audit_text.specs.Legal.{Follows, HasSpaceFor, IsLegal, IsPlace, IsWrong, first_map, heard_in}
 use Rattle.audit_text.specs.Steps.{EndsFront, HasEnded, Hears, IsAtLine, IsCall, IsFound, IsRefused, IsWanting, MayWant, TurnsOut}
 use Rattle.audit_text.proofs.HeardLemmas.{moves_on}
 use Rattle.audit_text.specs.declared.allowing.Terms.{Terms}
@@ -58,15 +58,17 @@ at_next lines more n s t said a after =
 
 -- the declaration ends at this line
 pub ended_front : (lines rest more : List (List ℕ)) (n : ℕ) (d e : Declared) (line : List ℕ) (said : Said) → IsPlace lines n rest (Front d)
-    → rest ≡ line ∷ more → (length line ≤ 512) × Tells said line → (e ≡ d) × HasEnded d said → EndsFront lines e (Some said) (n + 1) more
-ended_front lines rest more n d e line said p is says (same, ended) =
-    subst (λ (x : Declared). EndsFront lines x (Some said) (n + 1) more) (sym same) (at_line lines rest more n (Front d) line said p is says, ended)
+    → rest ≡ line ∷ more → (length line ≤ 512) × Tells said line → (e ≡ d) × HasEnded d said × (needs_space said ≡ true)
+    → EndsFront lines e (Some said) (n + 1) more
+ended_front lines rest more n d e line said p is says (same, ended, needs) =
+    subst (λ (x : Declared). EndsFront lines x (Some said) (n + 1) more) (sym same)
+    (at_line lines rest more n (Front d) line said p is says, ended, needs)
 
 -- ---- faults
 
 pub fault_here : (terms : Terms) (lines rest more : List (List ℕ)) (n : ℕ) (s : Stage) (t : Plain) (line : List ℕ) (f : AuditFault)
     → IsPlace lines n rest s → Follows terms s t → rest ≡ line ∷ more → SaysNothing line (n + 1) f → IsAtFault terms lines f
-fault_here terms lines rest more n s t line (BadLine k) p h e (is, says) = record {
+fault_here terms lines rest more n s t line (BadLine k) p h e (is, short, says) = record {
   stage = s;
   plain = t;
   line = line;
@@ -75,6 +77,7 @@ fault_here terms lines rest more n s t line (BadLine k) p h e (is, says) = recor
   number_is = omega (arith, is);
   place = subst (λ l. IsPlace lines n l s) e p;
   replies = h;
+  short = short;
   misplaced = inl says;
 }
 fault_here terms lines rest more n s t line (TooLong k) p h e (is, long) = record {
@@ -91,8 +94,8 @@ fault_here terms lines rest more n s t line (TooLong k) p h e (is, long) = recor
 fault_here terms lines rest more n s t line f p h e says = absurd says
 
 pub bad_at : (terms : Terms) (lines more : List (List ℕ)) (n : ℕ) (s : Stage) (t : Plain) (said : Said) → IsAtLine lines n said more s → Follows terms s t
-    → stage_after s said ≡ None → IsAtFault terms lines (BadLine n)
-bad_at terms lines more n s t said a h none = record {
+    → stage_after s said ≡ None → HasSpaceFor s said → IsAtFault terms lines (BadLine n)
+bad_at terms lines more n s t said a h none space = record {
   stage = s;
   plain = t;
   line = a.line;
@@ -101,7 +104,8 @@ bad_at terms lines more n s t said a h none = record {
   number_is = a.number_is;
   place = a.place;
   replies = h;
-  misplaced = inr (said, a.tells, none);
+  short = a.short;
+  misplaced = inr (said, a.tells, none, space);
 }
 
 -- ---- calls
@@ -192,7 +196,8 @@ pub turn_fault : (terms : Terms) (lines more : List (List ℕ)) (d : Declared) (
     → IsCall terms lines d h t said n more → TurnsOut terms h t said n (Err f) k u → IsAtFault terms lines f
 turn_fault terms lines more d h k t u said n (BadLine m) c turns =
     subst (λ i. IsAtFault terms lines (BadLine i)) (sym turns.0)
-    (bad_at terms lines more n c.stage t said c.at c.follows (c.after ∙ ap (behind d) turns.1))
+    (bad_at terms lines more n c.stage t said c.at c.follows (c.after ∙ ap (behind d) turns.1)
+    (λ needs. ap (λ (e : Declared). e.has_space) c.declared ∙ c.space))
 turn_fault terms lines more d h k t u said n (Io NoMemory) c turns = tt
 turn_fault terms lines more d h k t u said n f c turns = absurd turns
 

@@ -166,6 +166,7 @@ before_next terms lines rest more d h k t u found new said other n m line b turn
       tells = says.1;
       after = refl;
       told = refl;
+      declared = refl;
       heard = refl;
     }
 
@@ -198,7 +199,8 @@ before_fault T terms lines more d h k t u found new said n (BadLine m) b (is, no
   before = length b.front + length b.done;
   number_is = is ∙ b.number_is;
   place = place_before terms lines more d h t found said n b;
-  misplaced = inr (said, b.tells, b.after ∙ ap (behind d) none);
+  short = b.short;
+  misplaced = inr (said, b.tells, b.after ∙ ap (behind d) none, λ needs. ap (λ (e : Declared). e.has_space) b.declared ∙ b.space);
 }
 before_fault T terms lines more d h k t u found new said n (Io NoMemory) b turns = tt
 before_fault T terms lines more d h k t u found new said n f b turns = absurd turns
@@ -223,13 +225,14 @@ before_unread terms lines rest more d h k t u found new said n m line f b turns 
     }
 
     go : (f : AuditFault) → SaysNothing line (n + 1) f → IsTextAtFault lines f
-    go (BadLine i) (is, says) = record {
+    go (BadLine i) (is, short, says) = record {
       stage = Behind d k;
       line = line;
       more = more;
       before = n;
       number_is = omega (arith, is);
       place = at;
+      short = short;
       misplaced = inl says;
     }
     go (TooLong i) (is, long) = record {
@@ -248,7 +251,7 @@ before_unread terms lines rest more d h k t u found new said n m line f b turns 
 pub before_first : (terms : Terms) (lines more : List (List ℕ)) (d : Declared) (h : Heard) (t : Plain) (found : List Verdict) (said : Said) (n : ℕ)
     → EndsFront lines d (Some said) n more → d.has_space ≡ true → h ≡ nothing → t ≡ first_map d → found ≡ []
     → IsBefore terms lines d h t found said n more
-before_first terms lines more d h t found said n (at, ended) space new first none = record {
+before_first terms lines more d h t found said n (at, ended, needs) space new first none = record {
   front = at.place.done;
   done = [];
   line = at.line;
@@ -263,6 +266,7 @@ before_first terms lines more d h t found said n (at, ended) space new first non
   after = ended ∙ ap (λ b. cond b (behind d (heard_after nothing said)) None) space
       ∙ ap (λ (x : Heard). behind d (heard_after x said)) (sym new);
   told = ap (λ b. cond b (item_told nothing said) None) space ∙ ap (λ (x : Heard). item_told x said) (sym new);
+  declared = refl;
   heard = sym new;
 }
 
@@ -290,6 +294,7 @@ text_fault terms lines (BadLine n) h = record {
   before = h.before;
   number_is = h.number_is;
   place = h.place;
+  short = h.short;
   misplaced = h.misplaced;
 }
 text_fault terms lines (TooLong n) h = record {

@@ -1,11 +1,8 @@
--- How an audit ends, and what it writes.
-use Rattle.std.specs.Prelude.{◌≡◌, ℕ, ⊤, nat_lt, true, false, List, [], ◌++◌, Option, Some, Result, Ok, Err, codes, decimal, if◌then◌else◌}
+-- What an audit comes to, and what it writes.
+use Rattle.std.specs.Prelude.{◌≡◌, ℕ, ⊤, nat_lt, true, false, List, [], ◌++◌, Option, Some, Result, codes, decimal, if◌then◌else◌}
 use Rattle.std.specs.List.{flat_map}
-use Rattle.std.specs.Io.KnownBytes.{Keeps, Appends}
 use Rattle.trace_io.specs.Io.{ReadFrom, TellsSent, WrittenTo}
-use Rattle.trace_io.specs.Lines.{lines_of}
-use Rattle.trace_io.specs.Sink.{AppendsFront}
-use Rattle.trace_io.specs.declared.fault.IoFault.TheVariants.{ReadFailed, NoMemory, WriteFailed}
+use Rattle.trace_io.specs.declared.fault.IoFault.TheVariants.{NoMemory}
 use Rattle.trace_text.specs.Lists.{map_line}
 use Rattle.trace_text.specs.Printing.{text_of}
 use Rattle.slot_lock.specs.declared.map_list.MapLine.{MapLine}
@@ -61,29 +58,6 @@ abbrev pub verdict_text : Verdict → List MapLine → List ℕ
 verdict_text verdict around = head_text verdict ++ flat_map mapping_text around
 
 -- ---- the end
-
--- the verdict was written
-pub record Judges (terms : Terms) (input : List ℕ) (old new : Option (List ℕ)) (verdict : Verdict) : Type 0 where
-  pub around : List MapLine
-  pub is : IsVerdict terms (lines_of input) verdict around
-  pub written : Appends old new (verdict_text verdict around)
-
--- a front of it was
-pub record Breaks (terms : Terms) (input : List ℕ) (old new : Option (List ℕ)) : Type 0 where
-  pub verdict : Verdict
-  pub around : List MapLine
-  pub is : IsVerdict terms (lines_of input) verdict around
-  pub written : AppendsFront old new (verdict_text verdict around)
-
--- after a fault nothing was written, but after a failed write
-abbrev pub Fails : Terms → List ℕ → Option (List ℕ) → Option (List ℕ) → AuditFault → Type 0
-Fails terms input old new (Io WriteFailed) = Breaks terms input old new
-Fails terms input old new (Io ReadFailed) = Keeps old new
-Fails terms input old new f = IsAtFault terms (lines_of input) f × Keeps old new
-
-abbrev pub AuditEnds : Terms → List ℕ → Option (List ℕ) → Option (List ℕ) → Result Verdict AuditFault → Type 0
-AuditEnds terms input old new (Ok verdict) = Judges terms input old new verdict
-AuditEnds terms input old new (Err f) = Fails terms input old new f
 
 -- which failures of reading and writing are told; a verdict has gone out
 abbrev pub TellsAudit : {T : Type 0} → Result T AuditFault → ReadFrom → WrittenTo → Type 0

@@ -32,6 +32,12 @@ abbrev pub with_file : Declared → ℕ → PlainFile → ℕ → Option Declare
 with_file d number file len = if d.has_space && (number == length d.files) && nat_lt number 16 && nat_le len 1048576
     then Some (record d { files = d.files ++ file ∷ [] }) else None
 
+-- what this line says may stand only behind that of a space
+abbrev pub needs_space : Said → Bool
+needs_space Blank = false
+needs_space (Space cores frames calls) = false
+needs_space said = true
+
 -- ---- the calls
 
 -- What the call of each core asks for that waits, and how many wait; the calls that were answered, in order of their replies,

@@ -1,5 +1,5 @@
 -- What a legal text is, and what stands in the way of it first.
-use Rattle.std.specs.Prelude.{◌≡◌, ℕ, suc, ◌<◌, ◌≤◌, ◌⊎◌, Bool, true, false, List, [], ◌∷◌, ◌++◌, length, slice_get, Option, None, Some}
+use Rattle.std.specs.Prelude.{◌≡◌, ℕ, suc, ◌<◌, ◌≤◌, ◌⊎◌, ⊤, Bool, true, false, List, [], ◌∷◌, ◌++◌, length, slice_get, Option, None, Some}
 use Rattle.std.specs.Prelude.{if◌then◌else◌}
 use Rattle.vm_base.specs.declared.requests.Request.{Request}
 use Rattle.vm_base.specs.declared.requests.Request.TheVariants.{Mmap, Munmap, Mprotect, Load, Store, Fetch}
@@ -13,7 +13,7 @@ use Rattle.audit_text.specs.declared.item.Item.TheVariants.{Answer, Copy}
 use Rattle.audit_text.specs.Allowed.{AreAllowed, IsDue, MayBe}
 use Rattle.audit_text.specs.Around.{IsAround}
 use Rattle.audit_text.specs.Grammar.{Tells}
-use Rattle.audit_text.specs.Heard.{Declared, Heard, Stage, Front, Behind, Leads, item_told, is_certain, nothing, stage_after, undeclared}
+use Rattle.audit_text.specs.Heard.{Declared, Heard, Stage, Front, Behind, Leads, item_told, is_certain, needs_space, nothing, stage_after, undeclared}
 use Rattle.audit_text.specs.declared.allowing.Terms.{Terms}
 use Rattle.audit_text.specs.declared.reading.Said.{Said}
 
@@ -97,9 +97,14 @@ pub record IsIllegal (terms : Terms) (lines : List (List ℕ)) (number : ℕ) (i
   pub wrong : IsWrong terms lines number item due certain plain
   pub shown : IsAround (plain_metas plain) (page_told item) around
 
--- the line says nothing, or what it says may not stand here
+-- a space is declared, if what the line says needs one
+abbrev pub HasSpaceFor : Stage → Said → Type 0
+HasSpaceFor s said = needs_space said ≡ true → (declared_in s).has_space ≡ true
+
+-- The line says nothing; or what it says may not stand here, and that isn't for want of a space.
 abbrev pub IsMisplaced : Stage → List ℕ → Type 0
-IsMisplaced s line = ((said : Said) → Tells said line → ⊥) ⊎ ((said : Said) × Tells said line × (stage_after s said ≡ None))
+IsMisplaced s line = ((said : Said) → Tells said line → ⊥)
+    ⊎ ((said : Said) × Tells said line × (stage_after s said ≡ None) × HasSpaceFor s said)
 
 -- The lines before this one are legal, and it is misplaced.
 pub record IsBad (terms : Terms) (lines : List (List ℕ)) (number : ℕ) : Type 0 where
@@ -111,6 +116,7 @@ pub record IsBad (terms : Terms) (lines : List (List ℕ)) (number : ℕ) : Type
   pub number_is : number ≡ suc before
   pub place : IsPlace lines before (line ∷ more) stage
   pub replies : Follows terms stage plain
+  pub short : length line ≤ 512
   pub misplaced : IsMisplaced stage line
 
 -- they are, and it is too long
@@ -125,10 +131,10 @@ pub record IsOverlong (terms : Terms) (lines : List (List ℕ)) (number : ℕ) :
   pub replies : Follows terms stage plain
   pub long : 512 < length line
 
--- the next line, if there is one, may not stand here
-abbrev pub IsStuck : Stage → List (List ℕ) → Type 0
-IsStuck s [] = s ≡ s
-IsStuck s (line ∷ more) = (said : Said) × Tells said line × (stage_after s said ≡ None)
+-- the text ends, or its next line would have to stand behind that of a space
+abbrev pub IsStuck : List (List ℕ) → Type 0
+IsStuck [] = ⊤
+IsStuck (line ∷ more) = (said : Said) × (length line ≤ 512) × Tells said line × (needs_space said ≡ true)
 
 -- no space is declared so far, and one would have to be
 pub record LacksSpace (lines : List (List ℕ)) : Type 0 where
@@ -137,4 +143,4 @@ pub record LacksSpace (lines : List (List ℕ)) : Type 0 where
   pub more : List (List ℕ)
   pub place : IsPlace lines number more stage
   pub no_space : (declared_in stage).has_space ≡ false
-  pub stuck : IsStuck stage more
+  pub stuck : IsStuck more

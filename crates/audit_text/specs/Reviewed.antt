@@ -109,6 +109,7 @@ pub record IsBadLine (lines : List (List ℕ)) (number : ℕ) : Type 0 where
   pub before : ℕ
   pub number_is : number ≡ suc before
   pub place : IsPlace lines before (line ∷ more) stage
+  pub short : length line ≤ 512
   pub misplaced : IsMisplaced stage line
 
 pub record IsLongLine (lines : List (List ℕ)) (number : ℕ) : Type 0 where

@@ -4,7 +4,7 @@ use Rattle.trace_io.specs.declared.fault.IoFault.TheVariants.{NoMemory}
 use Rattle.vm_base.specs.Plain.{Plain}
 use Rattle.audit_text.specs.Grammar.{Tells}
 use Rattle.audit_text.specs.Heard.{Declared, Heard, Stage, Front, Leads, behind, item_told, heard_after, is_certain, stage_after, undeclared}
-use Rattle.audit_text.specs.Legal.{first_map, heard_in, told_at}
+use Rattle.audit_text.specs.Legal.{declared_in, first_map, heard_in, told_at}
 use Rattle.audit_text.specs.Reviewed.{Reviews, TurnsBy}
 use Rattle.audit_text.specs.declared.allowing.Terms.{Terms}
 use Rattle.audit_text.specs.declared.input.AuditFault.{AuditFault}
@@ -28,6 +28,7 @@ pub record IsBefore (terms : Terms) (lines : List (List ℕ)) (d : Declared) (h 
   pub tells : Tells said line
   pub after : stage_after stage said ≡ behind d (heard_after h said)
   pub told : told_at stage said ≡ item_told h said
+  pub declared : declared_in stage ≡ d
   pub heard : heard_in stage ≡ h
 
 -- what the line with this number comes to

@@ -8,8 +8,8 @@ use Rattle.vm_base.specs.declared.replies.Reply.{Reply}
 use Rattle.vm_base.specs.Plain.{File, Plain, file_with}
 use Rattle.audit_text.specs.Allowed.{Allows, IsAllowed, IsDue, MayBe}
 use Rattle.audit_text.specs.Grammar.{Tells}
-use Rattle.audit_text.specs.Heard.{Declared, Heard, Stage, Front, behind, item_told, heard_after, is_certain, nothing, one_passed, stage_after, with_answer, with_item}
-use Rattle.audit_text.specs.Legal.{Follows, IsLegal, IsPlace, IsWrong, declared_in, heard_in, page_told, told_at}
+use Rattle.audit_text.specs.Heard.{Declared, Heard, Stage, Front, behind, item_told, heard_after, is_certain, needs_space, nothing, one_passed, stage_after, with_answer, with_item}
+use Rattle.audit_text.specs.Legal.{Follows, HasSpaceFor, IsLegal, IsPlace, IsWrong, declared_in, heard_in, page_told, told_at}
 use Rattle.audit_text.specs.Around.{IsAround}
 use Rattle.slot_lock.specs.declared.map_list.MapLine.{MapLine}
 use Rattle.vm_base.specs.declared.info.Meta.{Meta}
@@ -44,8 +44,8 @@ HasEnded d said = stage_after (Front d) said ≡ (if d.has_space then behind d (
 
 abbrev pub Adds : Declared → Said → Declares → Declared → Type 0
 Adds d said Is.Part e = stage_after (Front d) said ≡ Some (Front e)
-Adds d said Is.Bad e = stage_after (Front d) said ≡ None
-Adds d said Is.Ended e = (e ≡ d) × HasEnded d said
+Adds d said Is.Bad e = (stage_after (Front d) said ≡ None) × HasSpaceFor (Front d) said
+Adds d said Is.Ended e = (e ≡ d) × HasEnded d said × (needs_space said ≡ true)
 
 -- ---- a line that is heard
 
@@ -121,7 +121,7 @@ pub record IsAtLine (lines : List (List ℕ)) (number : ℕ) (said : Said) (more
 -- the declaration is d, and the text ends, or this line is no part of it
 abbrev pub EndsFront : List (List ℕ) → Declared → Option Said → ℕ → List (List ℕ) → Type 0
 EndsFront lines d None number more = IsPlace lines number [] (Front d)
-EndsFront lines d (Some said) number more = IsAtLine lines number said more (Front d) × HasEnded d said
+EndsFront lines d (Some said) number more = IsAtLine lines number said more (Front d) × HasEnded d said × (needs_space said ≡ true)
 
 -- at this line the calls of d's space begin or go on, and the replies before it are legal
 pub record IsCall (terms : Terms) (lines : List (List ℕ)) (d : Declared) (h : Heard) (t : Plain) (said : Said) (number : ℕ)

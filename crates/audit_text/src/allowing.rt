@@ -43,7 +43,7 @@ pub(crate) fn is_let(is_strict: bool, request: Request, due: Reply, reply: Reply
 }
 
 /// Tells whether a call found no frame or no memory.
-pub(crate) fn is_lacking(reply: Reply) -> bool
+pub fn is_lacking(reply: Reply) -> bool
     ensures { result ≡ is_lacking reply }
 {
     matches!(reply, Reply::NoFrame | Reply::NoMemory)

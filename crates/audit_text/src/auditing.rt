@@ -1,11 +1,9 @@
-//! A text is read whole, its replies are judged, and the verdict is written.
-ghost use Rattle.std.specs.Prelude.{◌≡◌, ◌⊎◌, ◌+◌, ◌<◌, ◌≤◌, ◌^◌, [], Err, IfErr, IfOk, OnOk, List, ℕ, Some, length, true};
+//! The replies of a text are judged, one after another.
+ghost use Rattle.std.specs.Prelude.{◌≡◌, ◌+◌, ◌<◌, ◌≤◌, ◌^◌, [], IfErr, IfOk, IfSome, List, ℕ, Some, length};
 ghost use Rattle.trace_io.specs.Lines.{lines_of};
-ghost use Rattle.trace_io.specs.Io.{read_from, written_to};
-ghost use Rattle.trace_io.specs.Source.{Reads};
 ghost use Rattle.slot_lock.specs.Slots.{IsNew};
 ghost use Rattle.slot_lock.specs.MapWalks.{slot_metas};
-ghost use Rattle.audit_text.specs.Ends.{AuditEnds, IsAtFault, IsVerdict, TellsAudit};
+ghost use Rattle.audit_text.specs.Ends.{IsAtFault, IsVerdict};
 ghost use Rattle.audit_text.specs.Around.{IsAround};
 ghost use Rattle.audit_text.specs.Legal.{IsPlace, LacksSpace, page_told};
 ghost use Rattle.audit_text.specs.declared.allowing.Terms.{Terms};
@@ -20,12 +18,9 @@ use crate::input::AuditFault;
 use crate::item::Item;
 use crate::judging::{Verdict, hear_lines};
 use crate::reading::Said;
-use crate::telling::verdict_text;
 use slot_lock::{MapLine, SlotMap};
 use std::alloc::Allocator;
 use trace_io::IoFault;
-use trace_io::sink::{Sink, write_out};
-use trace_io::source::{Source, read_all};
 
 /// A verdict, and the mappings around the page of the reply or the copy that is illegal.
 #[derive(Debug, Drop)]
@@ -77,18 +72,17 @@ fn judge_calls<M: SlotMap + Drop, A: Allocator + Clone + Drop>(
 ) -> Result<Judged<A>, AuditFault>
     requires new { IsNew (M.slots map) }
     requires few { length declaration.files.items ≤ 16 }
+    requires from_1 { 1 ≤ number }
     requires room { number + length rest.now < 2 ^ 64 }
-    ensures ok { IfOk result (λ j. (lines : List (List ℕ)) → EndsFront lines (declared_of declaration) (Some first) number (lines_of rest.now)
+    ensures ok { IfOk result (λ j. (lines : List (List ℕ))
+        → EndsFront lines (declared_of declaration) (Some first) number (lines_of rest.now)
         → IsVerdict terms lines j.verdict j.around.items) }
-    ensures err { IfErr result (λ f. (lines : List (List ℕ)) → EndsFront lines (declared_of declaration) (Some first) number (lines_of rest.now)
+    ensures err { IfErr result (λ f. (lines : List (List ℕ))
+        → EndsFront lines (declared_of declaration) (Some first) number (lines_of rest.now)
         → IsAtFault terms lines f) }
 {
     if !declaration.has_space {
         return Err(AuditFault::NoVmLine);
-    }
-    // (this never comes, since lines are numbered from 1)
-    if number == 0 {
-        return Err(AuditFault::Io(IoFault::NoMemory));
     }
     let Ok(for_around) = alloc.clone() else {
         return Err(AuditFault::Io(IoFault::NoMemory));
@@ -103,9 +97,11 @@ fn judge_calls<M: SlotMap + Drop, A: Allocator + Clone + Drop>(
 
 // The verdict on a text without calls.
 fn judge_none<A: Allocator>(alloc: A, declaration: Declaration<A>) -> Result<Judged<A>, AuditFault>
-    ensures ok { IfOk result (λ j. (terms : Terms) (lines : List (List ℕ)) (number : ℕ) → IsPlace lines number [] (Front (declared_of declaration))
+    ensures ok { IfOk result (λ j. (terms : Terms) (lines : List (List ℕ)) (number : ℕ)
+        → IsPlace lines number [] (Front (declared_of declaration))
         → IsVerdict terms lines j.verdict j.around.items) }
-    ensures err { IfErr result (λ f. (terms : Terms) (lines : List (List ℕ)) (number : ℕ) → IsPlace lines number [] (Front (declared_of declaration))
+    ensures err { IfErr result (λ f. (terms : Terms) (lines : List (List ℕ)) (number : ℕ)
+        → IsPlace lines number [] (Front (declared_of declaration))
         → IsAtFault terms lines f) }
 {
     if !declaration.has_space {
@@ -133,11 +129,14 @@ fn judge_behind<M: SlotMap + Drop, A: Allocator + Clone + Drop>(
 ) -> Result<Judged<A>, AuditFault>
     requires new { IsNew (M.slots map) }
     requires few { length declaration.files.items ≤ 16 }
+    requires from_1 { IfSome first (λ said. 1 ≤ number) }
     requires room { number + length rest.now < 2 ^ 64 }
-    ensures ok { IfOk result (λ j. (lines : List (List ℕ)) → EndsFront lines (declared_of declaration) first number
-        (lines_of rest.now) → IsVerdict terms lines j.verdict j.around.items) }
-    ensures err { IfErr result (λ f. (lines : List (List ℕ)) → EndsFront lines (declared_of declaration) first number
-        (lines_of rest.now) → IsAtFault terms lines f) }
+    ensures ok { IfOk result (λ j. (lines : List (List ℕ))
+        → EndsFront lines (declared_of declaration) first number (lines_of rest.now)
+        → IsVerdict terms lines j.verdict j.around.items) }
+    ensures err { IfErr result (λ f. (lines : List (List ℕ))
+        → EndsFront lines (declared_of declaration) first number (lines_of rest.now)
+        → IsAtFault terms lines f) }
 {
     match first {
         Some(said) => judge_calls(alloc, map, declaration, said, number, rest, terms),
@@ -145,7 +144,9 @@ fn judge_behind<M: SlotMap + Drop, A: Allocator + Clone + Drop>(
     }
 }
 
-/// Judges the replies of a text.
+/// Judges whether the replies of a text, one after another, may be by these terms, beside the plain page map that begins with nothing
+/// mapped. Of the first that may not, or of a copy, it tells what would be due, and the mappings around it; where calls overlapped before
+/// it, so that another order may explain the replies, it is undecided. The map has nothing mapped.
 pub fn judge_text<M: SlotMap + Drop, A: Allocator + Clone + Drop>(
     alloc: A,
     map: M,
@@ -173,63 +174,5 @@ pub fn judge_text<M: SlotMap + Drop, A: Allocator + Clone + Drop>(
             terms,
         ),
         Err(fault) => Err(fault),
-    }
-}
-
-// Judges a text, and writes the verdict.
-#[tactic(auto, using(crate::proofs::EndLemmas::judges_all, crate::proofs::EndLemmas::breaks_off, crate::proofs::EndLemmas::fails_so, trace_io::proofs::IoLemmas::keeps_same))]
-fn judge_out<M: SlotMap + Drop, A: Allocator + Clone + Drop, W: Sink>(
-    alloc: A,
-    map: M,
-    text: &[u8],
-    writer: &mut W,
-    terms: Terms,
-) -> Result<Verdict, AuditFault>
-    requires new { IsNew (M.slots map) }
-    ensures ends { AuditEnds terms text.now (W.contents writer.old) (W.contents writer.new) result }
-    ensures out { OnOk result (W.is_flushed writer.new ≡ true) }
-    ensures read { result ≡ Err (AuditFault.Io IoFault.ReadFailed) → ⊥ }
-    ensures write { result ≡ Err (AuditFault.Io IoFault.WriteFailed) → W.failed writer.new ≡ true }
-    ensures kept { (result ≡ Err (AuditFault.Io IoFault.WriteFailed)) ⊎ (W.failed writer.new ≡ W.failed writer.old) }
-{
-    let Ok(for_judging) = alloc.clone() else {
-        return Err(AuditFault::Io(IoFault::NoMemory));
-    };
-    let judged = match judge_text(for_judging, map, text, terms) {
-        Ok(judged) => judged,
-        Err(fault) => return Err(fault),
-    };
-    let Ok(told) = verdict_text(alloc, &judged.verdict, judged.around.as_slice()) else {
-        return Err(AuditFault::Io(IoFault::NoMemory));
-    };
-    match write_out(writer, told.as_slice()) {
-        Ok(()) => Ok(judged.verdict),
-        Err(_) => Err(AuditFault::Io(IoFault::WriteFailed)),
-    }
-}
-
-/// Reads a text to its end, and writes whether its replies, one after another, may be by these terms, beside the plain page map that
-/// begins with nothing mapped: `legal CALLS`, or the first that isn't, what would be due, and the mappings around it. A copy that
-/// may not be is told as such a one. Where calls overlapped before it, so that another order may explain the replies, it is
-/// undecided. The map has nothing mapped.
-pub fn audit_text<M: SlotMap + Drop, A: Allocator + Clone + Drop, S: Source, W: Sink>(
-    alloc: A,
-    map: M,
-    reader: &mut S,
-    writer: &mut W,
-    terms: Terms,
-) -> Result<Verdict, AuditFault>
-    requires new { IsNew (M.slots map) }
-    ensures ends { Reads (S.stream reader.old) (S.stream reader.new) (λ input unread.
-        AuditEnds terms input (W.contents writer.old) (W.contents writer.new) result) }
-    ensures told { TellsAudit result (read_from S.Source reader.old reader.new)
-        (written_to W.Sink writer.old writer.new) }
-{
-    let Ok(for_text) = alloc.clone() else {
-        return Err(AuditFault::Io(IoFault::NoMemory));
-    };
-    match read_all(for_text, reader) {
-        Ok(text) => judge_out(alloc, map, text.as_slice(), writer, terms),
-        Err(fault) => Err(AuditFault::Io(fault)),
     }
 }

@@ -1,5 +1,5 @@
 //! A text is read whole, all its replies are judged, and each wrong one is reported.
-ghost use Rattle.std.specs.Prelude.{◌≡◌, ◌⊎◌, ◌+◌, ◌<◌, ◌≤◌, ◌^◌, ◌++◌, [], Err, IfErr, IfOk, OnOk, List, ℕ, Some, length, true};
+ghost use Rattle.std.specs.Prelude.{◌≡◌, ◌⊎◌, ◌+◌, ◌<◌, ◌≤◌, ◌^◌, ◌++◌, [], Err, IfErr, IfOk, IfSome, OnOk, List, ℕ, Some, length, true};
 ghost use Rattle.std.specs.List.{flat_map};
 ghost use Rattle.trace_io.specs.Lines.{lines_of};
 ghost use Rattle.trace_io.specs.Io.{read_from, written_to};
@@ -49,18 +49,17 @@ fn review_calls<M: SlotMap + Drop, A: Allocator + Clone + Drop>(
 ) -> Result<Review<A>, AuditFault>
     requires new { IsNew (M.slots map) }
     requires few { length declaration.files.items ≤ 16 }
+    requires from_1 { 1 ≤ number }
     requires room { number + length rest.now < 2 ^ 64 }
-    ensures ok { IfOk result (λ r. (lines : List (List ℕ)) → EndsFront lines (declared_of declaration) (Some first) number (lines_of rest.now)
+    ensures ok { IfOk result (λ r. (lines : List (List ℕ))
+        → EndsFront lines (declared_of declaration) (Some first) number (lines_of rest.now)
         → IsReviewed terms lines r.found.items r.calls r.lacking) }
-    ensures err { IfErr result (λ f. (lines : List (List ℕ)) → EndsFront lines (declared_of declaration) (Some first) number (lines_of rest.now)
+    ensures err { IfErr result (λ f. (lines : List (List ℕ))
+        → EndsFront lines (declared_of declaration) (Some first) number (lines_of rest.now)
         → IsTextAtFault lines f) }
 {
     if !declaration.has_space {
         return Err(AuditFault::NoVmLine);
-    }
-    // (this never comes, since lines are numbered from 1)
-    if number == 0 {
-        return Err(AuditFault::Io(IoFault::NoMemory));
     }
     let Ok(for_found) = alloc.clone() else {
         return Err(AuditFault::Io(IoFault::NoMemory));
@@ -79,9 +78,11 @@ fn review_calls<M: SlotMap + Drop, A: Allocator + Clone + Drop>(
 
 // Judges a text without calls.
 fn review_none<A: Allocator>(alloc: A, declaration: Declaration<A>) -> Result<Review<A>, AuditFault>
-    ensures ok { IfOk result (λ r. (terms : Terms) (lines : List (List ℕ)) (number : ℕ) → IsPlace lines number [] (Front (declared_of declaration))
+    ensures ok { IfOk result (λ r. (terms : Terms) (lines : List (List ℕ)) (number : ℕ)
+        → IsPlace lines number [] (Front (declared_of declaration))
         → IsReviewed terms lines r.found.items r.calls r.lacking) }
-    ensures err { IfErr result (λ f. (lines : List (List ℕ)) (number : ℕ) → IsPlace lines number [] (Front (declared_of declaration))
+    ensures err { IfErr result (λ f. (lines : List (List ℕ)) (number : ℕ)
+        → IsPlace lines number [] (Front (declared_of declaration))
         → IsTextAtFault lines f) }
 {
     if !declaration.has_space {
@@ -106,10 +107,13 @@ fn review_behind<M: SlotMap + Drop, A: Allocator + Clone + Drop>(
 ) -> Result<Review<A>, AuditFault>
     requires new { IsNew (M.slots map) }
     requires few { length declaration.files.items ≤ 16 }
+    requires from_1 { IfSome first (λ said. 1 ≤ number) }
     requires room { number + length rest.now < 2 ^ 64 }
-    ensures ok { IfOk result (λ r. (lines : List (List ℕ)) → EndsFront lines (declared_of declaration) first number (lines_of rest.now)
+    ensures ok { IfOk result (λ r. (lines : List (List ℕ))
+        → EndsFront lines (declared_of declaration) first number (lines_of rest.now)
         → IsReviewed terms lines r.found.items r.calls r.lacking) }
-    ensures err { IfErr result (λ f. (lines : List (List ℕ)) → EndsFront lines (declared_of declaration) first number (lines_of rest.now)
+    ensures err { IfErr result (λ f. (lines : List (List ℕ))
+        → EndsFront lines (declared_of declaration) first number (lines_of rest.now)
         → IsTextAtFault lines f) }
 {
     match first {

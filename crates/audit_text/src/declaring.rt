@@ -1,5 +1,5 @@
 //! What the lines in front of the calls declare.
-ghost use Rattle.std.specs.Prelude.{◌≡◌, ◌+◌, ◌≤◌, IfErr, IfOk, OnOk, length};
+ghost use Rattle.std.specs.Prelude.{◌≡◌, ◌+◌, ◌≤◌, IfErr, IfOk, IfSome, OnOk, length};
 ghost use Rattle.trace_io.specs.Lines.{lines_of};
 ghost use Rattle.audit_text.specs.Ends.{IsAtFault};
 ghost use Rattle.audit_text.specs.Heard.{undeclared};
@@ -48,7 +48,7 @@ pub struct Behind<'a> {
 }
 
 impl<A: Allocator + Clone> Declaration<A> {
-    ghost use Rattle.std.specs.Prelude.{◌≡◌, ◌≤◌, IfOk, OnOk, None, Some, false, length};
+    ghost use Rattle.std.specs.Prelude.{◌≡◌, ◌≤◌, IfOk, OnErr, OnOk, None, Some, false, length, true};
     ghost use Rattle.vm_base.specs.Plain.{file_with};
     ghost use Rattle.trace_text.specs.Line.{seeded};
     ghost use Rattle.audit_text.specs.Heard.{undeclared, with_file, with_space};
@@ -71,6 +71,7 @@ impl<A: Allocator + Clone> Declaration<A> {
         ensures part { result ≡ Is.Part → with_space (declared_of self.old) cores ≡ Some (declared_of self.new) }
         ensures bad { result ≡ Is.Bad → with_space (declared_of self.old) cores ≡ None }
         ensures ended { result ≡ Is.Ended → ⊥ }
+        ensures refused { result ≡ Is.Bad → declared_of self.new ≡ declared_of self.old }
         ensures same { self.new.files ≡ self.old.files }
     {
         if self.has_space || cores == 0 || cores > 64 {
@@ -94,6 +95,9 @@ impl<A: Allocator + Clone> Declaration<A> {
             → with_file (declared_of self.old) number (file_with mode (seeded len seed)) len ≡ Some (declared_of self.new)) }
         ensures bad { IfOk result (λ r. r ≡ Is.Bad
             → with_file (declared_of self.old) number (file_with mode (seeded len seed)) len ≡ None) }
+        ensures space { IfOk result (λ r. r ≡ Is.Bad → self.old.has_space ≡ true) }
+        ensures refused { IfOk result (λ r. r ≡ Is.Bad → declared_of self.new ≡ declared_of self.old) }
+        ensures err { OnErr result (declared_of self.new ≡ declared_of self.old) }
         ensures ended { IfOk result (λ r. r ≡ Is.Ended
             → (self.old.has_space ≡ false) × (declared_of self.new ≡ declared_of self.old)) }
         ensures few { OnOk result (length self.new.files.items ≤ 16) }
@@ -138,8 +142,10 @@ pub(crate) fn declare<'a, A: Allocator + Clone>(
 ) -> Result<Behind<'a>, AuditFault>
     requires fresh { declared_of declaration.old ≡ undeclared }
     requires few { length declaration.old.files.items ≤ 16 }
-    ensures ok { IfOk result (λ b. EndsFront (lines_of text.now) (declared_of declaration.new) b.said b.number (lines_of b.rest.now)) }
+    ensures ok { IfOk result (λ b.
+        EndsFront (lines_of text.now) (declared_of declaration.new) b.said b.number (lines_of b.rest.now)) }
     ensures room { IfOk result (λ b. b.number + length b.rest.now ≤ length text.now) }
+    ensures from_1 { IfOk result (λ b. IfSome b.said (λ said. 1 ≤ b.number)) }
     ensures few { OnOk result (length declaration.new.files.items ≤ 16) }
     ensures err { IfErr result (λ f. (terms : Terms) → IsAtFault terms (lines_of text.now) f) }
 {

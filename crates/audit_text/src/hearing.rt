@@ -21,8 +21,8 @@ pub enum Turn {
     Legal,
     /// It may not stand here.
     Bad,
-    /// Its call may not have this reply, or it tells a copy that may not be. The first plain page map would give this, and whether no
-    /// other order of the calls, and no other map, can be after the lines so far.
+    /// Its call may not have this reply, or it tells a copy that may not be. The first plain page map would give this, and
+    /// whether no other order of the calls, and no other map, can be after the lines so far.
     Illegal(Item, Option<Reply>, bool),
 }
 
@@ -111,8 +111,8 @@ impl<M: SlotMap + Drop, A: Allocator + Drop> Hearing<M, A> {
     ghost use Rattle.audit_text.specs.Steps.{Hears, IsCounted, JudgesCall, MayWant, Passes, count_of, heard_of, terms_of};
     ghost use Rattle.audit_text.specs.declared.reading.Said.TheVariants as Of;
 
-    // Tells whether no other order of the calls, and no other map, can explain the replies so far and the next one's, as which at most so
-    // many calls wait.
+    // Tells whether no other order of the calls, and no other map, can explain the replies so far and the next one's, as which
+    // at most so many calls wait.
     fn is_certain(&self, most: u64) -> bool
         ensures { result ≡ (self.now.is_sure && nat_le self.now.pending most) }
     {
@@ -172,15 +172,16 @@ impl<M: SlotMap + Drop, A: Allocator + Drop> Hearing<M, A> {
     fn judge(&mut self, certain: bool, call: Call) -> Result<Turn, NoMemory>
         requires counted { IsCounted self.old }
         requires room { count_of self.old + 1 < 2 ^ 64 }
-        ensures judged { IfOk result (λ turn. JudgesCall (terms_of self.old) (heard_of self.old) (plain_of self.old.auditor) certain call
-            turn (heard_of self.new) (plain_of self.new.auditor)) }
-        ensures legal { OnErr result (IsGiven (rule_of self.old.auditor.any_place) (plain_of self.old.auditor) call.core call.request
-            call.reply) }
+        ensures judged { IfOk result (λ turn.
+            JudgesCall (terms_of self.old) (heard_of self.old) (plain_of self.old.auditor) certain call turn
+            (heard_of self.new) (plain_of self.new.auditor)) }
+        ensures legal { OnErr result (IsGiven (rule_of self.old.auditor.any_place) (plain_of self.old.auditor)
+            call.core call.request call.reply) }
         ensures terms { terms_of self.new ≡ terms_of self.old }
         ensures counted { OnOk result (IsCounted self.new) }
         ensures few { OnOk result (count_of self.new ≤ count_of self.old + 1) }
-        ensures still { (item : Item) (due : Option Reply) (certain : Bool) → result ≡ Ok (Turn.Illegal item due certain)
-            → count_of self.new ≤ count_of self.old }
+        ensures still { (item : Item) (due : Option Reply) (certain : Bool)
+            → result ≡ Ok (Turn.Illegal item due certain) → count_of self.new ≤ count_of self.old }
     {
         match self.auditor.judge(call.core, call.request, call.reply)? {
             Verdict::Legal => {
@@ -211,14 +212,16 @@ impl<M: SlotMap + Drop, A: Allocator + Drop> Hearing<M, A> {
     fn answer(&mut self, call: Call) -> Result<Turn, NoMemory>
         requires counted { IsCounted self.old }
         requires room { count_of self.old + 1 < 2 ^ 64 }
-        ensures hears { IfOk result (λ turn. Hears (terms_of self.old) (heard_of self.old) (plain_of self.old.auditor) (Of.Answered call)
-            turn (heard_of self.new) (plain_of self.new.auditor)) }
-        ensures want { OnErr result (MayWant (terms_of self.old) (heard_of self.old) (plain_of self.old.auditor) (Of.Answered call)) }
+        ensures hears { IfOk result (λ turn.
+            Hears (terms_of self.old) (heard_of self.old) (plain_of self.old.auditor) (Of.Answered call) turn
+            (heard_of self.new) (plain_of self.new.auditor)) }
+        ensures want { OnErr result (
+            MayWant (terms_of self.old) (heard_of self.old) (plain_of self.old.auditor) (Of.Answered call)) }
         ensures terms { terms_of self.new ≡ terms_of self.old }
         ensures counted { OnOk result (IsCounted self.new) }
         ensures few { OnOk result (count_of self.new ≤ count_of self.old + 1) }
-        ensures still { (item : Item) (due : Option Reply) (certain : Bool) → result ≡ Ok (Turn.Illegal item due certain)
-            → count_of self.new ≤ count_of self.old }
+        ensures still { (item : Item) (due : Option Reply) (certain : Bool)
+            → result ≡ Ok (Turn.Illegal item due certain) → count_of self.new ≤ count_of self.old }
     {
         if self.waits(call.core).is_some() {
             return Ok(Turn::Bad);
@@ -232,8 +235,8 @@ impl<M: SlotMap + Drop, A: Allocator + Drop> Hearing<M, A> {
     fn wait(&mut self, core: CoreId, request: Request) -> Turn
         requires counted { IsCounted self.old }
         requires room { count_of self.old + 1 < 2 ^ 64 }
-        ensures hears { Hears (terms_of self.old) (heard_of self.old) (plain_of self.old.auditor) (Of.Waits core request)
-            result (heard_of self.new) (plain_of self.new.auditor) }
+        ensures hears { Hears (terms_of self.old) (heard_of self.old) (plain_of self.old.auditor) (Of.Waits core request) result
+            (heard_of self.new) (plain_of self.new.auditor) }
         ensures terms { terms_of self.new ≡ terms_of self.old }
         ensures counted { IsCounted self.new }
         ensures few { count_of self.new ≤ count_of self.old + 1 }
@@ -251,14 +254,16 @@ impl<M: SlotMap + Drop, A: Allocator + Drop> Hearing<M, A> {
     fn end(&mut self, core: CoreId, reply: Reply) -> Result<Turn, NoMemory>
         requires counted { IsCounted self.old }
         requires room { count_of self.old + 1 < 2 ^ 64 }
-        ensures hears { IfOk result (λ turn. Hears (terms_of self.old) (heard_of self.old) (plain_of self.old.auditor) (Of.Ends core reply)
-            turn (heard_of self.new) (plain_of self.new.auditor)) }
-        ensures want { OnErr result (MayWant (terms_of self.old) (heard_of self.old) (plain_of self.old.auditor) (Of.Ends core reply)) }
+        ensures hears { IfOk result (λ turn.
+            Hears (terms_of self.old) (heard_of self.old) (plain_of self.old.auditor) (Of.Ends core reply) turn
+            (heard_of self.new) (plain_of self.new.auditor)) }
+        ensures want { OnErr result (
+            MayWant (terms_of self.old) (heard_of self.old) (plain_of self.old.auditor) (Of.Ends core reply)) }
         ensures terms { terms_of self.new ≡ terms_of self.old }
         ensures counted { OnOk result (IsCounted self.new) }
         ensures few { OnOk result (count_of self.new ≤ count_of self.old + 1) }
-        ensures still { (item : Item) (due : Option Reply) (certain : Bool) → result ≡ Ok (Turn.Illegal item due certain)
-            → count_of self.new ≤ count_of self.old }
+        ensures still { (item : Item) (due : Option Reply) (certain : Bool)
+            → result ≡ Ok (Turn.Illegal item due certain) → count_of self.new ≤ count_of self.old }
     {
         let Some(request) = self.waits(core) else {
             return Ok(Turn::Bad);
@@ -278,9 +283,11 @@ impl<M: SlotMap + Drop, A: Allocator + Drop> Hearing<M, A> {
     #[tactic(auto, using(crate::proofs::HeardLemmas::copied_hears, crate::proofs::HeardLemmas::uncopied_hears, crate::proofs::HeardLemmas::copy_wants))]
     fn copy(&mut self, page: u64) -> Result<Turn, NoMemory>
         requires counted { IsCounted self.old }
-        ensures hears { IfOk result (λ turn. Hears (terms_of self.old) (heard_of self.old) (plain_of self.old.auditor) (Of.Copies page)
-            turn (heard_of self.new) (plain_of self.new.auditor)) }
-        ensures want { OnErr result (MayWant (terms_of self.old) (heard_of self.old) (plain_of self.old.auditor) (Of.Copies page)) }
+        ensures hears { IfOk result (λ turn.
+            Hears (terms_of self.old) (heard_of self.old) (plain_of self.old.auditor) (Of.Copies page) turn
+            (heard_of self.new) (plain_of self.new.auditor)) }
+        ensures want { OnErr result (
+            MayWant (terms_of self.old) (heard_of self.old) (plain_of self.old.auditor) (Of.Copies page)) }
         ensures terms { terms_of self.new ≡ terms_of self.old }
         ensures counted { IsCounted self.new }
         ensures few { count_of self.new ≤ count_of self.old }
@@ -317,14 +324,16 @@ impl<M: SlotMap + Drop, A: Allocator + Drop> Hearing<M, A> {
     pub(crate) fn hear(&mut self, said: Said) -> Result<Turn, NoMemory>
         requires counted { IsCounted self.old }
         requires room { count_of self.old + 1 < 2 ^ 64 }
-        ensures hears { IfOk result (λ turn. Hears (terms_of self.old) (heard_of self.old) (plain_of self.old.auditor) said
-            turn (heard_of self.new) (plain_of self.new.auditor)) }
-        ensures want { OnErr result (MayWant (terms_of self.old) (heard_of self.old) (plain_of self.old.auditor) said) }
+        ensures hears { IfOk result (λ turn.
+            Hears (terms_of self.old) (heard_of self.old) (plain_of self.old.auditor) said turn
+            (heard_of self.new) (plain_of self.new.auditor)) }
+        ensures want { OnErr result (
+            MayWant (terms_of self.old) (heard_of self.old) (plain_of self.old.auditor) said) }
         ensures terms { terms_of self.new ≡ terms_of self.old }
         ensures counted { OnOk result (IsCounted self.new) }
         ensures few { OnOk result (count_of self.new ≤ count_of self.old + 1) }
-        ensures still { (item : Item) (due : Option Reply) (certain : Bool) → result ≡ Ok (Turn.Illegal item due certain)
-            → count_of self.new ≤ count_of self.old }
+        ensures still { (item : Item) (due : Option Reply) (certain : Bool)
+            → result ≡ Ok (Turn.Illegal item due certain) → count_of self.new ≤ count_of self.old }
     {
         match said {
             Said::Blank => Ok(Turn::Legal),

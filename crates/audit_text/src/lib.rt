@@ -20,7 +20,7 @@ mod reviewing;
 pub mod telling;
 
 pub use allowing::Terms;
-pub use auditing::audit_text;
+pub use auditing::{Judged, judge_text};
 pub use auditing_all::audit_all;
 pub use input::AuditFault;
 pub use item::Item;

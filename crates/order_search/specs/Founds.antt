@@ -6,6 +6,6 @@ use Rattle.order_search.specs.declared.search.Found.TheVariants.{Order, Stuck, F
 
 -- Items that have each call once, and copies only before their calls; or one of the calls.
 abbrev pub IsFound : {A : Type 0} → ℕ → Found A → Type 0
-IsFound count (Order items) = EachOnce count items.items
+IsFound count (Order items lost) = EachOnce count items.items
 IsFound count (Stuck call) = call < count
 IsFound count (Full call) = call < count

@@ -80,14 +80,12 @@ fn meta_print(meta: &Meta) -> u64 {
     }
 }
 
-// A number for runs.
+// A number for runs: a sum, so that the processor can mix several at a time.
 fn runs_print(runs: &[Run]) -> u64 {
     let mut print = 1u64;
     for run in runs {
-        print = mixed(
-            mixed(mixed(print, run.first), run.end),
-            meta_print(&run.meta),
-        );
+        let place = mixed(mixed(run.first, 0), run.end);
+        print = print.wrapping_add(mixed(place, meta_print(&run.meta)));
     }
     print
 }
@@ -96,7 +94,8 @@ fn runs_print(runs: &[Run]) -> u64 {
 fn cells_print(cells: &[Cell]) -> u64 {
     let mut print = 2u64;
     for cell in cells {
-        print = mixed(mixed(print, cell.key), u64::from(cell.byte));
+        let place = mixed(cell.key, 0);
+        print = print.wrapping_add(mixed(place, u64::from(cell.byte)));
     }
     print
 }

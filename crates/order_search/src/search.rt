@@ -1,5 +1,5 @@
 //! The search itself.
-ghost use Rattle.std.specs.Prelude.{IfOk, length};
+ghost use Rattle.std.specs.Prelude.{◌≤◌, IfOk, length};
 ghost use Rattle.order_search.specs.Founds.{IsFound};
 
 use crate::arena::{Arena, Spot, mixed};
@@ -18,8 +18,9 @@ pub const LIMIT: usize = 300_000;
 /// What a search comes to. That it is right isn't claimed.
 #[derive(Debug, Drop)]
 pub enum Found<A: Allocator> {
-    /// An order of the calls: each of them once, and copies before them.
-    Order(Vec<Item, A>),
+    /// An order of the calls: each of them once, and copies before them. The open calls of these cores, which stand last, don't have
+    /// their replies in it, but found no memory.
+    Order(Vec<Item, A>, CoreSet),
     /// No order of the calls so far gets to the end of this one.
     Stuck(usize),
     /// At the end of this one there were more configurations than the limit.
@@ -40,6 +41,7 @@ struct Search<'a, A: Allocator> {
     objects: &'a Objects<A>,
     any_place: bool,
     has_copies: bool,
+    answered: usize,
     arena: Arena<A>,
     trail: Trail<A>,
     seen: Seen<A>,
@@ -73,12 +75,13 @@ fn print_of(spot: &Spot, done: CoreSet) -> u64 {
 }
 
 impl<'a, A: Allocator + Clone + Drop> Search<'a, A> {
-    // Nothing has begun.
+    // Nothing has begun. So many calls end, and the others are open.
     fn new(
         alloc: &A,
         objects: &'a Objects<A>,
         any_place: bool,
         has_copies: bool,
+        answered: usize,
     ) -> Result<Search<'a, A>, NoMemory> {
         let arena = Arena::new(alloc)?;
         let mut configs = Vec::new(alloc.clone()?);
@@ -91,9 +94,10 @@ impl<'a, A: Allocator + Clone + Drop> Search<'a, A> {
             objects,
             any_place,
             has_copies,
+            answered,
             arena,
             trail: Trail::new(alloc)?,
-            seen: Seen::new(alloc.clone()?)?,
+            seen: Seen::new(alloc)?,
             under: Vec::new(alloc.clone()?),
             configs,
             work: Vec::new(alloc.clone()?),
@@ -124,7 +128,13 @@ impl<'a, A: Allocator + Clone + Drop> Search<'a, A> {
         let Some(timed) = history.get(call).copied() else {
             return Ok(());
         };
-        let under = Under::new(self.objects, item_number(call), &timed, self.has_copies);
+        let under = Under::new(
+            self.objects,
+            item_number(call),
+            &timed,
+            call >= self.answered,
+            self.has_copies,
+        );
         if !under.is_late() {
             for at in 0..self.configs.len() {
                 self.settle(at, &under)?;
@@ -168,7 +178,7 @@ impl<'a, A: Allocator + Clone + Drop> Search<'a, A> {
         core: CoreId,
     ) -> Result<bool, NoMemory> {
         let settled = self.settled(&spot, done);
-        if !self.seen.is_new(print_of(&spot, settled)) {
+        if !self.seen.is_new(print_of(&spot, settled))? {
             return Ok(false);
         }
         let mut trail = self.trail.add(from.trail, item)?;
@@ -252,7 +262,7 @@ impl<'a, A: Allocator + Clone + Drop> Search<'a, A> {
             let Some(config) = self.configs.get(at).copied() else {
                 break;
             };
-            if self.seen.is_new(print_of(&config.spot, config.done)) {
+            if self.seen.is_new(print_of(&config.spot, config.done))? {
                 self.take_in(config, core)?;
             }
         }
@@ -299,14 +309,15 @@ impl<'a, A: Allocator + Clone + Drop> Search<'a, A> {
         }
     }
 
-    // The call under way that ends first, if it ends before this time, or if none is given.
+    // The call under way that ends first, if it ends before this time, or if none is given. Open calls don't end.
     fn first_end(&self, time: Option<u64>) -> Option<Under> {
-        let mut first = 0usize;
+        let mut first = self.under.len();
         let mut end = u64::MAX;
         for at in 0..self.under.len() {
-            if self.under[at].end < end {
+            let under = self.under[at];
+            if !under.is_open && (first == self.under.len() || under.end < end) {
                 first = at;
-                end = self.under[at].end;
+                end = under.end;
             }
         }
         let found = self.under.get(first).copied()?;
@@ -352,12 +363,38 @@ impl<'a, A: Allocator + Clone + Drop> Search<'a, A> {
         Ok(Reach::Reached)
     }
 
-    // The order of the first configuration.
-    fn into_order(self, alloc: &A) -> Result<Vec<Item, A>, NoMemory> {
-        match self.configs.get(0).copied() {
-            Some(config) => self.trail.into_order(alloc, &config),
-            None => Ok(Vec::new(alloc.clone()?)),
+    // The items of the open calls that haven't taken effect in a configuration.
+    fn lost(&self, alloc: &A, config: &Config) -> Result<Vec<Item, A>, NoMemory> {
+        let mut items = Vec::new(alloc.clone()?);
+        for under in self.under.as_slice() {
+            if !config.done.contains(under.core) {
+                items.push(Item::Reply(under.number))?;
+            }
         }
+        Ok(items)
+    }
+
+    // Their cores.
+    fn lost_cores(&self, config: &Config) -> CoreSet {
+        let mut cores = CoreSet::empty();
+        for under in self.under.as_slice() {
+            if !config.done.contains(under.core) {
+                cores = cores.with(under.core);
+            }
+        }
+        cores
+    }
+
+    // The order of the first configuration, and the cores whose open calls haven't taken effect in it: these stand last.
+    fn into_order(self, alloc: &A) -> Result<(Vec<Item, A>, CoreSet), NoMemory> {
+        let Some(config) = self.configs.get(0).copied() else {
+            return Ok((Vec::new(alloc.clone()?), CoreSet::empty()));
+        };
+        let cores = self.lost_cores(&config);
+        let lost = self.lost(alloc, &config)?;
+        let mut order = self.trail.into_order(alloc, &config)?;
+        order.extend_from_slice(lost.as_slice())?;
+        Ok((order, cores))
     }
 }
 
@@ -375,16 +412,15 @@ fn begins<A: Allocator + Clone>(
 }
 
 // What the search comes to that went no further than a call of so many.
-fn stopped<A: Allocator>(count: usize, reach: Reach, call: usize) -> Result<Found<A>, NoMemory>
-    ensures { IfOk result (λ found. IsFound count found) }
+fn stopped<A: Allocator>(count: usize, reach: Reach, call: usize) -> Found<A>
+    requires { 1 ≤ count }
+    ensures { IsFound count result }
 {
-    if call >= count {
-        // (this never comes, since it is one of the calls)
-        return Err(NoMemory);
-    }
+    // (it is one of the calls)
+    let call = call.min(count - 1);
     match reach {
-        Reach::Full => Ok(Found::Full(call)),
-        Reach::Stuck | Reach::Reached => Ok(Found::Stuck(call)),
+        Reach::Full => Found::Full(call),
+        Reach::Stuck | Reach::Reached => Found::Stuck(call),
     }
 }
 
@@ -392,43 +428,62 @@ fn stopped<A: Allocator>(count: usize, reach: Reach, call: usize) -> Result<Foun
 fn found_by<A: Allocator + Clone + Drop>(
     alloc: &A,
     count: usize,
-    items: Vec<Item, A>,
+    found: (Vec<Item, A>, CoreSet),
 ) -> Result<Found<A>, NoMemory>
+    requires { 1 ≤ count }
     ensures { IfOk result (λ found. IsFound count found) }
 {
+    let (items, lost) = found;
     let mut marks = vec![in alloc.clone()?; false; count]?;
     if each_once(&mut marks, items.as_slice()) {
-        return Ok(Found::Order(items));
+        return Ok(Found::Order(items, lost));
     }
-    // (neither comes, since all calls have taken effect at their ends)
-    if count == 0 {
-        return Err(NoMemory);
-    }
+    // (this never comes, since all calls have taken effect at their ends)
     Ok(Found::Stuck(count - 1))
 }
 
-/// Searches an order of the calls of a space with these files, from the map on in which nothing is mapped. The items that it answers
-/// have each call once; whether they are an order is the caller's to judge. `Err` says that memory was wanting.
+// Searches an order of these calls, of which there are some.
+fn find_some<A: Allocator + Clone + Drop>(
+    alloc: &A,
+    objects: &Objects<A>,
+    any_place: bool,
+    history: &[Timed],
+    answered: usize,
+) -> Result<Found<A>, NoMemory>
+    requires { 1 ≤ length history.now }
+    ensures { IfOk result (λ found. IsFound (length history.now) found) }
+{
+    let begins = begins(alloc, history)?;
+    let mut search = Search::new(alloc, objects, any_place, has_copies(history), answered)?;
+    for at in 0..begins.len() {
+        let (begin, call) = begins[at];
+        // at one time begins come before ends
+        if let Some((reach, call)) = search.end_all(alloc, Some(begin))? {
+            return Ok(stopped(history.len(), reach, call));
+        }
+        search.begin(history, call)?;
+    }
+    if let Some((reach, call)) = search.end_all(alloc, None)? {
+        return Ok(stopped(history.len(), reach, call));
+    }
+    found_by(alloc, history.len(), search.into_order(alloc)?)
+}
+
+/// Searches an order of the calls of a space with these files, from the map on in which nothing is mapped. The first calls, so many, have
+/// their replies; of the others, which are open and of different cores, each may take effect with its reply, or find no memory. The items
+/// that it answers have each call once; whether they are an order is the caller's to judge. `Err` says that memory was wanting.
+#[tactic(auto, using(crate::proofs::NoCalls::none_found))]
 pub fn find_order<A: Allocator + Clone + Drop>(
     alloc: &A,
     objects: &Objects<A>,
     any_place: bool,
     history: &[Timed],
+    answered: usize,
 ) -> Result<Found<A>, NoMemory>
     ensures { IfOk result (λ found. IsFound (length history.now) found) }
 {
-    let begins = begins(alloc, history)?;
-    let mut search = Search::new(alloc, objects, any_place, has_copies(history))?;
-    for at in 0..begins.len() {
-        let (begin, call) = begins[at];
-        // at one time begins come before ends
-        if let Some((reach, call)) = search.end_all(alloc, Some(begin))? {
-            return stopped(history.len(), reach, call);
-        }
-        search.begin(history, call)?;
+    if history.is_empty() {
+        return Ok(Found::Order(Vec::new(alloc.clone()?), CoreSet::empty()));
     }
-    if let Some((reach, call)) = search.end_all(alloc, None)? {
-        return stopped(history.len(), reach, call);
-    }
-    found_by(alloc, history.len(), search.into_order(alloc)?)
+    find_some(alloc, objects, any_place, history, answered)
 }

@@ -6,6 +6,12 @@ use vm_base::NoMemory;
 /// How many places there are: more than half of them stay free.
 const PLACES: usize = 1 << 20;
 
+/// The places of a round are the first of them, so many more than this at first, and as many as there are at last: few of them stay in
+/// the processor's cache.
+const FEW: u64 = (1 << 10) - 1;
+
+const MOST: u64 = (1 << 20) - 1;
+
 // A place: the round in which it was taken, and by which print.
 #[derive(Clone, Copy, Debug, PartialEq, Eq)]
 struct Seat {
@@ -13,38 +19,44 @@ struct Seat {
     print: u64,
 }
 
-/// The prints of this round.
+/// The prints of this round. The mask is the number of the last place that it uses.
 #[derive(Drop)]
 pub(crate) struct Seen<A: Allocator> {
     seats: Vec<Seat, A>,
+    prints: Vec<u64, A>,
     round: u64,
+    mask: u64,
 }
 
-impl<A: Allocator> Seen<A> {
+impl<A: Allocator + Clone + Drop> Seen<A> {
     /// Nothing was seen.
-    pub fn new(alloc: A) -> Result<Seen<A>, NoMemory> {
+    pub fn new(alloc: &A) -> Result<Seen<A>, NoMemory> {
         let free = Seat { round: 0, print: 0 };
         Ok(Seen {
-            seats: vec![in alloc; free; PLACES]?,
+            seats: vec![in alloc.clone()?; free; PLACES]?,
+            prints: Vec::new(alloc.clone()?),
             round: 0,
+            mask: FEW,
         })
     }
 
     /// Begins a round, in which nothing was seen.
     pub fn begin(&mut self) {
         self.round = self.round.wrapping_add(1);
+        self.prints.clear();
+        self.mask = FEW;
     }
 
-    /// Takes a print in, and tells whether it is new in this round. It isn't where no place is free.
-    pub fn is_new(&mut self, print: u64) -> bool {
-        let mut at = (print % PLACES as u64) as usize;
+    // Takes a print in, and tells whether it is new in this round. It isn't where no place is free.
+    fn put(&mut self, print: u64) -> bool {
+        let mut at = print & self.mask;
         for _ in 0..PLACES {
-            let seat = match self.seats.get(at) {
+            let seat = match self.seats.get(at as usize) {
                 Some(seat) => *seat,
                 None => return false,
             };
             if seat.round != self.round {
-                if let Some(place) = self.seats.get_mut(at) {
+                if let Some(place) = self.seats.get_mut(at as usize) {
                     *place = Seat {
                         round: self.round,
                         print,
@@ -55,8 +67,31 @@ impl<A: Allocator> Seen<A> {
             if seat.print == print {
                 return false;
             }
-            at = (at + 1) % PLACES;
+            at = at.wrapping_add(1) & self.mask;
         }
         false
+    }
+
+    // Uses more places.
+    fn widen(&mut self) {
+        self.round = self.round.wrapping_add(1);
+        self.mask = (self.mask.wrapping_mul(16) | 15).min(MOST);
+        for at in 0..self.prints.len() {
+            if let Some(print) = self.prints.get(at).copied() {
+                let _ = self.put(print);
+            }
+        }
+    }
+
+    /// Takes a print in, and tells whether it is new in this round. It isn't where no place is free.
+    pub fn is_new(&mut self, print: u64) -> Result<bool, NoMemory> {
+        if !self.put(print) {
+            return Ok(false);
+        }
+        self.prints.push(print)?;
+        if self.prints.len() as u64 > self.mask / 2 && self.mask < MOST {
+            self.widen();
+        }
+        Ok(true)
     }
 }

@@ -18,14 +18,17 @@ pub(crate) struct Under {
     pub reply: Reply,
     /// The page that it stores to, if it is a store, and pages may get copies.
     pub stores_to: Option<u64>,
+    /// Whether it never ends: then it may take effect with its reply, or not.
+    pub is_open: bool,
 }
 
 impl Under {
-    /// A call of this number; pages may get copies, or not.
+    /// A call of this number, which ends or is open; pages may get copies, or not.
     pub fn new<A: Allocator>(
         objects: &Objects<A>,
         number: u32,
         timed: &Timed,
+        is_open: bool,
         has_copies: bool,
     ) -> Under {
         let call = timed.call;
@@ -40,6 +43,7 @@ impl Under {
             plan: check(objects, call.core, call.request),
             reply: call.reply,
             stores_to,
+            is_open,
         }
     }
 

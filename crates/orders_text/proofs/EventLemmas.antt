@@ -92,20 +92,34 @@ none_left true true o e = e
 none_left true false o e = refl
 none_left false b o e = refl
 
-refused : (n : ℕ) (r : Read) (said : Said) (f : HistoryFault) → Unfit n r said f → Refuses n r (Event said) f
-refused n r said (BadLine k) (is, none) =
-    (is, none_left r.declared.has_space (may_event r.clock) (event_after n r said) none)
-refused n r said (Io NoMemory) h = tt
-refused n r said f h = absurd h
+refused : (n : ℕ) (r : Read) (said : Said) (f : HistoryFault) → r.declared.has_space ≡ true → Unfit n r said f → Refuses n r (Event said) f
+refused n r said (BadLine k) space (is, none) = (
+  is,
+  record {
+    refused = none_left r.declared.has_space (may_event r.clock) (event_after n r said) none;
+    space = λ needs. space;
+    forward = λ h. h;
+  },
+)
+refused n r said (Io NoMemory) space h = tt
+refused n r said f space h = absurd h
 
-pub event_err : (res : Result Unit HistoryFault) (n : ℕ) (r : Read) (said : Said) → IfErr res (λ f. Unfit n r said f)
-    → IfErr res (λ f. Refuses n r (Event said) f)
-event_err (Ok u) n r said h = tt
-event_err (Err f) n r said h = refused n r said f h
+pub event_err : (res : Result Unit HistoryFault) (n : ℕ) (r : Read) (said : Said) → r.declared.has_space ≡ true
+    → IfErr res (λ f. Unfit n r said f) → IfErr res (λ f. Refuses n r (Event said) f)
+event_err (Ok u) n r said space h = tt
+event_err (Err f) n r said space h = refused n r said f space h
 
 -- a text with stamps has none
-pub event_late : (n : ℕ) (r : Read) (said : Said) → may_event r.clock ≡ false → Refuses n r (Event said) (BadLine n)
-event_late n r said late = (refl, go r.declared.has_space (may_event r.clock) late)
+pub event_late : (n : ℕ) (r : Read) (said : Said) → r.declared.has_space ≡ true → may_event r.clock ≡ false
+    → Refuses n r (Event said) (BadLine n)
+event_late n r said space late = (
+  refl,
+  record {
+    refused = go r.declared.has_space (may_event r.clock) late;
+    space = λ needs. space;
+    forward = λ h. h;
+  },
+)
   where
     go : (s b : Bool) → b ≡ false → cond (s && b) (event_after n r said) None ≡ None
     go true b e = ap (λ x. cond x (event_after n r said) None) e

@@ -3,3 +3,4 @@ pub mod LineLemmas
 pub mod ReadLemmas
 pub mod PlaceLemmas
 pub mod ApartLemmas
+pub mod OpenLemmas

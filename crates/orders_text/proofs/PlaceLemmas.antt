@@ -9,7 +9,7 @@ use Rattle.audit_text.specs.declared.reading.Said.{Said}
 use Rattle.audit_text.specs.declared.reading.Said.TheVariants as Says
 use Rattle.orders.specs.declared.history.Timed.{Timed}
 use Rattle.orders_text.specs.Apart.{AreApart, AreForward, DoOverlap}
-use Rattle.orders_text.specs.Faults.{IsAt, IsAtFault, IsPlace, LacksSpace}
+use Rattle.orders_text.specs.Faults.{IsAt, IsAtFault, IsOutOfPlace, IsPlace, LacksSpace}
 use Rattle.orders_text.specs.History.{IsHistory, Leads, Read, begun, between, by_lines, declared_after, ended, event_after, may_event, may_stamp}
 use Rattle.orders_text.specs.History.{part_after, read_after, unread, with_call, with_declared, with_waiting}
 use Rattle.orders_text.specs.Lines.{Tells, call_to}
@@ -62,10 +62,11 @@ is_at lines rest more n r line p e = record {
 
 pub fault_here : (lines rest more : List (List ℕ)) (n : ℕ) (r : Read) (line : List ℕ) (f : HistoryFault) → IsPlace lines n rest r → rest ≡ line ∷ more
     → SaysNothing line (n + 1) f → IsAtFault lines f
-fault_here lines rest more n r line (BadLine k) p e (is, says) = record {
+fault_here lines rest more n r line (BadLine k) p e (is, short, says) = record {
   read = r;
   line = line;
   at = subst (λ i. IsAt lines i line r) (sym is) (is_at lines rest more n r line p e);
+  short = short;
   misplaced = inl says;
 }
 fault_here lines rest more n r line (TooLong k) p e (is, long) = record {
@@ -77,34 +78,37 @@ fault_here lines rest more n r line (TooLong k) p e (is, long) = record {
 fault_here lines rest more n r line f p e says = absurd says
 
 pub refused_here : (lines rest more : List (List ℕ)) (n : ℕ) (r : Read) (line : List ℕ) (told : Told) (f : HistoryFault) → IsPlace lines n rest r
-    → rest ≡ line ∷ more → Tells told line → Refuses (n + 1) r told f → IsAtFault lines f
-refused_here lines rest more n r line told (BadLine k) p e tells (is, none) = record {
+    → rest ≡ line ∷ more → length line ≤ 512 → Tells told line → Refuses (n + 1) r told f → IsAtFault lines f
+refused_here lines rest more n r line told (BadLine k) p e short tells (is, out) = record {
   read = r;
   line = line;
   at = subst (λ i. IsAt lines i line r) (sym is) (is_at lines rest more n r line p e);
-  misplaced = inr (told, tells, subst (λ i. read_after i r told ≡ None) (sym is) none);
+  short = short;
+  misplaced = inr (told, tells, subst (λ i. IsOutOfPlace i r told) (sym is) out);
 }
-refused_here lines rest more n r line told NoVmLine p e tells (space, needs) = record {
+refused_here lines rest more n r line told NoVmLine p e short tells (space, needs) = record {
   read = r;
   count = n;
   more = line ∷ more;
   place = subst (λ l. IsPlace lines n l r) e p;
   no_space = space;
-  stuck = (told, tells, needs);
+  stuck = (told, short, tells, needs);
 }
-refused_here lines rest more n r line (TimedCall c) (Backwards k) p e tells (is, backwards) = record {
+refused_here lines rest more n r line (TimedCall c) (Backwards k) p e short tells (is, space, backwards) = record {
   read = r;
   line = line;
   at = subst (λ i. IsAt lines i line r) (sym is) (is_at lines rest more n r line p e);
+  space = space;
+  short = short;
   call = c;
   tells = tells;
   backwards = backwards;
 }
-refused_here lines rest more n r line told (Backwards k) p e tells h = absurd h.1
-refused_here lines rest more n r line told (TooLong k) p e tells h = absurd h
-refused_here lines rest more n r line told (Overlap k m) p e tells h = absurd h
-refused_here lines rest more n r line told (Io NoMemory) p e tells h = tt
-refused_here lines rest more n r line told (Io f) p e tells h = absurd h
+refused_here lines rest more n r line told (Backwards k) p e short tells h = absurd h.2
+refused_here lines rest more n r line told (TooLong k) p e short tells h = absurd h
+refused_here lines rest more n r line told (Overlap k m) p e short tells h = absurd h
+refused_here lines rest more n r line told (Io NoMemory) p e short tells h = tt
+refused_here lines rest more n r line told (Io f) p e short tells h = absurd h
 
 -- the text ends before a space is declared
 pub end_refused : (lines : List (List ℕ)) (r : Read) → Leads 1 unread lines r → r.declared.has_space ≡ false → LacksSpace lines

@@ -13,6 +13,7 @@ use Rattle.orders_text.specs.History.{Read, declared_after, may_stamp, part_afte
 use Rattle.orders_text.specs.declared.clock.Begun.{Begun}
 use Rattle.orders_text.specs.declared.clock.Clock.{Clock}
 use Rattle.orders_text.specs.declared.clock.Clock.TheVariants.{Unset, Stamps, Lines}
+use Rattle.orders_text.specs.Faults.{IsOutOfPlace}
 use Rattle.orders_text.specs.Lines.{needs_space}
 use Rattle.orders_text.specs.Steps.{ComesTo, Refuses}
 use Rattle.orders_text.specs.declared.faults.HistoryFault.{HistoryFault}
@@ -50,28 +51,37 @@ declared_ok n r e said (Ok u) Is.Bad b calls part comes = absurd comes
 declared_ok n r e said (Ok u) Is.Ended b calls part comes = absurd comes
 declared_ok n r e said (Err f) d b calls part comes = tt
 
-bad_line : (n : ℕ) (r : Read) (told : Told) (f : HistoryFault) → f ≡ BadLine n → read_after n r told ≡ None → Refuses n r told f
+bad_line : (n : ℕ) (r : Read) (told : Told) (f : HistoryFault) → f ≡ BadLine n → IsOutOfPlace n r told → Refuses n r told f
 bad_line n r told f e h = subst (λ x. Refuses n r told x) (sym e) (refl, h)
 
 pub declared_err : (n : ℕ) (r : Read) (said : Said) (res : Result Unit HistoryFault) (d : Declares) → said ≢ Says.Blank → r.clock ≡ Unset
-    → (d ≡ Is.Bad → part_after r.declared said ≡ None)
+    → (needs_space (Part said) ≡ true → r.declared.has_space ≡ true) → (d ≡ Is.Bad → part_after r.declared said ≡ None)
     → (d ≡ Is.Ended → (r.declared.has_space ≡ false) × (needs_space (Part said) ≡ true)) → ComesTo d n res
     → IfErr res (λ f. Refuses n r (Part said) f)
-declared_err n r said (Ok u) d b calls bad ended comes = tt
-declared_err n r said (Err f) Is.Part b calls bad ended comes = absurd comes
-declared_err n r said (Err f) Is.Bad b calls bad ended comes =
-    bad_line n r (Part said) f comes (declares_so n r said b calls ∙ ap (option_map (with_declared r)) (bad refl))
-declared_err n r said (Err f) Is.Ended b calls bad ended comes = subst (λ x. Refuses n r (Part said) x) (sym comes) (ended refl)
+declared_err n r said (Ok u) d b calls space bad ended comes = tt
+declared_err n r said (Err f) Is.Part b calls space bad ended comes = absurd comes
+declared_err n r said (Err f) Is.Bad b calls space bad ended comes = bad_line n r (Part said) f comes (record {
+  refused = declares_so n r said b calls ∙ ap (option_map (with_declared r)) (bad refl);
+  space = space;
+  forward = λ h. h;
+})
+declared_err n r said (Err f) Is.Ended b calls space bad ended comes = subst (λ x. Refuses n r (Part said) x) (sym comes) (ended refl)
 
 -- one that is no declaration's
-pub other_refused : (n : ℕ) (r : Read) (said : Said) → said ≢ Says.Blank → r.clock ≡ Unset → part_after r.declared said ≡ None
+pub other_refused : (n : ℕ) (r : Read) (said : Said) → said ≢ Says.Blank → r.clock ≡ Unset
+    → (needs_space (Part said) ≡ true → r.declared.has_space ≡ true) → part_after r.declared said ≡ None
     → Refuses n r (Part said) (BadLine n)
-other_refused n r said b calls none =
-    bad_line n r (Part said) (BadLine n) refl (declares_so n r said b calls ∙ ap (option_map (with_declared r)) none)
+other_refused n r said b calls space none = bad_line n r (Part said) (BadLine n) refl (record {
+  refused = declares_so n r said b calls ∙ ap (option_map (with_declared r)) none;
+  space = space;
+  forward = λ h. h;
+})
 
 -- behind calls or events
-pub late_refused : (n : ℕ) (r : Read) (said : Said) → said ≢ Says.Blank → r.clock ≢ Unset → Refuses n r (Part said) (BadLine n)
-late_refused n r said b some = bad_line n r (Part said) (BadLine n) refl (go said b)
+pub late_refused : (n : ℕ) (r : Read) (said : Said) → said ≢ Says.Blank → r.clock ≢ Unset
+    → (needs_space (Part said) ≡ true → r.declared.has_space ≡ true) → Refuses n r (Part said) (BadLine n)
+late_refused n r said b some space =
+    bad_line n r (Part said) (BadLine n) refl (record { refused = go said b; space = space; forward = λ h. h })
   where
     late : (s : Said) (k : Clock) → k ≡ r.clock → declared_after r k s ≡ None
     late s Unset e = absurd (some (sym e))
@@ -92,8 +102,13 @@ call_read n r q c space may forward e =
     ∙ ap (λ b. cond b (Some (with_call Stamps n r c)) None) less ∙ sym (ap Some e)
 
 -- a text of events has none
-pub call_late : (n : ℕ) (r : Read) (c : Timed) → may_stamp r.clock ≡ false → Refuses n r (TimedCall c) (BadLine n)
-call_late n r c late = bad_line n r (TimedCall c) (BadLine n) refl (go r.declared.has_space late)
+pub call_late : (n : ℕ) (r : Read) (c : Timed) → r.declared.has_space ≡ true → c.begin < c.end → may_stamp r.clock ≡ false
+    → Refuses n r (TimedCall c) (BadLine n)
+call_late n r c space less late = bad_line n r (TimedCall c) (BadLine n) refl (record {
+  refused = go r.declared.has_space late;
+  space = λ needs. space;
+  forward = λ h. omega (arith, h, less);
+})
   where
     go : (s : Bool) → may_stamp r.clock ≡ false
         → cond (s && may_stamp r.clock && nat_lt c.begin c.end) (Some (with_call Stamps n r c)) None ≡ None

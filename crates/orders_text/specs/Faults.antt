@@ -24,14 +24,26 @@ pub record IsAt (lines : List (List ℕ)) (number : ℕ) (line : List ℕ) (r : 
   pub number_is : number ≡ suc before
   pub place : IsPlace lines before (line ∷ more) r
 
--- the line says nothing, or what it says may not stand here
+-- it is a call that doesn't begin below its end
+abbrev pub IsBackward : Told → Type 0
+IsBackward (TimedCall c) = c.end ≤ c.begin
+IsBackward told = ⊥
+
+-- what the line with this number says may not stand here, and that isn't for want of a space, nor a call that begins too late
+pub record IsOutOfPlace (number : ℕ) (r : Read) (told : Told) : Type 0 where
+  pub refused : read_after number r told ≡ None
+  pub space : needs_space told ≡ true → r.declared.has_space ≡ true
+  pub forward : ¬ IsBackward told
+
+-- the line says nothing, or what it says is out of place
 abbrev pub IsMisplaced : ℕ → Read → List ℕ → Type 0
-IsMisplaced number r line = ((told : Told) → Tells told line → ⊥) ⊎ ((told : Told) × Tells told line × (read_after number r told ≡ None))
+IsMisplaced number r line = ((told : Told) → Tells told line → ⊥) ⊎ ((told : Told) × Tells told line × IsOutOfPlace number r told)
 
 pub record IsBad (lines : List (List ℕ)) (number : ℕ) : Type 0 where
   pub read : Read
   pub line : List ℕ
   pub at : IsAt lines number line read
+  pub short : length line ≤ 512
   pub misplaced : IsMisplaced number read line
 
 pub record IsOverlong (lines : List (List ℕ)) (number : ℕ) : Type 0 where
@@ -40,11 +52,13 @@ pub record IsOverlong (lines : List (List ℕ)) (number : ℕ) : Type 0 where
   pub at : IsAt lines number line read
   pub long : 512 < length line
 
--- it tells a call that doesn't begin below its end
+-- it tells a call that doesn't begin below its end, behind the line of a space
 pub record IsBackwards (lines : List (List ℕ)) (number : ℕ) : Type 0 where
   pub read : Read
   pub line : List ℕ
   pub at : IsAt lines number line read
+  pub space : read.declared.has_space ≡ true
+  pub short : length line ≤ 512
   pub call : Timed
   pub tells : Tells (TimedCall call) line
   pub backwards : call.end ≤ call.begin
@@ -52,7 +66,7 @@ pub record IsBackwards (lines : List (List ℕ)) (number : ℕ) : Type 0 where
 -- the text ends, or its next line would have to stand behind that of a space
 abbrev pub IsStuck : List (List ℕ) → Type 0
 IsStuck [] = ⊤
-IsStuck (line ∷ more) = (told : Told) × Tells told line × (needs_space told ≡ true)
+IsStuck (line ∷ more) = (told : Told) × (length line ≤ 512) × Tells told line × (needs_space told ≡ true)
 
 pub record LacksSpace (lines : List (List ℕ)) : Type 0 where
   pub read : Read

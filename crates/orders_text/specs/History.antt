@@ -2,6 +2,7 @@
 use Rattle.std.specs.Prelude.{◌≡◌, ◌≢◌, ℕ, suc, ◌+◌, ◌*◌, ◌≤◌, ◌⊎◌, ◌&&◌, nat_lt, Bool, true, false, List, [], ◌∷◌, ◌++◌, length, map, slice_get}
 use Rattle.std.specs.Prelude.{Option, None, Some, get_or, is_some, option_map, replicate, set, if◌then◌else◌}
 use Rattle.vm_base.specs.declared.replies.Reply.{Reply}
+use Rattle.vm_base.specs.declared.replies.Reply.TheVariants.{NoMemory}
 use Rattle.audit.specs.declared.auditor.Call.{Call}
 use Rattle.audit_text.specs.Heard.{Declared, undeclared, with_file, with_space}
 use Rattle.audit_text.specs.declared.reading.Said.{Said}
@@ -108,9 +109,32 @@ Leads number a [] b = b ≡ a
 Leads number a (l ∷ ls) b = (told : Told) × (m : Read) × (length l ≤ 512) × Tells told l × (read_after number a told ≡ Some m)
     × Leads (suc number) m ls b
 
--- The lines are those of a history: a space is declared, each call begins below its end, and those of one core don't overlap. A call
--- that still waits at the end isn't one of the history.
+-- The lines are those of a history: a space is declared, each call begins below its end, and those of one core don't overlap.
 pub record IsHistory (lines : List (List ℕ)) (r : Read) : Type 0 where
   pub leads : Leads 1 unread lines r
   pub space : r.declared.has_space ≡ true
   pub apart : AreApart r.calls
+
+-- ---- calls that wait at the end
+
+-- no text has a line behind this one
+abbrev pub last_line : ℕ
+last_line = 4611686018427387903
+
+-- A core's call that waits ends behind all lines. It may have any reply.
+abbrev pub left_open : ℕ → Option Begun → Reply → List Timed
+left_open core None reply = []
+left_open core (Some b) reply = between b.line last_line (call_to core b.request reply) ∷ []
+
+-- those of cores from this one on, with the reply of each core
+abbrev pub all_open : (ℕ → Reply) → ℕ → List (Option Begun) → List Timed
+all_open replies core [] = []
+all_open replies core (b ∷ bs) = left_open core b (replies core) ++ all_open replies (core + 1) bs
+
+-- the calls that have a reply, and those that wait at the end with these
+abbrev pub completed : (ℕ → Reply) → Read → List Timed
+completed replies r = r.calls ++ all_open replies 0 r.waiting
+
+-- a reply for each core; where the list has none, its call finds no memory, and changes nothing
+abbrev pub replies_in : List Reply → ℕ → Reply
+replies_in replies core = get_or replies core NoMemory

@@ -5,6 +5,7 @@ use Rattle.audit_text.specs.declared.declaring.Declares.{Declares}
 use Rattle.audit_text.specs.declared.declaring.Declares.TheVariants as Is
 use Rattle.audit_text.specs.Steps.{declared_of}
 use Rattle.trace_io.specs.declared.fault.IoFault.TheVariants.{NoMemory}
+use Rattle.orders_text.specs.Faults.{IsBackward, IsOutOfPlace}
 use Rattle.orders_text.specs.History.{Read, event_after, read_after}
 use Rattle.orders_text.specs.Lines.{Tells, needs_space}
 use Rattle.orders_text.specs.declared.faults.HistoryFault.{HistoryFault}
@@ -29,20 +30,15 @@ HasPlaces h = length h.waiting.items ≡ 64
 
 -- the line, which has this number, can't be read
 abbrev pub SaysNothing : List ℕ → ℕ → HistoryFault → Type 0
-SaysNothing line number (BadLine n) = (n ≡ number) × ((told : Told) → Tells told line → ⊥)
+SaysNothing line number (BadLine n) = (n ≡ number) × (length line ≤ 512) × ((told : Told) → Tells told line → ⊥)
 SaysNothing line number (TooLong n) = (n ≡ number) × (512 < length line)
 SaysNothing line number _ = ⊥
 
--- it is a call that doesn't begin below its end
-abbrev pub IsBackward : Told → Type 0
-IsBackward (TimedCall c) = c.end ≤ c.begin
-IsBackward told = ⊥
-
 -- what the line with this number says may not stand here
 abbrev pub Refuses : ℕ → Read → Told → HistoryFault → Type 0
-Refuses number r told (BadLine n) = (n ≡ number) × (read_after number r told ≡ None)
+Refuses number r told (BadLine n) = (n ≡ number) × IsOutOfPlace number r told
 Refuses number r told NoVmLine = (r.declared.has_space ≡ false) × (needs_space told ≡ true)
-Refuses number r told (Backwards n) = (n ≡ number) × IsBackward told
+Refuses number r told (Backwards n) = (n ≡ number) × (r.declared.has_space ≡ true) × IsBackward told
 Refuses number r told (Io NoMemory) = ⊤
 Refuses number r told _ = ⊥
 

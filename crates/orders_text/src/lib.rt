@@ -8,7 +8,9 @@ pub mod clock;
 pub mod faults;
 pub mod lines;
 pub mod reading;
+pub mod waiting;
 
 pub use clock::Clock;
 pub use faults::HistoryFault;
 pub use reading::{History, read_history};
+pub use waiting::completed;

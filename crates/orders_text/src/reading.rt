@@ -37,6 +37,7 @@ pub struct History<A: Allocator> {
 impl<A: Allocator + Clone> History<A> {
     ghost use Rattle.std.specs.Prelude.{◌≡◌, ◌≢◌, ◌≤◌, IfErr, IfOk, OnOk, Some, false, length, true};
     ghost use Rattle.orders_text.specs.History.{begun, by_lines, event_after, may_event, read_after, unread, with_call, with_waiting};
+    ghost use Rattle.orders_text.specs.Lines.{needs_space};
     ghost use Rattle.orders_text.specs.Steps.{HasPlaces, Refuses, Unfit, read_of};
     ghost use Rattle.orders_text.specs.declared.lines.Told.TheVariants.{Event, Part, Timed as TimedCall};
 
@@ -61,6 +62,7 @@ impl<A: Allocator + Clone> History<A> {
     fn declare(&mut self, alloc: &A, number: u64, said: &Said) -> Result<(), HistoryFault>
         requires front { self.old.clock ≡ Clock.Unset }
         requires some { said.now ≢ Said.Blank }
+        requires space { needs_space (Part said.now) ≡ true → self.old.declaration.has_space ≡ true }
         requires few { length self.old.declaration.files.items ≤ 16 }
         ensures ok { OnOk result (read_after number (read_of self.old) (Part said.now) ≡ Some (read_of self.new)) }
         ensures err { IfErr result (λ f. Refuses number (read_of self.old) (Part said.now) f) }
@@ -90,6 +92,19 @@ impl<A: Allocator + Clone> History<A> {
         }
     }
 
+    // Tells whether no space is declared behind which alone the line of a declaration may stand.
+    fn lacks_space(&self, said: &Said) -> bool
+        ensures yes { result ≡ true
+            → (self.now.declaration.has_space ≡ false) × (needs_space (Part said.now) ≡ true) }
+        ensures no { result ≡ false
+            → needs_space (Part said.now) ≡ true → self.now.declaration.has_space ≡ true }
+    {
+        match said {
+            Said::File { .. } => !self.declaration.has_space,
+            _ => false,
+        }
+    }
+
     // Takes in the line of a declaration, or one that says nothing, which has this number.
     #[tactic(auto, using(crate::proofs::ReadLemmas::late_refused))]
     fn add_part(&mut self, alloc: &A, number: u64, said: &Said) -> Result<(), HistoryFault>
@@ -101,6 +116,9 @@ impl<A: Allocator + Clone> History<A> {
     {
         if is_blank(said) {
             return Ok(());
+        }
+        if self.lacks_space(said) {
+            return Err(HistoryFault::NoVmLine);
         }
         if !self.clock.is_unset() {
             return Err(HistoryFault::BadLine(number));
@@ -166,7 +184,8 @@ impl<A: Allocator + Clone> History<A> {
     #[tactic(auto, using(crate::proofs::EventLemmas::answered_bad, crate::proofs::EventLemmas::answered_ok))]
     fn answer(&mut self, number: u64, call: Call) -> Result<(), HistoryFault>
         requires places { HasPlaces self.old }
-        ensures ok { OnOk result (event_after number (read_of self.old) (Said.Answered call) ≡ Some (read_of self.new)) }
+        ensures ok { OnOk result (
+            event_after number (read_of self.old) (Said.Answered call) ≡ Some (read_of self.new)) }
         ensures err { IfErr result (λ f. Unfit number (read_of self.old) (Said.Answered call) f) }
         ensures files { self.new.declaration ≡ self.old.declaration }
         ensures places { HasPlaces self.new }
@@ -188,7 +207,8 @@ impl<A: Allocator + Clone> History<A> {
     #[tactic(auto, using(crate::proofs::EventLemmas::waits_bad, crate::proofs::EventLemmas::waits_ok))]
     fn wait(&mut self, number: u64, core: CoreId, request: Request) -> Result<(), HistoryFault>
         requires places { HasPlaces self.old }
-        ensures ok { OnOk result (event_after number (read_of self.old) (Said.Waits core request) ≡ Some (read_of self.new)) }
+        ensures ok { OnOk result (
+            event_after number (read_of self.old) (Said.Waits core request) ≡ Some (read_of self.new)) }
         ensures err { IfErr result (λ f. Unfit number (read_of self.old) (Said.Waits core request) f) }
         ensures files { self.new.declaration ≡ self.old.declaration }
         ensures places { HasPlaces self.new }
@@ -210,7 +230,8 @@ impl<A: Allocator + Clone> History<A> {
     #[tactic(auto, using(crate::proofs::EventLemmas::ends_bad, crate::proofs::EventLemmas::ends_ok))]
     fn end(&mut self, number: u64, core: CoreId, reply: Reply) -> Result<(), HistoryFault>
         requires places { HasPlaces self.old }
-        ensures ok { OnOk result (event_after number (read_of self.old) (Said.Ends core reply) ≡ Some (read_of self.new)) }
+        ensures ok { OnOk result (
+            event_after number (read_of self.old) (Said.Ends core reply) ≡ Some (read_of self.new)) }
         ensures err { IfErr result (λ f. Unfit number (read_of self.old) (Said.Ends core reply) f) }
         ensures files { self.new.declaration ≡ self.old.declaration }
         ensures places { HasPlaces self.new }
@@ -361,6 +382,7 @@ fn read_lines<A: Allocator + Clone>(
     requires places { HasPlaces history.old }
     ensures ok { OnOk result (Leads 1 unread (lines_of text.now) (read_of history.new)) }
     ensures few { OnOk result (length history.new.declaration.files.items ≤ 16) }
+    ensures places { OnOk result (HasPlaces history.new) }
     ensures err { IfErr result (λ f. IsAtFault (lines_of text.now) f) }
 {
     // this says that lines are fewer than 2^64
@@ -403,6 +425,7 @@ pub fn read_history<A: Allocator + Clone + Drop>(
 ) -> Result<History<A>, HistoryFault>
     ensures ok { IfOk result (λ h. IsHistory (lines_of text.now) (read_of h)) }
     ensures few { IfOk result (λ h. length h.declaration.files.items ≤ 16) }
+    ensures places { IfOk result (λ h. HasPlaces h) }
     ensures err { IfErr result (λ f. IsAtFault (lines_of text.now) f) }
 {
     let Ok(mut history) = History::new(alloc, line_count(text)) else {

@@ -1,2 +1,4 @@
 pub mod EndLemmas
 pub mod RuleLemmas
+pub mod ReplyLemmas
+pub mod AuditLemmas

@@ -1,16 +1,26 @@
 //! Orders that a search finds.
 
+ghost use Rattle.orders_text.specs.Steps.{HasPlaces};
+
 use backing::{FileSpec, Objects};
 use order_search::{Found, find_order};
 use orders::Item;
-use orders_text::History;
+use orders_text::{History, completed};
 use std::alloc::Allocator;
-use vm_base::NoMemory;
+use vm_base::{CoreSet, NoMemory, Reply, Request};
 
-/// An order that may be one of a history, and the line that is told where it is none; or just that line.
+/// How many cores a space may have.
+const CORES: usize = 64;
+
+/// An order that may be one of a history, with the replies that each core's call may have that waits at its end, and the line that is told
+/// where it is none; or just that line.
 #[derive(Debug, Drop)]
 pub(crate) enum Order<A: Allocator> {
-    Of(Vec<Item, A>, u64),
+    Of {
+        items: Vec<Item, A>,
+        replies: Vec<Reply, A>,
+        line: u64,
+    },
     None(u64),
 }
 
@@ -42,17 +52,71 @@ pub(crate) fn line_of<A: Allocator>(history: &History<A>, call: usize) -> u64 {
     }
 }
 
-/// Searches an order of a history's calls.
+// The reply of a call that takes effect, as far as its request tells it.
+fn effect_of(request: Request) -> Reply {
+    match request {
+        Request::Mmap { addr, .. } => Reply::Mapped(addr),
+        Request::Munmap { .. } | Request::Mprotect { .. } | Request::Store { .. } => Reply::Done,
+        Request::Load { .. } | Request::Fetch { .. } => Reply::NoMemory,
+    }
+}
+
+/// No reply is known of any core's call that waits: it finds no memory.
+pub(crate) fn no_replies<A: Allocator>(alloc: A) -> Result<Vec<Reply, A>, NoMemory> {
+    let replies = vec![in alloc; Reply::NoMemory; CORES]?;
+    Ok(replies)
+}
+
+// The replies of the calls that wait, if they take effect.
+fn effects<A: Allocator + Clone + Drop>(
+    alloc: &A,
+    history: &History<A>,
+) -> Result<Vec<Reply, A>, NoMemory> {
+    let mut replies = no_replies(alloc.clone()?)?;
+    for core in 0..CORES {
+        if let Some(Some(begun)) = history.waiting.get(core).copied() {
+            if let Some(place) = replies.get_mut(core) {
+                *place = effect_of(begun.request);
+            }
+        }
+    }
+    Ok(replies)
+}
+
+// The calls of these cores found no memory.
+fn lose(replies: &mut [Reply], lost: CoreSet) {
+    let mut left = lost;
+    for _ in 0..64u8 {
+        let Some(core) = left.first() else {
+            return;
+        };
+        if let Some(place) = replies.get_mut(usize::from(core.index())) {
+            *place = Reply::NoMemory;
+        }
+        left = left.without(core);
+    }
+}
+
+/// Searches an order of a history's calls, and of those that wait at its end as far as they took effect.
 pub(crate) fn search<A: Allocator + Clone + Drop>(
     alloc: &A,
     history: &History<A>,
     any_place: bool,
-) -> Result<Order<A>, NoMemory> {
+) -> Result<Order<A>, NoMemory>
+    requires { HasPlaces history.now }
+{
     let objects = objects_of(alloc, history)?;
-    match find_order(alloc, &objects, any_place, history.calls.as_slice())? {
-        Found::Order(items) => {
-            let last = history.calls.len().saturating_sub(1);
-            Ok(Order::Of(items, line_of(history, last)))
+    let mut replies = effects(alloc, history)?;
+    let calls = completed(alloc, history, replies.as_slice())?;
+    let answered = history.calls.len();
+    match find_order(alloc, &objects, any_place, calls.as_slice(), answered)? {
+        Found::Order(items, lost) => {
+            lose(&mut replies, lost);
+            Ok(Order::Of {
+                items,
+                replies,
+                line: line_of(history, answered.saturating_sub(1)),
+            })
         }
         Found::Stuck(call) | Found::Full(call) => Ok(Order::None(line_of(history, call))),
     }

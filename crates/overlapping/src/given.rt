@@ -1,18 +1,19 @@
 //! An order that a text has: lines `cC! REQ = REPLY`, and `cC copy ADDR` for copies, as `audit` judges them. Those of one core are its
-//! calls in the order of their begins.
+//! calls in the order of their begins. A call that waits at the history's end has a line only where it took effect, with its reply there.
+ghost use Rattle.orders_text.specs.Steps.{HasPlaces};
 
-use crate::found::{Order, line_of};
+use crate::found::{Order, line_of, no_replies};
 use audit::Call;
 use audit_text::reading::read_declared;
 use audit_text::replies::read_reply;
 use orders::{Item, Timed};
-use orders_text::History;
+use orders_text::{History, completed};
 use std::alloc::Allocator;
 use trace_text::number::read_number;
 use trace_text::sign::halves;
 use trace_text::words::next_word;
 use trace_text::{Line, read_words};
-use vm_base::{CoreId, NoMemory};
+use vm_base::{CoreId, NoMemory, Reply};
 
 /// How many cores a space may have.
 const CORES: usize = 64;
@@ -62,8 +63,14 @@ impl<A: Allocator + Clone + Drop> Queues<A> {
         }
     }
 
-    // The item that a line tells, if it is one of the next calls.
-    fn item(&mut self, history: &[Timed], line: &[u8]) -> Option<Item> {
+    // The item that a line tells, if it is one of the next calls. So many were answered; the others wait, and their replies are noted.
+    fn item(
+        &mut self,
+        history: &[Timed],
+        answered: usize,
+        replies: &mut [Reply],
+        line: &[u8],
+    ) -> Option<Item> {
         if let Some(core) = read_copy(line) {
             let call = self.first(core)?;
             return Some(Item::Copy(item_number(call)));
@@ -71,11 +78,32 @@ impl<A: Allocator + Clone + Drop> Queues<A> {
         let call = read_call(line)?;
         let first = self.first(call.core)?;
         let timed = history.get(first).copied()?;
-        if timed.call != call {
+        if (first < answered && timed.call != call) || timed.call.request != call.request {
             return None;
+        }
+        if first >= answered {
+            if let Some(place) = replies.get_mut(usize::from(call.core.index())) {
+                *place = call.reply;
+            }
         }
         self.take(call.core);
         Some(Item::Reply(item_number(first)))
+    }
+
+    // Adds the calls that are left of those that wait.
+    fn finish<B: Allocator>(
+        &self,
+        answered: usize,
+        items: &mut Vec<Item, B>,
+    ) -> Result<(), NoMemory> {
+        for core in 0..64u8 {
+            if let Some(call) = self.first(CoreId::new(core)) {
+                if call >= answered {
+                    items.push(Item::Reply(item_number(call)))?;
+                }
+            }
+        }
+        Ok(())
     }
 }
 
@@ -134,8 +162,13 @@ pub(crate) fn given_order<A: Allocator + Clone + Drop>(
     alloc: &A,
     history: &History<A>,
     text: &[u8],
-) -> Result<Order<A>, NoMemory> {
-    let calls = history.calls.as_slice();
+) -> Result<Order<A>, NoMemory>
+    requires { HasPlaces history.now }
+{
+    let answered = history.calls.len();
+    let mut replies = no_replies(alloc.clone()?)?;
+    let all = completed(alloc, history, replies.as_slice())?;
+    let calls = all.as_slice();
     let mut queues = Queues::new(alloc, calls)?;
     let mut items = Vec::new(alloc.clone()?);
     let mut last = 0usize;
@@ -143,11 +176,19 @@ pub(crate) fn given_order<A: Allocator + Clone + Drop>(
         if is_front(line) {
             continue;
         }
-        let Some(item) = queues.item(calls, line) else {
+        let Some(item) = queues.item(calls, answered, &mut replies, line) else {
             return Ok(Order::None(line_of(history, last)));
         };
-        last = item.call() as usize;
+        let call = item.call() as usize;
+        if call < answered {
+            last = call;
+        }
         items.push(item)?;
     }
-    Ok(Order::Of(items, line_of(history, last)))
+    queues.finish(answered, &mut items)?;
+    Ok(Order::Of {
+        items,
+        replies,
+        line: line_of(history, last),
+    })
 }

@@ -6,8 +6,8 @@ ghost use Rattle.audit.specs.Placing.{rule_of};
 ghost use Rattle.audit_text.specs.Legal.{first_map};
 ghost use Rattle.orders.specs.Orders.{HasOrder};
 ghost use Rattle.orders_text.specs.Faults.{IsAtFault};
-ghost use Rattle.orders_text.specs.History.{IsHistory};
-ghost use Rattle.orders_text.specs.Steps.{read_of};
+ghost use Rattle.orders_text.specs.History.{IsHistory, completed, replies_in};
+ghost use Rattle.orders_text.specs.Steps.{HasPlaces, read_of};
 ghost use Rattle.overlapping.specs.Rulings.{IsRuling};
 
 use crate::found::{Order, search};
@@ -15,16 +15,16 @@ use crate::given::given_order;
 use crate::order_text::order_text;
 use audit::Auditor;
 use orders::{Item, follow};
-use orders_text::{History, HistoryFault, read_history};
+use orders_text::{History, HistoryFault, completed, read_history};
 use slot_lock::SlotMap;
 use std::alloc::Allocator;
 use trace_io::IoFault;
-use vm_base::NoMemory;
+use vm_base::{NoMemory, Reply};
 
 /// What is told of a history.
 #[derive(Clone, Copy, Debug, PartialEq, Eq)]
 pub enum Ruling {
-    /// Its calls, which are this many, have an order.
+    /// The calls that were answered, which are this many, have an order, with those that wait at the end as far as they took effect.
     Legal(u64),
     /// No order of its calls was found by the end of the call of this line. It may have one.
     Undecided(u64),
@@ -46,20 +46,23 @@ pub struct Ruled<A: Allocator> {
     pub order: Vec<u8, A>,
 }
 
-// Tells whether the items are an order of the history's calls.
+/// Tells whether the items are an order of the history's calls, and of those that wait at its end with these replies.
 #[tactic(auto, using(crate::proofs::RuleLemmas::order_there))]
-fn is_order<M: SlotMap + Drop, A: Allocator + Clone + Drop>(
+pub(crate) fn is_order<M: SlotMap + Drop, A: Allocator + Clone + Drop>(
     alloc: &A,
     map: M,
     history: History<A>,
     any_place: bool,
     items: &[Item],
+    replies: &[Reply],
 ) -> Result<bool, NoMemory>
     requires new { IsNew (M.slots map) }
     requires few { length history.declaration.files.items ≤ 16 }
-    ensures { result ≡ Ok true → HasOrder (rule_of any_place) (first_map (read_of history).declared) (read_of history).calls }
+    requires places { HasPlaces history }
+    ensures { result ≡ Ok true → HasOrder (rule_of any_place) (first_map (read_of history).declared)
+        (completed (replies_in replies.now) (read_of history)) }
 {
-    let calls = history.calls;
+    let calls = completed(alloc, &history, replies)?;
     let files = history.declaration.files;
     let mut auditor = Auditor::new(alloc.clone()?, map, files, any_place)?;
     follow(alloc.clone()?, &mut auditor, calls.as_slice(), items)
@@ -76,12 +79,18 @@ fn rule_by<M: SlotMap + Drop, A: Allocator + Clone + Drop>(
 ) -> Result<Ruling, NoMemory>
     requires new { IsNew (M.slots map) }
     requires few { length history.declaration.files.items ≤ 16 }
+    requires places { HasPlaces history }
     ensures { IfOk result (λ ruling. (lines : List (List ℕ)) → IsHistory lines (read_of history) → IsRuling any_place lines ruling) }
 {
     let count = history.calls.len() as u64;
     match order {
-        Order::Of(items, line) => {
-            if is_order(alloc, map, history, any_place, items.as_slice())? {
+        Order::Of {
+            items,
+            replies,
+            line,
+        } => {
+            let replies = replies.as_slice();
+            if is_order(alloc, map, history, any_place, items.as_slice(), replies)? {
                 Ok(Ruling::Legal(count))
             } else {
                 Ok(Ruling::Undecided(*line))
@@ -99,9 +108,11 @@ fn rule<M: SlotMap + Drop, A: Allocator + Clone + Drop>(
     history: History<A>,
     any_place: bool,
     by: By<'_>,
+    is_wanted: bool,
 ) -> Result<Ruled<A>, NoMemory>
     requires new { IsNew (M.slots map) }
     requires few { length history.declaration.files.items ≤ 16 }
+    requires places { HasPlaces history }
     ensures { IfOk result (λ ruled. (lines : List (List ℕ)) → IsHistory lines (read_of history) → IsRuling any_place lines ruled.ruling) }
 {
     let order = match by {
@@ -109,21 +120,23 @@ fn rule<M: SlotMap + Drop, A: Allocator + Clone + Drop>(
         By::Given(given) => given_order(alloc, &history, given)?,
     };
     let ruling = rule_by(alloc, map, history, any_place, &order)?;
-    let written = order_text(alloc, text, &order)?;
-    Ok(Ruled {
-        ruling,
-        order: written,
-    })
+    let order = if is_wanted {
+        order_text(alloc, text, &order)?
+    } else {
+        Vec::new(alloc.clone()?)
+    };
+    Ok(Ruled { ruling, order })
 }
 
 /// Judges a text: it is that of a history, whose calls have an order, or of which none was found; or it isn't, and why. Beside a
-/// ruling that it is legal stands the text of the order.
+/// ruling that it is legal stands the text of the order, if it is wanted.
 pub fn judge_text<M: SlotMap + Drop, A: Allocator + Clone + Drop>(
     alloc: &A,
     map: M,
     text: &[u8],
     any_place: bool,
     by: By<'_>,
+    is_wanted: bool,
 ) -> Result<Ruled<A>, HistoryFault>
     requires new { IsNew (M.slots map) }
     ensures ok { IfOk result (λ ruled. IsRuling any_place (lines_of text.now) ruled.ruling) }
@@ -133,7 +146,7 @@ pub fn judge_text<M: SlotMap + Drop, A: Allocator + Clone + Drop>(
         Ok(history) => history,
         Err(fault) => return Err(fault),
     };
-    match rule(alloc, map, text, history, any_place, by) {
+    match rule(alloc, map, text, history, any_place, by, is_wanted) {
         Ok(ruled) => Ok(ruled),
         Err(_) => Err(HistoryFault::Io(IoFault::NoMemory)),
     }

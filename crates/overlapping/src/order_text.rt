@@ -6,9 +6,9 @@ use orders::Item;
 use std::alloc::Allocator;
 use trace_text::sign::halves;
 use trace_text::words::next_word;
-use trace_text::{Action, Line, LineText, push_address, read_words};
+use trace_text::{Action, Line, LineText, push_address, push_reply, read_words};
 use vm_base::page::PAGE_SIZE;
-use vm_base::{CoreId, NoMemory, Request, page_of};
+use vm_base::{CoreId, CoreSet, NoMemory, Reply, Request, page_of};
 
 /// How many cores a space may have.
 const CORES: usize = 64;
@@ -49,10 +49,11 @@ fn call_of(line: &[u8]) -> Call<'_> {
     }
 }
 
-// The calls of a text so far, and the requests of those that wait, by their cores.
+// The calls of a text so far, and the cores whose call waits, with the requests of each core's last call that did.
 #[derive(Drop)]
 struct Calls<'a, A: Allocator> {
     calls: Vec<Call<'a>, A>,
+    open: CoreSet,
     waiting: Vec<&'a [u8], A>,
 }
 
@@ -61,12 +62,14 @@ impl<'a, A: Allocator + Clone + Drop> Calls<'a, A> {
     fn new(alloc: &A, none: &'a [u8]) -> Result<Calls<'a, A>, NoMemory> {
         Ok(Calls {
             calls: Vec::new(alloc.clone()?),
+            open: CoreSet::empty(),
             waiting: vec![in alloc.clone()?; none; CORES]?,
         })
     }
 
     // A core's call begins to wait in this line.
     fn wait(&mut self, core: CoreId, line: &'a [u8]) {
+        self.open = self.open.with(core);
         if let Some(place) = self.waiting.get_mut(usize::from(core.index())) {
             *place = call_of(line).request;
         }
@@ -85,7 +88,19 @@ impl<'a, A: Allocator + Clone + Drop> Calls<'a, A> {
             None => line,
         };
         let reply = call_of(line).reply;
+        self.open = self.open.without(core);
         self.push(Call { request, reply })
+    }
+
+    // The core of the call that waits of this number among those that do, and what it asks for.
+    fn open_call(&self, number: usize) -> Option<(CoreId, &'a [u8])> {
+        let mut left = self.open;
+        for _ in 0..number {
+            left = left.without(left.first()?);
+        }
+        let core = left.first()?;
+        let request = *self.waiting.get(usize::from(core.index()))?;
+        Some((core, request))
     }
 
     // Takes in the line of an event.
@@ -186,6 +201,60 @@ fn push_copy<A: Allocator>(out: &mut Vec<u8, A>, call: &Call<'_>) -> Result<(), 
     Ok(())
 }
 
+// Appends the line of a call that waits and took effect with this reply. Where it found no memory it has no line.
+fn push_open<A: Allocator>(
+    out: &mut Vec<u8, A>,
+    request: &[u8],
+    reply: Reply,
+) -> Result<(), NoMemory> {
+    if matches!(reply, Reply::NoMemory) {
+        return Ok(());
+    }
+    let mut told = LineText::new();
+    push_reply(&mut told, reply);
+    push_call(
+        out,
+        &Call {
+            request,
+            reply: told.as_str().as_bytes(),
+        },
+    )
+}
+
+// Appends the line of an item, of so many calls that were answered and others that wait, which have these replies.
+fn push_item<A: Allocator + Clone + Drop>(
+    out: &mut Vec<u8, A>,
+    calls: &Calls<'_, A>,
+    item: Item,
+    replies: &[Reply],
+) -> Result<(), NoMemory> {
+    let number = item.call() as usize;
+    let answered = calls.calls.len();
+    if number >= answered {
+        let Some((core, request)) = calls.open_call(number - answered) else {
+            return Ok(());
+        };
+        let reply = replies.get(usize::from(core.index())).copied();
+        return match item {
+            Item::Reply(_) => push_open(out, request, reply.unwrap_or(Reply::NoMemory)),
+            Item::Copy(_) => push_copy(
+                out,
+                &Call {
+                    request,
+                    reply: request,
+                },
+            ),
+        };
+    }
+    let Some(call) = calls.calls.get(number) else {
+        return Ok(());
+    };
+    match item {
+        Item::Reply(_) => push_call(out, call),
+        Item::Copy(_) => push_copy(out, call),
+    }
+}
+
 /// The text of an order of the calls of a text, if there is one.
 pub(crate) fn order_text<A: Allocator + Clone + Drop>(
     alloc: &A,
@@ -193,15 +262,10 @@ pub(crate) fn order_text<A: Allocator + Clone + Drop>(
     order: &Order<A>,
 ) -> Result<Vec<u8, A>, NoMemory> {
     let mut out = Vec::new(alloc.clone()?);
-    if let Order::Of(items, _) = order {
+    if let Order::Of { items, replies, .. } = order {
         let calls = split(alloc, &mut out, text)?;
         for item in items.as_slice() {
-            if let Some(call) = calls.calls.get(item.call() as usize) {
-                match *item {
-                    Item::Reply(_) => push_call(&mut out, call)?,
-                    Item::Copy(_) => push_copy(&mut out, call)?,
-                }
-            }
+            push_item(&mut out, &calls, *item, replies.as_slice())?;
         }
     }
     Ok(out)

@@ -45,6 +45,7 @@ fn judge_out<M: SlotMap + Drop, A: Allocator + Clone + Drop, W: Sink>(
     writer: &mut W,
     any_place: bool,
     by: By<'_>,
+    is_wanted: bool,
 ) -> Result<Ruled<A>, HistoryFault>
     requires new { IsNew (M.slots map) }
     ensures ends { JudgementEnds any_place text.now (W.contents writer.old) (W.contents writer.new) result }
@@ -53,7 +54,7 @@ fn judge_out<M: SlotMap + Drop, A: Allocator + Clone + Drop, W: Sink>(
     ensures write { result ≡ Err (HistoryFault.Io IoFault.WriteFailed) → W.failed writer.new ≡ true }
     ensures kept { (result ≡ Err (HistoryFault.Io IoFault.WriteFailed)) ⊎ (W.failed writer.new ≡ W.failed writer.old) }
 {
-    let ruled = match judge_text(&alloc, map, text, any_place, by) {
+    let ruled = match judge_text(&alloc, map, text, any_place, by, is_wanted) {
         Ok(ruled) => ruled,
         Err(fault) => return Err(fault),
     };
@@ -65,8 +66,8 @@ fn judge_out<M: SlotMap + Drop, A: Allocator + Clone + Drop, W: Sink>(
 }
 
 /// Reads a text to its end, and writes whether its calls, which may overlap, have an order that begins with nothing mapped: `legal CALLS`,
-/// or `undecided LINE` where none was found. The order is searched, or given; `legal` is told only where it was checked. The map has
-/// nothing mapped.
+/// or `undecided LINE` where none was found. The order is searched, or given; `legal` is told only where it was checked. Its text is
+/// answered, if it is wanted. The map has nothing mapped.
 pub fn judge_overlapping<M: SlotMap + Drop, A: Allocator + Clone + Drop, S: Source, W: Sink>(
     alloc: A,
     map: M,
@@ -74,6 +75,7 @@ pub fn judge_overlapping<M: SlotMap + Drop, A: Allocator + Clone + Drop, S: Sour
     writer: &mut W,
     any_place: bool,
     by: By<'_>,
+    is_wanted: bool,
 ) -> Result<Ruled<A>, HistoryFault>
     requires new { IsNew (M.slots map) }
     ensures ends { Reads (S.stream reader.old) (S.stream reader.new) (λ input unread.
@@ -85,7 +87,15 @@ pub fn judge_overlapping<M: SlotMap + Drop, A: Allocator + Clone + Drop, S: Sour
         return Err(HistoryFault::Io(IoFault::NoMemory));
     };
     match read_all(for_text, reader) {
-        Ok(text) => judge_out(alloc, map, text.as_slice(), writer, any_place, by),
+        Ok(text) => judge_out(
+            alloc,
+            map,
+            text.as_slice(),
+            writer,
+            any_place,
+            by,
+            is_wanted,
+        ),
         Err(fault) => Err(HistoryFault::Io(fault)),
     }
 }

@@ -28,7 +28,7 @@ returns-in-Ok-Bad-clause-err g c =
     λ terms. bad_at terms _ _ (c.lines.number + 1) (Front d) (first_map d) c.in_ok-said.said
     (at_line _ _ _ c.lines.number (Front d) c.front_line.result.0.now c.in_ok-said.said c.lines.invariant.place c.front_line.ensures.lines
     c.in_ok-said.ensures.ok)
-    refl bad
+    refl bad.0 bad.1
 
 pub returns-in-Ok-Ended-clause-ok : goal.returns-in-Ok-Ended-clause-ok
 returns-in-Ok-Ended-clause-ok g c =

@@ -28,7 +28,7 @@ pub returns-in_err-add-clause-err : goal.returns-in_err-add-clause-err
 returns-in_err-add-clause-err g c =
     let p = err_from_is_err_and c.from_residual-in_err-add.result c.from_residual-in_err-add.ensures.1 in
     rw p.1 (rw p.2 (refused_here _ _ _ c.lines.number (read_of c.lines.history) c.front_line.result.0.now c.in_ok-told.told c.in_err-add.field-0.0
-    c.lines.invariant.place c.front_line.ensures.lines c.in_ok-told.ensures.ok.1 c.in_err-add.ensures.err))
+    c.lines.invariant.place c.front_line.ensures.lines c.in_ok-told.ensures.ok.0 c.in_ok-told.ensures.ok.1 c.in_err-add.ensures.err))
 
 pub overflow_add-number : goal.overflow_add-number
 overflow_add-number g c = let left = some_left _ _ c.is_empty.ensures c.if-is_empty.false in
