@@ -16,12 +16,13 @@ use Rattle.slot_lock.specs.Slots.{Slots}
 use Rattle.machine_model.specs.Counting.{frame_lost}
 use Rattle.vm_calls.specs.declared.decision.Decision.{Decision}
 use Rattle.vm_calls.specs.declared.decision.Decision.TheVariants.{Act}
-use Rattle.vm_calls.specs.Decisions.{AreAlike, DecidesChange}
+use Rattle.vm_calls.specs.Decisions.{ActsOn, AreAlike, DecidesChange}
+use Rattle.vm_calls.specs.Decisions.DecidesProtect.{acts, no_page, no_write}
 use Rattle.vm_calls.proofs.Alike.{change_alike}
 use Rattle.live_tree.specs.Held.{Covers, HeldView}
 use Rattle.live_tree.specs.Losing.{AreLost}
 use Rattle.live_tree.specs.Shown.{Lends, shown}
-use Rattle.live_space.specs.Losing.{Loses}
+use Rattle.live_space.specs.Losing.{AreUsers, Loses}
 use Rattle.live_space.proofs.Lost.{frames_alike, lost_none, of_one}
 
 lost_same : (change : Change) (s : Slots) (p : ℕ) (info : Option PageInfo) → info ≡ s.info p → frame_lost change (λ q. info) 0 ≡ frame_lost change s.info p
@@ -37,7 +38,7 @@ loses_one s change info frames one is are = of_one (frame_lost change s.info) (r
     (are ∙ ap option_to_list (lost_same change s (range_of change).first info is))
 
 -- lent slots are as the held ones in a range that is held
-lent_alike : (core : ℕ) (h : HeldView) (s : Slots) (r : PageRange) → Lends core h s → Covers h r → AreAlike r s (shown h.slots)
+pub lent_alike : (core : ℕ) (h : HeldView) (s : Slots) (r : PageRange) → Lends core h s → Covers h r → AreAlike r s (shown h.slots)
 lent_alike core h s r lends covers p inside =
     let within = has_in r p inside in
     let low = covers.0 in
@@ -73,3 +74,12 @@ clear_lost files s range cores frames h =
 -- another protection takes no frame
 pub keeps_frames : (s : Slots) (range : PageRange) (prot : Prot) (frames : List ℕ) → frames ≡ [] → Loses s (Protect range prot) frames
 keeps_frames s range prot frames e = lost_none (frame_lost (Protect range prot) s.info) range.first range.end frames (λ p. refl) e
+
+-- the cores that a change tells are those that are recorded on its pages
+pub decided_users : (files : ℕ → Option File) (s : Slots) (change : Change) (cores : ℕ) → DecidesChange files s change (Act (range_of change) cores)
+    → AreUsers s (range_of change) cores
+decided_users files s (Put range meta) cores d = d.1
+decided_users files s (Clear range) cores d = d.1
+decided_users files s (Protect range prot) cores (no_page a e) = absurd cc
+decided_users files s (Protect range prot) cores (no_write a w r e) = absurd cc
+decided_users files s (Protect range prot) cores (acts a w on) = on.1

@@ -1,6 +1,6 @@
 -- Calls that were answered, or are to end
 use Rattle.std.proofs.Common.{◌≡◌, ◌∙◌, ◌⊎◌, ⊎_elim, ℕ, Option, None, Some, [], inl, inr, refl, sym, subst}
-use Rattle.std.specs.Prelude.{IfNone}
+use Rattle.std.specs.Prelude.{IfNone, IfSome}
 use Rattle.std.specs.Borrow.{MutBor}
 use Rattle.vm_base.specs.declared.replies.Errno.{Errno}
 use Rattle.vm_base.specs.declared.replies.Reply.{Reply}
@@ -59,6 +59,17 @@ pub ends_map : (P Q : Reply → Type 0) (ending : Ending) → ((reply : Reply) �
 ends_map P Q (Answer reply) f h = f reply h
 ends_map P Q GiveUp f h = tt
 ends_map P Q (GiveBack own) f h = tt
+
+-- two things that are said of the reply
+pub ends_both : (P Q R : Reply → Type 0) (ending : Ending) → ((reply : Reply) → P reply → Q reply → R reply) → EndsIn P ending → EndsIn Q ending → EndsIn R ending
+ends_both P Q R (Answer reply) f h k = f reply h k
+ends_both P Q R GiveUp f h k = tt
+ends_both P Q R (GiveBack own) f h k = tt
+
+-- where there is an ending
+pub some_ends_map : (P Q : Reply → Type 0) (o : Option Ending) → ((reply : Reply) → P reply → Q reply) → IfSome o (EndsIn P) → IfSome o (EndsIn Q)
+some_ends_map P Q None f h = tt
+some_ends_map P Q (Some ending) f h = ends_map P Q ending f h
 
 pub given_up_faults : (ending : Ending) → IsGivenUp ending → EndsIn IsFault ending
 given_up_faults (Answer reply) h = absurd h

@@ -1,6 +1,7 @@
 pub mod Counted
 pub mod Decided
 pub mod Ended
+pub mod Faulted
 mod Few
 pub mod Folding
 pub mod Fresh

@@ -1,5 +1,5 @@
 -- What the steps of a call make of its seat's notes, and of how many slots it holds
-use Rattle.std.proofs.Common.{◌≡◌, ◌≤◌, ◌+◌, ◌&&◌, ℕ, Bool, true, false, length, arith, refl, sym, ap, ◌∙◌}
+use Rattle.std.proofs.Common.{◌≡◌, ◌≤◌, ◌+◌, ◌&&◌, ℕ, Bool, true, false, length, arith, refl, sym, ap, subst, ◌∙◌}
 use Rattle.std.proofs.lemmas.Bool.Decides.{nat_tests}
 use Rattle.std.specs.Borrow.{MutBor}
 use Rattle.machine_model.specs.declared.event.Event.TheVariants.{Guess, Whole}
@@ -131,6 +131,15 @@ first_acquired s t h k core end room Unseen e = ap (λ (v : HeldView). v.first) 
 first_acquired s t h k core end room (Owned other) e = ap (λ (v : HeldView). v.first) e.1
 first_acquired s t h k core end room GotOf.NoMemory e = ap (λ (v : HeldView). v.first) e.1
 first_acquired s t h k core end room GotOf.Lost e = ap (λ (v : HeldView). v.first) e.1
+
+-- nothing behind the end is locked
+pub end_acquired : (s t : SeatView) (h k : HeldView) (core end room : ℕ) (got : Got) → Acquires Steps s t h k core end room got → h.end ≤ end → k.end ≤ end
+end_acquired s t h k core end room Locked e le = subst (λ (v : HeldView). v.end ≤ end) (sym e.1.now) e.1.whole.ends
+end_acquired s t h k core end room Split e le = subst (λ (v : HeldView). v.end ≤ end) (sym e.1) le
+end_acquired s t h k core end room Unseen e le = subst (λ (v : HeldView). v.end ≤ end) (sym e.1) le
+end_acquired s t h k core end room (Owned other) e le = subst (λ (v : HeldView). v.end ≤ end) (sym e.1) le
+end_acquired s t h k core end room GotOf.NoMemory e le = subst (λ (v : HeldView). v.end ≤ end) (sym e.1) le
+end_acquired s t h k core end room GotOf.Lost e le = subst (λ (v : HeldView). v.end ≤ end) (sym e.1) le
 
 -- ---- what a cut notes, and what it leaves
 

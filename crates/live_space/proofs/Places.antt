@@ -17,7 +17,14 @@ use Rattle.vm_calls.specs.declared.decision.Decision.{Decision}
 use Rattle.vm_calls.specs.declared.decision.Decision.TheVariants.{Again}
 use Rattle.vm_calls.specs.Decisions.{DecidesPlace, DecidesRun, act_at, entries}
 use Rattle.vm_calls.specs.Decisions.DecidesRun.{free, taken}
-use Rattle.live_space.specs.Placing.{IsInside}
+use Rattle.vm_base.specs.declared.replies.Reply.{Reply}
+use Rattle.slot_lock.specs.Plan.{IsTarget}
+use Rattle.live_tree.specs.Held.{HeldView}
+use Rattle.seats.specs.Notes.{SeatView}
+use Rattle.live_space.specs.declared.ending.Ending.{Ending}
+use Rattle.live_space.specs.Placing.{IsInside, PlacesJust, PlacesSomewhere}
+use Rattle.live_space.specs.Planned.{EndsIn}
+use Rattle.live_space.proofs.Ended.{ends_map}
 
 run_inside : (s : Slots) (range : PageRange) (d : Decision) → DecidesRun s range d → IsInside range d
 run_inside s range d (free f e) = subst (IsInside range) (sym e) (omega arith, omega arith)
@@ -60,3 +67,9 @@ alike_edges r ss ts same h = edges_of_bare r ss (subst (All (CrossesNoEdge r)) (
 
 pub alike_count : (ss ts : List SlotView) → AreAlike ss ts → length ss ≡ length ts
 alike_count ss ts same = sym (length-map ss without_room) ∙ (ap length same ∙ length-map ts without_room)
+
+-- with one of its targets a mapping is somewhere
+pub placed_at : (place : Place) (target : Target) (t : SeatView) (k : HeldView) (ending : Ending) → EndsIn (PlacesJust place target t k) ending
+    → IsTarget place target → EndsIn (PlacesSomewhere place t k) ending
+placed_at place target t k ending h is =
+    ends_map (PlacesJust place target t k) (PlacesSomewhere place t k) ending (λ (reply : Reply) p. (target, is, p)) h

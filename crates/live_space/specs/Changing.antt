@@ -14,6 +14,7 @@ use Rattle.live_tree.specs.Held.{AreAlike, HeldView, Covers, CrossesNoEdge, HasR
 use Rattle.live_tree.specs.Shown.{ChangesPages, shown}
 use Rattle.seats.specs.Growing.{Steps}
 use Rattle.seats.specs.Notes.{SeatView}
+use Rattle.live_space.specs.InFlight.{HoldsJust}
 
 -- the change can be made in the held slots: they have its pages, none crosses an edge of them, their
 -- histories have room for it, and its file pages are numbers that a file can have
@@ -47,3 +48,7 @@ Changes files change h t k reply =
     ((errno : Errno) × DecidesChange files (shown h.slots) change (Refuse errno) × (reply ≡ Refused errno) × (k ≡ h))
     ⊎ ((cores : ℕ) × DecidesChange files (shown h.slots) change (Act (range_of change) cores)
     × (reply ≡ reply_to change) × MadeIn change h t k)
+
+-- so with just the pages of the change held
+abbrev pub ChangesJust : (ℕ → Option File) → Change → SeatView → HeldView → Reply → Type 0
+ChangesJust files change t k reply = (h : HeldView) × HoldsJust (range_of change) h × Changes files change h t k reply

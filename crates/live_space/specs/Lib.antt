@@ -3,7 +3,9 @@ pub mod Calls
 pub mod Changing
 pub mod Counting
 pub mod CountingDown
+pub mod Doing
 pub mod Endings
+pub mod Faulting
 pub mod InFlight
 pub mod Losing
 pub mod Placing

@@ -1,11 +1,15 @@
 //! A load, a store or a fetch: it is tried, and after a fault its page is held while it gets a frame
 //! and an entry in the core's tables; then it is tried again.
 ghost use Rattle.std.specs.Prelude.{◌≡◌, ◌+◌, ◌*◌, [], IfNone, IfSome};
+ghost use Rattle.vm_base.specs.Pages.{pages_from};
 ghost use Rattle.live_pages.specs.Targets.{count_below};
 ghost use Rattle.slot_lock.specs.Plan.{IsSoundTouch};
 ghost use Rattle.live_space.specs.Endings.{HoldsNone, RunsTo};
-ghost use Rattle.live_space.specs.InFlight.{GoesOn, HasStepsLeft};
+ghost use Rattle.backing.specs.Files.{files_of};
+ghost use Rattle.live_levels.specs.declared.act.Act.TheVariants.{Record};
+ghost use Rattle.live_space.specs.InFlight.{GoesOn, HasStepsLeft, HoldsJust};
 ghost use Rattle.live_space.specs.Answering.{IsFault};
+ghost use Rattle.live_space.specs.Faulting.{ActsOn, Gets, GetsCopy, GetsFrame, GetsNew, GetsTaken, GivesUpOr, Settles};
 ghost use Rattle.live_space.specs.Planned.{AnswersTouch, EndsIn, RanIn};
 
 use crate::ending::{Ending, Ran, given_up_with};
@@ -98,9 +102,11 @@ impl<'c, R: Wait, G: Gate, A: Allocator + Clone> InCall<'c, '_, '_, '_, R, G, A>
     // What the access finds at its page.
     #[tactic(auto, using(crate::proofs::Noted::steps))]
     fn settle(&mut self, touch: Touch) -> Option<Ending>
-        requires { IsSoundTouch touch }
+        requires sound { IsSoundTouch touch }
+        requires page { HoldsJust (pages_from touch.page 1) self.old.held }
         ensures goes { GoesOn self.old.seat self.new.seat }
         ensures answers { IfSome result (EndsIn IsFault) }
+        ensures settles { Settles (files_of self.old.space.now.files) touch self.old.seat.now.core self.old.held result self.new.held }
     {
         if !self.has_room(1) {
             return Some(Ending::GiveUp);
@@ -111,11 +117,12 @@ impl<'c, R: Wait, G: Gate, A: Allocator + Clone> InCall<'c, '_, '_, '_, R, G, A>
     }
 
     // The access is answered, or the page gets what it wants.
-    #[tactic(auto, using(crate::proofs::Noted::steps))]
+    #[tactic(auto, using(crate::proofs::Noted::steps, crate::proofs::Faulted::acts_has, crate::proofs::Faulted::acts_cached, crate::proofs::Faulted::acts_copies, crate::proofs::Faulted::acts_wants))]
     fn act_on(&mut self, touch: Touch, settled: Settled) -> Option<Ending>
         requires { IsSoundTouch touch }
         ensures goes { GoesOn self.old.seat self.new.seat }
         ensures answers { IfSome result (EndsIn IsFault) }
+        ensures acts { ActsOn settled self.old.seat.now.core self.old.held result self.new.held }
     {
         match settled {
             Settled::MapErr => Some(Ending::Answer(Reply::Segv(SegvCode::MapErr))),
@@ -129,11 +136,12 @@ impl<'c, R: Wait, G: Gate, A: Allocator + Clone> InCall<'c, '_, '_, '_, R, G, A>
     }
 
     // A frame is taken, for the page or for a copy of the frame that it shows.
-    #[tactic(auto, using(crate::proofs::Noted::steps))]
+    #[tactic(auto, using(crate::proofs::Noted::steps, crate::proofs::Faulted::got_taken))]
     fn want(&mut self, touch: Touch, shown: Option<u32>) -> Option<Ending>
         requires { IsSoundTouch touch }
         ensures goes { GoesOn self.old.seat self.new.seat }
         ensures answers { IfSome result (EndsIn IsFault) }
+        ensures taken { GetsTaken shown self.old.seat.now.core self.old.held result self.new.held }
     {
         if !self.has_room(1) {
             return Some(Ending::GiveUp);
@@ -149,7 +157,7 @@ impl<'c, R: Wait, G: Gate, A: Allocator + Clone> InCall<'c, '_, '_, '_, R, G, A>
     fn use_frame(&mut self, touch: Touch, shown: Option<u32>, own: u32) -> Option<Ending>
         requires { IsSoundTouch touch }
         ensures goes { GoesOn self.old.seat self.new.seat }
-        ensures answers { IfSome result (EndsIn IsFault) }
+        ensures page { GivesUpOr (GetsNew shown self.old.seat.now.core self.old.held) result self.new.held }
     {
         match shown {
             Some(shown) => self.copy(touch, Copying { shown, own }),
@@ -162,7 +170,7 @@ impl<'c, R: Wait, G: Gate, A: Allocator + Clone> InCall<'c, '_, '_, '_, R, G, A>
     fn fill(&mut self, touch: Touch, own: Option<u32>) -> Option<Ending>
         requires { IsSoundTouch touch }
         ensures goes { GoesOn self.old.seat self.new.seat }
-        ensures answers { IfSome result (EndsIn IsFault) }
+        ensures page { GivesUpOr (GetsFrame self.old.seat.now.core self.old.held) result self.new.held }
     {
         if !self.has_room(1) {
             return Some(given_up_with(own));
@@ -185,7 +193,7 @@ impl<'c, R: Wait, G: Gate, A: Allocator + Clone> InCall<'c, '_, '_, '_, R, G, A>
     fn copy(&mut self, touch: Touch, frames: Copying) -> Option<Ending>
         requires { IsSoundTouch touch }
         ensures goes { GoesOn self.old.seat self.new.seat }
-        ensures answers { IfSome result (EndsIn IsFault) }
+        ensures page { GivesUpOr (GetsCopy self.old.seat.now.core self.old.held) result self.new.held }
     {
         let core = self.seat.core();
         let targets = recorded_cores(&self.held.page(touch.page)).without(core);
@@ -219,7 +227,7 @@ impl<'c, R: Wait, G: Gate, A: Allocator + Clone> InCall<'c, '_, '_, '_, R, G, A>
         requires sound { IsSoundTouch touch }
         requires room { HasStepsLeft (1 + 126 * count_below targets 64) self.old.held self.old.seat.now }
         ensures goes { GoesOn self.old.seat self.new.seat }
-        ensures answers { IfSome result (EndsIn IsFault) }
+        ensures page { GivesUpOr (GetsCopy self.old.seat.now.core self.old.held) result self.new.held }
     {
         let space = self.space;
         let Copying { shown, own } = frames;
@@ -237,7 +245,7 @@ impl<'c, R: Wait, G: Gate, A: Allocator + Clone> InCall<'c, '_, '_, '_, R, G, A>
     fn install(&mut self, touch: Touch) -> Option<Ending>
         requires { IsSoundTouch touch }
         ensures goes { GoesOn self.old.seat self.new.seat }
-        ensures answers { IfSome result (EndsIn IsFault) }
+        ensures page { GivesUpOr (Gets (Record self.old.seat.now.core) self.old.held) result self.new.held }
     {
         self.at(Point::Filled);
         if !self.has_room(1) {

@@ -8,6 +8,7 @@ ghost use Rattle.seats.specs.Growing.{OneCall};
 ghost use Rattle.live_pages.specs.Ending.{Ends};
 ghost use Rattle.live_space.specs.Answering.{AnswersFor};
 ghost use Rattle.live_space.specs.Calls.{IsIdle, LacksCall, MayBegin};
+ghost use Rattle.live_space.specs.Doing.{Did};
 ghost use Rattle.live_space.specs.Endings.{HoldsNone, RunsTo};
 ghost use Rattle.live_space.specs.Planned.{AnswersPlan, RanIn};
 ghost use Rattle.live_space.specs.Space.{IsOf};
@@ -127,6 +128,7 @@ impl<'c, R: Wait, G: Gate, A: Allocator + Clone> InCall<'c, '_, '_, '_, R, G, A>
         ensures runs { RunsTo self.old.seat result self.new.seat }
         ensures none { HoldsNone result self.new.held }
         ensures answers { RanIn (AnswersPlan plan) result }
+        ensures did { Did (files_of self.old.space.now.files) plan result self.new.seat.now self.new.held }
     {
         if !self.step() {
             return Ran::Open(Ending::GiveUp);

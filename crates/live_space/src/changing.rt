@@ -3,9 +3,14 @@ ghost use Rattle.std.specs.Prelude.{◌≡◌, ◌+◌, ◌*◌, length, IfSome,
 ghost use Rattle.slot_lock.specs.Plan.{IsSoundChange, range_of};
 ghost use Rattle.backing.specs.Files.{files_of};
 ghost use Rattle.live_tree.specs.Held.{AreAlike, Covers};
+ghost use Rattle.live_tree.specs.Shown.{shown};
 ghost use Rattle.live_pages.specs.Targets.{count_below};
-ghost use Rattle.live_space.specs.Changing.{Changes, IsReady, Made, MadeIn};
+ghost use Rattle.live_space.specs.Changing.{Changes, ChangesJust, IsReady, Made, MadeIn};
 ghost use Rattle.live_space.specs.InFlight.{GoesOn, HasStepsLeft};
+ghost use Rattle.live_space.specs.Losing.{AreOthers, AreUsers, Loses};
+ghost use Rattle.live_pages.specs.Steps.{StepsOnce};
+ghost use Rattle.seats.specs.Notes.{CanNote};
+ghost use Rattle.vm_base.specs.Cores.{with_member};
 ghost use Rattle.live_space.specs.Planned.{AnswersChange, EndsIn};
 
 use crate::commit::{Counting, Locks};
@@ -20,10 +25,11 @@ use live_pages::telling::{TAKES, Telling, count_of, take_all};
 use live_tree::held::Held;
 use live_tree::held::losses::Losses;
 use machine_model::answers::reply_to;
+use seats::Seat;
 use slot_lock::Change;
 use std::alloc::Allocator;
 use std::sync::{Mutex, Wait};
-use vm_base::{CoreId, CoreSet, Reply};
+use vm_base::{CoreId, CoreSet, PageRange, Reply};
 
 impl<A: Allocator + Clone> Live<A> {
     // The locks of a change that the core makes alone. None where memory is refused, or something
@@ -33,7 +39,9 @@ impl<A: Allocator + Clone> Live<A> {
         rt: &R,
         core: CoreId,
         lost: Frames<'a, A>,
-    ) -> Option<Locks<'a, A>> {
+    ) -> Option<Locks<'a, A>>
+        ensures { IfSome result (λ locks. locks.lost.items ≡ lost.entry.items) }
+    {
         let state = self.core(core)?.lock(rt);
         let counting = Counting::by(&state, self.tree.alloc(), lost)?;
         let locks = Locks::of(rt, state, counting, &self.frames, &self.epochs);
@@ -46,7 +54,9 @@ impl<A: Allocator + Clone> Live<A> {
         rt: &R,
         core: CoreId,
         lost: Frames<'a, A>,
-    ) -> Option<Counting<'a, A>> {
+    ) -> Option<Counting<'a, A>>
+        ensures { IfSome result (λ counting. counting.lost.items ≡ lost.entry.items) }
+    {
         if lost.is_empty() {
             return Counting::nothing(self.tree.alloc());
         }
@@ -68,6 +78,7 @@ impl<'c, R: Wait, G: Gate, A: Allocator + Clone> InCall<'c, '_, '_, '_, R, G, A>
         requires { IsSoundChange change }
         ensures goes { GoesOn self.old.seat self.new.seat }
         ensures answers { EndsIn (AnswersChange change) result }
+        ensures made { EndsIn (ChangesJust (files_of self.old.space.now.files) change self.new.seat.now self.new.held) result }
     {
         let range = change.range();
         self.hold_from(range.first);
@@ -111,9 +122,11 @@ impl<'c, R: Wait, G: Gate, A: Allocator + Clone> InCall<'c, '_, '_, '_, R, G, A>
     }
 
     // Makes the change, whose pages are held. False where the call has to be given up.
-    #[tactic(auto, using(crate::proofs::Noted::steps))]
+    #[tactic(auto, using(crate::proofs::Noted::steps, crate::proofs::Lost::loses_alike, crate::proofs::Lost::others_of, crate::proofs::Lost::none_of))]
     fn make(&mut self, change: Change, losses: Losses<'c, A>) -> bool
         requires sound { IsSoundChange change }
+        requires lost { Loses (shown self.old.held.slots) change losses.frames.items }
+        requires users { AreUsers (shown self.old.held.slots) (range_of change) losses.cores }
         requires covers { Covers self.old.held (range_of change) }
         ensures goes { GoesOn self.old.seat self.new.seat }
         ensures made { IsTrue result → MadeIn change self.old.held self.new.seat.now self.new.held }
@@ -134,7 +147,9 @@ impl<'c, R: Wait, G: Gate, A: Allocator + Clone> InCall<'c, '_, '_, '_, R, G, A>
     // same locks.
     #[tactic(auto, using(crate::proofs::Noted::steps))]
     fn make_alone(&mut self, change: Change, lost: Frames<'c, A>) -> bool
-        requires { IsReady self.old.held change }
+        requires ready { IsReady self.old.held change }
+        requires alone { AreOthers (shown self.old.held.slots) (range_of change) self.old.seat.now.core 0 }
+        requires lost { Loses (shown self.old.held.slots) change lost.items }
         ensures goes { GoesOn self.old.seat self.new.seat }
         ensures made { IsTrue result → Made change self.old.held self.new.seat.now self.new.held }
     {
@@ -156,7 +171,9 @@ impl<'c, R: Wait, G: Gate, A: Allocator + Clone> InCall<'c, '_, '_, '_, R, G, A>
     // same locks, and from then on nothing takes memory.
     #[tactic(auto, using(crate::proofs::Noted::steps, crate::proofs::Few::few_targets))]
     fn make_told(&mut self, change: Change, targets: CoreSet, lost: Frames<'c, A>) -> bool
-        requires { IsReady self.old.held change }
+        requires ready { IsReady self.old.held change }
+        requires others { AreOthers (shown self.old.held.slots) (range_of change) self.old.seat.now.core targets }
+        requires lost { Loses (shown self.old.held.slots) change lost.items }
         ensures goes { GoesOn self.old.seat self.new.seat }
         ensures made { IsTrue result → Made change self.old.held self.new.seat.now self.new.held }
     {
@@ -180,7 +197,7 @@ impl<'c, R: Wait, G: Gate, A: Allocator + Clone> InCall<'c, '_, '_, '_, R, G, A>
         ) {
             Some(telling) => {
                 let _decided = self.seat.step();
-                let _posted = telling.post(self.seat);
+                tell_others(telling, self.seat, change.range(), targets);
                 self.take_and_commit(change, targets, counting);
                 true
             }
@@ -192,6 +209,8 @@ impl<'c, R: Wait, G: Gate, A: Allocator + Clone> InCall<'c, '_, '_, '_, R, G, A>
     #[tactic(auto, using(crate::proofs::Noted::steps))]
     fn take_and_commit(&mut self, change: Change, targets: CoreSet, counting: Counting<'c, A>)
         requires ready { IsReady self.old.held change }
+        requires others { AreOthers (shown self.old.held.slots) (range_of change) self.old.seat.now.core targets }
+        requires lost { Loses (shown self.old.held.slots) change counting.lost.items }
         requires room { HasStepsLeft (1 + 126 * count_below targets 64) self.old.held self.old.seat.now }
         ensures goes { GoesOn self.old.seat self.new.seat }
         ensures made { Made change self.old.held self.new.seat.now self.new.held }
@@ -199,15 +218,33 @@ impl<'c, R: Wait, G: Gate, A: Allocator + Clone> InCall<'c, '_, '_, '_, R, G, A>
         let space = self.space;
         take_all(self.rt, &space.cores, self.seat, targets);
         self.at(Point::Commit);
+        if counting.is_empty() {
+            self.commit_frameless(change);
+            return;
+        }
         match space.core(self.seat.core()) {
-            Some(core) if !counting.is_empty() => {
+            Some(core) => {
                 let state = core.lock(self.rt);
                 let locks = Locks::of(self.rt, state, counting, &space.frames, &space.epochs);
                 self.commit(locks, change);
             }
-            _ => self.commit_slots(change),
+            None => self.commit_slots(change),
         }
     }
+}
+
+// The step that posts to these other cores, which are locked: they are to drop their translations of the range.
+fn tell_others<A: Allocator + Clone>(
+    telling: Telling<'_, A>,
+    seat: &mut Seat<A>,
+    _range: PageRange,
+    _others: CoreSet,
+)
+    requires step { CanNote seat.old }
+    requires told { telling ≡ record { core = seat.old.core; set = with_member _others seat.old.core; range = _range } }
+    ensures { StepsOnce seat.old seat.new }
+{
+    let _ticket = telling.post(seat);
 }
 
 // Makes room for the change in the histories of its slots, and tells whether it can be made in them.

@@ -1,11 +1,16 @@
 //! One flush and one review of a seat's core: each is one step, taken while the locks of the core,
 //! of the frame and of the epoch are held.
-ghost use Rattle.std.specs.Prelude.{◌≡◌, ◌<◌, true, false, IfOk, IfErr};
+ghost use Rattle.std.specs.Prelude.{◌≡◌, ◌<◌, ◌||◌, ℕ, None, true, false, is_some, IfOk, IfErr};
+ghost use Rattle.vm_base.specs.Cores.{members};
 ghost use Rattle.machine_model.specs.declared.event.Event.TheVariants as EventOf;
+ghost use Rattle.refcache.specs.Epochs.{Marks};
+ghost use Rattle.refcache.specs.Pieces.{IsLeast, ReviewsPiece};
+ghost use Rattle.refcache.specs.Places.{entries};
+ghost use Rattle.live_pages.specs.Free.{GivesFree, freed_by};
 ghost use Rattle.seats.specs.Growing.{NotesIf};
 ghost use Rattle.seats.specs.Notes.{CanNote};
 ghost use Rattle.live_space.specs.Calls.{IsIdle, LacksRoom};
-ghost use Rattle.live_space.specs.Counting.{NotesOneIf};
+ghost use Rattle.live_space.specs.Counting.{EvictsEntry, NotesOneIf, has_flushed, has_reviewed};
 ghost use Rattle.live_space.specs.Space.{IsOf};
 
 use crate::fault::{LiveFault, reserve_notes};
@@ -74,11 +79,11 @@ fn flush_core<R: Wait, A: Allocator + Clone>(
     let mut core = core.lock(rt);
     match core.counts.least() {
         Some(object) => flush_entry(rt, &mut core, object, frames, epochs, seat),
-        None => mark(rt, epochs, seat),
+        None => mark(rt, &core, epochs, seat),
     }
 }
 
-// Evicts the core's entry of an object. False where it can't be, which never comes.
+// Evicts the core's entry of its least object. False where it can't be, which never comes.
 fn flush_entry<R: Wait, A: Allocator + Clone>(
     rt: &R,
     core: &mut CoreState<A>,
@@ -87,7 +92,8 @@ fn flush_entry<R: Wait, A: Allocator + Clone>(
     epochs: &Mutex<Epochs>,
     seat: &mut Seat<A>,
 ) -> bool
-    requires { CanNote seat.old }
+    requires step { CanNote seat.old }
+    requires least { IsLeast (entries core.old.counts.places) object }
     ensures { NotesIf seat.old (EventOf.Flush seat.old.core) result seat.new }
 {
     let Some(frame) = frames.get(object as usize) else {
@@ -95,6 +101,27 @@ fn flush_entry<R: Wait, A: Allocator + Clone>(
     };
     let mut frame = frame.lock(rt);
     let epochs = epochs.lock(rt);
+    evict_least(core, object, &mut frame, &epochs, seat)
+}
+
+// The step: the entry of the core's least object goes into the frame, which is locked as the epoch is. False where it can't
+// be, and then nothing changes.
+fn evict_least<A: Allocator + Clone>(
+    core: &mut CoreState<A>,
+    object: u32,
+    frame: &mut FrameState<A>,
+    epochs: &Epochs,
+    seat: &mut Seat<A>,
+) -> bool
+    requires step { CanNote seat.old }
+    requires least { IsLeast (entries core.old.counts.places) object }
+    ensures noted { NotesIf seat.old (EventOf.Flush seat.old.core) result seat.new }
+    ensures evicts { result ≡ true → EvictsEntry object epochs.now.number core.old.counts core.new.counts
+        frame.old.count frame.new.count }
+    ensures not { result ≡ false → (core.new ≡ core.old) × (frame.new ≡ frame.old) }
+    ensures core { core.new ≡ record core.old { counts = core.new.counts } }
+    ensures frame { frame.new ≡ record frame.old { count = frame.new.count } }
+{
     if !core.counts.can_evict(&frame.count, object) {
         return false;
     }
@@ -103,17 +130,44 @@ fn flush_entry<R: Wait, A: Allocator + Clone>(
     true
 }
 
-// Marks a core without entries for the epoch.
-fn mark<R: Wait, A: Allocator>(rt: &R, epochs: &Mutex<Epochs>, seat: &mut Seat<A>) -> bool
-    requires { CanNote seat.old }
+// Marks a core without entries, which is locked, for the epoch.
+fn mark<R: Wait, A: Allocator + Clone>(
+    rt: &R,
+    _core: &CoreState<A>,
+    epochs: &Mutex<Epochs>,
+    seat: &mut Seat<A>,
+) -> bool
+    requires step { CanNote seat.old }
+    requires clear { (o : ℕ) → entries _core.now.counts.places o ≡ None }
     ensures { NotesIf seat.old (EventOf.Flush seat.old.core) result seat.new }
 {
     let mut epochs = epochs.lock(rt);
-    if epochs.mark(seat.core()) == Flush::Idle {
-        return false;
+    has_flushed(&mark_in(&mut epochs, seat))
+}
+
+// The step: the core is marked in the epoch, which is locked.
+fn mark_in<A: Allocator>(epochs: &mut Epochs, seat: &mut Seat<A>) -> Flush
+    requires { CanNote seat.old }
+    ensures noted { NotesIf seat.old (EventOf.Flush seat.old.core) (has_flushed result) seat.new }
+    ensures marks { Marks epochs.old.cores epochs.old.number (members epochs.old.flushed) seat.old.core result
+        epochs.new.number (members epochs.new.flushed) }
+    ensures cores { epochs.new.cores ≡ epochs.old.cores }
+{
+    let flush = epochs.mark(seat.core());
+    if has_flushed(&flush) {
+        let _ticket = seat.note(Event::Flush(seat.core()), Outcome::Stepped);
     }
-    let _ticket = seat.note(Event::Flush(seat.core()), Outcome::Stepped);
-    true
+    flush
+}
+
+// Tells whether the flush did something.
+fn has_flushed(flush: &Flush) -> bool
+    ensures { result ≡ has_flushed flush.now }
+{
+    match flush {
+        Flush::Idle => false,
+        Flush::Evicted(_) | Flush::Flushed | Flush::EpochEnded => true,
+    }
 }
 
 // Reviews the front of the core's queue. False where there is none, or where it isn't due.
@@ -138,11 +192,40 @@ fn review_core<R: Wait, A: Allocator + Clone>(
     };
     let mut frame = frame.lock(rt);
     let epochs = epochs.lock(rt);
+    has_reviewed(&review_front(&mut core, &mut free, &mut frame, &epochs, seat))
+}
+
+// The step: the front of the core's queue is reviewed, whose frame is locked as the free frames and the epoch are.
+fn review_front<A: Allocator + Clone>(
+    core: &mut CoreState<A>,
+    free: &mut FreeFrames<A>,
+    frame: &mut FrameState<A>,
+    epochs: &Epochs,
+    seat: &mut Seat<A>,
+) -> Review
+    requires { CanNote seat.old }
+    ensures noted { NotesIf seat.old (EventOf.Review seat.old.core) (has_reviewed result) seat.new }
+    ensures reviews { ReviewsPiece core.old.counts.queue epochs.now.number frame.old.count result frame.new.count
+        core.new.counts.queue }
+    ensures free { GivesFree (freed_by result) free.old free.new }
+    ensures frame { frame.new.cell.is_free ≡ (is_some (freed_by result) || frame.old.cell.is_free) }
+    ensures places { core.new.counts.places ≡ core.old.counts.places }
+    ensures core { core.new ≡ record core.old { counts = core.new.counts } }
+{
     let review = core.counts.review(&mut frame.count, epochs.number());
-    if review == Review::Idle {
-        return false;
+    give_reviewed(&review, free, frame);
+    if has_reviewed(&review) {
+        let _ticket = seat.note(Event::Review(seat.core()), Outcome::Stepped);
     }
-    give_reviewed(&review, &mut free, &mut frame);
-    let _ticket = seat.note(Event::Review(seat.core()), Outcome::Stepped);
-    true
+    review
+}
+
+// Tells whether the review did something.
+fn has_reviewed(review: &Review) -> bool
+    ensures { result ≡ has_reviewed review.now }
+{
+    match review {
+        Review::Idle => false,
+        Review::Dropped(_) | Review::Freed(_) | Review::Requeued(_) => true,
+    }
 }

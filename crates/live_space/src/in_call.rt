@@ -39,6 +39,7 @@ impl<'c, R: Wait, G: Gate, A: Allocator + Clone> InCall<'c, '_, '_, '_, R, G, A>
     pub fn has_room(&mut self, steps: usize) -> bool
         ensures goes { GoesOn self.old.seat self.new.seat }
         ensures held { self.new.held ≡ self.old.held }
+        ensures space { self.new.space ≡ self.old.space }
         ensures room { IsTrue result → HasStepsLeft steps self.new.held self.new.seat.now }
     {
         let count = self.held.len().saturating_add(2).saturating_add(steps);
@@ -50,6 +51,7 @@ impl<'c, R: Wait, G: Gate, A: Allocator + Clone> InCall<'c, '_, '_, '_, R, G, A>
     pub fn step(&mut self) -> bool
         ensures goes { GoesOn self.old.seat self.new.seat }
         ensures held { self.new.held ≡ self.old.held }
+        ensures space { self.new.space ≡ self.old.space }
     {
         if !self.has_room(1) {
             return false;
@@ -63,6 +65,7 @@ impl<'c, R: Wait, G: Gate, A: Allocator + Clone> InCall<'c, '_, '_, '_, R, G, A>
     pub fn hold_from(&mut self, page: u64)
         ensures goes { GoesOn self.old.seat self.new.seat }
         ensures held { self.new.held ≡ record { first = page; end = page; slots = [] } }
+        ensures space { self.new.space ≡ self.old.space }
     {
         let space = self.space;
         let held = replace(&mut self.held, Held::new(space.tree.alloc(), page));

@@ -25,6 +25,8 @@ impl<'c, R: Wait, G: Gate, A: Allocator + Clone> InCall<'c, '_, '_, '_, R, G, A>
         ensures goes { GoesOn self.old.seat self.new.seat }
         ensures first { self.new.held.first ≡ self.old.held.first }
         ensures end { IsTrue result → end ≤ self.new.held.end }
+        ensures within { self.old.held.end ≤ end → self.new.held.end ≤ end }
+        ensures space { self.new.space ≡ self.old.space }
     {
         let rt = self.rt;
         let space = self.space;

@@ -4,13 +4,14 @@
 ghost use Rattle.std.specs.Prelude.{◌≡◌, ◌≢◌, ◌+◌, ◌*◌, ◌<◌, IfSome, IsSome, IsTrue, All};
 ghost use Rattle.vm_base.specs.declared.replies.Reply.TheVariants.{Mapped};
 ghost use Rattle.live_tree.specs.Held.{Covers, CrossesNoEdge};
+ghost use Rattle.live_tree.specs.Shown.{shown};
 ghost use Rattle.slot_lock.specs.declared.plan.Goal.TheVariants as GoalOf;
 ghost use Rattle.slot_lock.specs.declared.plan.Target.TheVariants.{Window};
 ghost use Rattle.slot_lock.specs.Plan.{IsSoundGoal, IsSoundPlace, IsSoundPut, IsTarget, target_range};
 ghost use Rattle.vm_calls.specs.declared.decision.Decision.TheVariants.{Again};
-ghost use Rattle.vm_calls.specs.Decisions.{IsSoundAct};
+ghost use Rattle.vm_calls.specs.Decisions.{DecidesPlace, IsSoundAct};
 ghost use Rattle.live_space.specs.InFlight.{GoesOn, HasStepsLeft};
-ghost use Rattle.live_space.specs.Placing.{IsInside, IsInWindow};
+ghost use Rattle.live_space.specs.Placing.{IsInside, IsInWindow, Places, PlacesJust, PlacesSomewhere, Puts};
 ghost use Rattle.live_space.specs.Planned.{AnswersPlace, EndsIn, PlacesAt};
 
 use crate::ending::Ending;
@@ -48,11 +49,12 @@ impl<A: Allocator + Clone> Live<A> {
 
 impl<'c, R: Wait, G: Gate, A: Allocator + Clone> InCall<'c, '_, '_, '_, R, G, A> {
     /// The steps of a placed mapping, after its check.
-    #[tactic(auto, using(crate::proofs::Noted::steps))]
+    #[tactic(auto, using(crate::proofs::Noted::steps, crate::proofs::Places::placed_at))]
     pub(crate) fn place(&mut self, place: Place) -> Ending
         requires { IsSoundPlace place }
         ensures goes { GoesOn self.old.seat self.new.seat }
         ensures answers { EndsIn (AnswersPlace place) result }
+        ensures made { EndsIn (PlacesSomewhere place self.new.seat.now self.new.held) result }
     {
         let Some(hint) = place.hint else {
             return self.place_in_window(place);
@@ -65,11 +67,12 @@ impl<'c, R: Wait, G: Gate, A: Allocator + Clone> InCall<'c, '_, '_, '_, R, G, A>
 
     // It goes to a run of its window that it guesses to be free, or else to any room there, where it
     // holds the window, or is refused where there is none.
-    #[tactic(auto, using(crate::proofs::Noted::steps))]
+    #[tactic(auto, using(crate::proofs::Noted::steps, crate::proofs::Places::placed_at))]
     fn place_in_window(&mut self, place: Place) -> Ending
         requires { IsSoundPlace place }
         ensures goes { GoesOn self.old.seat self.new.seat }
         ensures answers { EndsIn (AnswersPlace place) result }
+        ensures made { EndsIn (PlacesSomewhere place self.new.seat.now self.new.held) result }
     {
         let Some(target) = self.guess(place) else {
             return Ending::GiveUp;
@@ -117,6 +120,7 @@ impl<'c, R: Wait, G: Gate, A: Allocator + Clone> InCall<'c, '_, '_, '_, R, G, A>
         requires { IsSoundGoal (GoalOf.Place place target) }
         ensures goes { GoesOn self.old.seat self.new.seat }
         ensures answers { IfSome result (EndsIn (AnswersPlace place)) }
+        ensures made { IfSome result (EndsIn (PlacesJust place target self.new.seat.now self.new.held)) }
         ensures last { target ≡ Window → IsSome result }
     {
         let ending = self.lock_target(place, target);
@@ -132,6 +136,7 @@ impl<'c, R: Wait, G: Gate, A: Allocator + Clone> InCall<'c, '_, '_, '_, R, G, A>
         requires { IsSoundGoal (GoalOf.Place place target) }
         ensures goes { GoesOn self.old.seat self.new.seat }
         ensures answers { IfSome result (EndsIn (AnswersPlace place)) }
+        ensures made { IfSome result (EndsIn (PlacesJust place target self.new.seat.now self.new.held)) }
         ensures last { target ≡ Window → IsSome result }
     {
         let range = target.range(place);
@@ -151,6 +156,7 @@ impl<'c, R: Wait, G: Gate, A: Allocator + Clone> InCall<'c, '_, '_, '_, R, G, A>
         requires covers { Covers self.old.held (target_range place target) }
         ensures goes { GoesOn self.old.seat self.new.seat }
         ensures answers { IfSome result (EndsIn (AnswersPlace place)) }
+        ensures made { IfSome result (EndsIn (Places place target self.old.held self.new.seat.now self.new.held)) }
         ensures last { target ≡ Window → IsSome result }
     {
         let Some(decision) = self.decide_place(place, target) else {
@@ -169,6 +175,8 @@ impl<'c, R: Wait, G: Gate, A: Allocator + Clone> InCall<'c, '_, '_, '_, R, G, A>
     // What a mapping decides that holds its target. None for want of memory.
     fn decide_place(&self, place: Place, target: Target) -> Option<Decision>
         requires sound { IsSoundGoal (GoalOf.Place place target) }
+        requires covers { Covers self.now.held (target_range place target) }
+        ensures decides { IfSome result (DecidesPlace (shown self.now.held.slots) place target) }
         ensures sound { IfSome result (IsSoundAct (GoalOf.Place place target)) }
         ensures inside { IfSome result (IsInside (target_range place target)) }
         ensures places { IfSome result (PlacesAt place) }
@@ -192,6 +200,7 @@ impl<'c, R: Wait, G: Gate, A: Allocator + Clone> InCall<'c, '_, '_, '_, R, G, A>
         requires covers { Covers self.old.held range }
         ensures goes { GoesOn self.old.seat self.new.seat }
         ensures answers { EndsIn (λ reply. reply ≡ Mapped (range.first * 4096)) result }
+        ensures made { EndsIn (λ reply. Puts range meta self.old.held self.new.seat.now self.new.held) result }
     {
         if !self.cut_all(range) {
             return Ending::GiveUp;
@@ -242,6 +251,7 @@ fn decide_place_over<M: SlotMap, A: Allocator>(
     target: Target,
 ) -> Decision
     requires { IsSoundGoal (GoalOf.Place place target) }
+    ensures decides { DecidesPlace (M.slots map.now) place target result }
     ensures sound { IsSoundAct (GoalOf.Place place target) result }
     ensures inside { IsInside (target_range place target) result }
     ensures places { PlacesAt place result }

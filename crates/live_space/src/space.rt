@@ -60,7 +60,11 @@ impl<A: Allocator + Clone> Live<A> {
     }
 
     /// The pieces, as they are lent to a step.
-    pub(crate) fn pieces(&self) -> Pieces<'_, A> {
+    pub(crate) fn pieces(&self) -> Pieces<'_, A>
+        ensures files { result.objects.now ≡ self.now.files }
+        ensures cores { length result.cores.now ≡ self.now.cores }
+        ensures frames { length result.frames.now ≡ self.now.frames }
+    {
         Pieces {
             alloc: self.tree.alloc(),
             objects: &self.objects,

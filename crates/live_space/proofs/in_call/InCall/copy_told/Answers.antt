@@ -1,4 +1,7 @@
-use Rattle.std.proofs.Common.{refl, arith}
+use Rattle.std.proofs.Common.{refl, arith, ap, ◌∙◌, subst}
+use Rattle.seats.specs.Notes.{SeatView}
+use Rattle.live_space.specs.Faulting.{GetsCopy, GivesUpOr}
+use Rattle.live_space.proofs.Faulted.{got_copy}
 use Rattle.seats.proofs.Growing.{grew_trans}
 use Rattle.live_space.proofs.Noted.{goes_before, left_after, one_if}
 use Rattle.live_space.proofs.in_call.InCall.copy_told.Goals as goal
@@ -18,3 +21,10 @@ returns-else-copy_page-clause-goes g c = record {
   same_reference = refl;
   grew = grew_trans _ _ _ c.take_all.ensures.grew (one_if _ _ _ _ _ _ c.copy_page.ensures.done c.copy_page.ensures.not).grew;
 }
+
+pub returns-then-copy_page-clause-page : goal.returns-then-copy_page-clause-page
+returns-then-copy_page-clause-page g c =
+    let w = c.copy_page.ensures.done c.if-copy_page.true in
+    let same = ap (λ (s : SeatView). s.core) w.step ∙ c.take_all.ensures.grew.same.core in
+    subst (λ n. GivesUpOr (GetsCopy n c.args.self.now.held) c.install.result c.install.new.self.held) same
+    (got_copy c.args.frames.own _ _ _ _ _ _ c.install.result w c.install.ensures.page)

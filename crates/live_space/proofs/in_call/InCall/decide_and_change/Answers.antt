@@ -1,4 +1,5 @@
-use Rattle.std.proofs.Common.{rules, inr, subst}
+use Rattle.std.proofs.Common.{rules, inr, subst, arith}
+use Rattle.live_space.proofs.Decided.{decided_users}
 use Rattle.backing.specs.Files.{files_of}
 use Rattle.slot_lock.specs.Plan.{range_of}
 use Rattle.vm_calls.specs.declared.decision.Decision.TheVariants as DecisionOf
@@ -21,4 +22,18 @@ returns-then-make-clause-made g c =
       subst (λ (h : HeldView). DecidesChange files (shown h.slots) c.args.change (DecisionOf.Act (range_of c.args.change) c.in-Act.losses.cores)) same decides.0,
       c.reply_to.ensures,
       subst (λ (h : HeldView). MadeIn c.args.change h c.make.new.self.seat.now c.make.new.self.held) same (c.if-make.ensures.made (search rules)),
+    )
+
+pub make-requires : goal.make-requires
+make-requires g c =
+    let decides : DecidesHeld (files_of c.args.self.now.space.now.files) (shown c.has_room.new.self.held.slots) c.args.change (Act c.in-Act.losses)
+    = search rules in (
+      omega arith,
+      (
+        c.requires.sound,
+        (
+          decides.1,
+          (decided_users (files_of c.args.self.now.space.now.files) (shown c.has_room.new.self.held.slots) c.args.change c.in-Act.losses.cores decides.0, search rules),
+        ),
+      ),
     )

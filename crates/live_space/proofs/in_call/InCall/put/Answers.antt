@@ -1,3 +1,4 @@
+use Rattle.std.proofs.Common.{◌∙◌}
 use Rattle.std.proofs.Common.{rules, arith, ap, refl}
 use Rattle.seats.specs.Notes.{SeatView}
 use Rattle.seats.proofs.Growing.{grew_steps}
@@ -28,3 +29,13 @@ commit_slots-requires g c = (
 pub returns-clause-goes : goal.returns-clause-goes
 returns-clause-goes g c = goes_then _ _ _ (goes_trans _ _ _ c.cut_all.ensures.goes
     (goes_before _ _ _ c.commit_slots.ensures.goes refl (grew_steps _ _ _ c.step-fits.ensures))) refl (grew_set_page _ _ _ c.set_next_page.ensures)
+
+pub returns-clause-made : goal.returns-clause-made
+returns-clause-made g c = record {
+  ready = c.reserve.new.self;
+  first = c.reserve.ensures.place.0 ∙ c.cut_all.ensures.place.0;
+  end = c.reserve.ensures.place.1 ∙ c.cut_all.ensures.place.1;
+  noted = c.commit_slots.new.self.seat.now;
+  made = c.commit_slots.ensures.made;
+  next = c.set_next_page.ensures;
+}
