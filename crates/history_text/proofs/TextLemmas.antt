@@ -5,6 +5,7 @@ use Rattle.seats.specs.Notes.{SeatView}
 use Rattle.seats.specs.Packing.{shown}
 use Rattle.seats.specs.declared.noted.Noted.{Noted}
 use Rattle.seats.specs.declared.note_list.Notes.{Notes}
+use Rattle.certifier.specs.Order.{all_notes}
 use Rattle.trace.specs.Declarations.{Asked}
 use Rattle.trace.specs.declared.fault.TraceFault.{TraceFault}
 use Rattle.trace.specs.declared.fault.TraceFault.TheVariants as Of
@@ -13,10 +14,12 @@ use Rattle.notes_text.specs.Scripts.{ReadWhole, Scripted, Unread, unmade, unread
 use Rattle.notes_text.proofs.CollectLemmas.{stops_own}
 use Rattle.live_script.specs.Certified.{AreRising}
 use Rattle.live_script.specs.Runs.{RunsAll}
+use Rattle.live_script.specs.Sums.{sums_of}
 use Rattle.live_script.specs.Texts.{EndsText, Yields}
+use Rattle.live_script.specs.declared.sums.Sums.{Sums}
 use Rattle.live_script.specs.declared.texts.TextFault.{TextFault}
 use Rattle.orders.specs.declared.history.Timed.{Timed}
-use Rattle.history_text.specs.Ends.{IsHistoryText, calls_in}
+use Rattle.history_text.specs.Ends.{IsSummedHistory, calls_in}
 use Rattle.history_text.specs.History.{history_of}
 use Rattle.history_text.specs.Text.{history_text}
 use Rattle.history_text.proofs.LaterLemmas.{history_later}
@@ -39,14 +42,23 @@ pub calls_are : (slice : List Notes) (all : List Notes) (calls lent : List Timed
     → map shown all ≡ map (λ s. s.notes) seats → calls ≡ history_of (map shown slice) → lent ≡ calls → lent ≡ calls_in seats
 calls_are slice all calls lent seats same are is lends = lends ∙ is ∙ ap (λ l. history_of (map shown l)) same ∙ ap history_of are
 
--- the text of the calls
-pub history_given : (script : Scripted) (live : LiveView) (seats : List SeatView) (calls : List Timed) (all : List (List Noted)) (asked : Asked)
+-- the numbers of what is lent
+pub sums_are : (slice all : List Notes) (sums : Sums) (seats : List SeatView) → slice ≡ all → map shown all ≡ map (λ s. s.notes) seats
+    → sums ≡ sums_of (all_notes (map shown slice)) → sums ≡ sums_of (all_notes (map (λ s. s.notes) seats))
+sums_are slice all sums seats same are is =
+    is ∙ ap (λ (l : List Notes). sums_of (all_notes (map shown l))) same ∙ ap (λ (l : List (List Noted)). sums_of (all_notes l)) are
+
+-- the text of the calls, with the numbers of the notes
+pub history_given : (script : Scripted) (live : LiveView) (seats : List SeatView) (calls : List Timed) (all : List (List Noted)) (asked : Asked) (sums : Sums)
     → RunsAll script live seats → All AreRising all → all ≡ map (λ s. s.notes) seats → calls ≡ calls_in seats → asked ≡ script.asked
-    → IsHistoryText script (history_text asked calls)
-history_given script live seats calls all asked runs rising are is declared = record {
-  live = live;
-  seats = seats;
-  runs = runs;
-  later = history_later (map (λ s. s.notes) seats) (recursion_from_All AreRising _ (subst (All AreRising) are rising));
-  says = ap (λ a. history_text a calls) declared ∙ ap (history_text script.asked) is;
+    → sums ≡ sums_of (all_notes (map (λ s. s.notes) seats)) → IsSummedHistory script sums (history_text asked calls)
+history_given script live seats calls all asked sums runs rising are is declared counted = record {
+  history = record {
+    live = live;
+    seats = seats;
+    runs = runs;
+    later = history_later (map (λ s. s.notes) seats) (recursion_from_All AreRising _ (subst (All AreRising) are rising));
+    says = ap (λ a. history_text a calls) declared ∙ ap (history_text script.asked) is;
+  };
+  sums = counted;
 }

@@ -4,7 +4,10 @@ use Rattle.std.specs.List.{AllByRecursion}
 use Rattle.seats.specs.Notes.{SeatView}
 use Rattle.live_space.specs.Space.{LiveView}
 use Rattle.notes_text.specs.Scripts.{Scripted}
+use Rattle.live_script.specs.Certified.{notes_in}
 use Rattle.live_script.specs.Runs.{RunsAll}
+use Rattle.live_script.specs.Sums.{sums_of}
+use Rattle.live_script.specs.declared.sums.Sums.{Sums}
 use Rattle.orders.specs.declared.history.Timed.{Timed}
 use Rattle.history_text.specs.History.{EndsLater, history_of}
 use Rattle.history_text.specs.Text.{history_text}
@@ -20,3 +23,8 @@ pub record IsHistoryText (script : Scripted) (text : List ℕ) : Type 0 where
   pub runs : RunsAll script live seats
   pub later : AllByRecursion EndsLater (calls_in seats)
   pub says : text ≡ history_text script.asked (calls_in seats)
+
+-- the same, and these are the numbers of what its seats noted
+pub record IsSummedHistory (script : Scripted) (told : Sums) (text : List ℕ) : Type 0 where
+  pub history : IsHistoryText script text
+  pub sums : told ≡ sums_of (notes_in history.seats)

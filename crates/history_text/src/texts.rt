@@ -4,12 +4,13 @@ ghost use Rattle.trace_io.specs.Io.{read_from, written_to};
 ghost use Rattle.trace_io.specs.Source.{Reads};
 ghost use Rattle.trace.specs.Declarations.{asked_fault};
 ghost use Rattle.live_script.specs.Texts.{EndsText, TellsText, Yields, fault_of_run};
-ghost use Rattle.history_text.specs.Ends.{IsHistoryText};
+ghost use Rattle.history_text.specs.Ends.{IsSummedHistory};
 
 use crate::calls::history_of;
 use crate::writing::write_history;
+use live_script::sums::sums_of;
 use live_script::texts::TextFault;
-use live_script::{RunFault, Runner};
+use live_script::{RunFault, Runner, Sums};
 use notes_text::{Script, read_script};
 use std::alloc::Allocator;
 use std::sync::Wait;
@@ -29,16 +30,16 @@ fn fault_of_run(fault: RunFault) -> TextFault
     }
 }
 
-// Runs the script, and writes the history of its calls.
+// Runs the script, writes the history of its calls, and answers the numbers of what its seats noted.
 fn write_run<A: Allocator + Clone + Drop, T: Threads + Wait + Sync, R: Runner<A>, W: Sink>(
     rt: &T,
     runner: &R,
     alloc: A,
     script: &Script<A>,
     writer: &mut W,
-) -> Result<(), TextFault>
+) -> Result<Sums, TextFault>
     requires { asked_fault script.now.asked ≡ None }
-    ensures ends { Yields (λ script done text. IsHistoryText script text) script.now (W.contents writer.old) (W.contents writer.new) result }
+    ensures ends { Yields IsSummedHistory script.now (W.contents writer.old) (W.contents writer.new) result }
     ensures write { result ≡ Err (TextFault.Text TraceFault.WriteFailed) → W.failed writer.new ≡ true }
     ensures kept { (result ≡ Err (TextFault.Text TraceFault.WriteFailed)) ⊎ (W.failed writer.new ≡ W.failed writer.old) }
     ensures out { OnOk result (W.is_flushed writer.new ≡ true) }
@@ -59,25 +60,26 @@ fn write_run<A: Allocator + Clone + Drop, T: Threads + Wait + Sync, R: Runner<A>
     let Ok(calls) = history_of(alloc, notes.as_slice()) else {
         return Err(TextFault::Text(TraceFault::NoMemory));
     };
+    let sums = sums_of(notes.as_slice());
     match write_history(writer, script.declaration(), calls.as_slice()) {
-        Ok(()) => Ok(()),
+        Ok(()) => Ok(sums),
         Err(_) => Err(TextFault::Text(TraceFault::WriteFailed)),
     }
 }
 
 /// Reads a script, runs it, and writes its history: what it declares, and of each call that was answered the line
-/// `BEGIN END cC! REQ = REPLY` with the tickets of its beginning and its answer, one core after another. Faults come in this
-/// order: of the text, of the making of the space, of a core's task, and of writing; nothing is written before the last. Memory
-/// may be wanting at any time.
+/// `BEGIN END cC! REQ = REPLY` with the tickets of its beginning and its answer, one core after another. Answers the numbers of
+/// what the seats noted. Faults come in this order: of the text, of the making of the space, of a core's task, and of writing;
+/// nothing is written before the last. Memory may be wanting at any time.
 pub fn history_of_text<
     A: Allocator + Clone + Drop,
     T: Threads + Wait + Sync,
     R: Runner<A>,
     S: Source,
     W: Sink,
->(rt: &T, runner: &R, alloc: A, reader: &mut S, writer: &mut W) -> Result<(), TextFault>
+>(rt: &T, runner: &R, alloc: A, reader: &mut S, writer: &mut W) -> Result<Sums, TextFault>
     ensures ends { Reads (S.stream reader.old) (S.stream reader.new) (λ input unread. EndsText
-        (λ script done text. IsHistoryText script text) input unread (W.contents writer.old) (W.contents writer.new) result) }
+        IsSummedHistory input unread (W.contents writer.old) (W.contents writer.new) result) }
     ensures told { TellsText result (read_from S.Source reader.old reader.new) (written_to W.Sink writer.old writer.new) }
 {
     let Ok(for_script) = alloc.clone() else {

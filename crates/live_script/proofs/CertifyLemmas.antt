@@ -22,7 +22,9 @@ use Rattle.seats.specs.Notes.{SeatView}
 use Rattle.certifier.specs.Order.{all_notes}
 use Rattle.live_script.specs.Certified.{IsCertifiedRun, FailsRun}
 use Rattle.live_script.specs.Runs.{RunsAll}
-use Rattle.live_script.specs.Texts.{JudgedRun, JudgesRun}
+use Rattle.live_script.specs.Sums.{sums_of}
+use Rattle.live_script.specs.Texts.{JudgedNotes, JudgesRun}
+use Rattle.live_script.specs.declared.texts.Judgement.{Judgement}
 
 module _ {A : Type 0} (parts : PageRange → ℕ → ℕ → Bool) (CanFold : Slots → ℕ → Type 0) (Folds : Slots → Slots → ℕ → Type 0)
     (asked declared : Asked) (setup : Setup A) (notes : List Noted) (slots : List (SlotHistory A))
@@ -47,15 +49,20 @@ module _ {A : Type 0} (parts : PageRange → ℕ → ℕ → Bool) (CanFold : Sl
 
 -- what certifying what a script's seats noted beside the histories of its space comes to
 pub judged_run : {A : Type 0} (parts : PageRange → ℕ → ℕ → Bool) (CanFold : Slots → ℕ → Type 0) (Folds : Slots → Slots → ℕ → Type 0) (script : Scripted)
-    (live : LiveView) (seats : List SeatView) (histories : Histories A) (left all : List (List Noted)) (verdict : Verdict) → RunsAll script live seats
+    (live : LiveView) (seats : List SeatView) (histories : Histories A) (left all : List (List Noted)) (judgement : Judgement) → RunsAll script live seats
     → AreOf live.word histories → left ≡ map (λ s. s.notes) seats → AreWhole left → all ≡ left
-    → JudgesRun A parts CanFold Folds script.asked (all_notes all) histories.slots.items verdict → JudgedRun A parts CanFold Folds script verdict
-judged_run {A} parts CanFold Folds script live seats histories left all verdict runs own are whole same h = record {
-  live = live;
-  seats = seats;
-  runs = runs;
-  whole = subst AreWhole are whole;
-  histories = histories;
-  own = own;
-  judges = subst (λ ls. JudgesRun A parts CanFold Folds script.asked (all_notes ls) histories.slots.items verdict) (same ∙ are) h;
+    → judgement.sums ≡ sums_of (all_notes all)
+    → JudgesRun A parts CanFold Folds script.asked (all_notes all) histories.slots.items judgement.verdict
+    → JudgedNotes A parts CanFold Folds script judgement
+judged_run {A} parts CanFold Folds script live seats histories left all judgement runs own are whole same sums h = record {
+  run = record {
+    live = live;
+    seats = seats;
+    runs = runs;
+    whole = subst AreWhole are whole;
+    histories = histories;
+    own = own;
+    judges = subst (λ ls. JudgesRun A parts CanFold Folds script.asked (all_notes ls) histories.slots.items judgement.verdict) (same ∙ are) h;
+  };
+  sums = sums ∙ ap (λ ls. sums_of (all_notes ls)) (same ∙ are);
 }

@@ -4,6 +4,7 @@ mod FitLemmas
 mod KeptLemmas
 mod LaneLemmas
 mod NumberedLemmas
+mod SumLemmas
 mod TaskLemmas
 mod TextLemmas
 mod TurnLemmas

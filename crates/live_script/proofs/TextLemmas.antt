@@ -18,14 +18,16 @@ use Rattle.seats.specs.Packing.{shown}
 use Rattle.seats.specs.declared.note_list.Notes.{Notes}
 use Rattle.notes_text.specs.Ordered.{AreInOrder}
 use Rattle.notes_text.specs.Scripts.{ReadWhole, Scripted, Unread, unread_text, unmade, wanting}
-use Rattle.notes_text.specs.Verdicts.{is_certified, verdict_text}
+use Rattle.notes_text.specs.Verdicts.{verdict_text}
 use Rattle.notes_text.specs.WriteEnds.{Writes}
 use Rattle.notes_text.specs.Written.{notes_text}
-use Rattle.notes_text.specs.declared.verdict.Verdict.{Verdict}
 use Rattle.notes_text.proofs.CollectLemmas.{stops_own}
 use Rattle.live_script.specs.Certified.{notes_in}
 use Rattle.live_script.specs.Runs.{Fails, RunsAll}
-use Rattle.live_script.specs.Texts.{Ceases, unrun, unwritten, EndsText, IsNotesText, IsVerdictText, JudgedRun, Yields, fault_of_run}
+use Rattle.live_script.specs.Sums.{sums_of}
+use Rattle.live_script.specs.Texts.{Ceases, unrun, unwritten, EndsText, IsSummedText, IsVerdictText, JudgedNotes, Yields, fault_of_run}
+use Rattle.live_script.specs.declared.sums.Sums.{Sums}
+use Rattle.live_script.specs.declared.texts.Judgement.{Judgement}
 use Rattle.live_script.specs.declared.fault.RunFault.{RunFault}
 use Rattle.live_script.specs.declared.fault.RunFault.TheVariants.{Setup, Live, NoMemory}
 use Rattle.live_script.specs.declared.texts.TextFault.{TextFault}
@@ -58,57 +60,47 @@ lent_notes f lent all slice notes seats is of same are = ap (map shown) is ∙ o
 pub lent_typed : (lent all : List Notes) → lent ≡ all → All (All FitsTypes) (map shown all) → All (All FitsTypes) (map shown lent)
 lent_typed lent all is typed = subst (λ (l : List Notes). All (All FitsTypes) (map shown l)) (sym is) typed
 
--- what was written of the notes is their text
-pub notes_written : {U : Type 0} (script : Scripted) (live : LiveView) (seats : List SeatView) (slices : List (List Noted)) (old new : Option (List ℕ))
-    (x : U) → RunsAll script live seats → slices ≡ map (λ s. s.notes) seats → All (All FitsTypes) slices → AreWhole (map (λ s. s.notes) seats)
-    → (order : List Noted) × AreInOrder (all_notes slices) order × Appends old new (notes_text script.asked order)
-    → Yields (λ script (done : U) text. IsNotesText script text) script old new (Ok x)
-notes_written script live seats slices old new x runs same typed whole (order, are, app) = (
-  notes_text script.asked order,
-  record {
-    live = live;
-    seats = seats;
-    runs = runs;
-    whole = whole;
-    order = order;
-    in_order = subst (λ l. AreInOrder (all_notes l) order) same are;
-    fits = order_fits script live seats order runs (subst (All (All FitsTypes)) same typed) (subst (λ l. AreInOrder (all_notes l) order) same are);
-    says = refl;
-  },
-  app,
-)
+-- the numbers of what is lent
+pub lent_sums : (slice lent : List Notes) (sums : Sums) → slice ≡ lent → sums ≡ sums_of (all_notes (map shown slice))
+    → sums ≡ sums_of (all_notes (map shown lent))
+lent_sums slice lent sums same is = is ∙ ap (λ (l : List Notes). sums_of (all_notes (map shown l))) same
 
--- notes that weren't written whole
-pub notes_unwritten : {U : Type 0} (script : Scripted) (live : LiveView) (seats : List SeatView) (slices : List (List Noted)) (old new : Option (List ℕ))
-    (x : U) (f : TraceFault) → RunsAll script live seats → slices ≡ map (λ s. s.notes) seats → All (All FitsTypes) slices
-    → AreWhole (map (λ s. s.notes) seats)
-    → ((f ≡ Of.NoMemory) × Keeps old new)
-    ⊎ ((f ≡ Of.WriteFailed) × ((order : List Noted) × AreInOrder (all_notes slices) order × AppendsFront old new (notes_text script.asked order)))
-    → Ceases (λ script (done : U) text. IsNotesText script text) script old new (Text f)
-notes_unwritten script live seats slices old new x f runs same typed whole (inl (is, keeps)) = unrun NoMemory runs.declared.sound (ap Text is) keeps
-notes_unwritten script live seats slices old new x f runs same typed whole (inr (is, (order, are, front))) =
-    let (text, given, app) = given_text in unwritten (ap Text is) x text given app
-  where
-    given_text : (text : List ℕ) × IsNotesText script text × AppendsFront old new text
-    given_text = (
-      notes_text script.asked order,
-      record {
-        live = live;
-        seats = seats;
-        runs = runs;
-        whole = whole;
-        order = order;
-        in_order = subst (λ l. AreInOrder (all_notes l) order) same are;
-        fits = order_fits script live seats order runs (subst (All (All FitsTypes)) same typed) (subst (λ l. AreInOrder (all_notes l) order) same are);
-        says = refl;
-      },
-      front,
-    )
+module _ (script : Scripted) (live : LiveView) (seats : List SeatView) (slices : List (List Noted)) (old new : Option (List ℕ)) (sums : Sums)
+    (runs : RunsAll script live seats) (same : slices ≡ map (λ s. s.notes) seats) (typed : All (All FitsTypes) slices)
+    (whole : AreWhole (map (λ s. s.notes) seats)) (are : sums ≡ sums_of (all_notes slices)) where
+  -- the text of the notes in this order, with their numbers
+  text_of_notes : (order : List Noted) → AreInOrder (all_notes slices) order → IsSummedText script sums (notes_text script.asked order)
+  text_of_notes order stands = record {
+    notes = record {
+      live = live;
+      seats = seats;
+      runs = runs;
+      whole = whole;
+      order = order;
+      in_order = subst (λ l. AreInOrder (all_notes l) order) same stands;
+      fits = order_fits script live seats order runs (subst (All (All FitsTypes)) same typed) (subst (λ l. AreInOrder (all_notes l) order) same stands);
+      says = refl;
+    };
+    sums = are ∙ ap (λ l. sums_of (all_notes l)) same;
+  }
+
+  -- what was written of the notes is their text
+  pub notes_written : (order : List Noted) × AreInOrder (all_notes slices) order × Appends old new (notes_text script.asked order)
+      → Yields IsSummedText script old new (Ok sums)
+  notes_written (order, stands, app) = (notes_text script.asked order, text_of_notes order stands, app)
+
+  -- notes that weren't written whole
+  pub notes_unwritten : (f : TraceFault) → ((f ≡ Of.NoMemory) × Keeps old new)
+      ⊎ ((f ≡ Of.WriteFailed) × ((order : List Noted) × AreInOrder (all_notes slices) order × AppendsFront old new (notes_text script.asked order)))
+      → Ceases IsSummedText script old new (Text f)
+  notes_unwritten f (inl (is, keeps)) = unrun NoMemory runs.declared.sound (ap Text is) keeps
+  notes_unwritten f (inr (is, (order, stands, front))) =
+      unwritten (ap Text is) sums (notes_text script.asked order) (text_of_notes order stands) front
 
 -- ---- verdicts
 
 -- the line of a verdict
 pub verdict_given : {A : Type 0} (parts : PageRange → ℕ → ℕ → Bool) (CanFold : Slots → ℕ → Type 0) (Folds : Slots → Slots → ℕ → Type 0)
-    (script : Scripted) (verdict : Verdict) → JudgedRun A parts CanFold Folds script verdict
-    → IsVerdictText A parts CanFold Folds script (is_certified verdict) (verdict_text verdict)
-verdict_given parts CanFold Folds script verdict judged = record { verdict = verdict; judged = judged; certified = refl; says = refl }
+    (script : Scripted) (told : Judgement) → JudgedNotes A parts CanFold Folds script told
+    → IsVerdictText A parts CanFold Folds script told (verdict_text told.verdict)
+verdict_given parts CanFold Folds script told judged = record { judged = judged; says = refl }

@@ -21,12 +21,15 @@ use Rattle.trace.specs.declared.fault.TraceFault.TheVariants as Of
 use Rattle.notes_text.specs.Ordered.{AreInOrder}
 use Rattle.notes_text.specs.TextLaws.{FitsLine}
 use Rattle.notes_text.specs.Scripts.{ReadWhole, Scripted, Unread}
-use Rattle.notes_text.specs.Verdicts.{is_certified, verdict_text}
+use Rattle.notes_text.specs.Verdicts.{verdict_text}
 use Rattle.notes_text.specs.Written.{notes_text}
 use Rattle.notes_text.specs.declared.verdict.Verdict.{Verdict}
 use Rattle.notes_text.specs.declared.verdict.Verdict.TheVariants.{Certified, Ticket, Differs, Slot}
 use Rattle.live_script.specs.Certified.{FailsRun, IsCertifiedRun, notes_in}
 use Rattle.live_script.specs.Runs.{Fails, RunsAll}
+use Rattle.live_script.specs.Sums.{sums_of}
+use Rattle.live_script.specs.declared.sums.Sums.{Sums}
+use Rattle.live_script.specs.declared.texts.Judgement.{Judgement}
 use Rattle.live_script.specs.declared.fault.RunFault.{RunFault}
 use Rattle.live_script.specs.declared.fault.RunFault.TheVariants.{Setup, Live, NoMemory}
 use Rattle.live_script.specs.declared.texts.TextFault.{TextFault}
@@ -46,6 +49,11 @@ pub record IsNotesText (script : Scripted) (text : List ℕ) : Type 0 where
   pub in_order : AreInOrder (notes_in seats) order
   pub fits : AllByRecursion FitsLine order
   pub says : text ≡ notes_text script.asked order
+
+-- the same, and these are the numbers of what its seats noted
+pub record IsSummedText (script : Scripted) (told : Sums) (text : List ℕ) : Type 0 where
+  pub notes : IsNotesText script text
+  pub sums : told ≡ sums_of (notes_in notes.seats)
 
 -- What certifying all notes of a space beside histories of slots comes to: that a ticket doesn't stand once, it never does.
 abbrev pub JudgesRun : (A : Type 0) → (PageRange → ℕ → ℕ → Bool) → (Slots → ℕ → Type 0) → (Slots → Slots → ℕ → Type 0)
@@ -68,13 +76,17 @@ pub record JudgedRun (A : Type 0) (parts : PageRange → ℕ → ℕ → Bool) (
   pub own : AreOf live.word histories
   pub judges : JudgesRun A parts CanFold Folds script.asked (notes_in seats) histories.slots.items verdict
 
--- this is the line that tells it, of notes that are certified or not
+-- the same, with the numbers of what its seats noted
+pub record JudgedNotes (A : Type 0) (parts : PageRange → ℕ → ℕ → Bool) (CanFold : Slots → ℕ → Type 0)
+    (Folds : Slots → Slots → ℕ → Type 0) (script : Scripted) (judgement : Judgement) : Type 0 where
+  pub run : JudgedRun A parts CanFold Folds script judgement.verdict
+  pub sums : judgement.sums ≡ sums_of (notes_in run.seats)
+
+-- this is the line that tells it
 pub record IsVerdictText (A : Type 0) (parts : PageRange → ℕ → ℕ → Bool) (CanFold : Slots → ℕ → Type 0)
-    (Folds : Slots → Slots → ℕ → Type 0) (script : Scripted) (told : Bool) (text : List ℕ) : Type 0 where
-  pub verdict : Verdict
-  pub judged : JudgedRun A parts CanFold Folds script verdict
-  pub certified : told ≡ is_certified verdict
-  pub says : text ≡ verdict_text verdict
+    (Folds : Slots → Slots → ℕ → Type 0) (script : Scripted) (told : Judgement) (text : List ℕ) : Type 0 where
+  pub judged : JudgedNotes A parts CanFold Folds script told
+  pub says : text ≡ verdict_text told.verdict
 
 -- ---- how it ends
 

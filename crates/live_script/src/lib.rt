@@ -8,6 +8,7 @@ pub mod laws;
 pub mod ran;
 pub mod runner;
 pub mod running;
+pub mod sums;
 mod tasks;
 pub mod texts;
 
@@ -16,3 +17,4 @@ pub use fault::RunFault;
 pub use ran::{Ended, Ran};
 pub use runner::{InTurn, OnThreads, Runner};
 pub use running::{begin, finish_in_turn, finish_side_by_side, run_in_turn, run_script};
+pub use sums::Sums;

@@ -6,12 +6,13 @@ ghost use Rattle.trace.specs.Declarations.{asked_fault};
 ghost use Rattle.notes_text.specs.Scripts.{ReadsScript, Unread, ReadWhole};
 ghost use Rattle.notes_text.specs.Verdicts.{verdict_text};
 ghost use Rattle.live_script.specs.Runs.{Fails};
-ghost use Rattle.live_script.specs.Texts.{EndsText, IsNotesText, IsVerdictText, JudgedRun, TellsText, Yields, fault_of_run};
+ghost use Rattle.live_script.specs.Texts.{EndsText, IsSummedText, IsVerdictText, JudgedNotes, TellsText, Yields, fault_of_run};
 
 use crate::certifying::certify_ran;
 use crate::fault::RunFault;
 use crate::ran::lend;
 use crate::runner::Runner;
+use crate::sums::{Sums, sums_of};
 use certifier::CertifyFault;
 use live_space::fault::LiveFault;
 use notes_text::verdict::{Verdict, write_verdict};
@@ -50,16 +51,16 @@ fn fault_of_run(fault: RunFault) -> TextFault
 
 // ---- notes
 
-// Runs the script, and writes what its seats noted.
+// Runs the script, writes what its seats noted, and answers the numbers of that.
 fn write_run<A: Allocator + Clone + Drop, T: Threads + Wait + Sync, R: Runner<A>, W: Sink>(
     rt: &T,
     runner: &R,
     alloc: A,
     script: &Script<A>,
     writer: &mut W,
-) -> Result<(), TextFault>
+) -> Result<Sums, TextFault>
     requires { asked_fault script.now.asked ≡ None }
-    ensures ends { Yields (λ script done text. IsNotesText script text) script.now (W.contents writer.old) (W.contents writer.new) result }
+    ensures ends { Yields IsSummedText script.now (W.contents writer.old) (W.contents writer.new) result }
     ensures write { result ≡ Err (TextFault.Text TraceFault.WriteFailed) → W.failed writer.new ≡ true }
     ensures kept { (result ≡ Err (TextFault.Text TraceFault.WriteFailed)) ⊎ (W.failed writer.new ≡ W.failed writer.old) }
     ensures out { OnOk result (W.is_flushed writer.new ≡ true) }
@@ -80,24 +81,25 @@ fn write_run<A: Allocator + Clone + Drop, T: Threads + Wait + Sync, R: Runner<A>
     let Ok(lent) = lend(alloc, notes.as_slice()) else {
         return Err(TextFault::Text(TraceFault::NoMemory));
     };
+    let sums = sums_of(lent.as_slice());
     match write_notes(script, lent.as_slice(), writer) {
-        Ok(()) => Ok(()),
+        Ok(()) => Ok(sums),
         Err(fault) => Err(TextFault::Text(fault)),
     }
 }
 
-/// Reads a script, runs it, and writes the notes of all seats, in order of tickets. Faults come in this order: of the text, of
-/// the making of the space, of a core's task, and of writing; nothing is written before the last. Memory may be refused at any
-/// time.
+/// Reads a script, runs it, writes the notes of all seats, in order of tickets, and answers their numbers. Faults come in this
+/// order: of the text, of the making of the space, of a core's task, and of writing; nothing is written before the last. Memory
+/// may be refused at any time.
 pub fn run_text<
     A: Allocator + Clone + Drop,
     T: Threads + Wait + Sync,
     R: Runner<A>,
     S: Source,
     W: Sink,
->(rt: &T, runner: &R, alloc: A, reader: &mut S, writer: &mut W) -> Result<(), TextFault>
+>(rt: &T, runner: &R, alloc: A, reader: &mut S, writer: &mut W) -> Result<Sums, TextFault>
     ensures ends { Reads (S.stream reader.old) (S.stream reader.new) (λ input unread. EndsText
-        (λ script done text. IsNotesText script text) input unread (W.contents writer.old) (W.contents writer.new) result) }
+        IsSummedText input unread (W.contents writer.old) (W.contents writer.new) result) }
     ensures told { TellsText result (read_from S.Source reader.old reader.new) (written_to W.Sink writer.old writer.new) }
 {
     let Ok(for_script) = alloc.clone() else {
@@ -112,16 +114,23 @@ pub fn run_text<
 
 // ---- certificates
 
+/// What certifying a run came to, and the numbers of what its seats noted.
+#[derive(Clone, Copy, Debug, PartialEq, Eq)]
+pub struct Judgement {
+    pub verdict: Verdict,
+    pub sums: Sums,
+}
+
 // Runs the script, and certifies what its seats noted.
 fn judge_run<A: Allocator + Clone + Drop, T: Threads + Wait + Sync, R: Runner<A>>(
     rt: &T,
     runner: &R,
     alloc: A,
     script: &Script<A>,
-) -> Result<Verdict, TextFault>
+) -> Result<Judgement, TextFault>
     requires { asked_fault script.now.asked ≡ None }
-    ensures judged { IfOk result (λ verdict. JudgedRun A ⟦<RadixMap<A> as SlotMap>⟧.parts
-        ⟦<RadixMap<A> as SlotMap>⟧.can_fold ⟦<RadixMap<A> as SlotMap>⟧.folds script.now verdict) }
+    ensures judged { IfOk result (λ judgement. JudgedNotes A ⟦<RadixMap<A> as SlotMap>⟧.parts
+        ⟦<RadixMap<A> as SlotMap>⟧.can_fold ⟦<RadixMap<A> as SlotMap>⟧.folds script.now judgement) }
     ensures fault { IfErr result (λ f. (fault : RunFault) × Fails script.now fault × (f ≡ fault_of_run fault)) }
 {
     let Ok(for_run) = alloc.clone() else {
@@ -143,8 +152,12 @@ fn judge_run<A: Allocator + Clone + Drop, T: Threads + Wait + Sync, R: Runner<A>
     let Ok(notes) = ended.notes(for_notes) else {
         return Err(TextFault::Text(TraceFault::NoMemory));
     };
+    let sums = sums_of(notes.as_slice());
     match certify_ran(alloc, script, notes.as_slice(), &ended.histories) {
-        Ok(done) => Ok(Verdict::Certified(done.calls)),
+        Ok(done) => Ok(Judgement {
+            verdict: Verdict::Certified(done.calls),
+            sums,
+        }),
         // (the notes of all seats have the tickets below their number, each once)
         Err(CertifyFault::Ticket(_)) => unreachable!(),
         Err(
@@ -153,12 +166,18 @@ fn judge_run<A: Allocator + Clone + Drop, T: Threads + Wait + Sync, R: Runner<A>
                 noted,
                 expected,
             },
-        ) => Ok(Verdict::Differs {
-            ticket,
-            noted,
-            expected,
+        ) => Ok(Judgement {
+            verdict: Verdict::Differs {
+                ticket,
+                noted,
+                expected,
+            },
+            sums,
         }),
-        Err(CertifyFault::Slot { page }) => Ok(Verdict::Slot(page)),
+        Err(CertifyFault::Slot { page }) => Ok(Judgement {
+            verdict: Verdict::Slot(page),
+            sums,
+        }),
         // (the declaration has no fault)
         Err(CertifyFault::Setup(_)) | Err(CertifyFault::NoMemory) => {
             Err(TextFault::Text(TraceFault::NoMemory))
@@ -184,7 +203,7 @@ fn certify_read<A: Allocator + Clone + Drop, T: Threads + Wait + Sync, R: Runner
     alloc: A,
     script: &Script<A>,
     writer: &mut W,
-) -> Result<bool, TextFault>
+) -> Result<Judgement, TextFault>
     requires { asked_fault script.now.asked ≡ None }
     ensures ends { Yields (λ script told text. IsVerdictText A ⟦<RadixMap<A> as SlotMap>⟧.parts
         ⟦<RadixMap<A> as SlotMap>⟧.can_fold ⟦<RadixMap<A> as SlotMap>⟧.folds script told text)
@@ -193,26 +212,26 @@ fn certify_read<A: Allocator + Clone + Drop, T: Threads + Wait + Sync, R: Runner
     ensures kept { (result ≡ Err (TextFault.Text TraceFault.WriteFailed)) ⊎ (W.failed writer.new ≡ W.failed writer.old) }
     ensures out { OnOk result (W.is_flushed writer.new ≡ true) }
 {
-    let verdict = match judge_run(rt, runner, alloc, script) {
-        Ok(verdict) => verdict,
+    let judgement = match judge_run(rt, runner, alloc, script) {
+        Ok(judgement) => judgement,
         Err(fault) => return Err(fault),
     };
-    match send_verdict(writer, verdict) {
-        Ok(()) => Ok(verdict.is_certified()),
+    match send_verdict(writer, judgement.verdict) {
+        Ok(()) => Ok(judgement),
         Err(_) => Err(TextFault::Text(TraceFault::WriteFailed)),
     }
 }
 
 /// Reads a script, runs it, and writes the verdict on its notes beside the histories of the space's slots: a
-/// line as of `write_verdict`, which is never `refused C1`. Answers whether they are certified. Faults come as those of
-/// `run_text`; also where the space couldn't be ended, memory was refused.
+/// line as of `write_verdict`, which is never `refused C1`. Answers the verdict, and the numbers of the notes. Faults come as those
+/// of `run_text`; also where the space couldn't be ended, memory was refused.
 pub fn certify_run<
     A: Allocator + Clone + Drop,
     T: Threads + Wait + Sync,
     R: Runner<A>,
     S: Source,
     W: Sink,
->(rt: &T, runner: &R, alloc: A, reader: &mut S, writer: &mut W) -> Result<bool, TextFault>
+>(rt: &T, runner: &R, alloc: A, reader: &mut S, writer: &mut W) -> Result<Judgement, TextFault>
     ensures ends { Reads (S.stream reader.old) (S.stream reader.new) (λ input unread. EndsText
         (λ script told text. IsVerdictText A ⟦<RadixMap<A> as SlotMap>⟧.parts ⟦<RadixMap<A> as SlotMap>⟧.can_fold
         ⟦<RadixMap<A> as SlotMap>⟧.folds script told text)

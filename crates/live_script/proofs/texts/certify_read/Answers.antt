@@ -9,4 +9,4 @@ returns-in-Err-clause-ends g c = let (fault, fails, is) = c.in-Err.ensures.fault
 
 pub returns-in-Err-send_verdict-clause-ends : goal.returns-in-Err-send_verdict-clause-ends
 returns-in-Err-send_verdict-clause-ends g c =
-    unwritten refl _ _ (verdict_given _ _ _ _ c.in-Ok.verdict c.in-Ok.ensures.judged) c.in-Err-send_verdict.ensures.wrote.front
+    unwritten refl _ _ (verdict_given _ _ _ _ c.in-Ok.judgement c.in-Ok.ensures.judged) c.in-Err-send_verdict.ensures.wrote.front
