@@ -1,1 +1,2 @@
+mod JoinedRows
 mod Lived

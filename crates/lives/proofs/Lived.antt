@@ -10,10 +10,11 @@ use Rattle.std.proofs.lemmas.Map.Keys.{sorted_head, sorted_tail}
 use Rattle.std.specs.List.{AllByRecursion, filter, flat_map}
 use Rattle.std.specs.List.Sorted.{IsStrictlyIncreasing, IsStrictlySortedBy}
 use Rattle.std.specs.Ordering.{is_le, nat_cmp}
-use Rattle.std.specs.Prelude.{None, Some, nat_lt, option_to_list, slice_index_or}
+use Rattle.std.specs.Prelude.{Option, None, Some, nat_le, nat_lt, option_to_list, slice_index_or}
 use Rattle.vm_base.specs.Functions.{has}
+use Rattle.vm_base.specs.declared.info.Back.{Back}
 use Rattle.vm_base.specs.declared.page.PageRange.{PageRange}
-use Rattle.picture.specs.Moments.{changes, next_change, touches}
+use Rattle.picture.specs.Moments.{back_at, back_by, backing_by, backing_in, backing_of, changes, later_or, next_change, touches}
 use Rattle.picture.specs.Rows.{between, has_mapped, is_mapped_in, maps, rows_of}
 use Rattle.picture.specs.Shapes.{stretch_in, stretch_of, stretches_of}
 use Rattle.picture.specs.declared.moments.Moment.{Moment}
@@ -50,6 +51,16 @@ kept_change t page step keeps (r ∷ rs) = go (kept_change t page step keeps rs)
     go rest false true out is = clash (t r) (keeps r is) out
     go rest false false out is = rest ∙ ap (λ b. cond b (Some r.step) (next_change rs page step)) (sym is)
 
+kept_backing : (t : Recorded → Bool) (page step : ℕ) → ((r : Recorded) → t r ≡ false → backing_by r page step ≡ None)
+    → (known : Option Back) (all : List Recorded) → backing_of known (filter t all) page step ≡ backing_of known all page step
+kept_backing t page step none known [] = refl
+kept_backing t page step none known (r ∷ rs) = go (λ k. kept_backing t page step none k rs) (t r) refl
+  where
+    go : ((k : Option Back) → backing_of k (filter t rs) page step ≡ backing_of k rs page step) → (b : Bool) → t r ≡ b
+        → backing_of known (cond b (r ∷ filter t rs) (filter t rs)) page step ≡ backing_of (later_or (backing_by r page step) known) rs page step
+    go rest true is = rest (later_or (backing_by r page step) known)
+    go rest false is = rest known ∙ ap (λ b. backing_of (later_or b known) rs page step) (sym (none r is))
+
 kept_stretches : (t : Recorded → Bool) (f g : Recorded → List Stretch) → ((r : Recorded) → f r ≡ g r) → ((r : Recorded) → t r ≡ false → g r ≡ [])
     → (rs : List Recorded) → flat_map f (filter t rs) ≡ flat_map g rs
 kept_stretches t f g same none [] = refl
@@ -81,7 +92,7 @@ has_overlaps range span page is h =
     ap (λ b. b && ltb span.first range.end) left ∙ right
 
 touch_meets : (span : PageRange) (page : ℕ) → IsIn span page → (m : Moment) → touches page m ≡ true → meets_in span m ≡ true
-touch_meets span page is (Mapped range prot) h = has_overlaps range span page is h
+touch_meets span page is (Mapped range prot back) h = has_overlaps range span page is h
 touch_meets span page is (Unmapped range) h = has_overlaps range span page is h
 touch_meets span page is (Begins call core request) h = h
 touch_meets span page is (Answers call reply) h = h
@@ -90,7 +101,7 @@ touch_meets span page is (Took core sender pass) h = h
 touch_meets span page is (Did core deed) h = h
 
 map_touches : (page : ℕ) (m : Moment) → maps page m ≡ true → touches page m ≡ true
-map_touches page (Mapped range prot) h = h
+map_touches page (Mapped range prot back) h = h
 map_touches page (Unmapped range) h = absurd (true≢false (sym h))
 map_touches page (Begins call core request) h = h
 map_touches page (Answers call reply) h = h
@@ -106,21 +117,66 @@ change_kept : (span : PageRange) (page step : ℕ) → IsIn span page → (all :
 change_kept span page step is all =
     kept_change (meets span) page step (λ r h. touch_meets span page is r.moment (first_of_both (touches page r.moment) (nat_lt step r.step) h)) all
 
+nothing_by : (b : Bool) (x : Option Back) → x ≡ None → cond b x None ≡ None
+nothing_by true x is = is
+nothing_by false x is = refl
+
+no_backing : (span : PageRange) (page : ℕ) → IsIn span page → (m : Moment) → meets_in span m ≡ false → backing_in page m ≡ None
+no_backing span page is (Mapped range prot back) out = go (has range page) refl
+  where
+    go : (b : Bool) → has range page ≡ b → cond b (back_by back (page - range.first)) None ≡ None
+    go true h = clash (overlap range span) (has_overlaps range span page is h) out
+    go false h = refl
+no_backing span page is (Unmapped range) out = refl
+no_backing span page is (Begins call core request) out = refl
+no_backing span page is (Answers call reply) out = refl
+no_backing span page is (Told core cores) out = refl
+no_backing span page is (Took core sender pass) out = refl
+no_backing span page is (Did core deed) out = refl
+
+backing_kept : (span : PageRange) (page step : ℕ) → IsIn span page → (all : List Recorded)
+    → backing_of None (filter (meets span) all) page step ≡ backing_of None all page step
+backing_kept span page step is all =
+    kept_backing (meets span) page step (λ r out. nothing_by (nat_le r.step step) (backing_in page r.moment) (no_backing span page is r.moment out)) None all
+
 same_stretch : (some all : List Recorded) (row : ℕ) (pages : PageRange) (step : ℕ) → next_change some pages.first step ≡ next_change all pages.first step
+    → backing_of None some pages.first step ≡ backing_of None all pages.first step
     → (m : Moment) → stretch_in some row pages step m ≡ stretch_in all row pages step m
-same_stretch some all row pages step same (Mapped range prot) =
-    ap (λ e. cond (has range pages.first) (Some (record { row = row; pages = pages; prot = prot; begin = step; end = e })) None) same
-same_stretch some all row pages step same (Unmapped range) = refl
-same_stretch some all row pages step same (Begins call core request) = refl
-same_stretch some all row pages step same (Answers call reply) = refl
-same_stretch some all row pages step same (Told core cores) = refl
-same_stretch some all row pages step same (Took core sender pass) = refl
-same_stretch some all row pages step same (Did core deed) = refl
+same_stretch some all row pages step same backs (Mapped range prot back) =
+    ap (λ e. cond (has range pages.first) (Some (record {
+      row = row;
+      pages = pages;
+      prot = prot;
+      back = back_at some back (pages.first - range.first) pages.first step;
+      begin = step;
+      end = e;
+    })) None) same
+    ∙ ap (λ k. cond (has range pages.first) (Some (record {
+      row = row;
+      pages = pages;
+      prot = prot;
+      back = later_or (back_by back (pages.first - range.first)) k;
+      begin = step;
+      end = next_change all pages.first step;
+    })) None) backs
+same_stretch some all row pages step same backs (Unmapped range) = refl
+same_stretch some all row pages step same backs (Begins call core request) = refl
+same_stretch some all row pages step same backs (Answers call reply) = refl
+same_stretch some all row pages step same backs (Told core cores) = refl
+same_stretch some all row pages step same backs (Took core sender pass) = refl
+same_stretch some all row pages step same backs (Did core deed) = refl
 
 no_stretch : (span : PageRange) (all : List Recorded) (row : ℕ) (pages : PageRange) (step : ℕ) → IsIn span pages.first
     → (m : Moment) → meets_in span m ≡ false → option_to_list (stretch_in all row pages step m) ≡ []
-no_stretch span all row pages step is (Mapped range prot) out =
-    go (record { row = row; pages = pages; prot = prot; begin = step; end = next_change all pages.first step }) (has range pages.first) refl
+no_stretch span all row pages step is (Mapped range prot back) out =
+    go (record {
+      row = row;
+      pages = pages;
+      prot = prot;
+      back = back_at all back (pages.first - range.first) pages.first step;
+      begin = step;
+      end = next_change all pages.first step;
+    }) (has range pages.first) refl
   where
     go : (life : Stretch) (b : Bool) → has range pages.first ≡ b → option_to_list (cond b (Some life) None) ≡ []
     go life true h = clash (overlap range span) (has_overlaps range span pages.first is h) out
@@ -137,7 +193,7 @@ stretches_kept : (span : PageRange) (all : List Recorded) (row : ℕ) (pages : P
 stretches_kept span all row pages is =
     let some = filter (meets span) all in
     kept_stretches (meets span) (λ r. option_to_list (stretch_of some row pages r)) (λ r. option_to_list (stretch_of all row pages r))
-    (λ r. ap option_to_list (same_stretch some all row pages r.step (change_kept span pages.first r.step is all) r.moment))
+    (λ r. ap option_to_list (same_stretch some all row pages r.step (change_kept span pages.first r.step is all) (backing_kept span pages.first r.step is all) r.moment))
     (λ r out. no_stretch span all row pages r.step is r.moment out) all
 
 -- ---- rows within a range
@@ -240,8 +296,15 @@ fits (suc n) (x ∷ xs) h = ap (λ l. x ∷ l) (fits n xs (omega (arith, h)))
 
 some_stretch : (all : List Recorded) (row : ℕ) (pages : PageRange) (step : ℕ) (m : Moment) → maps pages.first m ≡ true
     → 1 ≤ length (option_to_list (stretch_in all row pages step m))
-some_stretch all row pages step (Mapped range prot) h =
-    go (record { row = row; pages = pages; prot = prot; begin = step; end = next_change all pages.first step }) (has range pages.first) h
+some_stretch all row pages step (Mapped range prot back) h =
+    go (record {
+      row = row;
+      pages = pages;
+      prot = prot;
+      back = back_at all back (pages.first - range.first) pages.first step;
+      begin = step;
+      end = next_change all pages.first step;
+    }) (has range pages.first) h
   where
     go : (life : Stretch) (b : Bool) → b ≡ true → 1 ≤ length (option_to_list (cond b (Some life) None))
     go life true is = omega arith

@@ -2,14 +2,18 @@
 use Rattle.std.specs.Prelude.{ℕ, zero, suc, ◌+◌, ◌-◌, ◌*◌, ◌/◌, ◌^◌, Bool, List, [], ◌∷◌, ◌++◌, Option, None, Some, if◌then◌else◌, ◌==◌}
 use Rattle.std.specs.Prelude.{codes, decimal, length, min, nat_lt, slice_get, take}
 use Rattle.std.specs.List.{concat, flat_map}
+use Rattle.vm_base.specs.declared.info.Back.{Back}
+use Rattle.vm_base.specs.declared.info.Back.TheVariants.{Anon, Shared, Private}
 use Rattle.trace_text.specs.Lists.{start_of}
 use Rattle.trace_text.specs.Spelling.{rights_text}
+use Rattle.picture.specs.Backing.{backing_words}
 use Rattle.picture.specs.Canvas.{front_text}
 use Rattle.picture.specs.Drawing.{prot_class}
 use Rattle.picture.specs.Elements.{line_text, text_front}
 use Rattle.picture.specs.Parts.{span_text}
 use Rattle.picture.specs.Style.{Shade, both_shade, exec_shade, nothing_shade, read_shade, shades, write_shade}
 use Rattle.picture.specs.declared.elements.Way.{Way}
+use Rattle.lives.specs.Joining.{joined_rows}
 use Rattle.lives.specs.Living.{lives_of}
 use Rattle.lives.specs.declared.drawing.Chart.{Chart}
 use Rattle.picture.specs.declared.moments.Recorded.{Recorded}
@@ -48,11 +52,29 @@ abbrev pub key_text : List ℕ → List ℕ → Shade → List ℕ
 key_text x words shade = concat (codes "<rect x=\"" ∷ x ∷ codes "\" y=\"9\" width=\"14\" height=\"10\" class=\"" ∷ shade.class
     ∷ codes "\"/><text class=\"note\" x=\"" ∷ words ∷ codes "\" y=\"18\">" ∷ shade.name ∷ codes "</text>\n" ∷ [])
 
+-- what backs the pages of a life: a class of its own
+abbrev pub kind_class : Option Back → List ℕ
+kind_class None = codes "unknown"
+kind_class (Some Anon) = codes "anon"
+kind_class (Some (Shared file page)) = codes "shared"
+kind_class (Some (Private file page)) = codes "private"
+
+-- the colour of such lives is so full
+abbrev pub fullness_rule : List ℕ → List ℕ → List ℕ
+fullness_rule class fullness = concat (codes "." ∷ class ∷ codes "{fill-opacity:" ∷ fullness ∷ codes "}" ∷ [])
+
+abbrev pub kind_key : List ℕ → List ℕ → List ℕ → List ℕ
+kind_key x words class = concat (codes "<rect x=\"" ∷ x ∷ codes "\" y=\"9\" width=\"14\" height=\"10\" class=\"write " ∷ class
+    ∷ codes "\"/><text class=\"note\" x=\"" ∷ words ∷ codes "\" y=\"18\">" ∷ class ∷ codes "</text>\n" ∷ [])
+
+-- colours say what pages allow, and shades what backs them
 abbrev pub style_text : List ℕ
-style_text = concat (codes "<style>\nrect{stroke-width:.5px;vector-effect:non-scaling-stroke}\n" ∷ flat_map edge_rule shades ∷ codes "\n</style>\n"
+style_text = concat (codes "<style>\nrect{stroke-width:.5px;vector-effect:non-scaling-stroke}\n" ∷ flat_map edge_rule shades ∷ codes "\n"
+    ∷ fullness_rule (codes "anon") (codes ".3") ∷ fullness_rule (codes "private") (codes ".6") ∷ codes "\n</style>\n"
     ∷ key_text (codes "640") (codes "658") nothing_shade ∷ key_text (codes "740") (codes "758") read_shade
     ∷ key_text (codes "810") (codes "828") write_shade ∷ key_text (codes "884") (codes "902") exec_shade
-    ∷ key_text (codes "970") (codes "988") both_shade ∷ [])
+    ∷ key_text (codes "970") (codes "988") both_shade ∷ kind_key (codes "1140") (codes "1158") (codes "anon")
+    ∷ kind_key (codes "1220") (codes "1238") (codes "private") ∷ kind_key (codes "1320") (codes "1338") (codes "shared") ∷ [])
 
 -- ---- text
 
@@ -64,36 +86,46 @@ head_text chart more n = text_front (codes "head") 8 18 ++ count_words more n ++
 
 -- after an eighth of the steps, or several
 abbrev pub tick_way : Chart → ℕ → Way
-tick_way chart at = record { x1 = 104 + 150 * at; y1 = 44; x2 = 104 + 150 * at; y2 = plot_height chart + 48 }
+tick_way chart at = record { x1 = 504 + 150 * at; y1 = 44; x2 = 504 + 150 * at; y2 = plot_height chart + 48 }
 
 unfoldable pub tick_text : Chart → ℕ → List ℕ
-tick_text chart at = concat (line_text (codes "grid") (tick_way chart at) ∷ text_front (codes "step") (104 + 150 * at) 38
+tick_text chart at = concat (line_text (codes "grid") (tick_way chart at) ∷ text_front (codes "step") (504 + 150 * at) 38
     ∷ decimal (min (chart.steps * at) (2 ^ 64 - 1) / 8) ∷ codes "</text>\n" ∷ [])
 
 abbrev pub ticks_text : Chart → ℕ → List ℕ
 ticks_text chart zero = []
 ticks_text chart (suc n) = ticks_text chart n ++ tick_text chart n
 
--- the address of a row, for one row or for some: as many as have room
+-- what a row is, for one row or for some: as many as have room
 abbrev pub count_of : Chart → ℕ
 count_of chart = min chart.rows 63
 
--- the first page of a row, as its lives have it
-abbrev pub first_of : List Stretch → ℕ → ℕ
-first_of [] row = 0
-first_of (life ∷ lives) row = if life.row == row then life.pages.first else first_of lives row
+-- the last life of a row; the one that is known so far where none of these is the row's
+abbrev pub last_of : Option Stretch → List Stretch → ℕ → Option Stretch
+last_of known [] row = known
+last_of known (life ∷ lives) row = last_of (if life.row == row then Some life else known) lives row
 
-unfoldable pub page_text : Chart → List Stretch → ℕ → List ℕ
-page_text chart lives at = concat (text_front (codes "page") 8 (plot_height chart * at / count_of chart + 58)
-    ∷ start_of (first_of lives (chart.rows * at / count_of chart)) ∷ codes "</text>\n" ∷ [])
+-- which pages a row has, and what they are mapped to in its last life
+unfoldable pub row_text : ℕ → List ℕ → Option Stretch → List ℕ
+row_text y text None = []
+row_text y text (Some life) = concat (text_front (codes "page") 8 y ∷ start_of life.pages.first ∷ codes "-" ∷ start_of life.pages.end
+    ∷ backing_words text life.back ∷ codes "</text>\n" ∷ [])
 
-abbrev pub pages_text : Chart → List Stretch → ℕ → List ℕ
-pages_text chart lives zero = []
-pages_text chart lives (suc n) = pages_text chart lives n ++ page_text chart lives n
+unfoldable pub page_text : Chart → List ℕ → List Stretch → ℕ → List ℕ
+page_text chart text lives at =
+    row_text (plot_height chart * at / count_of chart + 58) text (last_of None lives (chart.rows * at / count_of chart))
+
+abbrev pub pages_text : Chart → List ℕ → List Stretch → ℕ → List ℕ
+pages_text chart text lives zero = []
+pages_text chart text lives (suc n) = pages_text chart text lives n ++ page_text chart text lives n
+
+-- beside the drawing, which they don't reach
+unfoldable pub labels_text : Chart → List ℕ → List Stretch → List ℕ
+labels_text chart text lives = codes "<svg width=\"496\">\n" ++ pages_text chart text lives (count_of chart) ++ codes "</svg>\n"
 
 -- a drawing of its own in the picture, whose units are a step and a row; step 1 lies at its left edge
 unfoldable pub frame_text : Chart → List ℕ
-frame_text chart = concat (codes "<svg x=\"104\" y=\"48\" width=\"1200\" height=\"" ∷ decimal (plot_height chart)
+frame_text chart = concat (codes "<svg x=\"504\" y=\"48\" width=\"1200\" height=\"" ∷ decimal (plot_height chart)
     ∷ codes "\" viewBox=\"1 0 " ∷ decimal chart.steps ∷ codes " " ∷ decimal chart.rows ∷ codes "\" preserveAspectRatio=\"none\">\n" ∷ [])
 
 -- where a life ends
@@ -101,18 +133,19 @@ abbrev pub life_end : Chart → Option ℕ → ℕ
 life_end chart (Some step) = step
 life_end chart None = end_of chart.steps
 
-unfoldable pub life_text : Chart → Stretch → List ℕ
-life_text chart life = concat (codes "<rect class=\"" ∷ prot_class life.prot ∷ codes "\" x=\"" ∷ decimal life.begin ∷ codes "\" y=\"" ∷ decimal life.row
+unfoldable pub life_text : Chart → List ℕ → Stretch → List ℕ
+life_text chart text life = concat (codes "<rect class=\"" ∷ prot_class life.prot ∷ codes " " ∷ kind_class life.back ∷ codes "\" x=\"" ∷ decimal life.begin ∷ codes "\" y=\"" ∷ decimal life.row
     ∷ codes "\" width=\"" ∷ decimal (life_end chart life.end - life.begin) ∷ codes "\" height=\"1\"><title>" ∷ start_of life.pages.first ∷ codes "-"
-    ∷ start_of life.pages.end ∷ codes " " ∷ rights_text life.prot ∷ span_text life.begin life.end ∷ codes "</title></rect>\n" ∷ [])
+    ∷ start_of life.pages.end ∷ codes " " ∷ rights_text life.prot ∷ backing_words text life.back ∷ span_text life.begin life.end ∷ codes "</title></rect>\n" ∷ [])
 
-unfoldable pub chart_text : Chart → Bool → List Stretch → List ℕ
-chart_text chart more lives = front_text 1360 (plot_height chart + 64) ++ style_text ++ head_text chart more (length lives)
-    ++ ticks_text chart 9 ++ pages_text chart lives (count_of chart) ++ frame_text chart ++ flat_map (life_text chart) lives ++ codes "</svg>\n</svg>\n"
+unfoldable pub chart_text : Chart → List ℕ → Bool → List Stretch → List ℕ
+chart_text chart text more lives = front_text 1760 (plot_height chart + 64) ++ style_text ++ head_text chart more (length lives)
+    ++ ticks_text chart 9 ++ labels_text chart text lives ++ frame_text chart ++ flat_map (life_text chart text) lives ++ codes "</svg>\n</svg>\n"
 
-abbrev pub drawn_of : ℕ → List Stretch → List ℕ
-drawn_of steps lives = chart_text (chart_of steps (shown lives)) (are_more lives) (shown lives)
+-- in as few rows
+abbrev pub drawn_of : ℕ → List ℕ → List Stretch → List ℕ
+drawn_of steps text lives = chart_text (chart_of steps (joined_rows (shown lives))) text (are_more lives) (joined_rows (shown lives))
 
--- the lives of what is mapped over so many steps
-abbrev pub lives_text : ℕ → List Recorded → List ℕ
-lives_text steps all = drawn_of steps (lives_of all)
+-- the lives of what is mapped over so many steps, with names that the text of the trace has
+abbrev pub lives_text : ℕ → List ℕ → List Recorded → List ℕ
+lives_text steps text all = drawn_of steps text (lives_of all)

@@ -25,7 +25,7 @@ abbrev pub overlap : PageRange → PageRange → Bool
 overlap a b = nat_lt a.first b.end && nat_lt b.first a.end
 
 abbrev pub meets_in : PageRange → Moment → Bool
-meets_in pages (Mapped range prot) = overlap range pages
+meets_in pages (Mapped range prot back) = overlap range pages
 meets_in pages (Unmapped range) = overlap range pages
 meets_in pages (Begins call core request) = false
 meets_in pages (Answers call reply) = false

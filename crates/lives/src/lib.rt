@@ -2,4 +2,5 @@
 #![tactic(auto)]
 
 pub mod drawing;
+pub mod joining;
 pub mod living;

@@ -88,15 +88,15 @@ abbrev pub canvas_text : View → List PageRange → List ℕ
 canvas_text view rows =
     canvas_of view rows (width view) (height view (length rows)) (height view (length rows) - 44)
 
--- the canvas and all shapes
-unfoldable pub drawn : View → List PageRange → List Stretch → List Bar → List Arrow → List Mark → List ℕ
-drawn view rows stretches bars arrows marks = canvas_text view rows ++ flat_map (stretch_text view) stretches
+-- the canvas and all shapes, with names that the text of the trace has
+unfoldable pub drawn : View → List ℕ → List PageRange → List Stretch → List Bar → List Arrow → List Mark → List ℕ
+drawn view text rows stretches bars arrows marks = canvas_text view rows ++ flat_map (stretch_text view text) stretches
     ++ flat_map (bar_text view) bars ++ flat_map (arrow_text view) arrows ++ flat_map (mark_text view) marks ++ codes "</svg>\n"
 
 -- all shapes of a picture: pages first, calls over them, then arrows and marks
-abbrev pub drawn_of : View → List PageRange → List Recorded → List ℕ
-drawn_of view rows all = drawn view rows (all_stretches all rows) (bars_of all all) (arrows_of all all) (marks_of all)
+abbrev pub drawn_of : View → List ℕ → List PageRange → List Recorded → List ℕ
+drawn_of view text rows all = drawn view text rows (all_stretches all rows) (bars_of all all) (arrows_of all all) (marks_of all)
 
--- the picture of what happened
-abbrev pub picture_text : View → List Recorded → List ℕ
-picture_text view all = drawn_of view (rows_of all (edges_of all)) all
+-- the picture of what happened in the run of a trace of this text
+abbrev pub picture_text : View → List ℕ → List Recorded → List ℕ
+picture_text view text all = drawn_of view text (rows_of all (edges_of all)) all

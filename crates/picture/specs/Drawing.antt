@@ -6,6 +6,7 @@ use Rattle.vm_base.specs.declared.requests.Request.TheVariants.{Mmap, Munmap, Mp
 use Rattle.vm_base.specs.declared.rights.Prot.{Prot}
 use Rattle.trace_text.specs.Lists.{start_of}
 use Rattle.trace_text.specs.Spelling.{rights_text}
+use Rattle.picture.specs.Backing.{backing_words}
 use Rattle.picture.specs.Elements.{circle_text, line_text, rect_text, text_front}
 use Rattle.picture.specs.Parts.{arguments_of, label_text, outcome_text, span_text}
 use Rattle.picture.specs.Places.{arrow_way, bar_place, column, lane, row_y, stretch_place}
@@ -84,7 +85,8 @@ abbrev pub prot_class : Prot → List ℕ
 prot_class prot = if prot.write && prot.exec then codes "both" else if prot.write then codes "write"
     else if prot.exec then codes "exec" else if prot.read then codes "read" else codes "none"
 
-unfoldable pub stretch_text : View → Stretch → List ℕ
-stretch_text view s = concat (codes "<g><title>" ∷ start_of s.pages.first ∷ codes "-" ∷ start_of s.pages.end ∷ codes " "
-    ∷ rights_text s.prot ∷ span_text s.begin s.end ∷ codes "</title>" ∷ rect_text (prot_class s.prot) (stretch_place view s)
+-- with names that the text of the trace has
+unfoldable pub stretch_text : View → List ℕ → Stretch → List ℕ
+stretch_text view text s = concat (codes "<g><title>" ∷ start_of s.pages.first ∷ codes "-" ∷ start_of s.pages.end ∷ codes " "
+    ∷ rights_text s.prot ∷ backing_words text s.back ∷ span_text s.begin s.end ∷ codes "</title>" ∷ rect_text (prot_class s.prot) (stretch_place view s)
     ∷ text_front (codes "prot") (column view s.begin + 30) (row_y view s.row + 15) ∷ rights_text s.prot ∷ codes "</text></g>\n" ∷ [])

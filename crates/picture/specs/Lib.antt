@@ -1,3 +1,4 @@
+pub mod Backing
 pub mod Canvas
 pub mod Drawing
 pub mod Elements

@@ -8,11 +8,12 @@ use Rattle.vm_base.specs.declared.requests.Request.TheVariants.{Mmap, Munmap, Mp
 use Rattle.vm_base.specs.declared.rights.Prot.{Prot}
 use Rattle.trace_text.specs.Printing.{address_of, text_of}
 use Rattle.trace_text.specs.Spelling.{rights_text}
+use Rattle.picture.specs.Backing.{backing_words}
 use Rattle.picture.specs.Elements.{circle_text, line_text, piece_text, rect_text, text_front}
 use Rattle.picture.specs.Places.{column, lane, reply_y}
 use Rattle.picture.specs.declared.moments.Answer.{Answer}
 use Rattle.picture.specs.declared.parts.Part.{Part}
-use Rattle.picture.specs.declared.parts.Part.TheVariants.{Plain, Rect, Line, Circle, Text, Arguments, Outcome, Span, Label}
+use Rattle.picture.specs.declared.parts.Part.TheVariants.{Plain, Rect, Line, Circle, Text, Arguments, Outcome, Span, Backing, Label}
 use Rattle.picture.specs.declared.places.View.{View}
 
 -- each behind a space
@@ -73,4 +74,5 @@ part_text (Text class x y) = text_front class.now x y
 part_text (Arguments request) = arguments_of request
 part_text (Outcome begin answer) = outcome_text begin answer
 part_text (Span begin end) = span_text begin end
+part_text (Backing text back) = backing_words text.now back
 part_text (Label view core answer) = label_text view core answer

@@ -1,9 +1,9 @@
 -- What a picture shows of a run.
-use Rattle.std.specs.Prelude.{ℕ, List, Option, None, Some, if◌then◌else◌, option_map, option_to_list}
+use Rattle.std.specs.Prelude.{ℕ, ◌-◌, List, Option, None, Some, if◌then◌else◌, option_map, option_to_list}
 use Rattle.std.specs.List.{flat_map}
 use Rattle.vm_base.specs.Functions.{has}
 use Rattle.vm_base.specs.declared.page.PageRange.{PageRange}
-use Rattle.picture.specs.Moments.{answer_of, latest_told, next_change}
+use Rattle.picture.specs.Moments.{answer_of, back_at, latest_told, next_change}
 use Rattle.picture.specs.declared.moments.Recorded.{Recorded}
 use Rattle.picture.specs.declared.moments.Moment.{Moment}
 use Rattle.picture.specs.declared.moments.Moment.TheVariants.{Begins, Answers, Told, Took, Did, Mapped, Unmapped}
@@ -24,7 +24,7 @@ bar_in all step (Answers call reply) = None
 bar_in all step (Told core cores) = None
 bar_in all step (Took core sender pass) = None
 bar_in all step (Did core deed) = None
-bar_in all step (Mapped pages prot) = None
+bar_in all step (Mapped pages prot back) = None
 bar_in all step (Unmapped pages) = None
 
 -- the bar of the call that begins in this step
@@ -47,7 +47,7 @@ arrow_in all step (Begins call core request) = None
 arrow_in all step (Answers call reply) = None
 arrow_in all step (Told core cores) = None
 arrow_in all step (Did core deed) = None
-arrow_in all step (Mapped pages prot) = None
+arrow_in all step (Mapped pages prot back) = None
 arrow_in all step (Unmapped pages) = None
 
 -- the arrow that ends in this step
@@ -64,7 +64,7 @@ mark_in step (Did core deed) = Some (record { core = core; step = step; sign = D
 mark_in step (Begins call core request) = None
 mark_in step (Answers call reply) = None
 mark_in step (Told core cores) = None
-mark_in step (Mapped pages prot) = None
+mark_in step (Mapped pages prot back) = None
 mark_in step (Unmapped pages) = None
 
 -- the mark of this step's deed
@@ -76,9 +76,16 @@ marks_of rs = flat_map (λ r. option_to_list (mark_of r)) rs
 
 -- pages that are mapped have a stretch in their row, up to the next change
 abbrev pub stretch_in : List Recorded → ℕ → PageRange → ℕ → Moment → Option Stretch
-stretch_in all row pages step (Mapped range prot) =
+stretch_in all row pages step (Mapped range prot back) =
     if has range pages.first
-    then Some (record { row = row; pages = pages; prot = prot; begin = step; end = next_change all pages.first step })
+    then Some (record {
+      row = row;
+      pages = pages;
+      prot = prot;
+      back = back_at all back (pages.first - range.first) pages.first step;
+      begin = step;
+      end = next_change all pages.first step;
+    })
     else None
 stretch_in all row pages step (Begins call core request) = None
 stretch_in all row pages step (Answers call reply) = None

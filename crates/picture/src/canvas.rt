@@ -234,12 +234,17 @@ fn put_marks(out: &mut Vec<u8>, view: View, marks: &[Mark]) -> Result<(), AllocE
 }
 
 // Appends all stretches.
-fn put_stretches(out: &mut Vec<u8>, view: View, stretches: &[Stretch]) -> Result<(), AllocError>
-    ensures { OnOk result (out.new.items ≡ out.old.items ++ flat_map (stretch_text view) stretches.now) }
+fn put_stretches(
+    out: &mut Vec<u8>,
+    view: View,
+    text: &[u8],
+    stretches: &[Stretch],
+) -> Result<(), AllocError>
+    ensures { OnOk result (out.new.items ≡ out.old.items ++ flat_map (stretch_text view text.now) stretches.now) }
 {
     let mut at = 0;
     'stretches: while at < stretches.len() {
-        put_stretch(out, view, stretches[at])?;
+        put_stretch(out, view, text, stretches[at])?;
         at += 1;
     }
     Ok(())
@@ -278,6 +283,7 @@ fn put_canvas(out: &mut Vec<u8>, view: View, rows: &[PageRange]) -> Result<(), A
 fn put_drawn(
     out: &mut Vec<u8>,
     view: View,
+    text: &[u8],
     rows: &[PageRange],
     stretches: &[Stretch],
     bars: &[Bar],
@@ -285,10 +291,10 @@ fn put_drawn(
     marks: &[Mark],
 ) -> Result<(), AllocError>
     ensures { OnOk result (out.new.items
-        ≡ out.old.items ++ drawn view rows.now stretches.now bars.now arrows.now marks.now) }
+        ≡ out.old.items ++ drawn view text.now rows.now stretches.now bars.now arrows.now marks.now) }
 {
     put_canvas(out, view, rows)?;
-    put_stretches(out, view, stretches)?;
+    put_stretches(out, view, text, stretches)?;
     put_bars(out, view, bars)?;
     put_arrows(out, view, arrows)?;
     put_marks(out, view, marks)?;
@@ -297,9 +303,15 @@ fn put_drawn(
 }
 
 /// The picture of what happened: a bar for each call, an arrow for each take of a core that was told, a mark for each
-/// deed, and the stretches of pages. It is one SVG text. An error is a refusal of memory.
-pub fn draw(alloc: Global, view: View, moments: &[Recorded]) -> Result<Vec<u8>, AllocError>
-    ensures { IfOk result (λ text. text.items ≡ picture_text view moments.now) }
+/// deed, and the stretches of pages, with the names of files that the text of the trace has. It is one SVG text. An error is a refusal
+/// of memory.
+pub fn draw(
+    alloc: Global,
+    view: View,
+    text: &[u8],
+    moments: &[Recorded],
+) -> Result<Vec<u8>, AllocError>
+    ensures { IfOk result (λ drawn. drawn.items ≡ picture_text view text.now moments.now) }
 {
     let edges = edges_of(alloc, moments)?;
     let rows = rows_of(alloc, moments, edges.as_slice())?;
@@ -311,6 +323,7 @@ pub fn draw(alloc: Global, view: View, moments: &[Recorded]) -> Result<Vec<u8>, 
     put_drawn(
         &mut out,
         view,
+        text,
         rows.as_slice(),
         stretches.as_slice(),
         bars.as_slice(),

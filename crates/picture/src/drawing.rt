@@ -208,9 +208,14 @@ pub fn prot_class(prot: Prot) -> &'static str
     }
 }
 
-/// Appends a stretch with its rights, and what it says on pointing.
-pub fn put_stretch(out: &mut Vec<u8>, view: View, stretch: Stretch) -> Result<(), AllocError>
-    ensures { OnOk result (out.new.items ≡ out.old.items ++ stretch_text view stretch) }
+/// Appends a stretch with its rights, and what it says on pointing, with names that the text of the trace has.
+pub fn put_stretch(
+    out: &mut Vec<u8>,
+    view: View,
+    text: &[u8],
+    stretch: Stretch,
+) -> Result<(), AllocError>
+    ensures { OnOk result (out.new.items ≡ out.old.items ++ stretch_text view text.now stretch) }
 {
     let class = prot_class(stretch.prot);
     let place = stretch_place(view, stretch);
@@ -225,6 +230,7 @@ pub fn put_stretch(out: &mut Vec<u8>, view: View, stretch: Stretch) -> Result<()
             Part::Plain(Piece::Start(stretch.pages.end)),
             Part::Plain(Piece::Words(" ")),
             Part::Plain(Piece::Rights(stretch.prot)),
+            Part::Backing(text, stretch.back),
             Part::Span(stretch.begin, stretch.end),
             Part::Plain(Piece::Words("</title>")),
             Part::Rect(class, place),

@@ -1,6 +1,7 @@
 //! A picture of a run: what happened, as a recorder saw it, to one SVG text.
 #![tactic(auto)]
 
+pub mod backing;
 pub mod canvas;
 pub mod drawing;
 pub mod elements;

@@ -1,8 +1,9 @@
 //! What happened in a run, step by step, as a recorder saw it.
 ghost use Rattle.std.specs.Prelude.{◌≡◌, None};
-ghost use Rattle.picture.specs.Moments.{answer_in, answer_of, changes, latest_told, next_change, tells};
+ghost use Rattle.picture.specs.Moments.{answer_in, answer_of, back_after, back_at, back_by, backing_by, backing_in, backing_of, changes, latest_told};
+ghost use Rattle.picture.specs.Moments.{next_change, tells};
 
-use vm_base::{CoreId, CoreSet, PageRange, Prot, Reply, Request};
+use vm_base::{Back, CoreId, CoreSet, PageRange, Prot, Reply, Request};
 
 /// Which take of a message it is.
 #[derive(Clone, Copy, Debug, PartialEq, Eq)]
@@ -78,6 +79,8 @@ pub enum Moment {
         pages: PageRange,
         /// What may be done with them.
         prot: Prot,
+        /// What backs the first of them, and each other page as it goes on; `None` where that stays as it is.
+        back: Option<Back>,
     },
     /// From here on none of these pages is mapped.
     Unmapped {
@@ -204,4 +207,95 @@ pub fn next_change(moments: &[Recorded], page: u64, step: u64) -> Option<u64>
         at += 1;
     }
     None
+}
+
+// What backs the page that lies so far behind the first of a mapping.
+fn back_after(back: Back, by: u64) -> Back
+    ensures { result ≡ back_after back by }
+{
+    match back {
+        Back::Anon => Back::Anon,
+        Back::Shared { file, page } => Back::Shared {
+            file,
+            page: page.saturating_add(by),
+        },
+        Back::Private { file, page } => Back::Private {
+            file,
+            page: page.saturating_add(by),
+        },
+    }
+}
+
+/// The same, where it is known what backs the first.
+pub fn back_by(back: Option<Back>, by: u64) -> Option<Back>
+    ensures { result ≡ back_by back by }
+{
+    match back {
+        Some(back) => Some(back_after(back, by)),
+        None => None,
+    }
+}
+
+// What this maps the page to, where it says so.
+fn backing_in(recorded: &Recorded, page: u64) -> Option<Back>
+    ensures { result ≡ backing_in page recorded.now.moment }
+{
+    match &recorded.moment {
+        Moment::Mapped { pages, back, .. } => {
+            if pages.contains(page) {
+                back_by(*back, page.saturating_sub(pages.first))
+            } else {
+                None
+            }
+        }
+        Moment::Unmapped { .. }
+        | Moment::Begins { .. }
+        | Moment::Answers { .. }
+        | Moment::Told { .. }
+        | Moment::Took { .. }
+        | Moment::Did { .. } => None,
+    }
+}
+
+// The same, where it isn't behind the step.
+fn backing_by(recorded: &Recorded, page: u64, step: u64) -> Option<Back>
+    ensures { result ≡ backing_by recorded.now page step }
+{
+    if recorded.step <= step {
+        backing_in(recorded, page)
+    } else {
+        None
+    }
+}
+
+/// What backs the page in a step, as the last moment up to that step says that says what it is mapped to.
+pub fn backing_of(moments: &[Recorded], page: u64, step: u64) -> Option<Back>
+    ensures { result ≡ backing_of None moments.now page step }
+{
+    let mut known = None;
+    let mut at = 0;
+    'moments: while at < moments.len() {
+        if let Some(back) = backing_by(&moments[at], page, step) {
+            known = Some(back);
+        }
+        at += 1;
+    }
+    known
+}
+
+/// What backs the page from a step on that maps it, as that step says; or where it leaves that as it is, as the last moment before it
+/// says.
+pub fn back_at(
+    moments: &[Recorded],
+    back: Option<Back>,
+    by: u64,
+    page: u64,
+    step: u64,
+) -> Option<Back>
+    ensures { result ≡ back_at moments.now back by page step }
+{
+    match back {
+        Some(back) => Some(back_after(back, by)),
+        None => backing_of(moments, page, step),
+    }
 }

@@ -4,13 +4,14 @@ ghost use Rattle.std.specs.List.{flat_map};
 ghost use Rattle.picture.specs.Parts.{arguments_of, change_words, label_text, outcome_text, part_text, range_words, reply_class};
 ghost use Rattle.picture.specs.Parts.{span_text, target_words};
 
+use crate::backing::put_backing;
 use crate::elements::{
     Piece, Place, Way, put_all, put_circle, put_line, put_piece, put_rect, put_text,
 };
 use crate::moments::Answer;
 use crate::places::{View, column, lane, reply_y};
 use std::alloc::AllocError;
-use vm_base::{CoreId, Prot, Reply, Request};
+use vm_base::{Back, CoreId, Prot, Reply, Request};
 
 /// A part of what a shape is written as.
 #[derive(Clone, Copy, Debug, PartialEq, Eq)]
@@ -31,6 +32,8 @@ pub enum Part<'a> {
     Outcome(u64, Option<Answer>),
     /// The step in which something began, and that in which it ended.
     Span(u64, Option<u64>),
+    /// What backs pages, where that is known, with a file's name if the text of the trace has one.
+    Backing(&'a [u8], Option<Back>),
     /// The reply above a core's bar, if there is one.
     Label(View, CoreId, Option<Answer>),
 }
@@ -177,6 +180,7 @@ fn put_part(out: &mut Vec<u8>, part: &Part) -> Result<(), AllocError>
         Part::Arguments(request) => put_arguments(out, *request),
         Part::Outcome(begin, answer) => put_outcome(out, *begin, *answer),
         Part::Span(begin, end) => put_span(out, *begin, *end),
+        Part::Backing(text, back) => put_backing(out, text, *back),
         Part::Label(view, core, answer) => put_label(out, *view, *core, *answer),
     }
 }

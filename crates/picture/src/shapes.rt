@@ -4,7 +4,7 @@ ghost use Rattle.picture.specs.Shapes.{arrow_at, arrow_of, arrows_of, bar_of, ba
 
 use crate::moments::{Answer, Deed, Moment, Pass, Recorded, answer_of, latest_told};
 use std::alloc::{AllocError, Global};
-use vm_base::{CoreId, PageRange, Prot, Request};
+use vm_base::{Back, CoreId, PageRange, Prot, Request};
 
 /// A call, from its begin to its answer.
 #[derive(Clone, Copy, Debug, PartialEq, Eq)]
@@ -72,6 +72,8 @@ pub struct Stretch {
     pub pages: PageRange,
     /// Their protection.
     pub prot: Prot,
+    /// What backs the first of them; `None` where no moment says so.
+    pub back: Option<Back>,
     /// The step from which on they have it.
     pub begin: u64,
     /// The step in which they change; `None` where they keep it.

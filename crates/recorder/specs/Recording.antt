@@ -98,11 +98,11 @@ told_others r core cores =
 abbrev pub deed_done : Recording → ℕ → Deed → Recording
 deed_done r core deed = noted r (Did core deed)
 
--- what a change makes of its pages
+-- what a change makes of its pages: other rights leave what backs them
 abbrev pub made : Change → Moment
-made (Put range meta) = Mapped range meta.prot
+made (Put range meta) = Mapped range meta.prot (Some meta.back)
 made (Clear range) = Unmapped range
-made (Protect range prot) = Mapped range prot
+made (Protect range prot) = Mapped range prot None
 
 abbrev pub change_made : Recording → Change → Recording
 change_made r change = noted r (made change)

@@ -33,11 +33,13 @@ pub fn moment_of(change: &Change) -> Moment
         Change::Put { range, meta } => Moment::Mapped {
             pages: *range,
             prot: meta.prot,
+            back: Some(meta.back),
         },
         Change::Clear { range } => Moment::Unmapped { pages: *range },
         Change::Protect { range, prot } => Moment::Mapped {
             pages: *range,
             prot: *prot,
+            back: None,
         },
     }
 }

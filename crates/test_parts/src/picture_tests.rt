@@ -5,7 +5,7 @@ use picture::moments::{Deed, Moment, Recorded};
 use picture::places::view_of;
 use std::alloc::{AllocError, Global};
 use std::test::Fail;
-use vm_base::{CoreId, Errno, PageRange, Prot, Reply, Request, SegvCode};
+use vm_base::{Back, CoreId, Errno, PageRange, Prot, Reply, Request, SegvCode};
 
 const RW: Prot = Prot {
     read: true,
@@ -24,7 +24,16 @@ fn add_page(all: &mut Vec<Recorded>, step: u64, first: u64) -> Result<(), AllocE
         first,
         end: first.saturating_add(1),
     };
-    add(all, step, Moment::Mapped { pages, prot: RW })
+    let back = Some(Back::Anon);
+    add(
+        all,
+        step,
+        Moment::Mapped {
+            pages,
+            prot: RW,
+            back,
+        },
+    )
 }
 
 // The lives of so many pages that are mapped one by one, none beside another.
@@ -33,7 +42,7 @@ fn lives_of(alloc: Global, pages: u64) -> Result<Vec<u8>, AllocError> {
     for page in 0..pages.min(10_000) {
         add_page(&mut all, 1, 16 + 2 * page)?;
     }
-    draw_lives(alloc, 8, all.as_slice())
+    draw_lives(alloc, 8, b"", all.as_slice())
 }
 
 // A reply for each step, the longest among them.
@@ -98,7 +107,7 @@ fn add_sixty(all: &mut Vec<Recorded>) -> Result<(), AllocError> {
 fn sixty(alloc: Global) -> Result<Vec<u8>, AllocError> {
     let mut all: Vec<Recorded> = Vec::new(alloc);
     add_sixty(&mut all)?;
-    draw(alloc, view_of(2, 100_000, 100_059), all.as_slice())
+    draw(alloc, view_of(2, 100_000, 100_059), b"", all.as_slice())
 }
 
 // A text's box, in tenths of the picture's units: left, right, top and bottom.
@@ -170,7 +179,7 @@ fn texts_are_apart(rt: HostRuntime) -> Result<(), Fail> {
     let lives = lives_of(rt.alloc(), 2000)?;
     assert_eq!(rt;
         texts_apart(rt.alloc(), lives.as_slice())?,
-        Some(1 + 5 + 9 + 63)
+        Some(1 + 5 + 3 + 9 + 63)
     );
     Ok(())
 }
