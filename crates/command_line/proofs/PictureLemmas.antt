@@ -2,7 +2,7 @@
 use Rattle.std.proofs.Common.{◌≡◌, ℕ, ◌⊎◌, inl, inr, true, List, Option, None, Some, Result, Ok, Err}
 use Rattle.std.proofs.Common.{IfOk, IfErr, refl, sym, ◌∙◌, subst}
 use Rattle.std.proofs.KnownBytes.{Appends-kept, Keeps-refl, Keeps-trans}
-use Rattle.std.specs.Io.KnownBytes.{Keeps}
+use Rattle.std.specs.Io.KnownBytes.{Consumes, Keeps}
 use Rattle.trace_io.proofs.IoLemmas.{front_kept, whole_front}
 use Rattle.trace_io.proofs.LineLemmas.{reads_map}
 use Rattle.trace_io.specs.Io.{ReadFrom, TellsIo, WrittenTo}
@@ -13,88 +13,113 @@ use Rattle.machine_model.specs.World.{World}
 use Rattle.machine_model.specs.declared.event.Event.{Event}
 use Rattle.machine_model.specs.declared.event.Outcome.{Outcome}
 use Rattle.trace.specs.declared.fault.TraceFault.{TraceFault}
-use Rattle.trace.specs.declared.fault.TraceFault.TheVariants.{NoMemory, WriteFailed}
+use Rattle.trace.specs.declared.fault.TraceFault.TheVariants.{BadLine, TooLong, NoVmLine, Setup, NoMemory, ReadFailed, WriteFailed}
 use Rattle.trace.specs.declared.shown.Show.TheVariants.{Outcomes}
 use Rattle.trace.specs.Ends.{Ends, TellsFaults, fault_named}
 use Rattle.trace.specs.Seen.{IsSeen}
 use Rattle.command_line.specs.declared.picturing.Drawing.{Drawing}
 use Rattle.command_line.specs.declared.picturing.Drawing.TheVariants.{Steps, Lives}
-use Rattle.command_line.specs.Picture.{Fails, PictureEnds, Records, ShowsText, TextEnds}
+use Rattle.command_line.specs.Picture.{Fails, PictureEnds, Records, ShowsText, TextEnds, Watched, in_memory}
 
 -- what one who watches may be after each step
 abbrev After : Type 0 → Type 1
 After S = S → World → Event → Outcome → World → S → Type 0
 
+-- what holds of all bytes that may come holds of those that are known to
+pub known_read : (old new : Stream) (P : List ℕ → List ℕ → Type 0) (text : List ℕ) → old.coming ≡ Some text → Reads old new P → (rest : List ℕ) × P text rest
+known_read old new P text is r = go new.coming refl (subst (λ o. Consumes o new.coming r.bytes) is r.gives.coming)
+  where
+    go : (o : Option (List ℕ)) → o ≡ new.coming → Consumes (Some text) o r.bytes → (rest : List ℕ) × P text rest
+    go None e c = absurd c
+    go (Some rest) e c = (rest, subst (λ xs. P xs rest) (sym c) (r.holds rest (subst (λ o. Keeps o (Some rest)) e refl)))
+
 -- all lines were watched
-pub all_recorded : {S T : Type 0} (s t : Stream) (after : After S) (one r : S) (ended : Result T TraceFault) (x : T) → ended ≡ Ok x
-    → IfOk ended (λ u. Reads s t (λ input unread. IsSeen after one r Outcomes input None None))
-    → Reads s t (λ input unread. Records after one input unread (Ok r))
-all_recorded s t after one r (Ok y) x is h = h
-all_recorded s t after one r (Err f) x is h = absurd (cc)
+pub all_recorded : {S T : Type 0} (s t : Stream) (after : After S) (one r : S) (text : List ℕ) (ended : Result T TraceFault) (x : T) → s.coming ≡ Some text
+    → ended ≡ Ok x → IfOk ended (λ u. Reads s t (λ input unread. IsSeen after one r Outcomes input None None)) → Records after one text (Ok r)
+all_recorded s t after one r text (Ok y) x known is h = (known_read s t (λ input unread. IsSeen after one r Outcomes input None None) text known h).1
+all_recorded s t after one r text (Err f) x known is h = absurd (cc)
 
 -- a fault of the trace
-pub none_recorded : {T : Type 0} (s t : Stream) (ended : Result T TraceFault) (f : TraceFault) → ended ≡ Err f
-    → Reads s t (λ input unread. Ends Usual Outcomes input unread None None ended) → Reads s t (λ input unread. Fails input unread f)
-none_recorded s t ended f e h =
-    reads_map s t _ _ (subst (λ r. Reads s t (λ input unread. Ends Usual Outcomes input unread None None r)) e h) (λ xs ys k w. inl w)
+pub none_recorded : {T : Type 0} (s t : Stream) (text : List ℕ) (ended : Result T TraceFault) (f : TraceFault) → s.coming ≡ Some text → ended ≡ Err f
+    → Reads s t (λ input unread. Ends Usual Outcomes input unread None None ended) → Fails text f
+none_recorded {T} s t text ended f known e h = inl (known_read s t (λ input unread. Ends {T = T} Usual Outcomes input unread None None (Err f)) text known
+    (subst (λ r. Reads s t (λ input unread. Ends Usual Outcomes input unread None None r)) e h))
 
--- the text was written, or wasn't
-drawn : {S : Type 0} (after : After S) (one : S) (lacks : S → Option ℕ) (text : S → List ℕ) (input unread : List ℕ) (old new : Option (List ℕ)) (r : S)
-    (ended : Result (Option ℕ) TraceFault)
-    → Records after one input unread (Ok r) → IfOk ended (λ x. (x ≡ lacks r) × ShowsText x (text r) old new)
+-- the fault of a replay in memory
+pub fails_in_memory : (input : List ℕ) (f : TraceFault) → Fails input f → Fails input (in_memory f)
+fails_in_memory input (BadLine number) h = h
+fails_in_memory input (TooLong number) h = h
+fails_in_memory input NoVmLine h = h
+fails_in_memory input (Setup fault) h = h
+fails_in_memory input ReadFailed h = inr (inl refl)
+fails_in_memory input NoMemory h = h
+fails_in_memory input WriteFailed h = inr (inl refl)
+
+-- the text of what came of all lines was written, or wasn't
+pub text_drawn : {S : Type 0} (Comes : S → Type 0) (Faults : TraceFault → Type 0) (lacks : S → Option ℕ) (text : S → List ℕ) (old new : Option (List ℕ)) (r : S)
+    (ended : Result (Option ℕ) TraceFault) → Faults NoMemory → Comes r → IfOk ended (λ x. (x ≡ lacks r) × ShowsText x (text r) old new)
     → IfErr ended (λ f. ((f ≡ NoMemory) × Keeps old new) ⊎ ((f ≡ WriteFailed) × AppendsFront old new (text r)))
-    → TextEnds after one lacks text input unread old new ended
-drawn after one lacks text input unread old new r (Ok x) h (is, w) e = (r, h, is, w)
-drawn after one lacks text input unread old new r (Err f) h w (inl (none, kept)) = inl (inr none, kept)
-drawn after one lacks text input unread old new r (Err f) h w (inr (failed, front)) = inr (failed, inr (r, h, front))
+    → TextEnds Comes Faults lacks text old new ended
+text_drawn Comes Faults lacks text old new r (Ok x) want h (is, w) e = (r, h, is, w)
+text_drawn Comes Faults lacks text old new r (Err f) want h w (inl (none, kept)) = inl (subst Faults (sym none) want, kept)
+text_drawn Comes Faults lacks text old new r (Err f) want h w (inr (failed, front)) = inr (failed, inr (r, h, front))
 
 -- of what was recorded by one who began so
-pub all_drawn : {S : Type 0} (s t : Stream) (after : After S) (made one : S) (lacks : S → Option ℕ) (text : S → List ℕ) (old new : Option (List ℕ)) (r : S)
-    (ended : Result (Option ℕ) TraceFault) → made ≡ one → Reads s t (λ input unread. Records after made input unread (Ok r))
+pub all_drawn : {S : Type 0} (after : After S) (made one : S) (lacks : S → Option ℕ) (text : S → List ℕ) (input : List ℕ) (old new : Option (List ℕ)) (r : S)
+    (ended : Result (Option ℕ) TraceFault) → made ≡ one → Records after made input (Ok r)
     → IfOk ended (λ x. (x ≡ lacks r) × ShowsText x (text r) old new)
     → IfErr ended (λ f. ((f ≡ NoMemory) × Keeps old new) ⊎ ((f ≡ WriteFailed) × AppendsFront old new (text r)))
-    → Reads s t (λ input unread. TextEnds after one lacks text input unread old new ended)
-all_drawn s t after made one lacks text old new r ended is h w e =
-    reads_map s t _ _ (subst (λ m. Reads s t (λ input unread. Records after m input unread (Ok r))) is h)
-    (λ xs ys k seen. drawn after one lacks text xs ys old new r ended seen w e)
+    → TextEnds (Watched after one input) (Fails input) lacks text old new ended
+all_drawn after made one lacks text input old new r ended is h w e =
+    text_drawn (Watched after one input) (Fails input) lacks text old new r ended (inr (inl refl)) (subst (λ m. Records after m input (Ok r)) is h) w e
 
 -- after a fault nothing was
-pub none_drawn : {S : Type 0} (s t : Stream) (after : After S) (one : S) (lacks : S → Option ℕ) (text : S → List ℕ) (old : Option (List ℕ)) (f : TraceFault)
-    → Reads s t (λ input unread. Fails input unread f) → Reads s t (λ input unread. TextEnds after one lacks text input unread old old (Err f))
-none_drawn s t after one lacks text old f h = reads_map s t _ _ h (λ xs ys k why. inl (why, Keeps-refl old))
+pub none_drawn : {S : Type 0} (after : After S) (one : S) (lacks : S → Option ℕ) (text : S → List ℕ) (input : List ℕ) (old : Option (List ℕ)) (f : TraceFault)
+    → Fails input f → TextEnds (Watched after one input) (Fails input) lacks text old old (Err f)
+none_drawn after one lacks text input old f why = inl (why, Keeps-refl old)
+
+-- a picture of the text that was read
+pub picture_read : (s t : Stream) (drawing : Drawing) (text : List ℕ) (old new : Option (List ℕ)) (ended : Result (Option ℕ) TraceFault)
+    → Reads s t (λ input unread. input ≡ text) → PictureEnds drawing text old new ended → Reads s t (λ input unread. PictureEnds drawing input old new ended)
+picture_read s t drawing text old new ended r h =
+    reads_map s t _ _ r (λ xs ys k is. subst (λ (i : List ℕ). PictureEnds drawing i old new ended) (sym is) h)
+
+-- none of a text that wasn't
+pub picture_unread : (s t : Stream) (drawing : Drawing) (old : Option (List ℕ)) (f : TraceFault) → (f ≡ NoMemory) ⊎ (f ≡ ReadFailed)
+    → Reads s t (λ input unread. input ≡ input) → Reads s t (λ input unread. PictureEnds drawing input old old (Err f))
+picture_unread s t (Steps steps) old f why r = reads_map s t _ _ r (λ xs ys k is. inl (inr why, Keeps-refl old))
+picture_unread s t Lives old f why r = reads_map s t _ _ r (λ xs ys k is. inl (inr why, Keeps-refl old))
 
 -- a flush keeps what was written
 shows_kept : (x : Option ℕ) (text : List ℕ) (a b c : Option (List ℕ)) → ShowsText x text a b → Keeps b c → ShowsText x text a c
 shows_kept None text a b c w k = Appends-kept a b c _ w k
 shows_kept (Some steps) text a b c w k = Keeps-trans a b c w k
 
-text_kept : {S : Type 0} (after : After S) (one : S) (lacks : S → Option ℕ) (text : S → List ℕ) (input unread : List ℕ) (a b c : Option (List ℕ))
-    (ended : Result (Option ℕ) TraceFault)
-    → TextEnds after one lacks text input unread a b ended → Keeps b c → TextEnds after one lacks text input unread a c ended
-text_kept after one lacks text input unread a b c (Ok x) (r, h, is, w) k = (r, h, is, shows_kept x _ a b c w k)
-text_kept after one lacks text input unread a b c (Err f) (inl (why, kept)) k = inl (why, Keeps-trans a b c kept k)
-text_kept after one lacks text input unread a b c (Err f) (inr (failed, inl kept)) k = inr (failed, inl (Keeps-trans a b c kept k))
-text_kept after one lacks text input unread a b c (Err f) (inr (failed, inr (r, h, front))) k = inr (failed, inr (r, h, front_kept a b c _ front k))
+pub text_kept : {S : Type 0} (Comes : S → Type 0) (Faults : TraceFault → Type 0) (lacks : S → Option ℕ) (text : S → List ℕ) (a b c : Option (List ℕ))
+    (ended : Result (Option ℕ) TraceFault) → TextEnds Comes Faults lacks text a b ended → Keeps b c → TextEnds Comes Faults lacks text a c ended
+text_kept Comes Faults lacks text a b c (Ok x) (r, h, is, w) k = (r, h, is, shows_kept x _ a b c w k)
+text_kept Comes Faults lacks text a b c (Err f) (inl (why, kept)) k = inl (why, Keeps-trans a b c kept k)
+text_kept Comes Faults lacks text a b c (Err f) (inr (failed, inl kept)) k = inr (failed, inl (Keeps-trans a b c kept k))
+text_kept Comes Faults lacks text a b c (Err f) (inr (failed, inr (r, h, front))) k = inr (failed, inr (r, h, front_kept a b c _ front k))
 
-pub picture_kept : (drawing : Drawing) (input unread : List ℕ) (a b c : Option (List ℕ)) (ended : Result (Option ℕ) TraceFault)
-    → PictureEnds drawing input unread a b ended → Keeps b c → PictureEnds drawing input unread a c ended
-picture_kept (Steps steps) input unread a b c ended h k = text_kept _ _ _ _ input unread a b c ended h k
-picture_kept Lives input unread a b c ended h k = text_kept _ _ _ _ input unread a b c ended h k
+pub picture_kept : (drawing : Drawing) (input : List ℕ) (a b c : Option (List ℕ)) (ended : Result (Option ℕ) TraceFault)
+    → PictureEnds drawing input a b ended → Keeps b c → PictureEnds drawing input a c ended
+picture_kept (Steps steps) input a b c ended h k = text_kept _ _ _ _ a b c ended h k
+picture_kept Lives input a b c ended h k = text_kept _ _ _ _ a b c ended h k
 
 -- a flush that failed may have lost it
-text_lost : {S : Type 0} (after : After S) (one : S) (lacks : S → Option ℕ) (text : S → List ℕ) (input unread : List ℕ) (a b c : Option (List ℕ))
-    (ended : Result (Option ℕ) TraceFault)
-    → TextEnds after one lacks text input unread a b ended → Keeps b c → TextEnds after one lacks text input unread a c (Err WriteFailed)
-text_lost after one lacks text input unread a b c (Ok None) (r, h, is, w) k = inr (refl, inr (r, h, whole_front a c _ (Appends-kept a b c _ w k)))
-text_lost after one lacks text input unread a b c (Ok (Some steps)) (r, h, is, w) k = inr (refl, inl (Keeps-trans a b c w k))
-text_lost after one lacks text input unread a b c (Err f) (inl (why, kept)) k = inr (refl, inl (Keeps-trans a b c kept k))
-text_lost after one lacks text input unread a b c (Err f) (inr (failed, inl kept)) k = inr (refl, inl (Keeps-trans a b c kept k))
-text_lost after one lacks text input unread a b c (Err f) (inr (failed, inr (r, h, front))) k = inr (refl, inr (r, h, front_kept a b c _ front k))
+pub text_lost : {S : Type 0} (Comes : S → Type 0) (Faults : TraceFault → Type 0) (lacks : S → Option ℕ) (text : S → List ℕ) (a b c : Option (List ℕ))
+    (ended : Result (Option ℕ) TraceFault) → TextEnds Comes Faults lacks text a b ended → Keeps b c → TextEnds Comes Faults lacks text a c (Err WriteFailed)
+text_lost Comes Faults lacks text a b c (Ok None) (r, h, is, w) k = inr (refl, inr (r, h, whole_front a c _ (Appends-kept a b c _ w k)))
+text_lost Comes Faults lacks text a b c (Ok (Some steps)) (r, h, is, w) k = inr (refl, inl (Keeps-trans a b c w k))
+text_lost Comes Faults lacks text a b c (Err f) (inl (why, kept)) k = inr (refl, inl (Keeps-trans a b c kept k))
+text_lost Comes Faults lacks text a b c (Err f) (inr (failed, inl kept)) k = inr (refl, inl (Keeps-trans a b c kept k))
+text_lost Comes Faults lacks text a b c (Err f) (inr (failed, inr (r, h, front))) k = inr (refl, inr (r, h, front_kept a b c _ front k))
 
-pub picture_lost : (drawing : Drawing) (input unread : List ℕ) (a b c : Option (List ℕ)) (ended : Result (Option ℕ) TraceFault)
-    → PictureEnds drawing input unread a b ended → Keeps b c → PictureEnds drawing input unread a c (Err WriteFailed)
-picture_lost (Steps steps) input unread a b c ended h k = text_lost _ _ _ _ input unread a b c ended h k
-picture_lost Lives input unread a b c ended h k = text_lost _ _ _ _ input unread a b c ended h k
+pub picture_lost : (drawing : Drawing) (input : List ℕ) (a b c : Option (List ℕ)) (ended : Result (Option ℕ) TraceFault)
+    → PictureEnds drawing input a b ended → Keeps b c → PictureEnds drawing input a c (Err WriteFailed)
+picture_lost (Steps steps) input a b c ended h k = text_lost _ _ _ _ a b c ended h k
+picture_lost Lives input a b c ended h k = text_lost _ _ _ _ a b c ended h k
 
 -- what is told after a flush
 pub told_kept : {T : Type 0} (r : Result T TraceFault) (text : ReadFrom) (old new : WrittenTo) → TellsIo fault_named r text old

@@ -14,20 +14,20 @@ use Rattle.recorder.specs.Changes.{Changes, ChangesRecorded, nothing_changed}
 use Rattle.recorder.specs.Looking.{recorded}
 use Rattle.recorder.specs.Recording.{Recording, nothing_recorded}
 use Rattle.trace.specs.declared.fault.TraceFault.{TraceFault}
-use Rattle.trace.specs.declared.fault.TraceFault.TheVariants.{NoMemory, WriteFailed}
+use Rattle.trace.specs.declared.fault.TraceFault.TheVariants.{BadLine, TooLong, NoVmLine, Setup, NoMemory, ReadFailed, WriteFailed}
 use Rattle.trace.specs.declared.shown.Show.TheVariants.{Outcomes}
 use Rattle.trace.specs.Ends.{Stops}
 use Rattle.trace.specs.Seen.{IsSeen}
 use Rattle.trace_io.specs.Sink.{AppendsFront}
 use Rattle.watched.specs.Watching.{makes}
 
--- the picture of what was recorded of the steps from the first to the last, or to that of the run
-abbrev pub picture_of : ℕ → ℕ → Recording → List ℕ
-picture_of first last r = picture_text (view_of (min r.cores 64) first (min last r.step)) r.moments
+-- the picture of what was recorded of the steps from the first to the last, or to that of the run, with names that the trace has
+abbrev pub picture_of : ℕ → ℕ → List ℕ → Recording → List ℕ
+picture_of first last trace r = picture_text (view_of (min r.cores 64) first (min last r.step)) trace r.moments
 
 -- the lives of what was mapped in the run
-abbrev pub lives_of : Changes → List ℕ
-lives_of r = lives_text r.steps r.moments
+abbrev pub lives_of : List ℕ → Changes → List ℕ
+lives_of trace r = lives_text r.steps trace r.moments
 
 -- How many steps there are, where the first of those that are asked for is behind them all. A picture from step 1 on is never
 -- without steps in this sense.
@@ -43,33 +43,40 @@ abbrev pub ShowsText : Option ℕ → List ℕ → Option (List ℕ) → Option 
 ShowsText None text old new = Appends old new text
 ShowsText (Some steps) text old new = Keeps old new
 
--- all lines were acted on beside one who began so, and the text of what that came to goes out by this
-abbrev pub Draws : {S : Type 0} → (S → World → Event → Outcome → World → S → Type 0) → S → (S → List ℕ)
-    → (List ℕ → Type 0) → List ℕ → Type 0
-Draws {S} after one text Goes input = (r : S) × IsSeen after one r Outcomes input None None × Goes (text r)
+-- no picture comes of the trace: for a fault of it, for want of memory, or since it couldn't be read
+abbrev pub Fails : List ℕ → TraceFault → Type 0
+Fails input f = ((unread : List ℕ) × Stops Usual Outcomes input unread None None f) ⊎ ((f ≡ NoMemory) ⊎ (f ≡ ReadFailed))
 
--- no picture comes of the trace: for a fault of it, or for want of memory
-abbrev pub Fails : List ℕ → List ℕ → TraceFault → Type 0
-Fails input unread f = Stops Usual Outcomes input unread None None f ⊎ (f ≡ NoMemory)
+-- The text of what came of all lines was written, or told how many steps there are, where those asked for are lacking. After a fault of
+-- the trace, or where memory was wanting, nothing was; after a write or a flush that failed nothing was, or a front of the text.
+abbrev pub TextEnds : {S : Type 0} → (S → Type 0) → (TraceFault → Type 0) → (S → Option ℕ) → (S → List ℕ)
+    → Option (List ℕ) → Option (List ℕ) → Result (Option ℕ) TraceFault → Type 0
+TextEnds {S} Comes Faults lacks text old new (Ok x) = (r : S) × Comes r × (x ≡ lacks r) × ShowsText x (text r) old new
+TextEnds {S} Comes Faults lacks text old new (Err f) = (Faults f × Keeps old new)
+    ⊎ ((f ≡ WriteFailed) × (Keeps old new ⊎ ((r : S) × Comes r × AppendsFront old new (text r))))
 
--- Of all lines the text was written, or told how many steps there are, where those asked for are lacking. After a fault of the
--- trace, or where memory was wanting, nothing was; after a write or a flush that failed nothing was, or a front of the text.
-abbrev pub TextEnds : {S : Type 0} → (S → World → Event → Outcome → World → S → Type 0) → S → (S → Option ℕ) → (S → List ℕ)
-    → List ℕ → List ℕ → Option (List ℕ) → Option (List ℕ) → Result (Option ℕ) TraceFault → Type 0
-TextEnds {S} after one lacks text input unread old new (Ok x) = (r : S) × IsSeen after one r Outcomes input None None
-    × (x ≡ lacks r) × ShowsText x (text r) old new
-TextEnds after one lacks text input unread old new (Err f) = (Fails input unread f × Keeps old new)
-    ⊎ ((f ≡ WriteFailed) × (Keeps old new ⊎ Draws after one text (AppendsFront old new) input))
+-- all lines were acted on beside one who began so, and is this at the end
+abbrev pub Watched : {S : Type 0} → (S → World → Event → Outcome → World → S → Type 0) → S → List ℕ → S → Type 0
+Watched after one input r = IsSeen after one r Outcomes input None None
 
 -- beside a recorder of some steps it is the picture of what happened in them, beside one of changes that of lives
-abbrev pub PictureEnds : Drawing → List ℕ → List ℕ → Option (List ℕ) → Option (List ℕ)
-    → Result (Option ℕ) TraceFault → Type 0
-PictureEnds (Steps steps) input unread old new r = TextEnds (makes recorded) (nothing_recorded steps.first steps.last)
-    (lacking steps.first) (picture_of steps.first steps.last) input unread old new r
-PictureEnds Lives input unread old new r = TextEnds ChangesRecorded nothing_changed lacking_none lives_of input unread old new r
+abbrev pub PictureEnds : Drawing → List ℕ → Option (List ℕ) → Option (List ℕ) → Result (Option ℕ) TraceFault → Type 0
+PictureEnds (Steps steps) input old new r = TextEnds (Watched (makes recorded) (nothing_recorded steps.first steps.last) input) (Fails input)
+    (lacking steps.first) (picture_of steps.first steps.last input) old new r
+PictureEnds Lives input old new r = TextEnds (Watched ChangesRecorded nothing_changed input) (Fails input) lacking_none (lives_of input) old new r
+
+-- the fault of a replay in memory: it can be read and written, so where it can't, there was no memory
+abbrev pub in_memory : TraceFault → TraceFault
+in_memory (BadLine number) = BadLine number
+in_memory (TooLong number) = TooLong number
+in_memory NoVmLine = NoVmLine
+in_memory (Setup fault) = Setup fault
+in_memory ReadFailed = NoMemory
+in_memory NoMemory = NoMemory
+in_memory WriteFailed = NoMemory
 
 -- what a watching of the trace came to
-abbrev pub Records : {S : Type 0} → (S → World → Event → Outcome → World → S → Type 0) → S → List ℕ → List ℕ
+abbrev pub Records : {S : Type 0} → (S → World → Event → Outcome → World → S → Type 0) → S → List ℕ
     → Result S TraceFault → Type 0
-Records after one input unread (Ok r) = IsSeen after one r Outcomes input None None
-Records after one input unread (Err f) = Fails input unread f
+Records after one input (Ok r) = Watched after one input r
+Records after one input (Err f) = Fails input f

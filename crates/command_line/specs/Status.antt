@@ -7,15 +7,19 @@ use Rattle.audit_text.specs.declared.judging.Verdict.TheVariants.{Legal, Illegal
 use Rattle.import_lackey.specs.declared.traced.Told.{Told as ToldOfAccesses}
 use Rattle.orders_text.specs.declared.faults.HistoryFault.{HistoryFault}
 use Rattle.orders_text.specs.declared.faults.HistoryFault.TheVariants as Why
+use Rattle.overlapping.specs.Replies.{verdict_of}
 use Rattle.overlapping.specs.declared.judging.Ruled.{Ruled}
 use Rattle.overlapping.specs.declared.judging.Ruling.{Ruling}
 use Rattle.overlapping.specs.declared.judging.Ruling.TheVariants as By
+use Rattle.overlapping.specs.declared.replies.Judgement.{Judgement as ReplyJudgement}
 use Rattle.import_maps.specs.declared.mapped.Told.{Told}
 use Rattle.import_text.specs.declared.each.Part.{Part}
 use Rattle.import_text.specs.declared.import.Ending.{Ending}
 use Rattle.import_text.specs.declared.import.Ending.TheVariants.{Written, Nothing, Absent}
+use Rattle.live_script.specs.declared.texts.Judgement.{Judgement}
 use Rattle.live_script.specs.declared.texts.TextFault.{TextFault}
 use Rattle.live_script.specs.declared.texts.TextFault.TheVariants.{Text, Live}
+use Rattle.notes_text.specs.Verdicts.{is_certified}
 use Rattle.shared_script.specs.declared.fault.SharedFault.{SharedFault}
 use Rattle.shared_script.specs.declared.fault.SharedFault.TheVariants as Of
 use Rattle.command_line.specs.declared.telling.WordsFault.{WordsFault}
@@ -48,9 +52,8 @@ live_status (Ok x) = 0
 live_status (Err f) = script_status f
 
 -- of notes that were certified or refused
-abbrev pub certified_live_status : Result Bool TextFault → ℕ
-certified_live_status (Ok true) = 0
-certified_live_status (Ok false) = 1
+abbrev pub certified_live_status : Result Judgement TextFault → ℕ
+certified_live_status (Ok judgement) = if is_certified judgement.verdict then 0 else 1
 certified_live_status (Err f) = script_status f
 
 -- of a script on a machine that threads share: 3 where that is at a limit
@@ -106,8 +109,8 @@ found_status (Some (Legal calls lacking passed)) = 0
 found_status (Some (Illegal line call due)) = 1
 found_status (Some (Undecided line call due)) = 3
 
-abbrev pub audit_status : Result Verdict AuditFault → ℕ
-audit_status (Ok verdict) = found_status (Some verdict)
+abbrev pub audit_status : Result ReplyJudgement AuditFault → ℕ
+audit_status (Ok judgement) = found_status (Some (verdict_of judgement))
 audit_status (Err f) = audit_fault_status f
 
 -- of a history of calls that overlap: 0 where they have an order, 3 where none was found

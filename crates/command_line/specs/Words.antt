@@ -2,10 +2,12 @@
 use Rattle.std.specs.Prelude.{◌≡◌, ◌⊎◌, ℕ, Bool, List, Option, Result, Err, Vec}
 use Rattle.std.specs.Io.KnownBytes.{Keeps}
 use Rattle.overlapping.specs.Ends.{JudgementEnds, TellsJudgement}
-use Rattle.audit_text.specs.Ends.{AuditEnds, TellsAudit}
+use Rattle.overlapping.specs.Replies.{AuditEnds}
+use Rattle.audit_text.specs.Ends.{TellsAudit}
 use Rattle.audit_text.specs.Reviewed.{ReviewEnds}
 use Rattle.audit_text.specs.declared.allowing.Terms.{Terms}
-use Rattle.command_line.specs.Echo.{EchoEnds}
+use Rattle.command_line.specs.Echo.{EchoEnds, echo_limit}
+use Rattle.command_line.specs.Litmus.{TellsTest}
 use Rattle.command_line.specs.Picture.{PictureEnds}
 use Rattle.command_line.specs.Status.{accesses_status, audit_status, certified_live_status, certified_status, live_status, log_status, picture_status}
 use Rattle.command_line.specs.Status.{each_status, judgement_status}
@@ -21,8 +23,8 @@ use Rattle.import_maps.specs.declared.mapped.Told.{Told}
 use Rattle.import_text.specs.Each.{EachEnds}
 use Rattle.import_text.specs.declared.each.Part.{Part}
 use Rattle.import_text.specs.declared.processes.Choice.{Choice}
-use Rattle.history_text.specs.Ends.{IsHistoryText}
-use Rattle.live_script.specs.Texts.{EndsText, IsNotesText, IsVerdictText, TellsText}
+use Rattle.history_text.specs.Ends.{IsSummedHistory}
+use Rattle.live_script.specs.Texts.{EndsText, IsSummedText, IsVerdictText, TellsText}
 use Rattle.notes_text.specs.CertifyEnds.{Certifies}
 use Rattle.shared_script.specs.Texts.{EndsShared, TellsShared}
 use Rattle.slot_lock.specs.Slots.{Slots}
@@ -49,10 +51,10 @@ EndsInOneWay {R} status Ended Tells text out n = (r : R) × (n ≡ status r)
 abbrev pub ReplaysTrace : Shows → ReadFrom → WrittenTo → ℕ → Type 0
 ReplaysTrace shows text out n = EndsInOneWay status_of (Ends {T = Unit} (limit_for shows.show shows.limit) shows.show) TellsFaults text out n
 
--- a replay that shows each line beside its outcome, in colours or without
-abbrev pub EchoesTrace : Bool → CallLimit → ReadFrom → WrittenTo → ℕ → Type 0
-EchoesTrace coloured limit text out n =
-    EndsInOneWay status_of (λ input unread. EchoEnds {T = Unit} coloured limit input) TellsFaults text out n
+-- a replay that shows each line beside its outcome, in colours or without, and below it what it adds to the log, or not
+abbrev pub EchoesTrace : Bool → Bool → CallLimit → ReadFrom → WrittenTo → ℕ → Type 0
+EchoesTrace coloured logs limit text out n =
+    EndsInOneWay status_of (λ input unread. EchoEnds {T = Unit} coloured logs (echo_limit logs limit) input) TellsFaults text out n
 
 -- the certificate of notes
 abbrev pub CertifiesNotes : Type 0 → (PageRange → ℕ → ℕ → Bool) → (Slots → ℕ → Type 0) → (Slots → Slots → ℕ → Type 0)
@@ -61,11 +63,11 @@ CertifiesNotes A parts CanFold Folds text out n = EndsInOneWay certified_status 
 
 -- a run of a script on threads, whose notes are written
 abbrev pub RunsScript : ReadFrom → WrittenTo → ℕ → Type 0
-RunsScript text out n = EndsInOneWay live_status (EndsText {T = Unit} (λ script done notes. IsNotesText script notes)) TellsText text out n
+RunsScript text out n = EndsInOneWay live_status (EndsText IsSummedText) TellsText text out n
 
 -- such a run, the history of whose calls is written
 abbrev pub WritesHistory : ReadFrom → WrittenTo → ℕ → Type 0
-WritesHistory text out n = EndsInOneWay live_status (EndsText {T = Unit} (λ script done calls. IsHistoryText script calls)) TellsText text out n
+WritesHistory text out n = EndsInOneWay live_status (EndsText IsSummedHistory) TellsText text out n
 
 -- the certificate of such a run
 abbrev pub CertifiesRun : Type 0 → (PageRange → ℕ → ℕ → Bool) → (Slots → ℕ → Type 0) → (Slots → Slots → ℕ → Type 0)
@@ -112,17 +114,17 @@ JudgesOrGivesUp A any_place text out n = JudgesCalls A any_place text out n ⊎ 
 
 -- a picture of a trace, of its steps or of lives
 abbrev pub PicturesTrace : Drawing → ReadFrom → WrittenTo → ℕ → Type 0
-PicturesTrace drawing text out n = EndsInOneWay picture_status (PictureEnds drawing) TellsFaults text out n
+PicturesTrace drawing text out n = EndsInOneWay picture_status (λ input unread. PictureEnds drawing input) TellsFaults text out n
 
 -- what the words ask for: an import reads a list besides, the others none
 abbrev pub DoesWork : Type 0 → (PageRange → ℕ → ℕ → Bool) → (Slots → ℕ → Type 0) → (Slots → Slots → ℕ → Type 0)
     → Work → ReadFrom → ReadFrom → WrittenTo → ℕ → Type 0
 DoesWork A parts CanFold Folds (For.Replay shows) list text out n = ReplaysTrace shows text out n
-DoesWork A parts CanFold Folds (For.Echo limit coloured) list text out n = EchoesTrace coloured limit text out n
+DoesWork A parts CanFold Folds (For.Echo limit coloured logs) list text out n = EchoesTrace coloured logs limit text out n
 DoesWork A parts CanFold Folds For.Certify list text out n = CertifiesNotes A parts CanFold Folds text out n
-DoesWork A parts CanFold Folds For.Live list text out n = RunsScript text out n
-DoesWork A parts CanFold Folds For.CertifyLive list text out n = CertifiesRun A parts CanFold Folds text out n
-DoesWork A parts CanFold Folds For.LiveHistory list text out n = WritesHistory text out n
+DoesWork A parts CanFold Folds (For.Live sums) list text out n = RunsScript text out n
+DoesWork A parts CanFold Folds (For.CertifyLive sums) list text out n = CertifiesRun A parts CanFold Folds text out n
+DoesWork A parts CanFold Folds (For.LiveHistory sums) list text out n = WritesHistory text out n
 DoesWork A parts CanFold Folds For.ShareLive list text out n = SharesScript text out n
 DoesWork A parts CanFold Folds (For.Import choice) list text out n = ImportsLog choice list text out n
 DoesWork A parts CanFold Folds For.ImportEach list text out n = ImportsEach text n × (out.after ≡ out.before)
@@ -131,3 +133,4 @@ DoesWork A parts CanFold Folds (For.Audit terms) list text out n = AuditsReplies
 DoesWork A parts CanFold Folds (For.AuditAll terms) list text out n = ReviewsReplies terms text out n
 DoesWork A parts CanFold Folds (For.Overlapping overlaps) list text out n = JudgesOrGivesUp A overlaps.any_place text out n
 DoesWork A parts CanFold Folds (For.Picture drawing) list text out n = PicturesTrace drawing text out n
+DoesWork A parts CanFold Folds (For.Litmus test) list text out n = TellsTest test text out n

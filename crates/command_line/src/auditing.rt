@@ -6,9 +6,9 @@ ghost use Rattle.trace_io.specs.Io.{read_from, written_to};
 
 use crate::ended::{Ended, Trouble};
 use crate::words::Overlaps;
-use audit_text::{AuditFault, Terms, Verdict, audit_all, audit_text};
+use audit_text::{AuditFault, Terms, Verdict, audit_all};
 use orders_text::HistoryFault;
-use overlapping::{By, Ruling, judge_overlapping};
+use overlapping::{By, Ruling, audit_text, judge_overlapping};
 use radix_range::RadixMap;
 use std::alloc::Global;
 use std::io::Write;
@@ -64,8 +64,8 @@ fn ended_at(first: Option<Verdict>) -> Ended
     }
 }
 
-/// Judges the replies of a text by these terms, prints a fault as `radixvm: ` and its text, and answers the status: 0 where all are
-/// legal, 1 where one isn't, 3 where that is undecided, or that of the fault.
+/// Judges the replies of a text by these terms, in the order of its lines or in another one, prints a fault as `radixvm: ` and its text,
+/// and answers the status: 0 where all are legal, 1 where one isn't, 3 where that is undecided, or that of the fault.
 pub fn audit<S: Source, W: Sink, E: Write>(
     alloc: Global,
     reader: &mut S,
@@ -80,8 +80,11 @@ pub fn audit<S: Source, W: Sink, E: Write>(
     let Ok(map) = RadixMap::new(alloc) else {
         return refuse(AuditFault::Io(IoFault::NoMemory), errors);
     };
-    match audit_text(alloc, map, reader, out, terms) {
-        Ok(verdict) => ended_at(Some(verdict)),
+    let Ok(other) = RadixMap::new(alloc) else {
+        return refuse(AuditFault::Io(IoFault::NoMemory), errors);
+    };
+    match audit_text(alloc, map, other, reader, out, terms) {
+        Ok(judgement) => ended_at(Some(judgement.verdict())),
         Err(fault) => refuse(fault, errors),
     }
 }
@@ -149,17 +152,18 @@ fn judge_by<S: Source, W: Sink, E: Write>(
     reader: &mut S,
     out: &mut W,
     errors: &mut E,
-    any_place: bool,
+    overlaps: Overlaps,
     order: &mut Vec<u8>,
 ) -> Ended
-    ensures ends { JudgesCalls Global any_place
+    ensures ends { JudgesCalls Global overlaps.any_place
         (read_from S.Source reader.old reader.new) (written_to W.Sink out.old out.new) result.status }
     ensures within { result.status ≤ 3 }
 {
     let Ok(map) = RadixMap::new(alloc) else {
         return refuse_history(HistoryFault::Io(IoFault::NoMemory), errors);
     };
-    match judge_overlapping(alloc, map, reader, out, any_place, by) {
+    let any_place = overlaps.any_place;
+    match judge_overlapping(alloc, map, reader, out, any_place, by, overlaps.is_wanted) {
         Ok(ruled) => {
             let ruling = ruled.ruling;
             *order = ruled.order;
@@ -185,15 +189,7 @@ pub fn audit_overlapping<L: Source, S: Source, W: Sink, E: Write>(
     ensures within { result.status ≤ 3 }
 {
     if !overlaps.is_given {
-        return judge_by(
-            alloc,
-            By::Search,
-            reader,
-            out,
-            errors,
-            overlaps.any_place,
-            order,
-        );
+        return judge_by(alloc, By::Search, reader, out, errors, overlaps, order);
     }
     match read_all(alloc, list) {
         Ok(given) => judge_by(
@@ -202,7 +198,7 @@ pub fn audit_overlapping<L: Source, S: Source, W: Sink, E: Write>(
             reader,
             out,
             errors,
-            overlaps.any_place,
+            overlaps,
             order,
         ),
         Err(fault) => refuse_history(HistoryFault::Io(fault), errors),

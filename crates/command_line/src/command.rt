@@ -14,6 +14,7 @@ use crate::importing::{import, import_accesses, import_each};
 use crate::input::{Files, input, list};
 use crate::job::{run, run_echoing};
 use crate::keeping::{Keeping, Keeps};
+use crate::litmus_tests::{explain_litmus, litmus, test_name};
 use crate::live::{certify_live, live, live_history, share_live};
 use crate::noting::{show_request, tell_notes, tell_undecided};
 use crate::picturing::picture;
@@ -72,13 +73,19 @@ fn act<T: Threads + Wait + Sync, R: Runner<Global>, L: Source, S: Source, W: Sin
     match parsed {
         Ok(task) => match task.work {
             Work::Replay(shows) => run(alloc, reader, out, errors, shows),
-            Work::Echo { limit, coloured } => run_echoing(
-                alloc, reader, out, errors, limit, coloured,
-            ),
+            Work::Echo {
+                limit,
+                coloured,
+                logs,
+            } => run_echoing(alloc, reader, out, errors, limit, coloured, logs),
             Work::Certify => certify(alloc, reader, out, errors),
-            Work::Live => live(rt, runner, alloc, reader, out, errors),
-            Work::CertifyLive => certify_live(rt, runner, alloc, reader, out, errors),
-            Work::LiveHistory => live_history(rt, runner, alloc, reader, out, errors),
+            Work::Live { sums } => live(rt, runner, alloc, reader, out, errors, sums),
+            Work::CertifyLive { sums } => {
+                certify_live(rt, runner, alloc, reader, out, errors, sums)
+            }
+            Work::LiveHistory { sums } => {
+                live_history(rt, runner, alloc, reader, out, errors, sums)
+            }
             Work::ShareLive => share_live(rt, alloc, reader, out, errors),
             Work::Import(choice) => import(alloc, list, reader, out, errors, choice),
             Work::ImportEach => import_each(alloc, reader, errors, parts),
@@ -89,6 +96,7 @@ fn act<T: Threads + Wait + Sync, R: Runner<Global>, L: Source, S: Source, W: Sin
                 alloc, list, reader, out, errors, overlaps, order,
             ),
             Work::Picture(drawing) => picture(alloc, reader, out, errors, drawing),
+            Work::Litmus(test) => litmus(alloc, test_name(task.file), reader, out, errors, test),
         },
         Err(told) => Ended {
             status: tell(alloc, &told, out, errors),
@@ -124,17 +132,19 @@ fn manner_of(work: Work, coloured: bool) -> Manner {
             (Kind::Trace, CallLimit::Usual, false)
         }
         Work::Replay(shows) => (Kind::Trace, shows.limit, shows.limit == CallLimit::Usual),
+        Work::Echo { logs: true, .. } => (Kind::Trace, CallLimit::Usual, false),
         Work::Echo { limit, .. } => (Kind::Trace, limit, limit == CallLimit::Usual),
         Work::Certify => (Kind::Notes, CallLimit::Usual, false),
-        Work::Live | Work::CertifyLive | Work::LiveHistory | Work::ShareLive => {
-            (Kind::Script, CallLimit::Usual, false)
-        }
+        Work::Live { .. } | Work::CertifyLive { .. } | Work::LiveHistory { .. } | Work::ShareLive =>
+            (Kind::Script, CallLimit::Usual, false),
         Work::Audit(_) | Work::AuditAll(_) | Work::Overlapping(_) => {
             (Kind::Replies, CallLimit::Usual, false)
         }
-        Work::Picture(_) | Work::Import(_) | Work::ImportEach | Work::ImportAccesses => {
-            (Kind::Trace, CallLimit::Usual, false)
-        }
+        Work::Picture(_)
+        | Work::Litmus(_)
+        | Work::Import(_)
+        | Work::ImportEach
+        | Work::ImportAccesses => { (Kind::Trace, CallLimit::Usual, false) }
     };
     Manner {
         kind,
@@ -150,24 +160,25 @@ fn example_of(work: Work) -> &'static str {
         Work::Certify => "vm 1 4 4096",
         Work::Import(_) | Work::ImportEach => "10 munmap(0x7f0000000000, 4096) = 0",
         Work::ImportAccesses => " L 04001000,8",
-        Work::Live
-        | Work::CertifyLive
-        | Work::LiveHistory
+        Work::Live { .. }
+        | Work::CertifyLive { .. }
+        | Work::LiveHistory { .. }
         | Work::ShareLive
         | Work::Replay(_)
         | Work::Echo { .. }
         | Work::Picture(_)
+        | Work::Litmus(_)
         | Work::Audit(_)
         | Work::AuditAll(_)
         | Work::Overlapping(_) => "vm 1 4",
     }
 }
 
-// How much of the text is kept: all that audit reads, since it tells of its lines once it has read all.
+// How much of the text is kept: all of one that is read whole before it is acted on, since its lines are told of once all is read.
 fn keeps_of(work: Work, explains: bool) -> Keeps {
     match work {
         Work::Audit(_) | Work::AuditAll(_) => Keeps::All,
-        Work::Overlapping(_) if explains => Keeps::All,
+        Work::Overlapping(_) | Work::Picture(_) if explains => Keeps::All,
         Work::Import(_) | Work::ImportEach | Work::ImportAccesses => Keeps::Nothing,
         _ if explains => Keeps::End,
         _ => Keeps::Nothing,
@@ -236,7 +247,7 @@ fn end_of(trouble: Trouble) -> u64 {
         Trouble::Fault(TraceFault::BadLine(number)) | Trouble::Fault(TraceFault::TooLong(number)) =>
             number,
         Trouble::Fault(_) => 0,
-        Trouble::History(_) => 0,
+        Trouble::History(_) | Trouble::Litmus(_) => 0,
         Trouble::Nothing | Trouble::Illegal(_) | Trouble::Undecided(_) | Trouble::Unordered(_) =>
             u64::MAX,
     }
@@ -274,6 +285,9 @@ fn tell_more<L, R, E: Write>(
     }
     if let Trouble::History(fault) = trouble {
         explain_history(fault, &read.kept, errors);
+    }
+    if let Trouble::Litmus(fault) = trouble {
+        explain_litmus(fault, &read.kept, errors);
     }
     if let Trouble::Unordered(number) = trouble {
         explain_unordered(number, &read.kept, errors);

@@ -1,15 +1,19 @@
 //! A replay that shows each line beside what it gives.
-ghost use Rattle.std.specs.Prelude.{◌≡◌, ◌+◌, ◌≤◌, ◌++◌, false, length};
-ghost use Rattle.trace_io.specs.Io.{TellsIo, read_from, written_to};
+ghost use Rattle.std.specs.Prelude.{◌≡◌, ◌+◌, ◌≤◌, ◌++◌, IfOk, length, true};
+ghost use Rattle.std.specs.List.{flat_map};
+ghost use Rattle.trace_io.specs.Io.{IsWritten, TellsIo, read_from, written_to};
 ghost use Rattle.trace_io.specs.Source.{Reads};
 ghost use Rattle.trace_io.specs.Window.{opening};
+ghost use Rattle.core_steps.specs.Setups.{Fits};
 ghost use Rattle.core_steps.specs.declared.setup.CallLimit.{CallLimit};
+ghost use Rattle.trace_text.specs.Lists.{entry_text};
 ghost use Rattle.trace.specs.Ends.{TellsFaults, fault_named};
+ghost use Rattle.trace.specs.Shown.{log_at};
 ghost use Rattle.trace.specs.Stage.{Start};
-ghost use Rattle.command_line.specs.Echo.{EchoEnds, echo, shaded};
+ghost use Rattle.command_line.specs.Echo.{EchoEnds, added_text, echo, echo_limit, shaded};
 
 use arrayvec::ArrayVec;
-use core_steps::{CallLimit, Forgotten};
+use core_steps::{CallLimit, Forgotten, Logged, Opening};
 use std::alloc::Allocator;
 use trace::fault::TraceFault;
 use trace::replay::{Replayed, turn};
@@ -18,7 +22,8 @@ use trace::shown::Showing;
 use trace_io::lines::{LineReader, line_reader};
 use trace_io::sink::{Sink, WriteFailed, write_all};
 use trace_io::source::Source;
-use trace_text::{Line, LineText, read_line};
+use trace_text::{Line, LineText, LogLines, read_line};
+use vm_base::Entry;
 use watched::Unwatched;
 
 // Room for a line of a trace, in colours, the sign after it, and a line of output.
@@ -84,6 +89,56 @@ impl Showing for Echoing {
     }
 }
 
+// Writes a line for each of these entries. The lines and the text are where they are made.
+fn write_entries<W: Sink>(
+    writer: &mut W,
+    entries: &[Entry],
+    lines: &mut LogLines,
+    text: &mut LineText,
+) -> Result<(), WriteFailed>
+    ensures { IsWritten result (written_to W.Sink writer.old writer.new) (flat_map entry_text entries.now) }
+{
+    let mut at = 0;
+    'entries: while at < entries.len() {
+        let entry = entries[at];
+        lines.clear();
+        lines.push(entry, text);
+        if let Err(failed) = write_all(writer, lines.as_bytes()) {
+            return Err(failed);
+        }
+        at += 1;
+    }
+    Ok(())
+}
+
+// Writes the lines of the entries that the log has behind the first ones, where the log is shown, and answers how many it has.
+fn write_added<W: Sink, R: Staged>(
+    writer: &mut W,
+    replayer: &R,
+    logs: bool,
+    first: usize,
+    lines: &mut LogLines,
+    text: &mut LineText,
+) -> Result<usize, WriteFailed>
+    requires { R.keeps ≡ logs }
+    ensures wrote { IsWritten result (written_to W.Sink writer.old writer.new)
+        (added_text logs first (log_at (R.stage replayer.now))) }
+    ensures count { IfOk result (λ n. logs ≡ true → n ≡ length (log_at (R.stage replayer.now))) }
+{
+    if !logs {
+        return Ok(first);
+    }
+    let Some(log) = replayer.log() else {
+        // (this never comes, since the log is kept)
+        return Ok(first);
+    };
+    let from = first.min(log.len());
+    if let Err(failed) = write_entries(writer, &log[from..], lines, text) {
+        return Err(failed);
+    }
+    Ok(log.len())
+}
+
 // Acts on the lines until the text ends, and then makes a machine where no line has.
 fn echo_lines<A: Allocator, S: Source, W: Sink, R: Staged>(
     lines: &mut LineReader<A>,
@@ -92,22 +147,91 @@ fn echo_lines<A: Allocator, S: Source, W: Sink, R: Staged>(
     replayer: &mut R,
     text: &mut LineText,
     coloured: bool,
+    logs: bool,
 ) -> Result<(), TraceFault>
     requires fresh { lines.old ≡ opening }
-    requires keeps { R.keeps ≡ false }
+    requires keeps { R.keeps ≡ logs }
     ensures ends { (limit : CallLimit) → R.stage replayer.old ≡ Start limit
         → Reads (S.stream reader.old) (S.stream reader.new) (λ input unread.
-        EchoEnds coloured limit input (W.contents writer.old) (W.contents writer.new) result) }
+        EchoEnds coloured logs limit input (W.contents writer.old) (W.contents writer.new) result) }
     ensures told { TellsIo fault_named result (read_from S.Source reader.old reader.new) (written_to W.Sink writer.old writer.new) }
 {
     let show = Echoing { coloured };
+    let mut entries = LogLines::new();
+    let mut shown = 0usize;
     let mut number = 0u64;
     'lines: loop {
         match turn(lines, reader, writer, replayer, number, &show, text) {
-            Ok(true) => number += 1,
+            Ok(true) => match write_added(writer, replayer, logs, shown, &mut entries, text) {
+                Ok(count) => {
+                    shown = count;
+                    number += 1;
+                }
+                Err(_) => return Err(TraceFault::WriteFailed),
+            },
             Ok(false) => return replayer.finish(),
             Err(fault) => return Err(fault),
         }
+    }
+}
+
+// Acts on all lines, over a ledger of this kind.
+fn echo_over<L: Opening<A> + Drop, A: Allocator + Clone + Drop, S: Source, W: Sink>(
+    alloc: A,
+    lines: &mut LineReader<A>,
+    reader: &mut S,
+    writer: &mut W,
+    limit: CallLimit,
+    coloured: bool,
+    logs: bool,
+) -> Result<(), TraceFault>
+    requires fresh { lines.old ≡ opening }
+    requires keeps { L.keeps ≡ logs }
+    requires fits { Fits L.keeps limit }
+    ensures ends { Reads (S.stream reader.old) (S.stream reader.new) (λ input unread.
+        EchoEnds coloured logs limit input (W.contents writer.old) (W.contents writer.new) result) }
+    ensures told { TellsIo fault_named result (read_from S.Source reader.old reader.new) (written_to W.Sink writer.old writer.new) }
+{
+    let mut replayer = Replayer::<A, L, Unwatched>::within(limit, alloc, Unwatched);
+    let mut text = LineText::new();
+    echo_lines(
+        lines,
+        reader,
+        writer,
+        &mut replayer,
+        &mut text,
+        coloured,
+        logs,
+    )
+}
+
+// The same. The log is kept only where it is shown, and then the usual limit of calls holds.
+fn echo_text<A: Allocator + Clone + Drop, S: Source, W: Sink>(
+    alloc: A,
+    lines: &mut LineReader<A>,
+    reader: &mut S,
+    writer: &mut W,
+    limit: CallLimit,
+    coloured: bool,
+    logs: bool,
+) -> Result<(), TraceFault>
+    requires fresh { lines.old ≡ opening }
+    ensures ends { Reads (S.stream reader.old) (S.stream reader.new) (λ input unread.
+        EchoEnds coloured logs (echo_limit logs limit) input (W.contents writer.old) (W.contents writer.new) result) }
+    ensures told { TellsIo fault_named result (read_from S.Source reader.old reader.new) (written_to W.Sink writer.old writer.new) }
+{
+    if logs {
+        echo_over::<Logged<A>, A, S, W>(
+            alloc,
+            lines,
+            reader,
+            writer,
+            CallLimit::Usual,
+            coloured,
+            true,
+        )
+    } else {
+        echo_over::<Forgotten, A, S, W>(alloc, lines, reader, writer, limit, coloured, false)
     }
 }
 
@@ -118,9 +242,10 @@ fn echo_read<A: Allocator + Clone + Drop, S: Source, W: Sink>(
     writer: &mut W,
     limit: CallLimit,
     coloured: bool,
+    logs: bool,
 ) -> Replayed<A>
     ensures ends { Reads (S.stream reader.old) (S.stream reader.new) (λ input unread.
-        EchoEnds coloured limit input (W.contents writer.old) (W.contents writer.new) result.ended) }
+        EchoEnds coloured logs (echo_limit logs limit) input (W.contents writer.old) (W.contents writer.new) result.ended) }
     ensures told { TellsIo fault_named result.ended (read_from S.Source reader.old reader.new) (written_to W.Sink writer.old writer.new) }
 {
     let Some(mut lines) = line_reader(&alloc) else {
@@ -129,16 +254,7 @@ fn echo_read<A: Allocator + Clone + Drop, S: Source, W: Sink>(
             lines: None,
         };
     };
-    let mut replayer = Replayer::<A, Forgotten, Unwatched>::within(limit, alloc, Unwatched);
-    let mut text = LineText::new();
-    let ended = echo_lines(
-        &mut lines,
-        reader,
-        writer,
-        &mut replayer,
-        &mut text,
-        coloured,
-    );
+    let ended = echo_text(alloc, &mut lines, reader, writer, limit, coloured, logs);
     Replayed {
         ended,
         lines: Some(lines),
@@ -147,19 +263,21 @@ fn echo_read<A: Allocator + Clone + Drop, S: Source, W: Sink>(
 
 /// Replays a trace that may ask for as many calls as this limit says, as `trace::replay` does, and
 /// writes each line of an event with its outcome after ` = `, and each `vm` or `file` line as it
-/// is, the lines faint where colours are asked for. Hands out the lines that were read, of which the last tells more of a fault.
+/// is, the lines faint where colours are asked for. Where the log is asked for, a line of each of its entries stands below the line
+/// that added it, and the usual limit holds. Hands out the lines that were read, of which the last tells more of a fault.
 pub fn replay_echoing<A: Allocator + Clone + Drop, S: Source, W: Sink>(
     alloc: A,
     reader: &mut S,
     writer: &mut W,
     limit: CallLimit,
     coloured: bool,
+    logs: bool,
 ) -> Replayed<A>
     ensures ends { Reads (S.stream reader.old) (S.stream reader.new) (λ input unread.
-        EchoEnds coloured limit input (W.contents writer.old) (W.contents writer.new) result.ended) }
+        EchoEnds coloured logs (echo_limit logs limit) input (W.contents writer.old) (W.contents writer.new) result.ended) }
     ensures told { TellsFaults result.ended (read_from S.Source reader.old reader.new) (written_to W.Sink writer.old writer.new) }
 {
-    let replayed = echo_read(alloc, reader, writer, limit, coloured);
+    let replayed = echo_read(alloc, reader, writer, limit, coloured, logs);
     match writer.flush() {
         Ok(()) => replayed,
         Err(_) => Replayed {

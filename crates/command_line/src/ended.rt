@@ -1,5 +1,6 @@
 //! How a word of the program ends.
 
+use litmus::RunFault;
 use orders_text::HistoryFault;
 use trace::fault::TraceFault;
 
@@ -16,6 +17,8 @@ pub enum Trouble {
     Undecided(u64),
     /// It is that of no history, for this fault.
     History(HistoryFault),
+    /// It is that of no litmus test, for this fault.
+    Litmus(RunFault),
     /// No order of a history's calls was found that gets to the end of the call of this line.
     Unordered(u64),
 }

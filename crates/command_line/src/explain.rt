@@ -5,7 +5,7 @@ ghost use Rattle.trace.specs.declared.fault.TraceFault.TheVariants as Of;
 
 use crate::forms::{Kind, add_expected, is_line, reach};
 use crate::keeping::Kept;
-use crate::outcomes::explain_outcome;
+use crate::naming::explain_outcome;
 use crate::pointing::{
     Text, behind, expect, front, point, word_at, word_start, words_in, write_text,
 };

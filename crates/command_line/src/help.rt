@@ -6,7 +6,7 @@ ghost use Rattle.command_line.specs.Help.{page_of};
 mod texts;
 mod traces;
 
-use crate::help::texts::{AUDIT, IMPORT, NOTES, PICTURE, THREADS};
+use crate::help::texts::{AUDIT, IMPORT, LITMUS, NOTES, PICTURE, THREADS};
 use crate::help::traces::{CORES, FAULTS, LOG, MAPS, OUTCOMES, RUN, TRACE};
 
 /// What `--version` says after the program's name.
@@ -14,16 +14,18 @@ pub const VERSION: &str = "0.1.0";
 
 /// How the words go together.
 pub const USAGE: &str = "\
-radixvm run [--log | [--echo | --summary] [--long]] [--explain] [FILE]
+radixvm run [--summary | [--echo] [--log]] [--long] [--explain] [FILE]
        radixvm maps [--long] [--explain] [FILE]
        radixvm certify [--explain] [FILE]
-       radixvm live [--certify | --history | --shared] [--explain] [FILE]
+       radixvm live [[--certify | --history] [--summary] | --shared]
+                    [--explain] [FILE]
        radixvm import [--lackey | --all DIR |
                       [--pid N] [--one-process] [--maps FILE]]
                       [--explain] [FILE..]
        radixvm audit [--overlapping [--given IN] [--order OUT] |
                      [--strict] [--all]] [--any-place] [--explain] [FILE]
        radixvm picture [--lives | [--from N] [--to N]] [--explain] [FILE]
+       radixvm litmus [--limit N] [--list | --witness N] [--explain] [FILE]
        radixvm help [TOPIC]";
 
 /// What the program is for, its words, and where to read on.
@@ -31,16 +33,18 @@ pub const OVERVIEW: &str = "\
 One virtual address space with mmap, munmap and mprotect, shared by 1 to 64
 modelled cores, and replayed from a text, a trace, step by step.
 
-Usage: radixvm run [--log | [--echo | --summary] [--long]] [--explain] [FILE]
+Usage: radixvm run [--summary | [--echo] [--log]] [--long] [--explain] [FILE]
        radixvm maps [--long] [--explain] [FILE]
        radixvm certify [--explain] [FILE]
-       radixvm live [--certify | --history | --shared] [--explain] [FILE]
+       radixvm live [[--certify | --history] [--summary] | --shared]
+                    [--explain] [FILE]
        radixvm import [--lackey | --all DIR |
                       [--pid N] [--one-process] [--maps FILE]]
                       [--explain] [FILE..]
        radixvm audit [--overlapping [--given IN] [--order OUT] |
                      [--strict] [--all]] [--any-place] [--explain] [FILE]
        radixvm picture [--lives | [--from N] [--to N]] [--explain] [FILE]
+       radixvm litmus [--limit N] [--list | --witness N] [--explain] [FILE]
        radixvm help [TOPIC]
 
 Words:
@@ -49,7 +53,7 @@ Words:
   run --log      writes the log behind these lines: when each call had its
                  reply
   run --echo     writes LINE = OUTCOME for a line of an event, and copies vm
-                 and file lines
+                 and file lines; with --log the log stands below the lines
   run --summary  counts calls, faults, fills, shootdowns, frames and epochs,
                  and writes the numbers on standard error (help cores)
   maps           writes the mappings at the trace's end, and nothing else
@@ -58,6 +62,8 @@ Words:
   live           runs a script, each core on a thread, and writes their notes
   live --certify certifies these notes, or refuses them, in their place
   live --history writes when each call began and was answered, and its reply
+  live --summary counts requests, replies, messages and notes besides, and
+                 writes the numbers on standard error
   live --shared  runs it on one machine for all threads, whose replies are
                  proved, and writes each core's calls, and all in their order
   import         reads a log of strace, or with --lackey one of valgrind's, and
@@ -66,6 +72,8 @@ Words:
                  and says whether they are those of a plain page map
   picture        reads a trace, and writes a picture of what happened, as SVG;
                  with --lives of the lives of mappings over the whole trace
+  litmus         reads a few calls of several cores, and lists what they can be
+                 answered in all orders of their steps, and what never
   FILE           the file that is read; without it, or for -, standard input
   --long         lets the trace ask for more calls, but not beside --log
   --explain      shows under a fault the line, the word, and what was expected;
@@ -120,12 +128,14 @@ pub enum Topic {
     Audit,
     /// What `picture` shows.
     Picture,
+    /// What `litmus` reads and writes.
+    Litmus,
 }
 
 /// The names of the topics, as the program's words have them: first those of words.
 pub const TOPICS: &[&str] = &[
-    "run", "maps", "certify", "live", "import", "audit", "picture", "trace", "outcomes", "log",
-    "faults", "cores", "notes", "threads", "help",
+    "run", "maps", "certify", "live", "import", "audit", "picture", "litmus", "trace", "outcomes",
+    "log", "faults", "cores", "notes", "threads", "help",
 ];
 
 /// The topic of this name. A word's name and that of what it reads are one topic's.
@@ -143,6 +153,7 @@ pub(crate) fn topic_named(name: &str) -> Topic {
         "import" => Topic::Import,
         "audit" => Topic::Audit,
         "picture" => Topic::Picture,
+        "litmus" => Topic::Litmus,
         _ => Topic::Overview,
     }
 }
@@ -165,5 +176,6 @@ pub fn page(topic: Topic) -> &'static str
         Topic::Import => IMPORT,
         Topic::Audit => AUDIT,
         Topic::Picture => PICTURE,
+        Topic::Litmus => LITMUS,
     }
 }

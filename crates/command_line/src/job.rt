@@ -83,7 +83,7 @@ pub fn run<A: Allocator + Clone + Drop, S: Source, W: Sink, E: Write>(
 }
 
 /// As `run`, of outcomes, and shows each line of an event beside its outcome, with the `vm` and
-/// `file` lines.
+/// `file` lines, and, where logs are asked for, below each line what it adds to the log.
 pub fn run_echoing<A: Allocator + Clone + Drop, S: Source, W: Sink, E: Write>(
     alloc: A,
     reader: &mut S,
@@ -91,11 +91,12 @@ pub fn run_echoing<A: Allocator + Clone + Drop, S: Source, W: Sink, E: Write>(
     errors: &mut E,
     limit: CallLimit,
     coloured: bool,
+    logs: bool,
 ) -> Ended
-    ensures ends { EchoesTrace coloured limit
+    ensures ends { EchoesTrace coloured logs limit
         (read_from S.Source reader.old reader.new) (written_to W.Sink out.old out.new) result.status }
     ensures within { result.status ≤ 3 }
 {
-    let replayed = replay_echoing(alloc, reader, out, limit, coloured);
+    let replayed = replay_echoing(alloc, reader, out, limit, coloured, logs);
     tell_end(&replayed, errors)
 }

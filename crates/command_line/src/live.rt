@@ -5,6 +5,7 @@ ghost use Rattle.command_line.specs.Words.{CertifiesRun, RunsScript, SharesScrip
 ghost use Rattle.trace_io.specs.Io.{read_from, written_to};
 
 use crate::ended::{Ended, Trouble};
+use crate::summing::tell_sums;
 use history_text::history_of_text;
 use live_script::Runner;
 use live_script::texts::{TextFault, certify_run, run_text};
@@ -39,7 +40,7 @@ fn tell_fault<E: Write>(fault: TextFault, errors: &mut E) -> Ended
 }
 
 /// Runs the script, and writes the notes of all its cores. Prints a fault as `radixvm: ` and its text, and answers the
-/// status: 0, or that of the fault.
+/// status: 0, or that of the fault. Where that is asked for, the numbers of the notes come after a run without fault.
 pub fn live<
     A: Allocator + Clone + Drop,
     T: Threads + Wait + Sync,
@@ -47,15 +48,20 @@ pub fn live<
     S: Source,
     W: Sink,
     E: Write,
->(rt: &T, runner: &R, alloc: A, reader: &mut S, out: &mut W, errors: &mut E) -> Ended
+>(rt: &T, runner: &R, alloc: A, reader: &mut S, out: &mut W, errors: &mut E, told: bool) -> Ended
     ensures ends { RunsScript (read_from S.Source reader.old reader.new) (written_to W.Sink out.old out.new) result.status }
     ensures within { result.status ≤ 3 }
 {
     match run_text(rt, runner, alloc, reader, out) {
-        Ok(()) => Ended {
-            status: 0,
-            trouble: Trouble::Nothing,
-        },
+        Ok(sums) => {
+            if told {
+                tell_sums(&sums, errors);
+            }
+            Ended {
+                status: 0,
+                trouble: Trouble::Nothing,
+            }
+        }
         Err(fault) => tell_fault(fault, errors),
     }
 }
@@ -69,15 +75,20 @@ pub fn live_history<
     S: Source,
     W: Sink,
     E: Write,
->(rt: &T, runner: &R, alloc: A, reader: &mut S, out: &mut W, errors: &mut E) -> Ended
+>(rt: &T, runner: &R, alloc: A, reader: &mut S, out: &mut W, errors: &mut E, told: bool) -> Ended
     ensures ends { WritesHistory (read_from S.Source reader.old reader.new) (written_to W.Sink out.old out.new) result.status }
     ensures within { result.status ≤ 3 }
 {
     match history_of_text(rt, runner, alloc, reader, out) {
-        Ok(()) => Ended {
-            status: 0,
-            trouble: Trouble::Nothing,
-        },
+        Ok(sums) => {
+            if told {
+                tell_sums(&sums, errors);
+            }
+            Ended {
+                status: 0,
+                trouble: Trouble::Nothing,
+            }
+        }
         Err(fault) => tell_fault(fault, errors),
     }
 }
@@ -91,21 +102,23 @@ pub fn certify_live<
     S: Source,
     W: Sink,
     E: Write,
->(rt: &T, runner: &R, alloc: A, reader: &mut S, out: &mut W, errors: &mut E) -> Ended
+>(rt: &T, runner: &R, alloc: A, reader: &mut S, out: &mut W, errors: &mut E, told: bool) -> Ended
     ensures ends { CertifiesRun A
         ⟦<RadixMap<A> as SlotMap>⟧.parts ⟦<RadixMap<A> as SlotMap>⟧.can_fold ⟦<RadixMap<A> as SlotMap>⟧.folds
         (read_from S.Source reader.old reader.new) (written_to W.Sink out.old out.new) result.status }
     ensures within { result.status ≤ 3 }
 {
     match certify_run(rt, runner, alloc, reader, out) {
-        Ok(true) => Ended {
-            status: 0,
-            trouble: Trouble::Nothing,
-        },
-        Ok(false) => Ended {
-            status: 1,
-            trouble: Trouble::Nothing,
-        },
+        Ok(judgement) => {
+            if told {
+                tell_sums(&judgement.sums, errors);
+            }
+            let certified = judgement.verdict.is_certified();
+            Ended {
+                status: if certified { 0 } else { 1 },
+                trouble: Trouble::Nothing,
+            }
+        }
         Err(fault) => tell_fault(fault, errors),
     }
 }

@@ -1,7 +1,7 @@
 //! What the word `picture` does.
 ghost use Rattle.std.specs.Prelude.{◌≡◌, ◌≢◌, ◌≤◌, ◌⊎◌, Err, IfErr, IfOk, None, OnOk, true};
 ghost use Rattle.std.specs.Io.KnownBytes.{Appends, Keeps};
-ghost use Rattle.command_line.specs.Picture.{PictureEnds, Records, ShowsText, TextEnds, lacking, lacking_none, lives_of, picture_of};
+ghost use Rattle.command_line.specs.Picture.{Fails, PictureEnds, Records, ShowsText, TextEnds, Watched, in_memory, lacking, lacking_none, lives_of, picture_of};
 ghost use Rattle.command_line.specs.Words.{PicturesTrace};
 ghost use Rattle.recorder.specs.Changes.{ChangesRecorded, nothing_changed};
 ghost use Rattle.recorder.specs.Looking.{recorded};
@@ -11,7 +11,7 @@ ghost use Rattle.command_line.specs.Status.{picture_status};
 ghost use Rattle.trace.specs.declared.fault.TraceFault.TheVariants as Of;
 ghost use Rattle.trace_io.specs.Io.{TellsIo, read_from, written_to};
 ghost use Rattle.trace_io.specs.Sink.{AppendsFront};
-ghost use Rattle.trace_io.specs.Source.{HasStopped, Reads};
+ghost use Rattle.trace_io.specs.Source.{Reads};
 ghost use Rattle.watched.specs.Watching.{makes};
 
 use crate::ended::{Ended, Trouble};
@@ -20,13 +20,14 @@ use lives::drawing::draw_lives;
 use picture::canvas::draw;
 use picture::places::view_of;
 use recorder::{ChangeRecorder, Recorder};
-use std::alloc::Global;
+use std::alloc::{AllocError, Global};
 use std::io::Write;
 use trace::fault::{TraceFault, status_of_fault};
 use trace::replay::replay_watched;
 use trace::shown::Show;
+use trace_io::IoFault;
 use trace_io::sink::{Nowhere, Sink, write_all};
-use trace_io::source::Source;
+use trace_io::source::{Counted, Source, read_all};
 use watched::Watch;
 
 /// Which steps a picture shows, by their numbers.
@@ -47,21 +48,34 @@ pub enum Drawing {
     Lives,
 }
 
+/// The fault of a replay in memory, which can be read and written: where it can't, there was no memory.
+pub(crate) fn in_memory(fault: TraceFault) -> TraceFault
+    ensures value { result ≡ in_memory fault }
+    ensures read { result ≢ Of.ReadFailed }
+    ensures unwritten { result ≢ Of.WriteFailed }
+{
+    match fault {
+        TraceFault::BadLine(number) => TraceFault::BadLine(number),
+        TraceFault::TooLong(number) => TraceFault::TooLong(number),
+        TraceFault::NoVmLine => TraceFault::NoVmLine,
+        TraceFault::Setup(fault) => TraceFault::Setup(fault),
+        TraceFault::ReadFailed => TraceFault::NoMemory,
+        TraceFault::NoMemory => TraceFault::NoMemory,
+        TraceFault::WriteFailed => TraceFault::NoMemory,
+    }
+}
+
 // Replays the trace beside one who watches each step.
-fn record<S: Source, X: Watch + Drop>(
-    alloc: Global,
-    reader: &mut S,
-    watch: X,
-) -> Result<X, TraceFault>
-    ensures ends { Reads (S.stream reader.old) (S.stream reader.new)
-        (λ input unread. Records X.after watch input unread result) }
-    ensures read { result ≡ Err Of.ReadFailed → HasStopped (S.failed reader.new) (S.reads reader.new) }
+fn record<X: Watch + Drop>(alloc: Global, trace: &[u8], watch: X) -> Result<X, TraceFault>
+    ensures ends { Records X.after watch trace.now result }
+    ensures read { result ≢ Err Of.ReadFailed }
     ensures unwritten { result ≢ Err Of.WriteFailed }
 {
+    let mut reader = Counted::new(trace);
     let mut unshown = Nowhere::new();
     let beside = replay_watched(
         alloc,
-        reader,
+        &mut reader,
         &mut unshown,
         Show::Outcomes,
         CallLimit::Usual,
@@ -69,28 +83,29 @@ fn record<S: Source, X: Watch + Drop>(
     );
     match beside.replayed.ended {
         Ok(()) => Ok(beside.watch),
-        Err(fault) => Err(fault),
+        Err(fault) => Err(in_memory(fault)),
     }
 }
 
-// Writes the picture of what was recorded in these steps.
+// Writes the picture of what was recorded in these steps of the trace.
 fn write_picture<W: Sink>(
     alloc: Global,
+    trace: &[u8],
     recorder: &Recorder<Global>,
     steps: Steps,
     out: &mut W,
 ) -> Result<(), TraceFault>
     ensures ok { OnOk result (Appends (W.contents out.old) (W.contents out.new)
-        (picture_of steps.first steps.last recorder.now)) }
+        (picture_of steps.first steps.last trace.now recorder.now)) }
     ensures err { IfErr result (λ f. ((f ≡ Of.NoMemory) × Keeps (W.contents out.old) (W.contents out.new))
         ⊎ ((f ≡ Of.WriteFailed) × AppendsFront (W.contents out.old) (W.contents out.new)
-        (picture_of steps.first steps.last recorder.now))) }
+        (picture_of steps.first steps.last trace.now recorder.now))) }
     ensures write { result ≡ Err Of.WriteFailed → W.failed out.new ≡ true }
     ensures kept { (result ≡ Err Of.WriteFailed) ⊎ (W.failed out.new ≡ W.failed out.old) }
 {
     let cores = recorder.cores().min(64) as u8;
     let view = view_of(cores, steps.first, steps.last.min(recorder.steps()));
-    let Ok(text) = draw(alloc, view, recorder.moments()) else {
+    let Ok(text) = draw(alloc, view, trace, recorder.moments()) else {
         return Err(TraceFault::NoMemory);
     };
     if write_all(out, text.as_slice()).is_err() {
@@ -126,16 +141,17 @@ fn tell_steps<E: Write>(recorder: &Recorder<Global>, steps: Steps, errors: &mut 
 // there are, where the first is after them all.
 fn show_steps<W: Sink, E: Write>(
     alloc: Global,
+    trace: &[u8],
     recorder: &Recorder<Global>,
     steps: Steps,
     out: &mut W,
     errors: &mut E,
 ) -> Result<Option<u64>, TraceFault>
     ensures ok { IfOk result (λ x. (x ≡ lacking steps.first recorder.now)
-        × ShowsText x (picture_of steps.first steps.last recorder.now) (W.contents out.old) (W.contents out.new)) }
+        × ShowsText x (picture_of steps.first steps.last trace.now recorder.now) (W.contents out.old) (W.contents out.new)) }
     ensures err { IfErr result (λ f. ((f ≡ Of.NoMemory) × Keeps (W.contents out.old) (W.contents out.new))
         ⊎ ((f ≡ Of.WriteFailed) × AppendsFront (W.contents out.old) (W.contents out.new)
-        (picture_of steps.first steps.last recorder.now))) }
+        (picture_of steps.first steps.last trace.now recorder.now))) }
     ensures write { result ≡ Err Of.WriteFailed → W.failed out.new ≡ true }
     ensures kept { (result ≡ Err Of.WriteFailed) ⊎ (W.failed out.new ≡ W.failed out.old) }
 {
@@ -143,52 +159,64 @@ fn show_steps<W: Sink, E: Write>(
         return Ok(Some(all));
     }
     tell_steps(recorder, steps, errors);
-    match write_picture(alloc, recorder, steps, out) {
+    match write_picture(alloc, trace, recorder, steps, out) {
         Ok(()) => Ok(None),
         Err(fault) => Err(fault),
     }
 }
 
 // Replays the trace, and writes the picture of these steps, as `show_steps`.
-fn draw_steps<S: Source, W: Sink, E: Write>(
+fn draw_steps<W: Sink, E: Write>(
     alloc: Global,
-    reader: &mut S,
+    trace: &[u8],
     out: &mut W,
     errors: &mut E,
     steps: Steps,
 ) -> Result<Option<u64>, TraceFault>
-    ensures ends { Reads (S.stream reader.old) (S.stream reader.new) (λ input unread.
-        TextEnds (makes recorded) (nothing_recorded steps.first steps.last) (lacking steps.first) (picture_of steps.first steps.last)
-        input unread (W.contents out.old) (W.contents out.new) result) }
-    ensures told { TellsIo fault_named result (read_from S.Source reader.old reader.new) (written_to W.Sink out.old out.new) }
+    ensures ends { TextEnds (Watched (makes recorded) (nothing_recorded steps.first steps.last) trace.now) (Fails trace.now)
+        (lacking steps.first) (picture_of steps.first steps.last trace.now) (W.contents out.old) (W.contents out.new) result }
+    ensures read { result ≢ Err Of.ReadFailed }
+    ensures write { result ≡ Err Of.WriteFailed → W.failed out.new ≡ true }
+    ensures kept { (result ≡ Err Of.WriteFailed) ⊎ (W.failed out.new ≡ W.failed out.old) }
 {
     let Ok(recorder) = Recorder::new(alloc, steps.first, steps.last) else {
         return Err(TraceFault::NoMemory);
     };
-    match record(alloc, reader, recorder) {
-        Ok(recorder) => show_steps(alloc, &recorder, steps, out, errors),
+    match record(alloc, trace, recorder) {
+        Ok(recorder) => show_steps(alloc, trace, &recorder, steps, out, errors),
         Err(fault) => Err(fault),
     }
+}
+
+// The lives of what was mapped in the run.
+fn lives_drawn(
+    alloc: Global,
+    trace: &[u8],
+    recorder: &ChangeRecorder<Global>,
+) -> Result<Vec<u8>, AllocError>
+    ensures { IfOk result (λ text. text.items ≡ lives_of trace.now recorder.now) }
+{
+    let moments = recorder.moments()?;
+    let text = draw_lives(alloc, recorder.steps(), trace, moments)?;
+    Ok(text)
 }
 
 // Writes the lives of what was mapped in the run. No step is lacking.
 fn write_lives<W: Sink>(
     alloc: Global,
+    trace: &[u8],
     recorder: &ChangeRecorder<Global>,
     out: &mut W,
 ) -> Result<Option<u64>, TraceFault>
     ensures ok { IfOk result (λ x. (x ≡ lacking_none recorder.now)
-        × ShowsText x (lives_of recorder.now) (W.contents out.old) (W.contents out.new)) }
+        × ShowsText x (lives_of trace.now recorder.now) (W.contents out.old) (W.contents out.new)) }
     ensures err { IfErr result (λ f. ((f ≡ Of.NoMemory) × Keeps (W.contents out.old) (W.contents out.new))
         ⊎ ((f ≡ Of.WriteFailed)
-        × AppendsFront (W.contents out.old) (W.contents out.new) (lives_of recorder.now))) }
+        × AppendsFront (W.contents out.old) (W.contents out.new) (lives_of trace.now recorder.now))) }
     ensures write { result ≡ Err Of.WriteFailed → W.failed out.new ≡ true }
     ensures kept { (result ≡ Err Of.WriteFailed) ⊎ (W.failed out.new ≡ W.failed out.old) }
 {
-    let Ok(moments) = recorder.moments() else {
-        return Err(TraceFault::NoMemory);
-    };
-    let Ok(text) = draw_lives(alloc, recorder.steps(), moments) else {
+    let Ok(text) = lives_drawn(alloc, trace, recorder) else {
         return Err(TraceFault::NoMemory);
     };
     if write_all(out, text.as_slice()).is_err() {
@@ -198,24 +226,44 @@ fn write_lives<W: Sink>(
 }
 
 // Replays the trace, and writes the lives of its mappings.
-fn draw_all_lives<S: Source, W: Sink>(
+fn draw_all_lives<W: Sink>(
     alloc: Global,
-    reader: &mut S,
+    trace: &[u8],
     out: &mut W,
 ) -> Result<Option<u64>, TraceFault>
-    ensures ends { Reads (S.stream reader.old) (S.stream reader.new) (λ input unread.
-        TextEnds ChangesRecorded nothing_changed lacking_none lives_of
-        input unread (W.contents out.old) (W.contents out.new) result) }
-    ensures told { TellsIo fault_named result (read_from S.Source reader.old reader.new) (written_to W.Sink out.old out.new) }
+    ensures ends { TextEnds (Watched ChangesRecorded nothing_changed trace.now) (Fails trace.now) lacking_none (lives_of trace.now)
+        (W.contents out.old) (W.contents out.new) result }
+    ensures read { result ≢ Err Of.ReadFailed }
+    ensures write { result ≡ Err Of.WriteFailed → W.failed out.new ≡ true }
+    ensures kept { (result ≡ Err Of.WriteFailed) ⊎ (W.failed out.new ≡ W.failed out.old) }
 {
     let recorder = ChangeRecorder::new(alloc);
-    match record(alloc, reader, recorder) {
-        Ok(recorder) => write_lives(alloc, &recorder, out),
+    match record(alloc, trace, recorder) {
+        Ok(recorder) => write_lives(alloc, trace, &recorder, out),
         Err(fault) => Err(fault),
     }
 }
 
 // Replays the trace, and writes this picture of it.
+fn draw_text<W: Sink, E: Write>(
+    alloc: Global,
+    trace: &[u8],
+    out: &mut W,
+    errors: &mut E,
+    drawing: Drawing,
+) -> Result<Option<u64>, TraceFault>
+    ensures ends { PictureEnds drawing trace.now (W.contents out.old) (W.contents out.new) result }
+    ensures read { result ≢ Err Of.ReadFailed }
+    ensures write { result ≡ Err Of.WriteFailed → W.failed out.new ≡ true }
+    ensures kept { (result ≡ Err Of.WriteFailed) ⊎ (W.failed out.new ≡ W.failed out.old) }
+{
+    match drawing {
+        Drawing::Steps(steps) => draw_steps(alloc, trace, out, errors, steps),
+        Drawing::Lives => draw_all_lives(alloc, trace, out),
+    }
+}
+
+// Reads the trace, whose comments name files, replays it, and writes this picture of it.
 fn draw_trace<S: Source, W: Sink, E: Write>(
     alloc: Global,
     reader: &mut S,
@@ -224,17 +272,18 @@ fn draw_trace<S: Source, W: Sink, E: Write>(
     drawing: Drawing,
 ) -> Result<Option<u64>, TraceFault>
     ensures ends { Reads (S.stream reader.old) (S.stream reader.new) (λ input unread.
-        PictureEnds drawing input unread (W.contents out.old) (W.contents out.new) result) }
+        PictureEnds drawing input (W.contents out.old) (W.contents out.new) result) }
     ensures told { TellsIo fault_named result (read_from S.Source reader.old reader.new) (written_to W.Sink out.old out.new) }
 {
-    match drawing {
-        Drawing::Steps(steps) => draw_steps(alloc, reader, out, errors, steps),
-        Drawing::Lives => draw_all_lives(alloc, reader, out),
+    match read_all(alloc, reader) {
+        Ok(trace) => draw_text(alloc, trace.as_slice(), out, errors, drawing),
+        Err(IoFault::ReadFailed) => Err(TraceFault::ReadFailed),
+        Err(_) => Err(TraceFault::NoMemory),
     }
 }
 
-// Prints the fault that there is, or that the steps asked for are lacking, and answers the status.
-fn tell_end<E: Write>(ended: Result<Option<u64>, TraceFault>, errors: &mut E) -> Ended
+/// Prints the fault that there is, or that the steps asked for are lacking, and answers the status.
+pub(crate) fn tell_end<E: Write>(ended: Result<Option<u64>, TraceFault>, errors: &mut E) -> Ended
     ensures value { result.status ≡ picture_status ended }
     ensures within { result.status ≤ 3 }
 {
@@ -263,7 +312,7 @@ fn tell_end<E: Write>(ended: Result<Option<u64>, TraceFault>, errors: &mut E) ->
     }
 }
 
-/// Replays the trace, and writes a picture of it: of what happened in these steps, or in the first
+/// Reads the trace into memory, replays it, and writes a picture of it, with the names of files that its comments tell: of what happened in these steps, or in the first
 /// 2,000 of them, which is then said on `errors`; or of the lives of mappings over all steps. Prints
 /// a fault, of which there is no picture, as `radixvm: ` and its text, and answers the status: 0, or
 /// that of the fault. A trace that ends before the first of the steps has no picture either: that is reported, and the status is 2.

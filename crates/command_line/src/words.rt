@@ -7,11 +7,13 @@ ghost use Rattle.core_steps.specs.declared.setup.CallLimit.{CallLimit};
 use crate::help;
 use crate::help::{Topic, page, topic_named};
 use crate::job::Shows;
+use crate::litmus_tests::{POINTS, Test};
 use crate::picturing::{Drawing, Steps};
 use audit_text::Terms;
 use clap::{Arg, ArgAction, ArgMatches, Command, Error, value_parser};
 use core_steps::CallLimit;
 use import_text::processes::Choice;
+use litmus::View;
 use std::alloc::{AllocError, Allocator, Global};
 use trace::shown::Show;
 
@@ -20,16 +22,27 @@ use trace::shown::Show;
 pub(crate) enum Work {
     /// A replay, which shows this.
     Replay(Shows),
-    /// A replay that shows each line beside its outcome, within this limit, and in colours or without.
-    Echo { limit: CallLimit, coloured: bool },
+    /// A replay that shows each line beside its outcome, within this limit, in colours or without, and with what it adds to the log, or
+    /// not.
+    Echo {
+        limit: CallLimit,
+        coloured: bool,
+        logs: bool,
+    },
     /// The certificate of notes.
     Certify,
-    /// A run of a script on threads, whose notes are written.
-    Live,
+    /// A run of a script on threads, whose notes are written, and their numbers told, or not.
+    Live {
+        sums: bool,
+    },
     /// The certificate of such a run.
-    CertifyLive,
+    CertifyLive {
+        sums: bool,
+    },
     /// A run of a script on threads, the history of whose calls is written.
-    LiveHistory,
+    LiveHistory {
+        sums: bool,
+    },
     /// A run of a script on threads over one machine, whose replies and log are written.
     ShareLive,
     /// The trace of a log of strace, of the process that is chosen.
@@ -46,6 +59,8 @@ pub(crate) enum Work {
     Overlapping(Overlaps),
     /// A picture of a trace, of its steps or of lives.
     Picture(Drawing),
+    /// The outcomes of a litmus test.
+    Litmus(Test),
 }
 
 /// How calls that overlap are judged.
@@ -55,6 +70,8 @@ pub struct Overlaps {
     pub any_place: bool,
     /// Whether their order is given.
     pub is_given: bool,
+    /// Whether it is wanted as text.
+    pub is_wanted: bool,
 }
 
 /// What is asked for.
@@ -123,13 +140,14 @@ fn reading_from<'a>(
         .arg(file)
 }
 
-const RUN_USAGE: &str = "radixvm run [--log | [--echo | --summary] [--long]] [--explain] [FILE]";
+const RUN_USAGE: &str = "radixvm run [--summary | [--echo] [--log]] [--long] [--explain] [FILE]";
 
 const MAPS_USAGE: &str = "radixvm maps [--long] [--explain] [FILE]";
 
 const CERTIFY_USAGE: &str = "radixvm certify [--explain] [FILE]";
 
-const LIVE_USAGE: &str = "radixvm live [--certify | --history | --shared] [--explain] [FILE]";
+const LIVE_USAGE: &str =
+    "radixvm live [[--certify | --history] [--summary] | --shared] [--explain] [FILE]";
 
 const IMPORT_USAGE: &str =
     "radixvm import [--lackey | --all DIR | [--pid N] [--one-process] [--maps FILE]] [--explain] [FILE..]";
@@ -137,18 +155,19 @@ const IMPORT_USAGE: &str =
 const AUDIT_USAGE: &str =
     "radixvm audit [--overlapping [--given IN] [--order OUT] | [--strict] [--all]] [--any-place] [--explain] [FILE]";
 
+const LITMUS_USAGE: &str = "radixvm litmus [--limit N] [--list | --witness N] [--explain] [FILE]";
+
 const PICTURE_USAGE: &str = "radixvm picture [--lives | [--from N] [--to N]] [--explain] [FILE]";
 
 // The word `run` with what may stand after it.
 fn running<'a>(alloc: Global) -> Result<Command<'a>, AllocError> {
-    let echo = flag(alloc, "echo").conflicts_with("log")?;
     let long = flag(alloc, "long").conflicts_with("log")?;
     let summary = flag(alloc, "summary")
         .conflicts_with("log")?
         .conflicts_with("echo")?;
     let command = reading(alloc, "run", RUN_USAGE)?
         .arg(flag(alloc, "log"))?
-        .arg(echo)?
+        .arg(flag(alloc, "echo"))?
         .arg(summary)?
         .arg(long)?;
     Ok(command)
@@ -163,6 +182,16 @@ fn picturing<'a>(alloc: Global) -> Result<Command<'a>, AllocError> {
         .arg(number(alloc, "from"))?
         .arg(number(alloc, "to"))?
         .arg(lives)?;
+    Ok(command)
+}
+
+// The word `litmus` with what may stand after it.
+fn litmus_word<'a>(alloc: Global) -> Result<Command<'a>, AllocError> {
+    let list = flag(alloc, "list").conflicts_with("witness")?;
+    let command = reading(alloc, "litmus", LITMUS_USAGE)?
+        .arg(number(alloc, "limit"))?
+        .arg(number(alloc, "witness"))?
+        .arg(list)?;
     Ok(command)
 }
 
@@ -205,10 +234,12 @@ fn living<'a>(alloc: Global) -> Result<Command<'a>, AllocError> {
     let shared = flag(alloc, "shared")
         .conflicts_with("certify")?
         .conflicts_with("history")?;
+    let summary = flag(alloc, "summary").conflicts_with("shared")?;
     let command = reading(alloc, "live", LIVE_USAGE)?
         .arg(flag(alloc, "certify"))?
         .arg(history)?
-        .arg(shared)?;
+        .arg(shared)?
+        .arg(summary)?;
     Ok(command)
 }
 
@@ -265,6 +296,7 @@ fn grammar<'a>(alloc: Global) -> Result<Command<'a>, AllocError> {
     let program = with_word(machine_words(alloc)?, import_word(alloc))?;
     let program = with_word(program, audit_word(alloc))?;
     let program = with_word(program, picturing(alloc))?;
+    let program = with_word(program, litmus_word(alloc))?;
     with_word(program, help_word(alloc))
 }
 
@@ -312,6 +344,19 @@ fn drawing_of<'a>(words: &ArgMatches<'a>) -> Drawing {
     })
 }
 
+// What the words behind `litmus` ask for.
+fn test_of<'a>(words: &ArgMatches<'a>) -> Test {
+    let view = match words.get_one("witness") {
+        Some(number) => View::Witness(number),
+        None if words.get_flag("list") => View::List,
+        None => View::Report,
+    };
+    Test {
+        view,
+        limit: words.get_one("limit").unwrap_or(POINTS),
+    }
+}
+
 // An import, with the list of mappings that the words name.
 fn importing<'a>(words: &ArgMatches<'a>) -> Task<'a>
     ensures { (choice : Choice) × (result.work ≡ Work.Import choice) }
@@ -345,14 +390,37 @@ fn importing_each<'a>(words: &ArgMatches<'a>) -> Task<'a>
 
 // What the words after `run` ask for, in colours or without.
 fn running_asked<'a>(words: &ArgMatches<'a>, coloured: bool) -> Task<'a> {
-    if words.get_flag("log") {
-        return replaying(Show::OutcomesAndLog, false, words);
-    }
+    let logs = words.get_flag("log");
     if words.get_flag("echo") {
         let limit = limit_of(words);
-        return working(Work::Echo { limit, coloured }, words);
+        return working(
+            Work::Echo {
+                limit,
+                coloured,
+                logs,
+            },
+            words,
+        );
+    }
+    if logs {
+        return replaying(Show::OutcomesAndLog, false, words);
     }
     replaying(Show::Outcomes, words.get_flag("summary"), words)
+}
+
+// What the words after `live` ask for.
+fn living_asked<'a>(words: &ArgMatches<'a>) -> Work {
+    let sums = words.get_flag("summary");
+    if words.get_flag("certify") {
+        return Work::CertifyLive { sums };
+    }
+    if words.get_flag("history") {
+        return Work::LiveHistory { sums };
+    }
+    if words.get_flag("shared") {
+        return Work::ShareLive;
+    }
+    Work::Live { sums }
 }
 
 // The topic of the help that the words name.
@@ -370,6 +438,7 @@ fn overlapping<'a>(words: &ArgMatches<'a>) -> Task<'a> {
         work: Work::Overlapping(Overlaps {
             any_place: words.get_flag("any-place"),
             is_given: given.is_some(),
+            is_wanted: words.get_str("order").is_some(),
         }),
         file: words.get_str("FILE"),
         maps: given,
@@ -393,10 +462,7 @@ fn asked<'a>(name: &str, words: &ArgMatches<'a>, coloured: bool) -> Result<Task<
         "run" => Ok(running_asked(words, coloured)),
         "maps" => Ok(replaying(Show::Maps, false, words)),
         "certify" => Ok(working(Work::Certify, words)),
-        "live" if words.get_flag("certify") => Ok(working(Work::CertifyLive, words)),
-        "live" if words.get_flag("history") => Ok(working(Work::LiveHistory, words)),
-        "live" if words.get_flag("shared") => Ok(working(Work::ShareLive, words)),
-        "live" => Ok(working(Work::Live, words)),
+        "live" => Ok(working(living_asked(words), words)),
         "import" if words.get_flag("lackey") => Ok(working(Work::ImportAccesses, words)),
         "import" if words.get_str("all").is_some() => Ok(importing_each(words)),
         "import" => Ok(importing(words)),
@@ -406,6 +472,7 @@ fn asked<'a>(name: &str, words: &ArgMatches<'a>, coloured: bool) -> Result<Task<
         }
         "audit" => Ok(working(Work::Audit(terms_asked(words)), words)),
         "picture" => Ok(working(Work::Picture(drawing_of(words)), words)),
+        "litmus" => Ok(working(Work::Litmus(test_of(words)), words)),
         _ => Err(topic_of(words)),
     }
 }

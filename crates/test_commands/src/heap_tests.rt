@@ -55,10 +55,10 @@ fn do_in<T: Threads + Wait + Sync>(
 ) -> u8 {
     let ended = match word {
         "run" => run(heap, reader, out, errors, LOGGED),
-        "echo" => run_echoing(heap, reader, out, errors, CallLimit::Usual, false),
+        "echo" => run_echoing(heap, reader, out, errors, CallLimit::Usual, false, false),
         "certify" => certify(heap, reader, out, errors),
-        "live" => live(rt, &InTurn, heap, reader, out, errors),
-        _ => certify_live(rt, &InTurn, heap, reader, out, errors),
+        "live" => live(rt, &InTurn, heap, reader, out, errors, false),
+        _ => certify_live(rt, &InTurn, heap, reader, out, errors, false),
     };
     ended.status
 }

@@ -67,6 +67,15 @@ each call that was answered
 with the numbers of the notes with which it began and was answered, one core
 after another. So others can judge the replies, who know no machine.
 
+With each of these --summary writes the numbers of all notes to standard error,
+after a run without a fault, each on a line of its own:
+
+  requests NAME   calls that began: mmap, munmap, mprotect, load, store, fetch
+  calls REPLY     answered calls, as run --summary counts them (help cores)
+  segv REASON     calls that got segv maperr, and segv accerr
+  takes           messages that cores acted on
+  tickets, notes  how many tickets were drawn, and notes made: as many
+
 live --shared runs the script on one machine that all threads share. A core
 makes its call whole while no other core is in one; otherwise it pauses, and
 tries again. Each core may begin calls until all have begun CALLS. In place of
@@ -115,10 +124,10 @@ begins anew, and -ttt doesn't. Lines before the first time of their file come
 first, in the order of the FILEs, and standard error tells how many there are.
 
   --pid N        the process of thread N, else the one with the most requests:
-                 several are then listed on standard error, with the programs
-                 that they began last. A forked process
-                 begins with its parent's mappings. It is an error, and they
-                 are listed, if no line is about thread N
+                 where there are several, standard error then lists them, each
+                 with the program that it began last. If no line is about
+                 thread N, that is an error, and they are listed, too. A forked
+                 process begins with its parent's mappings
   --one-process  all threads of whose creation no line tells are of one
                  process, as strace -f -p N leaves it; else each is one
   --all DIR      a trace of each process, NUMBER.trace in the folder DIR, which
@@ -217,12 +226,13 @@ REQ is as in help trace, REPLY as in help outcomes. All other lines that run
 --echo writes are taken, and say nothing of replies. A line has at most 512
 bytes. Calls take effect in the order of their replies. From a reply on that
 came while another core's call waited, another order may be the right one: no
-reply is then called illegal, but undecided.
+reply is then called illegal. Instead another order is searched, as with
+--overlapping: where one is found they are legal, and else it is undecided.
 
 noframe, where the access would be served, and nomemory are taken and counted,
 and change nothing; with --strict they are illegal. A store that had nomemory
-may have left its private page a copy: from there on, too, a reply that isn't
-right without it is undecided.
+may have left its private page a copy: from there on, too, a reply isn't called
+illegal that isn't right without it.
 
 It writes one of these, and behind the last two the mappings around the
 request, as help maps says, at most four. On standard error the request is
@@ -235,14 +245,15 @@ shown that was judged, with its line's number:
                        line N's reply isn't, and what it would give; the lines
                        before it are legal, and none behind it is read
   undecided N: replied REPLY, due REPLY
-                       it isn't in this order of the calls, as above
+                       it isn't in this order, as above, and none was found
   illegal N: copied, due no copy
                        line N copies a page that isn't private, shows no bytes
                        of its file, or may not be stored to; or undecided N: ..
 
 With --all it goes on after a wrong reply, and writes such a line for each of
 them and nothing else. A mapping is then where the reply says, if its pages
-are free, and else what was due is done. It writes legal .. if none is wrong.
+are free, and else what was due is done. It writes legal .. if none is wrong in
+the order of the lines: no other one is searched.
 
 A mmap without f is due its hint, if its pages are free, or else the first room
 in the core's window. With --any-place it may have any place where all pages
@@ -262,7 +273,8 @@ A call that ended before another began (END below BEGIN) takes effect before
 it; of others any may be the first. Calls of one core may not overlap. A call
 that has no reply yet has no line. Instead of all such lines there may be those
 of run --echo, as above: a call is then under way from the line in which it
-begins to that of its reply. It writes one of these:
+begins to that of its reply. One that waits at the end may have taken effect or
+not, and isn't counted. It writes one of these:
 
   legal CALLS          some order of the calls has just these replies
   undecided N          no order was found that gets to the end of line N's
@@ -285,6 +297,64 @@ undecided. A fault is told as help faults says, and then nothing is written;
 with --explain more is told of it. The text is held in memory.
 ";
 
+/// What `litmus` reads and writes.
+pub const LITMUS: &str = "\
+litmus reads a few calls of several cores, and lists the replies that they can
+have, in whatever order the cores' steps come, and with walks, evictions, takes,
+flushes, reviews and folds anywhere between them. All other replies can't come:
+that is proved, for every order. A test has these lines:
+
+  vm, file          as in help trace
+  events            lines of a trace, the opening: they come first, as they
+                    stand, and leave no call open
+  together          the calls begin here. Without this line there is no opening
+  cC! REQ           a call of core C, behind those of C above it. An mmap needs
+                    the flag f. The lines of one core are in order, and those
+                    of others may stand anywhere
+  final ADDR        a load of this address at the end belongs to an outcome
+  exists COND       COND holds of some outcome
+  never COND        it holds of none
+  forall COND       it holds of each
+
+final lines and clauses stand anywhere behind together. COND is some of these,
+with and and or between them, of which and binds closer:
+
+  cC.N = REPLY      core C's call N, counted from 1, has this reply
+  cC.N != REPLY     it has another one
+  ADDR = BYTE       this address, of a final line, shows this byte at the end
+
+It writes outcomes N, and a line for each outcome in the order of their texts:
+K: c0 done; c1 1, 2 says that core 0's call was answered done, and core 1's two
+1 and 2; behind it stands ; ADDR BYTE of each final address. (open) behind an
+outcome says that no run was found that has it. Then comes one of these:
+
+  exact             each outcome has a run, and nothing else can come
+  open              one is open; nothing else can come
+  stopped at the limit of N points
+                    there may be others; --limit N lets it look at more points
+                    of orders than 1,000,000
+  noframe is left out
+                    in front of these two: frames may be too few for all calls, and
+                    outcomes with noframe aren't looked for
+
+Outcomes with nomemory aren't listed either, and only runs count in which every
+call is answered. Then each clause is written again with : holds, : fails or
+: open, and of each Observation NAME, Always, Sometimes or Never, and of how
+many outcomes that have a run COND holds and of how many it doesn't.
+
+--list writes only the outcomes, one in a line, with tabs between the replies.
+--witness N writes a trace for run that has the Nth outcome.
+
+Example:
+  printf '%s\\n' 'vm 2 4' 'c0! mmap 0x10000 4096 rw- pfa' together \\
+    'c0! store 0x10000 1' 'c1! load 0x10000' 'never c1.1 = 2' | radixvm litmus
+writes 1: c0 done; c1 0 and 2: c0 done; c1 1, exact, and that the clause holds.
+
+Status: 0 where all clauses hold, 1 where one fails, 3 where one is open or the
+limit was met. A fault of the text is told with its line, and 2 is the status;
+nothing is written then. With --explain more is told of it.
+";
+
 /// What `picture` shows.
 pub const PICTURE: &str = "\
 picture reads a trace, and writes a picture of what happened as one SVG text:
@@ -305,17 +375,25 @@ steps has one. Each core has a lane. In it lie
 Below, each row is of pages that are mapped and unmapped together, coloured by
 what may be done with them, from the step in which the change is made. What was
 mapped before the first column isn't shown. Point at a bar, a mark or a stretch
-to read what it is.
+to read what it is: of pages their addresses, rights and BACK, as in help maps,
+with the file's name where the line right before the file's line of the trace is
+a comment # file N NAME, as import writes it.
 
   --from N  the first step that is shown: 1 where it is left out. Where the
             trace has fewer there is no picture, and the status is 2
   --to N    the last one, not below N of --from. 2000 steps are shown at most,
             which is then said on standard error
   --lives   in place of that the lives of mappings over the whole trace,
-            however long it is. A row is as above, and in it lies a rectangle
-            from each step in which its pages are mapped, or get other rights,
-            to the first that changes them. 2000 are shown at most, from the
-            lowest pages on, and the picture says so. Not beside --from or --to
+            however long it is. Pages that lie beside each other share a row
+            where they are alike in all steps. In it lies a rectangle from each
+            step in which its pages are mapped, or get other rights, to the
+            first that changes them. Beside the rows, up to 63 of them,
+            stand their addresses and BACK, of the last rectangle. Colours say
+            what may be done with the pages, and shades what backs them. 2000
+            rectangles are shown at most, from the lowest pages on, and the
+            picture says so. Not beside --from or --to
+
+The trace is held in memory.
 
 Status: as for run. After a fault there is no picture.
 ";

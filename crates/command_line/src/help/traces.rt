@@ -5,12 +5,12 @@ pub const RUN: &str = "\
 run reads a trace, acts on each line as it is read, and writes a line for each
 event: the reply of a call, or what became of a step.
 
-  radixvm run [--log | [--echo | --summary] [--long]] [--explain] [FILE]
+  radixvm run [--summary | [--echo] [--log]] [--long] [--explain] [FILE]
 
   FILE       the trace (help trace); without it, or for -, standard input
   --log      also writes the log: when each call had its reply (help log)
   --echo     writes LINE = OUTCOME for each event, and copies vm and file
-             lines
+             lines; with --log each entry stands below the line that made it
   --summary  counts calls, faults, fills, shootdowns, frames and epochs, and
              writes the numbers to standard error (help cores)
   --long     lets the trace ask for up to 2^40 calls; not together with --log
@@ -188,6 +188,9 @@ outcomes.
 The log tells the order in which calls took effect: a plain page map that makes
 them in this order, one after another, can give these replies. After a fault
 there is no log.
+
+run --log --echo writes each entry below the line of the trace that made it.
+After a fault the entries of the lines before it are there.
 ";
 
 /// What `maps` writes.

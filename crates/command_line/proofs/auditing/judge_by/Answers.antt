@@ -7,4 +7,4 @@ use Rattle.command_line.proofs.auditing.judge_by.Goals as goal
 
 pub returns-in_default-clause-ends : goal.returns-in_default-clause-ends
 returns-in_default-clause-ends g c =
-    (Err (Io NoMemory), c.refuse_history.ensures.value, unmade _ c.args.any_place _, tells_want Io io_of io_back _ _ refl)
+    (Err (Io NoMemory), c.refuse_history.ensures.value, unmade _ c.args.overlaps.any_place _, tells_want Io io_of io_back _ _ refl)

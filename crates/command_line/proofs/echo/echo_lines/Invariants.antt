@@ -1,19 +1,22 @@
-use Rattle.std.proofs.Common.{◌≡◌, ◌+◌, ◌*◌, ◌^◌, ◌≤◌}
+use Rattle.std.proofs.Common.{◌≡◌, ◌+◌, ◌*◌, ◌^◌, ◌≤◌, length, true}
 use Rattle.trace_io.specs.Source.{Reads}
 use Rattle.trace_io.specs.Window.{left, budget}
 use Rattle.core_steps.specs.declared.setup.CallLimit.{CallLimit}
+use Rattle.trace.specs.Shown.{log_at}
 use Rattle.trace.specs.Stage.{Start}
 use Rattle.trace.specs.Turns.{scene}
 use Rattle.command_line.proofs.EchoLemmas.{HasEchoed}
 use Rattle.command_line.proofs.echo.echo_lines.Given as goal
 
--- each line took a byte, the lines so far were shown, and no write failed
+-- each line took a byte, the lines so far were shown with the entries that they added, and no write failed
 abbrev pub invariant-lines : goal.invariant-lines
 invariant-lines g l = record {
   budget : l.number + budget (g.S.Source.reads l.reader) l.lines ≤ 65536 * 2 ^ 32;
   kept : g.W.Sink.failed l.writer ≡ g.W.Sink.failed l.initial.writer;
+  told : (limit : CallLimit) → g.R.Staged.stage l.initial.replayer ≡ Start limit → l.fn.logs ≡ true
+      → l.shown ≡ length (log_at (g.R.Staged.stage l.replayer));
   ran : (limit : CallLimit) → g.R.Staged.stage l.initial.replayer ≡ Start limit → Reads (g.S.Source.stream l.initial.reader) (g.S.Source.stream l.reader)
-      (λ input unread. HasEchoed l.fn.coloured limit input (g.W.Sink.contents l.initial.writer)
+      (λ input unread. HasEchoed l.fn.coloured l.fn.logs limit input (g.W.Sink.contents l.initial.writer)
       (scene (left unread l.lines) unread (g.R.Staged.stage l.replayer) (g.W.Sink.contents l.writer)) l.number);
 }
 

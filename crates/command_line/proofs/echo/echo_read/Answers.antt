@@ -6,6 +6,3 @@ use Rattle.command_line.proofs.echo.echo_read.Goals as goal
 
 pub returns-in_default-clause-ends : goal.returns-in_default-clause-ends
 returns-in_default-clause-ends g c = reads_none _ _ (λ xs. unmade refl (Appends-nil _))
-
-pub returns-clause-ends : goal.returns-clause-ends
-returns-clause-ends g c = c.echo_lines-ended.ensures.ends c.args.limit c.within-replayer.ensures.stage

@@ -1,0 +1,173 @@
+//! What the word `litmus` does.
+ghost use Rattle.std.specs.Prelude.{◌≡◌, ◌≤◌};
+ghost use Rattle.trace_io.specs.Io.{read_from, written_to};
+ghost use Rattle.command_line.specs.Litmus.{TellsTest, TestEnds, litmus_status};
+
+use crate::ended::{Ended, Trouble};
+use crate::keeping::Kept;
+use crate::pointing::{expect, show_line, tell};
+use litmus::{RunFault, View, tell_litmus};
+use litmus_text::LitmusFault;
+use std::alloc::Global;
+use std::io::Write;
+use trace_io::IoFault;
+use trace_io::sink::{Sink, write_out};
+use trace_io::source::{Source, read_all};
+
+/// How many points of orders are looked at, where no other limit is asked for.
+pub const POINTS: u64 = 1_000_000;
+
+/// What is asked for of a litmus test.
+#[derive(Clone, Copy, Debug, PartialEq, Eq)]
+pub struct Test {
+    /// What is written of it.
+    pub view: View,
+    /// How many points of orders are looked at, at most.
+    pub limit: u64,
+}
+
+/// The name of a test, by that of its file: without folder and ending. Of standard input it is `litmus`.
+pub(crate) fn test_name(file: Option<&str>) -> &str {
+    let Some(path) = file else {
+        return "litmus";
+    };
+    if path == "-" {
+        return "litmus";
+    }
+    let name = match path.rsplit_once('/') {
+        Some((_, name)) => name,
+        None => path,
+    };
+    match name.rsplit_once('.') {
+        Some((front, _)) if !front.is_empty() => front,
+        _ => name,
+    }
+}
+
+// Prints why nothing is told of a test, and answers the status: 2 where the text is at fault, 3 where its surroundings are.
+fn refuse<E: Write>(fault: RunFault, errors: &mut E) -> Ended
+    ensures status { result.status ≡ litmus_status fault }
+    ensures within { result.status ≤ 3 }
+{
+    let _ = writeln!(errors, "radixvm: {fault}");
+    let status = match fault {
+        RunFault::Text(LitmusFault::Io(_)) => 3,
+        _ => 2,
+    };
+    Ended {
+        status,
+        trouble: Trouble::Litmus(fault),
+    }
+}
+
+// Tells of the test with this name and text.
+fn tell_test<W: Sink, E: Write>(
+    alloc: Global,
+    name: &str,
+    text: &[u8],
+    out: &mut W,
+    errors: &mut E,
+    test: Test,
+) -> Ended
+    ensures ends { TestEnds test text.now (W.contents out.old) (W.contents out.new) result.status }
+    ensures within { result.status ≤ 3 }
+{
+    let told = match tell_litmus(
+        &alloc,
+        name.as_bytes(),
+        text,
+        test.view,
+        test.limit as usize,
+    ) {
+        Ok(told) => told,
+        Err(fault) => return refuse(fault, errors),
+    };
+    match write_out(out, told.text.as_slice()) {
+        Ok(()) => Ended {
+            status: told.status.min(3),
+            trouble: Trouble::Nothing,
+        },
+        Err(_) => refuse(
+            RunFault::Text(LitmusFault::Io(IoFault::WriteFailed)),
+            errors,
+        ),
+    }
+}
+
+/// Lists the outcomes of a litmus test with this name, prints a fault as `radixvm: ` and its text, and answers the status: 0 where all
+/// clauses hold, 1 where one fails, 3 where one is open or the limit was met, or that of the fault.
+pub(crate) fn litmus<S: Source, W: Sink, E: Write>(
+    alloc: Global,
+    name: &str,
+    reader: &mut S,
+    out: &mut W,
+    errors: &mut E,
+    test: Test,
+) -> Ended
+    ensures does { TellsTest test (read_from S.Source reader.old reader.new) (written_to W.Sink out.old out.new) result.status }
+    ensures within { result.status ≤ 3 }
+{
+    match read_all(alloc, reader) {
+        Ok(text) => tell_test(alloc, name, text.as_slice(), out, errors, test),
+        Err(fault) => refuse(RunFault::Text(LitmusFault::Io(fault)), errors),
+    }
+}
+
+// Shows the line with this number.
+fn show_number<E: Write>(number: u64, kept: &Kept, errors: &mut E) {
+    if let Some(line) = kept.line(number) {
+        show_line(line, errors);
+    }
+}
+
+// Writes what is known of a fault of the text beside its own words.
+fn explain_text<E: Write>(fault: LitmusFault, kept: &Kept, errors: &mut E) {
+    match fault {
+        LitmusFault::BadLine(number) => {
+            show_number(number, kept, errors);
+            expect(
+                "an event in the opening; behind together cC! REQ, final ADDR or a clause",
+                errors,
+            );
+            tell("for example never c1.1 = segv maperr and c1.2 = 2", errors);
+        }
+        LitmusFault::TooLong(_) => expect("at most 256 bytes in a line", errors),
+        LitmusFault::Placed(number) => {
+            show_number(number, kept, errors);
+            expect(
+                "an mmap at a place that it names, with the flag f: one without it may get many places",
+                errors,
+            );
+        }
+        LitmusFault::NoCall(number) => {
+            show_number(number, kept, errors);
+            expect(
+                "cC.N with a core C that has N calls or more behind together, counted from 1",
+                errors,
+            );
+        }
+        LitmusFault::NoFinal(number) => {
+            show_number(number, kept, errors);
+            expect("a line final ADDR for each address of a clause", errors);
+        }
+        LitmusFault::NoCalls => expect("a line cC! REQ behind together", errors),
+        LitmusFault::NoVmLine => expect("vm CORES FRAMES in front, for example vm 2 16", errors),
+        LitmusFault::Setup(_) | LitmusFault::Io(_) => {}
+    }
+}
+
+/// Writes what is known of a fault beside its text: its line, and what was expected.
+pub(crate) fn explain_litmus<E: Write>(fault: RunFault, kept: &Kept, errors: &mut E) {
+    match fault {
+        RunFault::Text(fault) => explain_text(fault, kept, errors),
+        RunFault::Open(_) => expect(
+            "an opening in which each call is answered: cC finish goes on with one that waits",
+            errors,
+        ),
+        RunFault::NoOutcome(_) => expect(
+            "a number of an outcome, from 1, as litmus lists them",
+            errors,
+        ),
+        RunFault::NoWitness(_) => expect("an outcome that isn't (open)", errors),
+    }
+}
