@@ -300,9 +300,9 @@ with --explain more is told of it. The text is held in memory.
 /// What `litmus` reads and writes.
 pub const LITMUS: &str = "\
 litmus reads a few calls of several cores, and lists the replies that they can
-have, in whatever order the cores' steps come, and with walks, evictions, takes,
-flushes, reviews and folds anywhere between them. All other replies can't come:
-that is proved, for every order. A test has these lines:
+have, in whatever order the cores' steps come, and with walks, evictions,
+takes, flushes, reviews and folds anywhere between them. All other replies
+can't come: that is proved, for every order. A test has these lines:
 
   vm, file          as in help trace
   events            lines of a trace, the opening: they come first, as they
@@ -334,8 +334,8 @@ outcome says that no run was found that has it. Then comes one of these:
                     there may be others; --limit N lets it look at more points
                     of orders than 1,000,000
   noframe is left out
-                    in front of these two: frames may be too few for all calls, and
-                    outcomes with noframe aren't looked for
+                    in front of exact or open: frames may be too few for
+                    all calls, and outcomes with noframe aren't looked for
 
 Outcomes with nomemory aren't listed either, and only runs count in which every
 call is answered. Then each clause is written again with : holds, : fails or
@@ -376,8 +376,8 @@ Below, each row is of pages that are mapped and unmapped together, coloured by
 what may be done with them, from the step in which the change is made. What was
 mapped before the first column isn't shown. Point at a bar, a mark or a stretch
 to read what it is: of pages their addresses, rights and BACK, as in help maps,
-with the file's name where the line right before the file's line of the trace is
-a comment # file N NAME, as import writes it.
+with the file's name where the line right before the file's line of the trace
+is a comment # file N NAME, as import writes it.
 
   --from N  the first step that is shown: 1 where it is left out. Where the
             trace has fewer there is no picture, and the status is 2
