@@ -301,8 +301,9 @@ with --explain more is told of it. The text is held in memory.
 pub const LITMUS: &str = "\
 litmus reads a few calls of several cores, and lists the replies that they can
 have, in whatever order the cores' steps come, and with walks, evictions,
-takes, flushes, reviews and folds anywhere between them. All other replies
-can't come: that is proved, for every order. A test has these lines:
+takes, flushes, reviews and folds anywhere between them. No other replies can
+come but noframe and nomemory: that is proved, for every order. A test has
+these lines:
 
   vm, file          as in help trace
   events            lines of a trace, the opening: they come first, as they
@@ -328,8 +329,9 @@ K: c0 done; c1 1, 2 says that core 0's call was answered done, and core 1's two
 1 and 2; behind it stands ; ADDR BYTE of each final address. (open) behind an
 outcome says that no run was found that has it. Then comes one of these:
 
-  exact             each outcome has a run, and nothing else can come
-  open              one is open; nothing else can come
+  exact             each outcome has a run, and no other can come, but with
+                    noframe or nomemory
+  open              one is open; no other can come, as above
   stopped at the limit of N points
                     there may be others; --limit N lets it look at more points
                     of orders than 1,000,000
