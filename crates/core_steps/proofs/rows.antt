@@ -5,3 +5,4 @@ pub mod Known
 pub mod Rows
 pub mod Lost
 pub mod Framing
+pub mod Writable

@@ -45,6 +45,13 @@ abbrev pub after_settling : ℕ → Touch → Result Phase Reply → World → W
 after_settling core touch (Ok phase) w = to core phase w
 after_settling core touch (Err reply) w = after_reply core (Some (page_of_touch touch)) reply w
 
+-- what the access found asks for a frame to be taken: for a page that has none, or for a copy of
+-- the page's
+abbrev pub wants_frame : Settled → Bool
+wants_frame Found.Wants = true
+wants_frame (Found.Copies f) = true
+wants_frame _ = false
+
 -- ---- where the page's frame comes from
 
 abbrev pub frame_from : Source → ℕ

@@ -1,5 +1,5 @@
 -- A fault whose page is a slot of its own that nobody holds, made at once: the states that it passes, and the one that is left
-use Rattle.machine_laws.proofs.Words.{◌≡◌, ℕ, suc, ◌+◌, ◌-◌, ◌<◌, ◌≤◌, Bool, false, Option, Some, None, Err, refl, sym, subst, ap, ◌∙◌, arith, inl, inr, ◌⊎◌}
+use Rattle.machine_laws.proofs.Words.{◌≡◌, ℕ, suc, ◌+◌, ◌-◌, ◌<◌, ◌≤◌, Bool, false, true, Option, Some, None, Err, refl, sym, subst, ap, ◌∙◌, arith, inl, inr, ◌⊎◌}
 use Rattle.machine_laws.proofs.Words.{if◌then◌else◌, Back, Anon, Shared, Private, PageInfo, Reply, Access, is_anonymous, put, frame_of, info_with_core}
 use Rattle.machine_laws.proofs.Words.{info_with_frame, is_allowed, by_test, put_same, Touch, with_info, Translated, Settled, is_cached, is_private_store}
 use Rattle.machine_laws.proofs.Words.{settled, source, Go, Stepped, Phase, Answer, Fill, Install, Release, Settle, Try, Want, Hardware, Memory, World}
@@ -12,12 +12,13 @@ use Rattle.vm_base.specs.declared.rights.Access.TheVariants.{Store}
 use Rattle.slot_lock.specs.declared.plan.Goal.TheVariants as To
 use Rattle.mmu.specs.declared.translated.Translated.TheVariants as By
 use Rattle.vm_calls.specs.declared.fault.Settled.TheVariants as Found
-use Rattle.machine_model.specs.Accesses.{after_translation, after_try}
+use Rattle.machine_model.specs.Accesses.{NoneFree, after_translation, after_try}
+use Rattle.vm_base.specs.declared.replies.Reply.TheVariants.{NoFrame}
 use Rattle.core_steps.specs.declared.at_once.fault.Source.{Source}
 use Rattle.core_steps.specs.declared.at_once.fault.Source.TheVariants.{Own, Cached, Free}
 use Rattle.core_steps.specs.Moving.{CanTry, IsAt, tried_to}
 use Rattle.core_steps.specs.OnePage.{CanTake, IsFault, IsSource, Makes, Passes, TakesFrom, after_settling, at_lock, frame_from}
-use Rattle.core_steps.specs.OnePage.{later, logged_later, steps_from, with_translation}
+use Rattle.core_steps.specs.OnePage.{later, logged_later, steps_from, wants_frame, with_translation}
 use Rattle.core_steps.proofs.at_once.AtOnce.{answered, goes, holding, locked, one_later, passes_join}
 use Rattle.core_steps.proofs.at_once.AtOnce.{released, stands, step_from, to_same, to_twice}
 use Rattle.core_steps.proofs.rows.Framing.{counted_few, fills_zeros, shown_here, shown_used, zeroed}
@@ -108,6 +109,13 @@ same_cached (Own f) c m n t = ap (λ (x : Memory). x.cached) t
 same_cached (Cached f) c m n t = ap (λ (x : Memory). x.cached) t.2
 same_cached (Free f) c m n t = ap (λ (x : Memory). x.cached) t.2
 
+-- an access that has to take a frame goes on to where it wants one
+wanting : (c : ℕ) (touch : Touch) (s : Settled) → wants_frame s ≡ true
+    → (old : Option ℕ) × ((m : World) → after_finding c touch s m ≡ to c (Want touch old) m)
+wanting c touch Found.Wants e = (None, λ m. refl)
+wanting c touch (Found.Copies f) e = (Some f, λ m. refl)
+wanting c touch _ e = absurd cc
+
 few_steps : (from : Source) → steps_from from ≤ 2
 few_steps (Own f) = omega arith
 few_steps from = omega arith
@@ -151,6 +159,25 @@ module _ (w : World) (c : ℕ) (touch : Touch) (fault : IsFault (at_lock c touch
         goes (pages w) (pages w) c 1 (Settle touch) b (omega arith) fault.here
             (refl, sym (ap (λ s. after_finding c touch s m) found ∙ finds m)),
       )
+
+  -- it has to take a frame, and none is free
+  pub unserved : (v : World) (s : Settled) → found_at w touch ≡ s → wants_frame s ≡ true → NoneFree w.memory.is_free
+      → v ≡ logged_later c NoFrame 3 w → Makes w c touch (Some NoFrame) v
+  unserved v s found wants none now =
+      let want = wanting c touch s wants in
+      let want_phase = Want touch want.0 in
+      subst (Makes w c touch (Some NoFrame)) (sym now) (record {
+        steps = 4;
+        few = omega arith;
+        passes = record {
+          steps = answered (at_lock c touch w) w w.slots.info w.memory c 2 (page_of_touch touch) want_phase NoFrame
+              (settles want_phase s found want.1) (omega arith) fault.here refl fault.alone (inl (none, (refl, refl)));
+          cores = refl;
+          phases = refl;
+          events = omega arith;
+          edges = refl;
+        };
+      })
 
   said : (s : Settled) → found_at w touch ≡ s → Says (w.slots.info touch.page) touch.access (file_frame w.memory.cached (back_of (w.slots.info touch.page))) s
   said s found =

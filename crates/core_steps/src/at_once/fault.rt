@@ -1,16 +1,16 @@
 //! A fault of an access, made at once: its page is found once and set once. No other core can act in
 //! between, so that the page, which nobody holds, need not be locked, nor the core's phase written.
-ghost use Rattle.std.specs.Prelude.{◌≡◌, ◌+◌, ◌<◌, ◌≤◌, None, Some, IfSome, Err};
+ghost use Rattle.std.specs.Prelude.{◌≡◌, ◌+◌, ◌<◌, ◌≤◌, None, Some, IfSome, Err, true};
 ghost use Rattle.std.specs.Prelude.{length};
 ghost use Rattle.slot_lock.specs.declared.plan.Goal.TheVariants as To;
 ghost use Rattle.frames.specs.Parts.{free_frames};
-ghost use Rattle.machine_model.specs.Accesses.{after_finding, found_at};
+ghost use Rattle.machine_model.specs.Accesses.{NoneFree, after_finding, found_at};
 ghost use Rattle.machine_model.specs.Locks.{locking};
 ghost use Rattle.machine_model.specs.Step.{StepsTo, event_limit};
 ghost use Rattle.machine_model.specs.World.{Memory, World};
 ghost use Rattle.machine_sound.specs.Sound.{IsReached};
 ghost use Rattle.core_steps.specs.OnePage.{CanTake, IsFault, IsSource, Makes, TakesFrom, after_settling};
-ghost use Rattle.core_steps.specs.OnePage.{at_lock, frame_from, later, steps_from};
+ghost use Rattle.core_steps.specs.OnePage.{at_lock, frame_from, later, steps_from, wants_frame};
 ghost use Rattle.core_steps.specs.State.{world};
 
 use crate::engine::Engine;
@@ -48,6 +48,17 @@ impl Source {
     }
 }
 
+// Whether the access has to take a frame: for a page that has none, or for a copy of the page's.
+fn wants_frame(settled: Settled) -> bool
+    ensures { result ≡ wants_frame settled }
+{
+    match settled {
+        Settled::Wants | Settled::Copies(_) => true,
+        Settled::MapErr | Settled::AccErr | Settled::Bus | Settled::Has(_) | Settled::Cached(_) =>
+            false,
+    }
+}
+
 impl<M: SlotMap, H: Hardware, A: Allocator, L: Ledger> Engine<M, H, A, L> {
     // The access fails at its page, and this is its reply.
     fn fail_at_once(&mut self, core: CoreId, touch: Touch, reply: Reply)
@@ -57,6 +68,16 @@ impl<M: SlotMap, H: Hardware, A: Allocator, L: Ledger> Engine<M, H, A, L> {
         ensures { Makes (world M.slots self.old) core touch (Some reply) (world M.slots self.new) }
     {
         self.log_at_once(core, reply, 2);
+    }
+
+    // The access has to take a frame, and none is free.
+    fn want_at_once(&mut self, core: CoreId, touch: Touch)
+        requires fault { IsFault (at_lock core touch (world M.slots self.old)) core touch }
+        requires wants { wants_frame (found_at (world M.slots self.old) touch) ≡ true }
+        requires none { NoneFree (world M.slots self.old).memory.is_free }
+        ensures { Makes (world M.slots self.old) core touch (Some Reply.NoFrame) (world M.slots self.new) }
+    {
+        self.log_at_once(core, Reply::NoFrame, 3);
     }
 
     // Where the page's frame comes from, if neither a message has to be sent nor a file to be read.
@@ -127,8 +148,8 @@ impl<M: SlotMap, H: Hardware, A: Allocator, L: Ledger> Engine<M, H, A, L> {
     /// The steps of an access whose page has to be locked, where that is a slot of its own that nobody
     /// holds: up to the next try of the page, or up to the reply where the access fails. It answers the
     /// access's reply, which is logged; without one the call is to lock its page. The core's phase isn't
-    /// written. No step is made where a plain one has to look, since there may be no memory or no frame,
-    /// a file has to be read, or other cores have to be told.
+    /// written. No step is made where a plain one has to look, since there may be no memory, a file has
+    /// to be read, or other cores have to be told.
     pub fn make_fault(&mut self, core: CoreId, touch: Touch) -> Option<Reply>
         requires here { core < length self.old.calls.phases.items }
         requires reached { ∥ IsReached (at_lock core touch (world M.slots self.old)) ∥₁ }
@@ -147,6 +168,10 @@ impl<M: SlotMap, H: Hardware, A: Allocator, L: Ledger> Engine<M, H, A, L> {
             && let Some(source) = self.source_of(settled, info.meta.back)
         {
             return self.show_at_once(core, touch, info, source);
+        }
+        if wants_frame(settled) && self.frames.least_free().is_none() {
+            self.want_at_once(core, touch);
+            return Some(Reply::NoFrame);
         }
         None
     }

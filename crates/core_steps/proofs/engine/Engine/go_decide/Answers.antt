@@ -2,7 +2,7 @@ use Rattle.slot_lock.specs.declared.plan.Goal.TheVariants as To
 use Rattle.vm_calls.proofs.Readable.{readable}
 use Rattle.core_steps.proofs.engine.Engine.go_decide.Goals as goal
 
-pub decide-requires-clause-readable : goal.decide-requires-clause-readable
-decide-requires-clause-readable g c =
+pub decide_change-requires-clause-readable : goal.decide_change-requires-clause-readable
+decide_change-requires-clause-readable g c =
     readable _ _ (To.Change c.args.change) (g.met.M.SlotMap.is_slot_map c.args.self.now.map) (g.met.M.SlotMap.reads_all c.args.self.now.map)
     c.requires.goal
