@@ -18,6 +18,15 @@ const FEW: usize = 100_000;
 /// How long they may be.
 const MOST: usize = 20_000_000;
 
+/// Odd numbers far apart, by which the parts of a run are multiplied: sums of the products are the same only by chance.
+const FIRST: u64 = 0xc2b2_ae3d_27d4_eb4f;
+
+const END: u64 = 0x1656_67b1_9e37_79f9;
+
+const META: u64 = 0x85eb_ca77_c2b2_ae63;
+
+const BACK: u64 = 0x27d4_eb2f_1656_67c5;
+
 /// A part of a list.
 #[derive(Clone, Copy, Debug, PartialEq, Eq)]
 pub(crate) struct Span {
@@ -60,6 +69,11 @@ fn cells_in(cells: &[Cell], span: Span) -> &[Cell] {
     &cells[0..0]
 }
 
+// A number many times.
+fn scaled(number: u64, by: u64) -> u64 {
+    number.wrapping_mul(by)
+}
+
 /// A number and another, mixed.
 pub(crate) fn mixed(print: u64, number: u64) -> u64 {
     let mut mixed = (print ^ number).wrapping_mul(0x9e37_79b9_7f4a_7c15);
@@ -68,24 +82,25 @@ pub(crate) fn mixed(print: u64, number: u64) -> u64 {
     mixed ^ (mixed >> 32)
 }
 
-// A number for a mapping. What is small is mixed before more is: else two small numbers could stand for two others.
-fn meta_print(meta: &Meta) -> u64 {
+// A number for a mapping.
+fn meta_number(meta: &Meta) -> u64 {
     let prot = u64::from(meta.prot.read)
         + 2 * u64::from(meta.prot.write)
         + 4 * u64::from(meta.prot.exec);
-    match meta.back {
-        Back::Anon => mixed(prot, 0),
-        Back::Shared { file, page } => mixed(mixed(mixed(8 + prot, 0), u64::from(file)), page),
-        Back::Private { file, page } => mixed(mixed(mixed(16 + prot, 0), u64::from(file)), page),
-    }
+    let (kind, page) = match meta.back {
+        Back::Anon => (0, 0),
+        Back::Shared { file, page } => (1 + 2 * u64::from(file), page),
+        Back::Private { file, page } => (2 + 2 * u64::from(file), page),
+    };
+    scaled(prot + 8 * kind, META).wrapping_add(scaled(page, BACK))
 }
 
 // A number for runs: a sum, so that the processor can mix several at a time.
 fn runs_print(runs: &[Run]) -> u64 {
     let mut print = 1u64;
     for run in runs {
-        let place = mixed(mixed(run.first, 0), run.end);
-        print = print.wrapping_add(mixed(place, meta_print(&run.meta)));
+        let place = scaled(run.first, FIRST).wrapping_add(scaled(run.end, END));
+        print = print.wrapping_add(mixed(0, place.wrapping_add(meta_number(&run.meta))));
     }
     print
 }
@@ -94,8 +109,8 @@ fn runs_print(runs: &[Run]) -> u64 {
 fn cells_print(cells: &[Cell]) -> u64 {
     let mut print = 2u64;
     for cell in cells {
-        let place = mixed(cell.key, 0);
-        print = print.wrapping_add(mixed(place, u64::from(cell.byte)));
+        let place = scaled(cell.key, FIRST);
+        print = print.wrapping_add(mixed(0, place.wrapping_add(scaled(u64::from(cell.byte), END))));
     }
     print
 }

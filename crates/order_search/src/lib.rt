@@ -5,6 +5,7 @@
 
 mod arena;
 mod configs;
+mod leading;
 mod pages;
 mod runs;
 mod search;
@@ -12,4 +13,5 @@ mod seen;
 mod trail;
 mod under;
 
-pub use search::{Found, LIMIT, find_order};
+pub use leading::LIMIT;
+pub use search::{Found, find_order};

@@ -71,15 +71,9 @@ fn goes_on(run: &Run, next: &Run) -> bool {
 
 // Appends a run, or lengthens the last by it.
 fn append<A: Allocator>(runs: &mut Vec<Run, A>, run: Run) -> Result<(), NoMemory> {
-    let last = runs.last().copied();
-    if let Some(last) = last {
-        if goes_on(&last, &run) {
-            let _ = runs.pop();
-            runs.push(Run {
-                first: last.first,
-                end: run.end,
-                meta: last.meta,
-            })?;
+    if let Some(last) = runs.last_mut() {
+        if goes_on(last, &run) {
+            last.end = run.end;
             return Ok(());
         }
     }
@@ -105,8 +99,36 @@ fn append_parts<A: Allocator>(
     Ok(())
 }
 
-/// Fills `new` with the runs after a change.
-pub(crate) fn change_runs<A: Allocator>(
+// Runs from one place to another.
+fn from_to(runs: &[Run], first: usize, end: usize) -> &[Run] {
+    if first <= end && end <= runs.len() {
+        return &runs[first..end];
+    }
+    &runs[0..0]
+}
+
+// How many runs end at this page or before.
+fn count_before(runs: &[Run], page: u64) -> usize {
+    for at in 0..runs.len() {
+        if runs[at].end > page {
+            return at;
+        }
+    }
+    runs.len()
+}
+
+// How many runs begin before this page.
+fn count_begun(runs: &[Run], page: u64) -> usize {
+    for at in 0..runs.len() {
+        if runs[at].first >= page {
+            return at;
+        }
+    }
+    runs.len()
+}
+
+// Appends what a change makes of the runs that have pages of its range.
+fn append_changed<A: Allocator>(
     new: &mut Vec<Run, A>,
     runs: &[Run],
     change: Change,
@@ -120,7 +142,6 @@ pub(crate) fn change_runs<A: Allocator>(
         first: range.end,
         end: u64::MAX,
     };
-    new.clear();
     append_parts(new, runs, before, None)?;
     match change {
         Change::Put { range, meta } => append(
@@ -135,6 +156,26 @@ pub(crate) fn change_runs<A: Allocator>(
         Change::Protect { prot, .. } => append_parts(new, runs, range, Some(prot))?,
     }
     append_parts(new, runs, behind, None)
+}
+
+/// Fills `new` with the runs after a change. Those in front of its range stay as they are, and of those behind it only the first can
+/// become a part of another.
+pub(crate) fn change_runs<A: Allocator>(
+    new: &mut Vec<Run, A>,
+    runs: &[Run],
+    change: Change,
+) -> Result<(), NoMemory> {
+    let range = change.range();
+    let first = count_before(runs, range.first);
+    let end = count_begun(runs, range.end);
+    new.clear();
+    new.extend_from_slice(from_to(runs, 0, first))?;
+    append_changed(new, from_to(runs, first, end), change)?;
+    if let Some(next) = runs.get(end) {
+        append(new, *next)?;
+        new.extend_from_slice(from_to(runs, end.saturating_add(1), runs.len()))?;
+    }
+    Ok(())
 }
 
 /// Tells whether all pages of the range are mapped.

@@ -3,14 +3,16 @@
 use std::alloc::Allocator;
 use vm_base::NoMemory;
 
-/// How many places there are: more than half of them stay free.
+/// How many places there may be: more than half of them stay free.
 const PLACES: usize = 1 << 20;
 
-/// The places of a round are the first of them, so many more than this at first, and as many as there are at last: few of them stay in
-/// the processor's cache.
+/// The number of the last place that a round uses at first, so that all stay in the processor's cache, and at most.
 const FEW: u64 = (1 << 10) - 1;
 
 const MOST: u64 = (1 << 20) - 1;
+
+// A place that no round has taken.
+const FREE: Seat = Seat { round: 0, print: 0 };
 
 // A place: the round in which it was taken, and by which print.
 #[derive(Clone, Copy, Debug, PartialEq, Eq)]
@@ -31,9 +33,8 @@ pub(crate) struct Seen<A: Allocator> {
 impl<A: Allocator + Clone + Drop> Seen<A> {
     /// Nothing was seen.
     pub fn new(alloc: &A) -> Result<Seen<A>, NoMemory> {
-        let free = Seat { round: 0, print: 0 };
         Ok(Seen {
-            seats: vec![in alloc.clone()?; free; PLACES]?,
+            seats: vec![in alloc.clone()?; FREE; 1024]?,
             prints: Vec::new(alloc.clone()?),
             round: 0,
             mask: FEW,
@@ -73,14 +74,20 @@ impl<A: Allocator + Clone + Drop> Seen<A> {
     }
 
     // Uses more places.
-    fn widen(&mut self) {
+    fn widen(&mut self) -> Result<(), NoMemory> {
+        let mask = (self.mask.wrapping_mul(16) | 15).min(MOST);
+        let places = (mask as usize).saturating_add(1);
+        if self.seats.len() < places {
+            self.seats.resize(places, FREE)?;
+        }
         self.round = self.round.wrapping_add(1);
-        self.mask = (self.mask.wrapping_mul(16) | 15).min(MOST);
+        self.mask = mask;
         for at in 0..self.prints.len() {
             if let Some(print) = self.prints.get(at).copied() {
                 let _ = self.put(print);
             }
         }
+        Ok(())
     }
 
     /// Takes a print in, and tells whether it is new in this round. It isn't where no place is free.
@@ -90,7 +97,7 @@ impl<A: Allocator + Clone + Drop> Seen<A> {
         }
         self.prints.push(print)?;
         if self.prints.len() as u64 > self.mask / 2 && self.mask < MOST {
-            self.widen();
+            self.widen()?;
         }
         Ok(true)
     }

@@ -33,15 +33,15 @@ pub(crate) struct Trail<A: Allocator> {
 }
 
 impl<A: Allocator + Clone + Drop> Trail<A> {
-    /// Nothing took effect yet.
-    pub fn new(alloc: &A) -> Result<Trail<A>, NoMemory> {
+    /// Nothing took effect yet. There is room for the order of so many items.
+    pub fn new(alloc: &A, items: usize) -> Result<Trail<A>, NoMemory> {
         let mut nodes = Vec::new(alloc.clone()?);
         nodes.push(Node {
             parent: 0,
             item: Item::Reply(0),
         })?;
         Ok(Trail {
-            order: Vec::new(alloc.clone()?),
+            order: Vec::with_capacity(alloc.clone()?, items)?,
             nodes,
             most: FEW,
         })

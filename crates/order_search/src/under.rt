@@ -4,14 +4,25 @@ use backing::Objects;
 use orders::Timed;
 use slot_lock::Plan;
 use std::alloc::Allocator;
-use vm_base::{CoreId, Reply, Request, page_of};
+use vm_base::{CoreId, PageRange, Reply, Request, page_of};
 use vm_calls::check;
+
+/// No page.
+const NOWHERE: PageRange = PageRange { first: 0, end: 0 };
+
+/// All pages.
+const EVERYWHERE: PageRange = PageRange {
+    first: 0,
+    end: u64::MAX,
+};
 
 /// A call that is under way: its number, and what it does.
 #[derive(Clone, Copy, Debug, PartialEq, Eq)]
 pub(crate) struct Under {
     pub number: u32,
     pub core: CoreId,
+    /// The bit of its core in a set of these.
+    pub bit: u64,
     /// A time at which it has taken effect.
     pub end: u64,
     pub plan: Result<Plan, Reply>,
@@ -20,6 +31,29 @@ pub(crate) struct Under {
     pub stores_to: Option<u64>,
     /// Whether it never ends: then it may take effect with its reply, or not.
     pub is_open: bool,
+    /// Whether its reply says that it changed something. A call that is answered at its check changes nothing.
+    pub changes: bool,
+    /// Whether something may be lost where it takes effect as soon as it can: it changes something, or its page may get a copy before.
+    pub is_late: bool,
+    /// The pages on which it depends, or which it changes.
+    pub pages: PageRange,
+    /// Whether it may find, or change, a byte of a file as well.
+    pub has_byte: bool,
+    /// The bits of the cores whose call under way may lead elsewhere if this one comes first.
+    pub rivals: u64,
+}
+
+// The pages on which what a call does depends, or which it changes.
+fn pages_of(plan: Result<Plan, Reply>) -> PageRange {
+    match plan {
+        Err(_) => NOWHERE,
+        Ok(Plan::Place(_)) => EVERYWHERE,
+        Ok(Plan::Change(change)) => change.range(),
+        Ok(Plan::Touch(touch)) => PageRange {
+            first: touch.page,
+            end: touch.page.saturating_add(1),
+        },
+    }
 }
 
 impl Under {
@@ -36,36 +70,60 @@ impl Under {
             Request::Store { addr, .. } if has_copies => Some(page_of(addr)),
             _ => None,
         };
+        let plan = check(objects, call.core, call.request);
+        let changes = plan.is_ok() && matches!(call.reply, Reply::Done | Reply::Mapped(_));
         Under {
             number,
             core: call.core,
+            bit: 1u64.wrapping_shl(u32::from(call.core.index())),
             end: timed.end,
-            plan: check(objects, call.core, call.request),
+            plan,
             reply: call.reply,
             stores_to,
             is_open,
+            changes,
+            is_late: changes || stores_to.is_some(),
+            pages: pages_of(plan),
+            has_byte: matches!(plan, Ok(Plan::Touch(_))),
+            rivals: 0,
         }
     }
 
-    /// Tells whether its reply says that it changed something. A call that is answered at its check changes nothing.
-    pub fn changes(&self) -> bool {
-        self.plan.is_ok() && matches!(self.reply, Reply::Done | Reply::Mapped(_))
-    }
-
-    /// Tells whether something may be lost where it takes effect as soon as it can: it changes something, or its page may get a copy before.
-    pub fn is_late(&self) -> bool {
-        self.changes() || self.stores_to.is_some()
+    /// Tells whether these two may lead elsewhere if they change places: one of them changes something, and they have a page in common, or
+    /// pages may show files and both are accesses.
+    pub fn is_rival(&self, other: &Under, has_files: bool) -> bool {
+        if !self.is_late && !other.is_late {
+            return false;
+        }
+        if has_files && self.has_byte && other.has_byte {
+            return true;
+        }
+        self.pages.first < other.pages.end && other.pages.first < self.pages.end
     }
 }
 
-/// Tells whether pages may get copies: some call asks for a private mapping of a file.
-pub(crate) fn has_copies(history: &[Timed]) -> bool {
+/// Which mappings of files calls ask for.
+#[derive(Clone, Copy, Debug, PartialEq, Eq)]
+pub(crate) struct Mapped {
+    /// Whether pages may show files: some mapping isn't anonymous.
+    pub has_files: bool,
+    /// Whether pages may get copies: some mapping of a file is private.
+    pub has_copies: bool,
+}
+
+/// Those of a history.
+pub(crate) fn mapped_by(history: &[Timed]) -> Mapped {
+    let mut mapped = Mapped {
+        has_files: false,
+        has_copies: false,
+    };
     for timed in history {
         if let Request::Mmap { flags, .. } = timed.call.request {
-            if flags.private && !flags.anon {
-                return true;
+            if !flags.anon {
+                mapped.has_files = true;
+                mapped.has_copies = mapped.has_copies || flags.private;
             }
         }
     }
-    false
+    mapped
 }

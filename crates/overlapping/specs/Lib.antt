@@ -1,3 +1,4 @@
 pub mod Rulings
 pub mod Ends
 pub mod Replies
+pub mod Waiting

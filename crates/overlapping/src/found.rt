@@ -1,10 +1,13 @@
 //! Orders that a search finds.
 
+ghost use Rattle.std.specs.Prelude.{IfNone};
 ghost use Rattle.orders_text.specs.Steps.{HasPlaces};
+ghost use Rattle.overlapping.specs.Waiting.{NoneWaits};
 
 use backing::{FileSpec, Objects};
 use order_search::{Found, find_order};
 use orders::Item;
+use orders_text::clock::Begun;
 use orders_text::{History, completed};
 use std::alloc::Allocator;
 use vm_base::{CoreSet, NoMemory, Reply, Request};
@@ -97,6 +100,43 @@ fn lose(replies: &mut [Reply], lost: CoreSet) {
     }
 }
 
+/// A core whose call waits at a history's end, if there is one.
+pub(crate) fn waiting_core(waiting: &[Option<Begun>]) -> Option<usize>
+    ensures { IfNone result (NoneWaits waiting.now) }
+{
+    'cores: for core in 0..waiting.len() {
+        if waiting[core].is_some() {
+            return Some(core);
+        }
+    }
+    None
+}
+
+// What a search finds of a history's calls, and those that wait at its end, which have these replies where they take effect. The calls
+// are copied only where some wait: they are most of what a history takes.
+fn find<A: Allocator + Clone + Drop>(
+    alloc: &A,
+    history: &History<A>,
+    any_place: bool,
+    replies: &[Reply],
+) -> Result<Found<A>, NoMemory>
+    requires { HasPlaces history.now }
+{
+    let objects = objects_of(alloc, history)?;
+    let answered = history.calls.len();
+    if waiting_core(history.waiting.as_slice()).is_none() {
+        return find_order(
+            alloc,
+            &objects,
+            any_place,
+            history.calls.as_slice(),
+            answered,
+        );
+    }
+    let calls = completed(alloc, history, replies)?;
+    find_order(alloc, &objects, any_place, calls.as_slice(), answered)
+}
+
 /// Searches an order of a history's calls, and of those that wait at its end as far as they took effect.
 pub(crate) fn search<A: Allocator + Clone + Drop>(
     alloc: &A,
@@ -105,17 +145,14 @@ pub(crate) fn search<A: Allocator + Clone + Drop>(
 ) -> Result<Order<A>, NoMemory>
     requires { HasPlaces history.now }
 {
-    let objects = objects_of(alloc, history)?;
     let mut replies = effects(alloc, history)?;
-    let calls = completed(alloc, history, replies.as_slice())?;
-    let answered = history.calls.len();
-    match find_order(alloc, &objects, any_place, calls.as_slice(), answered)? {
+    match find(alloc, history, any_place, replies.as_slice())? {
         Found::Order(items, lost) => {
             lose(&mut replies, lost);
             Ok(Order::Of {
                 items,
                 replies,
-                line: line_of(history, answered.saturating_sub(1)),
+                line: line_of(history, history.calls.len().saturating_sub(1)),
             })
         }
         Found::Stuck(call) | Found::Full(call) => Ok(Order::None(line_of(history, call))),

@@ -2,19 +2,22 @@
 ghost use Rattle.std.specs.Prelude.{◌≡◌, ◌≤◌, ℕ, List, IfErr, IfOk, Ok, length, true};
 ghost use Rattle.trace_io.specs.Lines.{lines_of};
 ghost use Rattle.slot_lock.specs.Slots.{IsNew};
+ghost use Rattle.vm_base.specs.Plain.{nothing_mapped};
+ghost use Rattle.backing.specs.Given.{given_files};
 ghost use Rattle.audit.specs.Placing.{rule_of};
 ghost use Rattle.audit_text.specs.Legal.{first_map};
-ghost use Rattle.orders.specs.Orders.{HasOrder};
+ghost use Rattle.orders.specs.Orders.{HasOrder, IsOrder};
 ghost use Rattle.orders_text.specs.Faults.{IsAtFault};
 ghost use Rattle.orders_text.specs.History.{IsHistory, completed, replies_in};
 ghost use Rattle.orders_text.specs.Steps.{HasPlaces, read_of};
 ghost use Rattle.overlapping.specs.Rulings.{IsRuling};
 
-use crate::found::{Order, search};
+use crate::found::{Order, search, waiting_core};
 use crate::given::given_order;
 use crate::order_text::order_text;
 use audit::Auditor;
-use orders::{Item, follow};
+use backing::FileSpec;
+use orders::{Item, Timed, follow};
 use orders_text::{History, HistoryFault, completed, read_history};
 use slot_lock::SlotMap;
 use std::alloc::Allocator;
@@ -46,8 +49,25 @@ pub struct Ruled<A: Allocator> {
     pub order: Vec<u8, A>,
 }
 
+// Tells whether the items are an order of these calls of a space with these files.
+fn judge<M: SlotMap + Drop, A: Allocator + Clone + Drop>(
+    alloc: &A,
+    map: M,
+    files: Vec<FileSpec<A>, A>,
+    any_place: bool,
+    calls: &[Timed],
+    items: &[Item],
+) -> Result<bool, NoMemory>
+    requires new { IsNew (M.slots map) }
+    requires few { length files.items ≤ 16 }
+    ensures { result ≡ Ok true → IsOrder (rule_of any_place) (nothing_mapped (given_files files.items)) calls.now items.now }
+{
+    let mut auditor = Auditor::new(alloc.clone()?, map, files, any_place)?;
+    follow(alloc.clone()?, &mut auditor, calls, items)
+}
+
 /// Tells whether the items are an order of the history's calls, and of those that wait at its end with these replies.
-#[tactic(auto, using(crate::proofs::RuleLemmas::order_there))]
+#[tactic(auto, using(crate::proofs::RuleLemmas::order_there, crate::proofs::RuleLemmas::order_of_all))]
 pub(crate) fn is_order<M: SlotMap + Drop, A: Allocator + Clone + Drop>(
     alloc: &A,
     map: M,
@@ -62,10 +82,19 @@ pub(crate) fn is_order<M: SlotMap + Drop, A: Allocator + Clone + Drop>(
     ensures { result ≡ Ok true → HasOrder (rule_of any_place) (first_map (read_of history).declared)
         (completed (replies_in replies.now) (read_of history)) }
 {
-    let calls = completed(alloc, &history, replies)?;
-    let files = history.declaration.files;
-    let mut auditor = Auditor::new(alloc.clone()?, map, files, any_place)?;
-    follow(alloc.clone()?, &mut auditor, calls.as_slice(), items)
+    match waiting_core(history.waiting.as_slice()) {
+        Some(_core) => {
+            let calls = completed(alloc, &history, replies)?;
+            let files = history.declaration.files;
+            judge(alloc, map, files, any_place, calls.as_slice(), items)
+        }
+        // then they aren't copied, which would be much
+        None => {
+            let files = history.declaration.files;
+            let calls = history.calls;
+            judge(alloc, map, files, any_place, calls.as_slice(), items)
+        }
+    }
 }
 
 // The ruling by the order that was found.

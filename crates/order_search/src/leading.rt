@@ -1,0 +1,300 @@
+//! What the calls under way lead to from configurations.
+
+use crate::arena::{Arena, Spot, mixed};
+use crate::configs::Config;
+use crate::seen::Seen;
+use crate::trail::Trail;
+use crate::under::Under;
+use backing::Objects;
+use orders::Item;
+use std::alloc::Allocator;
+use std::mem::swap;
+use vm_base::NoMemory;
+
+/// How many configurations may come into question at one end of a call.
+pub const LIMIT: usize = 300_000;
+
+/// What the end of a call comes to.
+#[derive(Clone, Copy, Debug, PartialEq, Eq)]
+pub(crate) enum Reach {
+    Reached,
+    Stuck,
+    Full,
+}
+
+/// The calls under way, and the bit of the core whose call ends.
+#[derive(Clone, Copy, Debug)]
+pub(crate) struct Ending<'u> {
+    pub under: &'u [Under],
+    pub bit: u64,
+}
+
+// One item more: the map behind it, the cores whose calls have taken effect there, and those whose calls it may let take effect.
+#[derive(Clone, Copy, Debug, PartialEq, Eq)]
+struct Step {
+    item: Item,
+    spot: Spot,
+    done: u64,
+    may: u64,
+}
+
+/// Maps, and the way to each configuration.
+#[derive(Drop)]
+pub(crate) struct Ways<'a, A: Allocator> {
+    objects: &'a Objects<A>,
+    any_place: bool,
+    arena: Arena<A>,
+    trail: Trail<A>,
+    seen: Seen<A>,
+    work: Vec<Config, A>,
+    reached: Vec<Config, A>,
+}
+
+impl Ending<'_> {
+    // The cores whose calls may come into question before the one that ends, where these have taken effect: those of its rivals, of theirs,
+    // and so on. Another one can as well come behind it, since it changes places with all of these.
+    fn before(&self, done: u64) -> u64 {
+        let mut before = self.bit;
+        for _ in 0..64u8 {
+            let mut more = before;
+            for under in self.under {
+                if before & under.bit != 0 {
+                    more |= under.rivals & !done;
+                }
+            }
+            if more == before {
+                return before;
+            }
+            before = more;
+        }
+        before
+    }
+}
+
+// A number for a map and the calls that have taken effect.
+fn print_of(spot: &Spot, done: u64) -> u64 {
+    mixed(mixed(spot.runs_print, spot.cells_print), done)
+}
+
+impl<'a, A: Allocator + Clone + Drop> Ways<'a, A> {
+    /// Nothing took effect yet. There is room for the items of so many calls.
+    pub fn new(
+        alloc: &A,
+        objects: &'a Objects<A>,
+        any_place: bool,
+        calls: usize,
+    ) -> Result<Ways<'a, A>, NoMemory> {
+        Ok(Ways {
+            objects,
+            any_place,
+            arena: Arena::new(alloc)?,
+            trail: Trail::new(alloc, calls)?,
+            seen: Seen::new(alloc)?,
+            work: Vec::new(alloc.clone()?),
+            reached: Vec::new(alloc.clone()?),
+        })
+    }
+
+    /// The first configuration: nothing is mapped, and no call has taken effect.
+    pub fn first(&self) -> Config {
+        Config {
+            spot: self.arena.empty(),
+            done: 0,
+            trail: 0,
+        }
+    }
+
+    // Tells whether a call, which changes nothing, has its reply in a map.
+    fn holds(&self, spot: &Spot, under: &Under) -> bool {
+        self.arena.holds(self.objects, self.any_place, spot, under)
+    }
+
+    /// Lets a call take effect in the configurations in which it has its reply and changes nothing.
+    pub fn settle(&mut self, configs: &mut [Config], under: &Under) -> Result<(), NoMemory> {
+        for at in 0..configs.len() {
+            let config = configs[at];
+            if self.holds(&config.spot, under) {
+                let trail = self.trail.add(config.trail, Item::Reply(under.number))?;
+                configs[at].done = config.done | under.bit;
+                configs[at].trail = trail;
+            }
+        }
+        Ok(())
+    }
+
+    // The calls that have taken effect once those that change nothing have, as far as they can where only these may newly.
+    fn settled(&self, calls: &[Under], spot: &Spot, done: u64, may: u64) -> u64 {
+        let mut settled = done;
+        for under in calls {
+            if !under.is_late && may & !done & under.bit != 0 && self.holds(spot, under) {
+                settled |= under.bit;
+            }
+        }
+        settled
+    }
+
+    // The way on from a node by the calls that take effect between one set of them and another.
+    fn add_settled(
+        &mut self,
+        calls: &[Under],
+        node: usize,
+        done: u64,
+        settled: u64,
+    ) -> Result<usize, NoMemory> {
+        let mut trail = node;
+        if settled == done {
+            return Ok(trail);
+        }
+        for under in calls {
+            if settled & under.bit != 0 && done & under.bit == 0 {
+                trail = self.trail.add(trail, Item::Reply(under.number))?;
+            }
+        }
+        Ok(trail)
+    }
+
+    // Takes a configuration in: one in which the call that ends has taken effect, or one to go on from.
+    fn take_in(&mut self, config: Config, bit: u64) -> Result<(), NoMemory> {
+        if config.done & bit != 0 {
+            self.reached.push(config)?;
+        } else {
+            self.work.push(config)?;
+        }
+        Ok(())
+    }
+
+    // Adds the configuration to which a step leads from another one, if it is new.
+    fn add(&mut self, ending: Ending<'_>, from: &Config, step: &Step) -> Result<bool, NoMemory> {
+        let settled = self.settled(ending.under, &step.spot, step.done, step.may);
+        if !self.seen.is_new(print_of(&step.spot, settled))? {
+            return Ok(false);
+        }
+        let trail = self.trail.add(from.trail, step.item)?;
+        let trail = self.add_settled(ending.under, trail, step.done, settled)?;
+        self.take_in(
+            Config {
+                spot: step.spot,
+                done: settled,
+                trail,
+            },
+            ending.bit,
+        )?;
+        Ok(true)
+    }
+
+    // The map to which a call under way leads as it takes effect, if it has its reply.
+    fn replied(&mut self, from: &Config, under: &Under) -> Result<Option<Spot>, NoMemory> {
+        if under.changes {
+            return self
+                .arena
+                .apply(self.objects, self.any_place, &from.spot, under);
+        }
+        if self.holds(&from.spot, under) {
+            return Ok(Some(from.spot));
+        }
+        Ok(None)
+    }
+
+    // Adds what a call under way leads to from a configuration as it takes effect.
+    fn reply(&mut self, ending: Ending<'_>, from: &Config, under: &Under) -> Result<(), NoMemory> {
+        let ends = self.arena.ends();
+        let Some(spot) = self.replied(from, under)? else {
+            return Ok(());
+        };
+        let step = Step {
+            item: Item::Reply(under.number),
+            spot,
+            done: from.done | under.bit,
+            may: under.rivals,
+        };
+        if !self.add(ending, from, &step)? {
+            self.arena.cut(ends);
+        }
+        Ok(())
+    }
+
+    // Adds what a store under way leads to from a configuration as its page gets a copy.
+    fn copy(&mut self, ending: Ending<'_>, from: &Config, under: &Under) -> Result<(), NoMemory> {
+        let Some(page) = under.stores_to else {
+            return Ok(());
+        };
+        let ends = self.arena.ends();
+        let Some(spot) = self.arena.copy(self.objects, &from.spot, page)? else {
+            return Ok(());
+        };
+        let step = Step {
+            item: Item::Copy(under.number),
+            spot,
+            done: from.done,
+            may: under.rivals,
+        };
+        if !self.add(ending, from, &step)? {
+            self.arena.cut(ends);
+        }
+        Ok(())
+    }
+
+    // Adds all that the calls under way lead to from a configuration, one of them more.
+    fn expand(&mut self, ending: Ending<'_>, from: &Config) -> Result<(), NoMemory> {
+        let before = ending.before(from.done);
+        for under in ending.under {
+            if before & under.bit != 0 {
+                self.reply(ending, from, under)?;
+                self.copy(ending, from, under)?;
+            }
+        }
+        Ok(())
+    }
+
+    // Takes the configurations in from which a round begins, each once.
+    fn begin(&mut self, configs: &[Config], bit: u64) -> Result<(), NoMemory> {
+        self.seen.begin();
+        self.work.clear();
+        self.reached.clear();
+        for config in configs {
+            if self.seen.is_new(print_of(&config.spot, config.done))? {
+                self.take_in(*config, bit)?;
+            }
+        }
+        Ok(())
+    }
+
+    /// Goes on to all configurations in which the call that ends has taken effect, and none of the others later than need be.
+    pub fn reach(
+        &mut self,
+        ending: Ending<'_>,
+        configs: &mut Vec<Config, A>,
+    ) -> Result<Reach, NoMemory> {
+        self.begin(configs.as_slice(), ending.bit)?;
+        for at in 0..LIMIT {
+            let Some(config) = self.work.get(at).copied() else {
+                break;
+            };
+            self.expand(ending, &config)?;
+            if self.work.len().saturating_add(self.reached.len()) > LIMIT || self.arena.is_full() {
+                return Ok(Reach::Full);
+            }
+        }
+        if self.reached.is_empty() {
+            return Ok(Reach::Stuck);
+        }
+        swap(configs, &mut self.reached);
+        Ok(Reach::Reached)
+    }
+
+    /// Leaves out what no configuration needs, where there is much of it.
+    pub fn shorten(&mut self, alloc: &A, configs: &mut [Config]) -> Result<(), NoMemory> {
+        if self.trail.is_long() {
+            self.trail.shorten(alloc, configs)?;
+        }
+        if self.arena.is_long() {
+            self.arena.shorten(alloc, configs)?;
+        }
+        Ok(())
+    }
+
+    /// The order of a configuration, which is the only one left.
+    pub fn into_order(self, alloc: &A, config: &Config) -> Result<Vec<Item, A>, NoMemory> {
+        self.trail.into_order(alloc, config)
+    }
+}
