@@ -1,5 +1,5 @@
 -- What the steps of an access leave as it was
-use Rattle.std.proofs.Common.{◌≡◌, ℕ, suc, List, [], ◌∷◌, ◌&&◌, true, length, map, refl, ap, ◌∙◌}
+use Rattle.std.proofs.Common.{◌≡◌, ℕ, ◌+◌, suc, List, [], ◌∷◌, ◌&&◌, true, length, length-append, map, refl, ap, ◌∙◌}
 use Rattle.machine_model.specs.declared.event.Event.TheVariants.{Frame}
 use Rattle.machine_model.specs.declared.event.Outcome.TheVariants.{Stepped}
 use Rattle.live_levels.specs.declared.act.Act.{Act}
@@ -8,7 +8,8 @@ use Rattle.live_levels.specs.Slots.{SlotView, changed}
 use Rattle.live_tree.specs.Held.{HeldView}
 use Rattle.seats.specs.Growing.{Grew}
 use Rattle.seats.proofs.Growing.{own_core}
-use Rattle.seats.specs.Notes.{SeatView, noted}
+use Rattle.seats.specs.Notes.{SeatView, noted, with_note}
+use Rattle.seats.specs.declared.noted.Noted.{Noted}
 use Rattle.live_pages.specs.Steps.{StepsWith, Takes}
 
 -- a frame is taken in a step of the core's
@@ -33,3 +34,7 @@ length_map f (x ∷ xs) = ap suc (length_map f xs)
 -- a change of each held slot leaves as many
 pub same_count : (act : Act) (s t : SeatView) (h k : HeldView) → StepsWith act s h t k → length k.slots ≡ length h.slots
 same_count act s t h k w = ap (λ (v : HeldView). length v.slots) w.slots ∙ length_map (λ (x : SlotView). changed x (dated w.ticket act)) h.slots
+
+-- a note more is counted
+pub one_more : (s t : SeatView) (n : Noted) → t ≡ with_note s n → length t.notes ≡ length s.notes + 1
+one_more s t n e = ap (λ (v : SeatView). length v.notes) e ∙ length-append s.notes (n ∷ [])

@@ -21,3 +21,9 @@ MayGet own (Shared file page) access frame = Unit {0}
 MayGet own (Private file page) Load frame = Unit {0}
 MayGet own (Private file page) Store frame = own ≡ Some frame
 MayGet own (Private file page) Fetch frame = Unit {0}
+
+-- what backs a page is this page of this file
+abbrev pub IsFilePage : Back → ℕ → ℕ → Type 0
+IsFilePage Anon n k = ⊥
+IsFilePage (Shared file page) n k = (file ≡ n) × (page ≡ k)
+IsFilePage (Private file page) n k = (file ≡ n) × (page ≡ k)

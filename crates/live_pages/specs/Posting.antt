@@ -1,15 +1,17 @@
 -- Cores that are locked to be told, and what telling them does
 use Rattle.std.specs.Prelude.{◌≡◌, ℕ, ◌<◌, true, false, List, [], ◌∷◌, ◌++◌, Option, None, Some, is_some, map}
-use Rattle.std.specs.Prelude.{All, IsSome}
+use Rattle.std.specs.Prelude.{◌⊎◌, All, IfSome, IsSome}
 use Rattle.std.specs.List.{Contains}
 use Rattle.std.specs.Sync.Mutex.{mutex_guard_value}
 use Rattle.vm_base.specs.Cores.{members}
+use Rattle.vm_base.specs.Pages.{are_pages}
 use Rattle.vm_base.specs.declared.page.PageRange.{PageRange}
 use Rattle.mmu.specs.declared.cpu.Cpu.{Cpu}
 use Rattle.mmu.specs.declared.entry.Translation.{Translation}
 use Rattle.mmu.specs.declared.tlb.TlbEntry.{TlbEntry}
 use Rattle.refcache.specs.Pieces.{Core}
-use Rattle.shootdown.specs.Messages.{InboxOf, message_of}
+use Rattle.shootdown.specs.declared.message.Message.{Message}
+use Rattle.shootdown.specs.Messages.{InboxOf, message_of, oldest_of}
 use Rattle.machine_model.specs.Translating.{after_shot}
 use Rattle.live_pages.specs.OneCore.{OneCore, one_core, after_on}
 use Rattle.live_pages.specs.declared.pieces.CoreState.{CoreState}
@@ -38,6 +40,11 @@ number_of p = (inbox_of p).number
 pub record CanBeTold (c : ℕ) (k : LockedInbox) : Type 0 where
   pub own : k.inbox.core ≡ k.number
   pub free : is_some (message_of k.inbox.messages c) ≡ false
+
+-- a core with these messages has acknowledged core c's, so that c has none there; or its oldest message is of no pages, and
+-- it can't act on it
+abbrev pub IsTold : ℕ → List Message → Type 0
+IsTold c ms = (is_some (message_of ms c) ≡ false) ⊎ IfSome (oldest_of ms) (λ m. are_pages m.range ≡ false)
 
 -- one core more is locked, of this number, which core c can tell
 pub record LocksCore {A : Type 0} (c number : ℕ) (old new : List (Option (LockedCore A))) : Type 0 where

@@ -8,7 +8,7 @@ ghost use Rattle.live_pages.specs.HeldFrames.{CanMakeWay, CountsCopied, IsHeld};
 ghost use Rattle.live_pages.specs.Steps.{Stays, StepsWith};
 
 use crate::frames_held::{FramesHeld, lock_these};
-use crate::pieces::{CoreState, Pieces, number_of};
+use crate::pieces::{CoreState, Pieces, lock_core, number_of};
 use live_levels::act::Act;
 use live_levels::level::Stepper;
 use live_tree::held::Held;
@@ -36,10 +36,9 @@ pub fn copy_page<R: Wait, A: Allocator + Clone>(
     if shown == own {
         return false;
     }
-    let Some(place) = pieces.cores.get(seat.core().index() as usize) else {
+    let Some(mut core) = lock_core(rt, pieces.cores, seat.core()) else {
         return false;
     };
-    let mut core = place.lock(rt);
     let evicted = core.counts.in_the_way(shown, -1);
     let Some(mut frames) = lock_these(rt, pieces, &[Some(shown), Some(own), evicted]) else {
         return false;
@@ -77,6 +76,7 @@ fn give_copied<A: Allocator + Clone>(
     requires source { IsHeld shown frames.old }
     requires target { IsHeld own frames.old }
     requires other { shown ≢ own }
+    requires core { core.old.inbox.core ≡ seat.old.core }
     ensures step { StepsWith (Copy own) seat.old held.old seat.new held.new }
     ensures counts { CountsCopied shown own epoch core.old.counts core.new.counts frames.old frames.new }
     ensures rest { core.new ≡ record core.old { counts = core.new.counts } }

@@ -9,7 +9,7 @@ ghost use Rattle.machine_model.specs.Files.{back_of};
 ghost use Rattle.live_tree.specs.Held.{CanTake};
 ghost use Rattle.live_tree.specs.Shown.{shown};
 ghost use Rattle.live_pages.specs.Counts.{Begins, BeginsFrom};
-ghost use Rattle.live_pages.specs.Frames.{MayGet};
+ghost use Rattle.live_pages.specs.Frames.{IsFilePage, MayGet};
 ghost use Rattle.live_pages.specs.Free.{Gives, GivesFree, free_in};
 ghost use Rattle.live_pages.specs.HeldFrames.{CanMakeWay, Copies, CountsShown, GivesOwn, IsHeld, state_in};
 ghost use Rattle.live_pages.specs.Steps.{Stays, StepsWith};
@@ -17,7 +17,7 @@ ghost use Rattle.live_pages.specs.Steps.{Stays, StepsWith};
 use crate::beginning::{begin_page, begin_zeros};
 use crate::frames_held::{FramesHeld, Place, lock_frame, lock_these};
 use crate::free_frames::FreeFrames;
-use crate::pieces::{CoreState, Pieces, number_of};
+use crate::pieces::{CoreState, Pieces, lock_core, number_of};
 use crate::settling::place_of;
 use backing::{CachedFrame, Objects};
 use live_levels::act::Act;
@@ -51,10 +51,12 @@ pub fn fill<R: Wait, A: Allocator + Clone>(
     let back = back_of(&held.page(touch.page));
     match back {
         Back::Anon => fill_zeros(rt, pieces, seat, held, own),
-        Back::Shared { file, page } => show(rt, pieces, seat, held, own, back, file, page),
+        Back::Shared { file, page } => show(rt, pieces, seat, held, own, touch.page, file, page),
         Back::Private { file, page } => match touch.access {
-            Access::Store => fill_copy(rt, pieces, seat, held, own, back, file, page),
-            Access::Load | Access::Fetch => show(rt, pieces, seat, held, own, back, file, page),
+            Access::Store => fill_copy(rt, pieces, seat, held, own, touch.page, file, page),
+            Access::Load | Access::Fetch => {
+                show(rt, pieces, seat, held, own, touch.page, file, page)
+            }
         },
     }
 }
@@ -104,59 +106,61 @@ fn give_zeros<A: Allocator + Clone>(
     held.change_each(ticket, Act::Frame(place.number));
 }
 
-// The page shows its file page, by the frame that caches it, or else by the one that the call took,
-// which caches it from then on.
+// The page `at` shows its file page, by the frame that caches it, or else by the one that the call
+// took, which caches it from then on.
 fn show<R: Wait, A: Allocator + Clone>(
     rt: &R,
     pieces: &Pieces<'_, A>,
     seat: &mut Seat<A>,
     held: &mut Held<'_, A>,
     own: Option<u32>,
-    back: Back,
+    at: u64,
     file: u32,
     page: u64,
 ) -> Option<u32>
-    requires { CanNote seat.old }
+    requires step { CanNote seat.old }
+    requires backed { IsFilePage (back_of ((shown held.old.slots).info at)) file page }
     ensures some { IfSome result (λ f. StepsWith (Frame f) seat.old held.old seat.new held.new) }
     ensures none { result ≡ None → Stays seat.old held.old seat.new held.new }
 {
-    let Some(place) = place_of(pieces, back) else {
+    let Some(place) = place_of(pieces, Back::Shared { file, page }) else {
         return None;
     };
     let mut cached = place.lock(rt);
     match cached.get() {
-        Some(shown) => share(rt, pieces, seat, held, own, shown),
-        None => cache(rt, pieces, seat, held, own, &mut cached, file, page),
+        Some(shown) => share(rt, pieces, seat, held, own, &cached, shown),
+        None => cache(rt, pieces, seat, held, own, &mut cached, at, file, page),
     }
 }
 
-// The page gets a frame of its own with the bytes of its file page as they now are.
+// The page `at` gets a frame of its own with the bytes of its file page as they now are.
 fn fill_copy<R: Wait, A: Allocator + Clone>(
     rt: &R,
     pieces: &Pieces<'_, A>,
     seat: &mut Seat<A>,
     held: &mut Held<'_, A>,
     own: Option<u32>,
-    back: Back,
+    at: u64,
     file: u32,
     page: u64,
 ) -> Option<u32>
-    requires { CanNote seat.old }
+    requires step { CanNote seat.old }
+    requires backed { IsFilePage (back_of ((shown held.old.slots).info at)) file page }
     ensures some { IfSome result (λ f. StepsWith (Frame f) seat.old held.old seat.new held.new) }
     ensures own { IfSome result (λ f. own ≡ Some f) }
     ensures none { result ≡ None → Stays seat.old held.old seat.new held.new }
 {
-    let Some(place) = place_of(pieces, back) else {
+    let Some(place) = place_of(pieces, Back::Private { file, page }) else {
         return None;
     };
     let cached = place.lock(rt);
     match cached.get() {
-        Some(shown) => copy_shown(rt, pieces, seat, held, own, shown),
-        None => fill_bytes(rt, pieces, seat, held, own, file, page),
+        Some(shown) => copy_shown(rt, pieces, seat, held, own, &cached, shown),
+        None => fill_bytes(rt, pieces, seat, held, own, at, file, page),
     }
 }
 
-// The page gets the frame that the call took, with the file's own bytes. The file page is locked,
+// The page `at` gets the frame that the call took, with the file's own bytes. Its file page is locked,
 // and no frame caches it.
 fn fill_bytes<R: Wait, A: Allocator + Clone>(
     rt: &R,
@@ -164,10 +168,12 @@ fn fill_bytes<R: Wait, A: Allocator + Clone>(
     seat: &mut Seat<A>,
     held: &mut Held<'_, A>,
     own: Option<u32>,
+    at: u64,
     file: u32,
     page: u64,
 ) -> Option<u32>
     requires step { CanNote seat.old }
+    requires backed { IsFilePage (back_of ((shown held.old.slots).info at)) file page }
     ensures some { IfSome result (λ f. StepsWith (Frame f) seat.old held.old seat.new held.new) }
     ensures own { IfSome result (λ f. own ≡ Some f) }
     ensures none { result ≡ None → Stays seat.old held.old seat.new held.new }
@@ -176,7 +182,7 @@ fn fill_bytes<R: Wait, A: Allocator + Clone>(
         return None;
     };
     let number = place.number;
-    give_bytes(&mut place, pieces.objects, seat, held, file, page);
+    give_bytes(&mut place, pieces.objects, seat, held, at, file, page);
     Some(number)
 }
 
@@ -188,10 +194,12 @@ fn cache<R: Wait, A: Allocator + Clone>(
     held: &mut Held<'_, A>,
     own: Option<u32>,
     cached: &mut CachedFrame,
+    at: u64,
     file: u32,
     page: u64,
 ) -> Option<u32>
     requires step { CanNote seat.old }
+    requires backed { IsFilePage (back_of ((shown held.old.slots).info at)) file page }
     requires new { cached.old ≡ None }
     ensures some { IfSome result (λ f. StepsWith (Frame f) seat.old held.old seat.new held.new) }
     ensures own { IfSome result (λ f. own ≡ Some f) }
@@ -202,7 +210,16 @@ fn cache<R: Wait, A: Allocator + Clone>(
         return None;
     };
     let number = place.number;
-    give_cached(&mut place, cached, pieces.objects, seat, held, file, page);
+    give_cached(
+        &mut place,
+        cached,
+        pieces.objects,
+        seat,
+        held,
+        at,
+        file,
+        page,
+    );
     Some(number)
 }
 
@@ -236,17 +253,19 @@ fn lock_own<'a, R: Wait, A: Allocator + Clone>(
     Some(place)
 }
 
-// The step: the locked frame gets the file's own bytes of the page and is counted once, it is
-// noted, and the held page gets the frame.
+// The step: the locked frame gets the file's own bytes of the held page's file page and is counted
+// once, it is noted, and the held page gets the frame.
 fn give_bytes<A: Allocator + Clone>(
     place: &mut Place<'_, A>,
     objects: &Objects<A>,
     seat: &mut Seat<A>,
     held: &mut Held<'_, A>,
+    _at: u64,
     file: u32,
     page: u64,
 )
     requires step { CanNote seat.old }
+    requires backed { IsFilePage (back_of ((shown held.old.slots).info _at)) file page }
     requires each { All (CanTake (Frame place.old.number)) held.old.slots }
     requires page { is_some (file_bytes (files_of objects.now file) page) ≡ true }
     ensures step { StepsWith (Frame place.old.number) seat.old held.old seat.new held.new }
@@ -265,10 +284,12 @@ fn give_cached<A: Allocator + Clone>(
     objects: &Objects<A>,
     seat: &mut Seat<A>,
     held: &mut Held<'_, A>,
+    _at: u64,
     file: u32,
     page: u64,
 )
     requires step { CanNote seat.old }
+    requires backed { IsFilePage (back_of ((shown held.old.slots).info _at)) file page }
     requires each { All (CanTake (Frame place.old.number)) held.old.slots }
     requires page { is_some (file_bytes (files_of objects.now file) page) ≡ true }
     requires new { cached.old ≡ None }
@@ -291,9 +312,11 @@ fn copy_shown<R: Wait, A: Allocator + Clone>(
     seat: &mut Seat<A>,
     held: &mut Held<'_, A>,
     own: Option<u32>,
+    cached: &CachedFrame,
     shown: u32,
 ) -> Option<u32>
-    requires { CanNote seat.old }
+    requires step { CanNote seat.old }
+    requires caches { cached.now ≡ Some shown }
     ensures some { IfSome result (λ f. StepsWith (Frame f) seat.old held.old seat.new held.new) }
     ensures own { IfSome result (λ f. own ≡ Some f) }
     ensures none { result ≡ None → Stays seat.old held.old seat.new held.new }
@@ -307,7 +330,7 @@ fn copy_shown<R: Wait, A: Allocator + Clone>(
     let Some(mut frames) = lock_these(rt, pieces, &[Some(number), Some(shown)]) else {
         return None;
     };
-    give_copy(&mut frames, seat, held, shown, number);
+    give_copy(&mut frames, seat, held, cached, shown, number);
     Some(number)
 }
 
@@ -317,6 +340,7 @@ fn give_copy<A: Allocator + Clone>(
     frames: &mut FramesHeld<'_, A>,
     seat: &mut Seat<A>,
     held: &mut Held<'_, A>,
+    _cached: &CachedFrame,
     from: u32,
     to: u32,
 )
@@ -325,6 +349,7 @@ fn give_copy<A: Allocator + Clone>(
     requires source { IsHeld from frames.old }
     requires target { IsHeld to frames.old }
     requires other { from ≢ to }
+    requires caches { _cached.now ≡ Some from }
     ensures step { StepsWith (Frame to) seat.old held.old seat.new held.new }
     ensures frames { Copies from to frames.old frames.new }
 {
@@ -341,16 +366,18 @@ fn share<R: Wait, A: Allocator + Clone>(
     seat: &mut Seat<A>,
     held: &mut Held<'_, A>,
     own: Option<u32>,
+    cached: &CachedFrame,
     shown: u32,
 ) -> Option<u32>
-    requires { CanNote seat.old }
+    requires step { CanNote seat.old }
+    requires caches { cached.now ≡ Some shown }
     ensures some { IfSome result (λ f. StepsWith (Frame f) seat.old held.old seat.new held.new) }
+    ensures shown { IfSome result (λ f. cached.now ≡ Some f) }
     ensures none { result ≡ None → Stays seat.old held.old seat.new held.new }
 {
-    let Some(place) = pieces.cores.get(seat.core().index() as usize) else {
+    let Some(mut core) = lock_core(rt, pieces.cores, seat.core()) else {
         return None;
     };
-    let mut core = place.lock(rt);
     let evicted = core.counts.in_the_way(shown, 1);
     let mut free = pieces.free_for(rt, own);
     let Some(mut frames) = lock_these(rt, pieces, &[own, evicted]) else {
@@ -367,6 +394,7 @@ fn share<R: Wait, A: Allocator + Clone>(
         seat,
         held,
         own,
+        cached,
         shown,
         number_of(&epochs),
     );
@@ -382,6 +410,7 @@ fn give_shown<A: Allocator + Clone>(
     seat: &mut Seat<A>,
     held: &mut Held<'_, A>,
     own: Option<u32>,
+    _cached: &CachedFrame,
     shown: u32,
     epoch: u64,
 )
@@ -390,6 +419,8 @@ fn give_shown<A: Allocator + Clone>(
     requires way { CanMakeWay shown (pos 1) core.old.counts frames.old }
     requires own { IfSome own (λ number. IsHeld number frames.old) }
     requires free { is_some free.old ≡ is_some own }
+    requires caches { _cached.now ≡ Some shown }
+    requires core { core.old.inbox.core ≡ seat.old.core }
     ensures step { StepsWith (Frame shown) seat.old held.old seat.new held.new }
     ensures counts { CountsShown own shown epoch core.old.counts core.new.counts frames.old frames.new }
     ensures free { GivesFree own (free_in free.old) (free_in free.new) }

@@ -11,7 +11,7 @@ ghost use Rattle.seats.specs.Notes.{CanNote};
 ghost use Rattle.live_pages.specs.Cached.{cached_in, place_in};
 ghost use Rattle.live_pages.specs.Steps.{Stays, StepsWith};
 
-use crate::pieces::{CoreState, Pieces};
+use crate::pieces::{CoreState, Pieces, lock_core};
 use crate::settling::{frame_in, lock_cached};
 use backing::CachedFrame;
 use live_levels::act::Act;
@@ -67,10 +67,9 @@ fn install_with<R: Wait, A: Allocator + Clone>(
     if !held.can_take(Act::Record(own)) {
         return false;
     }
-    let Some(place) = pieces.cores.get(own.index() as usize) else {
+    let Some(mut core) = lock_core(rt, pieces.cores, own) else {
         return false;
     };
-    let mut core = place.lock(rt);
     enter(&mut core, cached, seat, held, touch.page, info)
 }
 
@@ -87,6 +86,7 @@ fn enter<A: Allocator + Clone>(
 ) -> bool
     requires step { CanNote seat.old }
     requires page { is_page page ≡ true }
+    requires own { core.old.inbox.core ≡ seat.old.core }
     requires each { All (CanTake (Record seat.old.core)) held.old.slots }
     ensures done { result ≡ true → StepsWith (Record seat.old.core) seat.old held.old seat.new held.new }
     ensures entry { result ≡ true → (c : ℕ → ℕ → Option ℕ)

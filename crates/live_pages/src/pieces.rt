@@ -1,5 +1,6 @@
 //! What lies under the locks of a space, and how it is lent to a step.
-ghost use Rattle.std.specs.Prelude.{◌≡◌, is_some};
+ghost use Rattle.std.specs.Prelude.{◌≡◌, is_some, IfSome};
+ghost use Rattle.std.specs.Sync.Mutex.{mutex_guard_value};
 ghost use Rattle.live_pages.specs.Frames.{epoch_of};
 
 use crate::free_frames::FreeFrames;
@@ -11,6 +12,7 @@ use refcache::{CoreCounts, Epochs, ObjectCount};
 use shootdown::Inbox;
 use std::alloc::Allocator;
 use std::sync::{Mutex, MutexGuard, Wait};
+use vm_base::CoreId;
 
 /// What a core has: its part of the counts, its inbox, its tables and its TLB.
 #[derive(Drop)]
@@ -70,6 +72,26 @@ impl<'a, A: Allocator + Clone> Pieces<'a, A> {
             None => None,
         }
     }
+}
+
+/// Locks a core, which its inbox names. It waits while another thread has it locked. None where there
+/// is no such core, or another one stands in its place, which never comes.
+#[inline(always)]
+pub fn lock_core<'a, R: Wait, A: Allocator + Clone>(
+    rt: &R,
+    cores: &'a [CachePadded<Mutex<CoreState<A>>>],
+    core: CoreId,
+) -> Option<MutexGuard<'a, CoreState<A>>>
+    ensures { IfSome result (λ guard. (mutex_guard_value guard).inbox.core ≡ core) }
+{
+    let Some(place) = cores.get(core.index() as usize) else {
+        return None;
+    };
+    let state = place.lock(rt);
+    if state.inbox.core().index() != core.index() {
+        return None;
+    }
+    Some(state)
 }
 
 /// The number of an epoch that is locked; 0 where none is.

@@ -1,6 +1,6 @@
 //! Cores that are told to drop their translations of a range, and their takes.
 ghost use Rattle.std.specs.Prelude.{◌≡◌, ◌+◌, ◌*◌, ◌≤◌, [], ◌∷◌, ◌++◌, ℕ, cond, false, map, true, All, Some};
-ghost use Rattle.std.specs.Prelude.{IfSome, IsSome, IsTrue, is_some};
+ghost use Rattle.std.specs.Prelude.{◌⊎◌, IfSome, IsSome, IsTrue, is_some, length};
 ghost use Rattle.vm_base.specs.Cores.{members};
 ghost use Rattle.vm_base.specs.Pages.{are_pages};
 ghost use Rattle.machine_model.specs.Translating.{after_shot};
@@ -8,7 +8,7 @@ ghost use Rattle.machine_model.specs.declared.event.Event.TheVariants.{Take};
 ghost use Rattle.machine_model.specs.declared.event.Outcome.TheVariants.{Stepped};
 ghost use Rattle.shootdown.specs.Messages.{asked, message_of, oldest_of};
 ghost use Rattle.live_pages.specs.OneCore.{after_on, after_take, one_core};
-ghost use Rattle.live_pages.specs.Posting.{AreLocked, CanBeTold, LocksCore, core_of, inbox_of, number_of, told};
+ghost use Rattle.live_pages.specs.Posting.{AreLocked, CanBeTold, IsTold, LocksCore, core_of, inbox_of, number_of, told};
 ghost use Rattle.live_pages.specs.Targets.{count_below};
 ghost use Rattle.seats.specs.Growing.{Grew, Steps};
 ghost use Rattle.seats.specs.Notes.{CanNote, noted, with_note};
@@ -347,12 +347,15 @@ pub(crate) fn take_until_told<R: Wait, A: Allocator + Clone>(
     take_each(&mut state, seat, target);
 }
 
-// The takes of a target, which is locked.
-#[tactic(auto, using(seats::proofs::Growing::grew_trans, seats::proofs::Growing::grew_note))]
+// The takes of a target, which is locked: until it has acknowledged the core's message, or the most
+// that there may be.
+#[tactic(auto, using(seats::proofs::Growing::grew_trans, seats::proofs::Growing::grew_note, crate::proofs::Noting::one_more))]
 fn take_each<A: Allocator + Clone>(state: &mut CoreState<A>, seat: &mut Seat<A>, target: CoreId)
     requires room { 126 ≤ seat.old.room }
     ensures grew { Grew seat.old seat.new }
     ensures room { seat.old.room ≤ seat.new.room + 126 }
+    ensures told { IsTold seat.old.core state.new.inbox.messages
+        ⊎ (length seat.new.notes ≡ length seat.old.notes + 126) }
 {
     let core = seat.core();
     'takes: for _turn in 0..TAKES {
@@ -367,6 +370,7 @@ fn take_each<A: Allocator + Clone>(state: &mut CoreState<A>, seat: &mut Seat<A>,
 fn is_awaited(inbox: &Inbox, core: CoreId) -> bool
     ensures awaited { IsTrue result → is_some (message_of inbox.now.messages core) ≡ true }
     ensures oldest { IsTrue result → IfSome (oldest_of inbox.now.messages) (λ m. are_pages m.range ≡ true) }
+    ensures told { ¬ IsTrue result → IsTold core inbox.now.messages }
 {
     match inbox.oldest() {
         Some(message) => inbox.has_of(core) && message.range.is_valid(),

@@ -119,8 +119,12 @@ fn serve<A: Allocator + Clone>(
     ensures free { (frame_at place.new).cell.is_free ≡ (frame_at place.old).cell.is_free }
     ensures count { (frame_at place.new).count ≡ (frame_at place.old).count }
 {
-    let _ticket = seat.step();
+    // The byte comes first, so that the draws of the two tickets stand back to back, and other threads
+    // wait for the tickets' cache line once. Both tickets are drawn while the frame is locked, as the
+    // byte is read and written, so the steps that touch the frame have their tickets in the order of
+    // its locks, whether a draw stands before or behind the byte.
     let reply = touch_cell(&mut place.frame, touch);
+    let _ticket = seat.step();
     answer(seat, reply);
     reply
 }
