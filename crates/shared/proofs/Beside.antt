@@ -1,12 +1,11 @@
 -- What a core does beside calls
-use Rattle.machine_laws.proofs.Words.{◌≡◌, ℕ, Bool, sym, ap, subst, World, Event, Outcome, Step, List, Request, Entry}
+use Rattle.machine_laws.proofs.Words.{◌≡◌, ℕ, Bool, ap, subst, World, Event, Outcome, Step, List, Request, Entry}
 use Rattle.machine_alone.specs.Alone.{IsBeside, IsCalm}
 use Rattle.core_steps.specs.Moving.{MayWant}
 use Rattle.core_steps.specs.Machine.{IsLegal}
 use Rattle.shared.specs.declared.asides.Aside.{Aside}
 use Rattle.shared.specs.declared.asides.Aside.TheVariants as Does
-use Rattle.shared.specs.declared.history.History.{History}
-use Rattle.shared.specs.Histories.{StepsAside, event_of, history_of}
+use Rattle.shared.specs.Histories.{StepsAside, event_of}
 use Rattle.shared.proofs.Limits.{aside_calm}
 
 aside_beside : (w : World) (core : ℕ) (aside : Aside) → IsBeside w (event_of core aside)

@@ -1,8 +1,8 @@
 -- A call halts, is let go, or is given up, and is ended
-use Rattle.machine_laws.proofs.Words.{◌≡◌, ◌≢◌, ℕ, ◌+◌, ◌<◌, ◌≤◌, arith, Bool, true, false, refl, sym, ap, subst, None, List, [], ◌∙◌, inl}
-use Rattle.machine_laws.proofs.Words.{inr, ◌⊎◌, ⊎_elim, World, Made, Request, Reply, Event, Call, Go, Outcome}
-use Rattle.machine_laws.proofs.Words.{Stepped, Answered, Full, Idle, Wait, Phase, Free, Step, members, awaited, eq_true, eq_false, ◌==◌}
-use Rattle.machine_laws.proofs.Words.{nat_tests, Result, Ok, Err, ∥∥₁_elim, props}
+use Rattle.machine_laws.proofs.Words.{◌≡◌, ◌≢◌, ℕ, ◌+◌, ◌<◌, ◌≤◌, arith, Bool, true, false, refl, sym, ap, subst, None, ◌∙◌, inl}
+use Rattle.machine_laws.proofs.Words.{inr, ◌⊎◌, ⊎_elim, World, Request, Reply, Call, Outcome}
+use Rattle.machine_laws.proofs.Words.{Stepped, Answered, Full, Idle, Wait, Free, Step, members, awaited, eq_true, ◌==◌}
+use Rattle.machine_laws.proofs.Words.{nat_tests, Result, ∥∥₁_elim, props}
 use Rattle.machine_laws.proofs.Going.{has_core}
 use Rattle.machine_laws.proofs.Shapes.{handed_out}
 use Rattle.machine_model.specs.declared.event.Event.TheVariants as EventOf
@@ -12,11 +12,11 @@ use Rattle.machine_alone.specs.Alone.{IsCalm, left_to}
 use Rattle.core_steps.specs.declared.machine.Finished.{Finished}
 use Rattle.core_steps.specs.declared.machine.Finished.TheVariants.{Last, Stuck}
 use Rattle.core_steps.specs.Finishing.{Calls, Finishes, FinishesAfter, IsCallRefused, IsRefused}
-use Rattle.core_steps.specs.Moving.{MayWant, Tries}
+use Rattle.core_steps.specs.Moving.{Tries}
 use Rattle.core_steps.specs.Machine.{IsLegal}
 use Rattle.shared.specs.declared.whole.Ended.{Ended}
 use Rattle.shared.specs.declared.whole.Ended.TheVariants as To
-use Rattle.shared.specs.Histories.{Ends, IsOver, history_of}
+use Rattle.shared.specs.Histories.{Ends, IsOver}
 use Rattle.shared.specs.Calling.{ComesTo, EndsFrom, Halts, HaltsTo, InCall, IsAnswered, IsLetGo, LeavesHalted, Rests, TakesPast, Wants, ended_by, is_answered}
 use Rattle.shared.proofs.InCalls.{Ends-at-once, along, began, call_begins, call_made, call_refused, calls_first, event_on, finish_ends}
 use Rattle.shared.proofs.InCalls.{finish_made, finish_on, gives_beside, refused_on, takes_beside, tried}

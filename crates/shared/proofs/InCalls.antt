@@ -2,8 +2,8 @@
 use Rattle.machine_laws.proofs.Words.{◌≡◌, ◌≢◌, ℕ, zero, suc, ◌+◌, ◌<◌, arith, ◌==◌, Bool, true, false, refl, sym, ap, subst, Some, None}
 use Rattle.machine_laws.proofs.Words.{Option, [], ◌∷◌, ◌++◌, ◌∙◌, inl, inr, ◌⊎◌, ⊎_elim}
 use Rattle.machine_laws.proofs.Words.{List, length, append-nil, eq_true, eq_false, put_same, put_other, put, Request, Reply, Entry, nth}
-use Rattle.machine_laws.proofs.Words.{Replays, World, Event, Call, Go, Outcome}
-use Rattle.machine_laws.proofs.Words.{Stepped, Answered, Full, Phase, Free, Check, Unlock, Answer, to, with_event, after_call, answer_entry}
+use Rattle.machine_laws.proofs.Words.{World, Event, Call, Go, Outcome}
+use Rattle.machine_laws.proofs.Words.{Stepped, Answered, Full, Phase, Free, Check, Unlock, Answer, with_event, after_call, answer_entry}
 use Rattle.machine_laws.proofs.Words.{detach_entry, Step, StepsTo, event_limit, nat_lt, put_all, nothing_mapped, nat_tests, Idle, Wait}
 use Rattle.machine_laws.proofs.Words.{Result, Ok, Err, ∥∥₁_elim, ∥∥₁_map, props}
 use Rattle.machine_laws.proofs.Effects.{Status, Closed, Asked, Told, status, statuses, SameCalls, Effect, keeps, tells, detaches, opens, closes, effect_of}

@@ -1,14 +1,14 @@
 -- Each step keeps the rule of the one history
-use Rattle.std.proofs.Common.{◌≡◌, ◌≢◌, ℕ, zero, suc, ◌+◌, ◌-◌, ◌<◌, ◌≤◌, eqb, cond, List, [], ◌∷◌, ◌++◌, length, get_or, set, refl}
-use Rattle.std.proofs.Common.{sym, ap, ◌∙◌, subst, ◌⊎◌, inl, inr, ⊎_elim, arith, eq-eqb, ne_eqb, length-set, append-nil}
-use Rattle.std.specs.Prelude.{MatchBool, Option, slice_get, slice_index, Some}
+use Rattle.std.proofs.Common.{◌≡◌, ◌≢◌, ℕ, ◌-◌, ◌<◌, ◌≤◌, eqb, cond, List, [], ◌∷◌, ◌++◌, length, set, refl}
+use Rattle.std.proofs.Common.{sym, ap, ◌∙◌, subst, ◌⊎◌, inl, inr, ⊎_elim, arith, eq-eqb, ne_eqb, append-nil}
+use Rattle.std.specs.Prelude.{MatchBool, Option, slice_index}
 use mathlib.Core.Bool.{Bool, true, false}
 use mathlib.Core.Option.{some, none, some-ne-none, some-injective}
 use lib.ListN.{get_elem?}
 use prog.Atomic.{either}
 use Rattle.atomic_table.specs.Table.{State, Me, step, keeps, takes, gives, stepped, put_back, Act, Valid, carried_after, opening, Allows}
-use Rattle.atomic_table.specs.Table.{Splits, Joins, Seen, Final, rest}
-use Rattle.atomic_table.proofs.Lists.{at_set, set_again}
+use Rattle.atomic_table.specs.Table.{Splits, Joins, Seen, Final}
+use Rattle.atomic_table.proofs.Lists.{at_longer, at_set, set_again}
 use Rattle.atomic_table.specs.Seated.{TableId}
 use Rattle.vm_base.proofs.Functions.{eq_true}
 use Rattle.vm_base.specs.declared.requests.Request.{Request}
@@ -38,38 +38,13 @@ use Rattle.shared.specs.declared.space.Known.{Known}
 use Rattle.shared.specs.declared.whole.Ended.{Ended}
 use Rattle.shared.specs.declared.whole.Ended.TheVariants as To
 use Rattle.shared.specs.Histories.{Adds, Begins, Ends, IsFull, IsOver, StepsAside, event_of, history_of, replied, replied_by}
-use Rattle.shared.specs.Cores.{Agrees, Answers, AnswersAll, Came, Extends, GoesFor, IsLater, IsTold, Passes, history_first, made_of}
-use Rattle.shared.specs.Rules.{CanGive, Fits, Gives, Home, Kept, Learns, Makes, Out, Takes, Took, after, answer_of, first_known}
+use Rattle.shared.specs.Cores.{Agrees, Answers, AnswersAll, Came, Extends, GoesFor, IsLater, IsLeftOut, IsTold, Passes, history_first, made_of}
+use Rattle.shared.specs.Rules.{CanGive, Fits, Gives, Holds, Home, Kept, Learns, Makes, Out, Takes, Took, after, answer_of, first_known}
 use Rattle.shared.specs.Rules.{history_carried, holding, padded, spent_core, split_known, view_of, with_other, word_after, word_of}
 use Rattle.shared.proofs.InCalls.{adds_nothing}
 use Rattle.shared.proofs.Limits.{over_full}
 use Rattle.shared.proofs.Lists.{begins_self, begins_through}
-
--- ---- lists of views
-
-module _ {A : Type 0} where
-  each_at : (P : ℕ → A → Type 0) (l : List A) (i : ℕ) (w : A) → ((k : ℕ) (v : A) → k ≢ i → get_elem? l k ≡ some v → P k v) → P i w
-      → (k : ℕ) (v : A) → get_elem? (set l i w) k ≡ some v → P k v
-  each_at P l i w others mine k v e = ⊎_elim (λ (t : (k ≡ i) × (w ≡ v)). subst (λ (x : ℕ × A). P x.0 x.1) (λ j. (sym t.0 j, t.1 j)) mine)
-      (λ (t : (k ≢ i) × (get_elem? l k ≡ some v)). others k v t.0 t.1) (at_set l i k w v e)
-
-  at_end : (l : List A) (a b : A) (j : ℕ) → get_elem? (l ++ a ∷ []) j ≡ some b → (get_elem? l j ≡ some b) ⊎ ((j ≡ length l) × (a ≡ b))
-  at_end [] a b zero e = inr (refl, some-injective a b e)
-  at_end [] a b (suc j) e = absurd (some-ne-none b (sym e))
-  at_end (x ∷ xs) a b zero e = inl e
-  at_end (x ∷ xs) a b (suc j) e = ⊎_elim (λ t. inl t) (λ t. inr (ap suc t.0, t.1)) (at_end xs a b j e)
-
-  each_end : (P : ℕ → A → Type 0) (l : List A) (a : A) → ((k : ℕ) (v : A) → get_elem? l k ≡ some v → P k v) → P (length l) a
-      → (k : ℕ) (v : A) → get_elem? (l ++ a ∷ []) k ≡ some v → P k v
-  each_end P l a old new k v e = ⊎_elim (λ t. old k v t) (λ (t : (k ≡ length l) × (a ≡ v)). subst (λ (x : ℕ × A). P x.0 x.1) (λ j. (sym t.0 j, t.1 j)) new)
-      (at_end l a v k e)
-
-not_true : (b : Bool) → (b ≡ true → ⊥) → b ≡ false
-not_true true n = absurd (n refl)
-not_true false n = refl
-
-not_both : (b : Bool) → b ≡ false → b ≡ true → ⊥
-not_both b f t = cc (f, t)
+use Rattle.shared.proofs.Views.{above_spare, as_elem, each_at, each_end, not_both, not_true, one_entry, set_there, still_at}
 
 pub begins_again : (h : History) → Begins h h
 begins_again h = (begins_self h.requests, begins_self h.entries)
@@ -145,12 +120,12 @@ module _ {S : Type 0} (state : S → World) (key : List S) where
       missed n other over = subst (λ b. MatchBool b ((d : S) × (me ≡ (holding me.0 (history_of (state d)), (0, d) ∷ me.1)) × Learns state me.0 d)
           ((me ≡ me) × (n ≢ 0 → me.0.live ≡ true → (u : World) × IsLater state me.0.first me.0.seen u × IsOver u))) (sym other) (refl, over)
 
-  taken : (slots id : ℕ) (me : Me S (Known S)) (s : State S (Known S)) (k : Kept state key s) → get_elem? s.views id ≡ some me.0
+  taken : (slots id : ℕ) (me : Me S (Known S)) (s : State S (Known S)) (k : Kept state key s) → get_elem? s.views id ≡ some me.0 → me.0.live ≡ true
       → (f : Home state key s k.history) → f.word ≡ 1
       → (w : Known S) × (a : Act S) × Valid s.homes me.1 a
       × Kept state key (stepped s 8 (either (eqb (slice_index s.words 8) 1) 0 (slice_index s.words 8)) id me.1 w a)
       × Takes state (step slots 8 1 0 none) me (slice_index s.words 8) (w, carried_after me.1 a)
-  taken slots id me s k at f home =
+  taken slots id me s k at live f home =
       let d : S = f.machine in
       let w : Known S = holding me.0 (history_of (state d)) in
       let fits = k.each id me.0 at in
@@ -193,6 +168,7 @@ module _ {S : Type 0} (state : S → World) (key : List S) where
             holder = id;
             words = ap (λ ws. set ws 8 (either (eqb (slice_index ws 8) 1) 0 (slice_index ws 8))) words;
             homes = ap (λ h. set h 0 none) f.homes;
+            held = (w, set_there s.views id me.0 w at, record { holds = refl; live = live });
             one_holds = each_at (λ j (v : Known S). v.holds ≡ true → (j ≡ id) × (v.seen ≡ k.history)) s.views id w
                 (λ j v _ e yes. absurd (not_both v.holds (f.none_holds j v e) yes)) (λ _. (refl, f.history));
           });
@@ -200,9 +176,9 @@ module _ {S : Type 0} (state : S → World) (key : List S) where
         subst (λ m. Took state m me me') (sym one) (d, refl, learns),
       )
 
-  pub take_keeps : (slots id : ℕ) (me : Me S (Known S))
+  pub take_keeps : (slots id : ℕ) (me : Me S (Known S)) → me.0.live ≡ true
       → Allows (Kept state key) slots id me 8 (λ n. either (eqb n 1) 0 n) (Takes state (step slots 8 1 0 none) me)
-  take_keeps slots id me s k wide at small = ⊎_elim
+  take_keeps slots id me live s k wide at small = ⊎_elim
       (λ (f : Home state key s k.history). at_home f (eqb f.word 1) refl)
       (λ (o : Out state s k.history). not_taken slots id me s k at 0 o.words refl (λ ne. absurd (ne refl)))
       k.place
@@ -210,7 +186,7 @@ module _ {S : Type 0} (state : S → World) (key : List S) where
       at_home : (f : Home state key s k.history) (b : Bool) → eqb f.word 1 ≡ b → (w : Known S) × (a : Act S) × Valid s.homes me.1 a
           × Kept state key (stepped s 8 (either (eqb (slice_index s.words 8) 1) 0 (slice_index s.words 8)) id me.1 w a)
           × Takes state (step slots 8 1 0 none) me (slice_index s.words 8) (w, carried_after me.1 a)
-      at_home f true e = taken slots id me s k at f (eq_true f.word 1 e)
+      at_home f true e = taken slots id me s k at live f (eq_true f.word 1 e)
       at_home f false e = not_taken slots id me s k at f.word f.words e (λ _ live.
           let fits = k.each id me.0 at in (
             state f.machine,
@@ -383,6 +359,10 @@ module _ {S : Type 0} (state : S → World) (key : List S) where
               holder = o.holder;
               words = o.words;
               homes = o.homes;
+              held =
+                  let stays = still_at Holds s.views id o.holder v o.held.0 l at o.held.1 o.held.2
+                  (λ same. let h = subst Holds (one_entry s.views o.holder id o.held.0 v o.held.1 at same) o.held.2 in record { holds = h.holds; live = h.live }) in
+                  (stays.0, at_longer vs (r ∷ []) o.holder stays.0 stays.1, stays.2);
               one_holds = each_end (λ j (u : Known S). u.holds ≡ true → (j ≡ o.holder) × (u.seen ≡ k.history)) vs r
                   (each_at (λ j (u : Known S). u.holds ≡ true → (j ≡ o.holder) × (u.seen ≡ k.history)) s.views id l (λ j u _ e. o.one_holds j u e)
                   (o.one_holds id v at))
@@ -397,9 +377,9 @@ module _ {S : Type 0} (state : S → World) (key : List S) where
   still true c e = refl
   still false c e = e
 
-  pub join_keeps : (id : ℕ) (v : Known S) (other : ℕ) (w : Known S) → v.live ≡ true → v.holds ≡ false → w.live ≡ true
+  pub join_keeps : (id : ℕ) (v : Known S) (other : ℕ) (w : Known S) → v.live ≡ true → v.holds ≡ false → w.live ≡ true → w.holds ≡ false
       → Joins (Kept state key) id v other w (with_other v w) spent_core
-  join_keeps id v other w lives idle lives' s k at apart there' =
+  join_keeps id v other w lives idle lives' idle' s k at apart there' =
       let b : Known S = with_other v w in
       let vs : List (Known S) = set s.views id b in
       let there : get_elem? s.views other ≡ some w =
@@ -482,6 +462,12 @@ module _ {S : Type 0} (state : S → World) (key : List S) where
               holder = o.holder;
               words = o.words;
               homes = o.homes;
+              held =
+                  let first = still_at Holds s.views id o.holder v o.held.0 b at o.held.1 o.held.2
+                  (λ same. let h = subst Holds (one_entry s.views o.holder id o.held.0 v o.held.1 at same) o.held.2 in record { holds = h.holds; live = lives }) in
+                  still_at Holds vs other o.holder w first.0 spent_core there' first.1 first.2
+                  (λ same. let h = subst Holds (one_entry vs o.holder other first.0 w first.1 there' same) first.2 in
+                  absurd (not_both w.holds idle' h.holds));
               one_holds = each_at (λ j (u : Known S). u.holds ≡ true → (j ≡ o.holder) × (u.seen ≡ k.history)) vs other spent_core
                   (λ j u _ e. each_at (λ j (u : Known S). u.holds ≡ true → (j ≡ o.holder) × (u.seen ≡ k.history)) s.views id b (λ j u _ e. o.one_holds j u e)
                   (λ yes. absurd (not_both v.holds idle yes)) j u e)
@@ -514,11 +500,34 @@ module _ {S : Type 0} (state : S → World) (key : List S) where
       (λ (o : Out state s k.history). absurd
       (let e : some 0 ≡ some word = ap (λ l. get_elem? l 8) (sym o.words ∙ words) ∙ there in home (sym (some-injective 0 word e))))
       k.place
-    where
-      as_elem : (ts : List Told) (n : ℕ) (t : Told) → slice_get ts n ≡ Some t → get_elem? ts n ≡ some t
-      as_elem [] n t e = absurd cc
-      as_elem (x ∷ xs) zero t e = ap some cc
-      as_elem (x ∷ xs) (suc n) t e = as_elem xs n t e
+
+  -- where it is 0, a core that this one didn't take in has the machine
+  pub loses : (space : TableId) (id : ℕ) (v : Known S) (ws : List ℕ) (xs : List S) (word : ℕ) → v.live ≡ true → v.holds ≡ false
+      → Final (Seen (Kept state key) id v) ws xs → get_elem? ws 8 ≡ some word → word ≡ 0 → (core : ℕ) × IsLeftOut state (view_of space v) core
+  loses space id v ws xs word lives idle end there out =
+      let s = end.0 in
+      let k : Kept state key s = end.1.0 in
+      let fits = k.each id v end.1.1 in
+      let words : s.words ≡ ws = end.2 in
+      ⊎_elim
+      (λ (f : Home state key s k.history). absurd
+      (let e : some f.word ≡ some word = ap (λ l. get_elem? l 8) (sym f.words ∙ words) ∙ there in f.in_place (some-injective f.word word e ∙ out)))
+      (λ (o : Out state s k.history).
+      let u : Known S = o.held.0 in
+      let has = k.each o.holder u o.held.1 in
+      let live = o.held.2.live in (
+        u.core,
+        record {
+          here = subst (λ (m : Made). u.core < m.cores) (ap (made_of state) (sym (fits.first lives))) (has.here live);
+          other = λ same.
+              let seats : o.holder ≡ id = sym (has.seat live) ∙ (ap k.seat_of same ∙ fits.seat lives) in
+              let holds = subst Holds (one_entry s.views o.holder id u v o.held.1 end.1.1 seats) o.held.2 in
+              not_both v.holds idle holds.holds;
+          split = above_spare v.spare k.left u.core (λ more. (fits.spare more).2) (has.core live);
+          away = λ n t e same. not_both (k.gone u.core) (has.stays live) (ap k.gone (sym same) ∙ (fits.told n t (as_elem v.others n t e)).1);
+        },
+      ))
+      k.place
 
   -- ---- a call
 

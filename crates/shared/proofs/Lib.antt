@@ -5,4 +5,5 @@ pub mod Halting
 pub mod Beside
 pub mod Places
 pub mod Serials
+pub mod Views
 pub mod Keeping

@@ -1,7 +1,7 @@
 -- The calls of a core in a log, as it grows
-use Rattle.machine_laws.proofs.Words.{◌≡◌, ◌≢◌, ℕ, zero, suc, ◌==◌, Bool, true, false, cond, refl, sym, ap, subst, Some, None, Option, [], ◌∷◌, ◌++◌, ◌∙◌}
-use Rattle.machine_laws.proofs.Words.{List, length, take, append-nil, append_assoc, eq_true, eq_false, eqb, Request, Reply, Entry, nth}
-use Rattle.machine_laws.proofs.Words.{Plain, Replays, EntryLeads}
+use Rattle.machine_laws.proofs.Words.{◌≡◌, ◌≢◌, ℕ, ◌==◌, Bool, true, false, cond, refl, sym, ap, Some, None, Option, [], ◌∷◌, ◌++◌, ◌∙◌}
+use Rattle.machine_laws.proofs.Words.{List, length, take, append-nil, Request, Reply, Entry, nth}
+use Rattle.machine_laws.proofs.Words.{Plain, Replays}
 use Rattle.std.proofs.Common.{eq-eqb, ne_eqb}
 use Rattle.machine_laws.proofs.Numbered.{at_old}
 use Rattle.vm_base.specs.declared.log.Entry.TheVariants.{Answer, Detach}

@@ -1,5 +1,5 @@
 -- What clauses see of a core of a shared machine, and what its calls tell
-use Rattle.std.specs.Prelude.{◌≡◌, ℕ, ◌⊎◌, List, [], ◌∷◌, ◌++◌, length, Option, None, slice_get, Some}
+use Rattle.std.specs.Prelude.{◌≡◌, ◌≢◌, ℕ, ◌⊎◌, ◌<◌, List, [], ◌∷◌, ◌++◌, length, Option, None, slice_get, Some}
 use Rattle.atomic_table.specs.Seated.{TableId}
 use Rattle.vm_base.specs.declared.requests.Request.{Request}
 use Rattle.vm_base.specs.declared.replies.Reply.{Reply}
@@ -139,3 +139,11 @@ module _ {S : Type 0} (state : S → World) where
     pub made : u.made ≡ made_of c.first
     pub own : IsTold (history_of u) (told_of c)
     pub others : (k : ℕ) (t : Told) → slice_get c.others k ≡ Some t → IsTold (history_of u) t
+
+  -- The core has a seat, which isn't this one's, and which this one didn't take in. The first core has
+  -- one from the start, and those that could still be split off have none.
+  pub record IsLeftOut (c : CoreView S) (core : ℕ) : Type 0 where
+    pub here : core < (made_of c.first).cores
+    pub other : core ≢ c.core
+    pub split : (core ≡ 0) ⊎ (c.spare < core)
+    pub away : (k : ℕ) (t : Told) → slice_get c.others k ≡ Some t → t.core ≢ core

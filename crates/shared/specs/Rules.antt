@@ -4,7 +4,7 @@ use mathlib.Core.Option.{some, none}
 use lib.ListN.{get_elem?}
 use Rattle.atomic_table.specs.Table.{State, Me, Step, rest}
 use Rattle.atomic_table.specs.Seated.{TableId}
-use Rattle.machine_model.specs.World.{World, Made}
+use Rattle.machine_model.specs.World.{World}
 use Rattle.machine_alone.specs.Alone.{IsCalm}
 use Rattle.core_steps.specs.Machine.{IsLegal}
 use Rattle.shared.specs.declared.history.History.{History}
@@ -66,6 +66,11 @@ holding v h = record v { seen = h; holds = true }
 abbrev pub after : {S : Type 0} → Known S → History → Known S
 after v h = record v { seen = h; mine = replied_by v.core h; holds = false }
 
+-- a core that calls has the machine
+pub record Holds {S : Type 0} (v : Known S) : Type 0 where
+  pub holds : v.holds ≡ true
+  pub live : v.live ≡ true
+
 module _ {S : Type 0} (state : S → World) where
   -- what the first core knows
   abbrev pub first_known : List S → Known S
@@ -111,6 +116,7 @@ module _ {S : Type 0} (state : S → World) where
     pub holder : ℕ
     pub words : s.words ≡ padded 0
     pub homes : s.homes ≡ none ∷ []
+    pub held : (v : Known S) × (get_elem? s.views holder ≡ some v) × Holds v
     pub one_holds : (id : ℕ) (v : Known S) → get_elem? s.views id ≡ some v → v.holds ≡ true
         → (id ≡ holder) × (v.seen ≡ h)
 

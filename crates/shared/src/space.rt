@@ -1,9 +1,9 @@
 //! The space that threads share, and a core, with which one thread calls.
-ghost use Rattle.std.specs.Prelude.{◌≡◌, ◌≢◌, ℕ, ◌-◌, ◌<◌, ◌≤◌, ◌==◌, List, [], ◌∷◌, ◌++◌, IfOk, IfErr, IfSome, IfNone, length, map};
+ghost use Rattle.std.specs.Prelude.{◌≡◌, ◌≢◌, ℕ, ◌-◌, ◌<◌, ◌≤◌, ◌==◌, true, List, [], ◌∷◌, ◌++◌, IfOk, IfErr, IfSome, IfNone, length, map};
 ghost use Rattle.shared.specs.declared.history.Replied.{Replied as RepliedOf};
 ghost use Rattle.shared.specs.Histories.{history_of, replied_by, event_of, Ends, StepsAside};
 ghost use Rattle.shared.specs.Serial.{AreTold, EndsSeries};
-ghost use Rattle.shared.specs.Cores.{Answers, AnswersAll, Agrees, IsKept, Passes, made_of, new_core, told_of};
+ghost use Rattle.shared.specs.Cores.{Answers, AnswersAll, Agrees, IsKept, IsLeftOut, Passes, made_of, new_core, told_of};
 ghost use Rattle.machine_alone.specs.Alone.{IsCalm};
 ghost use Rattle.core_steps.specs.Machine.{IsLegal};
 ghost use Rattle.shared.specs.Rules.{CanGive, Makes, Took, after, answer_of, word_after, word_of};
@@ -217,7 +217,8 @@ impl<S: Whole + Drop> Space<S> {
 
     // The word as it was found; where that is 1, the seat has the machine now.
     fn take(&self, seat: &mut Seat<S, Known<S>>) -> u64
-        requires { seat.old.table_id ≡ self.now.table.shared.table_id }
+        requires here { seat.old.table_id ≡ self.now.table.shared.table_id }
+        requires live { seat.old.me.0.live ≡ true }
         ensures same { (seat.new.table_id ≡ seat.old.table_id) × (seat.new.id ≡ seat.old.id) }
         ensures took { Took S.state result seat.old.me seat.new.me }
     {
@@ -380,10 +381,11 @@ impl<S: Whole + Drop> Space<S> {
     }
 
     /// Ends the space, and hands out the machine. Its log agrees with all that this core knows, of
-    /// itself and of those that it took in. `None`: a core that was let go amid a call had it.
+    /// itself and of those that it took in. `None`: a core had it that was let go amid a call, and so is none of these.
     pub fn close(self, core: Core<S>) -> Option<S>
         requires here { core.space ≡ self.table.shared.table_id }
-        ensures { IfSome result (λ machine. Agrees S.state (S.state machine) core) }
+        ensures back { IfSome result (λ machine. Agrees S.state (S.state machine) core) }
+        ensures lost { IfNone result ((other : ℕ) × IsLeftOut S.state core other) }
     {
         let Space { table } = self;
         let mut closed = table.close_with(core.seat);

@@ -1,4 +1,4 @@
-use Rattle.std.proofs.Common.{rules, ◌≡◌, ◌≢◌, sym, ap, ◌∙◌}
+use Rattle.std.proofs.Common.{rules, ◌≡◌, ◌≢◌, sym, ◌∙◌}
 use Rattle.machine_model.specs.declared.phase.Phase.TheVariants.{Free}
 use Rattle.shared.proofs.Halting.{settled_answered, settled_free, settled_waits}
 use Rattle.shared.proofs.calling.call_settled.Goals as goal

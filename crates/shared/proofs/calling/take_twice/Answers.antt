@@ -1,6 +1,4 @@
-use Rattle.std.proofs.Common.{rules, ◌≡◌, false}
-use Rattle.vm_base.specs.Cores.{members}
-use Rattle.shared.proofs.Halting.{not_awaited, takes_past}
+use Rattle.shared.proofs.Halting.{takes_past}
 use Rattle.shared.proofs.calling.take_twice.Goals as goal
 
 pub returns : goal.returns

@@ -1,6 +1,5 @@
-use Rattle.std.proofs.Common.{refl, ◌∙◌, length-set, subst, sym, ◌<◌}
-use Rattle.machine_model.specs.World.{Made}
-use Rattle.shared.proofs.Serials.{ends_done, ends_limited, ends_no_call, ends_refused, ends_spent, made_more, made_none}
+use Rattle.std.proofs.Common.{refl, ◌∙◌, length-set}
+use Rattle.shared.proofs.Serials.{ends_limited, ends_no_call, ends_refused, ends_spent, made_more, made_none}
 use Rattle.shared.proofs.series.call_each.Goals as goal
 
 pub calls-init : goal.calls-init

@@ -1,4 +1,4 @@
-use Rattle.std.proofs.Common.{◌≡◌, ◌<◌, length}
+use Rattle.std.proofs.Common.{◌≡◌, length}
 use Rattle.core_steps.specs.Machine.{IsLegal}
 use Rattle.shared.proofs.Serials.{MadeFirst}
 use Rattle.shared.proofs.series.call_each.Given as goal

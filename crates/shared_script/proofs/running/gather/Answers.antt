@@ -53,4 +53,4 @@ cores-preserved g c = record {
 pub returns-in-Some-close-clause-ran : goal.returns-in-Some-close-clause-ran
 returns-in-Some-close-clause-ran g c =
     some_run g.S.Whole.state c.args.script.now c.args.space.table.shared.table_id c.cores.lanes.items c.cores.first _ _ c.cores.invariant.gathers
-    c.requires.cores (search rules) c.in-Some-close.ensures
+    c.requires.cores (search rules) c.in-Some-close.ensures.back

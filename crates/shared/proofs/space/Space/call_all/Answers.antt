@@ -1,4 +1,4 @@
-use Rattle.std.proofs.Common.{◌≡◌, ◌≢◌, ℕ, [], ◌∷◌, ap, arith, ◌∙◌, refl, sym, subst, map}
+use Rattle.std.proofs.Common.{◌≡◌, ◌≢◌, ℕ, [], ◌∷◌, ap, arith, ◌∙◌, refl, subst, map}
 use Rattle.shared.specs.declared.space.Calls.TheVariants as Lists
 use Rattle.shared.specs.declared.series.Series.{Series}
 use Rattle.shared.specs.declared.series.Stop.TheVariants as For
