@@ -1,2 +1,4 @@
 mod EchoLemmas
+mod LitmusLemmas
 mod PictureLemmas
+mod StateLemmas

@@ -1,5 +1,5 @@
 -- A picture of a trace, written and flushed
-use Rattle.std.proofs.Common.{◌≡◌, ℕ, ◌⊎◌, inl, inr, true, List, Option, None, Some, Result, Ok, Err}
+use Rattle.std.proofs.Common.{◌≡◌, ℕ, ◌⊎◌, inl, inr, true, List, [], Option, None, Some, Result, Ok, Err}
 use Rattle.std.proofs.Common.{IfOk, IfErr, refl, sym, ◌∙◌, subst}
 use Rattle.std.proofs.KnownBytes.{Appends-kept, Keeps-refl, Keeps-trans}
 use Rattle.std.specs.Io.KnownBytes.{Consumes, Keeps}
@@ -14,11 +14,13 @@ use Rattle.machine_model.specs.declared.event.Event.{Event}
 use Rattle.machine_model.specs.declared.event.Outcome.{Outcome}
 use Rattle.trace.specs.declared.fault.TraceFault.{TraceFault}
 use Rattle.trace.specs.declared.fault.TraceFault.TheVariants.{BadLine, TooLong, NoVmLine, Setup, NoMemory, ReadFailed, WriteFailed}
-use Rattle.trace.specs.declared.shown.Show.TheVariants.{Outcomes}
-use Rattle.trace.specs.Ends.{Ends, TellsFaults, fault_named}
+use Rattle.trace.specs.declared.shown.Show.TheVariants.{Maps, Outcomes}
+use Rattle.trace.specs.Ends.{Ends, Stops, TellsFaults, fault_named}
 use Rattle.trace.specs.Seen.{IsSeen}
 use Rattle.command_line.specs.declared.picturing.Drawing.{Drawing}
-use Rattle.command_line.specs.declared.picturing.Drawing.TheVariants.{Steps, Lives}
+use Rattle.command_line.specs.declared.picturing.Drawing.TheVariants.{Steps, Lives, State, Listing}
+use Rattle.command_line.specs.Listing.{FailsToList, Listed}
+use Rattle.core_steps.specs.declared.setup.CallLimit.{CallLimit}
 use Rattle.command_line.specs.Picture.{Fails, PictureEnds, Records, ShowsText, TextEnds, Watched, in_memory}
 
 -- what one who watches may be after each step
@@ -88,7 +90,9 @@ picture_read s t drawing text old new ended r h =
 pub picture_unread : (s t : Stream) (drawing : Drawing) (old : Option (List ℕ)) (f : TraceFault) → (f ≡ NoMemory) ⊎ (f ≡ ReadFailed)
     → Reads s t (λ input unread. input ≡ input) → Reads s t (λ input unread. PictureEnds drawing input old old (Err f))
 picture_unread s t (Steps steps) old f why r = reads_map s t _ _ r (λ xs ys k is. inl (inr why, Keeps-refl old))
+picture_unread s t State old f why r = reads_map s t _ _ r (λ xs ys k is. inl (inr why, Keeps-refl old))
 picture_unread s t Lives old f why r = reads_map s t _ _ r (λ xs ys k is. inl (inr why, Keeps-refl old))
+picture_unread s t (Listing limit) old f why r = reads_map s t _ _ r (λ xs ys k is. inl (inr why, Keeps-refl old))
 
 -- a flush keeps what was written
 shows_kept : (x : Option ℕ) (text : List ℕ) (a b c : Option (List ℕ)) → ShowsText x text a b → Keeps b c → ShowsText x text a c
@@ -105,7 +109,9 @@ text_kept Comes Faults lacks text a b c (Err f) (inr (failed, inr (r, h, front))
 pub picture_kept : (drawing : Drawing) (input : List ℕ) (a b c : Option (List ℕ)) (ended : Result (Option ℕ) TraceFault)
     → PictureEnds drawing input a b ended → Keeps b c → PictureEnds drawing input a c ended
 picture_kept (Steps steps) input a b c ended h k = text_kept _ _ _ _ a b c ended h k
+picture_kept State input a b c ended h k = text_kept _ _ _ _ a b c ended h k
 picture_kept Lives input a b c ended h k = text_kept _ _ _ _ a b c ended h k
+picture_kept (Listing limit) input a b c ended h k = text_kept _ _ _ _ a b c ended h k
 
 -- a flush that failed may have lost it
 pub text_lost : {S : Type 0} (Comes : S → Type 0) (Faults : TraceFault → Type 0) (lacks : S → Option ℕ) (text : S → List ℕ) (a b c : Option (List ℕ))
@@ -119,7 +125,37 @@ text_lost Comes Faults lacks text a b c (Err f) (inr (failed, inr (r, h, front))
 pub picture_lost : (drawing : Drawing) (input : List ℕ) (a b c : Option (List ℕ)) (ended : Result (Option ℕ) TraceFault)
     → PictureEnds drawing input a b ended → Keeps b c → PictureEnds drawing input a c (Err WriteFailed)
 picture_lost (Steps steps) input a b c ended h k = text_lost _ _ _ _ a b c ended h k
+picture_lost State input a b c ended h k = text_lost _ _ _ _ a b c ended h k
 picture_lost Lives input a b c ended h k = text_lost _ _ _ _ a b c ended h k
+picture_lost (Listing limit) input a b c ended h k = text_lost _ _ _ _ a b c ended h k
+
+-- ---- a list of mappings
+
+pub was_listed : {T : Type 0} (s t : Stream) (limit : CallLimit) (text list : List ℕ) (old new : Option (List ℕ)) (ended : Result T TraceFault) (x : T)
+    → s.coming ≡ Some text → old ≡ Some [] → new ≡ Some list → ended ≡ Ok x
+    → Reads s t (λ input unread. Ends limit Maps input unread old new ended) → Listed limit text list
+was_listed {T} s t limit text list old new ended x known first last is h = (known_read s t (λ input unread. Listed limit input list) text known
+    (reads_map s t _ _ h (λ xs ys k e. subst (λ (p : Option (List ℕ) × (Option (List ℕ) × Result T TraceFault)). Ends limit Maps xs ys p.0 p.1.0 p.1.1)
+    (λ i. (first i, (last i, is i))) e))).1
+
+pub was_not_listed : {T : Type 0} (s t : Stream) (limit : CallLimit) (text list : List ℕ) (old new : Option (List ℕ)) (ended : Result T TraceFault)
+    (f : TraceFault) → s.coming ≡ Some text → old ≡ Some [] → new ≡ Some list → ended ≡ Err f
+    → Reads s t (λ input unread. Ends limit Maps input unread old new ended) → FailsToList limit text f
+was_not_listed {T} s t limit text list old new ended f known first last is h =
+    let stops = known_read s t (λ input unread. Stops limit Maps input unread (Some []) (Some list) f) text known
+    (reads_map s t _ _ h (λ xs ys k e. subst (λ (p : Option (List ℕ) × (Option (List ℕ) × Result T TraceFault)). Ends limit Maps xs ys p.0 p.1.0 p.1.1)
+    (λ i. (first i, (last i, is i))) e)) in
+    inl (stops.0, list, stops.1)
+
+-- the fault of a replay in memory
+pub no_list_in_memory : (limit : CallLimit) (input : List ℕ) (f : TraceFault) → FailsToList limit input f → FailsToList limit input (in_memory f)
+no_list_in_memory limit input (BadLine number) h = h
+no_list_in_memory limit input (TooLong number) h = h
+no_list_in_memory limit input NoVmLine h = h
+no_list_in_memory limit input (Setup fault) h = h
+no_list_in_memory limit input ReadFailed h = inr (inl refl)
+no_list_in_memory limit input NoMemory h = h
+no_list_in_memory limit input WriteFailed h = inr (inl refl)
 
 -- what is told after a flush
 pub told_kept : {T : Type 0} (r : Result T TraceFault) (text : ReadFrom) (old new : WrittenTo) → TellsIo fault_named r text old

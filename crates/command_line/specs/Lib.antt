@@ -3,6 +3,8 @@ pub mod Help
 pub mod Input
 pub mod Litmus
 pub mod Gathered
+pub mod Listing
 pub mod Picture
+pub mod State
 pub mod Status
 pub mod Words

@@ -9,7 +9,9 @@ use Rattle.machine_model.specs.declared.event.Outcome.{Outcome}
 use Rattle.picture.specs.Canvas.{picture_text}
 use Rattle.picture.specs.Places.{view_of}
 use Rattle.command_line.specs.declared.picturing.Drawing.{Drawing}
-use Rattle.command_line.specs.declared.picturing.Drawing.TheVariants.{Steps, Lives}
+use Rattle.command_line.specs.declared.picturing.Drawing.TheVariants.{Steps, Lives, State, Listing}
+use Rattle.command_line.specs.Listing.{FailsToList, Listed, lacking_nothing}
+use Rattle.named_lists.specs.Lists.{named_list}
 use Rattle.recorder.specs.Changes.{Changes, ChangesRecorded, nothing_changed}
 use Rattle.recorder.specs.Looking.{recorded}
 use Rattle.recorder.specs.Recording.{Recording, nothing_recorded}
@@ -18,6 +20,10 @@ use Rattle.trace.specs.declared.fault.TraceFault.TheVariants.{BadLine, TooLong, 
 use Rattle.trace.specs.declared.shown.Show.TheVariants.{Outcomes}
 use Rattle.trace.specs.Ends.{Stops}
 use Rattle.trace.specs.Seen.{IsSeen}
+use Rattle.state_text.specs.Texts.{state_text}
+use Rattle.state_text.specs.Traces.{ComesTo}
+use Rattle.command_line.specs.State.{lacking_no_state}
+use Rattle.trace_io.specs.Lines.{lines_of}
 use Rattle.trace_io.specs.Sink.{AppendsFront}
 use Rattle.watched.specs.Watching.{makes}
 
@@ -59,11 +65,14 @@ TextEnds {S} Comes Faults lacks text old new (Err f) = (Faults f × Keeps old ne
 abbrev pub Watched : {S : Type 0} → (S → World → Event → Outcome → World → S → Type 0) → S → List ℕ → S → Type 0
 Watched after one input r = IsSeen after one r Outcomes input None None
 
--- beside a recorder of some steps it is the picture of what happened in them, beside one of changes that of lives
+-- beside a recorder of some steps it is the picture of what happened in them, beside one of changes that of lives; in place of a picture
+-- there may be the text of the state to which the lines lead, or a list of the mappings at the end with the names of files
 abbrev pub PictureEnds : Drawing → List ℕ → Option (List ℕ) → Option (List ℕ) → Result (Option ℕ) TraceFault → Type 0
 PictureEnds (Steps steps) input old new r = TextEnds (Watched (makes recorded) (nothing_recorded steps.first steps.last) input) (Fails input)
     (lacking steps.first) (picture_of steps.first steps.last input) old new r
+PictureEnds State input old new r = TextEnds (ComesTo (lines_of input)) (Fails input) lacking_no_state state_text old new r
 PictureEnds Lives input old new r = TextEnds (Watched ChangesRecorded nothing_changed input) (Fails input) lacking_none (lives_of input) old new r
+PictureEnds (Listing limit) input old new r = TextEnds (Listed limit input) (FailsToList limit input) lacking_nothing (named_list input) old new r
 
 -- the fault of a replay in memory: it can be read and written, so where it can't, there was no memory
 abbrev pub in_memory : TraceFault → TraceFault

@@ -116,7 +116,7 @@ JudgesOrGivesUp A any_place text out n = JudgesCalls A any_place text out n ⊎ 
 abbrev pub PicturesTrace : Drawing → ReadFrom → WrittenTo → ℕ → Type 0
 PicturesTrace drawing text out n = EndsInOneWay picture_status (λ input unread. PictureEnds drawing input) TellsFaults text out n
 
--- what the words ask for: an import reads a list besides, the others none
+-- what the words ask for: an import reads a list besides, a litmus test counts, and the others nothing
 abbrev pub DoesWork : Type 0 → (PageRange → ℕ → ℕ → Bool) → (Slots → ℕ → Type 0) → (Slots → Slots → ℕ → Type 0)
     → Work → ReadFrom → ReadFrom → WrittenTo → ℕ → Type 0
 DoesWork A parts CanFold Folds (For.Replay shows) list text out n = ReplaysTrace shows text out n
@@ -133,4 +133,4 @@ DoesWork A parts CanFold Folds (For.Audit terms) list text out n = AuditsReplies
 DoesWork A parts CanFold Folds (For.AuditAll terms) list text out n = ReviewsReplies terms text out n
 DoesWork A parts CanFold Folds (For.Overlapping overlaps) list text out n = JudgesOrGivesUp A overlaps.any_place text out n
 DoesWork A parts CanFold Folds (For.Picture drawing) list text out n = PicturesTrace drawing text out n
-DoesWork A parts CanFold Folds (For.Litmus test) list text out n = TellsTest test text out n
+DoesWork A parts CanFold Folds (For.Litmus test) list text out n = TellsTest test list text out n

@@ -17,7 +17,7 @@ use crate::keeping::{Keeping, Keeps};
 use crate::litmus_tests::{explain_litmus, litmus, test_name};
 use crate::live::{certify_live, live, live_history, share_live};
 use crate::noting::{show_request, tell_notes, tell_undecided};
-use crate::picturing::picture;
+use crate::picturing::{Drawing, picture};
 pub use crate::telling::{WordsFault, refuse_words};
 use crate::telling::{tell, tell_cause, tell_of_terminal};
 use crate::terminals::Terminals;
@@ -96,7 +96,9 @@ fn act<T: Threads + Wait + Sync, R: Runner<Global>, L: Source, S: Source, W: Sin
                 alloc, list, reader, out, errors, overlaps, order,
             ),
             Work::Picture(drawing) => picture(alloc, reader, out, errors, drawing),
-            Work::Litmus(test) => litmus(alloc, test_name(task.file), reader, out, errors, test),
+            Work::Litmus(test) => {
+                litmus(alloc, test_name(task.file), list, reader, out, errors, test)
+            }
         },
         Err(told) => Ended {
             status: tell(alloc, &told, out, errors),
@@ -140,6 +142,7 @@ fn manner_of(work: Work, coloured: bool) -> Manner {
         Work::Audit(_) | Work::AuditAll(_) | Work::Overlapping(_) => {
             (Kind::Replies, CallLimit::Usual, false)
         }
+        Work::Picture(Drawing::Listing(limit)) => (Kind::Trace, limit, limit == CallLimit::Usual),
         Work::Picture(_)
         | Work::Litmus(_)
         | Work::Import(_)

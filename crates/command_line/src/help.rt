@@ -7,7 +7,7 @@ mod texts;
 mod traces;
 
 use crate::help::texts::{AUDIT, IMPORT, LITMUS, NOTES, PICTURE, THREADS};
-use crate::help::traces::{CORES, FAULTS, LOG, MAPS, OUTCOMES, RUN, TRACE};
+use crate::help::traces::{CORES, FAULTS, LOG, MAPS, OUTCOMES, RUN, STATE, TRACE};
 
 /// What `--version` says after the program's name.
 pub const VERSION: &str = "0.1.0";
@@ -15,7 +15,8 @@ pub const VERSION: &str = "0.1.0";
 /// How the words go together.
 pub const USAGE: &str = "\
 radixvm run [--summary | [--echo] [--log]] [--long] [--explain] [FILE]
-       radixvm maps [--long] [--explain] [FILE]
+       radixvm maps [--names] [--long] [--explain] [FILE]
+       radixvm state [--explain] [FILE]
        radixvm certify [--explain] [FILE]
        radixvm live [[--certify | --history] [--summary] | --shared]
                     [--explain] [FILE]
@@ -25,7 +26,8 @@ radixvm run [--summary | [--echo] [--log]] [--long] [--explain] [FILE]
        radixvm audit [--overlapping [--given IN] [--order OUT] |
                      [--strict] [--all]] [--any-place] [--explain] [FILE]
        radixvm picture [--lives | [--from N] [--to N]] [--explain] [FILE]
-       radixvm litmus [--limit N] [--list | --witness N] [--explain] [FILE]
+       radixvm litmus [--to-c | [--limit N] [--list | --witness N |
+                      --observed COUNTS]] [--explain] [FILE]
        radixvm help [TOPIC]";
 
 /// What the program is for, its words, and where to read on.
@@ -34,7 +36,8 @@ One virtual address space with mmap, munmap and mprotect, shared by 1 to 64
 modelled cores, and replayed from a text, a trace, step by step.
 
 Usage: radixvm run [--summary | [--echo] [--log]] [--long] [--explain] [FILE]
-       radixvm maps [--long] [--explain] [FILE]
+       radixvm maps [--names] [--long] [--explain] [FILE]
+       radixvm state [--explain] [FILE]
        radixvm certify [--explain] [FILE]
        radixvm live [[--certify | --history] [--summary] | --shared]
                     [--explain] [FILE]
@@ -44,7 +47,8 @@ Usage: radixvm run [--summary | [--echo] [--log]] [--long] [--explain] [FILE]
        radixvm audit [--overlapping [--given IN] [--order OUT] |
                      [--strict] [--all]] [--any-place] [--explain] [FILE]
        radixvm picture [--lives | [--from N] [--to N]] [--explain] [FILE]
-       radixvm litmus [--limit N] [--list | --witness N] [--explain] [FILE]
+       radixvm litmus [--to-c | [--limit N] [--list | --witness N |
+                      --observed COUNTS]] [--explain] [FILE]
        radixvm help [TOPIC]
 
 Words:
@@ -57,6 +61,8 @@ Words:
   run --summary  counts calls, faults, fills, shootdowns, frames and epochs,
                  and writes the numbers on standard error (help cores)
   maps           writes the mappings at the trace's end, and nothing else
+  state          writes the state at the trace's end: each core's call, TLB and
+                 inbox
   certify        reads notes, steps with what each came to, and certifies that
                  they are a run of the machine, or refuses them
   live           runs a script, each core on a thread, and writes their notes
@@ -128,14 +134,16 @@ pub enum Topic {
     Audit,
     /// What `picture` shows.
     Picture,
+    /// What `state` writes.
+    State,
     /// What `litmus` reads and writes.
     Litmus,
 }
 
 /// The names of the topics, as the program's words have them: first those of words.
 pub const TOPICS: &[&str] = &[
-    "run", "maps", "certify", "live", "import", "audit", "picture", "litmus", "trace", "outcomes",
-    "log", "faults", "cores", "notes", "threads", "help",
+    "run", "maps", "state", "certify", "live", "import", "audit", "picture", "litmus", "trace",
+    "outcomes", "log", "faults", "cores", "notes", "threads", "help",
 ];
 
 /// The topic of this name. A word's name and that of what it reads are one topic's.
@@ -153,6 +161,7 @@ pub(crate) fn topic_named(name: &str) -> Topic {
         "import" => Topic::Import,
         "audit" => Topic::Audit,
         "picture" => Topic::Picture,
+        "state" => Topic::State,
         "litmus" => Topic::Litmus,
         _ => Topic::Overview,
     }
@@ -176,6 +185,7 @@ pub fn page(topic: Topic) -> &'static str
         Topic::Import => IMPORT,
         Topic::Audit => AUDIT,
         Topic::Picture => PICTURE,
+        Topic::State => STATE,
         Topic::Litmus => LITMUS,
     }
 }

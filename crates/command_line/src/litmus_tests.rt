@@ -1,12 +1,12 @@
 //! What the word `litmus` does.
-ghost use Rattle.std.specs.Prelude.{◌≡◌, ◌≤◌};
+ghost use Rattle.std.specs.Prelude.{◌≡◌, ◌≤◌, ◌⊎◌, true};
 ghost use Rattle.trace_io.specs.Io.{read_from, written_to};
-ghost use Rattle.command_line.specs.Litmus.{TellsTest, TestEnds, litmus_status};
+ghost use Rattle.command_line.specs.Litmus.{TellsBeside, TellsTest, TestEnds, litmus_status};
 
 use crate::ended::{Ended, Trouble};
 use crate::keeping::Kept;
 use crate::pointing::{expect, show_line, tell};
-use litmus::{RunFault, View, tell_litmus};
+use litmus::{RunFault, Wanted};
 use litmus_text::LitmusFault;
 use std::alloc::Global;
 use std::io::Write;
@@ -21,7 +21,7 @@ pub const POINTS: u64 = 1_000_000;
 #[derive(Clone, Copy, Debug, PartialEq, Eq)]
 pub struct Test {
     /// What is written of it.
-    pub view: View,
+    pub wanted: Wanted,
     /// How many points of orders are looked at, at most.
     pub limit: u64,
 }
@@ -60,23 +60,26 @@ fn refuse<E: Write>(fault: RunFault, errors: &mut E) -> Ended
     }
 }
 
-// Tells of the test with this name and text.
+// Tells of the test with this name and text, beside these counts.
 fn tell_test<W: Sink, E: Write>(
     alloc: Global,
     name: &str,
+    counts: &[u8],
     text: &[u8],
     out: &mut W,
     errors: &mut E,
     test: Test,
 ) -> Ended
-    ensures ends { TestEnds test text.now (W.contents out.old) (W.contents out.new) result.status }
+    ensures ends { TestEnds test counts.now text.now (W.contents out.old) (W.contents out.new) result.status
+        ⊎ ((result.status ≡ 3) × (W.failed out.new ≡ true)) }
     ensures within { result.status ≤ 3 }
 {
-    let told = match tell_litmus(
+    let told = match litmus::tell(
         &alloc,
         name.as_bytes(),
         text,
-        test.view,
+        counts,
+        test.wanted,
         test.limit as usize,
     ) {
         Ok(told) => told,
@@ -94,21 +97,43 @@ fn tell_test<W: Sink, E: Write>(
     }
 }
 
-/// Lists the outcomes of a litmus test with this name, prints a fault as `radixvm: ` and its text, and answers the status: 0 where all
-/// clauses hold, 1 where one fails, 3 where one is open or the limit was met, or that of the fault.
-pub(crate) fn litmus<S: Source, W: Sink, E: Write>(
+// Tells of the test that is read, beside these counts.
+fn litmus_beside<S: Source, W: Sink, E: Write>(
     alloc: Global,
     name: &str,
+    counts: &[u8],
     reader: &mut S,
     out: &mut W,
     errors: &mut E,
     test: Test,
 ) -> Ended
-    ensures does { TellsTest test (read_from S.Source reader.old reader.new) (written_to W.Sink out.old out.new) result.status }
+    ensures ends { TellsBeside test counts.now (read_from S.Source reader.old reader.new) (written_to W.Sink out.old out.new) result.status }
     ensures within { result.status ≤ 3 }
 {
     match read_all(alloc, reader) {
-        Ok(text) => tell_test(alloc, name, text.as_slice(), out, errors, test),
+        Ok(text) => tell_test(alloc, name, counts, text.as_slice(), out, errors, test),
+        Err(fault) => refuse(RunFault::Text(LitmusFault::Io(fault)), errors),
+    }
+}
+
+/// Lists the outcomes of a litmus test with this name, or what else is asked for, prints a fault as `radixvm: ` and its text, and answers the
+/// status: 0 where all clauses hold, 1 where one fails, 3 where one is open or the limit was met, or that of the fault. Of the counts that
+/// the list names: 1 where the outcome of one isn't listed, but 3 where not all outcomes are known.
+pub(crate) fn litmus<L: Source, S: Source, W: Sink, E: Write>(
+    alloc: Global,
+    name: &str,
+    list: &mut L,
+    reader: &mut S,
+    out: &mut W,
+    errors: &mut E,
+    test: Test,
+) -> Ended
+    ensures does { TellsTest test (read_from L.Source list.old list.new) (read_from S.Source reader.old reader.new)
+        (written_to W.Sink out.old out.new) result.status }
+    ensures within { result.status ≤ 3 }
+{
+    match read_all(alloc, list) {
+        Ok(counts) => litmus_beside(alloc, name, counts.as_slice(), reader, out, errors, test),
         Err(fault) => refuse(RunFault::Text(LitmusFault::Io(fault)), errors),
     }
 }
@@ -169,5 +194,13 @@ pub(crate) fn explain_litmus<E: Write>(fault: RunFault, kept: &Kept, errors: &mu
             errors,
         ),
         RunFault::NoWitness(_) => expect("an outcome that isn't (open)", errors),
+        RunFault::NoCall => expect(
+            "whole calls cC! REQ, flushes and reviews in the opening",
+            errors,
+        ),
+        RunFault::BadCount(_) => {
+            expect("COUNT: OUTCOME, an empty line, or a comment", errors);
+            tell("for example 12: c0 done; c1 1, 2", errors);
+        }
     }
 }

@@ -15,6 +15,8 @@ ghost use Rattle.trace_io.specs.Source.{Reads};
 ghost use Rattle.watched.specs.Watching.{makes};
 
 use crate::ended::{Ended, Trouble};
+use crate::listing::list_named;
+use crate::stating::draw_state;
 use core_steps::CallLimit;
 use lives::drawing::draw_lives;
 use picture::canvas::draw;
@@ -39,13 +41,17 @@ pub struct Steps {
     pub last: u64,
 }
 
-/// What a picture shows.
+/// What is shown of a trace.
 #[derive(Clone, Copy, Debug, PartialEq, Eq)]
 pub enum Drawing {
     /// What happened in these steps.
     Steps(Steps),
     /// The lives of mappings over all steps.
     Lives,
+    /// No picture, but the text of the state at the trace's end.
+    State,
+    /// No picture, but the list of the mappings at the end, with the names of files, within this limit.
+    Listing(CallLimit),
 }
 
 /// The fault of a replay in memory, which can be read and written: where it can't, there was no memory.
@@ -65,8 +71,12 @@ pub(crate) fn in_memory(fault: TraceFault) -> TraceFault
     }
 }
 
-// Replays the trace beside one who watches each step.
-fn record<X: Watch + Drop>(alloc: Global, trace: &[u8], watch: X) -> Result<X, TraceFault>
+/// Replays the trace beside one who watches each step.
+pub(crate) fn record<X: Watch + Drop>(
+    alloc: Global,
+    trace: &[u8],
+    watch: X,
+) -> Result<X, TraceFault>
     ensures ends { Records X.after watch trace.now result }
     ensures read { result ≢ Err Of.ReadFailed }
     ensures unwritten { result ≢ Err Of.WriteFailed }
@@ -260,6 +270,8 @@ fn draw_text<W: Sink, E: Write>(
     match drawing {
         Drawing::Steps(steps) => draw_steps(alloc, trace, out, errors, steps),
         Drawing::Lives => draw_all_lives(alloc, trace, out),
+        Drawing::State => draw_state(alloc, trace, out),
+        Drawing::Listing(limit) => list_named(alloc, trace, out, limit),
     }
 }
 
@@ -313,7 +325,8 @@ pub(crate) fn tell_end<E: Write>(ended: Result<Option<u64>, TraceFault>, errors:
 }
 
 /// Reads the trace into memory, replays it, and writes a picture of it, with the names of files that its comments tell: of what happened in these steps, or in the first
-/// 2,000 of them, which is then said on `errors`; or of the lives of mappings over all steps. Prints
+/// 2,000 of them, which is then said on `errors`; or of the lives of mappings over all steps; or, in
+/// place of a picture, the list of the mappings at the end. Prints
 /// a fault, of which there is no picture, as `radixvm: ` and its text, and answers the status: 0, or
 /// that of the fault. A trace that ends before the first of the steps has no picture either: that is reported, and the status is 2.
 pub fn picture<S: Source, W: Sink, E: Write>(

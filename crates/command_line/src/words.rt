@@ -2,6 +2,7 @@
 ghost use Rattle.std.specs.Prelude.{◌≡◌};
 ghost use Rattle.import_text.specs.declared.processes.Choice.{Choice};
 ghost use Rattle.command_line.specs.declared.job.Shows.{Shows};
+ghost use Rattle.command_line.specs.declared.litmus_tests.Test.{Test};
 ghost use Rattle.core_steps.specs.declared.setup.CallLimit.{CallLimit};
 
 use crate::help;
@@ -13,7 +14,7 @@ use audit_text::Terms;
 use clap::{Arg, ArgAction, ArgMatches, Command, Error, value_parser};
 use core_steps::CallLimit;
 use import_text::processes::Choice;
-use litmus::View;
+use litmus::{View, Wanted};
 use std::alloc::{AllocError, Allocator, Global};
 use trace::shown::Show;
 
@@ -57,7 +58,7 @@ pub(crate) enum Work {
     AuditAll(Terms),
     /// The judgement of calls that overlap, by an order that is searched, or given.
     Overlapping(Overlaps),
-    /// A picture of a trace, of its steps or of lives.
+    /// A picture of a trace, of its steps or of lives, or the state at its end.
     Picture(Drawing),
     /// The outcomes of a litmus test.
     Litmus(Test),
@@ -80,7 +81,7 @@ pub(crate) struct Task<'a> {
     pub(crate) work: Work,
     /// The text's file, where it isn't standard input.
     pub(crate) file: Option<&'a str>,
-    /// The file of the list of mappings that an import begins with, or of the order that an audit is given.
+    /// The file of the list of mappings that an import begins with, of the order that an audit is given, or of counts of outcomes.
     pub(crate) maps: Option<&'a str>,
     /// The file that an audit writes an order to.
     pub(crate) order: Option<&'a str>,
@@ -142,7 +143,7 @@ fn reading_from<'a>(
 
 const RUN_USAGE: &str = "radixvm run [--summary | [--echo] [--log]] [--long] [--explain] [FILE]";
 
-const MAPS_USAGE: &str = "radixvm maps [--long] [--explain] [FILE]";
+const MAPS_USAGE: &str = "radixvm maps [--names] [--long] [--explain] [FILE]";
 
 const CERTIFY_USAGE: &str = "radixvm certify [--explain] [FILE]";
 
@@ -155,7 +156,10 @@ const IMPORT_USAGE: &str =
 const AUDIT_USAGE: &str =
     "radixvm audit [--overlapping [--given IN] [--order OUT] | [--strict] [--all]] [--any-place] [--explain] [FILE]";
 
-const LITMUS_USAGE: &str = "radixvm litmus [--limit N] [--list | --witness N] [--explain] [FILE]";
+const LITMUS_USAGE: &str =
+    "radixvm litmus [--to-c | [--limit N] [--list | --witness N | --observed COUNTS]] [--explain] [FILE]";
+
+const STATE_USAGE: &str = "radixvm state [--explain] [FILE]";
 
 const PICTURE_USAGE: &str = "radixvm picture [--lives | [--from N] [--to N]] [--explain] [FILE]";
 
@@ -188,10 +192,21 @@ fn picturing<'a>(alloc: Global) -> Result<Command<'a>, AllocError> {
 // The word `litmus` with what may stand after it.
 fn litmus_word<'a>(alloc: Global) -> Result<Command<'a>, AllocError> {
     let list = flag(alloc, "list").conflicts_with("witness")?;
+    let observed = Arg::new(alloc, "observed")
+        .long("observed")
+        .conflicts_with("list")?
+        .conflicts_with("witness")?;
+    let program = flag(alloc, "to-c")
+        .conflicts_with("limit")?
+        .conflicts_with("list")?
+        .conflicts_with("witness")?
+        .conflicts_with("observed")?;
     let command = reading(alloc, "litmus", LITMUS_USAGE)?
         .arg(number(alloc, "limit"))?
         .arg(number(alloc, "witness"))?
-        .arg(list)?;
+        .arg(list)?
+        .arg(observed)?
+        .arg(program)?;
     Ok(command)
 }
 
@@ -245,7 +260,10 @@ fn living<'a>(alloc: Global) -> Result<Command<'a>, AllocError> {
 
 // The program with its words that make a machine.
 fn machine_words<'a>(alloc: Global) -> Result<Command<'a>, AllocError> {
-    let maps = reading(alloc, "maps", MAPS_USAGE)?.arg(flag(alloc, "long"))?;
+    let maps = reading(alloc, "maps", MAPS_USAGE)?
+        .arg(flag(alloc, "names"))?
+        .arg(flag(alloc, "long"))?;
+    let state = reading(alloc, "state", STATE_USAGE)?;
     let certify = reading(alloc, "certify", CERTIFY_USAGE)?;
     let live = living(alloc)?;
     let program = Command::new(alloc, "radixvm")
@@ -256,6 +274,7 @@ fn machine_words<'a>(alloc: Global) -> Result<Command<'a>, AllocError> {
         .subcommand_required(true)
         .subcommand(running(alloc)?)?
         .subcommand(maps)?
+        .subcommand(state)?
         .subcommand(certify)?
         .subcommand(live)?;
     Ok(program)
@@ -351,9 +370,30 @@ fn test_of<'a>(words: &ArgMatches<'a>) -> Test {
         None if words.get_flag("list") => View::List,
         None => View::Report,
     };
+    let wanted = if words.get_flag("to-c") {
+        Wanted::Program
+    } else if words.get_str("observed").is_some() {
+        Wanted::Observed
+    } else {
+        Wanted::Outcomes(view)
+    };
     Test {
-        view,
+        wanted,
         limit: words.get_one("limit").unwrap_or(POINTS),
+    }
+}
+
+// A litmus test, with the counts that the words name.
+fn testing<'a>(words: &ArgMatches<'a>) -> Task<'a>
+    ensures { (test : Test) × (result.work ≡ Work.Litmus test) }
+{
+    Task {
+        work: Work::Litmus(test_of(words)),
+        file: words.get_str("FILE"),
+        maps: words.get_str("observed"),
+        order: None,
+        folder: None,
+        explains: words.get_flag("explain"),
     }
 }
 
@@ -460,7 +500,11 @@ fn terms_asked<'a>(words: &ArgMatches<'a>) -> Terms {
 fn asked<'a>(name: &str, words: &ArgMatches<'a>, coloured: bool) -> Result<Task<'a>, Topic> {
     match name {
         "run" => Ok(running_asked(words, coloured)),
+        "maps" if words.get_flag("names") => {
+            Ok(working(Work::Picture(Drawing::Listing(limit_of(words))), words))
+        }
         "maps" => Ok(replaying(Show::Maps, false, words)),
+        "state" => Ok(working(Work::Picture(Drawing::State), words)),
         "certify" => Ok(working(Work::Certify, words)),
         "live" => Ok(working(living_asked(words), words)),
         "import" if words.get_flag("lackey") => Ok(working(Work::ImportAccesses, words)),
@@ -472,7 +516,7 @@ fn asked<'a>(name: &str, words: &ArgMatches<'a>, coloured: bool) -> Result<Task<
         }
         "audit" => Ok(working(Work::Audit(terms_asked(words)), words)),
         "picture" => Ok(working(Work::Picture(drawing_of(words)), words)),
-        "litmus" => Ok(working(Work::Litmus(test_of(words)), words)),
+        "litmus" => Ok(testing(words)),
         _ => Err(topic_of(words)),
     }
 }

@@ -1,3 +1,4 @@
+pub mod Kernels
 pub mod Lists
 pub mod Opening
 pub mod Tells

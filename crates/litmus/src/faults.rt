@@ -21,6 +21,12 @@ pub enum RunFault {
     /// The outcome isn't known to come about.
     #[error("outcome {0} is open, and has no witness")]
     NoWitness(u64),
+    /// The opening has a step that no call to a kernel makes.
+    #[error("the opening has a step that no call to a kernel makes")]
+    NoCall,
+    /// The line of the counts is neither a count nor a comment.
+    #[error("counts: line {0}: bad line")]
+    BadCount(u64),
 }
 
 /// Memory was refused.

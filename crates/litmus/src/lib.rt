@@ -8,4 +8,4 @@ mod opening;
 pub mod telling;
 
 pub use faults::RunFault;
-pub use telling::{Told, View, tell_litmus};
+pub use telling::{Told, View, Wanted, tell, tell_litmus, tell_observed, tell_program};

@@ -1,13 +1,14 @@
 //! The lines of an opening, as the machine is given them.
 ghost use Rattle.std.specs.Prelude.{◌≡◌, ◌++◌, IfOk, OnOk};
-ghost use Rattle.std.specs.List.{flat_map};
-ghost use Rattle.litmus.specs.Opening.{opened_of};
+ghost use Rattle.std.specs.List.{flat_map, list_all};
+ghost use Rattle.litmus.specs.Opening.{calls_of, is_called, opened_of};
 
+use combinations::Asked;
 use machine_model::Event;
 use outcomes::Opened;
 use std::alloc::Allocator;
 use trace::event_lines::event_of;
-use trace_text::Line;
+use trace_text::{Action, Line};
 use vm_base::NoMemory;
 
 // Appends what the line asks of the machine, if it is an event's.
@@ -33,4 +34,47 @@ pub(crate) fn opening_of<A: Allocator>(alloc: A, lines: &[Line]) -> Result<Vec<O
         add_line(&mut opening, *line)?;
     }
     Ok(opening)
+}
+
+// Tells whether a kernel can be asked for what the line says: it is a whole call, or a flush or a review, of which calls show nothing.
+fn is_called(line: Line) -> bool
+    ensures { result ≡ is_called line }
+{
+    match line {
+        Line::Now(..) | Line::Act(_, Action::Flush) | Line::Act(_, Action::Review) => true,
+        _ => false,
+    }
+}
+
+/// Tells whether a kernel can be asked for all that an opening does.
+pub(crate) fn are_called(lines: &[Line]) -> bool
+    ensures { result ≡ list_all is_called lines.now }
+{
+    for line in lines {
+        if !is_called(*line) {
+            return false;
+        }
+    }
+    true
+}
+
+// Appends the line's call, if it is one.
+fn add_call<A: Allocator>(calls: &mut Vec<Asked, A>, line: Line) -> Result<(), NoMemory>
+    ensures { OnOk result (calls.new.items ≡ calls.old.items ++ calls_of line) }
+{
+    if let Line::Now(core, request) = line {
+        calls.push(Asked { core, request })?;
+    }
+    Ok(())
+}
+
+/// The calls of an opening.
+pub(crate) fn calls_of<A: Allocator>(alloc: A, lines: &[Line]) -> Result<Vec<Asked, A>, NoMemory>
+    ensures { IfOk result (λ calls. calls.items ≡ flat_map calls_of lines.now) }
+{
+    let mut calls = Vec::new(alloc);
+    for line in lines {
+        add_call(&mut calls, *line)?;
+    }
+    Ok(calls)
 }

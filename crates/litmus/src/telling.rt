@@ -4,13 +4,17 @@ ghost use Rattle.trace_io.specs.Lines.{lines_of};
 ghost use Rattle.litmus_text.specs.Scripts.{read_of};
 ghost use Rattle.litmus_report.specs.Reports.{AreSorted, texts_of};
 ghost use Rattle.litmus.specs.Tells.{Fails, IsLate, IsUnshown, Lists, Reports, Shows, Tells, Witnesses, known_of, status_at};
+ghost use Rattle.litmus.specs.Kernels.{FailsAs, FailsObserved, FailsProgram, IsUncalled, IsUncounted, Judges, MakesCalls, TellsAs, TellsObserved, TellsProgram};
 ghost use Rattle.litmus.specs.declared.telling.View.TheVariants as ViewOf;
 
 use crate::faults::{NO_MEMORY, RunFault, fault_by};
 use crate::lacking::may_lack;
 use crate::lists::list_text;
-use crate::opening::opening_of;
-use litmus_report::{Named, Row, Searched, in_order, report, status_of, trace_of};
+use crate::opening::{are_called, calls_of, opening_of};
+use litmus_report::{
+    Named, Program, Row, Searched, bad_count, in_order, judge_counts, program_of, report,
+    status_of, trace_of,
+};
 use litmus_text::{LitmusFault, Script, read_litmus};
 use outcomes::{Outcome, Outcomes, list_outcomes};
 use std::alloc::Allocator;
@@ -25,6 +29,17 @@ pub enum View {
     List,
     /// A trace that is a witness of the outcome with this number, from 1.
     Witness(u64),
+}
+
+/// What is asked for of a litmus test.
+#[derive(Clone, Copy, Debug, PartialEq, Eq)]
+pub enum Wanted {
+    /// Its outcomes, or a witness of one.
+    Outcomes(View),
+    /// A program that makes its calls to a kernel, as C.
+    Program,
+    /// Whether the outcomes that another system gave are among its outcomes.
+    Observed,
 }
 
 /// What is written, and the status that tells what the clauses come to.
@@ -112,6 +127,23 @@ fn witness_text<A: Allocator + Clone>(
     }
 }
 
+// How the search for outcomes ended.
+fn searched_of<A: Allocator>(script: &Script<A>, found: &Outcomes<A>, limit: usize) -> Searched
+    ensures whole { result.whole ≡ found.now.whole }
+    ensures limit { result.limit ≡ limit }
+{
+    let lacks_frames = may_lack(
+        frames_of(script),
+        script.opening.as_slice(),
+        script.calls.as_slice(),
+    );
+    Searched {
+        whole: found.whole,
+        lacks_frames,
+        limit: limit as u64,
+    }
+}
+
 // The report of a test.
 fn report_text<A: Allocator + Clone>(
     alloc: &A,
@@ -128,16 +160,7 @@ fn report_text<A: Allocator + Clone>(
         calls: script.calls.as_slice(),
         addrs: script.finals.as_slice(),
     };
-    let lacks_frames = may_lack(
-        frames_of(script),
-        script.opening.as_slice(),
-        script.calls.as_slice(),
-    );
-    let searched = Searched {
-        whole: found.whole,
-        lacks_frames,
-        limit: limit as u64,
-    };
+    let searched = searched_of(script, found, limit);
     let text = report(
         alloc,
         name,
@@ -148,6 +171,67 @@ fn report_text<A: Allocator + Clone>(
         script.clauses.as_slice(),
     )?;
     Ok(text)
+}
+
+// The program that makes the calls of a test to a kernel.
+fn program_text<A: Allocator + Clone>(alloc: &A, script: &Script<A>) -> Result<Vec<u8, A>, RunFault>
+    ensures ok { IfOk result (λ text. MakesCalls (read_of script.now) text.items) }
+    ensures err { IfErr result (IsUncalled (read_of script.now)) }
+{
+    // A test that was read has a declaration.
+    let Some(declaration) = &script.declaration else {
+        return Err(NO_MEMORY);
+    };
+    if !are_called(script.opening.as_slice()) {
+        return Err(RunFault::NoCall);
+    }
+    let Ok(for_opening) = alloc.clone() else {
+        return Err(NO_MEMORY);
+    };
+    let Ok(opening) = calls_of(for_opening, script.opening.as_slice()) else {
+        return Err(NO_MEMORY);
+    };
+    let Ok(for_text) = alloc.clone() else {
+        return Err(NO_MEMORY);
+    };
+    let program = Program {
+        files: declaration.files(),
+        opening: opening.as_slice(),
+        calls: script.calls.as_slice(),
+        addrs: script.finals.as_slice(),
+    };
+    match program_of(for_text, &program) {
+        Ok(text) => Ok(text),
+        Err(_) => Err(NO_MEMORY),
+    }
+}
+
+// What counts come to beside the outcomes of a test.
+fn counts_told<A: Allocator + Clone>(
+    alloc: &A,
+    script: &Script<A>,
+    found: &Outcomes<A>,
+    counts: &[u8],
+    limit: usize,
+) -> Result<Told<A>, RunFault>
+    ensures ok { IfOk result (λ told. Judges (read_of script.now) found.now limit (lines_of counts.now) told.text.items told.status) }
+    ensures err { IfErr result (IsUncounted (lines_of counts.now)) }
+{
+    if let Some(number) = bad_count(counts) {
+        return Err(RunFault::BadCount(number));
+    }
+    let named = Named {
+        calls: script.calls.as_slice(),
+        addrs: script.finals.as_slice(),
+    };
+    let searched = searched_of(script, found, limit);
+    match judge_counts(alloc, &named, found.list.as_slice(), searched, counts) {
+        Ok(judged) => Ok(Told {
+            text: judged.text,
+            status: judged.status,
+        }),
+        Err(_) => Err(NO_MEMORY),
+    }
 }
 
 // What is shown of a test and its outcomes.
@@ -229,4 +313,68 @@ pub fn tell_litmus<A: Allocator + Clone + Drop>(
     };
     let status = status_at(&script, &found, view);
     Ok(Told { text, status })
+}
+
+/// Reads the text of a litmus test, and answers a program that makes its calls to a kernel, as C; the status is 0. `Err` tells the text's
+/// first fault, an opening with a step that no call to a kernel makes, or want of memory.
+pub fn tell_program<A: Allocator + Clone + Drop>(
+    alloc: &A,
+    text: &[u8],
+) -> Result<Told<A>, RunFault>
+    ensures ok { IfOk result (λ told. TellsProgram (lines_of text.now) told.text.items told.status) }
+    ensures err { IfErr result (FailsProgram (lines_of text.now)) }
+{
+    let script = match read_litmus(alloc, text) {
+        Ok(script) => script,
+        Err(fault) => return Err(RunFault::Text(fault)),
+    };
+    match program_text(alloc, &script) {
+        Ok(text) => Ok(Told { text, status: 0 }),
+        Err(fault) => Err(fault),
+    }
+}
+
+/// Reads the text of a litmus test, lists its outcomes, of at most `limit` points of merges, and answers the counts again that another
+/// system gave, each marked where its outcome isn't listed; the status is 1 where one isn't, but 3 where not all outcomes are known.
+/// `Err` tells the first line of the counts that is bad, or a fault as `tell_litmus` does.
+pub fn tell_observed<A: Allocator + Clone + Drop>(
+    alloc: &A,
+    text: &[u8],
+    counts: &[u8],
+    limit: usize,
+) -> Result<Told<A>, RunFault>
+    ensures ok { IfOk result (λ told. TellsObserved A limit (lines_of counts.now) (lines_of text.now) told.text.items told.status) }
+    ensures err { IfErr result (FailsObserved (lines_of counts.now) (lines_of text.now)) }
+{
+    let script = match read_litmus(alloc, text) {
+        Ok(script) => script,
+        Err(fault) => return Err(RunFault::Text(fault)),
+    };
+    let found = match outcomes_of(alloc, &script, limit) {
+        Ok(found) => found,
+        Err(fault) => return Err(fault),
+    };
+    match counts_told(alloc, &script, &found, counts, limit) {
+        Ok(told) => Ok(told),
+        Err(fault) => Err(fault),
+    }
+}
+
+/// Does what is asked for of the litmus test with this name and text: `tell_litmus`, `tell_program`, or `tell_observed` of these counts.
+pub fn tell<A: Allocator + Clone + Drop>(
+    alloc: &A,
+    name: &[u8],
+    text: &[u8],
+    counts: &[u8],
+    wanted: Wanted,
+    limit: usize,
+) -> Result<Told<A>, RunFault>
+    ensures ok { IfOk result (λ told. TellsAs A name.now wanted limit (lines_of counts.now) (lines_of text.now) told.text.items told.status) }
+    ensures err { IfErr result (FailsAs wanted (lines_of counts.now) (lines_of text.now)) }
+{
+    match wanted {
+        Wanted::Outcomes(view) => tell_litmus(alloc, name, text, view, limit),
+        Wanted::Program => tell_program(alloc, text),
+        Wanted::Observed => tell_observed(alloc, text, counts, limit),
+    }
 }

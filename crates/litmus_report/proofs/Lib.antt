@@ -1,3 +1,4 @@
 pub mod TextLemmas
 pub mod RowLemmas
 pub mod PartLemmas
+pub mod CountLemmas

@@ -4,6 +4,7 @@ ghost use Rattle.notes_text.specs.Written.{core_word};
 ghost use Rattle.trace_text.specs.Printing.{address_of, text_of};
 ghost use Rattle.litmus_text.specs.Scripts.{claim_of};
 ghost use Rattle.litmus_report.specs.Texts.{call_text, clause_text, counts_text, fact_text, final_text, finals_text, joint_text, lead_in, more_text, often_text};
+ghost use Rattle.litmus_report.specs.Counts.{plain_text};
 ghost use Rattle.litmus_report.specs.Texts.{observation_text, outcome_text, quantifier_text, reached_text, replies_text, terms_text, verdict_text};
 
 use crate::verdict::{Ended, Named, Verdict};
@@ -35,8 +36,8 @@ pub(crate) fn add_number<A: Allocator>(out: &mut Vec<u8, A>, number: u64) -> Res
     Ok(())
 }
 
-// Appends the address.
-fn add_address<A: Allocator>(out: &mut Vec<u8, A>, addr: u64) -> Result<(), NoMemory>
+/// Appends the address.
+pub(crate) fn add_address<A: Allocator>(out: &mut Vec<u8, A>, addr: u64) -> Result<(), NoMemory>
     ensures { OnOk result (out.new.items ≡ out.old.items ++ address_of addr) }
 {
     let digits = address_text(addr);
@@ -143,6 +144,20 @@ pub fn outcome_text<T: Ended, A: Allocator>(
     add_replies(&mut out, named.calls, outcome.replies())?;
     add_finals(&mut out, named.addrs, outcome.finals())?;
     add_text(&mut out, reached_word(outcome.is_reached()))?;
+    Ok(out)
+}
+
+/// The text of an outcome without a mark where it isn't known to come about.
+pub(crate) fn plain_text<T: Ended, A: Allocator>(
+    alloc: A,
+    named: &Named<'_>,
+    outcome: &T,
+) -> Result<Vec<u8, A>, NoMemory>
+    ensures { IfOk result (λ text. text.items ≡ plain_text named.now.calls.now named.now.addrs.now (T.outcome outcome.now)) }
+{
+    let mut out: Vec<u8, A> = Vec::new(alloc);
+    add_replies(&mut out, named.calls, outcome.replies())?;
+    add_finals(&mut out, named.addrs, outcome.finals())?;
     Ok(out)
 }
 

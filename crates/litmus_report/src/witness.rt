@@ -173,8 +173,11 @@ pub fn parts_of<A: Allocator>(alloc: A, events: &[Event]) -> Result<Vec<Part, A>
     Ok(parts)
 }
 
-// Appends the words of a request, each behind a space.
-fn add_request<A: Allocator>(out: &mut Vec<u8, A>, request: Request) -> Result<(), NoMemory>
+/// Appends the words of a request, each behind a space.
+pub(crate) fn add_request<A: Allocator>(
+    out: &mut Vec<u8, A>,
+    request: Request,
+) -> Result<(), NoMemory>
     ensures { OnOk result (out.new.items ≡ out.old.items ++ spaced (request_words request)) }
 {
     let mut text = LineText::new();

@@ -186,6 +186,7 @@ fn help_fits_into_79_columns(rt: HostRuntime) {
         Topic::Import,
         Topic::Audit,
         Topic::Picture,
+        Topic::State,
         Topic::Litmus,
     ] {
         assert!(rt; is_narrow(help::page(topic)));

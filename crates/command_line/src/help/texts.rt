@@ -347,12 +347,27 @@ many outcomes that have a run COND holds and of how many it doesn't.
 --list writes only the outcomes, one in a line, with tabs between the replies.
 --witness N writes a trace for run that has the Nth outcome.
 
+--observed COUNTS reads what another system gave: lines N: OUTCOME, how often
+each outcome came, in the words of the list, as in 12: c0 done; c1 1, 2. Empty
+lines and lines with # in front are passed over. It writes the counts again,
+with (outside) behind an outcome that isn't listed, as one with noframe or
+nomemory never is, and then exact, open or what else ends the list. The clauses
+aren't looked at.
+
+--to-c writes a C program that makes the calls to a kernel with POSIX threads,
+each core on a thread, and writes such counts. The opening has whole calls,
+flushes and reviews then; addresses are below 2 GiB, and fetch can't be made:
+
+  radixvm litmus --to-c TEST > test.c && cc -O2 -pthread test.c
+  ./a.out RUNS | radixvm litmus --observed /dev/stdin TEST
+
 Example:
   printf '%s\\n' 'vm 2 4' 'c0! mmap 0x10000 4096 rw- pfa' together \\
     'c0! store 0x10000 1' 'c1! load 0x10000' 'never c1.1 = 2' | radixvm litmus
 writes 1: c0 done; c1 0 and 2: c0 done; c1 1, exact, and that the clause holds.
 
 Status: 0 where all clauses hold, 1 where one fails, 3 where one is open or the
+limit was met. Of counts: 1 where an outcome isn't listed, but 3 where the
 limit was met. A fault of the text is told with its line, and 2 is the status;
 nothing is written then. With --explain more is told of it.
 ";

@@ -211,8 +211,47 @@ Neighbouring pages with the same protection are one line if they have no file,
 or if the second continues in the file where the first ends. After a fault no
 mappings are written.
 
+  --names    names behind each line its file, as a comment # file N NAME right
+             before the file's line in the trace tells it; import writes such
+             comments. The trace is held in memory
   --long     lets the trace ask for up to 2^40 calls
   --explain  shows under a fault the line, the word and what was expected
+";
+
+/// What `state` writes.
+pub const STATE: &str = "\
+state reads a trace, and writes the state of the machine at its end: one line
+for each thing, and none for what is empty.
+
+  radixvm state TRACE
+  head -n 12 TRACE | radixvm state    the state behind line 12
+
+  epoch E
+        the epoch of Refcache (help cores)
+  core C CALL DOES [ADDR | START-END]
+        the core has a call, mmap, munmap, mprotect, load, store or fetch, or
+        call where it has its reply; what its next step does, and the page or
+        the pages for which it does it: it
+          checks its arguments; locks, decides on or cuts; looks for room, or
+          gives back what it locked in vain; tells cores of the pages, and
+          awaits cores for them; translates, looks at, wants a frame for,
+          fills, installs; unlocks; answers
+  core C tlb ADDR frame F RIGHTS
+        the core's TLB translates the page at this address, the oldest filled
+        first. Each translation permits loads, so RIGHTS begin with r
+  core C tlb ADDR frame F RIGHTS going: posted
+  core C tlb ADDR frame F RIGHTS going: cleared
+        the same of a page that another core told this one to drop, and this
+        one hasn't acknowledged: before the first take, and between the takes,
+        when its tables have lost the page and its TLB still has it
+  core C inbox from D START-END first take due
+  core C inbox from D START-END second take due
+        core D awaits that this one drops these pages, the oldest message first
+
+Cores, and the things of each, are in this order. Tables, slots and frames
+aren't shown: see help maps and run --summary. The trace is held in memory.
+
+Status: as for run. After a fault no state is written.
 ";
 
 /// What ends a replay early.

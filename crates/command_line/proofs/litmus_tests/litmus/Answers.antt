@@ -1,14 +1,13 @@
-use Rattle.std.proofs.Common.{sym, subst, inr, refl, ◌∙◌}
-use Rattle.trace_io.proofs.LineLemmas.{reads_map}
-use Rattle.command_line.specs.Litmus.{TestEnds}
+use Rattle.std.proofs.Common.{ap, refl, Err}
+use Rattle.trace_io.specs.Io.{read_from, written_to}
+use Rattle.command_line.proofs.LitmusLemmas.{told_beside, uncounted_of}
 use Rattle.command_line.proofs.litmus_tests.litmus.Goals as goal
 
 pub returns-in-Ok-clause-does : goal.returns-in-Ok-clause-does
-returns-in-Ok-clause-does g c =
-    let old = g.W.Sink.contents c.args.out.now in
-    let new = g.W.Sink.contents c.tell_test.new.out in
-    reads_map _ _ _ _ c.in-Ok.ensures.text
-    (λ xs ys k e. subst (λ i. TestEnds c.args.test i old new c.tell_test.result.status) (c.as_slice.ensures.value ∙ sym e) c.tell_test.ensures.ends)
+returns-in-Ok-clause-does g c = told_beside _ _ _ (written_to g.W.Sink c.args.out.now c.litmus_beside.new.out) _
+    c.as_slice.result.now (rw c.as_slice.ensures.value c.in-Ok.ensures.text) c.litmus_beside.ensures.ends
 
 pub returns-in-Err-clause-does : goal.returns-in-Err-clause-does
-returns-in-Err-clause-does g c = reads_map _ _ _ _ c.in-Err.ensures.kept (λ xs ys k e. inr (inr c.refuse.ensures.status))
+returns-in-Err-clause-does g c = uncounted_of _ _ (read_from g.S.Source c.args.reader.now c.args.reader.now)
+    (written_to g.W.Sink c.args.out.now c.args.out.now) _ c.in-Err.fault c.in-Err.ensures.kept
+    (λ e. c.in-Err.ensures.read (ap Err e)) (λ e. c.in-Err.ensures.write (ap Err e)) refl refl c.refuse.ensures.status

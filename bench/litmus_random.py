@@ -1,0 +1,168 @@
+#!/usr/bin/env python3
+"""Random litmus tests of 2 to 4 cores, with frames enough. Each has to have just the outcomes that a search of all merges on a plain page map finds, where
+a store to a private page of a file may copy the page before; `radixvm litmus` has to say `exact`, and each witness has to give its outcome when it
+is run. With --live RUNS the tests have no opening, and are run on threads so often; each run is certified, and its outcome has to be among those
+that are listed.
+Usage: bench/litmus_random.py [--live RUNS] [TESTS [SEED]], 1000 and 0 where left out; RADIXVM_PROGRAM names the program."""
+import collections
+import copy
+import os
+import pathlib
+import random
+import re
+import subprocess
+import sys
+
+from all_orders import BASE, FILE, PAGE, PAGES, acts, copies, key, request, start
+from litmus import replies_of, told
+from plain_map import arguments
+
+TOP = pathlib.Path(__file__).resolve().parent.parent
+PROGRAM = os.environ.get("RADIXVM_PROGRAM", str(TOP / "crates/radixvm/out/run/radixvm"))
+HEAD = f"vm 4 256\nfile 0 rw {FILE} 195\n"
+
+
+def run(words, text):
+    return subprocess.run([PROGRAM, *words], input=text, capture_output=True, text=True, check=False)
+
+
+def placed(choose):
+    """A request that isn't an mmap at any place."""
+    while True:
+        words = request(choose)
+        if words[0] != "mmap" or "f" in words[4]:
+            return words
+
+
+def made(choose, with_opening):
+    """An opening and the lists of a test: calls of cores. A whole test has 3 to 10 calls in its lists."""
+    cores = choose.randint(2, 4)
+    opening = [(0, ["mmap", hex(BASE), str(PAGES * PAGE), "rw-", "pfa"])] if choose.random() < 0.5 else []
+    # ranges come first, and stores before loads: they wait for no other core then, which an opening of whole calls can't
+    more = [(choose.randrange(cores), placed(choose)) for _ in range(choose.randint(0, 4))]
+    opening += sorted(more, key=lambda call: {"store": 1, "load": 2, "fetch": 2}.get(call[1][0], 0))
+    most = {2: 5, 3: 3, 4: 2}[cores]
+    lists = {core: [placed(choose) for _ in range(choose.randint(1, most))] for core in range(cores)}
+    if not with_opening:
+        lists[0] = [["mmap", hex(BASE), str(PAGES * PAGE), "rw-", *choose.choice([("pfa",), ("pf", "0", "0x0"), ("sf", "0", "0x0")])]] + lists[0][: most - 1]
+        opening = []
+    return opening, lists
+
+
+def line_of(core, words):
+    return f"c{core}! {' '.join(words)}\n"
+
+
+def text_of(opening, lists):
+    front = "".join(line_of(core, words) for core, words in opening) + "together\n" if opening else ""
+    return HEAD + front + "".join(line_of(core, words) for core in lists for words in lists[core])
+
+
+def done(plain, core, words):
+    """The reply that is due, and the map after the call."""
+    after = copy.deepcopy(plain)
+    due, change = getattr(after, words[0])(core, "", *arguments(words[1:]))
+    acts(after, change)
+    return due, after
+
+
+def searched(opening, lists):
+    """All outcomes, by a search of all merges."""
+    plain = start()
+    for core, words in opening:
+        plain = done(plain, core, words)[1]
+    cores, outcomes, seen = sorted(lists), set(), set()
+    todo = [((0,) * len(cores), ((),) * len(cores), plain)]
+    while todo:
+        places, replies, plain = todo.pop()
+        if (places, replies, key(plain)) in seen:
+            continue
+        seen.add((places, replies, key(plain)))
+        if all(place == len(lists[core]) for place, core in zip(places, cores)):
+            outcomes.add(tuple(reply for own in replies for reply in own))
+        for at, core in enumerate(cores):
+            if places[at] == len(lists[core]):
+                continue
+            words = lists[core][places[at]]
+            due, after = done(plain, core, words)
+            todo.append((replaced(places, at, places[at] + 1), replaced(replies, at, replies[at] + (due,)), after))
+            if (copied := copies(plain, words)) is not None:
+                todo.append((places, replies, copied))
+    return outcomes
+
+
+def replaced(row, at, value):
+    return row[:at] + (value,) + row[at + 1 :]
+
+
+def compared(opening, lists):
+    """What is wrong with what the program tells of a test, how many outcomes there are, and how many witnesses were run."""
+    text = text_of(opening, lists)
+    out = run(["litmus"], text)
+    if out.returncode or out.stderr:
+        return [f"status {out.returncode}: {out.stderr}"], 0, 0
+    mine, _, _, lines, end = told(out.stdout)
+    wanted, wrong = searched(opening, lists), []
+    if end != ["exact"]:
+        wrong.append(f"ends with {end}")
+    if mine != wanted:
+        wrong.append(f"lacks {sorted(wanted - mine)}, has {sorted(mine - wanted)}")
+    shown = lines if len(lines) <= 8 else [*lines[:4], *lines[-4:]]
+    for values in shown:
+        number = lines.index(values) + 1
+        answers = replies_of(run(["litmus", "--witness", str(number)], text).stdout) or {}
+        got = [reply for core in sorted(lists) for reply in answers.get(core, [])[-len(lists[core]) :]]
+        if got != values:
+            wrong.append(f"witness {number}: due {values}, got {got}")
+    return wrong, len(wanted), len(shown)
+
+
+def lived(lists, runs):
+    """The same of runs of the test on threads: what is wrong, how many outcomes are listed, and how many came about."""
+    text = text_of([], lists).replace("vm 4 256", "vm 4 256 64")
+    counts = collections.Counter()
+    for _ in range(runs):
+        verdict = run(["live"], text)
+        certificate = run(["certify"], verdict.stdout)
+        if verdict.returncode or certificate.returncode:
+            return [f"not certified: {verdict.stderr}{certificate.stdout}{certificate.stderr}"], 0, 0
+        answers = replies_of_notes(verdict.stdout)
+        counts["; ".join(f"c{core} {', '.join(answers[core])}" for core in sorted(lists))] += 1
+    out = run(["litmus"], text)
+    listed = {line.split(": ", 1)[1] for line in out.stdout.split("\n") if re.match(r"\d+: ", line)}
+    wrong = [f"{outcome} came {count} times, and isn't listed" for outcome, count in counts.items() if outcome not in listed]
+    if out.returncode or out.stderr or not out.stdout.endswith("\nexact\n"):
+        wrong.append(f"status {out.returncode}: {out.stdout}{out.stderr}")
+    return wrong, len(listed), len(counts)
+
+
+def replies_of_notes(notes):
+    """The replies of each core's calls, in their order: the outcome of a note that is neither a step nor a wait."""
+    answers = collections.defaultdict(list)
+    for line in notes.split("\n"):
+        note = re.fullmatch(r"\d+ c(\d+) (?:go|frame|guess|whole|giveup)(?: \S+)? = (.*)", line)
+        if note and not re.match(r"step|idle|full|wait|stuck", note[2]):
+            answers[int(note[1])].append(note[2])
+    return answers
+
+
+def main():
+    words = sys.argv[1:]
+    runs = 0
+    if words[:1] == ["--live"]:
+        runs, words = int(words[1]), words[2:]
+    count, seed = (int(words[at]) if len(words) > at else usual for at, usual in ((0, 1000), (1, 0)))
+    bad = outcomes = shown = 0
+    for number in range(count):
+        opening, lists = made(random.Random(f"litmus {seed} {number}"), not runs)
+        wrong, some, more = lived(lists, runs) if runs else compared(opening, lists)
+        for what in wrong:
+            print(f"test {number} of seed {seed}: {what}\n{text_of(opening, lists)}")
+        bad, outcomes, shown = bad + bool(wrong), outcomes + some, shown + more
+    last = f"{shown} of them in {runs} runs of each" if runs else f"{shown} witnesses run"
+    print(f"{count} tests, {outcomes} outcomes, {last}; {bad} tests wrong")
+    sys.exit(bad != 0)
+
+
+if __name__ == "__main__":
+    main()

@@ -1,0 +1,66 @@
+//! What the word `state` does beside reading: a trace is replayed, and the state at its end is written.
+ghost use Rattle.std.specs.Prelude.{◌≡◌, ◌≢◌, ◌⊎◌, Err, IfErr, IfOk, None, true};
+ghost use Rattle.std.specs.Io.KnownBytes.{Keeps};
+ghost use Rattle.command_line.specs.Picture.{Fails, ShowsText, TextEnds};
+ghost use Rattle.command_line.specs.State.{lacking_no_state};
+ghost use Rattle.state_text.specs.Texts.{seen_text, state_text};
+ghost use Rattle.state_text.specs.Traces.{ComesTo};
+ghost use Rattle.trace.specs.declared.fault.TraceFault.TheVariants as Of;
+ghost use Rattle.trace_io.specs.Lines.{lines_of};
+ghost use Rattle.trace_io.specs.Sink.{AppendsFront};
+
+use crate::picturing::record;
+use state_text::mirror::Mirror;
+use state_text::texts::put_state;
+use std::alloc::Global;
+use trace::fault::TraceFault;
+use trace_io::sink::{Sink, write_all};
+
+// Writes what was seen, where all of it was.
+fn write_seen<W: Sink>(
+    alloc: Global,
+    mirror: &Mirror<Global>,
+    out: &mut W,
+) -> Result<Option<u64>, TraceFault>
+    ensures ok { IfOk result (λ x. (mirror.now.whole ≡ true) × (x ≡ None)
+        × ShowsText x (seen_text mirror.now) (W.contents out.old) (W.contents out.new)) }
+    ensures err { IfErr result (λ f. ((f ≡ Of.NoMemory) × Keeps (W.contents out.old) (W.contents out.new))
+        ⊎ ((f ≡ Of.WriteFailed) × (mirror.now.whole ≡ true)
+        × AppendsFront (W.contents out.old) (W.contents out.new) (seen_text mirror.now))) }
+    ensures read { result ≢ Err Of.ReadFailed }
+    ensures write { result ≡ Err Of.WriteFailed → W.failed out.new ≡ true }
+    ensures kept { (result ≡ Err Of.WriteFailed) ⊎ (W.failed out.new ≡ W.failed out.old) }
+{
+    if !mirror.is_whole() {
+        return Err(TraceFault::NoMemory);
+    }
+    let mut text = Vec::new(alloc);
+    if put_state(&mut text, mirror).is_err() {
+        return Err(TraceFault::NoMemory);
+    }
+    if write_all(out, text.as_slice()).is_err() {
+        return Err(TraceFault::WriteFailed);
+    }
+    Ok(None)
+}
+
+/// Replays the trace, and writes the state at its end. No step is lacking.
+pub(crate) fn draw_state<W: Sink>(
+    alloc: Global,
+    trace: &[u8],
+    out: &mut W,
+) -> Result<Option<u64>, TraceFault>
+    ensures ends { TextEnds (ComesTo (lines_of trace.now)) (Fails trace.now) lacking_no_state state_text
+        (W.contents out.old) (W.contents out.new) result }
+    ensures read { result ≢ Err Of.ReadFailed }
+    ensures write { result ≡ Err Of.WriteFailed → W.failed out.new ≡ true }
+    ensures kept { (result ≡ Err Of.WriteFailed) ⊎ (W.failed out.new ≡ W.failed out.old) }
+{
+    let Ok(mirror) = Mirror::new(alloc) else {
+        return Err(TraceFault::NoMemory);
+    };
+    match record(alloc, trace, mirror) {
+        Ok(mirror) => write_seen(alloc, &mirror, out),
+        Err(fault) => Err(fault),
+    }
+}

@@ -1,0 +1,87 @@
+-- A litmus test beside what another system does.
+use Rattle.std.specs.Prelude.{◌≡◌, ◌⊎◌, ℕ, true, false, List, Some, Ok, Err}
+use Rattle.std.specs.List.{flat_map, list_all}
+use Rattle.trace.specs.Declarations.{Asked}
+use Rattle.trace_io.specs.declared.fault.IoFault.TheVariants as IoOf
+use Rattle.litmus_text.specs.Scripts.{Read, litmus_of}
+use Rattle.litmus_text.specs.declared.faults.LitmusFault.{LitmusFault}
+use Rattle.litmus_text.specs.declared.faults.LitmusFault.TheVariants as TextOf
+use Rattle.litmus_report.specs.Counts.{bad_line, counts_status, counts_text}
+use Rattle.litmus_report.specs.Program.{program_text}
+use Rattle.litmus_report.specs.declared.reporting.Searched.{Searched}
+use Rattle.outcomes.specs.declared.outcome.Outcomes.{Outcomes}
+use Rattle.litmus.specs.Opening.{calls_of, is_called}
+use Rattle.litmus.specs.Tells.{Fails, IsLate, Lists, Tells, known_of}
+use Rattle.litmus.specs.declared.faults.RunFault.{RunFault}
+use Rattle.litmus.specs.declared.faults.RunFault.TheVariants as Why
+use Rattle.litmus.specs.declared.telling.Wanted.{Wanted}
+use Rattle.litmus.specs.declared.telling.Wanted.TheVariants.{Outcomes as Asks, Program, Observed}
+
+-- ---- a program that makes its calls
+
+-- The text is the program of the test's files, of its opening's calls, of its lists, and of its final addresses.
+pub record MakesCalls (r : Read) (text : List ℕ) : Type 0 where
+  pub asked : Asked
+  pub is : r.asked ≡ Some asked
+  pub called : list_all is_called r.opening ≡ true
+  pub text_is : text ≡ program_text asked.files (flat_map calls_of r.opening) r.calls r.finals
+
+-- memory was refused
+abbrev pub IsWant : RunFault → Type 0
+IsWant fault = fault ≡ Why.Text (TextOf.Io IoOf.NoMemory)
+
+-- want of memory, or an opening with a step that no call makes
+abbrev pub IsUncalled : Read → RunFault → Type 0
+IsUncalled r fault = IsWant fault ⊎ ((list_all is_called r.opening ≡ false) × (fault ≡ Why.NoCall))
+
+-- the lines are no test
+abbrev pub IsUnread : List (List ℕ) → RunFault → Type 0
+IsUnread lines fault = (f : LitmusFault) × (litmus_of lines ≡ Err f) × (fault ≡ Why.Text f)
+
+pub record TellsProgram (lines : List (List ℕ)) (text : List ℕ) (status : ℕ) : Type 0 where
+  pub test : Read
+  pub is : litmus_of lines ≡ Ok test
+  pub makes : MakesCalls test text
+  pub status_is : status ≡ 0
+
+abbrev pub FailsProgram : List (List ℕ) → RunFault → Type 0
+FailsProgram lines fault = IsWant fault ⊎ IsUnread lines fault
+    ⊎ ((test : Read) × (litmus_of lines ≡ Ok test) × (list_all is_called test.opening ≡ false) × (fault ≡ Why.NoCall))
+
+-- ---- counts that another system gave
+
+-- The counts are judged by the test's outcomes.
+pub record Judges {A : Type 0} (r : Read) (found : Outcomes A) (limit : ℕ) (counts : List (List ℕ)) (text : List ℕ) (status : ℕ) : Type 0
+  where
+    pub searched : Searched
+    pub whole : searched.whole ≡ found.whole
+    pub limit_is : searched.limit ≡ limit
+    pub text_is : text ≡ counts_text (known_of r found) searched counts
+    pub status_is : status ≡ counts_status (known_of r found) found.whole counts
+
+-- want of memory, or a line that is no count
+abbrev pub IsUncounted : List (List ℕ) → RunFault → Type 0
+IsUncounted counts fault = IsWant fault ⊎ ((number : ℕ) × (bad_line 1 counts ≡ Some number) × (fault ≡ Why.BadCount number))
+
+pub record TellsObserved (A : Type 0) (limit : ℕ) (counts lines : List (List ℕ)) (text : List ℕ) (status : ℕ) : Type 0 where
+  pub test : Read
+  pub is : litmus_of lines ≡ Ok test
+  pub found : Outcomes A
+  pub lists : Lists test found
+  pub judges : Judges test found limit counts text status
+
+abbrev pub FailsObserved : List (List ℕ) → List (List ℕ) → RunFault → Type 0
+FailsObserved counts lines fault = IsLate fault ⊎ IsUnread lines fault
+    ⊎ ((number : ℕ) × (bad_line 1 counts ≡ Some number) × (fault ≡ Why.BadCount number))
+
+-- ---- what is asked for
+
+abbrev pub TellsAs : Type 0 → List ℕ → Wanted → ℕ → List (List ℕ) → List (List ℕ) → List ℕ → ℕ → Type 0
+TellsAs A name (Asks view) limit counts lines text status = Tells A name view limit lines text status
+TellsAs A name Program limit counts lines text status = TellsProgram lines text status
+TellsAs A name Observed limit counts lines text status = TellsObserved A limit counts lines text status
+
+abbrev pub FailsAs : Wanted → List (List ℕ) → List (List ℕ) → RunFault → Type 0
+FailsAs (Asks view) counts lines fault = Fails view lines fault
+FailsAs Program counts lines fault = FailsProgram lines fault
+FailsAs Observed counts lines fault = FailsObserved counts lines fault

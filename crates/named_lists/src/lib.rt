@@ -1,0 +1,4 @@
+//! Lists of mappings with the names of the files that back them.
+#![tactic(auto)]
+
+pub mod lists;

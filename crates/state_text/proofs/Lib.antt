@@ -1,0 +1,9 @@
+pub mod Cached
+pub mod Doing
+pub mod Entries
+pub mod Joined
+pub mod Lines
+pub mod Steps
+pub mod Told
+pub mod Traces
+pub mod Watched

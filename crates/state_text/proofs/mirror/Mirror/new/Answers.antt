@@ -1,0 +1,13 @@
+use Rattle.std.proofs.Common.{refl}
+use Rattle.mmu.proofs.Empty.{get_or-replicate_default}
+use Rattle.machine_model.specs.declared.phase.Phase.TheVariants.{Free}
+use Rattle.state_text.proofs.mirror.Mirror.new.Goals as goal
+
+pub returns : goal.returns
+returns g c = record {
+  whole = refl;
+  holds = c.in_ok-cores.ensures.empty;
+  phases = λ k. get_or-replicate_default 64 Free k;
+  epoch = refl;
+  full = refl;
+}

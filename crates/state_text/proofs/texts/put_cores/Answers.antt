@@ -1,0 +1,27 @@
+use Rattle.std.proofs.Common.{ap, get_or, ◌∙◌, ◌++◌, append-nil, arith, sym}
+use Rattle.machine_model.specs.declared.phase.Phase.TheVariants.{Free}
+use Rattle.state_text.specs.Held.{nothing_held}
+use Rattle.state_text.specs.Texts.{core_text, seen_core}
+use Rattle.state_text.proofs.Lines.{cores_more, cores_none, element}
+use Rattle.state_text.proofs.texts.put_cores.Goals as goal
+
+pub cores-init : goal.cores-init
+cores-init c = record {
+  written = sym (ap (λ l. c.args.out.now.items ++ l) (cores_none (seen_core c.args.phases.now c.args.cores.now)) ∙ append-nil c.args.out.now.items);
+}
+
+pub cores-preserved : goal.cores-preserved
+cores-preserved c =
+    let n = c.cores.index in
+    let many = c.requires.phases in
+    let all = c.requires.cores in
+    let below = c.cores-test.true in
+    record {
+      written = cores_more (seen_core c.args.phases.now c.args.cores.now) n c.args.out.now.items c.cores.out.items c.put_core.new.out.items c.cores.invariant.written
+          (c.in_ok-put_core.ensures
+          ∙ ap (λ k. c.cores.out.items ++ core_text k c.index-phases-at.result c.index-cores-at.result) c.new.ensures
+          ∙ ap (λ p. c.cores.out.items ++ core_text n p c.index-cores-at.result)
+          (element c.args.phases.now n c.from-at.result c.index-phases-at.result Free c.from-at.ensures c.index-phases-at.is (omega (arith, many, below)))
+          ∙ ap (λ h. c.cores.out.items ++ core_text n (get_or c.args.phases.now n Free) h)
+          (element c.args.cores.now n c.from-at.result c.index-cores-at.result nothing_held c.from-at.ensures c.index-cores-at.is (omega (arith, all, below))));
+    }

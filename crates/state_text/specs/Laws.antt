@@ -1,0 +1,24 @@
+-- What one who watches each step knows
+use Rattle.std.specs.Prelude.{◌≡◌, true, List}
+use Rattle.machine_model.specs.World.{World, Made, new_world}
+use Rattle.machine_model.specs.declared.event.Event.{Event}
+use Rattle.machine_model.specs.declared.event.Outcome.{Outcome}
+use Rattle.slot_lock.specs.Slots.{Slots}
+use Rattle.watched.specs.Watching.{Watches}
+use Rattle.state_text.specs.Shown.{Follows, IsNothing, IsShown, Seen}
+use Rattle.state_text.specs.Texts.{seen_text, state_text}
+
+-- where all was taken in, that is what the state has
+abbrev pub Knows : Seen → World → Type 0
+Knows r w = r.whole ≡ true → IsShown r w
+
+abbrev pub AllWatchersKnow : Type 0
+AllWatchersKnow =
+    (one : Seen) (w : World) (es : List Event) (os : List Outcome) (v : World) (other : Seen)
+    → Watches Follows one w es os v other → Knows one w → Knows other v
+
+abbrev pub AllOpeningsAreKnown : Type 0
+AllOpeningsAreKnown = (r : Seen) (made : Made) (slots : Slots) → IsNothing r → Knows r (new_world made slots)
+
+abbrev pub AllTextsAreTheStates : Type 0
+AllTextsAreTheStates = (r : Seen) (w : World) → IsShown r w → seen_text r ≡ state_text w

@@ -1,0 +1,60 @@
+-- What is shown of a state, and what one who watches its steps knows of it
+use Rattle.std.specs.Prelude.{◌≡◌, ℕ, ◌<◌, Bool, true, List, cond, nat_lt, length, slice_index_or}
+use Rattle.machine_model.specs.World.{World}
+use Rattle.machine_model.specs.declared.event.Event.{Event}
+use Rattle.machine_model.specs.declared.event.Outcome.{Outcome}
+use Rattle.machine_model.specs.declared.event.Outcome.TheVariants.{Stepped}
+use Rattle.machine_model.specs.declared.phase.Phase.{Phase}
+use Rattle.machine_model.specs.declared.phase.Phase.TheVariants.{Free}
+use Rattle.state_text.specs.declared.deed.Deed.{Deed}
+use Rattle.state_text.specs.Deeds.{deed_of}
+use Rattle.state_text.specs.Held.{Holds, done, held, nothing_held}
+
+-- a core's TLB and inbox in a state
+abbrev pub holds_of : World → ℕ → Holds
+holds_of w c = record { tlb = w.hardware.tlb c; inbox = w.hardware.inbox c }
+
+-- where a core's call stands; a core that isn't there has none
+abbrev pub phase_in : World → ℕ → Phase
+phase_in w c = cond (nat_lt c w.made.cores) (w.calls.phase c) Free
+
+-- ---- one who watches
+
+-- whether all was taken in, the epoch, and of each of 64 cores where its call stands and what it holds
+pub record Seen : Type 0 where
+  pub whole : Bool
+  pub epoch : ℕ
+  pub phases : List Phase
+  pub cores : List Holds
+
+abbrev pub phase_at : Seen → ℕ → Phase
+phase_at r c = slice_index_or r.phases c Free
+
+-- one who hasn't seen a step
+pub record IsNothing (r : Seen) : Type 0 where
+  pub whole : r.whole ≡ true
+  pub holds : (c : ℕ) → held r.cores c ≡ nothing_held
+  pub phases : (c : ℕ) → phase_at r c ≡ Free
+  pub epoch : r.epoch ≡ 0
+  pub full : length r.phases ≡ 64
+
+-- that is what the state has
+pub record IsShown (r : Seen) (w : World) : Type 0 where
+  pub holds : (c : ℕ) → c < 64 → held r.cores c ≡ holds_of w c
+  pub phases : (c : ℕ) → c < 64 → phase_at r c ≡ phase_in w c
+  pub epoch : r.epoch ≡ w.memory.counts.epoch
+
+-- ---- a step
+
+-- only a plain step does something
+abbrev pub after_step : Outcome → Deed → (ℕ → Holds) → ℕ → Holds
+after_step Stepped deed h = done deed h
+after_step _ deed h = h
+
+-- what one who watches is after the step, where all was taken in
+pub record Follows (one : Seen) (w : World) (e : Event) (o : Outcome) (v : World) (other : Seen) : Type 0 where
+  pub whole : other.whole ≡ true → one.whole ≡ true
+  pub holds : other.whole ≡ true → (c : ℕ) → c < 64
+      → held other.cores c ≡ after_step o (deed_of w e) (held one.cores) c
+  pub phases : (c : ℕ) → c < 64 → phase_at other c ≡ phase_in v c
+  pub epoch : other.epoch ≡ v.memory.counts.epoch

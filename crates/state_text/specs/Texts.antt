@@ -1,0 +1,100 @@
+-- The text of a state
+use Rattle.std.specs.Prelude.{ℕ, zero, suc, Bool, true, false, List, [], ◌∷◌, ◌++◌, cond, codes, decimal, slice_index_or}
+use Rattle.std.specs.List.{concat, flat_map}
+use Rattle.vm_base.specs.declared.rights.Prot.{Prot}
+use Rattle.vm_base.specs.Functions.{has}
+use Rattle.mmu.specs.declared.entry.Translation.{Translation}
+use Rattle.mmu.specs.declared.tlb.TlbEntry.{TlbEntry}
+use Rattle.shootdown.specs.declared.message.Message.{Message}
+use Rattle.trace_text.specs.Lists.{start_of}
+use Rattle.trace_text.specs.Spelling.{rights_text}
+use Rattle.machine_model.specs.World.{World}
+use Rattle.machine_model.specs.declared.phase.Phase.{Phase}
+use Rattle.machine_model.specs.declared.phase.Phase.TheVariants.{Free}
+use Rattle.state_text.specs.declared.words.Spot.{Spot}
+use Rattle.state_text.specs.declared.words.Spot.TheVariants.{Nowhere, Page, Pages}
+use Rattle.state_text.specs.Held.{Holds, held}
+use Rattle.state_text.specs.Shown.{Seen, holds_of, phase_in}
+use Rattle.state_text.specs.Words.{call_word, doing_word, spot_of}
+
+-- ---- a call
+
+-- and the end of its line
+unfoldable pub spot_text : Spot → List ℕ
+spot_text Nowhere = codes "\n"
+spot_text (Page page) = concat (codes " " ∷ start_of page ∷ codes "\n" ∷ [])
+spot_text (Pages range) =
+    concat (codes " " ∷ start_of range.first ∷ codes "-" ∷ start_of range.end ∷ codes "\n" ∷ [])
+
+unfoldable pub call_line : ℕ → Phase → List ℕ
+call_line c phase =
+    concat (codes "core " ∷ decimal c ∷ codes " " ∷ call_word phase ∷ doing_word phase ∷ [])
+    ++ spot_text (spot_of phase)
+
+-- a core without a call has no line
+abbrev pub call_text : ℕ → Phase → List ℕ
+call_text c Free = []
+call_text c phase = call_line c phase
+
+-- ---- a TLB
+
+-- each translation permits loads
+abbrev pub rights_of : Translation → Prot
+rights_of t = record { read = true; write = t.write; exec = t.exec }
+
+-- How far a message has come that takes a page away: it was posted, or the tables were cleared and
+-- the TLB still has the page. And the end of the line.
+abbrev pub gone_word : Bool → List ℕ
+gone_word true = codes " going: cleared\n"
+gone_word false = codes " going: posted\n"
+
+-- the oldest message that has the page says so
+abbrev pub going_word : List Message → ℕ → List ℕ
+going_word [] page = codes "\n"
+going_word (m ∷ ms) page = cond (has m.range page) (gone_word m.is_cleared) (going_word ms page)
+
+-- a translation of a core whose inbox is this
+unfoldable pub tlb_line : ℕ → List Message → TlbEntry → List ℕ
+tlb_line c inbox e = concat (codes "core " ∷ decimal c ∷ codes " tlb " ∷ start_of e.page
+    ∷ codes " frame " ∷ decimal e.translation.frame ∷ codes " " ∷ rights_text (rights_of e.translation)
+    ∷ going_word inbox e.page ∷ [])
+
+-- ---- an inbox
+
+-- which take is due
+abbrev pub message_word : Bool → List ℕ
+message_word true = codes " second take due\n"
+message_word false = codes " first take due\n"
+
+unfoldable pub message_line : ℕ → Message → List ℕ
+message_line c m = concat (codes "core " ∷ decimal c ∷ codes " inbox from " ∷ decimal m.from
+    ∷ codes " " ∷ start_of m.range.first ∷ codes "-" ∷ start_of m.range.end
+    ∷ message_word m.is_cleared ∷ [])
+
+-- ---- a core, and all
+
+-- its call, its TLB in order of filling, and its inbox, the oldest message first
+abbrev pub core_text : ℕ → Phase → Holds → List ℕ
+core_text c phase h =
+    call_text c phase ++ flat_map (tlb_line c h.inbox) h.tlb ++ flat_map (message_line c) h.inbox
+
+-- of the cores below a number
+unfoldable pub cores_text : (ℕ → List ℕ) → ℕ → List ℕ
+cores_text text zero = []
+cores_text text (suc n) = cores_text text n ++ text n
+
+unfoldable pub epoch_line : ℕ → List ℕ
+epoch_line epoch = concat (codes "epoch " ∷ decimal epoch ∷ codes "\n" ∷ [])
+
+-- the text of a state
+abbrev pub state_text : World → List ℕ
+state_text w = epoch_line w.memory.counts.epoch
+    ++ cores_text (λ c. core_text c (phase_in w c) (holds_of w c)) 64
+
+-- ---- the same of what was seen of it
+
+abbrev pub seen_core : List Phase → List Holds → ℕ → List ℕ
+seen_core phases cores c = core_text c (slice_index_or phases c Free) (held cores c)
+
+abbrev pub seen_text : Seen → List ℕ
+seen_text r = epoch_line r.epoch ++ cores_text (seen_core r.phases r.cores) 64

@@ -1,0 +1,99 @@
+//! One who watches a machine's steps, and knows at each moment what its cores do and hold.
+ghost use Rattle.std.specs.Prelude.{◌≡◌, ℕ, IfOk, length};
+ghost use Rattle.state_text.specs.Held.{held, nothing_held};
+ghost use Rattle.state_text.specs.Shown.{IsNothing, Seen};
+
+use crate::held::Held;
+use machine_model::Phase;
+use std::alloc::{AllocError, Allocator};
+use std::marker::Model;
+
+/// The most cores.
+pub const CORES: usize = 64;
+
+/// What the cores of a machine do and hold. A clause sees it as `Seen`.
+#[derive(Drop)]
+pub struct Mirror<A: Allocator> {
+    /// Whether all was taken in so far: there was room for each message.
+    pub(crate) whole: bool,
+    /// The epoch.
+    pub(crate) epoch: u64,
+    /// Where the calls of the cores stand.
+    pub(crate) phases: [Phase; CORES],
+    /// What the cores hold.
+    pub(crate) cores: Vec<Held, A>,
+}
+
+impl<A: Allocator> Model for Mirror<A> {
+    ghost Value = { Seen };
+
+    ghost view = { λ m. record {
+      whole = m.whole;
+      epoch = m.epoch;
+      phases = m.phases;
+      cores = m.cores.items;
+    } };
+
+    ghost invariant = { λ m. length m.cores.items ≡ 64 };
+}
+
+// This many cores that hold nothing.
+#[tactic(auto, using(crate::proofs::Lines::held_pushed))]
+fn empty_cores<A: Allocator>(alloc: A) -> Result<Vec<Held, A>, AllocError>
+    ensures full { IfOk result (λ cores. length cores.items ≡ 64) }
+    ensures empty { IfOk result (λ cores. (c : ℕ) → held cores.items c ≡ nothing_held) }
+{
+    let mut cores = Vec::with_capacity(alloc, CORES)?;
+    'cores: for _core in 0..64u8 {
+        cores.push_reserved(Held::new());
+    }
+    Ok(cores)
+}
+
+impl<A: Allocator> Mirror<A> {
+    ghost use Rattle.std.specs.Prelude.{◌≡◌, ◌<◌, IfOk, length, slice_index_or};
+    ghost use Rattle.state_text.specs.Shown.{IsNothing};
+
+    /// One who hasn't seen a step yet. An error is a refusal of memory.
+    pub fn new(alloc: A) -> Result<Mirror<A>, AllocError>
+        ensures { IfOk result IsNothing }
+    {
+        let cores = empty_cores(alloc)?;
+        Ok(Mirror {
+            whole: true,
+            epoch: 0,
+            phases: [Phase::Free; CORES],
+            cores,
+        })
+    }
+
+    /// Whether all was taken in.
+    pub fn is_whole(&self) -> bool
+        ensures { result ≡ self.now.whole }
+    {
+        self.whole
+    }
+
+    /// The epoch.
+    pub fn epoch(&self) -> u64
+        ensures { result ≡ self.now.epoch }
+    {
+        self.epoch
+    }
+
+    /// Where the calls of the cores stand.
+    pub fn phases(&self) -> &[Phase]
+        ensures value { result.now ≡ self.now.phases }
+        ensures full { length result.now ≡ 64 }
+    {
+        &self.phases
+    }
+
+    /// What the cores hold.
+    pub fn cores(&self) -> &[Held]
+        ensures value { result.now ≡ self.now.cores }
+        ensures full { length result.now ≡ 64 }
+    {
+        self.cores.as_slice()
+    }
+}

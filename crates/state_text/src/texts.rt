@@ -1,0 +1,242 @@
+//! The text of a state.
+ghost use Rattle.std.specs.Prelude.{◌≡◌, ◌+◌, ◌≤◌, ◌++◌, OnOk, length};
+ghost use Rattle.std.specs.List.{flat_map};
+ghost use Rattle.state_text.specs.Texts.{call_line, call_text, core_text, cores_text, epoch_line, going_word, gone_word, message_line, message_word, rights_of, seen_core, seen_text, spot_text, tlb_line};
+
+use crate::held::Held;
+use crate::mirror::Mirror;
+use crate::pieces::{Piece, put, put_all};
+use crate::words::{Spot, call_word, doing_word, spot_of};
+use machine_model::Phase;
+use mmu::entry::Translation;
+use mmu::tlb::TlbEntry;
+use shootdown::Message;
+use std::alloc::{AllocError, Allocator};
+use vm_base::{CoreId, Prot};
+
+// Which take of a message is due.
+fn message_word(is_cleared: bool) -> &'static str
+    ensures { result.now ≡ message_word is_cleared }
+{
+    if is_cleared {
+        " second take due\n"
+    } else {
+        " first take due\n"
+    }
+}
+
+// How far a message has come that is to take a page away: said behind the page's translation.
+fn gone_word(is_cleared: bool) -> &'static str
+    ensures { result.now ≡ gone_word is_cleared }
+{
+    if is_cleared {
+        " going: cleared\n"
+    } else {
+        " going: posted\n"
+    }
+}
+
+// Whether a translation of the page is going: a message of the inbox has the page, and the oldest such says how far it has come.
+fn going_word(inbox: &[Message], page: u64) -> &'static str
+    ensures { result.now ≡ going_word inbox.now page }
+{
+    let mut at = 0;
+    'messages: while at < inbox.len() {
+        if inbox[at].range.contains(page) {
+            return gone_word(inbox[at].is_cleared);
+        }
+        at += 1;
+    }
+    "\n"
+}
+
+// The rights of a translation: each permits loads.
+fn rights_of(translation: Translation) -> Prot
+    ensures { result ≡ rights_of translation }
+{
+    Prot {
+        read: true,
+        write: translation.write,
+        exec: translation.exec,
+    }
+}
+
+// Appends the line of a translation.
+fn put_entry(
+    out: &mut Vec<u8>,
+    core: CoreId,
+    inbox: &[Message],
+    entry: &TlbEntry,
+) -> Result<(), AllocError>
+    ensures { OnOk result (out.new.items ≡ out.old.items ++ tlb_line core inbox.now entry.now) }
+{
+    let rights = rights_of(entry.translation);
+    let frame = u64::from(entry.translation.frame);
+    let going = going_word(inbox, entry.page);
+    put_all(
+        out,
+        &[
+            Piece::Words("core "),
+            Piece::Core(core),
+            Piece::Words(" tlb "),
+            Piece::Start(entry.page),
+            Piece::Words(" frame "),
+            Piece::Number(frame),
+            Piece::Words(" "),
+            Piece::Rights(rights),
+            Piece::Words(going),
+        ],
+    )
+}
+
+// Appends the lines of a TLB.
+fn put_tlb(out: &mut Vec<u8>, core: CoreId, held: &Held) -> Result<(), AllocError>
+    ensures { OnOk result (out.new.items ≡ out.old.items ++ flat_map (tlb_line core held.now.inbox) held.now.tlb) }
+{
+    put_entries(out, core, held.inbox(), held.tlb())
+}
+
+// Appends the lines of translations.
+fn put_entries(
+    out: &mut Vec<u8>,
+    core: CoreId,
+    inbox: &[Message],
+    entries: &[TlbEntry],
+) -> Result<(), AllocError>
+    ensures { OnOk result (out.new.items ≡ out.old.items ++ flat_map (tlb_line core inbox.now) entries.now) }
+{
+    let mut at = 0;
+    'entries: while at < entries.len() {
+        put_entry(out, core, inbox, &entries[at])?;
+        at += 1;
+    }
+    Ok(())
+}
+
+// Appends the line of a message.
+fn put_message(out: &mut Vec<u8>, core: CoreId, message: &Message) -> Result<(), AllocError>
+    ensures { OnOk result (out.new.items ≡ out.old.items ++ message_line core message.now) }
+{
+    let due = message_word(message.is_cleared);
+    put_all(
+        out,
+        &[
+            Piece::Words("core "),
+            Piece::Core(core),
+            Piece::Words(" inbox from "),
+            Piece::Core(message.from),
+            Piece::Words(" "),
+            Piece::Start(message.range.first),
+            Piece::Words("-"),
+            Piece::Start(message.range.end),
+            Piece::Words(due),
+        ],
+    )
+}
+
+// Appends the lines of an inbox.
+fn put_inbox(out: &mut Vec<u8>, core: CoreId, inbox: &[Message]) -> Result<(), AllocError>
+    ensures { OnOk result (out.new.items ≡ out.old.items ++ flat_map (message_line core) inbox.now) }
+{
+    let mut at = 0;
+    'messages: while at < inbox.len() {
+        put_message(out, core, &inbox[at])?;
+        at += 1;
+    }
+    Ok(())
+}
+
+// Appends where a call is at work, and the end of the line.
+#[tactic(auto, unfolding(crate::specs::Texts::spot_text))]
+fn put_spot(out: &mut Vec<u8>, spot: &Spot) -> Result<(), AllocError>
+    ensures { OnOk result (out.new.items ≡ out.old.items ++ spot_text spot.now) }
+{
+    match spot {
+        Spot::Nowhere => put(out, "\n"),
+        Spot::Page(page) => put_all(
+            out,
+            &[Piece::Words(" "), Piece::Start(*page), Piece::Words("\n")],
+        ),
+        Spot::Pages(range) => put_all(
+            out,
+            &[
+                Piece::Words(" "),
+                Piece::Start(range.first),
+                Piece::Words("-"),
+                Piece::Start(range.end),
+                Piece::Words("\n"),
+            ],
+        ),
+    }
+}
+
+// Appends the line of a call.
+fn put_phase(out: &mut Vec<u8>, core: CoreId, phase: &Phase) -> Result<(), AllocError>
+    ensures { OnOk result (out.new.items ≡ out.old.items ++ call_line core phase.now) }
+{
+    let call = call_word(phase);
+    let doing = doing_word(phase);
+    let spot = spot_of(phase);
+    put_all(
+        out,
+        &[
+            Piece::Words("core "),
+            Piece::Core(core),
+            Piece::Words(" "),
+            Piece::Words(call),
+            Piece::Words(doing),
+        ],
+    )?;
+    put_spot(out, &spot)?;
+    Ok(())
+}
+
+// Appends the line of a call, if the core has one.
+fn put_call(out: &mut Vec<u8>, core: CoreId, phase: &Phase) -> Result<(), AllocError>
+    ensures { OnOk result (out.new.items ≡ out.old.items ++ call_text core phase.now) }
+{
+    if let Phase::Free = phase {
+        return Ok(());
+    }
+    put_phase(out, core, phase)
+}
+
+// Appends the lines of a core.
+fn put_core(out: &mut Vec<u8>, core: CoreId, phase: &Phase, held: &Held) -> Result<(), AllocError>
+    ensures { OnOk result (out.new.items ≡ out.old.items ++ core_text core phase.now held.now) }
+{
+    put_call(out, core, phase)?;
+    put_tlb(out, core, held)?;
+    put_inbox(out, core, held.inbox())?;
+    Ok(())
+}
+
+// Appends the lines of all cores.
+fn put_cores(out: &mut Vec<u8>, phases: &[Phase], cores: &[Held]) -> Result<(), AllocError>
+    requires phases { length phases.now ≡ 64 }
+    requires cores { length cores.now ≡ 64 }
+    ensures { OnOk result (out.new.items ≡ out.old.items ++ cores_text (seen_core phases.now cores.now) 64) }
+{
+    'cores: for index in 0..64u8 {
+        let at = usize::from(index);
+        put_core(out, CoreId::new(index), &phases[at], &cores[at])?;
+    }
+    Ok(())
+}
+
+/// Appends the text of what was seen: the epoch, and of each core its call, its TLB in order of filling, and its inbox.
+pub fn put_state<A: Allocator>(out: &mut Vec<u8>, mirror: &Mirror<A>) -> Result<(), AllocError>
+    ensures { OnOk result (out.new.items ≡ out.old.items ++ seen_text mirror.now) }
+{
+    let epoch = mirror.epoch();
+    put_all(
+        out,
+        &[
+            Piece::Words("epoch "),
+            Piece::Number(epoch),
+            Piece::Words("\n"),
+        ],
+    )?;
+    put_cores(out, mirror.phases(), mirror.cores())?;
+    Ok(())
+}

@@ -1,0 +1,143 @@
+//! A mirror watches each step.
+ghost use Rattle.std.specs.Prelude.{◌≡◌, ℕ, ◌<◌, length, slice_index_or, true};
+ghost use Rattle.vm_base.specs.Functions.{put};
+ghost use Rattle.core_steps.specs.Machine.{state};
+ghost use Rattle.machine_model.specs.declared.phase.Phase.TheVariants.{Free};
+ghost use Rattle.state_text.specs.Held.{done, held};
+ghost use Rattle.state_text.specs.Shown.{Follows, after_step, phase_at, phase_in};
+
+use crate::deed::Deed;
+use crate::held::{Held, act_at, tell_all};
+use crate::mirror::{CORES, Mirror};
+use crate::reading::deed_of;
+use core_steps::{Ledger, Machine};
+use machine_model::{Event, Outcome, Phase};
+use slot_lock::SlotMap;
+use std::alloc::Allocator;
+use vm_base::{CoreId, NoMemory};
+use watched::Watch;
+
+// What the deed does to all; false where there was no room for a message.
+fn do_deed<A: Allocator>(all: &mut Vec<Held, A>, deed: &Deed) -> bool
+    requires { length all.old.items ≡ 64 }
+    ensures cores { length all.new.items ≡ length all.old.items }
+    ensures done { result ≡ true → (c : ℕ) → c < 64 → held all.new.items c ≡ done deed.now (held all.old.items) c }
+{
+    match deed {
+        Deed::Nothing => true,
+        Deed::Translate { core, .. } => {
+            act_at(all, *core, deed);
+            true
+        }
+        Deed::Take(core) => {
+            act_at(all, *core, deed);
+            true
+        }
+        Deed::Walk { core, .. } => {
+            act_at(all, *core, deed);
+            true
+        }
+        Deed::Evict { core, .. } => {
+            act_at(all, *core, deed);
+            true
+        }
+        Deed::Shoot { core, set, range } => {
+            act_at(all, *core, deed);
+            tell_all(all, *core, set.without(*core), *range)
+        }
+    }
+}
+
+// What a step does to all by its deed; false where there was no room for a message.
+fn do_step<A: Allocator>(all: &mut Vec<Held, A>, deed: &Deed, outcome: &Outcome) -> bool
+    requires { length all.old.items ≡ 64 }
+    ensures cores { length all.new.items ≡ length all.old.items }
+    ensures done { result ≡ true → (c : ℕ) → c < 64
+        → held all.new.items c ≡ after_step outcome.now deed.now (held all.old.items) c }
+{
+    match outcome {
+        Outcome::Stepped => do_deed(all, deed),
+        Outcome::Wait(_) | Outcome::Idle | Outcome::Answered(_) | Outcome::Full => true,
+    }
+}
+
+// Whether both hold.
+fn both(one: bool, other: bool) -> bool
+    ensures one { result ≡ true → one ≡ true }
+    ensures other { result ≡ true → other ≡ true }
+{
+    one && other
+}
+
+// Where the core's call stands; a core that isn't there has none.
+fn phase_in<M: SlotMap, A: Allocator + Clone, L: Ledger>(
+    machine: &Machine<M, A, L>,
+    core: CoreId,
+) -> Phase
+    ensures { result ≡ phase_in (state machine.now) core }
+{
+    if usize::from(core.index()) >= machine.cores() {
+        return Phase::Free;
+    }
+    machine.phase(core)
+}
+
+// Where the calls of all cores stand.
+fn phases_of<M: SlotMap, A: Allocator + Clone, L: Ledger>(
+    machine: &Machine<M, A, L>,
+) -> [Phase; CORES]
+    ensures { (c : ℕ) → c < 64 → slice_index_or result c Free ≡ phase_in (state machine.now) c }
+{
+    let mut phases = [Phase::Free; CORES];
+    'cores: for index in 0..64u8 {
+        phases[usize::from(index)] = phase_in(machine, CoreId::new(index));
+    }
+    phases
+}
+
+impl<B: Allocator> Mirror<B> {
+    ghost use Rattle.std.specs.Prelude.{◌≡◌, ℕ, ◌<◌, true};
+    ghost use Rattle.core_steps.specs.Machine.{state};
+    ghost use Rattle.state_text.specs.Held.{held};
+    ghost use Rattle.state_text.specs.Shown.{after_step, phase_at, phase_in};
+
+    // The cores hold what the step, which had this deed, leaves them.
+    fn follow(&mut self, deed: &Deed, outcome: &Outcome)
+        ensures whole { self.new.whole ≡ true → self.old.whole ≡ true }
+        ensures held { self.new.whole ≡ true → (c : ℕ) → c < 64
+            → held self.new.cores c ≡ after_step outcome.now deed.now (held self.old.cores) c }
+    {
+        let room = do_step(&mut self.cores, deed, outcome);
+        self.whole = both(self.whole, room);
+    }
+
+    // The machine tells where its calls stand, and its epoch.
+    fn look<M: SlotMap, A: Allocator + Clone, L: Ledger>(&mut self, machine: &Machine<M, A, L>)
+        ensures whole { self.new.whole ≡ self.old.whole }
+        ensures cores { self.new.cores ≡ self.old.cores }
+        ensures phases { (c : ℕ) → c < 64 → phase_at self.new c ≡ phase_in (state machine.now) c }
+        ensures epoch { self.new.epoch ≡ (state machine.now).memory.counts.epoch }
+    {
+        self.phases = phases_of(machine);
+        self.epoch = machine.epoch();
+    }
+}
+
+impl<B: Allocator> Watch for Mirror<B> {
+    ghost after = { Follows };
+
+    fn step<M: SlotMap, A: Allocator + Clone, L: Ledger>(
+        &mut self,
+        machine: &mut Machine<M, A, L>,
+        event: Event,
+    ) -> Result<Outcome, NoMemory> {
+        let deed = deed_of(machine, &event);
+        let outcome = match machine.step(event) {
+            Ok(outcome) => outcome,
+            Err(refused) => return Err(refused),
+        };
+        self.follow(&deed, &outcome);
+        self.look(machine);
+        Ok(outcome)
+    }
+}

@@ -1,0 +1,148 @@
+//! What a call does, in words.
+ghost use Rattle.std.specs.Prelude.{◌≡◌};
+ghost use Rattle.state_text.specs.Words.{access_word, call_word, change_word, doing_word, goal_spot, goal_word, request_word, spot_of};
+
+use machine_model::Phase;
+use slot_lock::{Change, Goal};
+use vm_base::{Access, PageRange, Request};
+
+/// Where a call is at work.
+#[derive(Clone, Copy, Debug, PartialEq, Eq)]
+pub enum Spot {
+    /// Nowhere yet, or no more.
+    Nowhere,
+    /// At this page.
+    Page(u64),
+    /// At these pages.
+    Pages(PageRange),
+}
+
+// The word of an access.
+fn access_word(access: Access) -> &'static str
+    ensures { result.now ≡ access_word access }
+{
+    match access {
+        Access::Load => "load",
+        Access::Store => "store",
+        Access::Fetch => "fetch",
+    }
+}
+
+// The word of a call that makes a change.
+fn change_word(change: &Change) -> &'static str
+    ensures { result.now ≡ change_word change.now }
+{
+    match change {
+        Change::Put { .. } => "mmap",
+        Change::Clear { .. } => "munmap",
+        Change::Protect { .. } => "mprotect",
+    }
+}
+
+// The word of a call with this goal.
+fn goal_word(goal: &Goal) -> &'static str
+    ensures { result.now ≡ goal_word goal.now }
+{
+    match goal {
+        Goal::Place { .. } => "mmap",
+        Goal::Change(change) => change_word(change),
+        Goal::Access(touch) => access_word(touch.access),
+    }
+}
+
+// The word of a request.
+fn request_word(request: &Request) -> &'static str
+    ensures { result.now ≡ request_word request.now }
+{
+    match request {
+        Request::Mmap { .. } => "mmap",
+        Request::Munmap { .. } => "munmap",
+        Request::Mprotect { .. } => "mprotect",
+        Request::Load { .. } => "load",
+        Request::Store { .. } => "store",
+        Request::Fetch { .. } => "fetch",
+    }
+}
+
+/// The word of a call that stands so; one that has its reply is a call.
+pub(crate) fn call_word(phase: &Phase) -> &'static str
+    ensures { result.now ≡ call_word phase.now }
+{
+    match phase {
+        Phase::Check(request) => request_word(request),
+        Phase::Lock { goal, .. } => goal_word(goal),
+        Phase::Guess(_) | Phase::Find { .. } | Phase::Back { .. } | Phase::Cut { .. } => "mmap",
+        Phase::Decide(change) => change_word(change),
+        Phase::Post { change, .. } => change_word(change),
+        Phase::Acks { change, .. } => change_word(change),
+        Phase::Try(touch) | Phase::Settle(touch) | Phase::Install(touch) | Phase::Release(touch) =>
+            { access_word(touch.access) }
+        Phase::Want { touch, .. }
+        | Phase::Fill { touch, .. }
+        | Phase::CopyPost { touch, .. }
+        | Phase::CopyAcks { touch, .. } => access_word(touch.access),
+        Phase::Free | Phase::Unlock { .. } | Phase::Answer(_) => "call",
+    }
+}
+
+/// What the call does next, in words.
+pub(crate) fn doing_word(phase: &Phase) -> &'static str
+    ensures { result.now ≡ doing_word phase.now }
+{
+    match phase {
+        Phase::Free => "",
+        Phase::Check(_) => " checks its arguments",
+        Phase::Lock { .. } => " locks",
+        Phase::Guess(_) => " looks for room",
+        Phase::Find { .. } => " decides on",
+        Phase::Back { .. } => " gives back",
+        Phase::Cut { .. } => " cuts",
+        Phase::Decide(_) => " decides on",
+        Phase::Post { .. } => " tells cores of",
+        Phase::Acks { .. } => " awaits cores for",
+        Phase::Unlock { .. } => " unlocks",
+        Phase::Answer(_) => " answers",
+        Phase::Try(_) => " translates",
+        Phase::Settle(_) => " looks at",
+        Phase::Want { .. } => " wants a frame for",
+        Phase::Fill { .. } => " fills",
+        Phase::CopyPost { .. } => " tells cores of",
+        Phase::CopyAcks { .. } => " awaits cores for",
+        Phase::Install(_) => " installs",
+        Phase::Release(_) => " unlocks",
+    }
+}
+
+// Where a call with this goal is at work.
+fn goal_spot(goal: &Goal) -> Spot
+    ensures { result ≡ goal_spot goal.now }
+{
+    match goal {
+        Goal::Place { place, target } => Spot::Pages(target.range(*place)),
+        Goal::Change(change) => Spot::Pages(change.range()),
+        Goal::Access(touch) => Spot::Page(touch.page),
+    }
+}
+
+/// Where the call is at work.
+pub(crate) fn spot_of(phase: &Phase) -> Spot
+    ensures { result ≡ spot_of phase.now }
+{
+    match phase {
+        Phase::Free | Phase::Check(_) | Phase::Guess(_) | Phase::Answer(_) => Spot::Nowhere,
+        Phase::Lock { goal, .. } => goal_spot(goal),
+        Phase::Find { place, target } => Spot::Pages(target.range(*place)),
+        Phase::Back { held, .. } => Spot::Pages(*held),
+        Phase::Cut { range, .. } => Spot::Pages(*range),
+        Phase::Decide(change) => Spot::Pages(change.range()),
+        Phase::Post { change, .. } => Spot::Pages(change.range()),
+        Phase::Acks { change, .. } => Spot::Pages(change.range()),
+        Phase::Unlock { held, .. } => Spot::Pages(*held),
+        Phase::Try(touch) | Phase::Settle(touch) | Phase::Install(touch) | Phase::Release(touch) =>
+            { Spot::Page(touch.page) }
+        Phase::Want { touch, .. }
+        | Phase::Fill { touch, .. }
+        | Phase::CopyPost { touch, .. }
+        | Phase::CopyAcks { touch, .. } => Spot::Page(touch.page),
+    }
+}
