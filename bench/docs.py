@@ -2,7 +2,7 @@
 """Reads README.md, docs/*.md and examples/README.md, and tells what in them isn't so: a path that isn't there, a contract
 (CRATE::MODULE::FUNCTION) whose function isn't, a clause that no contract named before it has, a function that a walk names in another module, a
 word of code that stands nowhere in the sources, a command whose word, option or file isn't there, a reply beside README's first trace that isn't
-the program's, C that no compiler takes, a crate or a document that is left out, a sentence of more than 38 words, or more than 90,000 bytes in
+the program's, C or Rust that no compiler takes, a crate or a document that is left out, a sentence of more than 38 words, or more than 90,000 bytes in
 README.md and docs/*.md. It runs `./radixvm help` for each topic that is named and, where the program is built (or RADIXVM_PROGRAM names it), each
 command of it whose files are there. It ends with status 1 where it tells anything.
 Usage: bench/docs.py"""
@@ -213,7 +213,7 @@ def run_faults(command):
 
 def first_trace_faults(text):
     """The table beside README's first command has the lines of that trace, and the replies that are kept beside it."""
-    rows = re.findall(r"^\| `([^`]+)` \| (?:`([^`]+)`|nothing.*) \|$", text, re.M)
+    rows = re.findall(r"^\| `([^`]+)` \| (?:`([^`]+)` )?\| [^|`]*\|$", text, re.M)
     lines = [line for line in read("examples/first.trace").split("\n") if line and line[0] != "#"]
     replies = read("examples/first.out").split()
     rows = [row for row in rows if row[0] in lines]
@@ -232,6 +232,22 @@ def c_faults(text):
         done = subprocess.run(["cc", "-std=c11", "-Wall", "-Werror", "-fsyntax-only", "-I", f"{ROOT}/include", file.name], capture_output=True, text=True)
     if done.returncode or not lines:
         yield f"the C isn't taken: {done.stderr[:300]}"
+
+
+def rust_faults(text):
+    """The lines of Rust, as a function's body over bindings/rust."""
+    lines = [line for line in re.findall(r"^    (.*)$", text, re.M) if line.startswith("let ")]
+    if not shutil.which("cargo"):
+        return
+    with tempfile.TemporaryDirectory() as folder:
+        os.mkdir(f"{folder}/src")
+        with open(f"{folder}/Cargo.toml", "w") as file:
+            file.write(f'[package]\nname = "said"\nversion = "0.1.0"\nedition = "2021"\n[dependencies]\nradixvm = {{ path = "{ROOT}/bindings/rust" }}\n')
+        with open(f"{folder}/src/main.rs", "w") as file:
+            file.write("fn main() -> Result<(), radixvm::Stopped> {\n" + "\n".join(lines) + "\nlet _ = told;\nOk(())\n}\n")
+        done = subprocess.run(["cargo", "check", "--offline", "-q"], cwd=folder, capture_output=True, text=True)
+    if done.returncode or not lines:
+        yield f"the Rust isn't taken: {done.stderr[:300]}"
 
 
 def whole_faults():
@@ -265,7 +281,7 @@ def main():
                 faults += command_faults(part, options)
             faults += run_faults(command)
         if document == "README.md":
-            faults += [*first_trace_faults(text), *c_faults(text)]
+            faults += [*first_trace_faults(text), *c_faults(text), *rust_faults(text)]
         for fault in faults:
             print(f"{document}: {fault}")
         count += len(faults)

@@ -1,6 +1,7 @@
 #!/usr/bin/env bash
 # Makes a release, installs it from its tar, and tries what was installed, without the kit: README's first run in a root of its own, the shared library
-# by its names, through ctypes, and from C and C++ by pkg-config, man pages, completions, and bindings/test.sh over the installed files.
+# by its names, through ctypes, and from C and C++ by pkg-config, man pages, completions, each command and path of the documents (bench/docs.py), and
+# bindings/test.sh over the installed files.
 # Usage: install/test.sh [SEEDS], over what `./radixvm --build` and `./radixvm --build-library` made, or what RADIXVM_PROGRAM and RADIXVM_ARCHIVE name.
 set -euo pipefail
 top=$(cd "$(dirname "$0")/.." && pwd)
@@ -99,6 +100,7 @@ if command -v fish > /dev/null; then
 fi
 echo "completions: $shells"
 
+RADIXVM_PROGRAM=$prefix/bin/radixvm "$top/bench/docs.py"
 if command -v cargo > /dev/null; then
     (cd "$prefix/share/radixvm/rust" && CARGO_TARGET_DIR=$work/rust cargo test --offline -q > "$work/said" 2>&1) || fail "the Rust crate: $(cat "$work/said")"
     echo "Rust: the installed crate's tests passed"
