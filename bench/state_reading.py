@@ -1,7 +1,7 @@
 #!/usr/bin/env python3
 """Reads random traces with a machine of its own, and compares the state that it comes to with that of `radixvm state`, line by line.
 The machine is made of dictionaries, works call by call, and knows fixed anonymous mappings, accesses, shootdowns, takes, walks and evictions.
-It shares nothing with the program but what docs and papers say. Usage: bench/state_reading.py [TRACES [SEED]]; RADIXVM_PROGRAM names the program."""
+It shares nothing with the program but what the documents say. Usage: bench/state_reading.py [TRACES [SEED]]; RADIXVM_PROGRAM names the program."""
 import os
 import pathlib
 import random
