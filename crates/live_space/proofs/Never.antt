@@ -4,6 +4,7 @@ use Rattle.slot_lock.proofs.Words.{refl, sym, ap, subst, ◌∙◌, if◌then◌
 use Rattle.slot_lock.proofs.Words.{Access, Load, Store, Fetch, Mode, Prot, ENOMEM, EACCES, Reply, Mapped, Done, Refused, Segv, MapErr, NoMemory}
 use Rattle.slot_lock.proofs.Words.{is_page, page_of}
 use Rattle.std.proofs.Common.{◌≢◌, ◌&&◌}
+use Rattle.std.specs.Prelude.{IfErr}
 use Rattle.vm_base.specs.declared.replies.Errno.{Errno}
 use Rattle.vm_base.specs.declared.replies.Errno.TheVariants.{EINVAL, EBADF, EOVERFLOW}
 use Rattle.vm_base.specs.declared.replies.Reply.TheVariants.{Byte, Bus, NoFrame}
@@ -109,7 +110,7 @@ unplanned_never core (StoreOf addr byte) reply is e = touched_never addr byte St
 unplanned_never core (FetchOf addr) reply is e = touched_never addr 0 Fetch reply is e
 
 -- the reply that arguments decide
-pub decided_never : (modes : ℕ → Option Mode) (core : ℕ) (request : Request) (reply : Reply) → checked modes core request ≡ Err reply → reply ≢ NoMemory
+decided_never : (modes : ℕ → Option Mode) (core : ℕ) (request : Request) (reply : Reply) → checked modes core request ≡ Err reply → reply ≢ NoMemory
 unfolding Never
 decided_never modes core request reply is = go (refusal modes request) refl is
   where
@@ -118,3 +119,8 @@ decided_never modes core request reply is = go (refusal modes request) refl is
     go (Some r) some is =
         let same : r ≡ reply = cc in
         refused_never modes request reply (some ∙ ap Some same)
+
+pub checked_never : (modes : ℕ → Option Mode) (core : ℕ) (request : Request) (came : Result Plan Reply) → came ≡ checked modes core request
+    → IfErr came (λ reply. reply ≢ NoMemory)
+checked_never modes core request (Ok plan) is = tt
+checked_never modes core request (Err reply) is = decided_never modes core request reply (sym is)

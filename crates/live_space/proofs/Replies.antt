@@ -28,7 +28,7 @@ use Rattle.vm_calls.specs.Decisions.DecidesRun.{free, taken}
 use Rattle.vm_calls.proofs.Passed.{passed, touch-of}
 use Rattle.live_space.specs.Answering.{AnswersFor, AnswersMapping, AnswersPassed, AnswersChecked, AnswersPlaced, IsFault}
 use Rattle.live_space.specs.Answering.AnswersPlaced.{at_hint as by_hint, in_window as by_window, no_room as by_none}
-use Rattle.live_space.specs.Planned.{AnswersChange, AnswersPlace, AnswersPlan, AnswersTouch, PlacesAt}
+use Rattle.live_space.specs.Planned.{AnswersChange, AnswersDecided, AnswersPlace, AnswersPlan, AnswersTouch, PlacesAt}
 use Rattle.live_space.specs.Planned.AnswersPlace.{at_hint, in_window, no_room}
 
 -- ---- a plan's replies are its request's
@@ -122,7 +122,7 @@ passed_answers modes core (StoreOf addr byte) plan reply is a =
 passed_answers modes core (FetchOf addr) plan reply is a = served addr 0 Fetch plan reply is a
 
 -- what is answered of a plan that isn't given up is a reply of the request
-pub answers_planned : (modes : ℕ → Option Mode) (core : ℕ) (request : Request) (plan : Plan) (reply : Reply)
+answers_planned : (modes : ℕ → Option Mode) (core : ℕ) (request : Request) (plan : Plan) (reply : Reply)
     → checked modes core request ≡ Ok plan → (reply ≡ NoMemory) ⊎ AnswersPlan plan reply → AnswersFor modes core request reply
 answers_planned modes core request plan reply is a =
     ⊎_elim (λ (e : reply ≡ NoMemory). inl e)
@@ -130,8 +130,17 @@ answers_planned modes core request plan reply is a =
     a
 
 -- so is a reply that the arguments decide
-pub answers_decided : (modes : ℕ → Option Mode) (core : ℕ) (request : Request) (reply : Reply) → checked modes core request ≡ Err reply → AnswersFor modes core request reply
+answers_decided : (modes : ℕ → Option Mode) (core : ℕ) (request : Request) (reply : Reply) → checked modes core request ≡ Err reply → AnswersFor modes core request reply
 answers_decided modes core request reply is = inr (subst (λ (r : Result Plan Reply). AnswersChecked r core request reply) (sym is) refl)
+
+-- and what is answered after the check of a request is a reply of it
+pub answers_checked : (modes : ℕ → Option Mode) (core : ℕ) (request : Request) (came : Result Plan Reply) (reply : Reply)
+    → came ≡ checked modes core request → (reply ≡ NoMemory) ⊎ AnswersDecided came reply → AnswersFor modes core request reply
+answers_checked modes core request (Ok plan) reply is a = answers_planned modes core request plan reply (sym is) a
+answers_checked modes core request (Err decided) reply is a =
+    ⊎_elim (λ (e : reply ≡ NoMemory). inl e)
+    (λ (e : reply ≡ decided). subst (AnswersFor modes core request) (sym e) (answers_decided modes core request decided (sym is)))
+    a
 
 -- ---- what held pages decide
 

@@ -1,5 +1,5 @@
 -- What a call answers whose arguments passed, by its plan
-use Rattle.std.specs.Prelude.{◌≡◌, ℕ, ◌*◌, ◌⊎◌, Some}
+use Rattle.std.specs.Prelude.{◌≡◌, ℕ, ◌*◌, ◌⊎◌, Some, Result, Ok, Err}
 use Rattle.vm_base.specs.declared.page.PageRange.{PageRange}
 use Rattle.vm_base.specs.declared.rights.Access.{Access}
 use Rattle.vm_base.specs.declared.replies.Errno.TheVariants.{ENOMEM}
@@ -44,6 +44,11 @@ abbrev pub AnswersPlan : Plan → Reply → Type 0
 AnswersPlan (PlanOf.Change change) = AnswersChange change
 AnswersPlan (PlanOf.Place place) = AnswersPlace place
 AnswersPlan (PlanOf.Touch touch) = AnswersTouch touch.access
+
+-- the reply that the arguments decide, or one of the plan's
+abbrev pub AnswersDecided : Result Plan Reply → Reply → Type 0
+AnswersDecided (Ok plan) reply = AnswersPlan plan reply
+AnswersDecided (Err decided) reply = reply ≡ decided
 
 -- ---- of a call that isn't given up
 

@@ -1,5 +1,5 @@
 //! A call of a core's thread, from its beginning to its answer.
-ghost use Rattle.std.specs.Prelude.{◌≡◌, ◌+◌, ◌≤◌, ◌⊎◌, [], IfOk, IfErr, OnOk};
+ghost use Rattle.std.specs.Prelude.{◌≡◌, ◌≢◌, ◌+◌, ◌≤◌, ◌⊎◌, [], IfOk, IfErr, OnOk};
 ghost use Rattle.vm_base.specs.declared.replies.Reply.TheVariants.{NoMemory};
 ghost use Rattle.vm_base.specs.Plain.{mode_of};
 ghost use Rattle.slot_lock.specs.Plan.{IsSoundPlan};
@@ -10,7 +10,7 @@ ghost use Rattle.live_space.specs.Answering.{AnswersFor};
 ghost use Rattle.live_space.specs.Calls.{IsIdle, LacksCall, MayBegin};
 ghost use Rattle.live_space.specs.Doing.{Did};
 ghost use Rattle.live_space.specs.Endings.{HoldsNone, RunsTo};
-ghost use Rattle.live_space.specs.Planned.{AnswersPlan, RanIn};
+ghost use Rattle.live_space.specs.Planned.{AnswersDecided, AnswersPlan, RanIn};
 ghost use Rattle.live_space.specs.Space.{IsOf};
 
 use crate::ending::{Ending, Ran};
@@ -61,21 +61,30 @@ impl<A: Allocator + Clone> Live<A> {
             return Err(LiveFault::Calls);
         }
         reserve_notes(seat, 3)?;
+        // it touches nothing that another thread changes, and may come before the call begins
+        let checked = check(&self.objects, seat.core(), request);
         let _begun = seat.begin(request);
-        let reply = self.run(rt, seat, request, gate);
+        let reply = self.run(rt, seat, checked, gate);
         gate.at(rt, seat.core(), Point::Answer);
         Ok(reply)
     }
 
-    // All of the call but its beginning.
+    // All of the call but its beginning, by what came of the check of its arguments.
     #[tactic(auto, using(live_pages::proofs::Ending::ends_after, seats::proofs::Growing::grew_steps))]
-    fn run<R: Wait, G: Gate>(&self, rt: &R, seat: &mut Seat<A>, request: Request, gate: &G) -> Reply
+    fn run<R: Wait, G: Gate>(
+        &self,
+        rt: &R,
+        seat: &mut Seat<A>,
+        checked: Result<Plan, Reply>,
+        gate: &G,
+    ) -> Reply
         requires room { 2 ≤ seat.old.room }
+        requires sound { IfOk checked (λ plan. IsSoundPlan plan) }
+        requires never { IfErr checked (λ reply. reply ≢ NoMemory) }
         ensures ended { Ends seat.old result seat.new }
-        ensures answers { AnswersFor (λ file. mode_of (files_of self.now.files file)) seat.old.core request result }
+        ensures answers { (result ≡ NoMemory) ⊎ AnswersDecided checked result }
     {
-        // it touches nothing that another thread changes, and may come before the note of its step
-        match check(&self.objects, seat.core(), request) {
+        match checked {
             Ok(plan) => self.go_on(rt, seat, plan, gate),
             Err(reply) => {
                 let _checked = seat.step();
