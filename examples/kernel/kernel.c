@@ -4,7 +4,13 @@
    usage: kernel [THREADS [CALLS [PAGES [MOST [SEED]]]]]: each thread makes so many calls, on at most MOST pages of PAGES at once (4, 100000,
    8, 0 and 1 where they are left out). 0 stands for single pages, which are mapped anew and protected, and never unmapped. POSIX allows a
    kernel what no page map does: to show a range half changed, where MOST is above 1; and, where it is 1, to serve one thread's access to a
-   page that is being unmapped after another's was refused. Linux does both, the second once in a million calls or two. */
+   page that is being unmapped after another's was refused. Linux does both, the second once in a million calls or two. Its faults are told
+   by the list of mappings, which munmap shortens first, and its other accesses by page tables and TLBs, which it clears then. So these four
+   calls of Linux 6.18 have no order, and are told as undecided:
+   10 11 c3! mmap 0x10000 4096 r-x sf 0 0x2000 = 0x10000
+   21 66 c3! munmap 0x10000 4096 = done
+   23 24 c0! store 0x10000 244 = segv maperr
+   37 38 c1! fetch 0x10000 = 195 */
 #ifndef _GNU_SOURCE
 #define _GNU_SOURCE
 #endif
