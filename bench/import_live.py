@@ -1,8 +1,9 @@
 #!/usr/bin/env python3
 """Records real programs with strace, stops each in the middle, and compares the pages that `radixvm maps` shows at the end of the log's trace with
-those that the kernel lists then in /proc/PID/maps: missing pages, extra pages, other rights. The list of what is mapped at the beginning (--maps) is
-read where strace begins: of a program that runs already, and that is stopped while strace attaches. Left out: the kernel's own pages, and the stack,
-which grows by itself. It needs strace and leave to trace (ptrace). Status 0 where no page differs.
+those that the kernel lists then in /proc/PID/maps: missing pages, extra pages, other rights; and the files and offsets that the trace and its comments
+name for pages with those that the kernel names. The list of what is mapped at the beginning (--maps) is read where strace begins: of a program that
+runs already, and that is stopped while strace attaches. Left out: the kernel's own pages, and the stack, which grows by itself. It needs strace and
+leave to trace (ptrace). Status 0 where no page differs.
 Usage: bench/import_live.py (RADIXVM_PROGRAM names the program, ./radixvm if it isn't set)
 """
 import os
@@ -83,6 +84,51 @@ def pages_of(path, with_name):
     return pages
 
 
+def shown_name(name):
+    """A name as a trace shows it."""
+    text, room = "", 180
+    for byte in name:
+        one = chr(byte) if 33 <= byte <= 126 and byte != 92 else f"\\x{byte:02x}"
+        if len(text) + len(one) > room:
+            return text + ".."
+        text += one
+    return text
+
+
+def files_listed(path):
+    """The pages of the kernel's list that a file backs: each with its name and the offset. The kernel writes a newline of a name as \\012."""
+    files = {}
+    for line in open(path, "rb"):
+        first, end, off, name = re.match(rb"(\w+)-(\w+) \S+ (\w+) \S+ \S+ *(.*)", line).groups()
+        # The kernel names pages so that processes share without a file.
+        if name.startswith(b"/") and not name.startswith((b"/dev/zero (deleted)", b"/SYSV")):
+            shown = shown_name(name.replace(b"\\012", b"\n"))
+            for page in range(int(first, 16) >> 12, int(end, 16) >> 12):
+                files[page] = shown, int(off, 16) + ((page << 12) - int(first, 16))
+    return files
+
+
+def files_traced(text):
+    """The pages that a file backs at the end of a trace, as its lines and comments say: each with its name and the offset."""
+    names, files, note = {}, {}, None
+    for line in text.splitlines():
+        words = line.split(" ")
+        if words[:2] == ["#", "file"]:
+            names[words[2]] = words[3]
+        elif words[:2] == ["#", "anon"]:
+            note = words[5], int(words[4], 16)
+        elif words[1] in ("mmap", "munmap"):
+            first = int(words[2], 16) >> 12
+            run = range(first, first + (int(words[3]) + 4095) // 4096)
+            back = note or ((names[words[6]], int(words[7], 16)) if words[1] == "mmap" and "a" not in words[5] else None)
+            for page in run:
+                files.pop(page, None)
+                if back:
+                    files[page] = back[0][:182], back[1] + ((page - first) << 12)
+            note = None
+    return files
+
+
 def stack_in(path):
     """The pages of a list's stack."""
     ranges = [line.split()[0].split("-") for line in open(path) if "[stack]" in line]
@@ -137,12 +183,19 @@ def try_program(name, words, folder):
     mine = {page: prot for page, prot in mine.items() if page not in stack}
     missing, extra = set(theirs) - set(mine), set(mine) - set(theirs)
     other = {page for page in set(mine) & set(theirs) if mine[page] != theirs[page]}
+    named, right = files_traced(made.stdout.decode()), files_listed(end)
+    # The pages of a file that mremap moved are of zero bytes, and its line is counted.
+    moved = "changed: mremap" in made.stderr.decode()
+    names = {page for page in set(named) | set(right) if named.get(page) != right.get(page) and not (moved and page not in named)}
     told = " ".join(made.stderr.decode().split("\n")[:40])
     changed = len(set(theirs) ^ set(first))
-    print(f"{name}: {len(text)} bytes, {len(theirs)} pages, {changed} came or went; {len(missing)} missing, {len(extra)} extra, {len(other)} of other rights")
-    if missing or extra or other or made.returncode:
+    print(f"{name}: {len(text)} bytes, {len(theirs)} pages, {changed} came or went; {len(missing)} missing, {len(extra)} extra, {len(other)} of other rights; "
+          f"{len(right)} of files, {len(names)} of other files or offsets")
+    for page in sorted(names)[:3]:
+        print(f"    {page << 12:#x}: {named.get(page)}, {right.get(page)}")
+    if missing or extra or other or names or made.returncode:
         print("   ", told)
-    return not (missing or extra or other or made.returncode)
+    return not (missing or extra or other or names or made.returncode)
 
 
 def main():
