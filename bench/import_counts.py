@@ -32,14 +32,36 @@ def within(files, name, reach):
     return True
 
 
+def guests(lines):
+    """The threads that were made with their maker's address space, but as another process: each with its maker, and the line at which it leaves
+    that space, since a program begins."""
+    made, begun = {}, {}
+    for line in lines:
+        thread, text = line.split(None, 1)
+        if text.endswith("<unfinished ...>"):
+            begun[thread] = text
+        text = begun.pop(thread, "") + text if "resumed>" in text else text
+        child = re.search(r"= (\d+)$", text)
+        if child and (text.startswith("vfork") or (re.match(r"clone3?\(.*CLONE_VM", text) and "CLONE_THREAD" not in text)):
+            made[child[1]] = thread
+    leaves = {}
+    for number, line in enumerate(lines):
+        thread, text = line.split(None, 1)
+        if thread in made and re.match(r"(<\.\.\. )?execve.*= 0$", text):
+            leaves.setdefault(thread, number)
+    return {child: (maker, leaves.get(child, len(lines))) for child, maker in made.items()}
+
+
 def log_counts(lines, files):
     counts = collections.Counter()
     addresses = done = 0
     process = lines[0].split()[0]
     threads, waiting, heap = {process}, {}, None
+    beside = guests(lines)
     for number, line in enumerate(lines):
         thread, text = line.split(None, 1)
-        if thread not in threads:
+        maker, leaves = beside.get(thread, (None, 0))
+        if thread not in threads and not (maker in threads and number < leaves):
             counts["elsewhere"] += 1
             continue
         unfinished = text.endswith("<unfinished ...>")

@@ -39,7 +39,7 @@ fn tell_changed<E: Write>(counts: &Counts, errors: &mut E) {
     tell_count(counts.heap, "changed: brk, as mmap or munmap", errors);
     tell_count(
         counts.moves,
-        "changed: mremap, as munmap and mmap of zero bytes",
+        "changed: mremap, as munmap and mmap of zero bytes, rw-",
         errors,
     );
     tell_count(
@@ -84,6 +84,11 @@ fn tell_lost<E: Write>(lost: &Losses, errors: &mut E) {
         errors,
     );
     tell_count(lost.faults, "left out, and lost: userfaultfd", errors);
+    tell_count(
+        lost.others,
+        "left out, and lost: io_setup, io_destroy and map_shadow_stack",
+        errors,
+    );
 }
 
 // Prints how many lines were left out, and why.

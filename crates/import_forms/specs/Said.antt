@@ -26,6 +26,8 @@ use Rattle.import_forms.specs.declared.said.Said.TheVariants as Says
 abbrev pub lost_named : Token → Option Lost
 lost_named name = if bytes_eq name (codes "remap_file_pages") then Some Lose.Remaps
     else if bytes_eq name (codes "userfaultfd") then Some Lose.Faults
+    else if bytes_eq name (codes "io_setup") || bytes_eq name (codes "io_destroy") then Some Lose.Others
+    else if bytes_eq name (codes "map_shadow_stack") then Some Lose.Others
     else None
 
 -- those that a trace has otherwise, or some of whose successes it hasn't
@@ -38,13 +40,14 @@ memory_named name = if bytes_eq name (codes "pkey_mprotect") then Some Of.Keyed
     else option_map Of.Lost (lost_named name)
 
 abbrev pub call_named : Token → Option Call
-call_named name = if bytes_eq name (codes "mmap") then Some Of.Mmap
+call_named name = if bytes_eq name (codes "mmap") || bytes_eq name (codes "mmap2") then Some Of.Mmap
     else if bytes_eq name (codes "munmap") then Some Of.Munmap
     else if bytes_eq name (codes "mprotect") then Some Of.Mprotect
     else if bytes_eq name (codes "brk") then Some Of.Brk
     else if bytes_eq name (codes "mremap") then Some Of.Mremap
     else if bytes_eq name (codes "clone") || bytes_eq name (codes "clone3") then Some Of.Make
-    else if bytes_eq name (codes "fork") || bytes_eq name (codes "vfork") then Some Of.Make
+    else if bytes_eq name (codes "fork") then Some Of.Make
+    else if bytes_eq name (codes "vfork") then Some Of.MakeGuest
     else if bytes_eq name (codes "execve") || bytes_eq name (codes "execveat") then Some Of.Begin
     else memory_named name
 
@@ -136,17 +139,25 @@ front_or token (Some parts) = parts.0
 abbrev pub before_bar : Token → Token
 before_bar token = front_or token (split_at_last (byte (codes "|")) token)
 
--- whether the number behind `flags=` has the bit of CLONE_THREAD
-unfoldable pub thread_bit : List ℕ → Option Bool
-thread_bit before = do
+-- the number behind `flags=`
+unfoldable pub flags_number : List ℕ → Option ℕ
+flags_number before = do
   rest ← behind (codes "flags=") before
   token ← front_token rest
-  number ← number_of (before_bar token.0)
-  Some (number / 65536 % 2 == 1)
+  number_of (before_bar token.0)
 
--- a thread of the same process is made
-abbrev pub shares : List ℕ → Bool
-shares before = if occurs (codes "CLONE_THREAD") before then true else unwrap_or (thread_bit before) false
+abbrev pub has_bit : ℕ → Option ℕ → Bool
+has_bit bit None = false
+has_bit bit (Some number) = number / bit % 2 == 1
+
+-- a call that makes a thread has this flag, by its name, or by its bit in the number of the flags
+abbrev pub makes_with : List ℕ → ℕ → List ℕ → Bool
+makes_with name bit before = if occurs name before then true else has_bit bit (flags_number before)
+
+-- a thread of the same process is made, or the first one of another, which has its maker's address space or one of its own
+abbrev pub making_said : List ℕ → ℕ → Said
+making_said before thread = if makes_with (codes "CLONE_THREAD") 65536 before then Says.Makes thread true false
+    else Says.Makes thread false (makes_with (codes "CLONE_VM") 256 before)
 
 -- private or shared, and not both
 abbrev pub has_kind : Flags → Bool
@@ -209,7 +220,7 @@ advice_said before = do
 unfoldable pub size_said : List ℕ → ℕ → Option Said
 size_said before number = do
   key ← front_token before
-  len ← front_count key.1
+  len ← front_count (past_comment key.1)
   if len.0 == 0 then Some Says.Other else Some (Says.Sizes number len.0)
 
 -- shared memory may be read, and written but with SHM_RDONLY, and executed with SHM_EXEC
@@ -276,7 +287,8 @@ done_said Of.Munmap before gave = asked (munmap_said before gave)
 done_said Of.Mprotect before gave = asked (mprotect_said before gave)
 done_said Of.Brk before gave = Says.Breaks gave
 done_said Of.Mremap before gave = unwrap_or (mremap_said before gave) Says.Unread
-done_said Of.Make before gave = Says.Makes gave (shares before)
+done_said Of.Make before gave = making_said before gave
+done_said Of.MakeGuest before gave = Says.Makes gave false true
 done_said Of.Begin before gave = Says.Begins
 done_said Of.Keyed before gave = keyed (mprotect_said before gave)
 done_said Of.Advise before gave = unwrap_or (advice_said before) Says.Unread
@@ -302,6 +314,14 @@ known_said text = do
   first ← front_token text
   call ← call_named first.0
   Some (outcome_said call (split_at_last (byte (codes "=")) first.1))
+
+abbrev pub known_by : Option Said → Bool
+known_by None = false
+known_by (Some said) = true
+
+-- the text is of one of these calls, or of a part of one
+abbrev pub is_known : List ℕ → Bool
+is_known text = known_by (known_said text)
 
 -- what the text of a call says
 abbrev pub said_of : List ℕ → Said

@@ -3,6 +3,7 @@
 #![tactic(auto)]
 
 pub mod looks;
+mod making;
 pub mod said;
 pub mod speech;
 pub mod stamps;

@@ -1,11 +1,12 @@
 //! What the text of a call says.
 ghost use Rattle.std.specs.Prelude.{◌≡◌, ◌≤◌, ◌<◌, codes, drop, option_map};
 ghost use Rattle.import_forms.specs.Tokens.{begins_by, occurs, split_at_last};
-ghost use Rattle.import_forms.specs.Said.{asked, behind, before_bar, call_named, comment_end, done_said, file_named, file_said, flags_named, from_sign};
-ghost use Rattle.import_forms.specs.Said.{has_flag, is_for_growing, outcome_else, has_kind, is_plain, is_private, known_said, mmap_said, mprotect_said, mremap_said, munmap_said};
+ghost use Rattle.import_forms.specs.Said.{asked, call_named, comment_end, done_said, file_named, file_said, flags_named, from_sign};
+ghost use Rattle.import_forms.specs.Said.{has_flag, is_for_growing, outcome_else, has_kind, is_known, is_plain, is_private, known_said, mmap_said, mprotect_said, mremap_said, munmap_said};
 ghost use Rattle.import_forms.specs.Said.{advice_said, attach_said, detach_said, drops, flags_of_mmap, keyed, lost_by, lost_named, mapping_said, memory_named, size_said};
-ghost use Rattle.import_forms.specs.Said.{only_thread, outcome_of, outcome_said, past_comment, past_flags, prot_attached, prot_named, said_of, shares, thread_bit};
+ghost use Rattle.import_forms.specs.Said.{only_thread, outcome_of, outcome_said, past_comment, past_flags, prot_attached, prot_named, said_of};
 
+use crate::making::read_making;
 use crate::stamps::front_thread;
 use crate::tokens::{begins, has, next_count, next_token, read_only, split_last, without_gaps};
 use trace_text::number::read_number;
@@ -14,13 +15,16 @@ use vm_base::{Flags, Prot, Request};
 // The calls that are looked at.
 #[derive(Clone, Copy, Debug, PartialEq, Eq)]
 enum Call {
+    // `mmap`, and `mmap2` of programs of 32 bits.
     Mmap,
     Munmap,
     Mprotect,
     Brk,
     Mremap,
-    // `clone`, `clone3`, `fork` and `vfork`.
+    // `clone`, `clone3` and `fork`.
     Make,
+    // `vfork`.
+    MakeGuest,
     // `execve` and `execveat`.
     Begin,
     // `pkey_mprotect`.
@@ -52,6 +56,8 @@ pub enum Lost {
     Huge,
     /// `userfaultfd`: the program answers faults of pages itself.
     Faults,
+    /// `io_setup`, `io_destroy` and `map_shadow_stack`: the kernel maps or unmaps pages of its own choice.
+    Others,
 }
 
 // What stands after the sign of equality.
@@ -87,6 +93,8 @@ pub enum Said {
         thread: u64,
         /// Whether it is of the same process (`CLONE_THREAD`).
         shares: bool,
+        /// Whether it is of another one that has its maker's address space until it begins a program (`CLONE_VM`, `vfork`).
+        joins: bool,
     },
     /// `execve`: a program begins, with a new address space.
     Begins,
@@ -124,7 +132,7 @@ pub enum Said {
 fn call_named(name: &[u8]) -> Option<Call>
     ensures { result ≡ call_named name.now }
 {
-    if name == b"mmap".as_slice() {
+    if name == b"mmap".as_slice() || name == b"mmap2".as_slice() {
         Some(Call::Mmap)
     } else if name == b"munmap".as_slice() {
         Some(Call::Munmap)
@@ -136,8 +144,10 @@ fn call_named(name: &[u8]) -> Option<Call>
         Some(Call::Mremap)
     } else if name == b"clone".as_slice() || name == b"clone3".as_slice() {
         Some(Call::Make)
-    } else if name == b"fork".as_slice() || name == b"vfork".as_slice() {
+    } else if name == b"fork".as_slice() {
         Some(Call::Make)
+    } else if name == b"vfork".as_slice() {
+        Some(Call::MakeGuest)
     } else if name == b"execve".as_slice() || name == b"execveat".as_slice() {
         Some(Call::Begin)
     } else {
@@ -175,6 +185,10 @@ fn lost_named(name: &[u8]) -> Option<Lost>
         Some(Lost::Remaps)
     } else if name == b"userfaultfd".as_slice() {
         Some(Lost::Faults)
+    } else if name == b"io_setup".as_slice() || name == b"io_destroy".as_slice() {
+        Some(Lost::Others)
+    } else if name == b"map_shadow_stack".as_slice() {
+        Some(Lost::Others)
     } else {
         None
     }
@@ -295,63 +309,6 @@ fn flags_named(token: &[u8]) -> Flags
         shared: is_shared(token),
         fixed: true,
         anon: is_anonymous(token),
-    }
-}
-
-// What stands after the first such name.
-fn behind<'a>(bytes: &'a [u8], name: &[u8]) -> Option<&'a [u8]>
-    ensures { option_map (λ f. f.now) result ≡ behind name.now bytes.now }
-{
-    let mut at = 0;
-    'places: while at < bytes.len() {
-        let (_, rest) = bytes.split_at(at);
-        if begins(rest, name) {
-            let (_, after) = rest.split_at(name.len());
-            return Some(after);
-        }
-        at += 1;
-    }
-    None
-}
-
-// What stands before the last `|` of a token, where there is one.
-fn before_bar(token: &[u8]) -> &[u8]
-    ensures { result.now ≡ before_bar token.now }
-{
-    match split_last(token, b'|') {
-        Some((front, _)) => front,
-        None => token,
-    }
-}
-
-// Whether the number after `flags=`, if one is there, has the bit of `CLONE_THREAD`.
-#[tactic(auto, unfolding(crate::specs::Said::thread_bit))]
-fn thread_bit(before: &[u8]) -> Option<bool>
-    ensures { result ≡ thread_bit before.now }
-{
-    let rest = behind(before, b"flags=".as_slice())?;
-    let (token, _) = next_token(rest)?;
-    let number = read_number(before_bar(token))?;
-    Some(number / 65536 % 2 == 1)
-}
-
-// Tells whether `CLONE_THREAD` stands somewhere.
-fn names_thread(before: &[u8]) -> bool
-    ensures { result ≡ occurs (codes "CLONE_THREAD") before.now }
-{
-    has(before, b"CLONE_THREAD".as_slice())
-}
-
-// Tells whether a call makes a thread of the same process.
-fn is_thread(before: &[u8]) -> bool
-    ensures { result ≡ shares before.now }
-{
-    if names_thread(before) {
-        return true;
-    }
-    match thread_bit(before) {
-        Some(shares) => shares,
-        None => false,
     }
 }
 
@@ -527,7 +484,7 @@ fn read_size(before: &[u8], number: u64) -> Option<Said>
     ensures { result ≡ size_said before.now number }
 {
     let (_, rest) = next_token(before)?;
-    let (len, _) = next_count(rest)?;
+    let (len, _) = next_count(past_comment(rest))?;
     if len == 0 {
         return Some(Said::Other);
     }
@@ -661,9 +618,11 @@ fn read_done(call: Call, before: &[u8], gave: u64) -> Said
             Some(moves) => moves,
             None => Said::Unread,
         },
-        Call::Make => Said::Makes {
+        Call::Make => read_making(before, gave),
+        Call::MakeGuest => Said::Makes {
             thread: gave,
-            shares: is_thread(before),
+            shares: false,
+            joins: true,
         },
         Call::Begin => Said::Begins,
         Call::Keyed => keyed(read_mprotect(before, gave)),
@@ -709,6 +668,16 @@ fn read_known(text: &[u8]) -> Option<Said>
     let (name, args) = next_token(text)?;
     let call = call_named(name)?;
     Some(read_args(call, args))
+}
+
+/// Tells whether the text is of one of the calls that are looked at, or of a part of one.
+pub fn is_known(text: &[u8]) -> bool
+    ensures { result ≡ is_known text.now }
+{
+    match read_known(text) {
+        Some(_) => true,
+        None => false,
+    }
 }
 
 /// What the text of a call says.

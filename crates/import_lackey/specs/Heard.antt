@@ -47,6 +47,7 @@ lost_named name = if bytes_eq name (codes "sys_shmat") then Some Lose.Attach
     else if bytes_eq name (codes "sys_shmdt") then Some Lose.Detach
     else if bytes_eq name (codes "sys_remap_file_pages") then Some Lose.Remaps
     else if bytes_eq name (codes "sys_userfaultfd") then Some Lose.Faults
+    else if bytes_eq name (codes "sys_io_setup") || bytes_eq name (codes "sys_io_destroy") then Some Lose.Others
     else None
 
 abbrev pub call_named : Token → Option Call

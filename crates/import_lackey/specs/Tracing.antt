@@ -104,7 +104,7 @@ placed end (Says.Asks (Of.Fetch addr)) = None
 placed (Some old) (Says.Breaks to) = Some (record { addr = old; len = to - old })
 placed None (Says.Breaks to) = None
 placed end (Says.Moves from old to new) = Some (record { addr = to; len = new })
-placed end (Says.Makes child shares) = None
+placed end (Says.Makes child shares joins) = None
 placed end Says.Begins = None
 placed end (Says.Keyed request) = None
 placed end (Says.Sizes number len) = None
@@ -131,7 +131,7 @@ call_taken s (Says.Asks (Of.Store addr value)) = (asked_by s 1 (Of.Store addr va
 call_taken s (Says.Asks (Of.Fetch addr)) = (asked_by s 1 (Of.Fetch addr), Kept)
 call_taken s (Says.Breaks to) = after_said nothing_taken s 1 [] (Says.Breaks to)
 call_taken s (Says.Moves from old to new) = after_said nothing_taken s 1 [] (Says.Moves from old to new)
-call_taken s (Says.Makes child shares) = (s, Left For.Other)
+call_taken s (Says.Makes child shares joins) = (s, Left For.Other)
 call_taken s Says.Begins = (s, Left For.Other)
 call_taken s (Says.Keyed request) = after_said nothing_taken s 1 [] (Says.Keyed request)
 call_taken s (Says.Sizes number len) = after_said nothing_taken s 1 [] (Says.Sizes number len)

@@ -105,6 +105,8 @@ fn lost_named(name: &[u8]) -> Option<Lost>
         Some(Lost::Remaps)
     } else if name == b"sys_userfaultfd".as_slice() {
         Some(Lost::Faults)
+    } else if name == b"sys_io_setup".as_slice() || name == b"sys_io_destroy".as_slice() {
+        Some(Lost::Others)
     } else {
         None
     }

@@ -1,12 +1,12 @@
 -- A log, line by line, to what is taken of it.
-use Rattle.std.specs.Prelude.{ℕ, zero, suc, Bool, true, false, List, [], ◌∷◌, Option, None, Some, if◌then◌else◌, ◌==◌, length, map, take}
+use Rattle.std.specs.Prelude.{ℕ, zero, suc, ◌+◌, Bool, true, false, List, [], ◌∷◌, Option, None, Some, if◌then◌else◌, ◌==◌, drop, length, map, take}
 use Rattle.trace_io.specs.Lines.{lines_of}
 use Rattle.import_text.specs.Counts.{counted, no_counts}
-use Rattle.import_text.specs.Joining.{call_at, speech_at}
-use Rattle.import_text.specs.Made.{all_makings, chain_of, holder, process_of}
+use Rattle.import_text.specs.Joining.{call_at, next_of, returns_by, speech_at}
+use Rattle.import_text.specs.Made.{all_makings, chain_of, holder, space_at}
 use Rattle.import_text.specs.Processes.{chosen, is_there, processes}
-use Rattle.import_forms.specs.Said.{said_of}
-use Rattle.import_forms.specs.Speech.{Spoken, speech_of}
+use Rattle.import_forms.specs.Said.{is_known, said_of}
+use Rattle.import_forms.specs.Speech.{Spoken, begun_of, returned_of, speech_of}
 use Rattle.import_text.specs.Taking.{SoFar, after_said}
 use Rattle.import_text.specs.declared.counts.Counts.{Counts}
 use Rattle.import_text.specs.declared.import.Ending.{Ending}
@@ -19,20 +19,35 @@ use Rattle.import_forms.specs.declared.said.Said.TheVariants as Says
 use Rattle.import_text.specs.declared.made.Making.{Making}
 use Rattle.import_text.specs.declared.taking.Fate.{Fate}
 use Rattle.import_text.specs.declared.taking.Fate.TheVariants.{Left}
-use Rattle.import_text.specs.declared.taking.Reason.TheVariants.{Elsewhere, Half}
+use Rattle.import_text.specs.declared.taking.Reason.{Reason}
+use Rattle.import_text.specs.declared.taking.Reason.TheVariants.{Elsewhere, Half, Unread}
 
--- after the call that acts at a line of this thread, if one does
-abbrev pub call_taken : SoFar → SoFar → ℕ → Option (List ℕ) → SoFar × Fate
-call_taken start s thread None = (s, Left Half)
-call_taken start s thread (Some text) = after_said start s thread text (said_of text)
+-- why a line is left out that a call began with, and at which it doesn't act: the call's other half does, if there is one
+abbrev pub half_begun : List ℕ → List ℕ → Reason
+half_begun front later = if returns_by front (returned_of later) then Half else if is_known front then Unread else Half
 
--- line k is about a thread of the process whose address space is followed there
+abbrev pub half_of : List ℕ → Option (List ℕ) → Reason
+half_of later None = Half
+half_of later (Some front) = half_begun front later
+
+-- why line k is left out, if no call acts at it
+abbrev pub half_at : List Spoken → ℕ → Reason
+half_at all k =
+    let s = speech_at all k in
+    half_of (next_of s.0 (drop (k + 1) all)) (begun_of s.1)
+
+-- after the call that acts at a line of this thread, if one does, and else why the line is left out
+abbrev pub call_taken : SoFar → SoFar → ℕ → Reason → Option (List ℕ) → SoFar × Fate
+call_taken start s thread why None = (s, Left why)
+call_taken start s thread why (Some text) = after_said start s thread text (said_of text)
+
+-- line k is about a thread that has the address space that is followed there
 abbrev pub is_ours : List Making → List Hold → ℕ → ℕ → Bool
-is_ours made chain thread k = process_of made thread == holder chain k
+is_ours made chain thread k = space_at made thread k == holder chain k
 
 -- after line k, where it is of the process: what was taken, and what became of the line
 abbrev pub taken_if : Bool → SoFar → SoFar → List Spoken → ℕ → SoFar × Fate
-taken_if true start s all k = call_taken start s (speech_at all k).0 (call_at all k)
+taken_if true start s all k = call_taken start s (speech_at all k).0 (half_at all k) (call_at all k)
 taken_if false start s all k = (s, Left Elsewhere)
 
 -- after line k
@@ -98,7 +113,7 @@ abbrev pub is_unread : Said → Bool
 is_unread (Says.Asks request) = false
 is_unread (Says.Breaks to) = false
 is_unread (Says.Moves from old to new) = false
-is_unread (Says.Makes thread shares) = false
+is_unread (Says.Makes thread shares joins) = false
 is_unread Says.Begins = false
 is_unread (Says.Keyed request) = false
 is_unread (Says.Sizes number len) = false

@@ -61,6 +61,11 @@ call_at all k =
     let s = speech_at all k in
     call_of s.1 (next_of s.0 (drop (k + 1) all)) (last_of s.0 all k) (begun_of s.1) (returned_of s.1)
 
+-- a call that began so returns by its thread's next text
+abbrev pub returns_by : List ℕ → Option (Token × List ℕ) → Bool
+returns_by front None = false
+returns_by front (Some r) = is_named r.0 front
+
 -- a text where there is one
 abbrev pub acting_text : Bool → List ℕ → Option (List ℕ)
 acting_text true text = Some text

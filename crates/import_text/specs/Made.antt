@@ -1,5 +1,5 @@
 -- Which threads were made, and by whom.
-use Rattle.std.specs.Prelude.{ℕ, zero, suc, Bool, true, false, List, [], ◌∷◌, ◌++◌, Option, None, Some, if◌then◌else◌, ◌==◌, length, nat_le, option_map}
+use Rattle.std.specs.Prelude.{ℕ, zero, suc, ◌+◌, ◌-◌, Bool, true, false, List, [], ◌∷◌, ◌++◌, Option, None, Some, if◌then◌else◌, ◌==◌, length, nat_le, nat_lt, option_map}
 use Rattle.import_text.specs.Joining.{call_at, speech_at}
 use Rattle.import_forms.specs.Said.{said_of}
 use Rattle.import_forms.specs.Speech.{Spoken, returned_of}
@@ -25,11 +25,42 @@ began_by all k (Some r) = last_place (speech_at all k).0 all k k
 abbrev pub began_at : List Spoken → ℕ → ℕ
 began_at all k = began_by all k (returned_of (speech_at all k).1)
 
--- the thread that line k says was made, by a call that began where this one did
+-- a program begins
+abbrev pub starts : Option Said → Bool
+starts None = false
+starts (Some (Says.Asks request)) = false
+starts (Some (Says.Breaks to)) = false
+starts (Some (Says.Moves from old to new)) = false
+starts (Some (Says.Makes thread shares joins)) = false
+starts (Some Says.Begins) = true
+starts (Some (Says.Keyed request)) = false
+starts (Some (Says.Sizes number len)) = false
+starts (Some (Says.Attaches number addr prot)) = false
+starts (Some (Says.Detaches addr)) = false
+starts (Some (Says.Loses lost)) = false
+starts (Some Says.Fails) = false
+starts (Some Says.Unread) = false
+starts (Some Says.Other) = false
+
+-- line k is the thread's, and a program begins there
+abbrev pub starts_at : List Spoken → ℕ → ℕ → Bool
+starts_at all thread k = if (speech_at all k).0 == thread then starts (said_at all k) else false
+
+-- the first of n lines from line k on at which the thread begins a program, and else the line behind them
+abbrev pub start_from : List Spoken → ℕ → ℕ → ℕ → ℕ
+start_from all thread k zero = k
+start_from all thread k (suc n) = if starts_at all thread k then k else start_from all thread (k + 1) n
+
+-- The line from which on a process has an address space of its own whose making began at line k: that line, or where it is to have its
+-- maker's until it begins a program, the line at which it does, if it ever does.
+abbrev pub own_from : List Spoken → ℕ → Bool → ℕ → ℕ
+own_from all thread joins k = if joins then start_from all thread k (length all - k) else k
+
+-- the thread that line k says was made
 abbrev pub making_of : List Spoken → ℕ → Option Said → Option Making
 making_of all k None = None
-making_of all k (Some (Says.Makes thread shares)) =
-    Some (record { child = thread; parent = (speech_at all k).0; shares = shares; at = began_at all k })
+making_of all k (Some (Says.Makes thread shares joins)) =
+    Some (record { child = thread; parent = (speech_at all k).0; shares = shares; joins = joins; at = own_from all thread joins (began_at all k) })
 making_of all k (Some (Says.Asks request)) = None
 making_of all k (Some (Says.Breaks to)) = None
 making_of all k (Some (Says.Moves from old to new)) = None
@@ -67,7 +98,7 @@ makings all (suc n) = with_making (makings all n) (making_of all n (said_at all 
 abbrev pub adopted : List Spoken → List Making → ℕ → List Making
 adopted all made zero = made
 adopted all made (suc n) =
-    with_making (adopted all made n) (Some (record { child = (speech_at all n).0; parent = 0; shares = true; at = 0 }))
+    with_making (adopted all made n) (Some (record { child = (speech_at all n).0; parent = 0; shares = true; joins = false; at = 0 }))
 
 -- who made which thread, as all lines say; those of which none says so are of one process only where that was asked for
 abbrev pub all_makings : Bool → List Spoken → List Making
@@ -93,6 +124,14 @@ process_of made thread = process_within made (length made) thread
 abbrev pub fork_of : Option Making → Option Making
 fork_of None = None
 fork_of (Some m) = if m.shares then None else Some m
+
+abbrev pub space_by : List Making → ℕ → ℕ → Option Making → ℕ
+space_by made process k None = process
+space_by made process k (Some m) = if m.joins then (if nat_lt k m.at then process_of made m.parent else process) else process
+
+-- the process whose address space a thread's process has at line k: its own, or its maker's
+abbrev pub space_at : List Making → ℕ → ℕ → ℕ
+space_at made thread k = space_by made (process_of made thread) k (fork_of (maker_of made (process_of made thread)))
 
 -- a process that had its parent's address space before it was made, or one from the log's first line on
 abbrev pub held_by : (ℕ → List Hold) → List Making → ℕ → Option Making → List Hold

@@ -32,7 +32,7 @@ abbrev pub begins : Said → Bool
 begins (Says.Asks request) = false
 begins (Says.Breaks to) = false
 begins (Says.Moves from old to new) = false
-begins (Says.Makes thread shares) = false
+begins (Says.Makes thread shares joins) = false
 begins Says.Begins = true
 begins (Says.Keyed request) = false
 begins (Says.Sizes number len) = false

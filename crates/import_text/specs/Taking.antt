@@ -294,7 +294,7 @@ abbrev pub after_said : SoFar → SoFar → ℕ → List ℕ → Said → SoFar 
 after_said start s thread text (Says.Asks request) = after_request s thread text request
 after_said start s thread text (Says.Breaks to) = after_break s thread to
 after_said start s thread text (Says.Moves from old to new) = after_move s thread from old to new
-after_said start s thread text (Says.Makes child shares) = (s, Left For.Other)
+after_said start s thread text (Says.Makes child shares joins) = (s, Left For.Other)
 after_said start s thread text Says.Begins = (start, Left For.Begins)
 after_said start s thread text (Says.Keyed request) = keyed_with s thread request
 after_said start s thread text (Says.Sizes number len) = sized_with s number len

@@ -28,7 +28,7 @@ pub struct Counts {
     pub elsewhere: u64,
     /// Lines that were kept or changed, before a program began anew.
     pub before: u64,
-    /// Calls in forms that aren't read.
+    /// Calls in forms that aren't read, or of which the log has the beginning alone.
     pub unread: u64,
     /// `brk` and `mremap` by which no page came or went.
     pub still: u64,

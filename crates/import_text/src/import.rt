@@ -4,19 +4,19 @@ ghost use Rattle.import_forms.specs.Speech.{spoken};
 ghost use Rattle.trace_io.specs.Lines.{lines_of};
 ghost use Rattle.import_text.specs.Counts.{total};
 ghost use Rattle.import_text.specs.Imported.{chosen_all, ending_all, import_all, processes_all};
-ghost use Rattle.import_text.specs.Imported.{ending_by, ending_of, first_unread, import_of, imported, is_unread, processes_of, process_in, taken_if, unread_for, unread_of};
+ghost use Rattle.import_text.specs.Imported.{ending_by, ending_of, first_unread, half_at, half_begun, import_of, imported, is_unread, processes_of, process_in, taken_if, unread_for, unread_of};
 ghost use Rattle.import_text.specs.Processes.{is_there};
 ghost use Rattle.import_text.specs.Programs.{program_name, programs_all, programs_in};
 ghost use Rattle.import_text.specs.Taking.{so_far};
 
 use crate::counts::Counts;
-use crate::joining::put_call;
+use crate::joining::{next_of, put_call, returns_by};
 use crate::made::{Hold, Making, all_makings, chain_of, holder};
-use crate::processes::{Choice, Process, chosen, is_there, look, read_processes, recall};
+use crate::processes::{Choice, Process, chosen, is_there, look, read_processes, recall, space_at};
 use crate::programs::{Program, read_programs};
 use crate::taking::{Fate, Reason, Taken, take};
-use import_forms::said::{Said, read_call};
-use import_forms::speech::{Speech, read_speech, read_speeches};
+use import_forms::said::{Said, is_known, read_call};
+use import_forms::speech::{Speech, begun, read_speech, read_speeches};
 use std::alloc::{AllocError, Global};
 use trace_io::lines::front_line;
 
@@ -57,6 +57,31 @@ pub struct Imported {
     pub counts: Counts,
 }
 
+// Why a line is left out that a call began with, and at which it doesn't act: the call's other half does, if there is one.
+fn half_begun(front: &[u8], later: &[u8]) -> Reason
+    ensures { result ≡ half_begun front.now later.now }
+{
+    if returns_by(front, later) {
+        Reason::Half
+    } else if is_known(front) {
+        Reason::Unread
+    } else {
+        Reason::Half
+    }
+}
+
+// Why the line is left out, if no call acts at it.
+fn half_at<'a>(speeches: &[Speech<'a>], place: usize) -> Reason
+    requires { place < length speeches.now }
+    ensures { result ≡ half_at (map spoken speeches.now) place }
+{
+    let speech = speeches[place];
+    match begun(speech.text) {
+        Some(front) => half_begun(front, next_of(speeches, place + 1, speech.thread)),
+        None => Reason::Half,
+    }
+}
+
 // Takes what this line says, if it is of the process that is imported.
 fn take_line<'a>(
     alloc: Global,
@@ -76,7 +101,7 @@ fn take_line<'a>(
     }
     let thread = speeches[place].thread;
     if !put_call(speeches, place, text)? {
-        return Ok(Fate::Left(Reason::Half));
+        return Ok(Fate::Left(half_at(speeches, place)));
     }
     let said = read_call(text.as_slice());
     take(alloc, start, taken, thread, text.as_slice(), said)
@@ -102,7 +127,7 @@ pub(crate) fn take_lines<'a>(
     let mut at = 0;
     'lines: while at < speeches.len() {
         known = recall(made, known, speeches[at].thread);
-        let is_ours = known.process == holder(chain, at);
+        let is_ours = space_at(made, known, at) == holder(chain, at);
         let fate = take_line(alloc, start, &mut taken, speeches, is_ours, at, text)?;
         counts = counts.and(fate);
         at += 1;

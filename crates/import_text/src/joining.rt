@@ -1,8 +1,8 @@
 //! The whole text of a call that strace tells in two lines, and the line at which it acts.
 ghost use Rattle.std.specs.Prelude.{◌≡◌, ◌<◌, ◌≤◌, IfOk, OnOk, drop, length, map};
 ghost use Rattle.import_text.specs.Joining.{acting_text, call_at, call_begun, call_returned, front_for, is_named, joined};
-ghost use Rattle.import_text.specs.Joining.{last_of, next_of};
-ghost use Rattle.import_forms.specs.Speech.{begun_of, spoken};
+ghost use Rattle.import_text.specs.Joining.{last_of, next_of, returns_by};
+ghost use Rattle.import_forms.specs.Speech.{begun_of, returned_of, spoken};
 
 use import_forms::speech::{Speech, begun, returned};
 use import_forms::tokens::next_token;
@@ -34,8 +34,8 @@ fn last_of<'a>(speeches: &[Speech<'a>], place: usize, thread: u64) -> &'a [u8]
     b"".as_slice()
 }
 
-// What is said of the thread first from this place on, nothing where nothing is.
-fn next_of<'a>(speeches: &[Speech<'a>], place: usize, thread: u64) -> &'a [u8]
+/// What is said of the thread first from this place on, nothing where nothing is.
+pub(crate) fn next_of<'a>(speeches: &[Speech<'a>], place: usize, thread: u64) -> &'a [u8]
     requires { place ≤ length speeches.now }
     ensures { result.now ≡ next_of thread (drop place (map spoken speeches.now)) }
 {
@@ -48,6 +48,16 @@ fn next_of<'a>(speeches: &[Speech<'a>], place: usize, thread: u64) -> &'a [u8]
         at += 1;
     }
     b"".as_slice()
+}
+
+/// Tells whether a call that began so returns by this text, its thread's next.
+pub(crate) fn returns_by(front: &[u8], later: &[u8]) -> bool
+    ensures { result ≡ returns_by front.now (returned_of later.now) }
+{
+    match returned(later) {
+        Some((name, _)) => is_named(front, name),
+        None => false,
+    }
 }
 
 // Makes the text of these two parts.

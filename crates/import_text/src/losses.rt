@@ -21,6 +21,8 @@ pub struct Losses {
     pub huge: u64,
     /// `userfaultfd`.
     pub faults: u64,
+    /// `io_setup`, `io_destroy` and `map_shadow_stack`.
+    pub others: u64,
 }
 
 impl Losses {
@@ -36,6 +38,7 @@ impl Losses {
             grows: 0,
             huge: 0,
             faults: 0,
+            others: 0,
         }
     }
 
@@ -44,7 +47,14 @@ impl Losses {
         requires { lost_lines self.now < 2 ^ 64 }
         ensures { result ≡ lost_lines self.now }
     {
-        self.attach + self.detach + self.drops + self.remaps + self.grows + self.huge + self.faults
+        self.attach
+            + self.detach
+            + self.drops
+            + self.remaps
+            + self.grows
+            + self.huge
+            + self.faults
+            + self.others
     }
 
     /// One call more.
@@ -62,6 +72,7 @@ impl Losses {
             Lost::Grows => losses.grows += 1,
             Lost::Huge => losses.huge += 1,
             Lost::Faults => losses.faults += 1,
+            Lost::Others => losses.others += 1,
         }
         losses
     }

@@ -1,8 +1,8 @@
 //! Which threads were made, and by whom: of which process a thread is, and whose address space a process had before it was made.
-ghost use Rattle.std.specs.Prelude.{◌≡◌, ◌<◌, ◌≤◌, IfOk, OnOk, Some, length, map, option_map};
+ghost use Rattle.std.specs.Prelude.{◌≡◌, ◌-◌, ◌<◌, ◌≤◌, IfOk, OnOk, Some, length, map, option_map};
 ghost use Rattle.import_forms.specs.Speech.{spoken};
 ghost use Rattle.import_text.specs.Joining.{acting_text};
-ghost use Rattle.import_text.specs.Made.{adopted, all_makings, began_at, chain_of, fork_of, holder, last_place, maker_of, makings, making_of, process_of, with_making};
+ghost use Rattle.import_text.specs.Made.{adopted, all_makings, began_at, chain_of, fork_of, holder, last_place, maker_of, makings, making_of, own_from, process_of, said_at, space_by, start_from, starts, starts_at, with_making};
 ghost use Rattle.import_forms.specs.Said.{said_of};
 
 use crate::joining::put_call;
@@ -19,7 +19,10 @@ pub struct Making {
     pub parent: u64,
     /// Whether it is of the same process.
     pub shares: bool,
-    /// The line in which the call that made it began, counted from 0.
+    /// Whether it is of another process, and has its maker's address space until it begins a program.
+    pub joins: bool,
+    /// The line from which on it has an address space of its own, if it is of another process, counted from 0: that in which the call
+    /// began that made it, or where it has its maker's until it begins a program, that at which it does.
     pub at: usize,
 }
 
@@ -35,7 +38,8 @@ pub struct Hold {
 // The place of the thread's last line before this one; this one where there is none.
 fn last_place<'a>(speeches: &[Speech<'a>], place: usize, thread: u64) -> usize
     requires { place ≤ length speeches.now }
-    ensures { result ≡ last_place thread (map spoken speeches.now) place place }
+    ensures within { result ≤ place }
+    ensures value { result ≡ last_place thread (map spoken speeches.now) place place }
 {
     let mut at = place;
     'earlier: while at > 0 {
@@ -50,7 +54,8 @@ fn last_place<'a>(speeches: &[Speech<'a>], place: usize, thread: u64) -> usize
 // The line in which the call began that acts at this one.
 fn began_at<'a>(speeches: &[Speech<'a>], place: usize) -> usize
     requires { place < length speeches.now }
-    ensures { result ≡ began_at (map spoken speeches.now) place }
+    ensures within { result ≤ place }
+    ensures value { result ≡ began_at (map spoken speeches.now) place }
 {
     let speech = speeches[place];
     match returned(speech.text) {
@@ -59,18 +64,125 @@ fn began_at<'a>(speeches: &[Speech<'a>], place: usize) -> usize
     }
 }
 
-// The thread that this line says was made.
-fn making_of<'a>(speeches: &[Speech<'a>], place: usize, said: Said) -> Option<Making>
-    requires { place < length speeches.now }
-    ensures { result ≡ making_of (map spoken speeches.now) place (Some said) }
+// Tells whether a program begins.
+fn starts(said: Said) -> bool
+    ensures { result ≡ starts (Some said) }
 {
     match said {
-        Said::Makes { thread, shares } => Some(Making {
-            child: thread,
-            parent: speeches[place].thread,
+        Said::Begins => true,
+        Said::Asks(_)
+        | Said::Breaks(_)
+        | Said::Moves { .. }
+        | Said::Makes { .. }
+        | Said::Keyed(_)
+        | Said::Sizes { .. }
+        | Said::Attaches { .. }
+        | Said::Detaches(_)
+        | Said::Loses(_)
+        | Said::Fails
+        | Said::Unread
+        | Said::Other => false,
+    }
+}
+
+// Tells whether the call that acts at this line, if one does, begins a program.
+fn line_starts<'a>(
+    speeches: &[Speech<'a>],
+    place: usize,
+    text: &mut Vec<u8>,
+) -> Result<bool, AllocError>
+    requires { place < length speeches.now }
+    ensures { IfOk result (λ b. b ≡ starts (said_at (map spoken speeches.now) place)) }
+{
+    if put_call(speeches, place, text)? {
+        Ok(starts(read_call(text.as_slice())))
+    } else {
+        Ok(false)
+    }
+}
+
+// Tells whether the line is the thread's, and a program begins there.
+fn starts_at<'a>(
+    speeches: &[Speech<'a>],
+    thread: u64,
+    place: usize,
+    text: &mut Vec<u8>,
+) -> Result<bool, AllocError>
+    requires { place < length speeches.now }
+    ensures { IfOk result (λ b. b ≡ starts_at (map spoken speeches.now) thread place) }
+{
+    if speeches[place].thread == thread {
+        line_starts(speeches, place, text)
+    } else {
+        Ok(false)
+    }
+}
+
+// The first line from this one on at which the thread begins a program, and the number of all lines where there is none.
+#[tactic(auto, using(crate::proofs::MadeLemmas::start_more, crate::proofs::MadeLemmas::start_here, crate::proofs::MadeLemmas::start_end))]
+fn start_from<'a>(
+    speeches: &[Speech<'a>],
+    thread: u64,
+    from: usize,
+    text: &mut Vec<u8>,
+) -> Result<usize, AllocError>
+    requires { from ≤ length speeches.now }
+    ensures { IfOk result (λ k. k ≡ start_from (map spoken speeches.now) thread from (length (map spoken speeches.now) - from)) }
+{
+    let mut at = from;
+    'lines: while at < speeches.len() {
+        if starts_at(speeches, thread, at, text)? {
+            return Ok(at);
+        }
+        at += 1;
+    }
+    Ok(at)
+}
+
+// The line from which on a process has an address space of its own whose making began at this line.
+fn own_from<'a>(
+    speeches: &[Speech<'a>],
+    thread: u64,
+    joins: bool,
+    from: usize,
+    text: &mut Vec<u8>,
+) -> Result<usize, AllocError>
+    requires { from ≤ length speeches.now }
+    ensures { IfOk result (λ k. k ≡ own_from (map spoken speeches.now) thread joins from) }
+{
+    if joins {
+        start_from(speeches, thread, from, text)
+    } else {
+        Ok(from)
+    }
+}
+
+// The thread that this line says was made.
+fn making_of<'a>(
+    speeches: &[Speech<'a>],
+    place: usize,
+    said: Said,
+    text: &mut Vec<u8>,
+) -> Result<Option<Making>, AllocError>
+    requires { place < length speeches.now }
+    ensures { IfOk result (λ m. m ≡ making_of (map spoken speeches.now) place (Some said)) }
+{
+    match said {
+        Said::Makes {
+            thread,
             shares,
-            at: began_at(speeches, place),
-        }),
+            joins,
+        } => {
+            let began = began_at(speeches, place);
+            let at = own_from(speeches, thread, joins, began, text)?;
+            Ok(Some(Making {
+                child: thread,
+                parent: speeches[place].thread,
+                shares,
+                joins,
+                at,
+            }))
+        }
         Said::Asks(_)
         | Said::Breaks(_)
         | Said::Moves { .. }
@@ -82,7 +194,7 @@ fn making_of<'a>(speeches: &[Speech<'a>], place: usize, said: Said) -> Option<Ma
         | Said::Loses(_)
         | Said::Fails
         | Said::Unread
-        | Said::Other => None,
+        | Said::Other => Ok(None),
     }
 }
 
@@ -112,7 +224,7 @@ fn read_makings<'a>(
     'lines: while at < speeches.len() {
         if put_call(speeches, at, text)? {
             let said = read_call(text.as_slice());
-            if let Some(making) = making_of(speeches, at, said) {
+            if let Some(making) = making_of(speeches, at, said, text)? {
                 add_making(&mut made, making)?;
             }
         }
@@ -132,6 +244,7 @@ fn adopt<'a>(made: &mut Vec<Making>, speeches: &[Speech<'a>]) -> Result<(), Allo
             child: thread,
             parent: 0,
             shares: true,
+            joins: false,
             at: 0,
         };
         add_making(made, making)?;
@@ -191,13 +304,29 @@ pub(crate) fn process_of(made: &[Making], thread: u64) -> u64
     thread
 }
 
-// How the first thread of a process was made, where it was made with an address space of its own.
-fn fork_of(made: &[Making], process: u64) -> Option<Making>
+/// How the first thread of a process was made, where it was made with an address space of its own.
+pub(crate) fn fork_of(made: &[Making], process: u64) -> Option<Making>
     ensures { result ≡ fork_of (maker_of made.now process) }
 {
     match maker_of(made, process) {
         Some(making) => { if making.shares { None } else { Some(making) } }
         None => None,
+    }
+}
+
+/// The process whose address space a process has at this line that was made so: its own, or its maker's.
+pub(crate) fn space_by(made: &[Making], process: u64, line: usize, own: Option<Making>) -> u64
+    ensures { result ≡ space_by made.now process line own }
+{
+    match own {
+        Some(making) => {
+            if making.joins && line < making.at {
+                process_of(made, making.parent)
+            } else {
+                process
+            }
+        }
+        None => process,
     }
 }
 

@@ -1,11 +1,11 @@
 //! The processes of a log, and how much each asks of its address space.
 ghost use Rattle.std.specs.Prelude.{◌≡◌, ◌<◌, ◌≤◌, IfOk, OnOk, Some, length, map, slice_get};
 ghost use Rattle.import_forms.specs.Speech.{spoken};
-ghost use Rattle.import_text.specs.Made.{process_of, said_at};
+ghost use Rattle.import_text.specs.Made.{fork_of, maker_of, process_of, said_at, space_at};
 ghost use Rattle.import_text.specs.Processes.{asks, best_of, busiest, chosen, is_there, place_in, process_at, processes, with_request, with_line};
 
 use crate::joining::put_call;
-use crate::made::{Making, process_of};
+use crate::made::{Making, fork_of, process_of, space_by};
 use import_forms::said::{Said, read_call};
 use import_forms::speech::Speech;
 use std::alloc::{AllocError, Global};
@@ -33,30 +33,46 @@ pub struct Choice {
 pub(crate) struct Known {
     pub(crate) thread: u64,
     pub(crate) process: u64,
+    // How that was made, if it has an address space of its own.
+    pub(crate) own: Option<Making>,
 }
 
 /// Looks of which process the thread is.
 pub(crate) fn look(made: &[Making], thread: u64) -> Known
     ensures thread { result.thread ≡ thread }
     ensures known { result.process ≡ process_of made.now thread }
+    ensures own { result.own ≡ fork_of (maker_of made.now (process_of made.now thread)) }
 {
+    let process = process_of(made, thread);
     Known {
         thread,
-        process: process_of(made, thread),
+        process,
+        own: fork_of(made, process),
     }
 }
 
 /// Of which process the thread is, as it is known of one thread: the next line is often of the same.
 pub(crate) fn recall(made: &[Making], known: Known, thread: u64) -> Known
-    requires { known.process ≡ process_of made.now known.thread }
+    requires known { known.process ≡ process_of made.now known.thread }
+    requires own { known.own ≡ fork_of (maker_of made.now (process_of made.now known.thread)) }
     ensures thread { result.thread ≡ thread }
     ensures known { result.process ≡ process_of made.now thread }
+    ensures own { result.own ≡ fork_of (maker_of made.now (process_of made.now thread)) }
 {
     if known.thread == thread {
         known
     } else {
         look(made, thread)
     }
+}
+
+/// The process whose address space the thread has at this line.
+pub(crate) fn space_at(made: &[Making], known: Known, line: usize) -> u64
+    requires known { known.process ≡ process_of made.now known.thread }
+    requires own { known.own ≡ fork_of (maker_of made.now (process_of made.now known.thread)) }
+    ensures { result ≡ space_at made.now known.thread line }
+{
+    space_by(made, known.process, line, known.own)
 }
 
 // Tells whether this asks for something of the address space.

@@ -91,13 +91,13 @@ pub enum Change {
 /// Why a line is left out.
 #[derive(Clone, Copy, Debug, PartialEq, Eq)]
 pub enum Reason {
-    /// The other half of a call: it acts in another line.
+    /// The other half of a call: it acts in another line, or is none of those that are looked at.
     Half,
     /// A call that failed.
     Failed,
     /// It is of another process, which has an address space of its own.
     Elsewhere,
-    /// A call in a form that isn't read.
+    /// A call in a form that isn't read, or of which the log has the beginning alone.
     Unread,
     /// `brk` or `mremap` by which no page comes or goes.
     Still,

@@ -127,7 +127,9 @@ first, in the order of the FILEs, and standard error tells how many there are.
                  where there are several, standard error then lists them, each
                  with the program that it began last. If no line is about
                  thread N, that is an error, and they are listed, too. A forked
-                 process begins with its parent's mappings
+                 process begins with its parent's mappings; one of vfork, or
+                 of clone with CLONE_VM, maps and unmaps for its parent, too,
+                 until it begins a program
   --one-process  all threads of whose creation no line tells are of one
                  process, as strace -f -p N leaves it; else each is one
   --all DIR      a trace of each process, NUMBER.trace in the folder DIR, which
@@ -148,7 +150,8 @@ requests; the 65th shares core 0 with the first.
 
 A call that stands in two lines, <unfinished ...> and resumed, acts where it
 returns, but munmap where it begins: its pages are gone before it returns, and
-others may be mapped there before its second line.
+others may be mapped there before its second line. One that never returns in
+the log isn't read.
 
 Changed, since a trace has no such lines:
   brk            mmap or munmap of the pages between the heap's old end and
@@ -174,9 +177,9 @@ clone without CLONE_THREAD), what a process did before execve, and all else
 that isn't read. Calls that change the address space and can't be kept are
 lost, and counted by their names: shmat and shmdt of memory whose size isn't
 known, madvise that drops bytes (MADV_DONTNEED, MADV_FREE, MADV_REMOVE),
-remap_file_pages, mmap with MAP_GROWSDOWN or MAP_HUGETLB, and userfaultfd. How
-many lines became what is told on standard error, and each line is counted
-once.
+remap_file_pages, mmap with MAP_GROWSDOWN or MAP_HUGETLB, userfaultfd,
+io_setup, io_destroy and map_shadow_stack. How many lines became what is told
+on standard error, and each line is counted once.
 
 What was mapped before the log begins isn't known without --maps: an mprotect
 of such pages is kept, and run answers enomem. Pages of the program's own file,

@@ -1,7 +1,7 @@
 use Rattle.std.proofs.Common.{Some, arith, length, drop, sym, ap, ◌∙◌}
 use Rattle.import_forms.specs.Tokens.{begins_by}
 use Rattle.import_forms.proofs.SaidLemmas.{behind_here, behind_more}
-use Rattle.import_forms.proofs.said.behind.Goals as goal
+use Rattle.import_forms.proofs.making.behind.Goals as goal
 
 pub returns-then-begins : goal.returns-then-begins
 returns-then-begins c =

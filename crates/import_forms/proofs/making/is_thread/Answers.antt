@@ -1,6 +1,6 @@
 use Rattle.std.proofs.Common.{ap, ◌∙◌}
-use Rattle.import_forms.specs.Tokens.{occurs}
-use Rattle.import_forms.proofs.said.names_thread.Goals as goal
+use Rattle.import_forms.specs.Said.{makes_with}
+use Rattle.import_forms.proofs.making.is_thread.Goals as goal
 
 pub returns : goal.returns
-returns c = c.has.ensures ∙ ap (λ l. occurs l c.args.before.now) c.as_slice.ensures
+returns c = c.makes_with.ensures ∙ ap (λ l. makes_with l 65536 c.args.before.now) c.as_slice.ensures

@@ -1,7 +1,7 @@
 use Rattle.std.proofs.Common.{◌≡◌, ◌≤◌, ◌-◌, map, length}
 use Rattle.import_text.specs.Counts.{total}
 use Rattle.import_text.specs.Imported.{imported}
-use Rattle.import_text.specs.Made.{process_of}
+use Rattle.import_text.specs.Made.{fork_of, maker_of, process_of}
 use Rattle.import_forms.specs.Speech.{spoken}
 use Rattle.import_text.specs.Taking.{so_far}
 use Rattle.import_text.proofs.import.take_lines.Given as goal
@@ -11,6 +11,7 @@ invariant-lines l = record {
   within : l.at ≤ length l.speeches;
   value : (so_far l.taken, l.counts) ≡ imported (so_far l.start) (map spoken l.speeches) l.made l.chain l.at;
   known : l.known.process ≡ process_of l.made l.known.thread;
+  own : l.known.own ≡ fork_of (maker_of l.made (process_of l.made l.known.thread));
   total : total l.counts ≡ l.at;
 }
 

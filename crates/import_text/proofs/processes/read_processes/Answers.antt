@@ -1,6 +1,6 @@
 use Rattle.std.proofs.Common.{arith, map, ap, sym, ◌∙◌}
 use Rattle.import_forms.specs.Speech.{spoken}
-use Rattle.import_text.specs.Made.{process_of}
+use Rattle.import_text.specs.Made.{fork_of, maker_of, process_of}
 use Rattle.import_text.proofs.JoinLemmas.{map-get}
 use Rattle.import_text.proofs.ProcessLemmas.{counted_more}
 use Rattle.import_text.proofs.processes.read_processes.Goals as goal
@@ -14,4 +14,5 @@ lines-preserved c =
       all = counted_more all c.args.made.now c.lines.at _ _ _ _ c.lines.invariant.all c.in_ok-count_line.ensures
           (c.recall-known.ensures.known ∙ ap (λ s. process_of c.args.made.now s.0) (sym here)) c.in_ok-asks.ensures;
       known = c.recall-known.ensures.known ∙ ap (process_of c.args.made.now) (sym c.recall-known.ensures.thread);
+      own = c.recall-known.ensures.own ∙ ap (λ t. fork_of (maker_of c.args.made.now (process_of c.args.made.now t))) (sym c.recall-known.ensures.thread);
     }

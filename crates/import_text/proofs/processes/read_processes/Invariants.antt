@@ -1,6 +1,6 @@
 use Rattle.std.proofs.Common.{◌≡◌, ◌≤◌, ◌-◌, map, length}
 use Rattle.import_forms.specs.Speech.{spoken}
-use Rattle.import_text.specs.Made.{process_of}
+use Rattle.import_text.specs.Made.{fork_of, maker_of, process_of}
 use Rattle.import_text.specs.Processes.{processes}
 use Rattle.import_text.proofs.processes.read_processes.Given as goal
 
@@ -9,6 +9,7 @@ invariant-lines l = record {
   within : l.at ≤ length l.speeches;
   all : l.all.items ≡ processes (map spoken l.speeches) l.made l.at;
   known : l.known.process ≡ process_of l.made l.known.thread;
+  own : l.known.own ≡ fork_of (maker_of l.made (process_of l.made l.known.thread));
 }
 
 abbrev pub decreases-lines : goal.decreases-lines
