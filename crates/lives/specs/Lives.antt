@@ -69,7 +69,7 @@ kind_key x words class = concat (codes "<rect x=\"" ∷ x ∷ codes "\" y=\"9\" 
 
 -- colours say what pages allow, and shades what backs them
 abbrev pub style_text : List ℕ
-style_text = concat (codes "<style>\nrect{stroke-width:.5px;vector-effect:non-scaling-stroke}\n" ∷ flat_map edge_rule shades ∷ codes "\n"
+style_text = concat (codes "<style>\nrect{stroke-width:.5px}svg svg rect{stroke-width:.02px}\n" ∷ flat_map edge_rule shades ∷ codes "\n"
     ∷ fullness_rule (codes "anon") (codes ".3") ∷ fullness_rule (codes "private") (codes ".6") ∷ codes "\n</style>\n"
     ∷ key_text (codes "640") (codes "658") nothing_shade ∷ key_text (codes "740") (codes "758") read_shade
     ∷ key_text (codes "810") (codes "828") write_shade ∷ key_text (codes "884") (codes "902") exec_shade

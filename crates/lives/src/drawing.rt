@@ -15,10 +15,11 @@ use picture::shapes::Stretch;
 use std::alloc::{AllocError, Global};
 use vm_base::Back;
 
-/// What the colours of lives are and mean, and their shades: where rows are low, the colour of their edges is seen.
+/// What the colours of lives are and mean, and their shades. The lives' edges are thin in the units of rows, since not all that show
+/// SVG know of strokes that don't scale.
 pub const LIVES_STYLE: &str = "\
 <style>
-rect{stroke-width:.5px;vector-effect:non-scaling-stroke}
+rect{stroke-width:.5px}svg svg rect{stroke-width:.02px}
 .none{stroke:#bbb}.read{stroke:#7fbf93}.write{stroke:#e0aa55}.exec{stroke:#6fa0d6}.both{stroke:#d67f7f}
 .anon{fill-opacity:.3}.private{fill-opacity:.6}
 </style>
