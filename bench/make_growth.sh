@@ -14,7 +14,7 @@ function map(page) { print "c0! mmap " at(2 * page, 0) " 4096 rw- pfa" }
 function load(page) { print "c0! load " at(2 * page, draw(4096)) }
 
 function slots(    i, touched) {
-    print "vm 1 65536 1048576"
+    print "vm 1 65536 " (size + lines > 1048576 ? size + lines : 1048576)
     for (i = 0; i < size; i++) map(i)
     touched = size < 50000 ? size : 50000
     for (i = 0; i < touched && kind == "load"; i++) load(i)

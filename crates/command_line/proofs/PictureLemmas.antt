@@ -36,26 +36,27 @@ known_read old new P text is r = go new.coming refl (subst (λ o. Consumes o new
     go (Some rest) e c = (rest, subst (λ xs. P xs rest) (sym c) (r.holds rest (subst (λ o. Keeps o (Some rest)) e refl)))
 
 -- all lines were watched
-pub all_recorded : {S T : Type 0} (s t : Stream) (after : After S) (one r : S) (text : List ℕ) (ended : Result T TraceFault) (x : T) → s.coming ≡ Some text
-    → ended ≡ Ok x → IfOk ended (λ u. Reads s t (λ input unread. IsSeen after one r Outcomes input None None)) → Records after one text (Ok r)
-all_recorded s t after one r text (Ok y) x known is h = (known_read s t (λ input unread. IsSeen after one r Outcomes input None None) text known h).1
-all_recorded s t after one r text (Err f) x known is h = absurd (cc)
+pub all_recorded : {S T : Type 0} (s t : Stream) (after : After S) (one r : S) (limit : CallLimit) (text : List ℕ) (ended : Result T TraceFault) (x : T)
+    → s.coming ≡ Some text → ended ≡ Ok x → IfOk ended (λ u. Reads s t (λ input unread. IsSeen after one r Outcomes input None None))
+    → Records after one limit text (Ok r)
+all_recorded s t after one r limit text (Ok y) x known is h = (known_read s t (λ input unread. IsSeen after one r Outcomes input None None) text known h).1
+all_recorded s t after one r limit text (Err f) x known is h = absurd (cc)
 
 -- a fault of the trace
-pub none_recorded : {T : Type 0} (s t : Stream) (text : List ℕ) (ended : Result T TraceFault) (f : TraceFault) → s.coming ≡ Some text → ended ≡ Err f
-    → Reads s t (λ input unread. Ends Usual Outcomes input unread None None ended) → Fails text f
-none_recorded {T} s t text ended f known e h = inl (known_read s t (λ input unread. Ends {T = T} Usual Outcomes input unread None None (Err f)) text known
-    (subst (λ r. Reads s t (λ input unread. Ends Usual Outcomes input unread None None r)) e h))
+pub none_recorded : {T : Type 0} (s t : Stream) (limit : CallLimit) (text : List ℕ) (ended : Result T TraceFault) (f : TraceFault) → s.coming ≡ Some text → ended ≡ Err f
+    → Reads s t (λ input unread. Ends limit Outcomes input unread None None ended) → Fails limit text f
+none_recorded {T} s t limit text ended f known e h = inl (known_read s t (λ input unread. Ends {T = T} limit Outcomes input unread None None (Err f)) text known
+    (subst (λ r. Reads s t (λ input unread. Ends limit Outcomes input unread None None r)) e h))
 
 -- the fault of a replay in memory
-pub fails_in_memory : (input : List ℕ) (f : TraceFault) → Fails input f → Fails input (in_memory f)
-fails_in_memory input (BadLine number) h = h
-fails_in_memory input (TooLong number) h = h
-fails_in_memory input NoVmLine h = h
-fails_in_memory input (Setup fault) h = h
-fails_in_memory input ReadFailed h = inr (inl refl)
-fails_in_memory input NoMemory h = h
-fails_in_memory input WriteFailed h = inr (inl refl)
+pub fails_in_memory : (limit : CallLimit) (input : List ℕ) (f : TraceFault) → Fails limit input f → Fails limit input (in_memory f)
+fails_in_memory limit input (BadLine number) h = h
+fails_in_memory limit input (TooLong number) h = h
+fails_in_memory limit input NoVmLine h = h
+fails_in_memory limit input (Setup fault) h = h
+fails_in_memory limit input ReadFailed h = inr (inl refl)
+fails_in_memory limit input NoMemory h = h
+fails_in_memory limit input WriteFailed h = inr (inl refl)
 
 -- the text of what came of all lines was written, or wasn't
 pub text_drawn : {S : Type 0} (Comes : S → Type 0) (Faults : TraceFault → Type 0) (lacks : S → Option ℕ) (text : S → List ℕ) (old new : Option (List ℕ)) (r : S)
@@ -67,18 +68,20 @@ text_drawn Comes Faults lacks text old new r (Err f) want h w (inl (none, kept))
 text_drawn Comes Faults lacks text old new r (Err f) want h w (inr (failed, front)) = inr (failed, inr (r, h, front))
 
 -- of what was recorded by one who began so
-pub all_drawn : {S : Type 0} (after : After S) (made one : S) (lacks : S → Option ℕ) (text : S → List ℕ) (input : List ℕ) (old new : Option (List ℕ)) (r : S)
-    (ended : Result (Option ℕ) TraceFault) → made ≡ one → Records after made input (Ok r)
+pub all_drawn : {S : Type 0} (after : After S) (made one : S) (lacks : S → Option ℕ) (text : S → List ℕ) (limit : CallLimit) (input : List ℕ)
+    (old new : Option (List ℕ)) (r : S) (ended : Result (Option ℕ) TraceFault) → made ≡ one → Records after made limit input (Ok r)
     → IfOk ended (λ x. (x ≡ lacks r) × ShowsText x (text r) old new)
     → IfErr ended (λ f. ((f ≡ NoMemory) × Keeps old new) ⊎ ((f ≡ WriteFailed) × AppendsFront old new (text r)))
-    → TextEnds (Watched after one input) (Fails input) lacks text old new ended
-all_drawn after made one lacks text input old new r ended is h w e =
-    text_drawn (Watched after one input) (Fails input) lacks text old new r ended (inr (inl refl)) (subst (λ m. Records after m input (Ok r)) is h) w e
+    → TextEnds (Watched after one input) (Fails limit input) lacks text old new ended
+all_drawn after made one lacks text limit input old new r ended is h w e =
+    text_drawn (Watched after one input) (Fails limit input) lacks text old new r ended (inr (inl refl))
+    (subst (λ m. Records after m limit input (Ok r)) is h) w e
 
 -- after a fault nothing was
-pub none_drawn : {S : Type 0} (after : After S) (one : S) (lacks : S → Option ℕ) (text : S → List ℕ) (input : List ℕ) (old : Option (List ℕ)) (f : TraceFault)
-    → Fails input f → TextEnds (Watched after one input) (Fails input) lacks text old old (Err f)
-none_drawn after one lacks text input old f why = inl (why, Keeps-refl old)
+pub none_drawn : {S : Type 0} (after : After S) (one : S) (lacks : S → Option ℕ) (text : S → List ℕ) (limit : CallLimit) (input : List ℕ)
+    (old : Option (List ℕ)) (f : TraceFault) → Fails limit input f
+    → TextEnds (Watched after one input) (Fails limit input) lacks text old old (Err f)
+none_drawn after one lacks text limit input old f why = inl (why, Keeps-refl old)
 
 -- a picture of the text that was read
 pub picture_read : (s t : Stream) (drawing : Drawing) (text : List ℕ) (old new : Option (List ℕ)) (ended : Result (Option ℕ) TraceFault)

@@ -1,7 +1,8 @@
 -- The pictures of a trace, and how they end
 use Rattle.std.specs.Prelude.{◌≡◌, ℕ, ◌⊎◌, min, List, Option, None, Some, Result, Ok, Err, nat_lt, if◌then◌else◌, ◌&&◌}
 use Rattle.std.specs.Io.KnownBytes.{Keeps, Appends}
-use Rattle.core_steps.specs.declared.setup.CallLimit.TheVariants.{Usual}
+use Rattle.core_steps.specs.declared.setup.CallLimit.{CallLimit}
+use Rattle.core_steps.specs.declared.setup.CallLimit.TheVariants.{Usual, Long}
 use Rattle.lives.specs.Lives.{lives_text}
 use Rattle.machine_model.specs.World.{World}
 use Rattle.machine_model.specs.declared.event.Event.{Event}
@@ -50,8 +51,8 @@ ShowsText None text old new = Appends old new text
 ShowsText (Some steps) text old new = Keeps old new
 
 -- no picture comes of the trace: for a fault of it, for want of memory, or since it couldn't be read
-abbrev pub Fails : List ℕ → TraceFault → Type 0
-Fails input f = ((unread : List ℕ) × Stops Usual Outcomes input unread None None f) ⊎ ((f ≡ NoMemory) ⊎ (f ≡ ReadFailed))
+abbrev pub Fails : CallLimit → List ℕ → TraceFault → Type 0
+Fails limit input f = ((unread : List ℕ) × Stops limit Outcomes input unread None None f) ⊎ ((f ≡ NoMemory) ⊎ (f ≡ ReadFailed))
 
 -- The text of what came of all lines was written, or told how many steps there are, where those asked for are lacking. After a fault of
 -- the trace, or where memory was wanting, nothing was; after a write or a flush that failed nothing was, or a front of the text.
@@ -68,10 +69,10 @@ Watched after one input r = IsSeen after one r Outcomes input None None
 -- beside a recorder of some steps it is the picture of what happened in them, beside one of changes that of lives; in place of a picture
 -- there may be the text of the state to which the lines lead, or a list of the mappings at the end with the names of files
 abbrev pub PictureEnds : Drawing → List ℕ → Option (List ℕ) → Option (List ℕ) → Result (Option ℕ) TraceFault → Type 0
-PictureEnds (Steps steps) input old new r = TextEnds (Watched (makes recorded) (nothing_recorded steps.first steps.last) input) (Fails input)
+PictureEnds (Steps steps) input old new r = TextEnds (Watched (makes recorded) (nothing_recorded steps.first steps.last) input) (Fails Usual input)
     (lacking steps.first) (picture_of steps.first steps.last input) old new r
-PictureEnds State input old new r = TextEnds (ComesTo (lines_of input)) (Fails input) lacking_no_state state_text old new r
-PictureEnds Lives input old new r = TextEnds (Watched ChangesRecorded nothing_changed input) (Fails input) lacking_none (lives_of input) old new r
+PictureEnds State input old new r = TextEnds (ComesTo (lines_of input)) (Fails Usual input) lacking_no_state state_text old new r
+PictureEnds Lives input old new r = TextEnds (Watched ChangesRecorded nothing_changed input) (Fails Long input) lacking_none (lives_of input) old new r
 PictureEnds (Listing limit) input old new r = TextEnds (Listed limit input) (FailsToList limit input) lacking_nothing (named_list input) old new r
 
 -- the fault of a replay in memory: it can be read and written, so where it can't, there was no memory
@@ -85,7 +86,7 @@ in_memory NoMemory = NoMemory
 in_memory WriteFailed = NoMemory
 
 -- what a watching of the trace came to
-abbrev pub Records : {S : Type 0} → (S → World → Event → Outcome → World → S → Type 0) → S → List ℕ
+abbrev pub Records : {S : Type 0} → (S → World → Event → Outcome → World → S → Type 0) → S → CallLimit → List ℕ
     → Result S TraceFault → Type 0
-Records after one input (Ok r) = Watched after one input r
-Records after one input (Err f) = Fails input f
+Records after one limit input (Ok r) = Watched after one input r
+Records after one limit input (Err f) = Fails limit input f

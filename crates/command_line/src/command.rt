@@ -143,6 +143,7 @@ fn manner_of(work: Work, coloured: bool) -> Manner {
             (Kind::Replies, CallLimit::Usual, false)
         }
         Work::Picture(Drawing::Listing(limit)) => (Kind::Trace, limit, limit == CallLimit::Usual),
+        Work::Picture(Drawing::Lives) => (Kind::Trace, CallLimit::Long, false),
         Work::Picture(_)
         | Work::Litmus(_)
         | Work::Import(_)

@@ -8,6 +8,7 @@ ghost use Rattle.recorder.specs.Looking.{recorded};
 ghost use Rattle.recorder.specs.Recording.{nothing_recorded};
 ghost use Rattle.trace.specs.Ends.{fault_named};
 ghost use Rattle.command_line.specs.Status.{picture_status};
+ghost use Rattle.core_steps.specs.declared.setup.CallLimit.TheVariants.{Usual, Long};
 ghost use Rattle.trace.specs.declared.fault.TraceFault.TheVariants as Of;
 ghost use Rattle.trace_io.specs.Io.{TellsIo, read_from, written_to};
 ghost use Rattle.trace_io.specs.Sink.{AppendsFront};
@@ -46,7 +47,7 @@ pub struct Steps {
 pub enum Drawing {
     /// What happened in these steps.
     Steps(Steps),
-    /// The lives of mappings over all steps.
+    /// The lives of mappings over all steps, however many there are.
     Lives,
     /// No picture, but the text of the state at the trace's end.
     State,
@@ -75,9 +76,10 @@ pub(crate) fn in_memory(fault: TraceFault) -> TraceFault
 pub(crate) fn record<X: Watch + Drop>(
     alloc: Global,
     trace: &[u8],
+    limit: CallLimit,
     watch: X,
 ) -> Result<X, TraceFault>
-    ensures ends { Records X.after watch trace.now result }
+    ensures ends { Records X.after watch limit trace.now result }
     ensures read { result ≢ Err Of.ReadFailed }
     ensures unwritten { result ≢ Err Of.WriteFailed }
 {
@@ -88,7 +90,7 @@ pub(crate) fn record<X: Watch + Drop>(
         &mut reader,
         &mut unshown,
         Show::Outcomes,
-        CallLimit::Usual,
+        limit,
         watch,
     );
     match beside.replayed.ended {
@@ -183,7 +185,7 @@ fn draw_steps<W: Sink, E: Write>(
     errors: &mut E,
     steps: Steps,
 ) -> Result<Option<u64>, TraceFault>
-    ensures ends { TextEnds (Watched (makes recorded) (nothing_recorded steps.first steps.last) trace.now) (Fails trace.now)
+    ensures ends { TextEnds (Watched (makes recorded) (nothing_recorded steps.first steps.last) trace.now) (Fails Usual trace.now)
         (lacking steps.first) (picture_of steps.first steps.last trace.now) (W.contents out.old) (W.contents out.new) result }
     ensures read { result ≢ Err Of.ReadFailed }
     ensures write { result ≡ Err Of.WriteFailed → W.failed out.new ≡ true }
@@ -192,7 +194,7 @@ fn draw_steps<W: Sink, E: Write>(
     let Ok(recorder) = Recorder::new(alloc, steps.first, steps.last) else {
         return Err(TraceFault::NoMemory);
     };
-    match record(alloc, trace, recorder) {
+    match record(alloc, trace, CallLimit::Usual, recorder) {
         Ok(recorder) => show_steps(alloc, trace, &recorder, steps, out, errors),
         Err(fault) => Err(fault),
     }
@@ -241,14 +243,14 @@ fn draw_all_lives<W: Sink>(
     trace: &[u8],
     out: &mut W,
 ) -> Result<Option<u64>, TraceFault>
-    ensures ends { TextEnds (Watched ChangesRecorded nothing_changed trace.now) (Fails trace.now) lacking_none (lives_of trace.now)
+    ensures ends { TextEnds (Watched ChangesRecorded nothing_changed trace.now) (Fails Long trace.now) lacking_none (lives_of trace.now)
         (W.contents out.old) (W.contents out.new) result }
     ensures read { result ≢ Err Of.ReadFailed }
     ensures write { result ≡ Err Of.WriteFailed → W.failed out.new ≡ true }
     ensures kept { (result ≡ Err Of.WriteFailed) ⊎ (W.failed out.new ≡ W.failed out.old) }
 {
     let recorder = ChangeRecorder::new(alloc);
-    match record(alloc, trace, recorder) {
+    match record(alloc, trace, CallLimit::Long, recorder) {
         Ok(recorder) => write_lives(alloc, trace, &recorder, out),
         Err(fault) => Err(fault),
     }

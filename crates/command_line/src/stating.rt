@@ -5,11 +5,13 @@ ghost use Rattle.command_line.specs.Picture.{Fails, ShowsText, TextEnds};
 ghost use Rattle.command_line.specs.State.{lacking_no_state};
 ghost use Rattle.state_text.specs.Texts.{seen_text, state_text};
 ghost use Rattle.state_text.specs.Traces.{ComesTo};
+ghost use Rattle.core_steps.specs.declared.setup.CallLimit.TheVariants.{Usual};
 ghost use Rattle.trace.specs.declared.fault.TraceFault.TheVariants as Of;
 ghost use Rattle.trace_io.specs.Lines.{lines_of};
 ghost use Rattle.trace_io.specs.Sink.{AppendsFront};
 
 use crate::picturing::record;
+use core_steps::CallLimit;
 use state_text::mirror::Mirror;
 use state_text::texts::put_state;
 use std::alloc::Global;
@@ -50,7 +52,7 @@ pub(crate) fn draw_state<W: Sink>(
     trace: &[u8],
     out: &mut W,
 ) -> Result<Option<u64>, TraceFault>
-    ensures ends { TextEnds (ComesTo (lines_of trace.now)) (Fails trace.now) lacking_no_state state_text
+    ensures ends { TextEnds (ComesTo (lines_of trace.now)) (Fails Usual trace.now) lacking_no_state state_text
         (W.contents out.old) (W.contents out.new) result }
     ensures read { result ≢ Err Of.ReadFailed }
     ensures write { result ≡ Err Of.WriteFailed → W.failed out.new ≡ true }
@@ -59,7 +61,7 @@ pub(crate) fn draw_state<W: Sink>(
     let Ok(mirror) = Mirror::new(alloc) else {
         return Err(TraceFault::NoMemory);
     };
-    match record(alloc, trace, mirror) {
+    match record(alloc, trace, CallLimit::Usual, mirror) {
         Ok(mirror) => write_seen(alloc, &mirror, out),
         Err(fault) => Err(fault),
     }

@@ -403,15 +403,15 @@ is a comment # file N NAME, as import writes it.
             trace has fewer there is no picture, and the status is 2
   --to N    the last one, not below N of --from. 2000 steps are shown at most,
             which is then said on standard error
-  --lives   in place of that the lives of mappings over the whole trace,
-            however long it is. Pages that lie beside each other share a row
-            where they are alike in all steps. In it lies a rectangle from each
-            step in which its pages are mapped, or get other rights, to the
-            first that changes them. Beside the rows, up to 63 of them,
-            stand their addresses and BACK, of the last rectangle. Colours say
-            what may be done with the pages, and shades what backs them. 2000
-            rectangles are shown at most, from the lowest pages on, and the
-            picture says so. Not beside --from or --to
+  --lives   in place of that the lives of mappings over the whole trace, which
+            may ask for up to 2^40 calls. Pages that lie beside each other
+            share a row where they are alike in all steps. In it lies a
+            rectangle from each step in which its pages are mapped, or get
+            other rights, to the first that changes them. Beside the rows, up
+            to 63 of them, stand their addresses and BACK, of the last
+            rectangle. Colours say what may be done with the pages, and shades
+            what backs them. 2000 rectangles are shown at most, from the lowest
+            pages on, and the picture says so. Not beside --from or --to
 
 The trace is held in memory.
 

@@ -1,3 +1,4 @@
+use Rattle.core_steps.specs.declared.setup.CallLimit.TheVariants.{Long}
 use Rattle.recorder.specs.Changes.{ChangesRecorded, nothing_changed}
 use Rattle.command_line.specs.Picture.{lacking_none, lives_of}
 use Rattle.command_line.proofs.PictureLemmas.{all_drawn, none_drawn}
@@ -5,9 +6,9 @@ use Rattle.command_line.proofs.picturing.draw_all_lives.Goals as goal
 
 pub returns-in-Ok-clause-ends : goal.returns-in-Ok-clause-ends
 returns-in-Ok-clause-ends g c =
-    all_drawn ChangesRecorded c.new-recorder.result nothing_changed lacking_none (lives_of c.args.trace.now) c.args.trace.now _ _ c.in-Ok.recorder
+    all_drawn ChangesRecorded c.new-recorder.result nothing_changed lacking_none (lives_of c.args.trace.now) Long c.args.trace.now _ _ c.in-Ok.recorder
     c.write_lives.result c.new-recorder.ensures c.in-Ok.ensures.ends c.write_lives.ensures.ok c.write_lives.ensures.err
 
 pub returns-in-Err-clause-ends : goal.returns-in-Err-clause-ends
 returns-in-Err-clause-ends g c =
-    none_drawn ChangesRecorded nothing_changed lacking_none (lives_of c.args.trace.now) c.args.trace.now _ c.in-Err.fault c.in-Err.ensures.ends
+    none_drawn ChangesRecorded nothing_changed lacking_none (lives_of c.args.trace.now) Long c.args.trace.now _ c.in-Err.fault c.in-Err.ensures.ends
