@@ -110,7 +110,7 @@ pub const IMPORT: &str = "\
 import reads a log that strace wrote of a program, and writes a trace of what
 the program asked of its address space:
 
-  strace -f -y -o LOG -e trace=memory,process PROGRAM
+  strace -f -tt -T -y -o LOG -e trace=memory,process PROGRAM
   radixvm import LOG | radixvm run
 
 Give strace -o FILE: at a terminal it breaks lines where a thread begins. Read
