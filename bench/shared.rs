@@ -113,18 +113,23 @@ fn call_held(held: *mut Place, event: &Event) -> Told {
     told
 }
 
+/// Waits before the next try, as radixvm_relax does.
+fn relax(tries: u32) {
+    if tries < 10 {
+        (0..16 << tries.min(3)).for_each(|_| spin_loop());
+    } else {
+        // SAFETY: it takes nothing.
+        unsafe { sched_yield() };
+    }
+}
+
 /// Tries until the machine is free, as radixvm_seat_call does.
 fn until_free(mut turn: impl FnMut() -> u32) {
     let mut tries = 0;
     while let status @ 1.. = turn() {
         assert!(status == 17);
+        relax(tries);
         tries += 1;
-        if tries <= 20 {
-            spin_loop();
-        } else {
-            // SAFETY: it takes nothing.
-            unsafe { sched_yield() };
-        }
     }
 }
 

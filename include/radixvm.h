@@ -145,7 +145,7 @@ typedef struct {
 enum { RADIXVM_ENTRY_REPLY = 1, RADIXVM_ENTRY_COPY };
 
 /* How a batch ended. The first `count` events were taken, and outcomes[0] to outcomes[count - 1] are theirs; all
- * other outcomes are unchanged. With RADIXVM_NO_ROOM or a later status, no event was taken. */
+ * other outcomes are unchanged. With RADIXVM_NO_ROOM or a later status, except RADIXVM_AT_LIMIT, no event was taken. */
 typedef struct {
     uint32_t status;
     uint64_t count;
@@ -153,7 +153,7 @@ typedef struct {
 enum {
     RADIXVM_OK = 0,
     RADIXVM_BAD_EVENT,     /* events[count] isn't an event: its kind, core, prot, flags or byte is out of range */
-    RADIXVM_OUT_OF_MEMORY, /* malloc refused memory during events[count] */
+    RADIXVM_OUT_OF_MEMORY, /* malloc refused memory during events[count]; radixvm_seat_calls: during the last one made */
     RADIXVM_NO_ROOM,       /* there are fewer outcomes than events */
     RADIXVM_TOO_LONG,      /* a length is above 2^32 */
     RADIXVM_BAD_FILE,      /* files[count] has no such mode, or its part isn't inside `bytes` */
@@ -162,11 +162,11 @@ enum {
     RADIXVM_IN_USE,        /* the place is taken already, or the machine has another seat */
     RADIXVM_ABSENT,        /* there is no such core, no further core, or no such page */
     RADIXVM_NO_LOG,        /* the machine keeps no log */
-    RADIXVM_BAD_CORES, RADIXVM_BAD_FRAMES, RADIXVM_TOO_MANY_FILES, RADIXVM_FILE_TOO_LONG, RADIXVM_BAD_CALLS,
+    RADIXVM_BAD_CORES, RADIXVM_BAD_FRAMES, RADIXVM_TOO_MANY_FILES, RADIXVM_FILE_TOO_LONG, RADIXVM_BAD_CALLS, /* limits */
     RADIXVM_NO_MACHINE,    /* malloc refused memory for the new machine */
     RADIXVM_BUSY,          /* another seat is in a call */
     RADIXVM_IN_FLIGHT,     /* a core of the machine has a call that hasn't ended */
-    RADIXVM_LOST,          /* a seat was freed in the middle of its call, and the machine is gone with it */
+    RADIXVM_LOST,          /* a seat was freed inside its call, which is forbidden, and the machine is gone with it */
     RADIXVM_AT_LIMIT       /* radixvm_seat_calls only: the limit of calls or of events is reached */
 };
 
@@ -326,13 +326,23 @@ static inline radixvm_done radixvm_log(const radixvm_machine *machine, radixvm_l
  * What is proved, for every schedule of any threads: the machine's log is that of a plain page map (POSIX.1-2017
  * mmap, munmap, mprotect). What a seat has seen is a beginning of that log. The seat's calls in it are just the
  * calls that it made, in its order, with the replies that it got. There is no certificate to check, and the log
- * need not be kept. Not proved: that a call ever finds the machine free, and in which order threads get it.
+ * need not be kept. A call finds the machine busy only where another seat is left, or was freed and not given back.
+ * Not proved: that a call ever finds it free beside other seats, and in which order threads get it.
  *
- * No function waits. If another seat is in a call, the status is RADIXVM_BUSY, and nothing was done. If a thread
- * dies inside a call, all other seats stay RADIXVM_BUSY for ever, and nothing is wrong. So don't cancel a thread
- * there (asynchronous pthread_cancel), and don't call from a signal handler. A seat makes one call at a time, and
- * stays in one place. If the status isn't RADIXVM_OK, nothing has changed, with two exceptions: RADIXVM_LOST, and
- * the first `count` calls of a list. */
+ *     radixvm_share(&machine, &seats[0]);
+ *     for (i = 1; i < threads; i++) radixvm_seat_split(&seats[0], &seats[i]);
+ *     (start the threads; thread i makes its calls by radixvm_seat_call(&seats[i], &event, &outcome); join them)
+ *     for (i = 1; i < threads; i++) radixvm_seat_return(&seats[0], &seats[i]);
+ *     radixvm_unshare(&seats[0], &machine);
+ *
+ * No function of the library waits. If another seat is in a call, the status is RADIXVM_BUSY, and nothing was done.
+ * radixvm_seat_call and radixvm_seat_calls, which stand in this header, try again until it isn't RADIXVM_BUSY. A seat
+ * makes one call at a time, and stays in one place. If the status isn't RADIXVM_OK, nothing has changed, with two
+ * exceptions: RADIXVM_LOST, and the first `count` calls of a list.
+ *
+ * Don't end a thread inside a call (asynchronous pthread_cancel, TerminateThread), and don't call from a signal handler.
+ * Otherwise the machine stays half-way in that call, and each other seat gets RADIXVM_BUSY for ever. Those seats may be
+ * freed, but not the seat of the thread that ended, so the machine's memory stays allocated. */
 
 /* Like those below, but no pointer may be null. */
 uint32_t radixvm_share_held(radixvm_machine *machine, radixvm_seat *seat);
@@ -351,7 +361,8 @@ static inline uint32_t radixvm_share(radixvm_machine *machine, radixvm_seat *sea
     return machine && seat ? radixvm_share_held(machine, seat) : (uint32_t)RADIXVM_NULL;
 }
 /* Makes one more seat in an empty place, by means of core 0's seat. The first one is the last core's, the next that
- * of the core before it, down to core 1; then the status is RADIXVM_ABSENT. */
+ * of the core before it, down to core 1. RADIXVM_ABSENT: all cores have had a seat, or `first` isn't core 0's.
+ * RADIXVM_EMPTY: `first` is no seat. RADIXVM_IN_USE: the other place is taken. RADIXVM_OUT_OF_MEMORY: as above. */
 static inline uint32_t radixvm_seat_split(radixvm_seat *first, radixvm_seat *other) {
     return first && other ? radixvm_split_seat(first, other) : (uint32_t)RADIXVM_NULL;
 }
@@ -364,11 +375,12 @@ static inline uint32_t radixvm_seat_split(radixvm_seat *first, radixvm_seat *oth
 static inline uint32_t radixvm_seat_try(radixvm_seat *seat, const radixvm_event *event, radixvm_outcome *outcome) {
     return seat && event && outcome ? radixvm_try_seat(seat, event, outcome) : (uint32_t)RADIXVM_NULL;
 }
-/* Pauses for a moment at first, and later lets another thread run. */
+/* Waits before the next try: 16 pauses, then twice as many each time, up to 128; after ten tries it lets another thread
+ * run. While the others wait, the thread that has the machine makes several calls, with its data in one cache. */
 static inline void radixvm_relax(uint32_t tries) {
 #if defined(__GNUC__) && (defined(__x86_64__) || defined(__i386__))
-    if (tries < 20) {
-        __builtin_ia32_pause();
+    if (tries < 10) {
+        for (uint32_t pauses = 16u << (tries < 3 ? tries : 3); pauses > 0; pauses--) __builtin_ia32_pause();
         return;
     }
 #else
@@ -380,14 +392,14 @@ static inline void radixvm_relax(uint32_t tries) {
     sched_yield();
 #endif
 }
-/* Like radixvm_seat_try, but it tries again while the status is RADIXVM_BUSY. After 20 pauses it lets other threads run
+/* Like radixvm_seat_try, but it tries again while the status is RADIXVM_BUSY. After ten tries it lets other threads run
  * between tries. With many threads, a mutex of your own around radixvm_seat_try gives the system's order instead; no
  * proof depends on it. */
 static inline uint32_t radixvm_seat_call(radixvm_seat *seat, const radixvm_event *event, radixvm_outcome *outcome) {
     uint32_t tries = 0, status = radixvm_seat_try(seat, event, outcome);
     while (status == RADIXVM_BUSY) {
         radixvm_relax(tries);
-        if (tries < 20) tries++;
+        if (tries < 10) tries++;
         status = radixvm_seat_try(seat, event, outcome);
     }
     return status;
@@ -415,22 +427,27 @@ static inline radixvm_done radixvm_seat_calls(radixvm_seat *seat, const radixvm_
     radixvm_done done = radixvm_seat_try_calls(seat, events, event_count, outcomes, room);
     while (done.status == RADIXVM_BUSY) {
         radixvm_relax(tries);
-        if (tries < 20) tries++;
+        if (tries < 10) tries++;
         done = radixvm_seat_try_calls(seat, events, event_count, outcomes, room);
     }
     return done;
 }
-/* Gives the other seat back, and leaves its place empty. Both must be different seats of one machine: the library
- * can't check that. The proof about the log that radixvm_unshare returns then covers what the other seat was told. */
+/* Gives the other seat back, and leaves its place empty. Nobody else gets its core. Both must be seats of one machine:
+ * the library can't check that. The proof about the log of the machine that radixvm_unshare hands back then covers what
+ * the other seat was told. RADIXVM_EMPTY: there is no seat in one of them. RADIXVM_IN_USE: they are one place. */
 static inline uint32_t radixvm_seat_return(radixvm_seat *first, radixvm_seat *other) {
+    if (first && first == other) return RADIXVM_IN_USE;
     return first && other ? radixvm_return_seat(first, other) : (uint32_t)RADIXVM_NULL;
 }
-/* Moves the machine, with its log, from its last seat back into an empty place. RADIXVM_IN_USE: the place is taken, or
- * another seat is left. RADIXVM_LOST: a thread died inside a call, its seat was freed, and the machine is gone. */
+/* Moves the machine, with its log, from its last seat back into an empty place. Any seat may be the last.
+ * RADIXVM_EMPTY: there is no seat. RADIXVM_IN_USE: the place is taken, or another seat is left. RADIXVM_LOST: a seat
+ * was freed inside a call, against the rule above, and the machine is gone. It can't come where each other seat was
+ * given back by radixvm_seat_return. */
 static inline uint32_t radixvm_unshare(radixvm_seat *seat, radixvm_machine *machine) {
     return seat && machine ? radixvm_unshare_seat(seat, machine) : (uint32_t)RADIXVM_NULL;
 }
-/* Frees the seat, if there is one. The last seat frees the machine too. Nobody else gets this seat's core. */
+/* Frees the seat, if there is one. The last seat frees the machine too. Nobody else gets its core. The calls that it
+ * made stay in the log, but the proof about the log of radixvm_unshare doesn't name them. */
 static inline void radixvm_seat_free(radixvm_seat *seat) {
     if (seat) radixvm_free_seat(seat);
 }
@@ -442,7 +459,7 @@ static inline const char *radixvm_text(uint32_t status) {
     static const char *const texts[] = {"done", "not an event: its kind, core, prot, flags or byte is out of range",
         "malloc refused memory", "fewer outcomes than events", "a length is above 2^32",
         "a file has no such mode, or its bytes don't lie in the buffer", "a null pointer", "there is no machine or seat in its place",
-        "there is one already, or the machine has another seat", "no such core or page", "the machine keeps no log",
+        "there is one already, or the machine has another seat", "no such core or page, or no further core", "the machine keeps no log",
         "not 1 to 64 cores", "more than 65536 frames", "more than 16 files", "a file of more than 1048576 bytes",
         "more calls than may begin", "malloc refused memory to the new machine", "another seat is in a call",
         "a core has a call that isn't at its end", "the machine is gone with a seat that was freed amid its call",

@@ -46,6 +46,7 @@ static void nulls(void) {
     is(radixvm_seat_try(&seat, NULL, &told), RADIXVM_NULL, "call nothing");
     is(radixvm_seat_try(&seat, &LOAD, NULL), RADIXVM_NULL, "tell nobody");
     is(radixvm_seat_return(NULL, &other), RADIXVM_NULL, "return to no place");
+    is(radixvm_seat_return(NULL, NULL), RADIXVM_NULL, "return no place");
     is(radixvm_unshare(&seat, NULL), RADIXVM_NULL, "unshare to no place");
     radixvm_seat_free(NULL);
     is(radixvm_share(&machine, &seat), RADIXVM_EMPTY, "share nothing");
@@ -93,6 +94,8 @@ static void statuses(void) {
     comes(&one, &LOAD, RADIXVM_BYTE, 41, "load by a third");
     comes(&first, &UNMAP, RADIXVM_DONE, 0, "unmap, which waits for two");
     comes(&two, &LOAD, RADIXVM_SEGV_MAPERR, 0, "gone");
+    is(radixvm_seat_return(&two, &two), RADIXVM_IN_USE, "return to itself");
+    comes(&two, &LOAD, RADIXVM_SEGV_MAPERR, 0, "still there");
     is(radixvm_seat_return(&two, &first), RADIXVM_OK, "core 0 returned to another");
     is(radixvm_unshare(&two, &machine), RADIXVM_IN_USE, "unshare beside a seat");
     radixvm_seat_free(&one);
@@ -101,9 +104,10 @@ static void statuses(void) {
     radixvm_log_entry entries[16];
     const radixvm_done log = radixvm_log(&machine, entries, 16);
     is(log.status, RADIXVM_OK, "log");
-    is((uint32_t)log.count, 7, "seven replies");
-    const uint32_t cores[] = {0, 0, 2, 1, 0, 2, 0};
-    for (size_t i = 0; i < 7; i++) is(entries[i].core, cores[i], "the core of a seat");
+    is((uint32_t)log.count, 8, "eight replies");
+    const uint32_t cores[] = {0, 0, 2, 1, 0, 2, 2, 0};
+    for (size_t i = 0; i < 8; i++) is(entries[i].core, cores[i], "the core of a seat");
+    is(radixvm_seat_return(&two, &one), RADIXVM_EMPTY, "return what is freed");
     radixvm_free(&machine);
     radixvm_free(&spare);
 }

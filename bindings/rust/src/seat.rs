@@ -7,14 +7,17 @@ use std::sync::Arc;
 use std::{hint, thread};
 
 /// How often a call pauses before it lets other threads go first.
-const PAUSES: u32 = 20;
+const PAUSES: u32 = 10;
 
-/// A machine that threads share: it lives as long as one of its seats.
+/// Where a machine becomes that of several threads: [`Space::share`]. It lives as long as one of its seats.
 pub struct Space;
 
 /// The right to call as one core. Seats of one machine may be in different threads, each in one at a time: a seat is `Send`, and not
 /// `Sync`. What is proved (`crates/radixvm_c`), for every schedule: what the seats are told are the replies of a plain page map, in
-/// one order that has each seat's calls in the order in which it made them. It isn't said that a call ever finds the machine free.
+/// one order that has each seat's calls in the order in which it made them. It isn't said that a call ever finds the machine free, but
+/// the only seat of a machine of one core always does.
+///
+/// A seat that is dropped gives its core up: nobody else gets it, and its calls stay in the log. The last one takes the machine with it.
 ///
 /// ```compile_fail
 /// fn is_sync<T: Sync>() {}
@@ -87,18 +90,25 @@ impl fmt::Display for StoppedCalls {
 
 impl error::Error for StoppedCalls {}
 
-/// Tries until the machine is free: it pauses, and then lets other threads go first.
+/// Waits before the next try, as `radixvm_relax` of the header: 16 pauses, then twice as many each time, up to 128; at last it lets
+/// other threads go first.
+fn relax(tries: u32) {
+    if tries < PAUSES {
+        (0..16 << tries.min(3)).for_each(|_| hint::spin_loop());
+    } else {
+        thread::yield_now();
+    }
+}
+
+/// Tries until the machine is free.
 fn until_free<T, E>(mut turn: impl FnMut() -> Result<T, E>, is_busy: impl Fn(&E) -> bool) -> Result<T, E> {
     let mut tries = 0;
     loop {
         match turn() {
-            Err(error) if is_busy(&error) && tries < PAUSES => {
-                tries += 1;
-                hint::spin_loop();
-            }
-            Err(error) if is_busy(&error) => thread::yield_now(),
+            Err(error) if is_busy(&error) => relax(tries),
             told => return told,
         }
+        tries = PAUSES.min(tries + 1);
     }
 }
 
