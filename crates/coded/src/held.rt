@@ -41,6 +41,7 @@ impl Whole for Held {
         }
     }
 
+    #[inline(always)]
     fn call_whole(&mut self, core: CoreId, request: Request) -> Ended {
         match self {
             Held::Plain(machine) => machine.call_whole(core, request),

@@ -15,7 +15,7 @@ use Rattle.shared.specs.declared.space.Refusal.TheVariants as Why
 use Rattle.shared.specs.declared.asides.Aside.{Aside}
 use Rattle.shared.specs.declared.series.Stop.{Stop}
 use Rattle.shared.specs.declared.series.Stop.TheVariants as For
-use Rattle.shared.specs.Cores.{CoreView, Answers, AnswersAll, Agrees, IsKept, Passes, new_core, told_of}
+use Rattle.shared.specs.Cores.{CoreView, Answers, AnswersAll, Agrees, IsBeside, IsKept, Passes, new_core, told_of}
 use Rattle.coded.specs.declared.codes.RawEvent.{RawEvent}
 use Rattle.coded.specs.declared.codes.RawOutcome.{RawOutcome}
 use Rattle.coded.specs.declared.held.Held.{Held}
@@ -210,20 +210,20 @@ TakesIn (Some v) (Some other) w = w ≡ Some (record v { others = v.others ++ to
 TakesIn v other w = w ≡ v
 
 -- the other core was taken in, and its handle is empty; or one has no seat, and all is as it was
-abbrev pub TellsReturn : Option View → Option View → ℕ → Option View → Option View → Type 0
+abbrev pub TellsReturn : Option View → Option View → ℕ → Option View → Option Chair → Type 0
 TellsReturn (Some v) (Some other) status w other' =
     (status ≡ 0) × TakesIn (Some v) (Some other) w × (other' ≡ None)
-TellsReturn v other status w other' = (status ≡ empty_code) × (w ≡ v) × (other' ≡ other)
+TellsReturn v other status w other' = (status ≡ empty_code) × (w ≡ v) × (core_in other' ≡ other)
 
 -- ---- the end
 
 -- The machine comes back. Its log is that of a plain page map (POSIX.1-2017, mmap, munmap and
 -- mprotect), and has of this core, and of each that it took in, just the calls that it made, in order,
--- with the replies that it got
+-- with the replies that it got. Or it is gone: only where a core has a seat that this one didn't take in
 abbrev pub Closes : View → Closed → Type 0
 Closes v (Comes.Back held) = Agrees placed_state (held_state held.value).world v
 Closes v Comes.Beside = ⊥
-Closes v Comes.Gone = Unit {0}
+Closes v Comes.Gone = IsBeside placed_state v
 
 abbrev pub ClosesChair : Option View → Closed → Option View → Type 0
 ClosesChair (Some v) Comes.Beside w = w ≡ Some v
@@ -235,13 +235,14 @@ abbrev pub HasBack : View → Option Held → Type 0
 HasBack v None = ⊥
 HasBack v (Some held) = Agrees placed_state (held_state held).world v
 
--- the machine came back; or it is gone with a seat that was let go amid a call; or another seat is left,
--- or a handle is in use or empty, and all is as it was
-abbrev pub TellsUnshare : Option View → Option Held → ℕ → Option View → Option Held → Type 0
-TellsUnshare None held status w held' = (status ≡ empty_code) × (w ≡ None) × (held' ≡ held)
-TellsUnshare (Some v) (Some held) status w held' =
-    (status ≡ in_use_code) × (w ≡ Some v) × (held' ≡ Some held)
-TellsUnshare (Some v) None status w held' =
-    ((status ≡ 0) × (w ≡ None) × HasBack v held')
-    ⊎ ((status ≡ lost_code) × (w ≡ None) × (held' ≡ None))
-    ⊎ ((status ≡ in_use_code) × (w ≡ Some v) × (held' ≡ None))
+-- the machine came back, and the seat's handle is empty; or it is gone, only where a core has a seat that wasn't
+-- taken in; or another seat is left, or a handle is in use or empty, and all is as it was
+abbrev pub TellsUnshare : Option View → Option Held → ℕ → Option Chair → Option Held → Type 0
+TellsUnshare None held status chair' held' =
+    (status ≡ empty_code) × (core_in chair' ≡ None) × (held' ≡ held)
+TellsUnshare (Some v) (Some held) status chair' held' =
+    (status ≡ in_use_code) × (core_in chair' ≡ Some v) × (held' ≡ Some held)
+TellsUnshare (Some v) None status chair' held' =
+    ((status ≡ 0) × (chair' ≡ None) × HasBack v held')
+    ⊎ ((status ≡ lost_code) × (chair' ≡ None) × (held' ≡ None) × IsBeside placed_state v)
+    ⊎ ((status ≡ in_use_code) × (core_in chair' ≡ Some v) × (held' ≡ None))

@@ -27,6 +27,7 @@ impl Whole for Placed {
         self.held.as_ref().is_calm()
     }
 
+    #[inline(always)]
     fn call_whole(&mut self, core: CoreId, request: Request) -> Ended {
         self.held.as_mut().call_whole(core, request)
     }

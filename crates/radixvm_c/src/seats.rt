@@ -284,7 +284,7 @@ fn take_chair(first: &mut Chair, other: Chair)
 pub fn give_back(alloc: Global, first: &mut ChairHandle, other: &mut ChairHandle) -> u32
     requires { AreBeside (core_in first.old.value) (core_in other.old.value) }
     ensures { TellsReturn (core_in first.old.value) (core_in other.old.value) result
-        (core_in first.new.value) (core_in other.new.value) }
+        (core_in first.new.value) other.new.value }
 {
     if !first.has_seat() || !other.has_seat() {
         return EMPTY;

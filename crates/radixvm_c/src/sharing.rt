@@ -158,7 +158,7 @@ fn close_seat(chair: &mut Chair) -> Closed
 /// Takes the last seat of the handle, and puts the machine into the other one. Where another seat is
 /// left all is as it was.
 pub fn unshare(alloc: Global, chair: &mut ChairHandle, handle: &mut Handle) -> u32
-    ensures { TellsUnshare (core_in chair.old.value) handle.old.value result (core_in chair.new.value)
+    ensures { TellsUnshare (core_in chair.old.value) handle.old.value result chair.new.value
         handle.new.value }
 {
     if !chair.has_seat() {

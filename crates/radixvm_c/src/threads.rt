@@ -77,7 +77,7 @@ pub extern "C" fn radixvm_return_seat(
 ) -> u32
     requires { AreBeside (core_in first.old.value) (core_in other.old.value) }
     ensures { TellsReturn (core_in first.old.value) (core_in other.old.value) result
-        (core_in first.new.value) (core_in other.new.value) }
+        (core_in first.new.value) other.new.value }
 {
     give_back(alloc, first, other)
 }
@@ -89,7 +89,7 @@ pub extern "C" fn radixvm_unshare_seat(
     chair: &mut ChairHandle,
     handle: &mut Handle,
 ) -> u32
-    ensures { TellsUnshare (core_in chair.old.value) handle.old.value result (core_in chair.new.value)
+    ensures { TellsUnshare (core_in chair.old.value) handle.old.value result chair.new.value
         handle.new.value }
 {
     unshare(alloc, chair, handle)

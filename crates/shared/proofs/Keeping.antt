@@ -38,7 +38,7 @@ use Rattle.shared.specs.declared.space.Known.{Known}
 use Rattle.shared.specs.declared.whole.Ended.{Ended}
 use Rattle.shared.specs.declared.whole.Ended.TheVariants as To
 use Rattle.shared.specs.Histories.{Adds, Begins, Ends, IsFull, IsOver, StepsAside, event_of, history_of, replied, replied_by}
-use Rattle.shared.specs.Cores.{Agrees, Answers, AnswersAll, Came, Extends, GoesFor, IsLater, IsLeftOut, IsTold, Passes, history_first, made_of}
+use Rattle.shared.specs.Cores.{Agrees, Answers, AnswersAll, Came, Extends, GoesFor, IsBeside, IsLater, IsTold, Passes, history_first, made_of}
 use Rattle.shared.specs.Rules.{CanGive, Fits, Gives, Holds, Home, Kept, Learns, Makes, Out, Takes, Took, after, answer_of, first_known}
 use Rattle.shared.specs.Rules.{history_carried, holding, padded, spent_core, split_known, view_of, with_other, word_after, word_of}
 use Rattle.shared.proofs.InCalls.{adds_nothing}
@@ -97,14 +97,35 @@ module _ {S : Type 0} (state : S → World) (key : List S) where
 
   -- ---- the machine is taken
 
+  -- a core that this one didn't take in has it
+  beside : (space : TableId) (id : ℕ) (v : Known S) (s : State S (Known S)) (k : Kept state key s) → get_elem? s.views id ≡ some v
+      → Out state s k.history → v.live ≡ true → v.holds ≡ false → IsBeside state (view_of space v)
+  beside space id v s k at o lives idle =
+      let fits = k.each id v at in
+      let u : Known S = o.held.0 in
+      let has = k.each o.holder u o.held.1 in
+      let live = o.held.2.live in (
+        u.core,
+        record {
+          here = subst (λ (m : Made). u.core < m.cores) (ap (made_of state) (sym (fits.first lives))) (has.here live);
+          other = λ same.
+              let seats : o.holder ≡ id = sym (has.seat live) ∙ (ap k.seat_of same ∙ fits.seat lives) in
+              let holds = subst Holds (one_entry s.views o.holder id u v o.held.1 at seats) o.held.2 in
+              not_both v.holds idle holds.holds;
+          split = above_spare v.spare k.left u.core (λ more. (fits.spare more).2) (has.core live);
+          away = λ n t e same. not_both (k.gone u.core) (has.stays live) (ap k.gone (sym same) ∙ (fits.told n t (as_elem v.others n t e)).1);
+        },
+      )
+
   -- it wasn't there, or no call can begin
   not_taken : (slots id : ℕ) (me : Me S (Known S)) (s : State S (Known S)) → Kept state key s → get_elem? s.views id ≡ some me.0 → (n : ℕ)
       → s.words ≡ padded n → eqb n 1 ≡ false
       → (n ≢ 0 → me.0.live ≡ true → (u : World) × IsLater state me.0.first me.0.seen u × IsOver u)
+      → (n ≡ 0 → me.0.live ≡ true → me.0.holds ≡ false → (space : TableId) → IsBeside state (view_of space me.0))
       → (w : Known S) × (a : Act S) × Valid s.homes me.1 a
       × Kept state key (stepped s 8 (either (eqb (slice_index s.words 8) 1) 0 (slice_index s.words 8)) id me.1 w a)
       × Takes state (step slots 8 1 0 none) me (slice_index s.words 8) (w, carried_after me.1 a)
-  not_taken slots id me s k at n is other over =
+  not_taken slots id me s k at n is other over away =
       let there : slice_index s.words 8 ≡ n = ap (λ ws. slice_index ws 8) is in
       let words : set s.words 8 (either (eqb (slice_index s.words 8) 1) 0 (slice_index s.words 8)) ≡ s.words =
       ap (λ ws. set ws 8 (either (eqb (slice_index ws 8) 1) 0 (slice_index ws 8))) is ∙ (ap (λ b. padded (either b 0 n)) other ∙ sym is) in
@@ -113,12 +134,14 @@ module _ {S : Type 0} (state : S → World) (key : List S) where
         keeps,
         tt,
         subst (λ (x : List ℕ × List (Known S)). Kept state key record { words = x.0; homes = s.homes; views = x.1 }) (λ i. (sym words i, sym views i)) k,
-        subst (λ m. Took state m me me) (sym there) (missed n other over),
+        subst (λ m. Took state m me me) (sym there) (missed n other over away),
       )
     where
-      missed : (n : ℕ) → eqb n 1 ≡ false → (n ≢ 0 → me.0.live ≡ true → (u : World) × IsLater state me.0.first me.0.seen u × IsOver u) → Took state n me me
-      missed n other over = subst (λ b. MatchBool b ((d : S) × (me ≡ (holding me.0 (history_of (state d)), (0, d) ∷ me.1)) × Learns state me.0 d)
-          ((me ≡ me) × (n ≢ 0 → me.0.live ≡ true → (u : World) × IsLater state me.0.first me.0.seen u × IsOver u))) (sym other) (refl, over)
+      missed : (n : ℕ) → eqb n 1 ≡ false → (n ≢ 0 → me.0.live ≡ true → (u : World) × IsLater state me.0.first me.0.seen u × IsOver u)
+          → (n ≡ 0 → me.0.live ≡ true → me.0.holds ≡ false → (space : TableId) → IsBeside state (view_of space me.0)) → Took state n me me
+      missed n other over away = subst (λ b. MatchBool b ((d : S) × (me ≡ (holding me.0 (history_of (state d)), (0, d) ∷ me.1)) × Learns state me.0 d)
+          ((me ≡ me) × (n ≢ 0 → me.0.live ≡ true → (u : World) × IsLater state me.0.first me.0.seen u × IsOver u)
+          × (n ≡ 0 → me.0.live ≡ true → me.0.holds ≡ false → (space : TableId) → IsBeside state (view_of space me.0)))) (sym other) (refl, over, away)
 
   taken : (slots id : ℕ) (me : Me S (Known S)) (s : State S (Known S)) (k : Kept state key s) → get_elem? s.views id ≡ some me.0 → me.0.live ≡ true
       → (f : Home state key s k.history) → f.word ≡ 1
@@ -180,7 +203,8 @@ module _ {S : Type 0} (state : S → World) (key : List S) where
       → Allows (Kept state key) slots id me 8 (λ n. either (eqb n 1) 0 n) (Takes state (step slots 8 1 0 none) me)
   take_keeps slots id me live s k wide at small = ⊎_elim
       (λ (f : Home state key s k.history). at_home f (eqb f.word 1) refl)
-      (λ (o : Out state s k.history). not_taken slots id me s k at 0 o.words refl (λ ne. absurd (ne refl)))
+      (λ (o : Out state s k.history). not_taken slots id me s k at 0 o.words refl (λ ne. absurd (ne refl))
+      (λ _ lives idle space. beside space id me.0 s k at o lives idle))
       k.place
     where
       at_home : (f : Home state key s k.history) (b : Bool) → eqb f.word 1 ≡ b → (w : Known S) × (a : Act S) × Valid s.homes me.1 a
@@ -196,7 +220,7 @@ module _ {S : Type 0} (state : S → World) (key : List S) where
               begun = subst (Begins me.0.seen) (sym f.history) fits.seen;
             },
             f.over (λ one. let z = sym (ap (λ n. eqb n 1) one) ∙ e in cc),
-          ))
+          )) (λ zero. absurd (f.in_place zero))
 
   -- ---- the machine is given back
 
@@ -503,30 +527,15 @@ module _ {S : Type 0} (state : S → World) (key : List S) where
 
   -- where it is 0, a core that this one didn't take in has the machine
   pub loses : (space : TableId) (id : ℕ) (v : Known S) (ws : List ℕ) (xs : List S) (word : ℕ) → v.live ≡ true → v.holds ≡ false
-      → Final (Seen (Kept state key) id v) ws xs → get_elem? ws 8 ≡ some word → word ≡ 0 → (core : ℕ) × IsLeftOut state (view_of space v) core
+      → Final (Seen (Kept state key) id v) ws xs → get_elem? ws 8 ≡ some word → word ≡ 0 → IsBeside state (view_of space v)
   loses space id v ws xs word lives idle end there out =
       let s = end.0 in
       let k : Kept state key s = end.1.0 in
-      let fits = k.each id v end.1.1 in
       let words : s.words ≡ ws = end.2 in
       ⊎_elim
       (λ (f : Home state key s k.history). absurd
       (let e : some f.word ≡ some word = ap (λ l. get_elem? l 8) (sym f.words ∙ words) ∙ there in f.in_place (some-injective f.word word e ∙ out)))
-      (λ (o : Out state s k.history).
-      let u : Known S = o.held.0 in
-      let has = k.each o.holder u o.held.1 in
-      let live = o.held.2.live in (
-        u.core,
-        record {
-          here = subst (λ (m : Made). u.core < m.cores) (ap (made_of state) (sym (fits.first lives))) (has.here live);
-          other = λ same.
-              let seats : o.holder ≡ id = sym (has.seat live) ∙ (ap k.seat_of same ∙ fits.seat lives) in
-              let holds = subst Holds (one_entry s.views o.holder id u v o.held.1 end.1.1 seats) o.held.2 in
-              not_both v.holds idle holds.holds;
-          split = above_spare v.spare k.left u.core (λ more. (fits.spare more).2) (has.core live);
-          away = λ n t e same. not_both (k.gone u.core) (has.stays live) (ap k.gone (sym same) ∙ (fits.told n t (as_elem v.others n t e)).1);
-        },
-      ))
+      (λ (o : Out state s k.history). beside space id v s k end.1.1 o lives idle)
       k.place
 
   -- ---- a call
@@ -539,8 +548,15 @@ module _ {S : Type 0} (state : S → World) (key : List S) where
   -- it wasn't
   pub took_none : (n : ℕ) (m w : Me S (Known S)) → n ≢ 1 → Took state n m w
       → (w ≡ m) × (n ≢ 0 → m.0.live ≡ true → (u : World) × IsLater state m.0.first m.0.seen u × IsOver u)
+      × (n ≡ 0 → m.0.live ≡ true → m.0.holds ≡ false → (space : TableId) → IsBeside state (view_of space m.0))
   took_none n m w ne t = subst (λ b. MatchBool b ((d : S) × (w ≡ (holding m.0 (history_of (state d)), (0, d) ∷ m.1)) × Learns state m.0 d)
-      ((w ≡ m) × (n ≢ 0 → m.0.live ≡ true → (u : World) × IsLater state m.0.first m.0.seen u × IsOver u))) (ne_eqb n 1 ne) t
+      ((w ≡ m) × (n ≢ 0 → m.0.live ≡ true → (u : World) × IsLater state m.0.first m.0.seen u × IsOver u)
+      × (n ≡ 0 → m.0.live ≡ true → m.0.holds ≡ false → (space : TableId) → IsBeside state (view_of space m.0)))) (ne_eqb n 1 ne) t
+
+  -- where another core has it
+  pub busy_beside : (space : TableId) (n : ℕ) (m w : Me S (Known S)) → n ≢ 1 → n ≡ 0 → Took state n m w → m.0.live ≡ true → m.0.holds ≡ false
+      → IsBeside state (view_of space m.0)
+  busy_beside space n m w ne zero t live idle = (took_none n m w ne t).2 zero live idle space
 
   what_added : (w : World) (core : ℕ) (request : Request) (ended : Ended) (v : World) → Ends w core request ended v
       → (added : List Replied) × Adds core added (history_of w) (history_of v)

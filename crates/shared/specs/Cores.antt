@@ -95,12 +95,24 @@ module _ {S : Type 0} (state : S → World) where
   IsLimited v added w = (((w ≡ v) × (added ≡ [])) ⊎ ((more : List Replied) × Extends v (added ++ more) w))
       × ((u : World) × IsLater w.first w.seen u × IsFull u)
 
-  -- The call was made and replied. Or another core was in a call, and nothing was done. Or the machine
+  -- The core has a seat, which isn't this one's, and which this one didn't take in. The first core has
+  -- one from the start, and those that could still be split off have none.
+  pub record IsLeftOut (c : CoreView S) (core : ℕ) : Type 0 where
+    pub here : core < (made_of c.first).cores
+    pub other : core ≢ c.core
+    pub split : (core ≡ 0) ⊎ (c.spare < core)
+    pub away : (k : ℕ) (t : Told) → slice_get c.others k ≡ Some t → t.core ≢ core
+
+  -- a core has such a seat
+  abbrev pub IsBeside : CoreView S → Type 0
+  IsBeside c = (core : ℕ) × IsLeftOut c core
+
+  -- The call was made and replied. Or another core was in a call, so that one is beside this one, and nothing was done. Or the machine
   -- is at a limit, that of calls or that of events: no reply is told, but that of the last call may
   -- stand in the log.
   abbrev pub Answers : CoreView S → Request → Answer → CoreView S → Type 0
   Answers v request (To.Reply reply) w = Extends v (replied request reply ∷ []) w
-  Answers v request To.Busy w = w ≡ v
+  Answers v request To.Busy w = (w ≡ v) × IsBeside v
   Answers v request To.Full w = IsLimited v [] w
 
   -- The core's view goes on by these calls. At a limit it may not have looked, and the call that the limit of events
@@ -116,7 +128,7 @@ module _ {S : Type 0} (state : S → World) where
   AnswersAll v asked told_of was (Lists.Made series) told w = (added : List Replied)
       × AreTold told_of added was told × (series.made ≡ length added) × AreFirst asked added
       × StopsFor series.stop asked added × GoesFor series.stop v added w
-  AnswersAll v asked told_of was Lists.Busy told w = (told ≡ was) × (w ≡ v)
+  AnswersAll v asked told_of was Lists.Busy told w = (told ≡ was) × (w ≡ v) × IsBeside v
 
   -- The machine made an aside, by a step of its own, from a legal state; it added nothing to the
   -- history, of which the core has seen all so far. At the limit of events it may not have looked.
@@ -127,10 +139,10 @@ module _ {S : Type 0} (state : S → World) where
     pub steps : StepsAside before (event_of v.core aside) outcome after
     pub extends : ((w ≡ v) × (outcome ≡ Full)) ⊎ (Extends v [] w × (history_of before ≡ w.seen))
 
-  -- or another core was in a call, and nothing was done
+  -- or another core was in a call, so that one is beside this one, and nothing was done
   abbrev pub Passes : CoreView S → Aside → Passed → CoreView S → Type 0
   Passes v aside (By.Came outcome) w = Came v aside outcome w
-  Passes v aside By.Busy w = w ≡ v
+  Passes v aside By.Busy w = (w ≡ v) × IsBeside v
 
   -- The machine is the one that was shared, in a legal state. The calls in its log of this core, and
   -- of each that it took in, are those that the core made, in order, with the replies that it got.
@@ -139,11 +151,3 @@ module _ {S : Type 0} (state : S → World) where
     pub made : u.made ≡ made_of c.first
     pub own : IsTold (history_of u) (told_of c)
     pub others : (k : ℕ) (t : Told) → slice_get c.others k ≡ Some t → IsTold (history_of u) t
-
-  -- The core has a seat, which isn't this one's, and which this one didn't take in. The first core has
-  -- one from the start, and those that could still be split off have none.
-  pub record IsLeftOut (c : CoreView S) (core : ℕ) : Type 0 where
-    pub here : core < (made_of c.first).cores
-    pub other : core ≢ c.core
-    pub split : (core ≡ 0) ⊎ (c.spare < core)
-    pub away : (k : ℕ) (t : Told) → slice_get c.others k ≡ Some t → t.core ≢ core

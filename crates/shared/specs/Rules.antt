@@ -18,7 +18,7 @@ use Rattle.shared.specs.declared.series.Stop.TheVariants as For
 use Rattle.shared.specs.declared.whole.Ended.{Ended}
 use Rattle.shared.specs.declared.whole.Ended.TheVariants as To
 use Rattle.shared.specs.Histories.{Adds, Begins, IsOver, history_of, replied_by}
-use Rattle.shared.specs.Cores.{CoreView, IsLater, IsTold, history_first, made_of}
+use Rattle.shared.specs.Cores.{CoreView, IsBeside, IsLater, IsTold, history_first, made_of}
 
 -- the word stands in the middle of a row of 17, so that nothing else lies in its cache line
 abbrev pub middle : ℕ
@@ -143,12 +143,13 @@ module _ {S : Type 0} (state : S → World) where
     pub here : v.live ≡ true → v.core < (state d).made.cores
     pub mine : v.live ≡ true → replied_by v.core (history_of (state d)) ≡ v.mine
 
-  -- The machine was taken; or it wasn't there; or no call can begin any more.
+  -- The machine was taken; or another core had it; or no call can begin any more.
   abbrev pub Took : ℕ → Me S (Known S) → Me S (Known S) → Type 0
   Took n m w = MatchBool (n == 1)
       ((d : S) × (w ≡ (holding m.0 (history_of (state d)), (0, d) ∷ m.1)) × Learns m.0 d)
       ((w ≡ m) × (n ≢ 0 → m.0.live ≡ true
-      → (u : World) × IsLater state m.0.first m.0.seen u × IsOver u))
+      → (u : World) × IsLater state m.0.first m.0.seen u × IsOver u)
+      × (n ≡ 0 → m.0.live ≡ true → m.0.holds ≡ false → (space : TableId) → IsBeside state (view_of space m.0)))
 
   abbrev pub Takes : Step S → Me S (Known S) → ℕ → Me S (Known S) → Type 0
   Takes st m n w = Took n m w

@@ -15,6 +15,7 @@ use vm_base::{CoreId, CoreSet, Request};
 
 /// A call of this core, from its beginning to its reply. A call that is refused memory is given up:
 /// its reply is then that there was no memory.
+#[inline(always)]
 pub fn call_whole<M: SlotMap, A: Allocator + Clone, L: Ledger>(
     machine: &mut Machine<M, A, L>,
     core: CoreId,
@@ -33,6 +34,7 @@ pub fn call_whole<M: SlotMap, A: Allocator + Clone, L: Ledger>(
 }
 
 // Ends a call that has come so far, if it isn't ended.
+#[inline(always)]
 fn call_settled<M: SlotMap, A: Allocator + Clone, L: Ledger>(
     machine: &mut Machine<M, A, L>,
     core: CoreId,
@@ -53,6 +55,7 @@ fn call_settled<M: SlotMap, A: Allocator + Clone, L: Ledger>(
 }
 
 // Tells whether a reply was handed out.
+#[inline(always)]
 fn is_answered(finished: &Finished) -> bool
     ensures { result ≡ is_answered finished.now }
 {
@@ -63,6 +66,7 @@ fn is_answered(finished: &Finished) -> bool
 }
 
 // Ends a call that waits for other cores, once these have taken what they were told.
+#[inline(never)]
 fn call_waited<M: SlotMap, A: Allocator + Clone, L: Ledger>(
     machine: &mut Machine<M, A, L>,
     core: CoreId,
@@ -78,6 +82,7 @@ fn call_waited<M: SlotMap, A: Allocator + Clone, L: Ledger>(
 }
 
 // Ends a call that was refused memory: it lets go what it holds, which takes no memory.
+#[inline(never)]
 fn call_given_up<M: SlotMap, A: Allocator + Clone, L: Ledger>(
     machine: &mut Machine<M, A, L>,
     core: CoreId,
@@ -93,6 +98,7 @@ fn call_given_up<M: SlotMap, A: Allocator + Clone, L: Ledger>(
 }
 
 // The result of finishing a call.
+#[inline(always)]
 fn ended_by(finished: Finished) -> Ended
     ensures { result ≡ ended_by finished }
 {

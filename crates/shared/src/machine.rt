@@ -31,6 +31,7 @@ impl<M: SlotMap, A: Allocator + Clone, L: Ledger> Whole for Machine<M, A, L> {
         true
     }
 
+    #[inline(always)]
     fn call_whole(&mut self, core: CoreId, request: Request) -> Ended {
         call_whole(self, core, request)
     }

@@ -1,9 +1,9 @@
 //! The space that threads share, and a core, with which one thread calls.
-ghost use Rattle.std.specs.Prelude.{◌≡◌, ◌≢◌, ℕ, ◌-◌, ◌<◌, ◌≤◌, ◌==◌, true, List, [], ◌∷◌, ◌++◌, IfOk, IfErr, IfSome, IfNone, length, map};
+ghost use Rattle.std.specs.Prelude.{◌≡◌, ◌≢◌, ◌-◌, ◌<◌, ◌≤◌, ◌==◌, true, List, [], ◌∷◌, ◌++◌, IfOk, IfErr, IfSome, IfNone, length, map};
 ghost use Rattle.shared.specs.declared.history.Replied.{Replied as RepliedOf};
 ghost use Rattle.shared.specs.Histories.{history_of, replied_by, event_of, Ends, StepsAside};
 ghost use Rattle.shared.specs.Serial.{AreTold, EndsSeries};
-ghost use Rattle.shared.specs.Cores.{Answers, AnswersAll, Agrees, IsKept, IsLeftOut, Passes, made_of, new_core, told_of};
+ghost use Rattle.shared.specs.Cores.{Answers, AnswersAll, Agrees, IsBeside, IsKept, Passes, made_of, new_core, told_of};
 ghost use Rattle.machine_alone.specs.Alone.{IsCalm};
 ghost use Rattle.core_steps.specs.Machine.{IsLegal};
 ghost use Rattle.shared.specs.Rules.{CanGive, Makes, Took, after, answer_of, word_after, word_of};
@@ -282,7 +282,8 @@ impl<S: Whole + Drop> Space<S> {
         self.table.shared.store::<Give>(seat, MIDDLE, word);
     }
 
-    /// A whole call of this core. Where another core is in one, nothing is done. Below the machine's
+    /// A whole call of this core. Where another core is in one, nothing is done: that comes only where another core has a
+    /// seat that this one didn't take in. Below the machine's
     /// limits of calls and of events it has a reply: only at a limit is the answer that it is full. What the core has
     /// seen of the machine's history is a beginning of it, whose log is that of a plain page map
     /// (POSIX.1-2017, mmap, munmap and mprotect), and in which this core's calls are just those that
@@ -385,7 +386,7 @@ impl<S: Whole + Drop> Space<S> {
     pub fn close(self, core: Core<S>) -> Option<S>
         requires here { core.space ≡ self.table.shared.table_id }
         ensures back { IfSome result (λ machine. Agrees S.state (S.state machine) core) }
-        ensures lost { IfNone result ((other : ℕ) × IsLeftOut S.state core other) }
+        ensures lost { IfNone result (IsBeside S.state core) }
     {
         let Space { table } = self;
         let mut closed = table.close_with(core.seat);

@@ -4,9 +4,9 @@ use Rattle.shared.specs.declared.series.Series.{Series}
 use Rattle.shared.specs.declared.series.Stop.TheVariants as For
 use Rattle.shared.specs.declared.space.Known.{Known}
 use Rattle.shared.specs.Histories.{history_of}
-use Rattle.shared.specs.Cores.{AnswersAll, CoreView}
+use Rattle.shared.specs.Cores.{AnswersAll, CoreView, IsBeside}
 use Rattle.shared.specs.Rules.{after, holding, view_of}
-use Rattle.shared.proofs.Keeping.{all_answers, all_gives, full_all, is_idle, same_view, took_home}
+use Rattle.shared.proofs.Keeping.{all_answers, all_gives, busy_beside, full_all, is_idle, same_view, took_home}
 use Rattle.shared.proofs.space.Space.call_all.Goals as goal
 
 zero_not_one : (n : ℕ) → n ≡ 0 → n ≢ 1
@@ -18,6 +18,9 @@ returns-then-found-eq-OUT-clause-answers g c = (
   same_view g.S.Whole.state [] c.core.inside.seat.table_id c.take-found.new.seat.table_id c.take-found.result c.core.inside.seat.me c.take-found.new.seat.me
       (zero_not_one c.take-found.result c.if-found-eq-OUT.true) c.take-found.ensures.took c.take-found.ensures.same.0
       ∙ c.core.view_is,
+  subst (IsBeside g.S.Whole.state) c.core.view_is (busy_beside g.S.Whole.state [] c.core.inside.seat.table_id c.take-found.result c.core.inside.seat.me
+      c.take-found.new.seat.me (zero_not_one c.take-found.result c.if-found-eq-OUT.true) c.if-found-eq-OUT.true c.take-found.ensures.took
+      c.core.invariant.2 c.core.invariant.1),
 )
 
 pub returns-then-found-ne-HOME-clause-answers : goal.returns-then-found-ne-HOME-clause-answers

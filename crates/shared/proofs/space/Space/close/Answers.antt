@@ -1,10 +1,10 @@
-use Rattle.std.proofs.Common.{subst, ℕ}
-use Rattle.shared.specs.Cores.{Agrees, IsLeftOut}
+use Rattle.std.proofs.Common.{subst}
+use Rattle.shared.specs.Cores.{Agrees, IsBeside}
 use Rattle.shared.proofs.Keeping.{closes, loses}
 use Rattle.shared.proofs.space.Space.close.Goals as goal
 
 pub returns-then-word-eq-OUT-clause-lost : goal.returns-then-word-eq-OUT-clause-lost
-returns-then-word-eq-OUT-clause-lost g c = subst (λ x. (other : ℕ) × IsLeftOut g.S.Whole.state x other) c.core.view_is
+returns-then-word-eq-OUT-clause-lost g c = subst (IsBeside g.S.Whole.state) c.core.view_is
     (loses g.S.Whole.state _ c.core.inside.seat.table_id _ c.core.inside.seat.me.0 _ _ c.word-word.result c.core.invariant.2 c.core.invariant.1
     c.close_with-closed.ensures.values.2 c.word-word.ensures c.if-word-eq-OUT.true)
 
