@@ -9,4 +9,5 @@ mod timing;
 
 pub use following::follow;
 pub use history::{Item, Timed};
-pub use timing::each_once;
+pub use leading::lead_all;
+pub use timing::{each_once, keeps_time};
