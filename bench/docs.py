@@ -1,10 +1,10 @@
 #!/usr/bin/env python3
-"""Reads README.md, docs/*.md and examples/README.md, and tells what in them isn't so: a path that isn't there, a contract
-(CRATE::MODULE::FUNCTION) whose function isn't, a clause that no contract named before it has, a function that a walk names in another module, a
-word of code that stands nowhere in the sources, a command whose word, option or file isn't there, a reply beside README's first trace that isn't
-the program's, C or Rust that no compiler takes, a crate or a document that is left out, a sentence of more than 38 words, or more than 90,000 bytes in
-README.md and docs/*.md. It runs `./radixvm help` for each topic that is named and, where the program is built (or RADIXVM_PROGRAM names it), each
-command of it whose files are there. It ends with status 1 where it tells anything.
+"""Reads README.md, docs/*.md and examples/README.md, and tells what in them isn't so: a path that isn't there, a contract (CRATE::MODULE::FUNCTION)
+whose function isn't, a clause that no contract named before it has, a function that a walk names in another module, a word of code that stands
+nowhere in the sources, a command whose word, option or file isn't there, a reply beside README's first trace that isn't the program's, C or Rust
+that no compiler takes, a crate or a document that is left out, nine words in a row that stand in two documents, a sentence of more than 38 words,
+or more than 90,000 bytes in README.md and docs/*.md. It runs `./radixvm help` for each topic that is named and, where the program is built (or
+RADIXVM_PROGRAM names it), each command of it whose files are there. It ends with status 1 where it tells anything.
 Usage: bench/docs.py"""
 import functools
 import glob
@@ -16,7 +16,7 @@ import sys
 import tempfile
 
 ROOT = os.path.dirname(os.path.dirname(os.path.abspath(__file__)))
-FOLDERS = "bench bindings crates docs edits examples include proofs specs src".split()
+FOLDERS = "bench bindings crates docs edits examples include install proofs specs src".split()
 FOREIGN = {"POSIX", "MAP_FIXED", "MAP_ANONYMOUS", "MAP_PRIVATE", "MAP_SHARED", "MAP_SHARED_VALIDATE", "SIGSEGV"}
 
 
@@ -87,7 +87,7 @@ def resolve(reference):
 
 def words_of_sources():
     words = set()
-    for folder in ["crates", "bench", "bindings", "edits", "examples", "include"]:
+    for folder in ["crates", "bench", "bindings", "edits", "examples", "include", "install"]:
         for path in glob.glob(f"{ROOT}/{folder}/**/*", recursive=True):
             if os.path.isfile(path) and not re.search(r"/out/|\.svg$|\.edit$|\.log$", path):
                 words.update(re.findall(r"\w+", open(path, encoding="utf-8", errors="replace").read()))
@@ -106,7 +106,7 @@ def path_faults(text):
             continue
         if first in CRATES:
             token = f"crates/{token}"
-        elif first not in FOLDERS[:7]:
+        elif first not in FOLDERS[:8]:
             continue
         if not glob.glob(os.path.join(ROOT, token)):
             yield f"no such path: {token}"
@@ -154,10 +154,11 @@ def word_faults(text, words):
 
 
 def commands(text):
-    """The commands that a text names: code in backticks, and indented lines."""
-    for span in re.findall(r"`([^`\n]+)`", text) + re.findall(r"^    (\S.*)$", text, re.M):
-        if re.match(r"(\./radixvm|rt|rattle|(bench|edits|bindings)/\S+)( |$)", span):
-            yield span
+    """The commands that a text names: code in backticks, which may go on in the next line, and indented lines."""
+    for block in blocks(text):
+        for span in [block.strip()] if block.startswith("    ") else re.findall(r"`([^`]+)`", block):
+            if re.match(r"(\./radixvm|rt|rattle|(bench|edits|bindings|install)/\S+)( |$)", span):
+                yield span
 
 
 def usage():
@@ -262,6 +263,17 @@ def whole_faults():
             yield f"README.md doesn't name {document}"
 
 
+def repeat_faults():
+    """Nine words in a row that stand in two documents: each fact has one place."""
+    places = {}
+    for document in documents():
+        words = re.findall(r"\w+", read(document).lower())
+        here = {" ".join(words[at : at + 9]) for at in range(len(words) - 8)}
+        for said in sorted(here & places.keys()):
+            yield f"{document} says again what {places[said]} says: {said}"
+        places.update(dict.fromkeys(here, document))
+
+
 def length_faults(text):
     for block in blocks(re.sub(r"```.*?```", "", text, flags=re.S)):
         if block.startswith(("|", "    ")):
@@ -285,7 +297,7 @@ def main():
         for fault in faults:
             print(f"{document}: {fault}")
         count += len(faults)
-    for fault in whole_faults():
+    for fault in [*whole_faults(), *repeat_faults()]:
         print(fault)
         count += 1
     size = sum(os.path.getsize(os.path.join(ROOT, document)) for document in documents())

@@ -51,6 +51,18 @@ fi
 diff "$top/examples/first.out" "$work/out"
 echo "first run: examples/first.out, $where"
 
+# the documents' pictures, and the headers and examples that README names, are found from where the documents lie
+doc=$prefix/share/doc/radixvm
+for page in "$doc"/README.md "$doc"/docs/*.md; do
+    for picture in $(grep -o '!\[[^]]*\]([^)]*)' "$page" | sed 's/.*(\(.*\))/\1/'); do
+        [ -s "$(dirname "$page")/$picture" ] || fail "$page shows $picture, which isn't there"
+    done
+done
+for file in $(grep -oE '\b(include|examples|docs)/[A-Za-z0-9_./-]*[A-Za-z0-9]' "$doc/README.md" | sort -u); do
+    [ -s "$doc/$file" ] || fail "README names $file, which isn't installed"
+done
+echo "documents: $(ls "$doc"/docs/*.md | wc -l) and README, whose files are there"
+
 # the shared library
 wanted=$(grep -o '\bradixvm_[a-z_]*(' "$prefix/include/radixvm.h" | tr -d '(' | sort -u)
 shown=$(nm -D --defined-only "$prefix/lib/libradixvm.so" | awk '{ print $3 }' | sort -u)
@@ -78,10 +90,9 @@ for page in "$prefix"/share/man/man?/*; do
     if command -v man > /dev/null; then
         MANWIDTH=100 man --warnings -l "$page" > "$work/page" 2> "$work/said"
         [ ! -s "$work/said" ] || fail "$name: $(cat "$work/said")"
-        tr -s ' \n' ' ' < "$work/page" > "$work/words"
-        "$prefix/bin/radixvm" help $topic | grep . | while read -r line; do
-            grep -qF -- "$(echo "$line" | tr -s ' ')" "$work/words" || fail "$name lacks: $line"
-        done
+        "$prefix/bin/radixvm" help $topic > "$work/help"
+        lacks=$(awk '{ $1 = $1 } FNR == NR { page = page " " $0; next } NF && !index(page, $0) { print; exit }' "$work/page" "$work/help")
+        [ -z "$lacks" ] || fail "$name lacks: $lacks"
     fi
     pages=$((pages + 1))
 done
