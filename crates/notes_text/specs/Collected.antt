@@ -22,9 +22,8 @@ nothing = record { asked = None; items = [] }
 
 -- ---- a line
 
--- A line of printable bytes: one that says nothing, the first vm line, which may have to say how many calls
--- may begin, a file line before the first item, or else the line of an item, which needs a
--- declaration that a space can be made of.
+-- A line of printable bytes. It says nothing, or it is the first vm line, which may have to have CALLS, or a
+-- file line before the first item, or the line of an item, behind a declaration that a space can be made of.
 pub data Says {T : Type 0} (needs_calls : Bool) (Names : ℕ → T → List Word → Type 0) (old : Collected T)
     (line : List ℕ) (new : Collected T) : Type 0 where
   blank : line_of line ≡ Some Blank → new ≡ old → Says needs_calls Names old line new

@@ -74,9 +74,9 @@ fn collect_lines<T: LineOf + Drop, K: Kept<T> + Drop, A: Allocator, S: Source>(
     }
 }
 
-/// What the text declares and names, in order of its lines, in the list, which is empty at first. Where it can't be read whole, the fault is the first: of a line that
-/// can't be taken, of a declaration of which no space can be made, of a read, or want of memory. 64 KiB for a chunk of
-/// lines are taken before anything is read.
+/// What the text declares and names, in order of its lines, in the list, which is empty at first. Where it can't be read whole,
+/// the first fault is told: a line can't be taken, no space can be made of the declaration, a read failed, or memory was
+/// refused. 64 KiB for a chunk of lines are taken before anything is read.
 pub fn collect<T: LineOf + Drop, K: Kept<T> + Drop, A: Allocator + Clone, S: Source>(
     alloc: A,
     items: K,

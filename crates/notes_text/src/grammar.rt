@@ -3,9 +3,8 @@ ghost use Rattle.notes_text.specs.Laws.{NotesAreOne, ReadsAllOutcomes, ReadsOnly
 ghost use Rattle.notes_text.specs.TextLaws.{LinesAreShort, NamedFits, NotesDeclare, SaidIsNotRefused, SaysOne, ScriptsDeclare, WrittenIsSaid};
 ghost use Rattle.notes_text.specs.WrittenLaws.{WritesWhatIsRead};
 
-/// Words that name an outcome are read as it (`all`), and those that are read as one name it (`only`). A line that names a note
-/// names no other (`one`), so that `read_note`, which answers a note that the line names and none where it names none, answers
-/// that one.
+/// Words that name an outcome are read as it (`all`), and words that are read as an outcome name it (`only`). A line names at
+/// most one note (`one`). `read_note` answers a note that the line names, or none where it names none: so it answers this one.
 pub fn notes_grammar()
     ensures all { ReadsAllOutcomes }
     ensures only { ReadsOnlyOutcomes }
@@ -19,9 +18,9 @@ pub fn written_notes()
     ensures { WritesWhatIsRead }
 {}
 
-/// The text that `write_notes` writes says what is declared and the notes, in the order in which they are written, each with its
-/// ticket, event and outcome (`written`), and no text says other notes beside those that it says, or declares otherwise (`one`). So
-/// whoever reads it is given those, or learns that a read failed or that there was no memory (`read`).
+/// The text that `write_notes` writes says what is declared, and then the notes in their order, each with its ticket, event and
+/// outcome (`written`). No text says two lists of notes, or two declarations (`one`). So whoever reads it is given those that were
+/// written, or learns that a read failed or that there was no memory (`read`).
 pub fn written_texts()
     ensures written { WrittenIsSaid }
     ensures one { SaysOne }

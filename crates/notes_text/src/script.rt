@@ -144,7 +144,7 @@ fn all_tasks<A: Allocator + Clone>(
     Ok(all)
 }
 
-/// What a script says: what is declared, of which a space can be made, and what each core is to do.
+/// What a script says: a declaration that a space can be made of, and what each core is to do.
 #[derive(Drop)]
 pub struct Script<A: Allocator> {
     alloc: A,
@@ -216,10 +216,9 @@ fn script_of<A: Allocator + Clone + Drop>(
     })
 }
 
-/// Reads a script: the `vm` line, in which CALLS may be left out, the `file` lines, and of a core of the space the lines `cC! REQ`, `cC flush`
-/// and `cC review`. It is read whole before anything is done. A fault is the first: of a line that is none of these, of a
-/// declaration of which no space can be made, of a read, or want of memory, also for the lists once all lines were
-/// read.
+/// Reads a script: the `vm` line, where CALLS may be left out, the `file` lines, and the lines `cC! REQ`, `cC flush` and
+/// `cC review` of the space's cores. It is read whole before anything is done. The first fault is told: a line is none of these,
+/// no space can be made of the declaration, a read failed, or memory was refused, also for the lists once all lines were read.
 pub fn read_script<A: Allocator + Clone + Drop, S: Source>(
     alloc: A,
     reader: &mut S,

@@ -98,8 +98,8 @@ fn write_note<W: Sink>(writer: &mut W, note: &Noted) -> Result<(), WriteFailed>
     )
 }
 
-// Writes a line of each note of lists in which the tickets don't fall, in order of tickets, and of those that have one ticket
-// in order of the lists. What was written is taken off the lists.
+// Writes a line for each note, in order of tickets. In each list the tickets don't fall; notes with the same ticket go in order
+// of the lists. What was written is taken off the lists.
 fn write_merged<W: Sink>(writer: &mut W, lists: &mut [Notes<'_>]) -> Result<(), WriteFailed>
     requires { All (IsNonDecreasingBy ticket_of) (map shown lists.old) }
     ensures { (order : List Noted) × AreInOrder (all_notes (map shown lists.old)) order
@@ -225,7 +225,7 @@ fn heads<'a, A: Allocator>(alloc: A, seats: &[Notes<'a>]) -> Result<Vec<Notes<'a
     Ok(heads)
 }
 
-// The same of seats in each of which the tickets don't fall, which are merged.
+// The same of seats, which are merged: in each of them the tickets don't fall.
 fn merge_notes<A: Allocator, W: Sink>(
     alloc: A,
     declaration: &Declaration,

@@ -1,4 +1,4 @@
-//! Who watches a whole run and records the changes by which mappings begin and end.
+//! Watches a whole run and records where mappings begin and end.
 ghost use Rattle.std.specs.Prelude.{◌≡◌};
 ghost use Rattle.core_steps.specs.Machine.{state};
 ghost use Rattle.recorder.specs.Changes.{Changes, ChangesRecorded, stood};

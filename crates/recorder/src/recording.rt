@@ -53,7 +53,7 @@ impl<B: Allocator> Recorder<B> {
         }
     }
 
-    // A plain step, of which this was seen before it.
+    // A plain step, and what was seen before it.
     fn step_on<M: SlotMap, A: Allocator + Clone, L: Ledger>(
         &mut self,
         machine: &Machine<M, A, L>,
@@ -105,7 +105,7 @@ impl<B: Allocator> Recorder<B> {
         }
     }
 
-    // What an event came to, of which this was seen before it.
+    // What an event came to, and what was seen before it.
     fn come<M: SlotMap, A: Allocator + Clone, L: Ledger>(
         &mut self,
         machine: &Machine<M, A, L>,
