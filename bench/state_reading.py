@@ -1,6 +1,6 @@
 #!/usr/bin/env python3
-"""Reads random traces with a machine of its own, and compares the state that it comes to with that of `radixvm state`, line by line.
-The machine is made of dictionaries, works call by call, and knows fixed anonymous mappings, accesses, shootdowns, takes, walks and evictions.
+"""Reads random traces with a machine of its own, and compares the state that it comes to with that of `radixvm state`, line by line,
+at the end of each trace and behind one of its lines. The machine is made of dictionaries, works call by call, and knows fixed anonymous mappings, accesses, shootdowns, takes, walks and evictions.
 It shares nothing with the program but what the documents say. Usage: bench/state_reading.py [TRACES [SEED]]; RADIXVM_PROGRAM names the program."""
 import os
 import pathlib
@@ -139,22 +139,31 @@ def line(machine, draw):
     return f"c{core}! {kind} {page * 4096:#x} {(end - page) * 4096}{tail}"
 
 
+def compare(words, text, due):
+    """What the program writes of the text, if it is that."""
+    wrote = subprocess.run([PROGRAM, "state", *words], input=text, capture_output=True, text=True, check=False)
+    if wrote.stdout != due or wrote.returncode != 0:
+        sys.exit(f"{' '.join(['state', *words])} of\n{text}comes to\n{wrote.stdout}{wrote.stderr}and not to\n{due}")
+    return wrote.stdout
+
+
 def main():
     count, seed = (int(word) for word in (sys.argv[1:] + ["200", "1"])[:2]) if len(sys.argv) > 2 else (int((sys.argv[1:] or ["200"])[0]), 1)
     draw = random.Random(seed)
     lines = going = 0
-    for trace in range(count):
+    for _ in range(count):
         machine, made = Machine(), [f"vm {CORES} 4096"]
+        states = [machine.text()]
         for _ in range(draw.randint(1, 150)):
             if said := line(machine, draw):
                 made.append(said)
+                states.append(machine.text())
         text = "\n".join(made) + "\n"
-        wrote = subprocess.run([PROGRAM, "state"], input=text, capture_output=True, text=True, check=False)
-        if wrote.stdout != machine.text() or wrote.returncode != 0:
-            sys.exit(f"trace {trace} of seed {seed}:\n{text}comes to\n{wrote.stdout}{wrote.stderr}and not to\n{machine.text()}")
-        lines += wrote.stdout.count("\n")
-        going += wrote.stdout.count("going")
-    print(f"{count} traces of seed {seed}: {lines} lines of state, {going} of them of what is going, are those of the second reading")
+        at = draw.randint(1, len(made))
+        wrote = compare([], text, states[-1]) + compare(["--at", str(at)], text, states[at - 1])
+        lines += wrote.count("\n")
+        going += wrote.count("going")
+    print(f"{count} traces of seed {seed}, each at its end and behind one of its lines: {lines} lines of state, {going} of them of what is going, are those of the second reading")
 
 
 if __name__ == "__main__":

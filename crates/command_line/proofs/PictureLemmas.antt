@@ -93,7 +93,7 @@ picture_read s t drawing text old new ended r h =
 pub picture_unread : (s t : Stream) (drawing : Drawing) (old : Option (List ℕ)) (f : TraceFault) → (f ≡ NoMemory) ⊎ (f ≡ ReadFailed)
     → Reads s t (λ input unread. input ≡ input) → Reads s t (λ input unread. PictureEnds drawing input old old (Err f))
 picture_unread s t (Steps steps) old f why r = reads_map s t _ _ r (λ xs ys k is. inl (inr why, Keeps-refl old))
-picture_unread s t State old f why r = reads_map s t _ _ r (λ xs ys k is. inl (inr why, Keeps-refl old))
+picture_unread s t (State at) old f why r = reads_map s t _ _ r (λ xs ys k is. inl (inr why, Keeps-refl old))
 picture_unread s t Lives old f why r = reads_map s t _ _ r (λ xs ys k is. inl (inr why, Keeps-refl old))
 picture_unread s t (Listing limit) old f why r = reads_map s t _ _ r (λ xs ys k is. inl (inr why, Keeps-refl old))
 
@@ -112,7 +112,7 @@ text_kept Comes Faults lacks text a b c (Err f) (inr (failed, inr (r, h, front))
 pub picture_kept : (drawing : Drawing) (input : List ℕ) (a b c : Option (List ℕ)) (ended : Result (Option ℕ) TraceFault)
     → PictureEnds drawing input a b ended → Keeps b c → PictureEnds drawing input a c ended
 picture_kept (Steps steps) input a b c ended h k = text_kept _ _ _ _ a b c ended h k
-picture_kept State input a b c ended h k = text_kept _ _ _ _ a b c ended h k
+picture_kept (State at) input a b c ended h k = text_kept _ _ _ _ a b c ended h k
 picture_kept Lives input a b c ended h k = text_kept _ _ _ _ a b c ended h k
 picture_kept (Listing limit) input a b c ended h k = text_kept _ _ _ _ a b c ended h k
 
@@ -128,7 +128,7 @@ text_lost Comes Faults lacks text a b c (Err f) (inr (failed, inr (r, h, front))
 pub picture_lost : (drawing : Drawing) (input : List ℕ) (a b c : Option (List ℕ)) (ended : Result (Option ℕ) TraceFault)
     → PictureEnds drawing input a b ended → Keeps b c → PictureEnds drawing input a c (Err WriteFailed)
 picture_lost (Steps steps) input a b c ended h k = text_lost _ _ _ _ a b c ended h k
-picture_lost State input a b c ended h k = text_lost _ _ _ _ a b c ended h k
+picture_lost (State at) input a b c ended h k = text_lost _ _ _ _ a b c ended h k
 picture_lost Lives input a b c ended h k = text_lost _ _ _ _ a b c ended h k
 picture_lost (Listing limit) input a b c ended h k = text_lost _ _ _ _ a b c ended h k
 

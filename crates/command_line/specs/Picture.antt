@@ -23,7 +23,8 @@ use Rattle.trace.specs.Ends.{Stops}
 use Rattle.trace.specs.Seen.{IsSeen}
 use Rattle.state_text.specs.Texts.{state_text}
 use Rattle.state_text.specs.Traces.{ComesTo}
-use Rattle.command_line.specs.State.{lacking_no_state}
+use Rattle.state_text.specs.Fronts.{lines_to}
+use Rattle.command_line.specs.State.{FailsTo, lacking_state}
 use Rattle.trace_io.specs.Lines.{lines_of}
 use Rattle.trace_io.specs.Sink.{AppendsFront}
 use Rattle.watched.specs.Watching.{makes}
@@ -67,11 +68,12 @@ abbrev pub Watched : {S : Type 0} → (S → World → Event → Outcome → Wor
 Watched after one input r = IsSeen after one r Outcomes input None None
 
 -- beside a recorder of some steps it is the picture of what happened in them, beside one of changes that of lives; in place of a picture
--- there may be the text of the state to which the lines lead, or a list of the mappings at the end with the names of files
+-- there may be the text of the state to which the lines, or the first of them, lead, or a list of the mappings at the end with the names of files
 abbrev pub PictureEnds : Drawing → List ℕ → Option (List ℕ) → Option (List ℕ) → Result (Option ℕ) TraceFault → Type 0
 PictureEnds (Steps steps) input old new r = TextEnds (Watched (makes recorded) (nothing_recorded steps.first steps.last) input) (Fails Usual input)
     (lacking steps.first) (picture_of steps.first steps.last input) old new r
-PictureEnds State input old new r = TextEnds (ComesTo (lines_of input)) (Fails Usual input) lacking_no_state state_text old new r
+PictureEnds (State at) input old new r = TextEnds (ComesTo (lines_to at (lines_of input))) (FailsTo at input)
+    (lacking_state at (lines_of input)) state_text old new r
 PictureEnds Lives input old new r = TextEnds (Watched ChangesRecorded nothing_changed input) (Fails Long input) lacking_none (lives_of input) old new r
 PictureEnds (Listing limit) input old new r = TextEnds (Listed limit input) (FailsToList limit input) lacking_nothing (named_list input) old new r
 

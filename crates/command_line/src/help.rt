@@ -16,7 +16,7 @@ pub const VERSION: &str = "0.1.0";
 pub const USAGE: &str = "\
 radixvm run [--summary | [--echo] [--log]] [--long] [--explain] [FILE]
        radixvm maps [--names] [--long] [--explain] [FILE]
-       radixvm state [--explain] [FILE]
+       radixvm state [--at N] [--explain] [FILE]
        radixvm certify [--explain] [FILE]
        radixvm live [[--certify | --history] [--summary] | --shared]
                     [--explain] [FILE]
@@ -37,7 +37,7 @@ modelled cores, and replayed from a text, a trace, step by step.
 
 Usage: radixvm run [--summary | [--echo] [--log]] [--long] [--explain] [FILE]
        radixvm maps [--names] [--long] [--explain] [FILE]
-       radixvm state [--explain] [FILE]
+       radixvm state [--at N] [--explain] [FILE]
        radixvm certify [--explain] [FILE]
        radixvm live [[--certify | --history] [--summary] | --shared]
                     [--explain] [FILE]
@@ -61,8 +61,8 @@ Words:
   run --summary  counts calls, faults, fills, shootdowns, frames and epochs,
                  and writes the numbers on standard error (help cores)
   maps           writes the mappings at the trace's end, and nothing else
-  state          writes the state at the trace's end: each core's call, TLB and
-                 inbox
+  state          writes the state at the trace's end, or behind line N: each
+                 core's call, TLB and inbox
   certify        reads notes, steps with what each came to, and certifies that
                  they are a run of the machine, or refuses them
   live           runs a script, each core on a thread, and writes their notes

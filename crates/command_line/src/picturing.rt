@@ -49,8 +49,8 @@ pub enum Drawing {
     Steps(Steps),
     /// The lives of mappings over all steps, however many there are.
     Lives,
-    /// No picture, but the text of the state at the trace's end.
-    State,
+    /// No picture, but the text of the state behind this line, or at the trace's end.
+    State(Option<u64>),
     /// No picture, but the list of the mappings at the end, with the names of files, within this limit.
     Listing(CallLimit),
 }
@@ -272,7 +272,7 @@ fn draw_text<W: Sink, E: Write>(
     match drawing {
         Drawing::Steps(steps) => draw_steps(alloc, trace, out, errors, steps),
         Drawing::Lives => draw_all_lives(alloc, trace, out),
-        Drawing::State => draw_state(alloc, trace, out),
+        Drawing::State(at) => draw_state(alloc, trace, out, at),
         Drawing::Listing(limit) => list_named(alloc, trace, out, limit),
     }
 }
@@ -296,8 +296,26 @@ fn draw_trace<S: Source, W: Sink, E: Write>(
     }
 }
 
-/// Prints the fault that there is, or that the steps asked for are lacking, and answers the status.
-pub(crate) fn tell_end<E: Write>(ended: Result<Option<u64>, TraceFault>, errors: &mut E) -> Ended
+// Says that what is asked for is behind all that there is.
+fn tell_lacking<E: Write>(all: u64, drawing: Drawing, errors: &mut E) {
+    let _ = match drawing {
+        Drawing::State(_) => writeln!(
+            errors,
+            "radixvm: the trace has {all} lines: --at is behind them"
+        ),
+        _ => writeln!(
+            errors,
+            "radixvm: the trace has {all} steps: --from is behind them"
+        ),
+    };
+}
+
+/// Prints the fault that there is, or that the steps or the line asked for are lacking, and answers the status.
+pub(crate) fn tell_end<E: Write>(
+    ended: Result<Option<u64>, TraceFault>,
+    drawing: Drawing,
+    errors: &mut E,
+) -> Ended
     ensures value { result.status ≡ picture_status ended }
     ensures within { result.status ≤ 3 }
 {
@@ -307,10 +325,7 @@ pub(crate) fn tell_end<E: Write>(ended: Result<Option<u64>, TraceFault>, errors:
             trouble: Trouble::Nothing,
         },
         Ok(Some(all)) => {
-            let _ = writeln!(
-                errors,
-                "radixvm: the trace has {all} steps: --from is behind them"
-            );
+            tell_lacking(all, drawing, errors);
             Ended {
                 status: 2,
                 trouble: Trouble::Nothing,
@@ -328,9 +343,10 @@ pub(crate) fn tell_end<E: Write>(ended: Result<Option<u64>, TraceFault>, errors:
 
 /// Reads the trace into memory, replays it, and writes a picture of it, with the names of files that its comments tell: of what happened in these steps, or in the first
 /// 2,000 of them, which is then said on `errors`; or of the lives of mappings over all steps; or, in
-/// place of a picture, the list of the mappings at the end. Prints
+/// place of a picture, the state behind a line or at the end, or the list of the mappings at the end. Prints
 /// a fault, of which there is no picture, as `radixvm: ` and its text, and answers the status: 0, or
-/// that of the fault. A trace that ends before the first of the steps has no picture either: that is reported, and the status is 2.
+/// that of the fault. A trace that ends before the first of the steps, or before the line, has no picture either: that is reported,
+/// and the status is 2.
 pub fn picture<S: Source, W: Sink, E: Write>(
     alloc: Global,
     reader: &mut S,
@@ -344,7 +360,7 @@ pub fn picture<S: Source, W: Sink, E: Write>(
 {
     let drawn = draw_trace(alloc, reader, out, errors, drawing);
     match out.flush() {
-        Ok(()) => tell_end(drawn, errors),
-        Err(_) => tell_end(Err(TraceFault::WriteFailed), errors),
+        Ok(()) => tell_end(drawn, drawing, errors),
+        Err(_) => tell_end(Err(TraceFault::WriteFailed), drawing, errors),
     }
 }

@@ -131,6 +131,10 @@ pub(crate) fn tell<W: Sink, E: Write>(alloc: Global, told: &Told, out: &mut W, e
             let _ = writeln!(errors, "radixvm: --from {first} is behind --to {last}");
             2
         }
+        Told::NoLine => {
+            let _ = writeln!(errors, "radixvm: --at 0: lines are counted from 1");
+            2
+        }
         Told::ManyFiles => {
             let _ = writeln!(errors, "radixvm: --lackey reads one FILE");
             2

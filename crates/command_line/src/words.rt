@@ -58,7 +58,7 @@ pub(crate) enum Work {
     AuditAll(Terms),
     /// The judgement of calls that overlap, by an order that is searched, or given.
     Overlapping(Overlaps),
-    /// A picture of a trace, of its steps or of lives, or the state at its end.
+    /// A picture of a trace, of its steps or of lives, or the state at its end or behind a line.
     Picture(Drawing),
     /// The outcomes of a litmus test.
     Litmus(Test),
@@ -100,6 +100,8 @@ pub(crate) enum Told {
     Page(Topic),
     /// No step is from the first of these to the last.
     NoSteps(Steps),
+    /// Lines are counted from 1.
+    NoLine,
     /// Several files stand where one is read.
     ManyFiles,
 }
@@ -159,7 +161,7 @@ const AUDIT_USAGE: &str =
 const LITMUS_USAGE: &str =
     "radixvm litmus [--to-c | [--limit N] [--list | --witness N | --observed COUNTS]] [--explain] [FILE]";
 
-const STATE_USAGE: &str = "radixvm state [--explain] [FILE]";
+const STATE_USAGE: &str = "radixvm state [--at N] [--explain] [FILE]";
 
 const PICTURE_USAGE: &str = "radixvm picture [--lives | [--from N] [--to N]] [--explain] [FILE]";
 
@@ -263,7 +265,7 @@ fn machine_words<'a>(alloc: Global) -> Result<Command<'a>, AllocError> {
     let maps = reading(alloc, "maps", MAPS_USAGE)?
         .arg(flag(alloc, "names"))?
         .arg(flag(alloc, "long"))?;
-    let state = reading(alloc, "state", STATE_USAGE)?;
+    let state = reading(alloc, "state", STATE_USAGE)?.arg(number(alloc, "at"))?;
     let certify = reading(alloc, "certify", CERTIFY_USAGE)?;
     let live = living(alloc)?;
     let program = Command::new(alloc, "radixvm")
@@ -504,7 +506,7 @@ fn asked<'a>(name: &str, words: &ArgMatches<'a>, coloured: bool) -> Result<Task<
             Ok(working(Work::Picture(Drawing::Listing(limit_of(words))), words))
         }
         "maps" => Ok(replaying(Show::Maps, false, words)),
-        "state" => Ok(working(Work::Picture(Drawing::State), words)),
+        "state" => Ok(working(Work::Picture(Drawing::State(words.get_one("at"))), words)),
         "certify" => Ok(working(Work::Certify, words)),
         "live" => Ok(working(living_asked(words), words)),
         "import" if words.get_flag("lackey") => Ok(working(Work::ImportAccesses, words)),
@@ -553,13 +555,14 @@ fn matched<'a, A: Allocator>(
     }
 }
 
-// The task, if it may read so many files, and a picture of steps has one that it may show.
+// The task, if it may read so many files, a picture of steps has one that it may show, and a state is behind a line.
 fn checked<'a>(task: Task<'a>, files: usize) -> Result<Task<'a>, Told> {
     match task.work {
         Work::ImportAccesses if files > 1 => Err(Told::ManyFiles),
         Work::Picture(Drawing::Steps(steps)) if steps.last < steps.first => {
             Err(Told::NoSteps(steps))
         }
+        Work::Picture(Drawing::State(Some(0))) => Err(Told::NoLine),
         _ => Ok(task),
     }
 }

@@ -1,6 +1,7 @@
 pub mod Cached
 pub mod Doing
 pub mod Entries
+pub mod FrontLines
 pub mod Joined
 pub mod Lines
 pub mod Steps

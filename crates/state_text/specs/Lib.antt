@@ -1,4 +1,5 @@
 pub mod Deeds
+pub mod Fronts
 pub mod Held
 pub mod Laws
 pub mod Pieces

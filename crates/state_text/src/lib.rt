@@ -2,6 +2,7 @@
 #![tactic(auto)]
 
 pub mod deed;
+pub mod fronts;
 pub mod held;
 pub mod laws;
 pub mod mirror;

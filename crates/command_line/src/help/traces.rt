@@ -224,7 +224,10 @@ state reads a trace, and writes the state of the machine at its end: one line
 for each thing, and none for what is empty.
 
   radixvm state TRACE
-  head -n 12 TRACE | radixvm state    the state behind line 12
+  radixvm state --at 12 TRACE    the state behind line 12
+
+Lines count from 1. A vm, file or comment line changes nothing, and what stands
+behind line N isn't looked at.
 
   epoch E
         the epoch of Refcache (help cores)
@@ -251,7 +254,8 @@ for each thing, and none for what is empty.
 Cores, and the things of each, are in this order. Tables, slots and frames
 aren't shown: see help maps and run --summary. The trace is held in memory.
 
-Status: as for run. After a fault no state is written.
+Status: as for run; 2 where the trace has fewer than N lines. After a fault no
+state is written.
 ";
 
 /// What ends a replay early.

@@ -1,12 +1,14 @@
-use Rattle.std.proofs.Common.{inl, inr, refl}
+use Rattle.std.proofs.Common.{inl}
 use Rattle.std.proofs.KnownBytes.{Keeps-refl}
-use Rattle.command_line.proofs.StateLemmas.{state_drawn}
+use Rattle.command_line.proofs.StateLemmas.{state_drawn, state_unseen}
 use Rattle.command_line.proofs.stating.draw_state.Goals as goal
 
 pub returns-in-Ok-record-clause-ends : goal.returns-in-Ok-record-clause-ends
 returns-in-Ok-record-clause-ends g c =
-    state_drawn c.args.trace.now _ _ c.in-Ok.mirror c.in-Ok-record.mirror c.write_seen.result c.in-Ok.ensures c.in-Ok-record.ensures.ends
+    state_drawn c.args.at c.args.trace.now c.front_of-front.result.now _ _ c.in-Ok.mirror c.in-Ok-record.mirror c.lacking_line-lacking.result
+    c.write_seen.result c.front_of-front.ensures c.lacking_line-lacking.ensures c.in-Ok.ensures c.in-Ok-record.ensures.ends
     c.write_seen.ensures.ok c.write_seen.ensures.err
 
 pub returns-in-Err-clause-ends : goal.returns-in-Err-clause-ends
-returns-in-Err-clause-ends g c = inl (c.in-Err.ensures.ends, Keeps-refl _)
+returns-in-Err-clause-ends g c =
+    inl (state_unseen c.args.at c.args.trace.now c.front_of-front.result.now _ c.front_of-front.ensures c.in-Err.ensures.ends, Keeps-refl _)
