@@ -1,0 +1,5 @@
+pub mod CountLemmas
+pub mod LaneLemmas
+pub mod ReadLemmas
+pub mod RunLemmas
+pub mod StepLemmas
