@@ -1,10 +1,8 @@
 #!/usr/bin/env python3
 """Random litmus tests of 2 to 4 cores, with frames enough. Each has to have just the outcomes that a search of all merges on a plain page map finds, where
 a store to a private page of a file may copy the page before; `radixvm litmus` has to say `exact`, and each witness has to give its outcome when it
-is run. With --live RUNS the tests have no opening, and are run on threads so often; each run is certified, and its outcome has to be among those
-that are listed.
+is run. With --live RUNS the tests are run on threads so often; each run is certified, and its outcome has to be among those that are listed.
 Usage: bench/litmus_random.py [--live RUNS] [TESTS [SEED]], 1000 and 0 where left out; RADIXVM_PROGRAM names the program."""
-import collections
 import copy
 import os
 import pathlib
@@ -34,7 +32,7 @@ def placed(choose):
             return words
 
 
-def made(choose, with_opening):
+def made(choose):
     """An opening and the lists of a test: calls of cores. A whole test has 3 to 10 calls in its lists."""
     cores = choose.randint(2, 4)
     opening = [(0, ["mmap", hex(BASE), str(PAGES * PAGE), "rw-", "pfa"])] if choose.random() < 0.5 else []
@@ -43,9 +41,6 @@ def made(choose, with_opening):
     opening += sorted(more, key=lambda call: {"store": 1, "load": 2, "fetch": 2}.get(call[1][0], 0))
     most = {2: 5, 3: 3, 4: 2}[cores]
     lists = {core: [placed(choose) for _ in range(choose.randint(1, most))] for core in range(cores)}
-    if not with_opening:
-        lists[0] = [["mmap", hex(BASE), str(PAGES * PAGE), "rw-", *choose.choice([("pfa",), ("pf", "0", "0x0"), ("sf", "0", "0x0")])]] + lists[0][: most - 1]
-        opening = []
     return opening, lists
 
 
@@ -117,33 +112,16 @@ def compared(opening, lists):
     return wrong, len(wanted), len(shown)
 
 
-def lived(lists, runs):
+def lived(opening, lists, runs):
     """The same of runs of the test on threads: what is wrong, how many outcomes are listed, and how many came about."""
-    text = text_of([], lists).replace("vm 4 256", "vm 4 256 64")
-    counts = collections.Counter()
-    for _ in range(runs):
-        verdict = run(["live"], text)
-        certificate = run(["certify"], verdict.stdout)
-        if verdict.returncode or certificate.returncode:
-            return [f"not certified: {verdict.stderr}{certificate.stdout}{certificate.stderr}"], 0, 0
-        answers = replies_of_notes(verdict.stdout)
-        counts["; ".join(f"c{core} {', '.join(answers[core])}" for core in sorted(lists))] += 1
-    out = run(["litmus"], text)
-    listed = {line.split(": ", 1)[1] for line in out.stdout.split("\n") if re.match(r"\d+: ", line)}
-    wrong = [f"{outcome} came {count} times, and isn't listed" for outcome, count in counts.items() if outcome not in listed]
-    if out.returncode or out.stderr or not out.stdout.endswith("\nexact\n"):
+    text = text_of(opening, lists).replace("vm 4 256", "vm 4 256 64")
+    listed = run(["litmus"], text).stdout.split("\n", 1)[0].removeprefix("outcomes ")
+    out = run(["litmus", "--live", str(runs)], text)
+    counts = [int(line.split(": ", 1)[0]) for line in out.stdout.split("\n") if re.match(r"\d+: ", line)]
+    wrong = []
+    if sum(counts) != runs or out.returncode or out.stderr or "(outside)" in out.stdout or not out.stdout.endswith("\nexact\n"):
         wrong.append(f"status {out.returncode}: {out.stdout}{out.stderr}")
-    return wrong, len(listed), len(counts)
-
-
-def replies_of_notes(notes):
-    """The replies of each core's calls, in their order: the outcome of a note that is neither a step nor a wait."""
-    answers = collections.defaultdict(list)
-    for line in notes.split("\n"):
-        note = re.fullmatch(r"\d+ c(\d+) (?:go|frame|guess|whole|giveup)(?: \S+)? = (.*)", line)
-        if note and not re.match(r"step|idle|full|wait|stuck", note[2]):
-            answers[int(note[1])].append(note[2])
-    return answers
+    return wrong, int(listed), len(counts)
 
 
 def main():
@@ -154,8 +132,8 @@ def main():
     count, seed = (int(words[at]) if len(words) > at else usual for at, usual in ((0, 1000), (1, 0)))
     bad = outcomes = shown = 0
     for number in range(count):
-        opening, lists = made(random.Random(f"litmus {seed} {number}"), not runs)
-        wrong, some, more = lived(lists, runs) if runs else compared(opening, lists)
+        opening, lists = made(random.Random(f"litmus {seed} {number}"))
+        wrong, some, more = lived(opening, lists, runs) if runs else compared(opening, lists)
         for what in wrong:
             print(f"test {number} of seed {seed}: {what}\n{text_of(opening, lists)}")
         bad, outcomes, shown = bad + bool(wrong), outcomes + some, shown + more

@@ -2,10 +2,10 @@
 use Rattle.std.proofs.Common.{◌≡◌, ◌≢◌, ◌⊎◌, ℕ, true, List, inl, inr, refl, sym, subst}
 use Rattle.command_line.specs.Litmus.{TellsBeside, TellsTest, TestEnds, litmus_status}
 use Rattle.command_line.specs.declared.litmus_tests.Test.{Test}
-use Rattle.litmus.specs.Kernels.{FailsAs}
+use Rattle.litmus.specs.Asked.{FailsAs}
 use Rattle.litmus.specs.declared.faults.RunFault.TheVariants as Why
 use Rattle.litmus.specs.declared.telling.Wanted.{Wanted}
-use Rattle.litmus.specs.declared.telling.Wanted.TheVariants.{Outcomes, Program, Observed}
+use Rattle.litmus.specs.declared.telling.Wanted.TheVariants.{Outcomes, Program, Observed, Live}
 use Rattle.litmus_text.specs.declared.faults.LitmusFault.TheVariants as TextOf
 use Rattle.trace_io.specs.Io.{ReadFrom, WrittenTo}
 use Rattle.trace_io.specs.Source.{HasStopped, Reads}
@@ -17,6 +17,7 @@ want_fails : (wanted : Wanted) (counts lines : List (List ℕ)) → FailsAs want
 want_fails (Outcomes view) counts lines = inl (inl (inl refl))
 want_fails Program counts lines = inl refl
 want_fails Observed counts lines = inl (inl refl)
+want_fails (Live runs) counts lines = inl (inl refl)
 
 -- of a text that was read
 pub told_of : (test : Test) (counts : List ℕ) (text : ReadFrom) (out : WrittenTo) (n : ℕ) (input : List ℕ)

@@ -3,17 +3,21 @@ use Rattle.std.specs.Prelude.{◌≡◌, ◌⊎◌, ℕ, true, List, Option, min
 use Rattle.std.specs.Io.KnownBytes.{Appends}
 use Rattle.std.specs.declared.alloc.Global.{Global}
 use Rattle.command_line.specs.declared.litmus_tests.Test.{Test}
-use Rattle.litmus.specs.Kernels.{FailsAs, TellsAs}
+use Rattle.litmus.specs.Asked.{FailsAs, TellsAs}
 use Rattle.litmus.specs.declared.faults.RunFault.{RunFault}
 use Rattle.litmus.specs.declared.faults.RunFault.TheVariants as Why
+use Rattle.litmus_live.specs.declared.fault.LiveTestFault.TheVariants as LiveOf
 use Rattle.litmus_text.specs.declared.faults.LitmusFault.TheVariants as TextOf
 use Rattle.trace_io.specs.Io.{ReadFrom, WrittenTo}
 use Rattle.trace_io.specs.Lines.{lines_of}
 use Rattle.trace_io.specs.Source.{HasStopped, Reads}
 
--- 3 where a read, a write or memory failed, 2 where the text or what is asked for is at fault
+-- 3 where a read, a write or memory failed, or a run on threads came to no outcome, but 1 where one isn't certified; 2 where the text or what
+-- is asked for is at fault
 abbrev pub litmus_status : RunFault → ℕ
 litmus_status (Why.Text (TextOf.Io f)) = 3
+litmus_status (Why.Live LiveOf.NotCertified) = 1
+litmus_status (Why.Live f) = 3
 litmus_status fault = 2
 
 -- what is told of the test was written, and gives the status

@@ -97,7 +97,16 @@ fn act<T: Threads + Wait + Sync, R: Runner<Global>, L: Source, S: Source, W: Sin
             ),
             Work::Picture(drawing) => picture(alloc, reader, out, errors, drawing),
             Work::Litmus(test) => {
-                litmus(alloc, test_name(task.file), list, reader, out, errors, test)
+                litmus(
+                    rt,
+                    alloc,
+                    test_name(task.file),
+                    list,
+                    reader,
+                    out,
+                    errors,
+                    test,
+                )
             }
         },
         Err(told) => Ended {

@@ -27,7 +27,7 @@ radixvm run [--summary | [--echo] [--log]] [--long] [--explain] [FILE]
                      [--strict] [--all]] [--any-place] [--explain] [FILE]
        radixvm picture [--lives | [--from N] [--to N]] [--explain] [FILE]
        radixvm litmus [--to-c | [--limit N] [--list | --witness N |
-                      --observed COUNTS]] [--explain] [FILE]
+                      --observed COUNTS | --live N]] [--explain] [FILE]
        radixvm help [TOPIC]";
 
 /// What the program is for, its words, and where to read on.
@@ -48,7 +48,7 @@ Usage: radixvm run [--summary | [--echo] [--log]] [--long] [--explain] [FILE]
                      [--strict] [--all]] [--any-place] [--explain] [FILE]
        radixvm picture [--lives | [--from N] [--to N]] [--explain] [FILE]
        radixvm litmus [--to-c | [--limit N] [--list | --witness N |
-                      --observed COUNTS]] [--explain] [FILE]
+                      --observed COUNTS | --live N]] [--explain] [FILE]
        radixvm help [TOPIC]
 
 Words:

@@ -6,10 +6,12 @@ ghost use Rattle.command_line.specs.Litmus.{TellsBeside, TellsTest, TestEnds, li
 use crate::ended::{Ended, Trouble};
 use crate::keeping::Kept;
 use crate::pointing::{expect, show_line, tell};
-use litmus::{RunFault, Wanted};
+use litmus::{LiveTestFault, RunFault, Wanted};
 use litmus_text::LitmusFault;
 use std::alloc::Global;
 use std::io::Write;
+use std::sync::Wait;
+use std::thread::Threads;
 use trace_io::IoFault;
 use trace_io::sink::{Sink, write_out};
 use trace_io::source::{Source, read_all};
@@ -51,7 +53,8 @@ fn refuse<E: Write>(fault: RunFault, errors: &mut E) -> Ended
 {
     let _ = writeln!(errors, "radixvm: {fault}");
     let status = match fault {
-        RunFault::Text(LitmusFault::Io(_)) => 3,
+        RunFault::Live(LiveTestFault::NotCertified) => 1,
+        RunFault::Text(LitmusFault::Io(_)) | RunFault::Live(_) => 3,
         _ => 2,
     };
     Ended {
@@ -60,8 +63,21 @@ fn refuse<E: Write>(fault: RunFault, errors: &mut E) -> Ended
     }
 }
 
+// Says that runs on threads gave an outcome that isn't listed, where they did.
+fn tell_outside<E: Write>(wanted: Wanted, status: u8, errors: &mut E) {
+    if status == 1
+        && let Wanted::Live(_) = wanted
+    {
+        let _ = writeln!(
+            errors,
+            "radixvm: an outcome isn't listed, which is a fault of radixvm"
+        );
+    }
+}
+
 // Tells of the test with this name and text, beside these counts.
-fn tell_test<W: Sink, E: Write>(
+fn tell_test<T: Threads + Wait + Sync, W: Sink, E: Write>(
+    rt: &T,
     alloc: Global,
     name: &str,
     counts: &[u8],
@@ -75,6 +91,7 @@ fn tell_test<W: Sink, E: Write>(
     ensures within { result.status ≤ 3 }
 {
     let told = match litmus::tell(
+        rt,
         &alloc,
         name.as_bytes(),
         text,
@@ -85,6 +102,7 @@ fn tell_test<W: Sink, E: Write>(
         Ok(told) => told,
         Err(fault) => return refuse(fault, errors),
     };
+    tell_outside(test.wanted, told.status, errors);
     match write_out(out, told.text.as_slice()) {
         Ok(()) => Ended {
             status: told.status.min(3),
@@ -98,7 +116,8 @@ fn tell_test<W: Sink, E: Write>(
 }
 
 // Tells of the test that is read, beside these counts.
-fn litmus_beside<S: Source, W: Sink, E: Write>(
+fn litmus_beside<T: Threads + Wait + Sync, S: Source, W: Sink, E: Write>(
+    rt: &T,
     alloc: Global,
     name: &str,
     counts: &[u8],
@@ -111,15 +130,16 @@ fn litmus_beside<S: Source, W: Sink, E: Write>(
     ensures within { result.status ≤ 3 }
 {
     match read_all(alloc, reader) {
-        Ok(text) => tell_test(alloc, name, counts, text.as_slice(), out, errors, test),
+        Ok(text) => tell_test(rt, alloc, name, counts, text.as_slice(), out, errors, test),
         Err(fault) => refuse(RunFault::Text(LitmusFault::Io(fault)), errors),
     }
 }
 
 /// Lists the outcomes of a litmus test with this name, or what else is asked for, prints a fault as `radixvm: ` and its text, and answers the
 /// status: 0 where all clauses hold, 1 where one fails, 3 where one is open or the limit was met, or that of the fault. Of the counts that
-/// the list names: 1 where the outcome of one isn't listed, but 3 where not all outcomes are known.
-pub(crate) fn litmus<L: Source, S: Source, W: Sink, E: Write>(
+/// the list names, or of runs on threads: 1 where the outcome of one isn't listed, but 3 where not all outcomes are known.
+pub(crate) fn litmus<T: Threads + Wait + Sync, L: Source, S: Source, W: Sink, E: Write>(
+    rt: &T,
     alloc: Global,
     name: &str,
     list: &mut L,
@@ -133,7 +153,16 @@ pub(crate) fn litmus<L: Source, S: Source, W: Sink, E: Write>(
     ensures within { result.status ≤ 3 }
 {
     match read_all(alloc, list) {
-        Ok(counts) => litmus_beside(alloc, name, counts.as_slice(), reader, out, errors, test),
+        Ok(counts) => litmus_beside(
+            rt,
+            alloc,
+            name,
+            counts.as_slice(),
+            reader,
+            out,
+            errors,
+            test,
+        ),
         Err(fault) => refuse(RunFault::Text(LitmusFault::Io(fault)), errors),
     }
 }
@@ -198,6 +227,12 @@ pub(crate) fn explain_litmus<E: Write>(fault: RunFault, kept: &Kept, errors: &mu
             "whole calls cC! REQ, flushes and reviews in the opening",
             errors,
         ),
+        RunFault::NoTask => expect(
+            "whole calls cC! REQ, flushes and reviews in the opening",
+            errors,
+        ),
+        RunFault::Live(LiveTestFault::NotPlain) => expect("more frames in the vm line", errors),
+        RunFault::Live(_) => {}
         RunFault::BadCount(_) => {
             expect("COUNT: OUTCOME, an empty line, or a comment", errors);
             tell("for example 12: c0 done; c1 1, 2", errors);

@@ -159,7 +159,7 @@ const AUDIT_USAGE: &str =
     "radixvm audit [--overlapping [--given IN] [--order OUT] | [--strict] [--all]] [--any-place] [--explain] [FILE]";
 
 const LITMUS_USAGE: &str =
-    "radixvm litmus [--to-c | [--limit N] [--list | --witness N | --observed COUNTS]] [--explain] [FILE]";
+    "radixvm litmus [--to-c | [--limit N] [--list | --witness N | --observed COUNTS | --live N]] [--explain] [FILE]";
 
 const STATE_USAGE: &str = "radixvm state [--at N] [--explain] [FILE]";
 
@@ -198,7 +198,12 @@ fn litmus_word<'a>(alloc: Global) -> Result<Command<'a>, AllocError> {
         .long("observed")
         .conflicts_with("list")?
         .conflicts_with("witness")?;
+    let live = number(alloc, "live")
+        .conflicts_with("list")?
+        .conflicts_with("witness")?
+        .conflicts_with("observed")?;
     let program = flag(alloc, "to-c")
+        .conflicts_with("live")?
         .conflicts_with("limit")?
         .conflicts_with("list")?
         .conflicts_with("witness")?
@@ -208,6 +213,7 @@ fn litmus_word<'a>(alloc: Global) -> Result<Command<'a>, AllocError> {
         .arg(number(alloc, "witness"))?
         .arg(list)?
         .arg(observed)?
+        .arg(live)?
         .arg(program)?;
     Ok(command)
 }
@@ -366,21 +372,27 @@ fn drawing_of<'a>(words: &ArgMatches<'a>) -> Drawing {
 }
 
 // What the words behind `litmus` ask for.
-fn test_of<'a>(words: &ArgMatches<'a>) -> Test {
-    let view = match words.get_one("witness") {
+fn wanted_of<'a>(words: &ArgMatches<'a>) -> Wanted {
+    if words.get_flag("to-c") {
+        return Wanted::Program;
+    }
+    if words.get_str("observed").is_some() {
+        return Wanted::Observed;
+    }
+    if let Some(runs) = words.get_one("live") {
+        return Wanted::Live(runs);
+    }
+    Wanted::Outcomes(match words.get_one("witness") {
         Some(number) => View::Witness(number),
         None if words.get_flag("list") => View::List,
         None => View::Report,
-    };
-    let wanted = if words.get_flag("to-c") {
-        Wanted::Program
-    } else if words.get_str("observed").is_some() {
-        Wanted::Observed
-    } else {
-        Wanted::Outcomes(view)
-    };
+    })
+}
+
+// The same, with how many points of orders are looked at.
+fn test_of<'a>(words: &ArgMatches<'a>) -> Test {
     Test {
-        wanted,
+        wanted: wanted_of(words),
         limit: words.get_one("limit").unwrap_or(POINTS),
     }
 }

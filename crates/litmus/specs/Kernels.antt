@@ -11,11 +11,9 @@ use Rattle.litmus_report.specs.Program.{program_text}
 use Rattle.litmus_report.specs.declared.reporting.Searched.{Searched}
 use Rattle.outcomes.specs.declared.outcome.Outcomes.{Outcomes}
 use Rattle.litmus.specs.Opening.{calls_of, is_called}
-use Rattle.litmus.specs.Tells.{Fails, IsLate, Lists, Tells, known_of}
+use Rattle.litmus.specs.Tells.{IsLate, Lists, known_of}
 use Rattle.litmus.specs.declared.faults.RunFault.{RunFault}
 use Rattle.litmus.specs.declared.faults.RunFault.TheVariants as Why
-use Rattle.litmus.specs.declared.telling.Wanted.{Wanted}
-use Rattle.litmus.specs.declared.telling.Wanted.TheVariants.{Outcomes as Asks, Program, Observed}
 
 -- ---- a program that makes its calls
 
@@ -73,15 +71,3 @@ pub record TellsObserved (A : Type 0) (limit : ℕ) (counts lines : List (List �
 abbrev pub FailsObserved : List (List ℕ) → List (List ℕ) → RunFault → Type 0
 FailsObserved counts lines fault = IsLate fault ⊎ IsUnread lines fault
     ⊎ ((number : ℕ) × (bad_line 1 counts ≡ Some number) × (fault ≡ Why.BadCount number))
-
--- ---- what is asked for
-
-abbrev pub TellsAs : Type 0 → List ℕ → Wanted → ℕ → List (List ℕ) → List (List ℕ) → List ℕ → ℕ → Type 0
-TellsAs A name (Asks view) limit counts lines text status = Tells A name view limit lines text status
-TellsAs A name Program limit counts lines text status = TellsProgram lines text status
-TellsAs A name Observed limit counts lines text status = TellsObserved A limit counts lines text status
-
-abbrev pub FailsAs : Wanted → List (List ℕ) → List (List ℕ) → RunFault → Type 0
-FailsAs (Asks view) counts lines fault = Fails view lines fault
-FailsAs Program counts lines fault = FailsProgram lines fault
-FailsAs Observed counts lines fault = FailsObserved counts lines fault

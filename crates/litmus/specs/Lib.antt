@@ -1,4 +1,6 @@
+pub mod Asked
 pub mod Kernels
 pub mod Lists
+pub mod Live
 pub mod Opening
 pub mod Tells

@@ -5,7 +5,7 @@ use Rattle.machine_model.specs.declared.event.Event.TheVariants as Ev
 use Rattle.trace.specs.Events.{event_of}
 use Rattle.trace_text.specs.declared.action.Action.TheVariants.{Flush, Review}
 use Rattle.trace_text.specs.declared.line.Line.{Line}
-use Rattle.trace_text.specs.declared.line.Line.TheVariants.{Blank, Space, File, Act, Fold, Finish, Now}
+use Rattle.trace_text.specs.declared.line.Line.TheVariants.{Act, Fold, Finish, Now}
 use Rattle.outcomes.specs.declared.outcome.Opened.{Opened}
 use Rattle.outcomes.specs.declared.outcome.Opened.TheVariants as Of
 

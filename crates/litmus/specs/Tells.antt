@@ -1,5 +1,5 @@
 -- What is told of a litmus test.
-use Rattle.std.specs.Prelude.{◌≡◌, ◌⊎◌, ℕ, ◌+◌, List, map, slice_get, is_some, Some, Vec, Result, Ok, Err}
+use Rattle.std.specs.Prelude.{◌≡◌, ◌⊎◌, ℕ, ◌+◌, List, map, slice_get, is_some, Some, Vec, Ok, Err}
 use Rattle.std.specs.List.{flat_map}
 use Rattle.machine_model.specs.declared.event.Event.{Event}
 use Rattle.trace.specs.Declarations.{Asked, made_by}

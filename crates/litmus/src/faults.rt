@@ -1,6 +1,7 @@
 //! Why nothing is told of a litmus test.
 ghost use Rattle.litmus.specs.Tells.{IsLate};
 
+use litmus_live::LiveTestFault;
 use litmus_text::LitmusFault;
 use outcomes::OutcomesFault;
 use thiserror::Error;
@@ -24,6 +25,12 @@ pub enum RunFault {
     /// The opening has a step that no call to a kernel makes.
     #[error("the opening has a step that no call to a kernel makes")]
     NoCall,
+    /// The opening has a step that no thread can be told to take.
+    #[error("the opening has a step that no thread can be told to take")]
+    NoTask,
+    /// A run on threads came to no outcome.
+    #[error("{0}")]
+    Live(LiveTestFault),
     /// The line of the counts is neither a count nor a comment.
     #[error("counts: line {0}: bad line")]
     BadCount(u64),

@@ -8,4 +8,5 @@ mod opening;
 pub mod telling;
 
 pub use faults::RunFault;
-pub use telling::{Told, View, Wanted, tell, tell_litmus, tell_observed, tell_program};
+pub use litmus_live::LiveTestFault;
+pub use telling::{Told, View, Wanted, tell, tell_litmus, tell_live, tell_observed, tell_program};

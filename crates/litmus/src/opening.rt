@@ -1,15 +1,17 @@
 //! The lines of an opening, as the machine is given them.
 ghost use Rattle.std.specs.Prelude.{◌≡◌, ◌++◌, IfOk, OnOk};
 ghost use Rattle.std.specs.List.{flat_map, list_all};
+ghost use Rattle.combinations.specs.Finals.{loads_by};
 ghost use Rattle.litmus.specs.Opening.{calls_of, is_called, opened_of};
 
 use combinations::Asked;
 use machine_model::Event;
+use notes_text::{ScriptLine, Task};
 use outcomes::Opened;
 use std::alloc::Allocator;
 use trace::event_lines::event_of;
 use trace_text::{Action, Line};
-use vm_base::NoMemory;
+use vm_base::{CoreId, NoMemory, Request};
 
 // Appends what the line asks of the machine, if it is an event's.
 fn add_line<A: Allocator>(opening: &mut Vec<Opened, A>, line: Line) -> Result<(), NoMemory>
@@ -77,4 +79,57 @@ pub(crate) fn calls_of<A: Allocator>(alloc: A, lines: &[Line]) -> Result<Vec<Ask
         add_call(&mut calls, *line)?;
     }
     Ok(calls)
+}
+
+// What an action has a thread do, if that can be told to.
+fn task_done(action: Action) -> Option<Task> {
+    match action {
+        Action::Flush => Some(Task::Flush),
+        Action::Review => Some(Task::Review),
+        _ => None,
+    }
+}
+
+// The task, as the core's.
+fn given_to(core: CoreId, task: Option<Task>) -> Option<ScriptLine> {
+    let task = task?;
+    Some(ScriptLine { core, task })
+}
+
+// What the line has a thread do, if that can be told to.
+fn task_of(line: Line) -> Option<ScriptLine> {
+    match line {
+        Line::Now(core, request) => given_to(core, Some(Task::Call(request))),
+        Line::Act(core, action) => given_to(core, task_done(action)),
+        _ => None,
+    }
+}
+
+/// What the lines of an opening have threads do.
+pub(crate) fn tasks_of<A: Allocator>(
+    alloc: A,
+    lines: &[Line],
+) -> Result<Vec<ScriptLine, A>, NoMemory> {
+    let mut tasks = Vec::new(alloc);
+    for line in lines {
+        if let Some(task) = task_of(*line) {
+            tasks.push(task)?;
+        }
+    }
+    Ok(tasks)
+}
+
+/// Loads of these addresses by core 0.
+pub(crate) fn loads_of<A: Allocator>(alloc: A, addrs: &[u64]) -> Result<Vec<Asked, A>, NoMemory>
+    ensures { IfOk result (λ loads. loads.items ≡ loads_by 0 addrs.now) }
+{
+    let mut loads = Vec::new(alloc);
+    'addrs: for at in 0..addrs.len() {
+        let addr = addrs[at];
+        loads.push(Asked {
+            core: CoreId::new(0),
+            request: Request::Load { addr },
+        })?;
+    }
+    Ok(loads)
 }

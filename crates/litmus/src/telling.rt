@@ -4,20 +4,26 @@ ghost use Rattle.trace_io.specs.Lines.{lines_of};
 ghost use Rattle.litmus_text.specs.Scripts.{read_of};
 ghost use Rattle.litmus_report.specs.Reports.{AreSorted, texts_of};
 ghost use Rattle.litmus.specs.Tells.{Fails, IsLate, IsUnshown, Lists, Reports, Shows, Tells, Witnesses, known_of, status_at};
-ghost use Rattle.litmus.specs.Kernels.{FailsAs, FailsObserved, FailsProgram, IsUncalled, IsUncounted, Judges, MakesCalls, TellsAs, TellsObserved, TellsProgram};
+ghost use Rattle.litmus.specs.Asked.{FailsAs, TellsAs};
+ghost use Rattle.litmus.specs.Kernels.{FailsObserved, FailsProgram, IsUncalled, IsUncounted, IsWant, Judges, MakesCalls, TellsObserved, TellsProgram};
+ghost use Rattle.litmus.specs.Live.{CountsLive, FailsLive, IsUnrun, TellsLive};
+ghost use Rattle.std.specs.declared.alloc.Global.{Global as GlobalOf};
 ghost use Rattle.litmus.specs.declared.telling.View.TheVariants as ViewOf;
 
 use crate::faults::{NO_MEMORY, RunFault, fault_by};
 use crate::lacking::may_lack;
 use crate::lists::list_text;
-use crate::opening::{are_called, calls_of, opening_of};
+use crate::opening::{are_called, calls_of, loads_of, opening_of, tasks_of};
+use litmus_live::{TestRun, count_runs};
 use litmus_report::{
     Named, Program, Row, Searched, bad_count, in_order, judge_counts, program_of, report,
     status_of, trace_of,
 };
 use litmus_text::{LitmusFault, Script, read_litmus};
 use outcomes::{Outcome, Outcomes, list_outcomes};
-use std::alloc::Allocator;
+use std::alloc::{Allocator, Global};
+use std::sync::Wait;
+use std::thread::Threads;
 use vm_base::NoMemory;
 
 /// What is written of a litmus test.
@@ -40,6 +46,8 @@ pub enum Wanted {
     Program,
     /// Whether the outcomes that another system gave are among its outcomes.
     Observed,
+    /// How often each outcome comes in so many runs on threads.
+    Live(u64),
 }
 
 /// What is written, and the status that tells what the clauses come to.
@@ -207,6 +215,31 @@ fn program_text<A: Allocator + Clone>(alloc: &A, script: &Script<A>) -> Result<V
 }
 
 // What counts come to beside the outcomes of a test.
+fn judged<A: Allocator + Clone>(
+    alloc: &A,
+    script: &Script<A>,
+    found: &Outcomes<A>,
+    counts: &[u8],
+    limit: usize,
+) -> Result<Told<A>, RunFault>
+    ensures ok { IfOk result (λ told. Judges (read_of script.now) found.now limit (lines_of counts.now) told.text.items told.status) }
+    ensures err { IfErr result IsWant }
+{
+    let named = Named {
+        calls: script.calls.as_slice(),
+        addrs: script.finals.as_slice(),
+    };
+    let searched = searched_of(script, found, limit);
+    match judge_counts(alloc, &named, found.list.as_slice(), searched, counts) {
+        Ok(judged) => Ok(Told {
+            text: judged.text,
+            status: judged.status,
+        }),
+        Err(_) => Err(NO_MEMORY),
+    }
+}
+
+// The same of counts that were read, whose lines may be bad.
 fn counts_told<A: Allocator + Clone>(
     alloc: &A,
     script: &Script<A>,
@@ -220,17 +253,49 @@ fn counts_told<A: Allocator + Clone>(
     if let Some(number) = bad_count(counts) {
         return Err(RunFault::BadCount(number));
     }
-    let named = Named {
-        calls: script.calls.as_slice(),
-        addrs: script.finals.as_slice(),
+    match judged(alloc, script, found, counts, limit) {
+        Ok(told) => Ok(told),
+        Err(fault) => Err(fault),
+    }
+}
+
+// How often each outcome came in so many runs on threads.
+fn live_counts<R: Threads + Wait + Sync>(
+    rt: &R,
+    alloc: Global,
+    script: &Script<Global>,
+    runs: u64,
+) -> Result<Vec<u8>, RunFault>
+    ensures ok { IfOk result (λ counts. CountsLive (read_of script.now) runs counts.items) }
+    ensures err { IfErr result (IsUnrun (read_of script.now)) }
+{
+    // A test that was read has a declaration.
+    let Some(declared) = &script.declaration else {
+        return Err(NO_MEMORY);
     };
-    let searched = searched_of(script, found, limit);
-    match judge_counts(alloc, &named, found.list.as_slice(), searched, counts) {
-        Ok(judged) => Ok(Told {
-            text: judged.text,
-            status: judged.status,
-        }),
-        Err(_) => Err(NO_MEMORY),
+    let lines = script.opening.as_slice();
+    if !are_called(lines) {
+        return Err(RunFault::NoTask);
+    }
+    let Ok(opening) = tasks_of(alloc, lines) else {
+        return Err(NO_MEMORY);
+    };
+    let Ok(before) = calls_of(alloc, lines) else {
+        return Err(NO_MEMORY);
+    };
+    let Ok(loads) = loads_of(alloc, script.finals.as_slice()) else {
+        return Err(NO_MEMORY);
+    };
+    let test = TestRun {
+        declared,
+        opening: opening.as_slice(),
+        before: before.as_slice(),
+        calls: script.calls.as_slice(),
+        loads: loads.as_slice(),
+    };
+    match count_runs(rt, alloc, &test, script.finals.as_slice(), runs) {
+        Ok(counts) => Ok(counts),
+        Err(fault) => Err(RunFault::Live(fault)),
     }
 }
 
@@ -360,21 +425,56 @@ pub fn tell_observed<A: Allocator + Clone + Drop>(
     }
 }
 
-/// Does what is asked for of the litmus test with this name and text: `tell_litmus`, `tell_program`, or `tell_observed` of these counts.
-pub fn tell<A: Allocator + Clone + Drop>(
-    alloc: &A,
+/// Reads the text of a litmus test, lists its outcomes, of at most `limit` points of merges, runs it so often on threads, certifies each
+/// run, and answers how often each outcome came, marked where it isn't listed; the status is 1 where one isn't, but 3 where not all
+/// outcomes are known. `Err` tells the text's first fault, an opening with a step that no thread can be told to take or that leaves a
+/// call open, why a run came to no outcome, or want of memory.
+pub fn tell_live<R: Threads + Wait + Sync>(
+    rt: &R,
+    alloc: &Global,
+    text: &[u8],
+    runs: u64,
+    limit: usize,
+) -> Result<Told<Global>, RunFault>
+    ensures ok { IfOk result (λ told. TellsLive limit runs (lines_of text.now) told.text.items told.status) }
+    ensures err { IfErr result (FailsLive (lines_of text.now)) }
+{
+    let script = match read_litmus(alloc, text) {
+        Ok(script) => script,
+        Err(fault) => return Err(RunFault::Text(fault)),
+    };
+    let found = match outcomes_of(alloc, &script, limit) {
+        Ok(found) => found,
+        Err(fault) => return Err(fault),
+    };
+    let counts = match live_counts(rt, *alloc, &script, runs) {
+        Ok(counts) => counts,
+        Err(fault) => return Err(fault),
+    };
+    match judged(alloc, &script, &found, counts.as_slice(), limit) {
+        Ok(told) => Ok(told),
+        Err(fault) => Err(fault),
+    }
+}
+
+/// Does what is asked for of the litmus test with this name and text: `tell_litmus`, `tell_program`, `tell_observed` of these counts, or
+/// `tell_live`.
+pub fn tell<R: Threads + Wait + Sync>(
+    rt: &R,
+    alloc: &Global,
     name: &[u8],
     text: &[u8],
     counts: &[u8],
     wanted: Wanted,
     limit: usize,
-) -> Result<Told<A>, RunFault>
-    ensures ok { IfOk result (λ told. TellsAs A name.now wanted limit (lines_of counts.now) (lines_of text.now) told.text.items told.status) }
+) -> Result<Told<Global>, RunFault>
+    ensures ok { IfOk result (λ told. TellsAs GlobalOf name.now wanted limit (lines_of counts.now) (lines_of text.now) told.text.items told.status) }
     ensures err { IfErr result (FailsAs wanted (lines_of counts.now) (lines_of text.now)) }
 {
     match wanted {
         Wanted::Outcomes(view) => tell_litmus(alloc, name, text, view, limit),
         Wanted::Program => tell_program(alloc, text),
         Wanted::Observed => tell_observed(alloc, text, counts, limit),
+        Wanted::Live(runs) => tell_live(rt, alloc, text, runs, limit),
     }
 }

@@ -357,6 +357,12 @@ with (outside) behind an outcome that isn't listed, as one with noframe or
 nomemory never is, and then exact, open or what else ends the list. The clauses
 aren't looked at.
 
+--live N runs the test N times, each time in a new space: its opening in order,
+then each core's calls on a thread of its own, and then loads of the final
+addresses. Each run is certified, as live --certify does it. It writes how often
+each outcome came, as --observed does. A run whose outcome isn't listed would be
+a fault of radixvm. The opening has whole calls, flushes and reviews then.
+
 --to-c writes a C program that makes the calls to a kernel with POSIX threads,
 each core on a thread, and writes such counts. The opening has whole calls,
 flushes and reviews then; addresses are below 2 GiB, and fetch can't be made:
@@ -371,7 +377,8 @@ writes 1: c0 done; c1 0 and 2: c0 done; c1 1, exact, and that the clause holds.
 
 Status: 0 where all clauses hold, 1 where one fails, 3 where one is open or the
 limit was met. Of counts: 1 where an outcome isn't listed, but 3 where the
-limit was met. A fault of the text is told with its line, and 2 is the status;
+limit was met. 3 also where a run had noframe or nomemory, or a call that
+couldn't begin. A fault of the text is told with its line, and 2 is the status;
 nothing is written then. With --explain more is told of it.
 ";
 

@@ -1,4 +1,4 @@
-use Rattle.std.proofs.Common.{◌≡◌, ◌-◌, Some, ap, sym, ◌∙◌, arith, rules}
+use Rattle.std.proofs.Common.{◌-◌, Some, ap, sym, ◌∙◌, arith, rules}
 use Rattle.merges.proofs.Lists.{get_here}
 use Rattle.litmus.proofs.telling.witness_text.Goals as goal
 
