@@ -119,7 +119,7 @@ def main():
             if other:
                 text = "\n".join(other) + "\n"
                 counts[kind, "changed: " + run(["audit", "--any-place"], text, (1, 3)).split()[0], False] += 1
-                counts[kind, "changed, by an order: " + run(["audit", "--overlapping", "--any-place"], text, (3,)).split()[0], False] += 1
+                counts[kind, "changed, by an order: " + run(["audit", "--overlapping", "--any-place"], text, (1, 3)).split()[0], False] += 1
     for (kind, verdict, lacks), count in sorted(counts.items()):
         print(f"{kind}: {verdict}{', some without memory' if lacks else ''}: {count}")
 

@@ -160,7 +160,7 @@ def main():
             changed = lines[:at] + [f"{front} = {(int(byte) + 101) % 256}"] + lines[at + 1:]
             told = judge("\n".join(changed) + "\n", "--overlapping")
             print(f"  line {at + 1} changed: {told[0]}")
-            wrong += told[1] != 3
+            wrong += told[1] not in (1, 3)
     print("all right" if wrong == 0 else f"{wrong} wrong")
     sys.exit(wrong != 0)
 

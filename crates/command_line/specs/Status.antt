@@ -113,13 +113,14 @@ abbrev pub audit_status : Result ReplyJudgement AuditFault → ℕ
 audit_status (Ok judgement) = found_status (Some (verdict_of judgement))
 audit_status (Err f) = audit_fault_status f
 
--- of a history of calls that overlap: 0 where they have an order, 3 where none was found
+-- of a history of calls that overlap: 0 where they have an order, 1 where they have none, 3 where none was found
 abbrev pub history_fault_status : HistoryFault → ℕ
 history_fault_status (Why.Io f) = 3
 history_fault_status _ = 2
 
 abbrev pub ruling_status : Ruling → ℕ
 ruling_status (By.Legal calls) = 0
+ruling_status (By.NoOrder line reply) = 1
 ruling_status (By.Undecided line) = 3
 
 abbrev pub judgement_status : {A : Type 0} → Result (Ruled A) HistoryFault → ℕ

@@ -138,6 +138,10 @@ fn ended_by(ruling: Ruling) -> Ended
             status: 0,
             trouble: Trouble::Nothing,
         },
+        Ruling::NoOrder { line, .. } => Ended {
+            status: 1,
+            trouble: Trouble::NoOrder(line),
+        },
         Ruling::Undecided(line) => Ended {
             status: 3,
             trouble: Trouble::Unordered(line),
@@ -174,7 +178,7 @@ fn judge_by<S: Source, W: Sink, E: Write>(
 }
 
 /// Judges a history of calls that overlap, prints a fault as `radixvm: ` and its text, and answers the status: 0 where they have an order,
-/// 3 where none was found, or that of the fault. The order is searched, or read from `list`. It is left in `order`.
+/// 1 where they have none, 3 where none was found, or that of the fault. The order is searched, or read from `list`. It is left in `order`.
 pub fn audit_overlapping<L: Source, S: Source, W: Sink, E: Write>(
     alloc: Global,
     list: &mut L,

@@ -9,7 +9,7 @@ use crate::ended::{Ended, Trouble};
 use crate::explain::{Manner, explain};
 use crate::forms::Kind;
 use crate::gathering::{Ungathered, gather, save_parts};
-use crate::histories::{explain_history, explain_unordered};
+use crate::histories::{explain_disorder, explain_history};
 use crate::importing::{import, import_accesses, import_each};
 use crate::input::{Files, input, list};
 use crate::job::{run, run_echoing};
@@ -261,8 +261,8 @@ fn end_of(trouble: Trouble) -> u64 {
             number,
         Trouble::Fault(_) => 0,
         Trouble::History(_) | Trouble::Litmus(_) => 0,
-        Trouble::Nothing | Trouble::Illegal(_) | Trouble::Undecided(_) | Trouble::Unordered(_) =>
-            u64::MAX,
+        Trouble::Nothing | Trouble::Illegal(_) | Trouble::Undecided(_) => u64::MAX,
+        Trouble::NoOrder(_) | Trouble::Unordered(_) => u64::MAX,
     }
 }
 
@@ -302,9 +302,7 @@ fn tell_more<L, R, E: Write>(
     if let Trouble::Litmus(fault) = trouble {
         explain_litmus(fault, &read.kept, errors);
     }
-    if let Trouble::Unordered(number) = trouble {
-        explain_unordered(number, &read.kept, errors);
-    }
+    explain_disorder(trouble, &read.kept, errors);
     tell_notes(asks.manner, &read.kept, end_of(trouble), errors);
 }
 

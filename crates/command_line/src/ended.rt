@@ -19,6 +19,8 @@ pub enum Trouble {
     History(HistoryFault),
     /// It is that of no litmus test, for this fault.
     Litmus(RunFault),
+    /// A history's calls have no order. None was found that gets to the end of the call of this line.
+    NoOrder(u64),
     /// No order of a history's calls was found that gets to the end of the call of this line.
     Unordered(u64),
 }

@@ -1,5 +1,6 @@
 //! What more is told of a history: why a text is none, and where no order of its calls was found.
 
+use crate::ended::Trouble;
 use crate::keeping::Kept;
 use crate::pointing::{expect, show_line, tell};
 use orders_text::HistoryFault;
@@ -44,8 +45,8 @@ pub(crate) fn explain_history<E: Write>(fault: HistoryFault, kept: &Kept, errors
     }
 }
 
-/// Writes the call to whose end no order was found.
-pub(crate) fn explain_unordered<E: Write>(number: u64, kept: &Kept, errors: &mut E) {
+// Writes the call to whose end no order was found.
+fn explain_unordered<E: Write>(number: u64, kept: &Kept, errors: &mut E) {
     show_number(number, kept, errors);
     tell(
         "no order of the calls was found that gets to the end of this one, or the",
@@ -55,4 +56,23 @@ pub(crate) fn explain_unordered<E: Write>(number: u64, kept: &Kept, errors: &mut
         "search met its limit there; nothing is claimed of it",
         errors,
     );
+}
+
+// Writes the call to whose end no order was found, where the calls have none.
+fn explain_no_order<E: Write>(number: u64, kept: &Kept, errors: &mut E) {
+    show_number(number, kept, errors);
+    tell(
+        "all orders of the calls were tried, and none has their replies; none was",
+        errors,
+    );
+    tell("found that gets to the end of this one", errors);
+}
+
+/// Writes what is known of calls that have no order, or none that was found.
+pub(crate) fn explain_disorder<E: Write>(trouble: Trouble, kept: &Kept, errors: &mut E) {
+    match trouble {
+        Trouble::NoOrder(number) => explain_no_order(number, kept, errors),
+        Trouble::Unordered(number) => explain_unordered(number, kept, errors),
+        _ => {}
+    }
 }

@@ -5,17 +5,19 @@ use Rattle.trace_io.specs.Io.{ReadFrom, TellsSent, WrittenTo}
 use Rattle.trace_io.specs.Lines.{lines_of}
 use Rattle.trace_io.specs.Sink.{AppendsFront}
 use Rattle.trace_io.specs.declared.fault.IoFault.TheVariants.{ReadFailed, WriteFailed}
+use Rattle.trace_text.specs.Printing.{text_of}
 use Rattle.orders_text.specs.Faults.{IsAtFault}
 use Rattle.orders_text.specs.declared.faults.HistoryFault.{HistoryFault}
 use Rattle.orders_text.specs.declared.faults.HistoryFault.TheVariants.{Io}
 use Rattle.overlapping.specs.Rulings.{IsRuling}
 use Rattle.overlapping.specs.declared.judging.Ruled.{Ruled}
 use Rattle.overlapping.specs.declared.judging.Ruling.{Ruling}
-use Rattle.overlapping.specs.declared.judging.Ruling.TheVariants.{Legal, Undecided}
+use Rattle.overlapping.specs.declared.judging.Ruling.TheVariants.{Legal, NoOrder, Undecided}
 
 -- the line that tells it
 abbrev pub ruling_text : Ruling → List ℕ
 ruling_text (Legal calls) = codes "legal " ++ decimal calls ++ codes "\n"
+ruling_text (NoOrder line reply) = codes "no order " ++ decimal line ++ codes ": replied " ++ text_of reply ++ codes "\n"
 ruling_text (Undecided line) = codes "undecided " ++ decimal line ++ codes "\n"
 
 -- it was written

@@ -1,5 +1,5 @@
 //! Judging a text of calls that overlap.
-ghost use Rattle.std.specs.Prelude.{◌≡◌, ◌≤◌, ℕ, List, IfErr, IfOk, Ok, length, true};
+ghost use Rattle.std.specs.Prelude.{◌≡◌, ◌≤◌, ℕ, List, IfErr, IfOk, IfSome, Ok, Some, length, slice_get, true};
 ghost use Rattle.trace_io.specs.Lines.{lines_of};
 ghost use Rattle.slot_lock.specs.Slots.{IsNew};
 ghost use Rattle.vm_base.specs.Plain.{nothing_mapped};
@@ -10,13 +10,14 @@ ghost use Rattle.orders.specs.Orders.{HasOrder, IsOrder};
 ghost use Rattle.orders_text.specs.Faults.{IsAtFault};
 ghost use Rattle.orders_text.specs.History.{IsHistory, completed, replies_in};
 ghost use Rattle.orders_text.specs.Steps.{HasPlaces, read_of};
-ghost use Rattle.overlapping.specs.Rulings.{IsRuling};
+ghost use Rattle.overlapping.specs.Rulings.{HasNone, IsRuling};
 
 use crate::found::{Order, search, waiting_core};
 use crate::given::given_order;
 use crate::order_text::order_text;
 use audit::Auditor;
 use backing::FileSpec;
+use no_order::{Answer, search_all};
 use orders::{Item, Timed, follow};
 use orders_text::{History, HistoryFault, completed, read_history};
 use slot_lock::SlotMap;
@@ -24,11 +25,16 @@ use std::alloc::Allocator;
 use trace_io::IoFault;
 use vm_base::{NoMemory, Reply};
 
+/// So many beginnings of orders are tried at most.
+const BEGINNINGS: u32 = 10_000;
+
 /// What is told of a history.
 #[derive(Clone, Copy, Debug, PartialEq, Eq)]
 pub enum Ruling {
     /// The calls that were answered, which are this many, have an order, with those that wait at the end as far as they took effect.
     Legal(u64),
+    /// They have none. An order of the calls by the end of this line's was not found, whose reply this is.
+    NoOrder { line: u64, reply: Reply },
     /// No order of its calls was found by the end of the call of this line. It may have one.
     Undecided(u64),
 }
@@ -97,7 +103,86 @@ pub(crate) fn is_order<M: SlotMap + Drop, A: Allocator + Clone + Drop>(
     }
 }
 
-// The ruling by the order that was found.
+// The place of a line among those of a history's calls.
+fn place_of(lines: &[u64], line: u64) -> Option<usize>
+    ensures { IfSome result (λ place. slice_get lines.now place ≡ Some line) }
+{
+    'lines: for at in 0..lines.len() {
+        let other = lines[at];
+        if other == line {
+            return Some(at);
+        }
+    }
+    None
+}
+
+// The call of a history at this place, if there is one.
+fn call_at(calls: &[Timed], place: usize) -> Option<Timed>
+    ensures { result ≡ slice_get calls.now place }
+{
+    calls.get(place).copied()
+}
+
+// Tells whether it was shown that these calls of a space with these files have no order.
+fn has_none<A: Allocator + Clone + Drop>(
+    alloc: &A,
+    files: &[FileSpec<A>],
+    any_place: bool,
+    calls: &[Timed],
+) -> Result<bool, NoMemory>
+    requires { length files.now ≤ 16 }
+    ensures { result ≡ Ok true → ¬ HasOrder (rule_of any_place) (nothing_mapped (given_files files.now)) calls.now }
+{
+    match search_all(alloc, files, any_place, calls, BEGINNINGS)? {
+        Answer::NoOrder => Ok(true),
+        Answer::Order | Answer::Limit => Ok(false),
+    }
+}
+
+// Tells whether it was shown that the calls of a history have none, with whatever replies of those that wait at its end.
+fn is_disorder<A: Allocator + Clone + Drop>(
+    alloc: &A,
+    history: &History<A>,
+    any_place: bool,
+) -> Result<bool, NoMemory>
+    requires { length history.now.declaration.files.items ≤ 16 }
+    ensures { result ≡ Ok true → HasNone any_place (read_of history.now) }
+{
+    match waiting_core(history.waiting.as_slice()) {
+        Some(_core) => Ok(false),
+        None => {
+            let files = history.declaration.files.as_slice();
+            has_none(alloc, files, any_place, history.calls.as_slice())
+        }
+    }
+}
+
+// The ruling where no order was found by the end of this line's call.
+#[tactic(auto, using(crate::proofs::RuleLemmas::unordered_there))]
+fn rule_without<A: Allocator + Clone + Drop>(
+    alloc: &A,
+    history: &History<A>,
+    any_place: bool,
+    line: u64,
+) -> Result<Ruling, NoMemory>
+    requires { length history.now.declaration.files.items ≤ 16 }
+    ensures { IfOk result (λ ruling. (lines : List (List ℕ)) → IsHistory lines (read_of history.now) → IsRuling any_place lines ruling) }
+{
+    let Some(place) = place_of(history.lines.as_slice(), line) else {
+        return Ok(Ruling::Undecided(line));
+    };
+    let Some(timed) = call_at(history.calls.as_slice(), place) else {
+        return Ok(Ruling::Undecided(line));
+    };
+    if is_disorder(alloc, history, any_place)? {
+        let reply = timed.call.reply;
+        Ok(Ruling::NoOrder { line, reply })
+    } else {
+        Ok(Ruling::Undecided(line))
+    }
+}
+
+// The ruling by the order that was found, or in a text of one.
 #[tactic(auto, using(crate::proofs::RuleLemmas::legal_there))]
 fn rule_by<M: SlotMap + Drop, A: Allocator + Clone + Drop>(
     alloc: &A,
@@ -105,6 +190,7 @@ fn rule_by<M: SlotMap + Drop, A: Allocator + Clone + Drop>(
     history: History<A>,
     any_place: bool,
     order: &Order<A>,
+    is_found: bool,
 ) -> Result<Ruling, NoMemory>
     requires new { IsNew (M.slots map) }
     requires few { length history.declaration.files.items ≤ 16 }
@@ -125,6 +211,7 @@ fn rule_by<M: SlotMap + Drop, A: Allocator + Clone + Drop>(
                 Ok(Ruling::Undecided(*line))
             }
         }
+        Order::None(line) if is_found => rule_without(alloc, &history, any_place, *line),
         Order::None(line) => Ok(Ruling::Undecided(*line)),
     }
 }
@@ -148,7 +235,8 @@ fn rule<M: SlotMap + Drop, A: Allocator + Clone + Drop>(
         By::Search => search(alloc, &history, any_place)?,
         By::Given(given) => given_order(alloc, &history, given)?,
     };
-    let ruling = rule_by(alloc, map, history, any_place, &order)?;
+    let is_found = matches!(by, By::Search);
+    let ruling = rule_by(alloc, map, history, any_place, &order, is_found)?;
     let order = if is_wanted {
         order_text(alloc, text, &order)?
     } else {

@@ -2,6 +2,7 @@
 ghost use Rattle.std.specs.Prelude.{◌≡◌, ◌≤◌, ◌⊎◌, ◌++◌, Err, OnOk, codes, decimal, length, true};
 ghost use Rattle.trace_io.specs.Io.{read_from, written_to};
 ghost use Rattle.trace_io.specs.Source.{Reads};
+ghost use Rattle.trace_text.specs.Printing.{text_of};
 ghost use Rattle.slot_lock.specs.Slots.{IsNew};
 ghost use Rattle.overlapping.specs.Ends.{JudgementEnds, TellsJudgement, ruling_text};
 
@@ -12,7 +13,8 @@ use std::alloc::Allocator;
 use trace_io::IoFault;
 use trace_io::sink::{Sink, write_out};
 use trace_io::source::{Source, read_all};
-use trace_text::{LineText, push_number};
+use trace_text::{LineText, push_number, push_reply};
+use vm_base::Reply;
 
 // The line that tells a ruling.
 fn ruling_text(ruling: Ruling) -> LineText
@@ -20,6 +22,7 @@ fn ruling_text(ruling: Ruling) -> LineText
 {
     match ruling {
         Ruling::Legal(calls) => line_text("legal ", calls),
+        Ruling::NoOrder { line, reply } => no_order_text(line, reply),
         Ruling::Undecided(line) => line_text("undecided ", line),
     }
 }
@@ -32,6 +35,19 @@ fn line_text(word: &str, number: u64) -> LineText
     let mut text = LineText::new();
     text.push_str(word);
     push_number(&mut text, number);
+    text.push_str("\n");
+    text
+}
+
+// The line that tells that there is no order.
+fn no_order_text(line: u64, reply: Reply) -> LineText
+    ensures { result.bytes ≡ codes "no order " ++ decimal line ++ codes ": replied " ++ text_of reply ++ codes "\n" }
+{
+    let mut text = LineText::new();
+    text.push_str("no order ");
+    push_number(&mut text, line);
+    text.push_str(": replied ");
+    push_reply(&mut text, reply);
     text.push_str("\n");
     text
 }
@@ -66,7 +82,8 @@ fn judge_out<M: SlotMap + Drop, A: Allocator + Clone + Drop, W: Sink>(
 }
 
 /// Reads a text to its end, and writes whether its calls, which may overlap, have an order that begins with nothing mapped: `legal CALLS`,
-/// or `undecided LINE` where none was found. The order is searched, or given; `legal` is told only where it was checked. Its text is
+/// `no order LINE: replied TEXT` where it was shown that there is none, or `undecided LINE` where none was found. The order is searched, or
+/// given; `legal` is told only where it was checked. Its text is
 /// answered, if it is wanted. The map has nothing mapped.
 pub fn judge_overlapping<M: SlotMap + Drop, A: Allocator + Clone + Drop, S: Source, W: Sink>(
     alloc: A,

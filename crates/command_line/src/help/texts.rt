@@ -280,6 +280,11 @@ begins to that of its reply. One that waits at the end may have taken effect or
 not, and isn't counted. It writes one of these:
 
   legal CALLS          some order of the calls has just these replies
+  no order N: replied REPLY
+                       no order has these replies, and none was found that
+                       gets to the end of line N's call. All are tried where
+                       the calls are at most 64, none of which waits; after
+                       10,000 beginnings that is given up
   undecided N          no order was found that gets to the end of line N's
                        call, or the search met its limit there: 300,000
                        configurations. There may be an order
@@ -288,16 +293,17 @@ not, and isn't counted. It writes one of these:
 line cC copy ADDR says that a store's page gets its copy there, before the
 store. --given IN judges by such a text, and searches none; where it is no
 order, the answer is undecided. What is found or given is checked, so legal
-rests on no search.
+rests on no search; and no order is told only where none is left to try.
 
 Example:
   printf '%s\\n' 'vm 1 4' 'c0! mmap 0x10000 4096 rw- pfa = 0x10000' \\
     'c0! store 0x10004 41 = done' 'c0! load 0x10004 = 40' | radixvm audit
 writes illegal 4: replied 40, due 41, and 0x10000-0x11000 rw- anon.
 
-Status: 0 where all replies are legal, 1 where one isn't, 3 where that is
-undecided. A fault is told as help faults says, and then nothing is written;
-with --explain more is told of it. The text is held in memory.
+Status: 0 where all replies are legal, 1 where one isn't or the calls have no
+order, 3 where that is undecided. A fault is told as help faults says, and then
+nothing is written; with --explain more is told of it. The text is held in
+memory.
 ";
 
 /// What `litmus` reads and writes.
