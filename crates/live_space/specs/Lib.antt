@@ -11,3 +11,4 @@ pub mod Losing
 pub mod Placing
 pub mod Planned
 pub mod Space
+pub mod Spending

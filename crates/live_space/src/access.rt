@@ -1,15 +1,17 @@
 //! A load, a store or a fetch: it is tried, and after a fault its page is held while it gets a frame
 //! and an entry in the core's tables; then it is tried again.
-ghost use Rattle.std.specs.Prelude.{◌≡◌, ◌+◌, ◌*◌, [], IfNone, IfSome};
+ghost use Rattle.std.specs.Prelude.{◌≡◌, ◌+◌, ◌*◌, [], Some, IfNone, IfSome};
 ghost use Rattle.vm_base.specs.Pages.{pages_from};
 ghost use Rattle.live_pages.specs.Targets.{count_below};
 ghost use Rattle.slot_lock.specs.Plan.{IsSoundTouch};
+ghost use Rattle.live_space.specs.declared.ending.Ending.TheVariants.{GiveUp};
 ghost use Rattle.live_space.specs.Endings.{HoldsNone, RunsTo};
 ghost use Rattle.backing.specs.Files.{files_of};
 ghost use Rattle.live_levels.specs.declared.act.Act.TheVariants.{Record};
 ghost use Rattle.live_space.specs.InFlight.{GoesOn, HasStepsLeft, HoldsJust};
 ghost use Rattle.live_space.specs.Answering.{IsFault};
 ghost use Rattle.live_space.specs.Faulting.{ActsOn, Gets, GetsCopy, GetsFrame, GetsNew, GetsTaken, GivesUpOr, Settles};
+ghost use Rattle.live_space.specs.Spending.{Spends, UsesCopy, UsesFrame, UsesNew};
 ghost use Rattle.live_space.specs.Planned.{AnswersTouch, EndsIn, RanIn};
 
 use crate::ending::{Ending, Ran, given_up_with};
@@ -158,6 +160,7 @@ impl<'c, R: Wait, G: Gate, A: Allocator + Clone> InCall<'c, '_, '_, '_, R, G, A>
         requires { IsSoundTouch touch }
         ensures goes { GoesOn self.old.seat self.new.seat }
         ensures page { GivesUpOr (GetsNew shown self.old.seat.now.core self.old.held) result self.new.held }
+        ensures own { Spends (Some own) (UsesNew shown own touch self.old.held) result }
     {
         match shown {
             Some(shown) => self.copy(touch, Copying { shown, own }),
@@ -166,11 +169,12 @@ impl<'c, R: Wait, G: Gate, A: Allocator + Clone> InCall<'c, '_, '_, '_, R, G, A>
     }
 
     // The page gets its frame.
-    #[tactic(auto, using(crate::proofs::Noted::steps, crate::proofs::Ended::given_up_faults))]
+    #[tactic(auto, using(crate::proofs::Noted::steps, crate::proofs::Ended::given_up_faults, crate::proofs::Spent::given_back, crate::proofs::Spent::was_used, crate::proofs::Spent::used_frame))]
     fn fill(&mut self, touch: Touch, own: Option<u32>) -> Option<Ending>
         requires { IsSoundTouch touch }
         ensures goes { GoesOn self.old.seat self.new.seat }
         ensures page { GivesUpOr (GetsFrame self.old.seat.now.core self.old.held) result self.new.held }
+        ensures own { Spends own (UsesFrame own touch self.old.held) result }
     {
         if !self.has_room(1) {
             return Some(given_up_with(own));
@@ -194,6 +198,7 @@ impl<'c, R: Wait, G: Gate, A: Allocator + Clone> InCall<'c, '_, '_, '_, R, G, A>
         requires { IsSoundTouch touch }
         ensures goes { GoesOn self.old.seat self.new.seat }
         ensures page { GivesUpOr (GetsCopy self.old.seat.now.core self.old.held) result self.new.held }
+        ensures own { Spends (Some frames.own) (UsesCopy frames.own self.old.held) result }
     {
         let core = self.seat.core();
         let targets = recorded_cores(&self.held.page(touch.page)).without(core);
@@ -222,12 +227,13 @@ impl<'c, R: Wait, G: Gate, A: Allocator + Clone> InCall<'c, '_, '_, '_, R, G, A>
 
     // All cores that were told acknowledge. Then the page gets its copy, since no core translates it by
     // the old frame any more.
-    #[tactic(auto, using(crate::proofs::Noted::steps))]
+    #[tactic(auto, using(crate::proofs::Noted::steps, crate::proofs::Spent::was_used, crate::proofs::Spent::used_copy))]
     fn copy_told(&mut self, touch: Touch, frames: Copying, targets: CoreSet) -> Option<Ending>
         requires sound { IsSoundTouch touch }
         requires room { HasStepsLeft (1 + 126 * count_below targets 64) self.old.held self.old.seat.now }
         ensures goes { GoesOn self.old.seat self.new.seat }
         ensures page { GivesUpOr (GetsCopy self.old.seat.now.core self.old.held) result self.new.held }
+        ensures own { Spends (Some frames.own) (UsesCopy frames.own self.old.held) result }
     {
         let space = self.space;
         let Copying { shown, own } = frames;
@@ -246,6 +252,7 @@ impl<'c, R: Wait, G: Gate, A: Allocator + Clone> InCall<'c, '_, '_, '_, R, G, A>
         requires { IsSoundTouch touch }
         ensures goes { GoesOn self.old.seat self.new.seat }
         ensures page { GivesUpOr (Gets (Record self.old.seat.now.core) self.old.held) result self.new.held }
+        ensures none { IfSome result (λ ending. ending ≡ GiveUp) }
     {
         self.at(Point::Filled);
         if !self.has_room(1) {

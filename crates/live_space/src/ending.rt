@@ -5,6 +5,7 @@ ghost use Rattle.live_pages.specs.Ending.{Ends, GivesUpFor};
 ghost use Rattle.live_space.specs.InFlight.{HasStepsLeft};
 ghost use Rattle.live_space.specs.Endings.{reply_of};
 ghost use Rattle.live_space.specs.Planned.{EndsIn, IsGivenUp};
+ghost use Rattle.live_space.specs.Spending.{GivesOnly};
 
 use crate::giving_up::give_up;
 use crate::locking::let_go;
@@ -77,7 +78,8 @@ impl<A: Allocator + Clone> Live<A> {
 
 /// How a call ends that is given up, with the frame that it took, if it took one.
 pub(crate) fn given_up_with(own: Option<u32>) -> Ending
-    ensures { IsGivenUp result }
+    ensures given { IsGivenUp result }
+    ensures own { GivesOnly own result }
 {
     match own {
         Some(own) => Ending::GiveBack(own),

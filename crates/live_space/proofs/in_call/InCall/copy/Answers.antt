@@ -1,5 +1,7 @@
-use Rattle.std.proofs.Common.{rules, arith, ap}
+use Rattle.std.proofs.Common.{Some, rules, arith, ap, subst}
 use Rattle.seats.specs.Notes.{SeatView}
+use Rattle.live_tree.specs.Held.{HeldView}
+use Rattle.live_space.specs.Spending.{Spends, UsesCopy}
 use Rattle.live_space.proofs.in_call.InCall.copy.Goals as goal
 
 pub copy_told-requires : goal.copy_told-requires
@@ -8,3 +10,7 @@ copy_told-requires g c =
       omega arith,
       (c.requires, omega (arith, room, c.count_of.ensures, c.if-not-has_room.ensures.room (search rules))),
     )
+
+pub returns-in-Some-clause-own : goal.returns-in-Some-clause-own
+returns-in-Some-clause-own g c =
+    subst (λ (h : HeldView). Spends (Some c.args.frames.own) (UsesCopy c.args.frames.own h) c.copy_told.result) c.has_room.ensures.held c.copy_told.ensures.own
