@@ -97,10 +97,12 @@ class Machine:
             if self.calls[core]:
                 word, first, end, _ = self.calls[core]
                 out.append(f"core {core} {word} awaits cores for {first * 4096:#x}-{end * 4096:#x}")
-            for page, frame, write, execute in self.tlbs[core]:
+            entries = [("tlb", *entry) for entry in self.tlbs[core]]
+            entries += [("table", page, *self.tables[core][page]) for page in sorted(self.tables[core])]
+            for place, page, frame, write, execute in entries:
                 going = [m[3] for m in self.inboxes[core] if m[1] <= page < m[2]]
                 tail = (" going: cleared" if going[0] else " going: posted") if going else ""
-                out.append(f"core {core} tlb {page * 4096:#x} frame {frame} r{'w' if write else '-'}{'x' if execute else '-'}{tail}")
+                out.append(f"core {core} {place} {page * 4096:#x} frame {frame} r{'w' if write else '-'}{'x' if execute else '-'}{tail}")
             for sender, first, end, cleared in self.inboxes[core]:
                 out.append(f"core {core} inbox from {sender} {first * 4096:#x}-{end * 4096:#x} {'second' if cleared else 'first'} take due")
         return "\n".join(out) + "\n"

@@ -62,7 +62,7 @@ Words:
                  and writes the numbers on standard error (help cores)
   maps           writes the mappings at the trace's end, and nothing else
   state          writes the state at the trace's end, or behind line N: each
-                 core's call, TLB and inbox
+                 core's call, TLB, tables and inbox
   certify        reads notes, steps with what each came to, and certifies that
                  they are a run of the machine, or refuses them
   live           runs a script, each core on a thread, and writes their notes

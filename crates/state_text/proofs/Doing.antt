@@ -12,7 +12,8 @@ use Rattle.state_text.specs.Held.{Holds, done, own_part, told_by}
 abbrev Does : ℕ → (ℕ → Holds) → ℕ → Deed → Type 0
 Does c h d deed = put h c (own_part deed (h c)) d ≡ done deed h d
 
-pub translated : (deed : Deed) (c : ℕ) (touch : Touch) (entry : Option Translation) (h : ℕ → Holds) (d : ℕ) → deed ≡ Translate c touch entry → Does c h d deed
+pub translated : (deed : Deed) (c : ℕ) (touch : Touch) (entry : Option Translation) (h : ℕ → Holds) (d : ℕ)
+    → deed ≡ Translate c touch entry → Does c h d deed
 translated deed c touch entry h d e = subst (Does c h d) (sym e) refl
 
 pub took : (deed : Deed) (c : ℕ) (h : ℕ → Holds) (d : ℕ) → deed ≡ Take c → Does c h d deed

@@ -1,6 +1,8 @@
 -- What the tables of a core have of a page, by what can be read
-use Rattle.machine_laws.proofs.Words.{◌≡◌, ℕ, subst, ◌+◌, ◌*◌, ◌/◌, ◌%◌, ◌^◌, ◌<◌, ◌≤◌, ◌==◌, Bool, true, false, refl, sym, ap, ◌∙◌, arith, Some, None, Option, nat_lt, nat_tests}
-use Rattle.machine_laws.proofs.Words.{if◌then◌else◌, is_page, IsPage, is_some, PageInfo, Translation, World, ∥∥₁_elim, props, Touch, CopyPost, page_of_touch}
+use Rattle.machine_laws.proofs.Words.{◌≡◌, ℕ, subst, ◌+◌, ◌*◌, ◌/◌, ◌%◌, ◌^◌, ◌<◌, ◌≤◌, ◌==◌, Bool, true, false, refl, sym, ap, ◌∙◌, arith}
+use Rattle.machine_laws.proofs.Words.{Some, None, Option, nat_lt, nat_tests}
+use Rattle.machine_laws.proofs.Words.{if◌then◌else◌, is_page, IsPage, is_some, PageInfo, Translation, World, ∥∥₁_elim, props, Touch}
+use Rattle.machine_laws.proofs.Words.{CopyPost, page_of_touch}
 use Rattle.machine_laws.specs.Orderly.{IsReady, IsUsable}
 use Rattle.vm_base.specs.Info.{recorded_cores}
 use Rattle.mmu.specs.Entry.{entry_word}
@@ -66,7 +68,8 @@ write_of f true false word e = let is : word / 2 % 2 ≡ 1 = omega (arith, e) in
 write_of f false true word e = let is : word / 2 % 2 ≡ 0 = omega (arith, e) in ap (λ n. n == 1) is
 write_of f false false word e = let is : word / 2 % 2 ≡ 0 = omega (arith, e) in ap (λ n. n == 1) is
 
-exec_of : (f : ℕ) (w x : Bool) (word : ℕ) → f < 2 ^ 32 → word ≡ f * 4096 + 1 + (if w then 2 else 0) + 4 + (if x then 0 else 2 ^ 63) → nat_lt word (2 ^ 63) ≡ x
+exec_of : (f : ℕ) (w x : Bool) (word : ℕ) → f < 2 ^ 32 → word ≡ f * 4096 + 1 + (if w then 2 else 0) + 4 + (if x then 0 else 2 ^ 63)
+    → nat_lt word (2 ^ 63) ≡ x
 exec_of f true true word lt e = let is : word < 2 ^ 63 = omega (arith, e) in grind (arith, nat_tests, is)
 exec_of f true false word lt e = let is : 2 ^ 63 ≤ word = omega (arith, e) in grind (arith, nat_tests, is)
 exec_of f false true word lt e = let is : word < 2 ^ 63 = omega (arith, e) in grind (arith, nat_tests, is)

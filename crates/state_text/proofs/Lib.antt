@@ -4,7 +4,10 @@ pub mod Entries
 pub mod FrontLines
 pub mod Joined
 pub mod Lines
+pub mod Ordered
 pub mod Steps
+pub mod TableSteps
+pub mod TableTexts
 pub mod Told
 pub mod Traces
 pub mod Watched

@@ -1,31 +1,34 @@
 -- Texts that grow core by core, and messages that are looked through
-use Rattle.std.proofs.Common.{◌≡◌, ℕ, zero, suc, ◌≢◌, ◌+◌, ◌<◌, ◌==◌, Bool, true, false, List, [], ◌∷◌, ◌++◌, length, get_or, refl, sym, ap, ◌∙◌, arith, append_assoc, add-one}
+use Rattle.std.proofs.Common.{◌≡◌, ℕ, zero, suc, ◌≢◌, ◌+◌, ◌<◌, ◌==◌, Bool, true, false, List, [], ◌∷◌, ◌++◌, length, get_or, refl, sym, ap}
+use Rattle.std.proofs.Common.{◌∙◌, arith, append_assoc, add-one, None}
 use Rattle.std.proofs.Math.ListN.{set}
 use Rattle.std.proofs.lemmas.List.{get_or-set_other, get_or-set_same}
 use Rattle.std.proofs.lemmas.Bool.Decides.{nat_tests}
+use Rattle.mmu.specs.declared.tlb.TlbEntry.{TlbEntry}
+use Rattle.state_text.specs.Edits.{table_at}
 use Rattle.state_text.specs.Held.{Holds, held, nothing_held}
-use Rattle.state_text.specs.Texts.{cores_text}
+use Rattle.state_text.specs.Texts.{texts_below}
 
-pub cores_none : (text : ℕ → List ℕ) → cores_text text 0 ≡ []
-unfolding cores_text
+pub cores_none : (text : ℕ → List ℕ) → texts_below text 0 ≡ []
+unfolding texts_below
 cores_none text = refl
 
-cores_next : (text : ℕ → List ℕ) (n : ℕ) → cores_text text (n + 1) ≡ cores_text text n ++ text n
-unfolding cores_text
+cores_next : (text : ℕ → List ℕ) (n : ℕ) → texts_below text (n + 1) ≡ texts_below text n ++ text n
+unfolding texts_below
 cores_next text n = rw add-one refl
 
 -- the lines of one core more are written
-pub cores_more : (text : ℕ → List ℕ) (n : ℕ) (old now next : List ℕ) → now ≡ old ++ cores_text text n → next ≡ now ++ text n
-    → next ≡ old ++ cores_text text (n + 1)
+pub cores_more : (text : ℕ → List ℕ) (n : ℕ) (old now next : List ℕ) → now ≡ old ++ texts_below text n → next ≡ now ++ text n
+    → next ≡ old ++ texts_below text (n + 1)
 cores_more text n old now next e f =
-    f ∙ ap (λ l. l ++ text n) e ∙ append_assoc old (cores_text text n) (text n) ∙ ap (λ l. old ++ l) (sym (cores_next text n))
+    f ∙ ap (λ l. l ++ text n) e ∙ append_assoc old (texts_below text n) (text n) ∙ ap (λ l. old ++ l) (sym (cores_next text n))
 
 -- the same lines of the same cores
-pub cores_same : (f g : ℕ → List ℕ) (n : ℕ) → ((c : ℕ) → c < n → f c ≡ g c) → cores_text f n ≡ cores_text g n
-unfolding cores_text
+pub cores_same : (f g : ℕ → List ℕ) (n : ℕ) → ((c : ℕ) → c < n → f c ≡ g c) → texts_below f n ≡ texts_below g n
+unfolding texts_below
 cores_same f g zero same = refl
 cores_same f g (suc n) same =
-    ap (λ l. l ++ f n) (cores_same f g n (λ c lt. same c (omega (arith, lt)))) ∙ ap (λ l. cores_text g n ++ l) (same n (omega arith))
+    ap (λ l. l ++ f n) (cores_same f g n (λ c lt. same c (omega (arith, lt)))) ∙ ap (λ l. texts_below g n ++ l) (same n (omega arith))
 
 -- ---- cores that hold nothing
 
@@ -35,11 +38,26 @@ held_more [] none (suc c) = refl
 held_more (x ∷ all) none zero = none 0
 held_more (x ∷ all) none (suc c) = held_more all (λ k. none (suc k)) c
 
--- ---- three texts, one behind another
+-- ---- tables without entries
+
+table_more : (all : List (List TlbEntry)) → ((c p : ℕ) → table_at all c p ≡ None) → (c p : ℕ) → table_at (all ++ [] ∷ []) c p ≡ None
+table_more [] none zero p = refl
+table_more [] none (suc c) p = refl
+table_more (x ∷ all) none zero p = none 0 p
+table_more (x ∷ all) none (suc c) p = table_more all (λ k. none (suc k)) c p
+
+pub table_pushed : (xs ys : List (List TlbEntry)) (x : List TlbEntry) → ys ≡ xs ++ x ∷ [] → x ≡ [] → ((c p : ℕ) → table_at xs c p ≡ None)
+    → (c p : ℕ) → table_at ys c p ≡ None
+table_pushed xs ys x e f none c p = ap (λ l. table_at l c p) (e ∙ ap (λ y. xs ++ y ∷ []) f) ∙ table_more xs none c p
+
+-- ---- texts, one behind another
 
 pub three : (old a b c x y z : List ℕ) → a ≡ old ++ x → b ≡ a ++ y → c ≡ b ++ z → c ≡ old ++ ((x ++ y) ++ z)
 three old a b c x y z e f g =
     g ∙ ap (λ l. l ++ z) f ∙ ap (λ l. (l ++ y) ++ z) e ∙ ap (λ l. l ++ z) (append_assoc old x y) ∙ append_assoc old (x ++ y) z
+
+pub four : (old a b c d x y z u : List ℕ) → a ≡ old ++ x → b ≡ a ++ y → c ≡ b ++ z → d ≡ c ++ u → d ≡ old ++ (((x ++ y) ++ z) ++ u)
+four old a b c d x y z u e f g h = h ∙ ap (λ l. l ++ u) (three old a b c x y z e f g) ∙ append_assoc old ((x ++ y) ++ z) u
 
 pub held_pushed : (xs ys : List Holds) (x : Holds) → ys ≡ xs ++ x ∷ [] → x ≡ nothing_held → ((c : ℕ) → held xs c ≡ nothing_held)
     → (c : ℕ) → held ys c ≡ nothing_held
@@ -47,7 +65,7 @@ held_pushed xs ys x e f none c = ap (λ l. held l c) (e ∙ ap (λ y. xs ++ y �
 
 -- ---- elements
 
-same_at : {X : Type 0} (xs : List X) (n : ℕ) (d e : X) → n < length xs → get_or xs n d ≡ get_or xs n e
+pub same_at : {X : Type 0} (xs : List X) (n : ℕ) (d e : X) → n < length xs → get_or xs n d ≡ get_or xs n e
 same_at [] n d e lt = absurd (omega (arith, lt))
 same_at (x ∷ xs) zero d e lt = refl
 same_at (x ∷ xs) (suc n) d e lt = same_at xs n d e (omega (arith, lt))

@@ -1,16 +1,28 @@
 -- Who watches each step from the first on knows the state.
-use Rattle.machine_laws.proofs.Words.{◌≡◌, ℕ, ◌<◌, ◌==◌, Bool, true, false, cond, refl, sym, ap, subst, ◌∙◌, List, [], ◌∷◌, ◌++◌, nat_lt, put, eq_true, members}
-use Rattle.machine_laws.proofs.Words.{Event, Outcome, Phase, Free, PageRange, World, Made, Slots, new_world, Step, Run, Stepped, Full, Idle, Wait, Answered}
+use Rattle.machine_laws.proofs.Words.{◌≡◌, ℕ, ◌<◌, ◌==◌, Bool, true, false, cond, refl, sym, ap, subst, ◌∙◌, List, [], ◌∷◌, ◌++◌, nat_lt}
+use Rattle.machine_laws.proofs.Words.{put, eq_true, has, None, Option, Translation, Message, asked, members}
+use Rattle.machine_laws.proofs.Words.{Event, Outcome, Phase, Free, PageRange, World, Made, Slots, new_world, Step, Run, Stepped, Full, Idle}
+use Rattle.machine_laws.proofs.Words.{Wait, Answered}
+use Rattle.std.specs.List.{flat_map}
+use Rattle.shootdown.specs.declared.message.Took.{Took}
+use Rattle.shootdown.specs.declared.message.Took.TheVariants as took
 use Rattle.watched.specs.Watching.{Watches}
 use Rattle.state_text.specs.declared.deed.Deed.{Deed}
 use Rattle.state_text.specs.declared.deed.Deed.TheVariants.{Nothing, Translate, Shoot, Take, Walk, Evict}
+use Rattle.vm_base.specs.Functions.{over}
 use Rattle.state_text.specs.Deeds.{deed_of}
+use Rattle.state_text.specs.declared.edit.Edit.{Edit}
+use Rattle.state_text.specs.declared.edit.Edit.TheVariants as to
+use Rattle.state_text.specs.Edits.{after_edit, edit_of, edited, table_at, taken_from}
 use Rattle.state_text.specs.Held.{Holds, done, held, own_part, told}
 use Rattle.state_text.specs.Laws.{Knows}
-use Rattle.state_text.specs.Shown.{Follows, IsNothing, IsShown, Seen, after_step, holds_of, phase_at, phase_in}
-use Rattle.state_text.specs.Texts.{core_text, cores_text, epoch_line, seen_core, seen_text, state_text}
+use Rattle.state_text.specs.Shown.{Follows, IsNothing, IsShown, Seen, after_step, holds_of, inboxes, phase_at, phase_in}
+use Rattle.state_text.specs.Tables.{page_limit}
+use Rattle.state_text.specs.Texts.{call_text, core_text, epoch_line, message_line, page_text, seen_core, seen_text, state_text, table_text}
+use Rattle.state_text.specs.Texts.{texts_below, tlb_line}
 use Rattle.state_text.proofs.Lines.{cores_same}
 use Rattle.state_text.proofs.Steps.{step_kept}
+use Rattle.state_text.proofs.TableSteps.{tables_kept}
 
 -- ---- of cores that hold the same, below 64
 
@@ -40,6 +52,54 @@ after_same Idle deed h g same = same
 after_same (Answered reply) deed h g same = same
 after_same Full deed h g same = same
 
+-- ---- of tables that are the same, below 64
+
+abbrev Tables : Type 0
+Tables = ℕ → ℕ → Option Translation
+
+abbrev Alike : Tables → Tables → Type 0
+Alike t u = (c p : ℕ) → c < 64 → t c p ≡ u c p
+
+alike_at : (f : (ℕ → Option Translation) → ℕ → Option Translation) (t u : Tables) (c : ℕ)
+    → ((x y : ℕ → Option Translation) → ((p : ℕ) → x p ≡ y p) → (p : ℕ) → f x p ≡ f y p) → Alike t u → Alike (put t c (f (t c))) (put u c (f (u c)))
+alike_at f t u c same alike d p lt = go (d == c) refl
+  where
+    go : (b : Bool) → (d == c) ≡ b → cond b (f (t c)) (t d) p ≡ cond b (f (u c)) (u d) p
+    go true e = same (t c) (u c) (λ q. alike c q (subst (λ n. n < 64) (eq_true d c e) lt)) p
+    go false e = alike d p lt
+
+over_same : (s : ℕ → Bool) (x y : ℕ → Option Translation) → ((p : ℕ) → x p ≡ y p) → (p : ℕ) → over x s None p ≡ over y s None p
+over_same s x y same p = ap (λ e. cond (s p) None e) (same p)
+
+taken_same : (m : Took) (x y : ℕ → Option Translation) → ((p : ℕ) → x p ≡ y p) → (p : ℕ) → taken_from m x p ≡ taken_from m y p
+taken_same (took.Clear range) x y same p = over_same (has range) x y same p
+taken_same (took.Invalidate range) x y same p = same p
+taken_same took.Idle x y same p = same p
+
+took_same : (t u : Tables) (c : ℕ) (m n : Took) → (c < 64 → m ≡ n) → Alike t u → Alike (put t c (taken_from m (t c))) (put u c (taken_from n (u c)))
+took_same t u c m n is alike d p lt = go (d == c) refl
+  where
+    go : (b : Bool) → (d == c) ≡ b → cond b (taken_from m (t c)) (t d) p ≡ cond b (taken_from n (u c)) (u d) p
+    go true e = let low = subst (λ k. k < 64) (eq_true d c e) lt in
+        taken_same m (t c) (u c) (λ q. alike c q low) p ∙ ap (λ x. taken_from x (u c) p) (is low)
+    go false e = alike d p lt
+
+edited_same : (edit : Edit) (i j : ℕ → List Message) (v t u : Tables) → ((c : ℕ) → c < 64 → i c ≡ j c) → Alike t u
+    → Alike (edited edit i v t) (edited edit j v u)
+edited_same to.Nothing i j v t u box alike = alike
+edited_same (to.Clear c range) i j v t u box alike = alike_at (λ x. over x (has range) None) t u c (over_same (has range)) alike
+edited_same (to.Take c) i j v t u box alike = took_same t u c (asked (i c)) (asked (j c)) (λ lt. ap asked (box c lt)) alike
+edited_same (to.Install c page) i j v t u box alike =
+    alike_at (λ x. put x page (v c page)) t u c (λ x y same p. ap (λ e. cond (p == page) (v c page) e) (same p)) alike
+
+after_alike : (o : Outcome) (edit : Edit) (i j : ℕ → List Message) (v t u : Tables) → ((c : ℕ) → c < 64 → i c ≡ j c) → Alike t u
+    → Alike (after_edit o edit i v t) (after_edit o edit j v u)
+after_alike Stepped edit i j v t u box alike = edited_same edit i j v t u box alike
+after_alike (Wait blocker) edit i j v t u box alike = alike
+after_alike Idle edit i j v t u box alike = alike
+after_alike (Answered reply) edit i j v t u box alike = alike
+after_alike Full edit i j v t u box alike = alike
+
 -- ---- steps
 
 followed : (one : Seen) (w : World) (e : Event) (o : Outcome) (v : World) (other : Seen) → Step w e o v → Follows one w e o v other → Knows one w
@@ -48,6 +108,10 @@ followed one w e o v other s f k whole =
     let before = k (f.whole whole) in
     record {
       holds = λ c lt. f.holds whole c lt ∙ after_same o (deed_of w e) (held one.cores) (holds_of w) before.holds c lt ∙ sym (step_kept w e o v s c);
+      tables = λ c p lt. f.tables whole c p lt
+          ∙ after_alike o (edit_of w e) (inboxes one.cores) w.hardware.inbox v.hardware.table (table_at one.tables) w.hardware.table
+          (λ d less. ap (λ (h : Holds). h.inbox) (before.holds d less)) before.tables c p lt
+          ∙ sym (tables_kept w e o v s c p);
       phases = f.phases;
       epoch = f.epoch;
     }
@@ -71,6 +135,7 @@ run_of one w (e ∷ es) [] v other r = absurd r
 pub opening : (r : Seen) (made : Made) (slots : Slots) → IsNothing r → Knows r (new_world made slots)
 opening r made slots n whole = record {
   holds = λ c lt. n.holds c;
+  tables = λ c p lt. n.tables c p;
   phases = λ c lt. n.phases c ∙ free (nat_lt c made.cores);
   epoch = n.epoch;
 }
@@ -81,10 +146,18 @@ opening r made slots n whole = record {
 
 -- ---- texts
 
+core_same : (c : ℕ) (phase : Phase) (h : Holds) (t u : ℕ → Option Translation) → ((p : ℕ) → t p ≡ u p) → core_text c phase h t ≡ core_text c phase h u
+core_same c phase h t u same =
+    ap (λ l. call_text c phase ++ flat_map (tlb_line c h.inbox) h.tlb ++ l ++ flat_map (message_line c) h.inbox)
+    (cores_same (λ p. page_text c h.inbox p (t p)) (λ p. page_text c h.inbox p (u p)) page_limit (λ p lt. ap (page_text c h.inbox p) (same p)))
+
 pub text_shown : (r : Seen) (w : World) → IsShown r w → seen_text r ≡ state_text w
 text_shown r w k =
-    ap (λ n. epoch_line n ++ cores_text (seen_core r.phases r.cores) 64) k.epoch
-    ∙ ap (λ l. epoch_line w.memory.counts.epoch ++ l) (cores_same (seen_core r.phases r.cores) (λ c. core_text c (phase_in w c) (holds_of w c)) 64 each)
+    ap (λ n. epoch_line n ++ texts_below (seen_core r.phases r.cores r.tables) 64) k.epoch
+    ∙ ap (λ l. epoch_line w.memory.counts.epoch ++ l) (cores_same (seen_core r.phases r.cores r.tables)
+    (λ c. core_text c (phase_in w c) (holds_of w c) (w.hardware.table c)) 64 each)
   where
-    each : (c : ℕ) → c < 64 → seen_core r.phases r.cores c ≡ core_text c (phase_in w c) (holds_of w c)
-    each c lt = ap (λ p. core_text c p (held r.cores c)) (k.phases c lt) ∙ ap (core_text c (phase_in w c)) (k.holds c lt)
+    each : (c : ℕ) → c < 64 → seen_core r.phases r.cores r.tables c ≡ core_text c (phase_in w c) (holds_of w c) (w.hardware.table c)
+    each c lt = ap (λ p. core_text c p (held r.cores c) (table_at r.tables c)) (k.phases c lt)
+        ∙ ap (λ h. core_text c (phase_in w c) h (table_at r.tables c)) (k.holds c lt)
+        ∙ core_same c (phase_in w c) (holds_of w c) (table_at r.tables c) (w.hardware.table c) (λ p. k.tables c p lt)

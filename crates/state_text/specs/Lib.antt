@@ -1,9 +1,11 @@
 pub mod Deeds
+pub mod Edits
 pub mod Fronts
 pub mod Held
 pub mod Laws
 pub mod Pieces
 pub mod Shown
+pub mod Tables
 pub mod Texts
 pub mod Traces
 pub mod Words

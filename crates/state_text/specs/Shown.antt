@@ -1,5 +1,7 @@
 -- What is shown of a state, and what one who watches its steps knows of it
-use Rattle.std.specs.Prelude.{◌≡◌, ℕ, ◌<◌, Bool, true, List, cond, nat_lt, length, slice_index_or}
+use Rattle.std.specs.Prelude.{◌≡◌, ℕ, ◌<◌, Bool, true, List, None, cond, nat_lt, length, slice_index_or}
+use Rattle.mmu.specs.declared.tlb.TlbEntry.{TlbEntry}
+use Rattle.shootdown.specs.declared.message.Message.{Message}
 use Rattle.machine_model.specs.World.{World}
 use Rattle.machine_model.specs.declared.event.Event.{Event}
 use Rattle.machine_model.specs.declared.event.Outcome.{Outcome}
@@ -8,6 +10,7 @@ use Rattle.machine_model.specs.declared.phase.Phase.{Phase}
 use Rattle.machine_model.specs.declared.phase.Phase.TheVariants.{Free}
 use Rattle.state_text.specs.declared.deed.Deed.{Deed}
 use Rattle.state_text.specs.Deeds.{deed_of}
+use Rattle.state_text.specs.Edits.{after_edit, edit_of, table_at}
 use Rattle.state_text.specs.Held.{Holds, done, held, nothing_held}
 
 -- a core's TLB and inbox in a state
@@ -20,20 +23,26 @@ phase_in w c = cond (nat_lt c w.made.cores) (w.calls.phase c) Free
 
 -- ---- one who watches
 
--- whether all was taken in, the epoch, and of each of 64 cores where its call stands and what it holds
+-- whether all was taken in, the epoch, and of each of 64 cores where its call stands, what it holds, and
+-- the entries of its tables
 pub record Seen : Type 0 where
   pub whole : Bool
   pub epoch : ℕ
   pub phases : List Phase
   pub cores : List Holds
+  pub tables : List (List TlbEntry)
 
 abbrev pub phase_at : Seen → ℕ → Phase
 phase_at r c = slice_index_or r.phases c Free
+
+abbrev pub inboxes : List Holds → ℕ → List Message
+inboxes cores c = (held cores c).inbox
 
 -- one who hasn't seen a step
 pub record IsNothing (r : Seen) : Type 0 where
   pub whole : r.whole ≡ true
   pub holds : (c : ℕ) → held r.cores c ≡ nothing_held
+  pub tables : (c p : ℕ) → table_at r.tables c p ≡ None
   pub phases : (c : ℕ) → phase_at r c ≡ Free
   pub epoch : r.epoch ≡ 0
   pub full : length r.phases ≡ 64
@@ -41,6 +50,7 @@ pub record IsNothing (r : Seen) : Type 0 where
 -- that is what the state has
 pub record IsShown (r : Seen) (w : World) : Type 0 where
   pub holds : (c : ℕ) → c < 64 → held r.cores c ≡ holds_of w c
+  pub tables : (c p : ℕ) → c < 64 → table_at r.tables c p ≡ w.hardware.table c p
   pub phases : (c : ℕ) → c < 64 → phase_at r c ≡ phase_in w c
   pub epoch : r.epoch ≡ w.memory.counts.epoch
 
@@ -56,5 +66,7 @@ pub record Follows (one : Seen) (w : World) (e : Event) (o : Outcome) (v : World
   pub whole : other.whole ≡ true → one.whole ≡ true
   pub holds : other.whole ≡ true → (c : ℕ) → c < 64
       → held other.cores c ≡ after_step o (deed_of w e) (held one.cores) c
+  pub tables : other.whole ≡ true → (c p : ℕ) → c < 64 → table_at other.tables c p
+      ≡ after_edit o (edit_of w e) (inboxes one.cores) v.hardware.table (table_at one.tables) c p
   pub phases : (c : ℕ) → c < 64 → phase_at other c ≡ phase_in v c
   pub epoch : other.epoch ≡ v.memory.counts.epoch

@@ -1,5 +1,5 @@
 -- The text of a state
-use Rattle.std.specs.Prelude.{ℕ, zero, suc, Bool, true, false, List, [], ◌∷◌, ◌++◌, cond, codes, decimal, slice_index_or}
+use Rattle.std.specs.Prelude.{ℕ, zero, suc, Bool, true, false, List, [], ◌∷◌, ◌++◌, Option, None, Some, cond, codes, decimal, slice_index_or}
 use Rattle.std.specs.List.{concat, flat_map}
 use Rattle.vm_base.specs.declared.rights.Prot.{Prot}
 use Rattle.vm_base.specs.Functions.{has}
@@ -13,8 +13,10 @@ use Rattle.machine_model.specs.declared.phase.Phase.{Phase}
 use Rattle.machine_model.specs.declared.phase.Phase.TheVariants.{Free}
 use Rattle.state_text.specs.declared.words.Spot.{Spot}
 use Rattle.state_text.specs.declared.words.Spot.TheVariants.{Nowhere, Page, Pages}
+use Rattle.state_text.specs.Edits.{table_at}
 use Rattle.state_text.specs.Held.{Holds, held}
 use Rattle.state_text.specs.Shown.{Seen, holds_of, phase_in}
+use Rattle.state_text.specs.Tables.{page_limit}
 use Rattle.state_text.specs.Words.{call_word, doing_word, spot_of}
 
 -- ---- a call
@@ -53,11 +55,31 @@ abbrev pub going_word : List Message → ℕ → List ℕ
 going_word [] page = codes "\n"
 going_word (m ∷ ms) page = cond (has m.range page) (gone_word m.is_cleared) (going_word ms page)
 
--- a translation of a core whose inbox is this
-unfoldable pub tlb_line : ℕ → List Message → TlbEntry → List ℕ
-tlb_line c inbox e = concat (codes "core " ∷ decimal c ∷ codes " tlb " ∷ start_of e.page
+-- a translation of a core whose inbox is this, in its TLB or in its tables
+unfoldable pub entry_line : List ℕ → ℕ → List Message → TlbEntry → List ℕ
+entry_line where_it_is c inbox e = concat (codes "core " ∷ decimal c ∷ where_it_is ∷ start_of e.page
     ∷ codes " frame " ∷ decimal e.translation.frame ∷ codes " " ∷ rights_text (rights_of e.translation)
     ∷ going_word inbox e.page ∷ [])
+
+abbrev pub tlb_line : ℕ → List Message → TlbEntry → List ℕ
+tlb_line c inbox e = entry_line (codes " tlb ") c inbox e
+
+-- ---- tables
+
+-- of the numbers below one
+unfoldable pub texts_below : (ℕ → List ℕ) → ℕ → List ℕ
+texts_below text zero = []
+texts_below text (suc n) = texts_below text n ++ text n
+
+-- what the tables have of a page
+abbrev pub page_text : ℕ → List Message → ℕ → Option Translation → List ℕ
+page_text c inbox page None = []
+page_text c inbox page (Some t) =
+    entry_line (codes " table ") c inbox (record { page = page; translation = t })
+
+-- of all pages, the lowest first
+abbrev pub table_text : ℕ → List Message → (ℕ → Option Translation) → List ℕ
+table_text c inbox table = texts_below (λ p. page_text c inbox p (table p)) page_limit
 
 -- ---- an inbox
 
@@ -73,15 +95,10 @@ message_line c m = concat (codes "core " ∷ decimal c ∷ codes " inbox from " 
 
 -- ---- a core, and all
 
--- its call, its TLB in order of filling, and its inbox, the oldest message first
-abbrev pub core_text : ℕ → Phase → Holds → List ℕ
-core_text c phase h =
-    call_text c phase ++ flat_map (tlb_line c h.inbox) h.tlb ++ flat_map (message_line c) h.inbox
-
--- of the cores below a number
-unfoldable pub cores_text : (ℕ → List ℕ) → ℕ → List ℕ
-cores_text text zero = []
-cores_text text (suc n) = cores_text text n ++ text n
+-- its call, its TLB in order of filling, its tables, and its inbox, the oldest message first
+abbrev pub core_text : ℕ → Phase → Holds → (ℕ → Option Translation) → List ℕ
+core_text c phase h table = call_text c phase ++ flat_map (tlb_line c h.inbox) h.tlb
+    ++ table_text c h.inbox table ++ flat_map (message_line c) h.inbox
 
 unfoldable pub epoch_line : ℕ → List ℕ
 epoch_line epoch = concat (codes "epoch " ∷ decimal epoch ∷ codes "\n" ∷ [])
@@ -89,12 +106,13 @@ epoch_line epoch = concat (codes "epoch " ∷ decimal epoch ∷ codes "\n" ∷ [
 -- the text of a state
 abbrev pub state_text : World → List ℕ
 state_text w = epoch_line w.memory.counts.epoch
-    ++ cores_text (λ c. core_text c (phase_in w c) (holds_of w c)) 64
+    ++ texts_below (λ c. core_text c (phase_in w c) (holds_of w c) (w.hardware.table c)) 64
 
 -- ---- the same of what was seen of it
 
-abbrev pub seen_core : List Phase → List Holds → ℕ → List ℕ
-seen_core phases cores c = core_text c (slice_index_or phases c Free) (held cores c)
+abbrev pub seen_core : List Phase → List Holds → List (List TlbEntry) → ℕ → List ℕ
+seen_core phases cores tables c =
+    core_text c (slice_index_or phases c Free) (held cores c) (table_at tables c)
 
 abbrev pub seen_text : Seen → List ℕ
-seen_text r = epoch_line r.epoch ++ cores_text (seen_core r.phases r.cores) 64
+seen_text r = epoch_line r.epoch ++ texts_below (seen_core r.phases r.cores r.tables) 64

@@ -1,18 +1,23 @@
-//! The state of a machine as text: of each core its call, its TLB and its inbox.
+//! The state of a machine as text: of each core its call, its TLB, its tables and its inbox.
 #![tactic(auto)]
 
 pub mod deed;
+pub mod edit;
 pub mod fronts;
 pub mod held;
 pub mod laws;
 pub mod mirror;
 mod pieces;
 mod reading;
+pub mod table;
+mod tables;
 pub mod texts;
 pub mod tlb_lists;
 mod watching;
 pub mod words;
 
 pub use deed::Deed;
+pub use edit::Edit;
 pub use held::Held;
 pub use mirror::Mirror;
+pub use table::Table;

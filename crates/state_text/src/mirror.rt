@@ -1,9 +1,11 @@
 //! One who watches a machine's steps, and knows at each moment what its cores do and hold.
-ghost use Rattle.std.specs.Prelude.{◌≡◌, ℕ, IfOk, length};
+ghost use Rattle.std.specs.Prelude.{◌≡◌, ℕ, IfOk, None, length};
+ghost use Rattle.state_text.specs.Edits.{table_at};
 ghost use Rattle.state_text.specs.Held.{held, nothing_held};
 ghost use Rattle.state_text.specs.Shown.{IsNothing, Seen};
 
 use crate::held::Held;
+use crate::table::Table;
 use machine_model::Phase;
 use std::alloc::{AllocError, Allocator};
 use std::marker::Model;
@@ -14,7 +16,7 @@ pub const CORES: usize = 64;
 /// What the cores of a machine do and hold. A clause sees it as `Seen`.
 #[derive(Drop)]
 pub struct Mirror<A: Allocator> {
-    /// Whether all was taken in so far: there was room for each message.
+    /// Whether all was taken in so far: there was room for each message, and for each entry of tables.
     pub(crate) whole: bool,
     /// The epoch.
     pub(crate) epoch: u64,
@@ -22,6 +24,8 @@ pub struct Mirror<A: Allocator> {
     pub(crate) phases: [Phase; CORES],
     /// What the cores hold.
     pub(crate) cores: Vec<Held, A>,
+    /// The cores' tables.
+    pub(crate) tables: Vec<Table<A>, A>,
 }
 
 impl<A: Allocator> Model for Mirror<A> {
@@ -32,9 +36,10 @@ impl<A: Allocator> Model for Mirror<A> {
       epoch = m.epoch;
       phases = m.phases;
       cores = m.cores.items;
+      tables = m.tables.items;
     } };
 
-    ghost invariant = { λ m. length m.cores.items ≡ 64 };
+    ghost invariant = { λ m. (length m.cores.items ≡ 64) × (length m.tables.items ≡ 64) };
 }
 
 // This many cores that hold nothing.
@@ -50,22 +55,44 @@ fn empty_cores<A: Allocator>(alloc: A) -> Result<Vec<Held, A>, AllocError>
     Ok(cores)
 }
 
-impl<A: Allocator> Mirror<A> {
-    ghost use Rattle.std.specs.Prelude.{◌≡◌, ◌<◌, IfOk, length, slice_index_or};
+// This many tables without entries.
+#[tactic(auto, using(crate::proofs::Lines::table_pushed))]
+fn empty_tables<A: Allocator + Clone>(alloc: A) -> Result<Vec<Table<A>, A>, AllocError>
+    ensures full { IfOk result (λ tables. length tables.items ≡ 64) }
+    ensures empty { IfOk result (λ tables. (c p : ℕ) → table_at tables.items c p ≡ None) }
+{
+    let own = alloc.clone()?;
+    let mut tables = Vec::with_capacity(own, CORES)?;
+    'cores: for _core in 0..64u8 {
+        let own = alloc.clone()?;
+        tables.push_reserved(Table::new(own));
+    }
+    Ok(tables)
+}
+
+impl<A: Allocator + Clone> Mirror<A> {
+    ghost use Rattle.std.specs.Prelude.{IfOk};
     ghost use Rattle.state_text.specs.Shown.{IsNothing};
 
     /// One who hasn't seen a step yet. An error is a refusal of memory.
     pub fn new(alloc: A) -> Result<Mirror<A>, AllocError>
         ensures { IfOk result IsNothing }
     {
-        let cores = empty_cores(alloc)?;
+        let own = alloc.clone()?;
+        let cores = empty_cores(own)?;
+        let tables = empty_tables(alloc)?;
         Ok(Mirror {
             whole: true,
             epoch: 0,
             phases: [Phase::Free; CORES],
             cores,
+            tables,
         })
     }
+}
+
+impl<A: Allocator> Mirror<A> {
+    ghost use Rattle.std.specs.Prelude.{◌≡◌, ◌<◌, length, slice_index_or};
 
     /// Whether all was taken in.
     pub fn is_whole(&self) -> bool
@@ -95,5 +122,13 @@ impl<A: Allocator> Mirror<A> {
         ensures full { length result.now ≡ 64 }
     {
         self.cores.as_slice()
+    }
+
+    /// The cores' tables.
+    pub fn tables(&self) -> &[Table<A>]
+        ensures value { result.now ≡ self.now.tables }
+        ensures full { length result.now ≡ 64 }
+    {
+        self.tables.as_slice()
     }
 }

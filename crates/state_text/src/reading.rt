@@ -1,4 +1,4 @@
-//! What a step is to do to TLBs and inboxes, by what the machine tells of itself.
+//! What a step is to do to TLBs, inboxes and tables, by what the machine tells of itself.
 ghost use Rattle.std.specs.Prelude.{◌≡◌, ◌==◌, ◌<◌, ◌/◌, ◌%◌, ◌^◌, nat_lt};
 ghost use Rattle.vm_base.specs.Info.{recorded_cores};
 ghost use Rattle.core_steps.specs.Machine.{state};
@@ -6,8 +6,11 @@ ghost use Rattle.machine_model.specs.Holding.{page_of_touch};
 ghost use Rattle.machine_model.specs.declared.phase.Phase.TheVariants.{CopyPost};
 ghost use Rattle.state_text.specs.declared.deed.Deed.TheVariants.{Walk};
 ghost use Rattle.state_text.specs.Deeds.{deed_at, deed_of, if_here};
+ghost use Rattle.state_text.specs.Edits.{edit_at, edit_of, if_edits};
+ghost use Rattle.state_text.specs.declared.edit.Edit.TheVariants as To;
 
 use crate::deed::Deed;
+use crate::edit::Edit;
 use core_steps::{Ledger, Machine};
 use machine_model::{Event, Phase};
 use mmu::entry::Translation;
@@ -37,8 +40,8 @@ fn frame_of(info: &PageInfo) -> Option<u32>
     info.frame
 }
 
-// The entry that the core's tables have of the page.
-fn entry_of<M: SlotMap, A: Allocator + Clone, L: Ledger>(
+/// The entry that the core's tables have of the page.
+pub(crate) fn entry_of<M: SlotMap, A: Allocator + Clone, L: Ledger>(
     machine: &Machine<M, A, L>,
     core: CoreId,
     page: u64,
@@ -192,5 +195,75 @@ pub(crate) fn deed_of<M: SlotMap, A: Allocator + Clone, L: Ledger>(
             },
         ),
         _ => Deed::Nothing,
+    }
+}
+
+// ---- tables
+
+// What the core's call, which stands so, does to its tables by its next step.
+fn edit_at<M: SlotMap, A: Allocator + Clone, L: Ledger>(
+    machine: &Machine<M, A, L>,
+    core: CoreId,
+    phase: &Phase,
+) -> Edit
+    requires { (state machine.now).calls.phase core ≡ phase.now }
+    ensures { result ≡ edit_at core phase.now }
+{
+    match phase {
+        Phase::Post { change, .. } => Edit::Clear {
+            core,
+            range: change.range(),
+        },
+        Phase::CopyPost { touch, frame } => Edit::Clear {
+            core,
+            range: page_of_copy(machine, core, *touch, *frame),
+        },
+        Phase::Install(touch) => Edit::Install {
+            core,
+            page: touch.page,
+        },
+        _ => Edit::Nothing,
+    }
+}
+
+// What the core's call does to its tables by its next step, if the core is there.
+fn edit_of_call<M: SlotMap, A: Allocator + Clone, L: Ledger>(
+    machine: &Machine<M, A, L>,
+    core: CoreId,
+) -> Edit
+    ensures { result ≡ if_edits (state machine.now) core (edit_at core ((state machine.now).calls.phase core)) }
+{
+    if usize::from(core.index()) >= machine.cores() {
+        return Edit::Nothing;
+    }
+    let phase = machine.phase(core);
+    edit_at(machine, core, &phase)
+}
+
+// What a take does to the core's tables, if the core is there.
+fn edit_of_take<M: SlotMap, A: Allocator + Clone, L: Ledger>(
+    machine: &Machine<M, A, L>,
+    core: CoreId,
+) -> Edit
+    ensures { result ≡ if_edits (state machine.now) core (To.Take core) }
+{
+    if usize::from(core.index()) >= machine.cores() {
+        return Edit::Nothing;
+    }
+    Edit::Take(core)
+}
+
+/// What the event does to tables.
+pub(crate) fn edit_of<M: SlotMap, A: Allocator + Clone, L: Ledger>(
+    machine: &Machine<M, A, L>,
+    event: &Event,
+) -> Edit
+    ensures { result ≡ edit_of (state machine.now) event.now }
+{
+    match event {
+        Event::Go(core) => edit_of_call(machine, *core),
+        Event::Frame(core, _) => edit_of_call(machine, *core),
+        Event::Take(core) => edit_of_take(machine, *core),
+        _ => Edit::Nothing,
     }
 }

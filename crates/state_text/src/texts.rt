@@ -1,11 +1,13 @@
 //! The text of a state.
 ghost use Rattle.std.specs.Prelude.{◌≡◌, ◌+◌, ◌≤◌, ◌++◌, OnOk, length};
+ghost use Rattle.mmu.specs.Tlb.{tlb_at};
 ghost use Rattle.std.specs.List.{flat_map};
-ghost use Rattle.state_text.specs.Texts.{call_line, call_text, core_text, cores_text, epoch_line, going_word, gone_word, message_line, message_word, rights_of, seen_core, seen_text, spot_text, tlb_line};
+ghost use Rattle.state_text.specs.Texts.{call_line, call_text, core_text, epoch_line, entry_line, going_word, gone_word, message_line, message_word, rights_of, seen_core, seen_text, spot_text, table_text, texts_below, tlb_line};
 
 use crate::held::Held;
 use crate::mirror::Mirror;
 use crate::pieces::{Piece, put, put_all};
+use crate::table::Table;
 use crate::words::{Spot, call_word, doing_word, spot_of};
 use machine_model::Phase;
 use mmu::entry::Translation;
@@ -61,14 +63,15 @@ fn rights_of(translation: Translation) -> Prot
     }
 }
 
-// Appends the line of a translation.
+// Appends the line of a translation, which these words say where it is.
 fn put_entry(
     out: &mut Vec<u8>,
+    place: &str,
     core: CoreId,
     inbox: &[Message],
     entry: &TlbEntry,
 ) -> Result<(), AllocError>
-    ensures { OnOk result (out.new.items ≡ out.old.items ++ tlb_line core inbox.now entry.now) }
+    ensures { OnOk result (out.new.items ≡ out.old.items ++ entry_line place.now core inbox.now entry.now) }
 {
     let rights = rights_of(entry.translation);
     let frame = u64::from(entry.translation.frame);
@@ -78,7 +81,7 @@ fn put_entry(
         &[
             Piece::Words("core "),
             Piece::Core(core),
-            Piece::Words(" tlb "),
+            Piece::Words(place),
             Piece::Start(entry.page),
             Piece::Words(" frame "),
             Piece::Number(frame),
@@ -93,21 +96,35 @@ fn put_entry(
 fn put_tlb(out: &mut Vec<u8>, core: CoreId, held: &Held) -> Result<(), AllocError>
     ensures { OnOk result (out.new.items ≡ out.old.items ++ flat_map (tlb_line core held.now.inbox) held.now.tlb) }
 {
-    put_entries(out, core, held.inbox(), held.tlb())
+    put_entries(out, " tlb ", core, held.inbox(), held.tlb())
 }
 
-// Appends the lines of translations.
+// Appends the lines of the pages that tables have, the lowest first.
+fn put_table<A: Allocator>(
+    out: &mut Vec<u8>,
+    core: CoreId,
+    inbox: &[Message],
+    table: &Table<A>,
+) -> Result<(), AllocError>
+    ensures { OnOk result (out.new.items ≡ out.old.items ++ table_text core inbox.now (tlb_at table.now)) }
+{
+    put_entries(out, " table ", core, inbox, table.entries())?;
+    Ok(())
+}
+
+// Appends the lines of translations, which these words say where they are.
 fn put_entries(
     out: &mut Vec<u8>,
+    place: &str,
     core: CoreId,
     inbox: &[Message],
     entries: &[TlbEntry],
 ) -> Result<(), AllocError>
-    ensures { OnOk result (out.new.items ≡ out.old.items ++ flat_map (tlb_line core inbox.now) entries.now) }
+    ensures { OnOk result (out.new.items ≡ out.old.items ++ flat_map (entry_line place.now core inbox.now) entries.now) }
 {
     let mut at = 0;
     'entries: while at < entries.len() {
-        put_entry(out, core, inbox, &entries[at])?;
+        put_entry(out, place, core, inbox, &entries[at])?;
         at += 1;
     }
     Ok(())
@@ -202,29 +219,49 @@ fn put_call(out: &mut Vec<u8>, core: CoreId, phase: &Phase) -> Result<(), AllocE
 }
 
 // Appends the lines of a core.
-fn put_core(out: &mut Vec<u8>, core: CoreId, phase: &Phase, held: &Held) -> Result<(), AllocError>
-    ensures { OnOk result (out.new.items ≡ out.old.items ++ core_text core phase.now held.now) }
+fn put_core<A: Allocator>(
+    out: &mut Vec<u8>,
+    core: CoreId,
+    phase: &Phase,
+    held: &Held,
+    table: &Table<A>,
+) -> Result<(), AllocError>
+    ensures { OnOk result (out.new.items ≡ out.old.items ++ core_text core phase.now held.now (tlb_at table.now)) }
 {
     put_call(out, core, phase)?;
     put_tlb(out, core, held)?;
+    put_table(out, core, held.inbox(), table)?;
     put_inbox(out, core, held.inbox())?;
     Ok(())
 }
 
 // Appends the lines of all cores.
-fn put_cores(out: &mut Vec<u8>, phases: &[Phase], cores: &[Held]) -> Result<(), AllocError>
+fn put_cores<A: Allocator>(
+    out: &mut Vec<u8>,
+    phases: &[Phase],
+    cores: &[Held],
+    tables: &[Table<A>],
+) -> Result<(), AllocError>
     requires phases { length phases.now ≡ 64 }
     requires cores { length cores.now ≡ 64 }
-    ensures { OnOk result (out.new.items ≡ out.old.items ++ cores_text (seen_core phases.now cores.now) 64) }
+    requires tables { length tables.now ≡ 64 }
+    ensures { OnOk result (out.new.items ≡ out.old.items ++ texts_below (seen_core phases.now cores.now tables.now) 64) }
 {
     'cores: for index in 0..64u8 {
         let at = usize::from(index);
-        put_core(out, CoreId::new(index), &phases[at], &cores[at])?;
+        put_core(
+            out,
+            CoreId::new(index),
+            &phases[at],
+            &cores[at],
+            &tables[at],
+        )?;
     }
     Ok(())
 }
 
-/// Appends the text of what was seen: the epoch, and of each core its call, its TLB in order of filling, and its inbox.
+/// Appends the text of what was seen: the epoch, and of each core its call, its TLB in order of filling, the pages in
+/// its tables, and its inbox.
 pub fn put_state<A: Allocator>(out: &mut Vec<u8>, mirror: &Mirror<A>) -> Result<(), AllocError>
     ensures { OnOk result (out.new.items ≡ out.old.items ++ seen_text mirror.now) }
 {
@@ -237,6 +274,6 @@ pub fn put_state<A: Allocator>(out: &mut Vec<u8>, mirror: &Mirror<A>) -> Result<
             Piece::Words("\n"),
         ],
     )?;
-    put_cores(out, mirror.phases(), mirror.cores())?;
+    put_cores(out, mirror.phases(), mirror.cores(), mirror.tables())?;
     Ok(())
 }

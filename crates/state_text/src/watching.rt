@@ -7,9 +7,11 @@ ghost use Rattle.state_text.specs.Held.{done, held};
 ghost use Rattle.state_text.specs.Shown.{Follows, after_step, phase_at, phase_in};
 
 use crate::deed::Deed;
+use crate::edit::Edit;
 use crate::held::{Held, act_at, tell_all};
 use crate::mirror::{CORES, Mirror};
-use crate::reading::deed_of;
+use crate::reading::{deed_of, edit_of};
+use crate::tables::edit_tables;
 use core_steps::{Ledger, Machine};
 use machine_model::{Event, Outcome, Phase};
 use slot_lock::SlotMap;
@@ -98,14 +100,39 @@ fn phases_of<M: SlotMap, A: Allocator + Clone, L: Ledger>(
 impl<B: Allocator> Mirror<B> {
     ghost use Rattle.std.specs.Prelude.{◌≡◌, ℕ, ◌<◌, true};
     ghost use Rattle.core_steps.specs.Machine.{state};
+    ghost use Rattle.state_text.specs.Edits.{after_edit, table_at};
     ghost use Rattle.state_text.specs.Held.{held};
-    ghost use Rattle.state_text.specs.Shown.{after_step, phase_at, phase_in};
+    ghost use Rattle.state_text.specs.Shown.{after_step, inboxes, phase_at, phase_in};
+
+    // The tables have what the step, which had this edit and led to the machine, leaves them.
+    fn follow_tables<M: SlotMap, A: Allocator + Clone, L: Ledger>(
+        &mut self,
+        machine: &Machine<M, A, L>,
+        edit: &Edit,
+        outcome: &Outcome,
+    )
+        ensures whole { self.new.whole ≡ true → self.old.whole ≡ true }
+        ensures cores { self.new.cores ≡ self.old.cores }
+        ensures tables { self.new.whole ≡ true → (c p : ℕ) → table_at self.new.tables c p
+            ≡ after_edit outcome.now edit.now (inboxes self.old.cores) (state machine.now).hardware.table
+            (table_at self.old.tables) c p }
+    {
+        let room = edit_tables(
+            machine,
+            &mut self.tables,
+            self.cores.as_slice(),
+            edit,
+            outcome,
+        );
+        self.whole = both(self.whole, room);
+    }
 
     // The cores hold what the step, which had this deed, leaves them.
     fn follow(&mut self, deed: &Deed, outcome: &Outcome)
         ensures whole { self.new.whole ≡ true → self.old.whole ≡ true }
         ensures held { self.new.whole ≡ true → (c : ℕ) → c < 64
             → held self.new.cores c ≡ after_step outcome.now deed.now (held self.old.cores) c }
+        ensures tables { self.new.tables ≡ self.old.tables }
     {
         let room = do_step(&mut self.cores, deed, outcome);
         self.whole = both(self.whole, room);
@@ -115,6 +142,7 @@ impl<B: Allocator> Mirror<B> {
     fn look<M: SlotMap, A: Allocator + Clone, L: Ledger>(&mut self, machine: &Machine<M, A, L>)
         ensures whole { self.new.whole ≡ self.old.whole }
         ensures cores { self.new.cores ≡ self.old.cores }
+        ensures tables { self.new.tables ≡ self.old.tables }
         ensures phases { (c : ℕ) → c < 64 → phase_at self.new c ≡ phase_in (state machine.now) c }
         ensures epoch { self.new.epoch ≡ (state machine.now).memory.counts.epoch }
     {
@@ -132,10 +160,12 @@ impl<B: Allocator> Watch for Mirror<B> {
         event: Event,
     ) -> Result<Outcome, NoMemory> {
         let deed = deed_of(machine, &event);
+        let edit = edit_of(machine, &event);
         let outcome = match machine.step(event) {
             Ok(outcome) => outcome,
             Err(refused) => return Err(refused),
         };
+        self.follow_tables(machine, &edit, &outcome);
         self.follow(&deed, &outcome);
         self.look(machine);
         Ok(outcome)

@@ -242,7 +242,10 @@ behind line N isn't looked at.
   core C tlb ADDR frame F RIGHTS
         the core's TLB translates the page at this address, the oldest filled
         first. Each translation permits loads, so RIGHTS begin with r
+  core C table ADDR frame F RIGHTS
+        the core's tables have the page, the lowest first
   core C tlb ADDR frame F RIGHTS going: posted
+  core C table ADDR frame F RIGHTS going: posted
   core C tlb ADDR frame F RIGHTS going: cleared
         the same of a page that another core told this one to drop, and this
         one hasn't acknowledged: before the first take, and between the takes,
@@ -251,8 +254,8 @@ behind line N isn't looked at.
   core C inbox from D START-END second take due
         core D awaits that this one drops these pages, the oldest message first
 
-Cores, and the things of each, are in this order. Tables, slots and frames
-aren't shown: see help maps and run --summary. The trace is held in memory.
+Cores, and the things of each, are in this order. Slots and frames aren't
+shown: see help maps and run --summary. The trace is held in memory.
 
 Status: as for run; 2 where the trace has fewer than N lines. After a fault no
 state is written.

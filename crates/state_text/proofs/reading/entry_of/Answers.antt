@@ -8,12 +8,15 @@ returns-then-not-is_valid g c = read_off (state c.args.machine.now) c.kept_log-k
     (sym c.is_valid.ensures ∙ c.if-not-is_valid.true)
 
 pub returns-in_default-page : goal.returns-in_default-page
-returns-in_default-page g c = read_unmapped (state c.args.machine.now) c.kept_log-kept.ensures.legal.reached c.args.core c.args.page c.in_default-page.ensures
+returns-in_default-page g c = read_unmapped
+    (state c.args.machine.now) c.kept_log-kept.ensures.legal.reached c.args.core c.args.page c.in_default-page.ensures
 
 pub returns-in_default-frame_of : goal.returns-in_default-frame_of
-returns-in_default-frame_of g c = read_frameless (state c.args.machine.now) c.kept_log-kept.ensures.legal.reached c.args.core c.args.page c.in-Some-page.info
+returns-in_default-frame_of g c = read_frameless
+    (state c.args.machine.now) c.kept_log-kept.ensures.legal.reached c.args.core c.args.page c.in-Some-page.info
     c.in-Some-page.ensures c.in_default-frame_of.ensures
 
 pub returns : goal.returns
-returns g c = ap Some c.decoded.ensures ∙ read_entry (state c.args.machine.now) c.kept_log-kept.ensures.legal.reached c.args.core c.args.page c.in-Some.word
+returns g c = ap Some c.decoded.ensures ∙ read_entry
+    (state c.args.machine.now) c.kept_log-kept.ensures.legal.reached c.args.core c.args.page c.in-Some.word
     c.in-Some-frame_of.frame c.in-Some-page.info c.in-Some.ensures c.in-Some-page.ensures c.in-Some-frame_of.ensures (search rules)

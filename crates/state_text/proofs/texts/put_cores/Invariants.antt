@@ -1,8 +1,8 @@
 use Rattle.std.proofs.Common.{◌≡◌, ◌++◌}
-use Rattle.state_text.specs.Texts.{cores_text, seen_core}
+use Rattle.state_text.specs.Texts.{texts_below, seen_core}
 use Rattle.state_text.proofs.texts.put_cores.Given as goal
 
 abbrev pub invariant-cores : goal.invariant-cores
-invariant-cores l = record {
-  written : l.out.items ≡ l.initial.out.items ++ cores_text (seen_core l.phases l.cores) l.index;
+invariant-cores g l = record {
+  written : l.out.items ≡ l.initial.out.items ++ texts_below (seen_core l.phases l.cores l.tables) l.index;
 }

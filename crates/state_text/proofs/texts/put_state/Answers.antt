@@ -6,4 +6,4 @@ pub returns : goal.returns
 unfolding epoch_line
 returns g c =
     grow c.args.out.now.items _ _ c.put_all.new.out.items _ (rw c.epoch-epoch.ensures at c.in_ok-put_all.ensures)
-    (rw c.phases.ensures.value at rw c.cores.ensures.value at c.in_ok-put_cores.ensures)
+    (rw c.phases.ensures.value at rw c.cores.ensures.value at rw c.tables.ensures.value at c.in_ok-put_cores.ensures)

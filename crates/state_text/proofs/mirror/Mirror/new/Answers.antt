@@ -7,6 +7,7 @@ pub returns : goal.returns
 returns g c = record {
   whole = refl;
   holds = c.in_ok-cores.ensures.empty;
+  tables = c.in_ok-tables.ensures.empty;
   phases = λ k. get_or-replicate_default 64 Free k;
   epoch = refl;
   full = refl;
