@@ -2,15 +2,17 @@
    unmap and protect a few pages, and load, store and fetch bytes there. At the repository's root:
    cc -O2 -pthread -I include -o /tmp/kernel examples/kernel/kernel.c && /tmp/kernel 4 100000 | ./radixvm audit --overlapping
    usage: kernel [THREADS [CALLS [PAGES [MOST [SEED]]]]]: each thread makes so many calls, on at most MOST pages of PAGES at once (4, 100000,
-   8, 0 and 1 where they are left out). 0 stands for single pages, which are mapped anew and protected, and never unmapped. POSIX allows a
-   kernel what no page map does: to show a range half changed, where MOST is above 1; and, where it is 1, to serve one thread's access to a
-   page that is being unmapped after another's was refused. Linux does both, the second once in a million calls or two. Its faults are told
-   by the list of mappings, which munmap shortens first, and its other accesses by page tables and TLBs, which it clears then. So these four
-   calls of Linux 6.18 have no order, and are told as undecided:
-   10 11 c3! mmap 0x10000 4096 r-x sf 0 0x2000 = 0x10000
-   21 66 c3! munmap 0x10000 4096 = done
-   23 24 c0! store 0x10000 244 = segv maperr
-   37 38 c1! fetch 0x10000 = 195 */
+   8, 0 and 1 where they are left out). 0 stands for single pages, which are mapped anew and protected, but never unmapped, nor given one
+   right while another is taken. POSIX allows a kernel what no page map does, and Linux does it: where MOST is above 1 it shows a range half
+   changed. Where it is 1, it serves one thread's access to a page that is being unmapped after another's was refused, once in a million
+   calls or two: faults are told by the list of mappings, which munmap shortens first, and other accesses by page tables and TLBs, which it
+   clears then. And once in ten million it serves a fetch by a right that mprotect gives, and then a store by one that it takes, which
+   another processor's TLB still has. So neither these four calls of Linux 6.18 have an order nor those five, and audit says undecided:
+   10 11 c3! mmap 0x10000 4096 r-x sf 0 0x2000 = 0x10000        10 11 c0! mmap 0x10000 4096 rw- pfa = 0x10000
+   21 66 c3! munmap 0x10000 4096 = done                         12 13 c3! store 0x10000 6 = done
+   23 24 c0! store 0x10000 244 = segv maperr                    20 90 c0! mprotect 0x10000 4096 r-x = done
+   37 38 c1! fetch 0x10000 = 195                                30 80 c2! fetch 0x10000 = 6
+                                                                40 41 c3! store 0x10000 244 = done */
 #ifndef _GNU_SOURCE
 #define _GNU_SOURCE
 #endif
@@ -61,6 +63,7 @@ static void change(struct core *core) {
     uint8_t *at = base + page * PAGE;
     size_t length = (size_t)count * PAGE;
     int prot = rights[below(core, 6)];
+    if (!most && prot == (PROT_READ | PROT_EXEC)) prot |= PROT_WRITE; /* of any two rights one has the other's, and maybe more */
     switch (most ? below(core, 5) : 1 + below(core, 4)) {
     case 0: rv_munmap(core->ring, at, length); break;
     case 1: rv_mprotect(core->ring, at, length, prot); break;
