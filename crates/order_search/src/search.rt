@@ -87,7 +87,7 @@ impl<'a, A: Allocator + Clone + Drop> Search<'a, A> {
     // Notes which calls under way are a call's rivals, and it as theirs.
     fn note_rivals(&mut self, under: &mut Under) {
         for at in 0..self.under.len() {
-            if self.under[at].is_rival(under, self.mapped.has_files) {
+            if self.under[at].is_rival(under, self.mapped) {
                 self.under[at].rivals |= under.bit;
                 under.rivals |= self.under[at].bit;
             }

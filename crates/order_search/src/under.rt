@@ -37,8 +37,6 @@ pub(crate) struct Under {
     pub is_late: bool,
     /// The pages on which it depends, or which it changes.
     pub pages: PageRange,
-    /// Whether it may find, or change, a byte of a file as well.
-    pub has_byte: bool,
     /// The bits of the cores whose call under way may lead elsewhere if this one comes first.
     pub rivals: u64,
 }
@@ -84,19 +82,22 @@ impl Under {
             changes,
             is_late: changes || stores_to.is_some(),
             pages: pages_of(plan),
-            has_byte: matches!(plan, Ok(Plan::Touch(_))),
             rivals: 0,
         }
     }
 
     /// Tells whether these two may lead elsewhere if they change places: one of them changes something, and they have a page in common, or
-    /// pages may show files and both are accesses.
-    pub fn is_rival(&self, other: &Under, has_files: bool) -> bool {
+    /// pages may show files and both are accesses. Accesses at two offsets are none where pages get no copies, which have all bytes of a page:
+    /// a byte of a file stands at one offset in all pages that show it.
+    pub fn is_rival(&self, other: &Under, mapped: Mapped) -> bool {
         if !self.is_late && !other.is_late {
             return false;
         }
-        if has_files && self.has_byte && other.has_byte {
-            return true;
+        if let (Ok(Plan::Touch(one)), Ok(Plan::Touch(two))) = (self.plan, other.plan) {
+            if !mapped.has_copies && one.offset != two.offset {
+                return false;
+            }
+            return mapped.has_files || one.page == two.page;
         }
         self.pages.first < other.pages.end && other.pages.first < self.pages.end
     }
