@@ -3,7 +3,6 @@ pub mod Edits
 pub mod Fronts
 pub mod Held
 pub mod Laws
-pub mod Pieces
 pub mod Shown
 pub mod Tables
 pub mod Texts

@@ -7,7 +7,6 @@ pub mod fronts;
 pub mod held;
 pub mod laws;
 pub mod mirror;
-mod pieces;
 mod reading;
 pub mod table;
 mod tables;

@@ -6,12 +6,12 @@ ghost use Rattle.state_text.specs.Texts.{call_line, call_text, core_text, epoch_
 
 use crate::held::Held;
 use crate::mirror::Mirror;
-use crate::pieces::{Piece, put, put_all};
 use crate::table::Table;
 use crate::words::{Spot, call_word, doing_word, spot_of};
 use machine_model::Phase;
 use mmu::entry::Translation;
 use mmu::tlb::TlbEntry;
+use picture::elements::{Piece, put, put_all};
 use shootdown::Message;
 use std::alloc::{AllocError, Allocator};
 use vm_base::{CoreId, Prot};
