@@ -64,8 +64,8 @@ each call that was answered
 
   BEGIN END cC! REQ = REPLY
 
-with the numbers of the notes with which it began and was answered, one core
-after another. So others can judge the replies, who know no machine.
+BEGIN and END are the numbers of the notes that began and answered the call.
+One core comes after another. A judge that knows no machine can read them.
 
 With each of these --summary writes the numbers of all notes to standard error,
 after a run without a fault, each on a line of its own:
@@ -79,17 +79,17 @@ after a run without a fault, each on a line of its own:
 live --shared runs the script on one machine that all threads share. A core
 makes its call whole while no other core is in one; otherwise it pauses, and
 tries again. Each core may begin calls until all have begun CALLS. In place of
-notes these lines come out, of which audit reads the last ones (help audit):
+notes it writes these lines. audit reads the last ones (help audit):
 
   # cC! REQ = REPLY   the calls of each core, in order of cores, with the
                       replies that its thread had
   cC! REQ = REPLY     after the vm and file lines: all calls in the order in
                       which they took effect
 
-A flush or a review writes no line. No certificate is needed: for every order
-in which threads may take turns, the program is proved to write replies that a
-plain page map gives, and the calls of each core are those of its own lines, in
-their order. Notes tell more, each step, and have to be certified run by run.
+A flush or a review writes no line. No certificate is needed. This is proved,
+however the threads take turns: a plain page map gives the replies, and each
+core's calls are those of its own lines, in their order. Notes tell more, each
+step, and have to be certified run by run.
 
 A core that can't begin a task stops, and its fault is told, with nothing on
 standard output. Of several cores that stop, the least is told:
@@ -202,8 +202,8 @@ A log with accesses is made and read so:
 An access is a call of its first byte, I a fetch, L a load, S a store of 0, and
 M a load and a store; and one of the next page's first byte where it goes on
 there. Calls are kept, changed or left out as those of strace, and files known
-by descriptors. A page that is accessed and that no line has mapped was there
-before the log, and is mapped, rwx, right before that access. All is core 0's,
+by descriptors. If no line has mapped a page that is accessed, it was there
+before the log: it is mapped, rwx, right before that access. All is core 0's,
 since an access names neither thread nor process, and there are 65536 frames.
 
 Status: 0; 2 for bad words, and where nothing was kept: of a log of strace the
@@ -214,10 +214,11 @@ failed. The log, what is taken of it and the trace are held in memory. With
 
 /// What `audit` reads and writes.
 pub const AUDIT: &str = "\
-audit reads calls with the replies that somebody's address space gave, a
-kernel's or a simulator's, in the order in which they happened, and says
-whether a plain page map gives them. It begins with a vm line and file lines,
-as a trace does (help trace). Then each line is one that run --echo writes:
+audit judges the replies of another address space, a kernel's or a simulator's.
+It reads calls with their replies, in the order in which they happened, and
+says whether a plain page map gives these replies. First come a vm line and
+file lines, as in a trace (help trace). Then each line is one that run --echo
+writes:
 
   cC! REQ = REPLY      core C made this call, and had this reply
   cC! REQ = wait ..    it didn't have it yet; cC call REQ = step says so, too
@@ -232,8 +233,9 @@ came while another core's call waited, another order may be the right one: no
 reply is then called illegal. Instead another order is searched, as with
 --overlapping: where one is found they are legal, and else it is undecided.
 
-noframe, where the access would be served, and nomemory are taken and counted,
-and change nothing; with --strict they are illegal. A store that had nomemory
+noframe, where the access would be served, and nomemory are legal, since any
+system may run short: they change nothing, and are counted. With --strict they
+are illegal. A store that had nomemory
 may have left its private page a copy: from there on, too, a reply isn't called
 illegal that isn't right without it.
 
@@ -308,11 +310,10 @@ memory.
 
 /// What `litmus` reads and writes.
 pub const LITMUS: &str = "\
-litmus reads a few calls of several cores, and lists the replies that they can
-have, in whatever order the cores' steps come, and with walks, evictions,
-takes, flushes, reviews and folds anywhere between them. No other replies can
-come but noframe and nomemory: that is proved, for every order. A test has
-these lines:
+litmus reads a few calls of several cores, and lists all replies that they can
+have. The cores' steps may come in any order, and walks, evictions, takes,
+flushes, reviews and folds anywhere between them. No other replies can come but
+noframe and nomemory: that is proved, for every order. A test has these lines:
 
   vm, file          as in help trace
   events            lines of a trace, the opening: they come first, as they
@@ -326,8 +327,8 @@ these lines:
   never COND        it holds of none
   forall COND       it holds of each
 
-final lines and clauses stand anywhere behind together. COND is some of these,
-with and and or between them, of which and binds closer:
+final lines and clauses stand anywhere behind together. COND is one of these,
+or several, joined by the words and, or; and binds closer:
 
   cC.N = REPLY      core C's call N, counted from 1, has this reply
   cC.N != REPLY     it has another one
@@ -359,15 +360,15 @@ many outcomes that have a run COND holds and of how many it doesn't.
 --observed COUNTS reads what another system gave: lines N: OUTCOME, how often
 each outcome came, in the words of the list, as in 12: c0 done; c1 1, 2. Empty
 lines and lines with # in front are passed over. It writes the counts again,
-with (outside) behind an outcome that isn't listed, as one with noframe or
-nomemory never is, and then exact, open or what else ends the list. The clauses
+and (outside) behind an outcome that isn't listed. One with noframe or nomemory
+is never listed. Then comes exact, open or what else ends the list. The clauses
 aren't looked at.
 
 --live N runs the test N times, each time in a new space: its opening in order,
 then each core's calls on a thread of its own, and then loads of the final
-addresses. Each run is certified, as live --certify does it. It writes how often
-each outcome came, as --observed does. A run whose outcome isn't listed would be
-a fault of radixvm. The opening has whole calls, flushes and reviews then.
+addresses. Each run is certified, as live --certify does it. It writes how
+often each outcome came, as --observed does. An outcome that isn't listed would
+be a fault of radixvm. The opening has whole calls, flushes and reviews then.
 
 --to-c writes a C program that makes the calls to a kernel with POSIX threads,
 each core on a thread, and writes such counts. The opening has whole calls,
@@ -405,12 +406,12 @@ steps has one. Each core has a lane. In it lie
   marks    takes, walks, evictions, flushes, reviews, a call that waits, and a
            core that looked for a message and had none
 
-Below, each row is of pages that are mapped and unmapped together, coloured by
-what may be done with them, from the step in which the change is made. What was
+Below, a row shows pages that are mapped and unmapped together. Its colour says
+what may be done with them, from the step that makes the change. What was
 mapped before the first column isn't shown. Point at a bar, a mark or a stretch
-to read what it is: of pages their addresses, rights and BACK, as in help maps,
-with the file's name where the line right before the file's line of the trace
-is a comment # file N NAME, as import writes it.
+to read what it is. Of pages that is their addresses, rights and BACK (help
+maps), and the file's name, if a comment # file N NAME stands right before the
+file's line, as import writes it.
 
   --from N  the first step that is shown: 1 where it is left out. Where the
             trace has fewer there is no picture, and the status is 2

@@ -232,9 +232,9 @@ behind line N isn't looked at.
   epoch E
         the epoch of Refcache (help cores)
   core C CALL DOES [ADDR | START-END]
-        the core has a call, mmap, munmap, mprotect, load, store or fetch, or
-        call where it has its reply; what its next step does, and the page or
-        the pages for which it does it: it
+        the core has this call (mmap, munmap, mprotect, load, store or fetch;
+        or call, where it has its reply), and its next step does this with
+        these pages: it
           checks its arguments; locks, decides on or cuts; looks for room, or
           gives back what it locked in vain; tells cores of the pages, and
           awaits cores for them; translates, looks at, wants a frame for,
@@ -282,8 +282,8 @@ lines before it. Lines are counted from 1, with empty ones and comments.
 
 With --explain, or if standard error is a terminal, the line is shown under the
 fault, with a caret below the word that is wrong, and with what was expected
-there; under read failed, the file and the cause. After the output come notes
-on lines that are accepted and may be mistakes: a core that the vm line doesn't
+there; under read failed, the file and the cause. Behind the output stand notes
+on lines that are accepted but may be mistakes: a core that the vm line doesn't
 give, and an mmap whose FLAGS have neither p nor s.
 
 Common causes of a bad line: PROT of two letters (rw for rw-); 4K, 1_000 or
@@ -317,7 +317,7 @@ again if no call holds one, none has a frame or a core that uses it, and all
 are unmapped or continue one another.
 
 Shootdown. munmap, mprotect and an mmap over pages in use clear them in the
-core's own tables and TLB, and send a message to the other cores that are
+core's own tables and TLB. They send a message to the other cores that are
 recorded on these pages, and to no others. The call reads wait acks C.. until
 each has taken the message twice: the first take clears the core's tables, the
 second its TLB, and acknowledges. Until then that core may still read and write
