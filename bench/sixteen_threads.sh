@@ -17,6 +17,7 @@ for crate in $(cut -d: -f1 "$work/crates.txt"); do
 done
 cp HANDLES "$work"
 cd "$work"
-sed -i "s/^const ASKS: u64 = .*/const ASKS: u64 = $asks;/; s/^const SEEDS: u64 = .*/const SEEDS: u64 = 1;/" crates/test_live/src/thread_tests.rt
+# The other tests stay as they are: their spaces have fewer calls.
+sed -i "/^fn sixteen_threads/,/^}/ { s/count: ASKS/count: $asks/; s/, SEEDS)/, 1)/ }" crates/test_live/src/thread_tests.rt
 rt ci > log 2>&1 || { cat log >&2; exit 3; }
 /usr/bin/time -f "%e s, %M KiB" crates/test_live/out/test_live_tests thread_tests::sixteen_threads
