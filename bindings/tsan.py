@@ -47,6 +47,10 @@ def module(work):
     keeper.unlink()
     keeper.write_text(KEEPER.replace("{kept}", str(work / "module.bc")).replace("{clang}", str(CLANG)))
     keeper.chmod(0o755)
+    # The kit's other tools are links to its clang, and stay those.
+    for link in [link for link in keeper.parent.iterdir() if link.is_symlink()]:
+        link.unlink()
+        link.symlink_to(KIT / "toolchain/bin" / link.name)
     subprocess.run(command(toolchain, work / "libradixvm.a"), cwd=CRATE, check=True, stdout=subprocess.DEVNULL)
     text = work / "module.ll"
     subprocess.run([CLANG, "-S", "-emit-llvm", "-O0", "-Xclang", "-disable-llvm-passes", "-x", "ir", work / "module.bc", "-o", text], check=True)
