@@ -6,6 +6,7 @@ ghost use Rattle.trace.specs.Events.{event_of};
 ghost use Rattle.trace.specs.Gives.{Gives, Wants, WantsFinish, is_event, TellsFinish, TellsFold, TellsStep};
 ghost use Rattle.trace.specs.EventRuns.{Asks, AsksFinish, AsksOne};
 ghost use Rattle.trace.specs.Seen.{Sees};
+ghost use Rattle.trace_text.specs.Front.{step_asked};
 
 use crate::fault::TraceFault;
 use crate::outcome_text::{write_finished, write_outcome};
@@ -13,7 +14,7 @@ use core_steps::{Ledger, Machine};
 use machine_model::{Event, Outcome};
 use slot_lock::SlotMap;
 use std::alloc::Allocator;
-use trace_text::{Action, Line, LineText};
+use trace_text::{Action, AskedStep, Line, LineText};
 use vm_base::{CoreId, NoMemory, Request};
 use watched::{Unwatched, Watch};
 
@@ -68,6 +69,28 @@ fn tell_act<M: SlotMap, A: Allocator + Clone, L: Ledger, X: Watch>(
     ensures err { OnErr result (Wants L.keeps (state machine.old) (Line.Act core action)) }
 {
     tell_step(machine, watch, event_of(core, action), text)
+}
+
+/// One step that the core is to make, known by its word, which no line is made of.
+#[inline(always)]
+pub(crate) fn tell_asked<M: SlotMap, A: Allocator + Clone, L: Ledger, X: Watch>(
+    machine: &mut Machine<M, A, L>,
+    watch: &mut X,
+    core: CoreId,
+    step: AskedStep,
+    text: &mut LineText,
+) -> Result<(), NoMemory>
+    ensures ok { OnOk result (Gives M.can_fold M.folds (state machine.old) (Line.Act core (step_asked step))
+        (state machine.new) text.new.bytes) }
+    ensures seen { OnOk result (Sees X.after watch.old (state machine.old) (Asks (Line.Act core (step_asked step)))
+        (state machine.new) watch.new text.new.bytes) }
+    ensures err { OnErr result (Wants L.keeps (state machine.old) (Line.Act core (step_asked step))) }
+{
+    match step {
+        AskedStep::Take => tell_step(machine, watch, Event::Take(core), text),
+        AskedStep::Flush => tell_step(machine, watch, Event::Flush(core), text),
+        AskedStep::Review => tell_step(machine, watch, Event::Review(core), text),
+    }
 }
 
 // A fold at the page.

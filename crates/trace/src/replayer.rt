@@ -1,9 +1,10 @@
 //! A replay between two lines, and what one line does to it.
-ghost use Rattle.std.specs.Prelude.{◌≡◌, ◌≤◌, ◌⊎◌, ℕ, List, [], Bool, false, option_map, None, IfOk};
+ghost use Rattle.std.specs.Prelude.{◌≡◌, ◌≤◌, ◌⊎◌, ℕ, List, [], Bool, false, option_map, None, Some, IfOk};
 ghost use Rattle.core_steps.specs.Setups.{Fits};
 ghost use Rattle.std.specs.Prelude.{IfErr, IfNone, IfSome, OnOk, IsSomeAnd};
 ghost use Rattle.core_steps.specs.Machine.{state};
 ghost use Rattle.core_steps.specs.declared.setup.CallLimit.TheVariants.{Usual};
+ghost use Rattle.trace_text.specs.Front.{step_asked};
 ghost use Rattle.trace_text.specs.Words.{words_of};
 ghost use Rattle.trace.specs.Stage.{Stage, Start, Declared, stage_of, Opens, OpenFails, CanOpen, Acts};
 ghost use Rattle.trace.specs.Stage.{BadFails, EventActs, EventFails, EventWants, FileFails, LateFails};
@@ -12,7 +13,7 @@ ghost use Rattle.trace.specs.Seen.{Grows, SeesAll, SeesEvent};
 ghost use Rattle.trace.specs.Shown.{HasNoneAt, IsNextAt, IsStartAt, log_at};
 
 use crate::declaration::{Declaration, FileLine};
-use crate::event_lines::watch_line;
+use crate::event_lines::{tell_asked, watch_line};
 use crate::fault::TraceFault;
 use core_steps::{CallLimit, Ledger, Machine, Opening, SetupFault};
 use mmu::{Cpu, Hardware};
@@ -20,9 +21,10 @@ use radix_range::RadixMap;
 use slot_lock::{MapLine, SlotMap};
 use std::alloc::Allocator;
 use trace_text::{
-    Line, LineText, first_word_is_file, first_word_is_vm, is_printable_line, read_access, read_line,
+    AskedStep, Line, LineText, first_word_is_file, first_word_is_vm, is_printable_line,
+    read_access, read_line, read_step,
 };
-use vm_base::Entry;
+use vm_base::{CoreId, Entry};
 use watched::Watch;
 
 /// What acts on the lines of a trace, one at a time.
@@ -292,6 +294,36 @@ impl<A: Allocator + Clone + Drop, L: Opening<A> + Drop, X: Watch + Drop> Replaye
             None => self.act_on_first_event(number, line, text),
         }
     }
+
+    // Acts on a line that tells a core one step by its word.
+    #[inline(always)]
+    fn act_on_step(
+        &mut self,
+        number: u64,
+        core: CoreId,
+        step: AskedStep,
+        text: &mut LineText,
+    ) -> Result<(), TraceFault>
+        ensures ok { OnOk result (EventActs (⟦<Self as Staged>⟧.stage self.old) (Line.Act core (step_asked step))
+            (⟦<Self as Staged>⟧.stage self.new) text.new.bytes) }
+        ensures seen { OnOk result (SeesEvent X.after (⟦<Self as Staged>⟧.stage self.old) self.old.watch
+            (Line.Act core (step_asked step)) (⟦<Self as Staged>⟧.stage self.new) self.new.watch text.new.bytes) }
+        ensures err { IfErr result
+            (λ f. ((f ≡ TraceFault.NoMemory) × EventWants L.keeps (⟦<Self as Staged>⟧.stage self.old)
+            (Line.Act core (step_asked step)))
+            ⊎ EventFails (⟦<Self as Staged>⟧.stage self.old) number (Some (Line.Act core (step_asked step))) f) }
+    {
+        match &mut self.machine {
+            Some(machine) => match tell_asked(machine, &mut self.watch, core, step, text) {
+                Ok(()) => Ok(()),
+                Err(_) => Err(TraceFault::NoMemory),
+            },
+            None => {
+                let line = Line::Act(core, step.action());
+                self.act_on_first_event(number, Some(line), text)
+            }
+        }
+    }
 }
 
 impl<A: Allocator + Clone + Drop, L: Opening<A> + Drop, X: Watch + Drop> Staged
@@ -303,10 +335,15 @@ impl<A: Allocator + Clone + Drop, L: Opening<A> + Drop, X: Watch + Drop> Staged
     ghost saw = { λ first now lines text. SeesAll X.after first.watch
         (stage_of now.limit now.declaration (option_map state now.machine)) lines text now.watch };
 
+    // It is inlined although several words replay: a call for each line costs a tenth of a hit.
+    #[inline(always)]
     fn act(&mut self, number: u64, line: &[u8], text: &mut LineText) -> Result<(), TraceFault> {
         if let Some(begun) = read_access(line) {
             let request = begun.1.request();
             return self.act_on_event(number, Some(Line::Now(begun.0, request)), text);
+        }
+        if let Some(told) = read_step(line) {
+            return self.act_on_step(number, told.0, told.1, text);
         }
         let said = read_line(line);
         if !is_printable_line(line, &said) {

@@ -277,6 +277,19 @@ told_some bytes args core line begins e =
     e ∙ sym (ap (λ b. line_of_words (words_of b)) begins.is ∙ ap line_of_words (told_words core args begins.low)
     ∙ acts (99 ∷ decimal core) core (words_of args) (core_all (99 ∷ decimal core) core (begins.low, refl)))
 
+-- such a line is no comment
+pub told_said : (bytes words : List ℕ) (core : ℕ) (line : Line) → BeginsCore bytes core words → Some line ≡ task_of core (words_of words)
+    → Some line ≡ line_of bytes
+told_said bytes words core line begins e =
+    let same : line_of_words (words_of bytes) ≡ line_of bytes =
+    subst (λ b. line_of_words (words_of b) ≡ line_of b) (sym begins.is) refl in
+    told_some bytes words core line begins e ∙ same
+
+pub told_printable : (bytes words : List ℕ) (core : ℕ) (line : Line) → BeginsCore bytes core words → Some line ≡ task_of core (words_of words)
+    → are_printable bytes ≡ true
+told_printable bytes words core line begins e =
+    line_printable bytes (Some line) (ap is_comment begins.is) refl (told_said bytes words core line begins e)
+
 -- one digit names a core, and two do
 pub one_named : (digit : ℕ) → 48 ≤ digit → digit ≤ 57 → NamesByOne digit (digit - 48)
 one_named digit low high = (omega arith, decimal_digit (digit - 48) (omega arith) ∙ ap (λ x. x ∷ []) (omega arith))

@@ -6,6 +6,10 @@ use Rattle.vm_base.specs.declared.requests.Request.TheVariants.{Load, Store}
 use Rattle.trace_text.specs.Words.{byte}
 use Rattle.trace_text.specs.Number.{value_from}
 use Rattle.trace_text.specs.declared.access_line.AskedAccess.{AskedAccess}
+use Rattle.trace_text.specs.declared.action.Action.{Action}
+use Rattle.trace_text.specs.declared.action.Action.TheVariants as Action
+use Rattle.trace_text.specs.declared.step_line.AskedStep.{AskedStep}
+use Rattle.trace_text.specs.declared.step_line.AskedStep.TheVariants.{Take, Flush, Review}
 
 -- the value of the digits before the first space, which are some, and the bytes from there on
 pub record EndsValue (base : ℕ) (digits : List ℕ) (number : ℕ) (others : List ℕ) : Type 0 where
@@ -38,3 +42,9 @@ NamesByTwo tens ones core = (core < 64) × (decimal core ≡ tens ∷ ones ∷ [
 -- the request for such an access
 abbrev pub access_asked : AskedAccess → Request
 access_asked access = if access.is_store then Store access.addr access.byte else Load access.addr
+
+-- the action that such a step is
+abbrev pub step_asked : AskedStep → Action
+step_asked Take = Action.Take
+step_asked Flush = Action.Flush
+step_asked Review = Action.Review

@@ -144,7 +144,7 @@ fn behind_evict(bytes: &[u8]) -> Option<&[u8]>
 
 // Tells whether these bytes are `take`.
 #[inline(always)]
-fn is_take(bytes: &[u8]) -> bool
+pub(crate) fn is_take(bytes: &[u8]) -> bool
     ensures { result ≡ true → bytes.now ≡ codes "take" }
 {
     match bytes {
@@ -155,7 +155,7 @@ fn is_take(bytes: &[u8]) -> bool
 
 // Tells whether these bytes are `flush`.
 #[inline(always)]
-fn is_flush(bytes: &[u8]) -> bool
+pub(crate) fn is_flush(bytes: &[u8]) -> bool
     ensures { result ≡ true → bytes.now ≡ codes "flush" }
 {
     match bytes {
@@ -166,7 +166,7 @@ fn is_flush(bytes: &[u8]) -> bool
 
 // Tells whether these bytes are `review`.
 #[inline(always)]
-fn is_review(bytes: &[u8]) -> bool
+pub(crate) fn is_review(bytes: &[u8]) -> bool
     ensures { result ≡ true → bytes.now ≡ codes "review" }
 {
     match bytes {

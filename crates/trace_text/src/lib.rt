@@ -15,6 +15,7 @@ pub mod printing;
 pub mod request;
 pub mod sign;
 pub mod space_line;
+pub mod step_line;
 pub mod value;
 pub mod words;
 
@@ -30,3 +31,4 @@ pub use printing::{
     LineText, ShortText, address_text, number_text, push_address, push_count, push_letter,
     push_number, push_reply, push_word,
 };
+pub use step_line::{AskedStep, read_step};

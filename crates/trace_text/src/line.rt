@@ -204,9 +204,9 @@ fn two_digits_core(bytes: &[u8]) -> Option<(CoreId, &[u8])>
     }
 }
 
-// A core with one action, and the bytes of the action.
+/// A core with one action, and the bytes of the action.
 #[inline(always)]
-fn front_core(bytes: &[u8]) -> Option<(CoreId, &[u8])>
+pub(crate) fn front_core(bytes: &[u8]) -> Option<(CoreId, &[u8])>
     ensures { IfSome result (λ f. BeginsCore bytes.now f.0 f.1.now) }
 {
     if let Some(begun) = one_digit_core(bytes) {

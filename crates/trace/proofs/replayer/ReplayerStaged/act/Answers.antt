@@ -1,7 +1,8 @@
 use Rattle.std.proofs.Common.{◌≡◌, Some, true, rules, ap, refl, sym, ◌∙◌}
 use Rattle.std.proofs.lemmas.Result.{on_ok_weaker}
 use Rattle.trace_text.specs.Line.{are_printable, line_of}
-use Rattle.trace_text.specs.declared.line.Line.TheVariants.{Now}
+use Rattle.trace_text.specs.Front.{step_asked}
+use Rattle.trace_text.specs.declared.line.Line.TheVariants.{Act, Now}
 use Rattle.trace.specs.Gives.{is_event}
 use Rattle.trace.proofs.Acting.{event_acts, event_failed}
 use Rattle.trace.proofs.Seeing.{blank_grows, event_line_grows, file_grows, space_grows}
@@ -56,4 +57,19 @@ returns-in-Some g c =
           c.act_on_event.ensures.seen;
       err = event_failed g.L.Ledger.keeps c.act_on_event.result _ c.args.number c.args.line.now (Some (Now c.in-Some.begun.0 c.request-request.result)) p e refl
           c.act_on_event.ensures.err;
+    }
+
+pub returns-in-Some-read_step : goal.returns-in-Some-read_step
+returns-in-Some-read_step g c =
+    let p : are_printable c.args.line.now ≡ true = c.in-Some-read_step.ensures.printable in
+    let e : Some (Act c.in-Some-read_step.told.0 (step_asked c.in-Some-read_step.told.1)) ≡ line_of c.args.line.now = c.in-Some-read_step.ensures.said in
+    record {
+      ok = on_ok_weaker c.act_on_step.result (λ h. event_acts _ _ c.args.line.now _ (Some (Act c.in-Some-read_step.told.0
+          (step_asked c.in-Some-read_step.told.1))) p e refl h) c.act_on_step.ensures.ok;
+      seen = on_ok_weaker c.act_on_step.result (λ h first lines before s. event_line_grows g.X.Watch.after first.watch c.args.self.now.watch
+          c.act_on_step.new.self.watch _ _ lines c.args.line.now before c.act_on_step.new.text.bytes
+          (Some (Act c.in-Some-read_step.told.0 (step_asked c.in-Some-read_step.told.1))) e h s)
+          c.act_on_step.ensures.seen;
+      err = event_failed g.L.Ledger.keeps c.act_on_step.result _ c.args.number c.args.line.now
+          (Some (Act c.in-Some-read_step.told.0 (step_asked c.in-Some-read_step.told.1))) p e refl c.act_on_step.ensures.err;
     }
