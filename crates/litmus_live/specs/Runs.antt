@@ -1,5 +1,5 @@
 -- What comes out of runs of a litmus test on threads
-use Rattle.std.specs.Prelude.{◌≡◌, ℕ, List, [], ◌++◌, All, length, map, true}
+use Rattle.std.specs.Prelude.{◌≡◌, ℕ, List, [], ◌∷◌, ◌++◌, All, length, map, true}
 use Rattle.vm_base.specs.declared.replies.Reply.{Reply}
 use Rattle.slot_lock.specs.Slots.{Slots}
 use Rattle.machine_model.specs.declared.event.Event.{Event}
@@ -23,8 +23,15 @@ pub record IsRunOf (declared : Declared) (notes : List Noted) : Type 0 where
   pub end : World
   pub run : Run (new_world (made_by declared) slots) (events_in_order notes) (outcomes_in_order notes) end
 
--- The first of the events perform the calls of the opening, those behind them the calls of the lists with these replies, and the last ones
--- the loads with these.
+-- The calls are performed one after another: the first of the events perform the first call, and those behind them the others in order.
+abbrev pub PerformsInOrder : List Asked → List Event → List Outcome → Type 0
+PerformsInOrder [] events outcomes = PerformsScript [] [] events outcomes
+PerformsInOrder (call ∷ calls) events outcomes = (first rest : List Event) × (came others : List Outcome) × (replies : List Reply)
+    × PerformsScript (call ∷ []) replies first came × (events ≡ first ++ rest) × (outcomes ≡ came ++ others)
+    × PerformsInOrder calls rest others
+
+-- The first of the events perform the calls of the opening, in the order of its lines, those behind them the calls of the lists with these
+-- replies, and the last ones the loads with these.
 pub record ReadsAs (before calls loads : List Asked) (replies finals : List Reply) (events : List Event) (outcomes : List Outcome) : Type 0
   where
     pub first : List Event
@@ -35,8 +42,7 @@ pub record ReadsAs (before calls loads : List Asked) (replies finals : List Repl
     pub middles : List Outcome
     pub lasts : List Outcome
     pub came : outcomes ≡ firsts ++ middles ++ lasts
-    pub given : List Reply
-    pub opens : PerformsScript before given first firsts
+    pub opens : PerformsInOrder before first firsts
     pub performs : PerformsScript calls replies middle middles
     pub shows : PerformsScript loads finals last lasts
 

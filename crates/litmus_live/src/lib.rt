@@ -6,6 +6,7 @@ pub mod came;
 mod counts;
 pub mod fault;
 mod following;
+mod in_order;
 mod reading;
 pub mod running;
 

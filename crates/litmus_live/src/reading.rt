@@ -8,8 +8,8 @@ use outcomes::perform;
 use std::alloc::Global;
 use vm_base::{CoreId, NoMemory, Reply};
 
-// The reply that an event hands out to the core, if it does.
-fn told(event: Event, outcome: Outcome, core: CoreId) -> Option<Reply> {
+/// The reply that an event hands out to the core, if it does.
+pub(crate) fn told(event: Event, outcome: Outcome, core: CoreId) -> Option<Reply> {
     let Outcome::Answered(reply) = outcome else {
         return None;
     };

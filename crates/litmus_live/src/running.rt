@@ -14,6 +14,7 @@ use crate::came::{Came, TestRun};
 use crate::counts::counts_of;
 use crate::fault::LiveTestFault;
 use crate::following::steps_of;
+use crate::in_order::perform_in_order;
 use crate::reading::{are_plain, replies_of};
 use certifier::certify_standing;
 use certifier::order::{Standing, standings};
@@ -149,9 +150,10 @@ fn read_steps(
     let (middle, last) = rest.split_at(marks.ran - marks.opened);
     let (firsts, others) = outcomes.split_at(marks.opened);
     let (middles, lasts) = others.split_at(marks.ran - marks.opened);
-    let Some(_given) = replies_of(alloc, test.before, first, firsts)? else {
+    let opens = perform_in_order(alloc, test.before, first, firsts)?;
+    if !opens {
         return Err(LiveTestFault::NotCertified);
-    };
+    }
     let Some(replies) = replies_of(alloc, test.calls, middle, middles)? else {
         return Err(LiveTestFault::NotCertified);
     };
