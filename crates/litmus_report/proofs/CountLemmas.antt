@@ -1,5 +1,6 @@
 -- Counts, one after another.
-use Rattle.std.proofs.Common.{◌≡◌, ℕ, suc, ◌+◌, Bool, true, false, if◌then◌else◌, List, [], ◌∷◌, ◌++◌, Option, Some, None, Vec, drop, map, refl, sym, ap, ◌∙◌, append-nil, append_assoc, arith}
+use Rattle.std.proofs.Common.{◌≡◌, ℕ, suc, ◌+◌, Bool, true, false, if◌then◌else◌, List, [], ◌∷◌, ◌++◌, Option, Some, None, Vec, drop, map, refl, sym}
+use Rattle.std.proofs.Common.{ap, ◌∙◌, append-nil, append_assoc, arith}
 use Rattle.std.specs.List.{flat_map}
 use Rattle.litmus_report.specs.Counts.{bad_line, bytes_of, is_bad}
 

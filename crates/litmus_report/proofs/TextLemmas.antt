@@ -1,5 +1,6 @@
 -- What is appended, piece by piece.
-use Rattle.std.proofs.Common.{◌≡◌, ℕ, suc, ◌+◌, ◌<◌, ◌≤◌, ◌⊎◌, inl, inr, List, [], ◌∷◌, ◌++◌, length, drop, get_or, refl, sym, ap, ◌∙◌, append-nil, append_assoc, arith}
+use Rattle.std.proofs.Common.{◌≡◌, ℕ, suc, ◌+◌, ◌<◌, ◌≤◌, ◌⊎◌, inl, inr, List, [], ◌∷◌, ◌++◌, length, drop, get_or, refl, sym, ap, ◌∙◌, append-nil}
+use Rattle.std.proofs.Common.{append_assoc, arith}
 use Rattle.std.proofs.lemmas.List.{drop_more, drop_all}
 use Rattle.vm_base.specs.declared.replies.Reply.{Reply}
 use Rattle.combinations.specs.declared.asked.Asked.{Asked}
@@ -18,7 +19,8 @@ written_all out left whole h e = sym (append-nil out) ∙ ap (λ l. out ++ l) (s
 -- one reply more
 pub replies_more : (before : ℕ) (calls : List Asked) (replies : List Reply) (n : ℕ) (d : Asked) (e : Reply) → n < length calls → n < length replies
     → replies_text before (drop n calls) (drop n replies)
-    ≡ (lead_in before (get_or calls n d).core ++ text_of (get_or replies n e)) ++ replies_text (get_or calls n d).core (drop (n + 1) calls) (drop (n + 1) replies)
+    ≡ (lead_in before (get_or calls n d).core ++ text_of (get_or replies n e))
+    ++ replies_text (get_or calls n d).core (drop (n + 1) calls) (drop (n + 1) replies)
 replies_more before calls replies n d e p q =
     ap (λ cs. replies_text before cs (drop n replies)) (drop_more calls n d p)
     ∙ ap (λ rs. replies_text before (get_or calls n d ∷ drop (n + 1) calls) rs) (drop_more replies n e q)

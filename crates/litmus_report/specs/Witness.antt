@@ -1,5 +1,6 @@
 -- The lines of a trace that stand for events.
-use Rattle.std.specs.Prelude.{◌≡◌, ℕ, suc, ◌<◌, ◌≤◌, Bool, true, false, ◌||◌, List, [], ◌∷◌, ◌++◌, ◌==◌, codes, decimal, drop, length, min, take, if◌then◌else◌, replicate}
+use Rattle.std.specs.Prelude.{◌≡◌, ℕ, suc, ◌<◌, ◌≤◌, Bool, true, false, ◌||◌, List, [], ◌∷◌, ◌++◌, ◌==◌, codes, decimal, drop, length, min, take}
+use Rattle.std.specs.Prelude.{if◌then◌else◌, replicate}
 use Rattle.trace_text.specs.Lists.{start_of}
 use Rattle.std.specs.List.{flat_map}
 use Rattle.machine_model.specs.declared.event.Event.{Event}

@@ -2,7 +2,8 @@
 ghost use Rattle.std.specs.Prelude.{◌≡◌, ◌≤◌, ◌++◌, IfOk, OnOk, length, map, option_map};
 ghost use Rattle.std.specs.List.{flat_map, list_any};
 ghost use Rattle.trace_io.specs.Lines.{lines_of};
-ghost use Rattle.litmus_report.specs.Counts.{bad_line, behind_colon, bytes_of, count_line, counted, counts_status, counts_text, digits_before, has_outside, is_bad, is_digit};
+ghost use Rattle.litmus_report.specs.Counts.{bad_line, behind_colon, bytes_of, count_line, counted, counts_status, counts_text, digits_before};
+ghost use Rattle.litmus_report.specs.Counts.{has_outside, is_bad, is_digit};
 ghost use Rattle.litmus_report.specs.Counts.{is_listed, is_outside, is_passed, mark_by, mark_of, marked_text, outside_status, plain_texts};
 ghost use Rattle.litmus_report.specs.Reports.{known};
 

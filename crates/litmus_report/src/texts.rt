@@ -3,7 +3,8 @@ ghost use Rattle.std.specs.Prelude.{◌≡◌, ◌+◌, ◌≤◌, ◌++◌, IfO
 ghost use Rattle.notes_text.specs.Written.{core_word};
 ghost use Rattle.trace_text.specs.Printing.{address_of, text_of};
 ghost use Rattle.litmus_text.specs.Scripts.{claim_of};
-ghost use Rattle.litmus_report.specs.Texts.{call_text, clause_text, counts_text, fact_text, final_text, finals_text, joint_text, lead_in, more_text, often_text};
+ghost use Rattle.litmus_report.specs.Texts.{call_text, clause_text, counts_text, fact_text, final_text, finals_text, joint_text, lead_in, more_text};
+ghost use Rattle.litmus_report.specs.Texts.{often_text};
 ghost use Rattle.litmus_report.specs.Counts.{plain_text};
 ghost use Rattle.litmus_report.specs.Texts.{observation_text, outcome_text, quantifier_text, reached_text, replies_text, terms_text, verdict_text};
 

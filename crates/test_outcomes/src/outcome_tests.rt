@@ -43,6 +43,22 @@ fn munmap(addr: u64, len: u64) -> Request {
     Request::Munmap { addr, len }
 }
 
+fn asked(core: CoreId, request: Request) -> Asked {
+    Asked { core, request }
+}
+
+/// Two cores, and a file of a page whose bytes count up from 0.
+fn with_a_file() -> Declaration {
+    let mut declared = Declaration::new(2, 16, 1000);
+    let file = FileLine {
+        mode: Mode::RW,
+        len: 4096,
+        seed: 0,
+    };
+    let _added = declared.add(0, file);
+    declared
+}
+
 /// Whether one of the outcomes has these replies, call by call, and a witness.
 fn has(outcomes: &Outcomes<Global>, replies: &[Reply]) -> bool {
     'list: for at in 0..outcomes.list.len() {
@@ -52,6 +68,17 @@ fn has(outcomes: &Outcomes<Global>, replies: &[Reply]) -> bool {
         }
     }
     false
+}
+
+/// Whether one of the outcomes has these bytes behind two stores.
+fn has_bytes(outcomes: &Outcomes<Global>, first: u8, second: u8) -> bool {
+    let replies = [
+        Reply::Done,
+        Reply::Done,
+        Reply::Byte(first),
+        Reply::Byte(second),
+    ];
+    has(outcomes, &replies)
 }
 
 /// A load against a munmap: the byte of before, or no mapping.
@@ -66,16 +93,7 @@ fn a_load_against_a_munmap(rt: HostRuntime) -> Result<(), Fail> {
         Opened::Whole(zero, store(ADDR, 65)),
         Opened::Whole(one, load(ADDR)),
     ];
-    let calls = [
-        Asked {
-            core: zero,
-            request: munmap(ADDR, 4096),
-        },
-        Asked {
-            core: one,
-            request: load(ADDR),
-        },
-    ];
+    let calls = [asked(zero, munmap(ADDR, 4096)), asked(one, load(ADDR))];
     let Ok(found) = list_outcomes(alloc, &declared, &opening, &calls, &[], 1000) else {
         return Err(Fail::new("nothing was listed"));
     };
@@ -102,18 +120,9 @@ fn pages_go_together(rt: HostRuntime) -> Result<(), Fail> {
         Opened::Whole(one, load(ADDR + 4096)),
     ];
     let calls = [
-        Asked {
-            core: zero,
-            request: munmap(ADDR, 8192),
-        },
-        Asked {
-            core: one,
-            request: load(ADDR),
-        },
-        Asked {
-            core: one,
-            request: load(ADDR + 4096),
-        },
+        asked(zero, munmap(ADDR, 8192)),
+        asked(one, load(ADDR)),
+        asked(one, load(ADDR + 4096)),
     ];
     let Ok(found) = list_outcomes(alloc, &declared, &opening, &calls, &[], 1000) else {
         return Err(Fail::new("nothing was listed"));
@@ -138,13 +147,7 @@ fn a_copy_stands_apart(rt: HostRuntime) -> Result<(), Fail> {
     let alloc = rt.alloc();
     let zero = CoreId::new(0);
     let one = CoreId::new(1);
-    let mut declared = Declaration::new(2, 16, 1000);
-    let file = FileLine {
-        mode: Mode::RW,
-        len: 4096,
-        seed: 0,
-    };
-    let _added = declared.add(0, file);
+    let declared = with_a_file();
     let opening = [
         Opened::Whole(zero, mapped(ADDR, 4096, false, false)),
         Opened::Whole(zero, mapped(0x20000, 4096, false, true)),
@@ -152,52 +155,20 @@ fn a_copy_stands_apart(rt: HostRuntime) -> Result<(), Fail> {
         Opened::Whole(one, load(0x20000)),
     ];
     let calls = [
-        Asked {
-            core: zero,
-            request: store(ADDR + 5, 99),
-        },
-        Asked {
-            core: one,
-            request: store(0x20006, 77),
-        },
-        Asked {
-            core: one,
-            request: load(ADDR + 5),
-        },
-        Asked {
-            core: one,
-            request: load(ADDR + 6),
-        },
+        asked(zero, store(ADDR + 5, 99)),
+        asked(one, store(0x20006, 77)),
+        asked(one, load(ADDR + 5)),
+        asked(one, load(ADDR + 6)),
     ];
     let Ok(found) = list_outcomes(alloc, &declared, &opening, &calls, &[], 1000) else {
         return Err(Fail::new("nothing was listed"));
     };
     assert!(rt; found.whole);
     assert_eq!(rt; found.list.len(), 4);
-    assert!(rt;
-        has(
-            &found,
-            &[Reply::Done, Reply::Done, Reply::Byte(5), Reply::Byte(6)]
-        )
-    );
-    assert!(rt;
-        has(
-            &found,
-            &[Reply::Done, Reply::Done, Reply::Byte(5), Reply::Byte(77)]
-        )
-    );
-    assert!(rt;
-        has(
-            &found,
-            &[Reply::Done, Reply::Done, Reply::Byte(99), Reply::Byte(6)]
-        )
-    );
-    assert!(rt;
-        has(
-            &found,
-            &[Reply::Done, Reply::Done, Reply::Byte(99), Reply::Byte(77)]
-        )
-    );
+    assert!(rt; has_bytes(&found, 5, 6));
+    assert!(rt; has_bytes(&found, 5, 77));
+    assert!(rt; has_bytes(&found, 99, 6));
+    assert!(rt; has_bytes(&found, 99, 77));
     Ok(())
 }
 
@@ -222,18 +193,9 @@ fn three_unmap_at_once(rt: HostRuntime) -> Result<(), Fail> {
         Opened::Whole(two, load(ADDR + 8192)),
     ];
     let calls = [
-        Asked {
-            core: zero,
-            request: munmap(ADDR, 4096),
-        },
-        Asked {
-            core: one,
-            request: munmap(ADDR + 4096, 4096),
-        },
-        Asked {
-            core: two,
-            request: munmap(ADDR + 8192, 4096),
-        },
+        asked(zero, munmap(ADDR, 4096)),
+        asked(one, munmap(ADDR + 4096, 4096)),
+        asked(two, munmap(ADDR + 8192, 4096)),
     ];
     let Ok(found) = list_outcomes(alloc, &declared, &opening, &calls, &[], 1000) else {
         return Err(Fail::new("nothing was listed"));

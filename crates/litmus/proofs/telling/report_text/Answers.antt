@@ -8,5 +8,6 @@ returns g c = record {
   searched = c.searched_of-searched.result;
   whole = c.searched_of-searched.ensures.whole;
   limit_is = c.searched_of-searched.ensures.limit;
-  is = rw (sym c.as_slice.ensures.value) (rw (sym c.as_slice-2.ensures.value) (rw (sym c.as_slice-3.ensures.value) (rw (sym c.as_slice-4.ensures.value) c.in_ok-text.ensures)));
+  is = rw (sym c.as_slice.ensures.value) (rw (sym c.as_slice-2.ensures.value) (rw (sym c.as_slice-3.ensures.value)
+      (rw (sym c.as_slice-4.ensures.value) c.in_ok-text.ensures)));
 }
