@@ -2,3 +2,4 @@ mod EchoLemmas
 mod LitmusLemmas
 mod PictureLemmas
 mod StateLemmas
+mod WitnessLemmas

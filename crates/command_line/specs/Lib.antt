@@ -7,4 +7,5 @@ pub mod Listing
 pub mod Picture
 pub mod State
 pub mod Status
+pub mod Witness
 pub mod Words

@@ -12,6 +12,7 @@ use Rattle.command_line.specs.Picture.{PictureEnds}
 use Rattle.command_line.specs.Status.{accesses_status, audit_status, certified_live_status, certified_status, live_status, log_status, picture_status}
 use Rattle.command_line.specs.Status.{each_status, judgement_status}
 use Rattle.command_line.specs.Status.{review_status, told_status}
+use Rattle.command_line.specs.Witness.{PicturesWitness}
 use Rattle.command_line.specs.declared.words.Work.{Work}
 use Rattle.command_line.specs.declared.words.Work.TheVariants as For
 use Rattle.command_line.specs.declared.job.Shows.{Shows}
@@ -134,3 +135,4 @@ DoesWork A parts CanFold Folds (For.AuditAll terms) list text out n = ReviewsRep
 DoesWork A parts CanFold Folds (For.Overlapping overlaps) list text out n = JudgesOrGivesUp A overlaps.any_place text out n
 DoesWork A parts CanFold Folds (For.Picture drawing) list text out n = PicturesTrace drawing text out n
 DoesWork A parts CanFold Folds (For.Litmus test) list text out n = TellsTest test list text out n
+DoesWork A parts CanFold Folds (For.PictureWitness asked) list text out n = PicturesWitness asked text out n

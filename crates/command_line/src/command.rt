@@ -21,6 +21,7 @@ use crate::picturing::{Drawing, picture};
 pub use crate::telling::{WordsFault, refuse_words};
 use crate::telling::{tell, tell_cause, tell_of_terminal};
 use crate::terminals::Terminals;
+use crate::witnessing::picture_witness;
 use crate::words::{Task, Told, Work, parse};
 use core_steps::CallLimit;
 use import_text::each::Part;
@@ -108,6 +109,9 @@ fn act<T: Threads + Wait + Sync, R: Runner<Global>, L: Source, S: Source, W: Sin
                     test,
                 )
             }
+            Work::PictureWitness(asked) => {
+                picture_witness(alloc, test_name(task.file), reader, out, errors, asked)
+            }
         },
         Err(told) => Ended {
             status: tell(alloc, &told, out, errors),
@@ -155,6 +159,7 @@ fn manner_of(work: Work, coloured: bool) -> Manner {
         Work::Picture(Drawing::Lives) => (Kind::Trace, CallLimit::Long, false),
         Work::Picture(_)
         | Work::Litmus(_)
+        | Work::PictureWitness(_)
         | Work::Import(_)
         | Work::ImportEach
         | Work::ImportAccesses => { (Kind::Trace, CallLimit::Usual, false) }
@@ -181,6 +186,7 @@ fn example_of(work: Work) -> &'static str {
         | Work::Echo { .. }
         | Work::Picture(_)
         | Work::Litmus(_)
+        | Work::PictureWitness(_)
         | Work::Audit(_)
         | Work::AuditAll(_)
         | Work::Overlapping(_) => "vm 1 4",

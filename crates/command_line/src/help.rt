@@ -27,7 +27,8 @@ radixvm run [--summary | [--echo] [--log]] [--long] [--explain] [FILE]
                      [--strict] [--all]] [--any-place] [--explain] [FILE]
        radixvm picture [--lives | [--from N] [--to N]] [--explain] [FILE]
        radixvm litmus [--to-c | [--limit N] [--list | --witness N |
-                      --observed COUNTS | --live N]] [--explain] [FILE]
+                      --picture N | --observed COUNTS | --live N]]
+                      [--explain] [FILE]
        radixvm help [TOPIC]";
 
 /// What the program is for, its words, and where to read on.
@@ -48,7 +49,8 @@ Usage: radixvm run [--summary | [--echo] [--log]] [--long] [--explain] [FILE]
                      [--strict] [--all]] [--any-place] [--explain] [FILE]
        radixvm picture [--lives | [--from N] [--to N]] [--explain] [FILE]
        radixvm litmus [--to-c | [--limit N] [--list | --witness N |
-                      --observed COUNTS | --live N]] [--explain] [FILE]
+                      --picture N | --observed COUNTS | --live N]]
+                      [--explain] [FILE]
        radixvm help [TOPIC]
 
 Words:

@@ -28,4 +28,5 @@ mod stating;
 mod summing;
 mod telling;
 pub mod terminals;
+mod witnessing;
 mod words;

@@ -46,8 +46,8 @@ pub(crate) fn test_name(file: Option<&str>) -> &str {
     }
 }
 
-// Prints why nothing is told of a test, and answers the status: 2 where the text is at fault, 3 where its surroundings are.
-fn refuse<E: Write>(fault: RunFault, errors: &mut E) -> Ended
+/// Prints why nothing is told of a test, and answers the status: 2 where the text is at fault, 3 where its surroundings are.
+pub(crate) fn refuse<E: Write>(fault: RunFault, errors: &mut E) -> Ended
     ensures status { result.status ≡ litmus_status fault }
     ensures within { result.status ≤ 3 }
 {

@@ -256,8 +256,8 @@ fn draw_all_lives<W: Sink>(
     }
 }
 
-// Replays the trace, and writes this picture of it.
-fn draw_text<W: Sink, E: Write>(
+/// Replays the trace, and writes this picture of it.
+pub(crate) fn draw_text<W: Sink, E: Write>(
     alloc: Global,
     trace: &[u8],
     out: &mut W,

@@ -3,6 +3,7 @@ ghost use Rattle.std.specs.Prelude.{◌≡◌};
 ghost use Rattle.import_text.specs.declared.processes.Choice.{Choice};
 ghost use Rattle.command_line.specs.declared.job.Shows.{Shows};
 ghost use Rattle.command_line.specs.declared.litmus_tests.Test.{Test};
+ghost use Rattle.command_line.specs.declared.witnessing.WitnessPicture.{WitnessPicture};
 ghost use Rattle.core_steps.specs.declared.setup.CallLimit.{CallLimit};
 
 use crate::help;
@@ -10,6 +11,7 @@ use crate::help::{Topic, page, topic_named};
 use crate::job::Shows;
 use crate::litmus_tests::{POINTS, Test};
 use crate::picturing::{Drawing, Steps};
+use crate::witnessing::WitnessPicture;
 use audit_text::Terms;
 use clap::{Arg, ArgAction, ArgMatches, Command, Error, value_parser};
 use core_steps::CallLimit;
@@ -62,6 +64,8 @@ pub(crate) enum Work {
     Picture(Drawing),
     /// The outcomes of a litmus test.
     Litmus(Test),
+    /// The picture of a witness of one of them.
+    PictureWitness(WitnessPicture),
 }
 
 /// How calls that overlap are judged.
@@ -159,7 +163,7 @@ const AUDIT_USAGE: &str =
     "radixvm audit [--overlapping [--given IN] [--order OUT] | [--strict] [--all]] [--any-place] [--explain] [FILE]";
 
 const LITMUS_USAGE: &str =
-    "radixvm litmus [--to-c | [--limit N] [--list | --witness N | --observed COUNTS | --live N]] [--explain] [FILE]";
+    "radixvm litmus [--to-c | [--limit N] [--list | --witness N | --picture N | --observed COUNTS | --live N]] [--explain] [FILE]";
 
 const STATE_USAGE: &str = "radixvm state [--at N] [--explain] [FILE]";
 
@@ -194,23 +198,30 @@ fn picturing<'a>(alloc: Global) -> Result<Command<'a>, AllocError> {
 // The word `litmus` with what may stand after it.
 fn litmus_word<'a>(alloc: Global) -> Result<Command<'a>, AllocError> {
     let list = flag(alloc, "list").conflicts_with("witness")?;
+    let picture = number(alloc, "picture")
+        .conflicts_with("list")?
+        .conflicts_with("witness")?;
     let observed = Arg::new(alloc, "observed")
         .long("observed")
         .conflicts_with("list")?
-        .conflicts_with("witness")?;
+        .conflicts_with("witness")?
+        .conflicts_with("picture")?;
     let live = number(alloc, "live")
         .conflicts_with("list")?
         .conflicts_with("witness")?
+        .conflicts_with("picture")?
         .conflicts_with("observed")?;
     let program = flag(alloc, "to-c")
         .conflicts_with("live")?
         .conflicts_with("limit")?
         .conflicts_with("list")?
         .conflicts_with("witness")?
+        .conflicts_with("picture")?
         .conflicts_with("observed")?;
     let command = reading(alloc, "litmus", LITMUS_USAGE)?
         .arg(number(alloc, "limit"))?
         .arg(number(alloc, "witness"))?
+        .arg(picture)?
         .arg(list)?
         .arg(observed)?
         .arg(live)?
@@ -393,7 +404,35 @@ fn wanted_of<'a>(words: &ArgMatches<'a>) -> Wanted {
 fn test_of<'a>(words: &ArgMatches<'a>) -> Test {
     Test {
         wanted: wanted_of(words),
-        limit: words.get_one("limit").unwrap_or(POINTS),
+        limit: points_of(words),
+    }
+}
+
+// How many points of orders the words let be looked at.
+fn points_of<'a>(words: &ArgMatches<'a>) -> u64 {
+    words.get_one("limit").unwrap_or(POINTS)
+}
+
+// The picture of the witness with this number, all of it.
+fn witness_asked<'a>(words: &ArgMatches<'a>, number: u64) -> Task<'a>
+    ensures { (asked : WitnessPicture) × (result.work ≡ Work.PictureWitness asked) }
+{
+    let asked = WitnessPicture {
+        number,
+        limit: points_of(words),
+        drawing: Drawing::Steps(Steps {
+            first: 1,
+            last: u64::MAX,
+        }),
+    };
+    working(Work::PictureWitness(asked), words)
+}
+
+// What the words behind `litmus` ask for: a picture, or else what is told of the test.
+fn litmus_asked<'a>(words: &ArgMatches<'a>) -> Task<'a> {
+    match words.get_one("picture") {
+        Some(number) => witness_asked(words, number),
+        None => testing(words),
     }
 }
 
@@ -530,7 +569,7 @@ fn asked<'a>(name: &str, words: &ArgMatches<'a>, coloured: bool) -> Result<Task<
         }
         "audit" => Ok(working(Work::Audit(terms_asked(words)), words)),
         "picture" => Ok(working(Work::Picture(drawing_of(words)), words)),
-        "litmus" => Ok(testing(words)),
+        "litmus" => Ok(litmus_asked(words)),
         _ => Err(topic_of(words)),
     }
 }

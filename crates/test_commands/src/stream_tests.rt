@@ -59,7 +59,10 @@ radixvm picture
 vm 1 4; c0! mmap 0x10000 4096 rw- pfa; c0! load 0x10000
 
 radixvm picture --lives
-vm 1 4; c0! mmap 0x10000 4096 rw- pfa";
+vm 1 4; c0! mmap 0x10000 4096 rw- pfa
+
+radixvm litmus --picture 1
+vm 1 4; together; c0! load 0x10000";
 
 // Words that read nothing.
 const WORDS: &str = "\

@@ -355,7 +355,8 @@ call is answered. Then each clause is written again with : holds, : fails or
 many outcomes that have a run COND holds and of how many it doesn't.
 
 --list writes only the outcomes, one in a line, with tabs between the replies.
---witness N writes a trace for run that has the Nth outcome.
+--witness N writes a trace for run that has the Nth outcome, and --picture N
+the picture of that trace (help picture).
 
 --observed COUNTS reads what another system gave: lines N: OUTCOME, how often
 each outcome came, in the words of the list, as in 12: c0 done; c1 1, 2. Empty
