@@ -1,12 +1,15 @@
 #!/usr/bin/env python3
 """Reads random traces with a machine of its own, and compares the state that it comes to with that of `radixvm state`, line by line,
 at the end of each trace and behind one of its lines. The machine is made of dictionaries, works call by call, and knows fixed anonymous mappings, accesses, shootdowns, takes, walks and evictions.
-It shares nothing with the program but what the documents say. Usage: bench/state_reading.py [TRACES [SEED]]; RADIXVM_PROGRAM names the program."""
+It shares nothing with the program but what the documents say.
+Then it reads the traces of examples/lessons behind each of their lines, with the machine of bench/lesson_reading.py. Usage: bench/state_reading.py [TRACES [SEED]]; RADIXVM_PROGRAM names the program."""
 import os
 import pathlib
 import random
 import subprocess
 import sys
+
+from lesson_reading import read_lessons
 
 TOP = pathlib.Path(__file__).resolve().parent.parent
 PROGRAM = os.environ.get("RADIXVM_PROGRAM", str(TOP / "radixvm"))
@@ -166,6 +169,7 @@ def main():
         lines += wrote.count("\n")
         going += wrote.count("going")
     print(f"{count} traces of seed {seed}, each at its end and behind one of its lines: {lines} lines of state, {going} of them of what is going, are those of the second reading")
+    print(read_lessons(PROGRAM))
 
 
 if __name__ == "__main__":
