@@ -17,6 +17,7 @@ mod importing;
 pub mod input;
 pub mod job;
 mod keeping;
+mod lining;
 mod listing;
 mod litmus_tests;
 pub mod live;

@@ -16,6 +16,7 @@ ghost use Rattle.trace_io.specs.Source.{Reads};
 ghost use Rattle.watched.specs.Watching.{makes};
 
 use crate::ended::{Ended, Trouble};
+use crate::lining::{Lines, draw_lines};
 use crate::listing::list_named;
 use crate::stating::draw_state;
 use core_steps::CallLimit;
@@ -45,6 +46,8 @@ pub struct Steps {
 /// What is shown of a trace.
 #[derive(Clone, Copy, Debug, PartialEq, Eq)]
 pub enum Drawing {
+    /// What happened in the columns of these lines.
+    Lines(Lines),
     /// What happened in these steps.
     Steps(Steps),
     /// The lives of mappings over all steps, however many there are.
@@ -270,6 +273,7 @@ pub(crate) fn draw_text<W: Sink, E: Write>(
     ensures kept { (result ≡ Err Of.WriteFailed) ⊎ (W.failed out.new ≡ W.failed out.old) }
 {
     match drawing {
+        Drawing::Lines(lines) => draw_lines(alloc, trace, out, errors, lines),
         Drawing::Steps(steps) => draw_steps(alloc, trace, out, errors, steps),
         Drawing::Lives => draw_all_lives(alloc, trace, out),
         Drawing::State(at) => draw_state(alloc, trace, out, at),
@@ -299,6 +303,10 @@ fn draw_trace<S: Source, W: Sink, E: Write>(
 // Says that what is asked for is behind all that there is.
 fn tell_lacking<E: Write>(all: u64, drawing: Drawing, errors: &mut E) {
     let _ = match drawing {
+        Drawing::Lines(_) => writeln!(
+            errors,
+            "radixvm: the trace has {all} lines: --from is behind them"
+        ),
         Drawing::State(_) => writeln!(
             errors,
             "radixvm: the trace has {all} lines: --at is behind them"

@@ -10,6 +10,7 @@ use crate::help;
 use crate::help::{Topic, page, topic_named};
 use crate::job::Shows;
 use crate::litmus_tests::{POINTS, Test};
+use crate::lining::Lines;
 use crate::picturing::{Drawing, Steps};
 use crate::witnessing::WitnessPicture;
 use audit_text::Terms;
@@ -102,7 +103,7 @@ pub(crate) enum Told {
     Words(Error),
     /// A page of the help.
     Page(Topic),
-    /// No step is from the first of these to the last.
+    /// No step, or no line, is from the first of these to the last.
     NoSteps(Steps),
     /// Lines are counted from 1.
     NoLine,
@@ -167,7 +168,8 @@ const LITMUS_USAGE: &str =
 
 const STATE_USAGE: &str = "radixvm state [--at N] [--explain] [FILE]";
 
-const PICTURE_USAGE: &str = "radixvm picture [--lives | [--from N] [--to N]] [--explain] [FILE]";
+const PICTURE_USAGE: &str =
+    "radixvm picture [--lives | [--steps] [--from N] [--to N]] [--explain] [FILE]";
 
 // The word `run` with what may stand after it.
 fn running<'a>(alloc: Global) -> Result<Command<'a>, AllocError> {
@@ -188,9 +190,11 @@ fn picturing<'a>(alloc: Global) -> Result<Command<'a>, AllocError> {
     let lives = flag(alloc, "lives")
         .conflicts_with("from")?
         .conflicts_with("to")?;
+    let steps = flag(alloc, "steps").conflicts_with("lives")?;
     let command = reading(alloc, "picture", PICTURE_USAGE)?
         .arg(number(alloc, "from"))?
         .arg(number(alloc, "to"))?
+        .arg(steps)?
         .arg(lives)?;
     Ok(command)
 }
@@ -371,15 +375,17 @@ fn replaying<'a>(show: Show, sums: bool, words: &ArgMatches<'a>) -> Task<'a>
     working(Work::Replay(Shows { show, limit, sums }), words)
 }
 
-// What these words of the word `picture` ask for: lives, or steps, from 1 on, and to the end, where none are named.
+// What these words of the word `picture` ask for: lives, or lines or steps, from 1 on, and to the end, where none are named.
 fn drawing_of<'a>(words: &ArgMatches<'a>) -> Drawing {
     if words.get_flag("lives") {
         return Drawing::Lives;
     }
-    Drawing::Steps(Steps {
-        first: words.get_one("from").unwrap_or(1).max(1),
-        last: words.get_one("to").unwrap_or(u64::MAX),
-    })
+    let first = words.get_one("from").unwrap_or(1).max(1);
+    let last = words.get_one("to").unwrap_or(u64::MAX);
+    if words.get_flag("steps") {
+        return Drawing::Steps(Steps { first, last });
+    }
+    Drawing::Lines(Lines { first, last })
 }
 
 // What the words behind `litmus` ask for.
@@ -613,6 +619,10 @@ fn checked<'a>(task: Task<'a>, files: usize) -> Result<Task<'a>, Told> {
         Work::Picture(Drawing::Steps(steps)) if steps.last < steps.first => {
             Err(Told::NoSteps(steps))
         }
+        Work::Picture(Drawing::Lines(lines)) if lines.last < lines.first => Err(Told::NoSteps(Steps {
+            first: lines.first,
+            last: lines.last,
+        })),
         Work::Picture(Drawing::State(Some(0))) => Err(Told::NoLine),
         _ => Ok(task),
     }

@@ -37,11 +37,15 @@ nothing_recorded first last = record {
   moments = [];
 }
 
+-- the range begins with the next step
+abbrev pub opened : Recording → Recording
+opened r = record r { first = more r.step 1; last = more r.step 2000 }
+
 -- ---- one moment
 
--- the step is in the range, and there is room: for one moment of each of 2,000 steps, and for the call of each core
+-- the step is in the range, and there is room: for eight moments of each of 2,000 steps, and for the call of each core
 abbrev pub is_kept : Recording → Bool
-is_kept r = nat_le r.first r.step && nat_le r.step r.last && nat_lt (length r.moments) 2064
+is_kept r = nat_le r.first r.step && nat_le r.step r.last && nat_lt (length r.moments) 16064
 
 abbrev pub pushed : Recording → Recorded → Recording
 pushed r recorded = if is_kept r then record r { moments = r.moments ++ recorded ∷ [] } else r

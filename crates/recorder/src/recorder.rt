@@ -8,9 +8,9 @@ use std::alloc::{AllocError, Allocator};
 use std::marker::Model;
 use vm_base::{CoreId, CoreSet, Reply, Request};
 
-/// How many moments are kept at the most: one of each of 2,000 steps, and the begin of each core's call that began
+/// How many moments are kept at the most: eight of each of 2,000 steps or columns, and the begin of each core's call that began
 /// before them.
-const ROOM: usize = 2064;
+const ROOM: usize = 16064;
 
 /// A call that isn't answered yet.
 #[derive(Clone, Copy, Debug, PartialEq, Eq)]
@@ -72,13 +72,13 @@ impl<A: Allocator> Model for Recorder<A> {
       moments = r.moments.items;
     } };
 
-    ghost invariant = { λ r. 2064 ≤ vec_capacity r.moments };
+    ghost invariant = { λ r. 16064 ≤ vec_capacity r.moments };
 }
 
 impl<A: Allocator> Recorder<A> {
     ghost use Rattle.std.specs.Prelude.{◌≡◌, ◌<◌, IfOk, None, length, slice_index_or};
-    ghost use Rattle.recorder.specs.Recording.{advanced, answered, begun, change_made, deed_done, nothing_recorded, noted};
-    ghost use Rattle.recorder.specs.Recording.{all_pushed, begin_pushed, pushed, told_others};
+    ghost use Rattle.recorder.specs.Recording.{advanced, answered, begun, change_made, deed_done, is_kept, nothing_recorded, noted};
+    ghost use Rattle.recorder.specs.Recording.{all_pushed, begin_pushed, opened, pushed, told_others};
 
     /// A recorder of the steps from `first` to `last`, or of the first 2,000 of them, before the first step of a run.
     /// Steps are numbered from 1. An error is a refusal of memory.
@@ -103,6 +103,20 @@ impl<A: Allocator> Recorder<A> {
         ensures { result.now ≡ self.now.moments }
     {
         self.moments.as_slice()
+    }
+
+    /// Whether what happens now is kept.
+    pub fn keeps(&self) -> bool
+        ensures { result ≡ is_kept self.now }
+    {
+        self.first <= self.step && self.step <= self.last && self.moments.len() < ROOM
+    }
+
+    /// The first step of the range.
+    pub fn first(&self) -> u64
+        ensures { result ≡ self.now.first }
+    {
+        self.first
     }
 
     /// How many cores the machine had at the last step, or 0 before the first.
@@ -192,6 +206,14 @@ impl<A: Allocator> Recorder<A> {
         if self.step == self.first {
             self.push_pending();
         }
+    }
+
+    /// The range begins with the next step, and has 2,000.
+    pub fn open(&mut self)
+        ensures { self.new ≡ opened self.old }
+    {
+        self.first = self.step.saturating_add(1);
+        self.last = self.step.saturating_add(2000);
     }
 
     /// The core begins a call.

@@ -105,8 +105,8 @@ impl<B: Allocator> Recorder<B> {
         }
     }
 
-    // What an event came to, and what was seen before it.
-    fn come<M: SlotMap, A: Allocator + Clone, L: Ledger>(
+    /// What an event came to, and what was seen before it.
+    pub fn come<M: SlotMap, A: Allocator + Clone, L: Ledger>(
         &mut self,
         machine: &Machine<M, A, L>,
         before: &Before,

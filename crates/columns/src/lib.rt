@@ -1,0 +1,9 @@
+//! Who watches a run for a picture of its lines: what happened in each of its columns.
+#![tactic(auto)]
+
+pub mod lines;
+pub mod margin;
+pub mod recorder;
+pub mod spot;
+
+pub use recorder::ColumnRecorder;

@@ -1,0 +1,224 @@
+//! Bits of which the texts of a picture are made: parts of any picture, and what depends on how words stand.
+ghost use Rattle.std.specs.Prelude.{◌≡◌, ◌++◌, OnOk};
+ghost use Rattle.std.specs.List.{flat_map};
+ghost use Rattle.line_picture.specs.Bits.{after_words, answer_text, bit_text, cause_text, cores_below, few_text, flat_answer, own_answer, spot_text, third_line, turn_words};
+ghost use Rattle.picture.specs.Parts.{reply_class};
+
+use crate::cores::count_members;
+use crate::places::words_y;
+use crate::sheet::{Form, Sheet, column};
+use crate::waits::Cause;
+use picture::elements::{Piece, put, put_all};
+use picture::moments::Answer;
+use picture::parts::{Part, put_parts};
+use std::alloc::AllocError;
+use vm_base::{CoreId, CoreSet, Reply};
+
+/// A bit of what a shape is written as.
+#[derive(Clone, Copy, Debug, PartialEq, Eq)]
+pub enum Bit<'a> {
+    /// A part of any picture.
+    Of(Part<'a>),
+    /// The place at which the words of a core's bar begin in this column.
+    Spot(Sheet, CoreId, u64),
+    /// The reply behind an equals sign, if there is one.
+    Answer(Option<Answer>),
+    /// The end of the words of a core's bar: with the reply in the column of the answer, if there is one.
+    End(Sheet, CoreId, Option<Answer>),
+    /// What a call waits for.
+    For(Cause),
+}
+
+// What turns the words, behind their place.
+fn turn_words(form: Form) -> &'static str
+    ensures { result.now ≡ turn_words form }
+{
+    match form {
+        Form::Narrow => ") rotate(-90)\">",
+        Form::Wide | Form::Flat => ")\">",
+    }
+}
+
+// Appends the place at which words begin.
+fn put_spot(out: &mut Vec<u8>, sheet: Sheet, core: CoreId, number: u64) -> Result<(), AllocError>
+    ensures { OnOk result (out.new.items ≡ out.old.items ++ spot_text sheet core number) }
+{
+    let x = column(sheet, number) + 2;
+    let y = words_y(sheet, core);
+    put_all(
+        out,
+        &[
+            Piece::Words("<g transform=\"translate("),
+            Piece::Number(x),
+            Piece::Words(" "),
+            Piece::Number(y),
+            Piece::Words(turn_words(sheet.form)),
+        ],
+    )
+}
+
+// Appends the reply behind an equals sign.
+fn put_answer(out: &mut Vec<u8>, answer: Option<Answer>) -> Result<(), AllocError>
+    ensures { OnOk result (out.new.items ≡ out.old.items ++ answer_text answer) }
+{
+    match answer {
+        Some(answer) => put_all(out, &[Piece::Words(" = "), Piece::Reply(answer.reply)]),
+        None => Ok(()),
+    }
+}
+
+// The class of a reply: `fault` where nothing was done.
+fn reply_class(reply: Reply) -> &'static str
+    ensures { result.now ≡ reply_class reply }
+{
+    match reply {
+        Reply::Mapped(_) | Reply::Done | Reply::Byte(_) => "reply",
+        Reply::Refused(_) | Reply::Segv(_) | Reply::Bus | Reply::NoFrame | Reply::NoMemory => {
+            "fault"
+        }
+    }
+}
+
+// Appends a reply in the same line as the words before it.
+fn put_flat(out: &mut Vec<u8>, answer: Answer) -> Result<(), AllocError>
+    ensures { OnOk result (out.new.items ≡ out.old.items ++ flat_answer answer) }
+{
+    put_all(
+        out,
+        &[
+            Piece::Words("<tspan class=\""),
+            Piece::Words(reply_class(answer.reply)),
+            Piece::Words("\"> = "),
+            Piece::Reply(answer.reply),
+            Piece::Words("</tspan></text></g>"),
+        ],
+    )
+}
+
+// Where a line of its own for a reply begins.
+fn third_line(form: Form) -> &'static str
+    ensures { result.now ≡ third_line form }
+{
+    match form {
+        Form::Narrow => "<text x=\"5\" y=\"29\" class=\"",
+        Form::Wide | Form::Flat => "<text x=\"5\" y=\"45\" class=\"",
+    }
+}
+
+// Appends a reply in a line of its own, in the column of the answer.
+fn put_own(
+    out: &mut Vec<u8>,
+    sheet: Sheet,
+    core: CoreId,
+    answer: Answer,
+) -> Result<(), AllocError>
+    ensures { OnOk result (out.new.items ≡ out.old.items ++ own_answer sheet core answer) }
+{
+    put(out, "</text></g>")?;
+    put_spot(out, sheet, core, answer.step)?;
+    put_all(
+        out,
+        &[
+            Piece::Words(third_line(sheet.form)),
+            Piece::Words(reply_class(answer.reply)),
+            Piece::Words("\">= "),
+            Piece::Reply(answer.reply),
+            Piece::Words("</text></g>"),
+        ],
+    )?;
+    Ok(())
+}
+
+// Appends the end of the words of a bar.
+fn put_end(
+    out: &mut Vec<u8>,
+    sheet: Sheet,
+    core: CoreId,
+    answer: Option<Answer>,
+) -> Result<(), AllocError>
+    ensures { OnOk result (out.new.items ≡ out.old.items ++ after_words sheet core answer) }
+{
+    match answer {
+        None => put(out, "</text></g>"),
+        Some(answer) => match sheet.form {
+            Form::Flat => put_flat(out, answer),
+            Form::Wide | Form::Narrow => put_own(out, sheet, core, answer),
+        },
+    }
+}
+
+// Appends the numbers of the cores, each behind a space.
+fn put_list(out: &mut Vec<u8>, cores: CoreSet) -> Result<(), AllocError>
+    ensures { OnOk result (out.new.items ≡ out.old.items ++ cores_below cores 64) }
+{
+    let mut index = 0u8;
+    'cores: while index < 64 {
+        let core = CoreId::new(index);
+        if cores.contains(core) {
+            put_all(out, &[Piece::Words(" "), Piece::Core(core)])?;
+        }
+        index += 1;
+    }
+    Ok(())
+}
+
+// Appends which cores have to acknowledge, or how many, if there are more than three.
+fn put_few(out: &mut Vec<u8>, cores: CoreSet) -> Result<(), AllocError>
+    ensures { OnOk result (out.new.items ≡ out.old.items ++ few_text cores) }
+{
+    let count = count_members(cores, 64);
+    if count > 3 {
+        put_all(
+            out,
+            &[
+                Piece::Words(" "),
+                Piece::Number(count),
+                Piece::Words(" cores"),
+            ],
+        )
+    } else {
+        put_list(out, cores)
+    }
+}
+
+// Appends what a call waits for.
+fn put_cause(out: &mut Vec<u8>, cause: Cause) -> Result<(), AllocError>
+    ensures { OnOk result (out.new.items ≡ out.old.items ++ cause_text cause) }
+{
+    match cause {
+        Cause::Lock(core) => put_all(
+            out,
+            &[Piece::Words("waits, lock: core "), Piece::Core(core)],
+        ),
+        Cause::Acks(cores) => {
+            put(out, "waits, acks:")?;
+            put_few(out, cores)?;
+            Ok(())
+        }
+    }
+}
+
+// Appends a bit.
+fn put_bit(out: &mut Vec<u8>, bit: &Bit) -> Result<(), AllocError>
+    ensures { OnOk result (out.new.items ≡ out.old.items ++ bit_text bit.now) }
+{
+    match bit {
+        Bit::Of(part) => put_parts(out, &[*part]),
+        Bit::Spot(sheet, core, number) => put_spot(out, *sheet, *core, *number),
+        Bit::Answer(answer) => put_answer(out, *answer),
+        Bit::End(sheet, core, answer) => put_end(out, *sheet, *core, *answer),
+        Bit::For(cause) => put_cause(out, *cause),
+    }
+}
+
+/// Appends bits, one after another.
+pub fn put_bits(out: &mut Vec<u8>, bits: &[Bit]) -> Result<(), AllocError>
+    ensures { OnOk result (out.new.items ≡ out.old.items ++ flat_map bit_text bits.now) }
+{
+    let mut at = 0;
+    'bits: while at < bits.len() {
+        put_bit(out, &bits[at])?;
+        at += 1;
+    }
+    Ok(())
+}

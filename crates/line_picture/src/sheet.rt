@@ -1,0 +1,129 @@
+//! How a picture is laid out: by how many cores act, and how many columns there are.
+ghost use Rattle.std.specs.Prelude.{◌≡◌, ◌≤◌};
+ghost use Rattle.line_picture.specs.Sheet.{column, form_of, lane, lanes_of, pitch_of, row_y, rows_y, sheet_of, wide_of};
+ghost use Rattle.vm_base.specs.Cores.{members};
+
+use crate::cores::count_members;
+use vm_base::{CoreId, CoreSet};
+
+/// How the words of a call stand in its bar.
+#[derive(Clone, Copy, Debug, PartialEq, Eq)]
+pub enum Form {
+    /// In lines below each other.
+    Wide,
+    /// In upright lines beside each other.
+    Narrow,
+    /// In one line, which may be longer than the bar.
+    Flat,
+}
+
+/// What a picture is of, and how it is laid out.
+#[derive(Clone, Copy, Debug, PartialEq, Eq)]
+pub struct Sheet {
+    /// The cores that have a lane.
+    pub cores: CoreSet,
+    /// The number of the first column.
+    pub first: u64,
+    /// How many columns there are.
+    pub columns: u16,
+    /// How words stand.
+    pub form: Form,
+    /// How wide a column is.
+    pub wide: u16,
+    /// How high a lane is.
+    pub pitch: u16,
+}
+
+/// How many cores have a lane.
+pub fn lanes_of(cores: CoreSet) -> u64
+    ensures value { result ≡ lanes_of cores }
+    ensures few { result ≤ 64 }
+{
+    count_members(cores, 64)
+}
+
+// How words stand: in one line where more than eight cores have a lane, upright where there are more than twelve columns.
+fn form_of(lanes: u64, columns: u16) -> Form
+    ensures { result ≡ form_of lanes columns }
+{
+    if lanes > 8 {
+        Form::Flat
+    } else if columns > 12 {
+        Form::Narrow
+    } else {
+        Form::Wide
+    }
+}
+
+// How wide a column is: 12 or 40 of them have 1,440.
+fn wide_of(form: Form, columns: u16) -> u16
+    ensures { result ≡ wide_of form columns }
+{
+    if columns <= 12 {
+        return 120;
+    }
+    match form {
+        Form::Flat if columns > 40 => 16,
+        _ => 36,
+    }
+}
+
+// How high a lane is.
+fn pitch_of(form: Form) -> u16
+    ensures { result ≡ pitch_of form }
+{
+    match form {
+        Form::Wide => 62,
+        Form::Narrow => 116,
+        Form::Flat => 15,
+    }
+}
+
+/// The sheet of so many columns from the first one on, with a lane for each of these cores.
+pub fn sheet_of(cores: CoreSet, first: u64, columns: u16) -> Sheet
+    ensures { result ≡ sheet_of cores first columns }
+{
+    let form = form_of(lanes_of(cores), columns);
+    Sheet {
+        cores,
+        first,
+        columns,
+        form,
+        wide: wide_of(form, columns),
+        pitch: pitch_of(form),
+    }
+}
+
+/// Where the column begins, from the left: behind the names, and the columns before it. Columns before the first have its
+/// place, and columns after the last one begin where that ends.
+pub fn column(sheet: Sheet, number: u64) -> u64
+    ensures value { result ≡ column sheet number }
+    ensures bounded { result ≤ 5000000000 }
+{
+    let at = number.saturating_sub(sheet.first).min(u64::from(sheet.columns));
+    150 + u64::from(sheet.wide) * at
+}
+
+/// Where the core's lane begins, from above.
+pub fn lane(sheet: Sheet, core: CoreId) -> u64
+    ensures value { result ≡ lane sheet core }
+    ensures bounded { result ≤ 5000000 }
+{
+    40 + u64::from(sheet.pitch) * count_members(sheet.cores, core.index())
+}
+
+/// Where the rows of pages begin, from above.
+pub fn rows_y(sheet: Sheet) -> u64
+    ensures value { result ≡ rows_y sheet }
+    ensures bounded { result ≤ 5000000 }
+{
+    76 + u64::from(sheet.pitch) * lanes_of(sheet.cores)
+}
+
+/// Where this row begins, from above.
+pub fn row_y(sheet: Sheet, row: u16) -> u64
+    ensures value { result ≡ row_y sheet row }
+    ensures bounded { result ≤ 10000000 }
+{
+    rows_y(sheet) + 20 * u64::from(row)
+}
