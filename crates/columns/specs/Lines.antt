@@ -17,11 +17,11 @@ asks number (Some (Space cores frames calls)) = None
 asks number (Some (File n mode len seed)) = None
 asks number None = None
 
-abbrev pub asking : ℕ → List ℕ → Option Asking
-asking number line = asks number (line_of line)
+abbrev pub asked_by : ℕ → List ℕ → Option Asking
+asked_by number line = asks number (line_of line)
 
 abbrev pub asking_lines : ℕ → List ℕ → List Asking
-asking_lines number line = option_to_list (asking number line)
+asking_lines number line = option_to_list (asked_by number line)
 
 -- of lines that are numbered from here on, those that ask for steps
 abbrev pub asking_from : ℕ → List (List ℕ) → List Asking

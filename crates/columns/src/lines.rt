@@ -1,6 +1,6 @@
 //! Which lines of a trace ask for steps.
 ghost use Rattle.std.specs.Prelude.{◌≡◌, ◌++◌, IfOk, OnOk};
-ghost use Rattle.columns.specs.Lines.{asking, asking_from, asking_lines};
+ghost use Rattle.columns.specs.Lines.{asked_by, asking_from, asking_lines};
 ghost use Rattle.trace_io.specs.Lines.{lines_of};
 
 use std::alloc::{AllocError, Allocator};
@@ -17,8 +17,8 @@ pub struct Asking {
 }
 
 // What the line with this number asks for, if it asks for steps.
-fn asking(number: u64, line: &[u8]) -> Option<Asking>
-    ensures { result ≡ asking number line.now }
+fn asked_by(number: u64, line: &[u8]) -> Option<Asking>
+    ensures { result ≡ asked_by number line.now }
 {
     match read_line(line) {
         Some(Line::Act(..)) | Some(Line::Fold(_)) => Some(Asking {
@@ -41,7 +41,7 @@ fn put_asking<A: Allocator>(
 ) -> Result<(), AllocError>
     ensures { OnOk result (all.new.items ≡ all.old.items ++ asking_lines number line.now) }
 {
-    if let Some(one) = asking(number, line) {
+    if let Some(one) = asked_by(number, line) {
         all.push(one)?;
     }
     Ok(())

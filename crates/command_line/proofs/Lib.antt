@@ -1,4 +1,5 @@
 mod EchoLemmas
+mod LiningLemmas
 mod LitmusLemmas
 mod PictureLemmas
 mod StateLemmas

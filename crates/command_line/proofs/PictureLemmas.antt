@@ -18,7 +18,7 @@ use Rattle.trace.specs.declared.shown.Show.TheVariants.{Maps, Outcomes}
 use Rattle.trace.specs.Ends.{Ends, Stops, TellsFaults, fault_named}
 use Rattle.trace.specs.Seen.{IsSeen}
 use Rattle.command_line.specs.declared.picturing.Drawing.{Drawing}
-use Rattle.command_line.specs.declared.picturing.Drawing.TheVariants.{Steps, Lives, State, Listing}
+use Rattle.command_line.specs.declared.picturing.Drawing.TheVariants.{Lines, Steps, Lives, State, Listing}
 use Rattle.command_line.specs.Listing.{FailsToList, Listed}
 use Rattle.core_steps.specs.declared.setup.CallLimit.{CallLimit}
 use Rattle.command_line.specs.Picture.{Fails, PictureEnds, Records, ShowsText, TextEnds, Watched, in_memory}
@@ -92,6 +92,7 @@ picture_read s t drawing text old new ended r h =
 -- none of a text that wasn't
 pub picture_unread : (s t : Stream) (drawing : Drawing) (old : Option (List ℕ)) (f : TraceFault) → (f ≡ NoMemory) ⊎ (f ≡ ReadFailed)
     → Reads s t (λ input unread. input ≡ input) → Reads s t (λ input unread. PictureEnds drawing input old old (Err f))
+picture_unread s t (Lines lines) old f why r = reads_map s t _ _ r (λ xs ys k is. inl (inr why, Keeps-refl old))
 picture_unread s t (Steps steps) old f why r = reads_map s t _ _ r (λ xs ys k is. inl (inr why, Keeps-refl old))
 picture_unread s t (State at) old f why r = reads_map s t _ _ r (λ xs ys k is. inl (inr why, Keeps-refl old))
 picture_unread s t Lives old f why r = reads_map s t _ _ r (λ xs ys k is. inl (inr why, Keeps-refl old))
@@ -111,6 +112,7 @@ text_kept Comes Faults lacks text a b c (Err f) (inr (failed, inr (r, h, front))
 
 pub picture_kept : (drawing : Drawing) (input : List ℕ) (a b c : Option (List ℕ)) (ended : Result (Option ℕ) TraceFault)
     → PictureEnds drawing input a b ended → Keeps b c → PictureEnds drawing input a c ended
+picture_kept (Lines lines) input a b c ended h k = text_kept _ _ _ _ a b c ended h k
 picture_kept (Steps steps) input a b c ended h k = text_kept _ _ _ _ a b c ended h k
 picture_kept (State at) input a b c ended h k = text_kept _ _ _ _ a b c ended h k
 picture_kept Lives input a b c ended h k = text_kept _ _ _ _ a b c ended h k
@@ -127,6 +129,7 @@ text_lost Comes Faults lacks text a b c (Err f) (inr (failed, inr (r, h, front))
 
 pub picture_lost : (drawing : Drawing) (input : List ℕ) (a b c : Option (List ℕ)) (ended : Result (Option ℕ) TraceFault)
     → PictureEnds drawing input a b ended → Keeps b c → PictureEnds drawing input a c (Err WriteFailed)
+picture_lost (Lines lines) input a b c ended h k = text_lost _ _ _ _ a b c ended h k
 picture_lost (Steps steps) input a b c ended h k = text_lost _ _ _ _ a b c ended h k
 picture_lost (State at) input a b c ended h k = text_lost _ _ _ _ a b c ended h k
 picture_lost Lives input a b c ended h k = text_lost _ _ _ _ a b c ended h k

@@ -3,6 +3,7 @@ pub mod Help
 pub mod Input
 pub mod Litmus
 pub mod Gathered
+pub mod Lining
 pub mod Listing
 pub mod Picture
 pub mod State

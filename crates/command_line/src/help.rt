@@ -25,7 +25,8 @@ radixvm run [--summary | [--echo] [--log]] [--long] [--explain] [FILE]
                       [--explain] [FILE..]
        radixvm audit [--overlapping [--given IN] [--order OUT] |
                      [--strict] [--all]] [--any-place] [--explain] [FILE]
-       radixvm picture [--lives | [--from N] [--to N]] [--explain] [FILE]
+       radixvm picture [--lives | [--steps] [--from N] [--to N]]
+                       [--explain] [FILE]
        radixvm litmus [--to-c | [--limit N] [--list | --witness N |
                       --picture N | --observed COUNTS | --live N]]
                       [--explain] [FILE]
@@ -47,7 +48,8 @@ Usage: radixvm run [--summary | [--echo] [--log]] [--long] [--explain] [FILE]
                       [--explain] [FILE..]
        radixvm audit [--overlapping [--given IN] [--order OUT] |
                      [--strict] [--all]] [--any-place] [--explain] [FILE]
-       radixvm picture [--lives | [--from N] [--to N]] [--explain] [FILE]
+       radixvm picture [--lives | [--steps] [--from N] [--to N]]
+                       [--explain] [FILE]
        radixvm litmus [--to-c | [--limit N] [--list | --witness N |
                       --picture N | --observed COUNTS | --live N]]
                       [--explain] [FILE]
@@ -78,8 +80,8 @@ Words:
                  writes a trace of what a program did
   audit          reads calls with the replies that another address space gave,
                  and says whether they are those of a plain page map
-  picture        reads a trace, and writes a picture of what happened, as SVG;
-                 with --lives of the lives of mappings over the whole trace
+  picture        reads a trace, and writes a picture of its lines, as SVG; with
+                 --steps of its steps, with --lives of the lives of mappings
   litmus         reads a few calls of several cores, and lists what they can be
                  answered in all orders of their steps, and what never
   FILE           the file that is read; without it, or for -, standard input

@@ -1,10 +1,10 @@
 //! What the word `picture` does beside reading: a trace is replayed, and the picture of what happened in the columns of its lines is
 //! written.
-ghost use Rattle.std.specs.Prelude.{◌≡◌, ◌≢◌, ◌⊎◌, Err, IfErr, IfOk, true};
+ghost use Rattle.std.specs.Prelude.{◌≡◌, ◌≢◌, ◌⊎◌, Err, IfErr, IfOk, Some, true};
 ghost use Rattle.std.specs.Io.KnownBytes.{Keeps};
-ghost use Rattle.columns.specs.Columns.{columned, nothing_columned};
-ghost use Rattle.command_line.specs.Lining.{FailsToLine, Lined, begun_at, lacking_from, lines_picture};
+ghost use Rattle.command_line.specs.Lining.{Lined, begun_at, lacking_from, lacking_of, lines_picture, picture_drawn};
 ghost use Rattle.command_line.specs.Picture.{ShowsText, TextEnds};
+ghost use Rattle.command_line.specs.State.{FailsTo};
 ghost use Rattle.trace.specs.declared.fault.TraceFault.TheVariants as Of;
 ghost use Rattle.trace_io.specs.Lines.{lines_of};
 ghost use Rattle.trace_io.specs.Sink.{AppendsFront};
@@ -125,8 +125,8 @@ pub(crate) fn draw_lines<W: Sink, E: Write>(
     errors: &mut E,
     lines: Lines,
 ) -> Result<Option<u64>, TraceFault>
-    ensures ends { TextEnds (Lined lines trace.now) (FailsToLine lines trace.now) (λ r. lacking_from lines.first r.lines)
-        (λ r. lines_picture r.front r.recorded) (W.contents out.old) (W.contents out.new) result }
+    ensures ends { TextEnds (Lined lines trace.now) (FailsTo (Some lines.last) trace.now) (lacking_of lines) picture_drawn
+        (W.contents out.old) (W.contents out.new) result }
     ensures read { result ≢ Err Of.ReadFailed }
     ensures write { result ≡ Err Of.WriteFailed → W.failed out.new ≡ true }
     ensures kept { (result ≡ Err Of.WriteFailed) ⊎ (W.failed out.new ≡ W.failed out.old) }

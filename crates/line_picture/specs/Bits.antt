@@ -64,25 +64,32 @@ after_words sheet core (Some answer) = end_in sheet.form sheet core answer
 
 -- ---- waits
 
--- the cores below a number that are in the set, each behind a space
-abbrev pub cores_below : ℕ → ℕ → List ℕ
+-- a core that is in the set, behind a space
+abbrev pub listed : ℕ → ℕ → List ℕ
+listed cores core = if members cores core then concat (codes " " ∷ decimal core ∷ []) else []
+
+-- those below a number
+unfoldable pub cores_below : ℕ → ℕ → List ℕ
 cores_below cores zero = []
-cores_below cores (suc n) = cores_below cores n ++ (if members cores n then concat (codes " " ∷ decimal n ∷ []) else [])
+cores_below cores (suc n) = cores_below cores n ++ listed cores n
 
 -- which they are, or how many, if there are more than three
 abbrev pub few_text : ℕ → List ℕ
 few_text cores = if nat_lt 3 (count_members (members cores) 64)
     then concat (codes " " ∷ decimal (count_members (members cores) 64) ∷ codes " cores" ∷ []) else cores_below cores 64
 
+abbrev pub acks_text : ℕ → List ℕ
+acks_text cores = codes "waits, acks:" ++ few_text cores
+
 abbrev pub cause_text : Cause → List ℕ
 cause_text (Lock core) = concat (codes "waits, lock: core " ∷ decimal core ∷ [])
-cause_text (Acks cores) = codes "waits, acks:" ++ few_text cores
+cause_text (Acks cores) = acks_text cores
 
 -- ---- bits
 
 abbrev pub bit_text : Bit → List ℕ
 bit_text (In.Of part) = part_text part
-bit_text (In.Spot sheet core number) = spot_text sheet core number
+bit_text (In.Spot sheet core number) = spot_text sheet.now core number
 bit_text (In.Answer answer) = answer_text answer
-bit_text (In.End sheet core answer) = after_words sheet core answer
+bit_text (In.End sheet core answer) = after_words sheet.now core answer
 bit_text (In.For cause) = cause_text cause

@@ -16,7 +16,7 @@ use Rattle.picture.specs.declared.shapes.Stretch.{Stretch}
 use Rattle.line_picture.specs.Cores.{acting, acts}
 use Rattle.line_picture.specs.Dangers.{dangers_of}
 use Rattle.line_picture.specs.Drawing.{arrow_text, bar_text, danger_text, mark_text, stretch_text, wait_text}
-use Rattle.line_picture.specs.Sheet.{lane, lanes_of, row_y, rows_y, sheet_of}
+use Rattle.line_picture.specs.Sheet.{across, lane, lanes_of, pitch, row_y, rows_y, sheet_of, wide}
 use Rattle.line_picture.specs.Style.{legend_words, style_text}
 use Rattle.line_picture.specs.declared.dangers.Danger.{Danger}
 use Rattle.line_picture.specs.declared.sheet.Form.{Form}
@@ -26,7 +26,7 @@ use Rattle.line_picture.specs.declared.waits.Waited.{Waited}
 
 -- the columns behind 150 for the names, and never less than the legend wants
 abbrev pub width : Sheet → ℕ
-width sheet = max (160 + sheet.wide * sheet.columns) 740
+width sheet = max (160 + across sheet sheet.columns) 740
 
 -- lanes above, 20 units a row, at most 256 rows, and the legend below
 abbrev pub height : Sheet → ℕ → ℕ
@@ -56,14 +56,14 @@ front_text sheet heads high = size_text sheet.form (width sheet) high ++ title_t
 
 -- a column's line, and the number of its trace's line
 abbrev pub column_x : Sheet → ℕ → ℕ
-column_x sheet at = 150 + sheet.wide * at
+column_x sheet at = 150 + across sheet at
 
 abbrev pub column_way : Sheet → ℕ → ℕ → Way
 column_way sheet bottom at = record { x1 = column_x sheet at; y1 = 36; x2 = column_x sheet at; y2 = bottom }
 
 unfoldable pub column_text : Sheet → ℕ → ℕ → ℕ → List ℕ
 column_text sheet bottom at line = concat (line_text (codes "grid") (column_way sheet bottom at)
-    ∷ text_front (codes "step") (column_x sheet at + sheet.wide / 2) 30 ∷ decimal line ∷ codes "</text>\n" ∷ [])
+    ∷ text_front (codes "step") (column_x sheet at + wide sheet / 2) 30 ∷ decimal line ∷ codes "</text>\n" ∷ [])
 
 abbrev pub first_columns : Sheet → ℕ → List ℕ → ℕ → List ℕ
 first_columns sheet bottom heads zero = []
@@ -74,16 +74,20 @@ columns_text sheet bottom heads = first_columns sheet bottom heads (min (length 
 
 -- a core's lane
 abbrev pub lane_way : Sheet → ℕ → Way
-lane_way sheet core = record { x1 = 8; y1 = lane sheet core; x2 = 150 + sheet.wide * sheet.columns; y2 = lane sheet core }
+lane_way sheet core = record { x1 = 8; y1 = lane sheet core; x2 = 150 + across sheet sheet.columns; y2 = lane sheet core }
 
 unfoldable pub lane_text : Sheet → ℕ → List ℕ
-lane_text sheet core = concat (line_text (codes "lane") (lane_way sheet core) ∷ text_front (codes "core") 8 (lane sheet core + sheet.pitch / 2 + 4)
+lane_text sheet core = concat (line_text (codes "lane") (lane_way sheet core) ∷ text_front (codes "core") 8 (lane sheet core + pitch sheet / 2 + 4)
     ∷ codes "core " ∷ decimal core ∷ codes "</text>\n" ∷ [])
 
--- those of the cores below a number that have one
-abbrev pub lanes_text : Sheet → ℕ → List ℕ
+-- if it has one
+abbrev pub lane_of : Sheet → ℕ → List ℕ
+lane_of sheet core = if members sheet.cores core then lane_text sheet core else []
+
+-- those of the cores below a number
+unfoldable pub lanes_text : Sheet → ℕ → List ℕ
 lanes_text sheet zero = []
-lanes_text sheet (suc n) = lanes_text sheet n ++ (if members sheet.cores n then lane_text sheet n else [])
+lanes_text sheet (suc n) = lanes_text sheet n ++ lane_of sheet n
 
 -- the addresses of a row
 unfoldable pub row_text : Sheet → ℕ → PageRange → List ℕ

@@ -28,11 +28,14 @@ abbrev pub danger_of : List Recorded → ℕ → ℕ → ℕ → Danger
 danger_of all sender core column =
     record { core = core; sender = sender; begin = column; end = acknowledged all sender core column }
 
+-- if it was told
+abbrev pub danger_at : List Recorded → ℕ → ℕ → ℕ → ℕ → List Danger
+danger_at all sender cores core column = if members cores core then danger_of all sender core column ∷ [] else []
+
 -- of the cores below a number, those that were told
-abbrev pub dangers_below : List Recorded → ℕ → ℕ → ℕ → ℕ → List Danger
+unfoldable pub dangers_below : List Recorded → ℕ → ℕ → ℕ → ℕ → List Danger
 dangers_below all sender cores column zero = []
-dangers_below all sender cores column (suc n) = dangers_below all sender cores column n
-    ++ (if members cores n then danger_of all sender n column ∷ [] else [])
+dangers_below all sender cores column (suc n) = dangers_below all sender cores column n ++ danger_at all sender cores n column
 
 abbrev pub dangers_at : List Recorded → ℕ → Moment → List Danger
 dangers_at all column (Told sender cores) = dangers_below all sender cores column 64

@@ -19,7 +19,7 @@ use Rattle.picture.specs.declared.shapes.Bar.{Bar}
 use Rattle.picture.specs.declared.shapes.Stretch.{Stretch}
 use Rattle.line_picture.specs.Bits.{after_words, answer_text, cause_text, spot_text}
 use Rattle.line_picture.specs.Places.{arrow_way, bar_place, danger_place, mark_place, middle, stretch_place}
-use Rattle.line_picture.specs.Sheet.{lane, row_y}
+use Rattle.line_picture.specs.Sheet.{lane, pitch, row_y, wide}
 use Rattle.line_picture.specs.declared.dangers.Danger.{Danger}
 use Rattle.line_picture.specs.declared.sheet.Form.{Form}
 use Rattle.line_picture.specs.declared.sheet.Form.TheVariants.{Wide, Narrow, Flat}
@@ -72,11 +72,11 @@ danger_text sheet d = concat (codes "<g><title>core " ∷ decimal d.core ∷ cod
 
 -- a word isn't seen where it has no room
 abbrev pub deed_class : Sheet → List ℕ
-deed_class sheet = if nat_lt sheet.wide 30 then codes "hid" else codes "deed"
+deed_class sheet = if nat_lt (wide sheet) 30 then codes "hid" else codes "deed"
 
 unfoldable pub pill_text : Sheet → ℕ → ℕ → List ℕ → List ℕ → List ℕ
 pill_text sheet core number class word = concat (codes "<g><title>core " ∷ decimal core ∷ codes ": " ∷ word ∷ codes "</title>"
-    ∷ rect_text class (mark_place sheet core number) ∷ text_front (deed_class sheet) (middle sheet number) (lane sheet core + sheet.pitch / 2 + 3)
+    ∷ rect_text class (mark_place sheet core number) ∷ text_front (deed_class sheet) (middle sheet number) (lane sheet core + pitch sheet / 2 + 3)
     ∷ word ∷ codes "</text></g>\n" ∷ [])
 
 abbrev pub pass_word : Pass → List ℕ

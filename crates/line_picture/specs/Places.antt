@@ -8,7 +8,7 @@ use Rattle.picture.specs.declared.shapes.Arrow.{Arrow}
 use Rattle.picture.specs.declared.shapes.Course.{Course}
 use Rattle.picture.specs.declared.shapes.Course.TheVariants.{Message, Acknowledgement}
 use Rattle.picture.specs.declared.shapes.Stretch.{Stretch}
-use Rattle.line_picture.specs.Sheet.{column, lane, row_y}
+use Rattle.line_picture.specs.Sheet.{across, column, lane, pitch, row_y, wide}
 use Rattle.line_picture.specs.declared.dangers.Danger.{Danger}
 use Rattle.line_picture.specs.declared.sheet.Form.{Form}
 use Rattle.line_picture.specs.declared.sheet.Form.TheVariants.{Wide, Narrow, Flat}
@@ -30,22 +30,22 @@ abbrev pub bar_place : Sheet → Bar → Place
 bar_place sheet bar = record {
   x = column sheet bar.begin + 2;
   y = lane sheet bar.core + inset sheet.form;
-  width = column sheet (last_column sheet bar.answer) + sheet.wide - (column sheet bar.begin + 4);
-  height = sheet.pitch - 2 * inset sheet.form;
+  width = column sheet (last_column sheet bar.answer) + wide sheet - (column sheet bar.begin + 4);
+  height = pitch sheet - 2 * inset sheet.form;
 }
 
 -- words begin at the upper edge of their bar; upright ones at its lower edge
 abbrev pub words_in : Sheet → ℕ → Form → ℕ
 words_in sheet core Wide = lane sheet core + inset Wide
 words_in sheet core Flat = lane sheet core + inset Flat
-words_in sheet core Narrow = lane sheet core + sheet.pitch - 5
+words_in sheet core Narrow = lane sheet core + pitch sheet - 5
 
 abbrev pub words_y : Sheet → ℕ → ℕ
 words_y sheet core = words_in sheet core sheet.form
 
 -- the middle of a column
 abbrev pub middle : Sheet → ℕ → ℕ
-middle sheet number = column sheet number + sheet.wide / 2
+middle sheet number = column sheet number + wide sheet / 2
 
 -- how far a mark lies from the edges of its lane
 abbrev pub mark_inset : Form → ℕ
@@ -55,7 +55,7 @@ mark_inset Flat = 2
 
 -- a mark is as wide as its column, but for 4, and 60 at the most
 abbrev pub mark_wide : Sheet → ℕ
-mark_wide sheet = min sheet.wide 64 - 4
+mark_wide sheet = min (wide sheet) 64 - 4
 
 -- in the middle of its column and of its core's lane
 abbrev pub mark_place : Sheet → ℕ → ℕ → Place
@@ -63,12 +63,12 @@ mark_place sheet core number = record {
   x = middle sheet number - mark_wide sheet / 2;
   y = lane sheet core + mark_inset sheet.form;
   width = mark_wide sheet;
-  height = sheet.pitch - 2 * mark_inset sheet.form;
+  height = pitch sheet - 2 * mark_inset sheet.form;
 }
 
 -- what lies so far from the edges of a core's lane is met below where the other core lies below, else above
 abbrev pub edge : Sheet → ℕ → ℕ → ℕ → ℕ
-edge sheet core other by = if nat_lt core other then lane sheet core + sheet.pitch - by else lane sheet core + by
+edge sheet core other by = if nat_lt core other then lane sheet core + pitch sheet - by else lane sheet core + by
 
 -- straight in the column of the take, between two cores
 abbrev pub straight : Sheet → Arrow → ℕ → ℕ → Way
@@ -90,7 +90,7 @@ arrow_way sheet a = way_of sheet a a.course
 -- where it ends, from the left
 abbrev pub right_of : Sheet → Option ℕ → ℕ
 right_of sheet (Some number) = middle sheet number
-right_of sheet None = 150 + sheet.wide * sheet.columns
+right_of sheet None = 150 + across sheet sheet.columns
 
 -- over the whole height of the lane of the core that may use the translations
 abbrev pub danger_place : Sheet → Danger → Place
@@ -98,7 +98,7 @@ danger_place sheet d = record {
   x = middle sheet d.begin;
   y = lane sheet d.core + 1;
   width = right_of sheet d.end - middle sheet d.begin;
-  height = sheet.pitch - 2;
+  height = pitch sheet - 2;
 }
 
 -- in its row

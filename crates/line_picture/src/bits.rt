@@ -1,7 +1,7 @@
 //! Bits of which the texts of a picture are made: parts of any picture, and what depends on how words stand.
 ghost use Rattle.std.specs.Prelude.{◌≡◌, ◌++◌, OnOk};
 ghost use Rattle.std.specs.List.{flat_map};
-ghost use Rattle.line_picture.specs.Bits.{after_words, answer_text, bit_text, cause_text, cores_below, few_text, flat_answer, own_answer, spot_text, third_line, turn_words};
+ghost use Rattle.line_picture.specs.Bits.{acks_text, after_words, answer_text, bit_text, cause_text, cores_below, few_text, flat_answer, listed, own_answer, spot_text, third_line, turn_words};
 ghost use Rattle.picture.specs.Parts.{reply_class};
 
 use crate::cores::count_members;
@@ -20,11 +20,11 @@ pub enum Bit<'a> {
     /// A part of any picture.
     Of(Part<'a>),
     /// The place at which the words of a core's bar begin in this column.
-    Spot(Sheet, CoreId, u64),
+    Spot(&'a Sheet, CoreId, u64),
     /// The reply behind an equals sign, if there is one.
     Answer(Option<Answer>),
     /// The end of the words of a core's bar: with the reply in the column of the answer, if there is one.
-    End(Sheet, CoreId, Option<Answer>),
+    End(&'a Sheet, CoreId, Option<Answer>),
     /// What a call waits for.
     For(Cause),
 }
@@ -40,8 +40,8 @@ fn turn_words(form: Form) -> &'static str
 }
 
 // Appends the place at which words begin.
-fn put_spot(out: &mut Vec<u8>, sheet: Sheet, core: CoreId, number: u64) -> Result<(), AllocError>
-    ensures { OnOk result (out.new.items ≡ out.old.items ++ spot_text sheet core number) }
+fn put_spot(out: &mut Vec<u8>, sheet: &Sheet, core: CoreId, number: u64) -> Result<(), AllocError>
+    ensures { OnOk result (out.new.items ≡ out.old.items ++ spot_text sheet.now core number) }
 {
     let x = column(sheet, number) + 2;
     let y = words_y(sheet, core);
@@ -108,11 +108,11 @@ fn third_line(form: Form) -> &'static str
 // Appends a reply in a line of its own, in the column of the answer.
 fn put_own(
     out: &mut Vec<u8>,
-    sheet: Sheet,
+    sheet: &Sheet,
     core: CoreId,
     answer: Answer,
 ) -> Result<(), AllocError>
-    ensures { OnOk result (out.new.items ≡ out.old.items ++ own_answer sheet core answer) }
+    ensures { OnOk result (out.new.items ≡ out.old.items ++ own_answer sheet.now core answer) }
 {
     put(out, "</text></g>")?;
     put_spot(out, sheet, core, answer.step)?;
@@ -132,11 +132,11 @@ fn put_own(
 // Appends the end of the words of a bar.
 fn put_end(
     out: &mut Vec<u8>,
-    sheet: Sheet,
+    sheet: &Sheet,
     core: CoreId,
     answer: Option<Answer>,
 ) -> Result<(), AllocError>
-    ensures { OnOk result (out.new.items ≡ out.old.items ++ after_words sheet core answer) }
+    ensures { OnOk result (out.new.items ≡ out.old.items ++ after_words sheet.now core answer) }
 {
     match answer {
         None => put(out, "</text></g>"),
@@ -147,6 +147,17 @@ fn put_end(
     }
 }
 
+// Appends the core's number behind a space, if it is in the set.
+fn put_listed(out: &mut Vec<u8>, cores: CoreSet, core: CoreId) -> Result<(), AllocError>
+    ensures { OnOk result (out.new.items ≡ out.old.items ++ listed cores core) }
+{
+    if cores.contains(core) {
+        put_all(out, &[Piece::Words(" "), Piece::Core(core)])
+    } else {
+        Ok(())
+    }
+}
+
 // Appends the numbers of the cores, each behind a space.
 fn put_list(out: &mut Vec<u8>, cores: CoreSet) -> Result<(), AllocError>
     ensures { OnOk result (out.new.items ≡ out.old.items ++ cores_below cores 64) }
@@ -154,9 +165,7 @@ fn put_list(out: &mut Vec<u8>, cores: CoreSet) -> Result<(), AllocError>
     let mut index = 0u8;
     'cores: while index < 64 {
         let core = CoreId::new(index);
-        if cores.contains(core) {
-            put_all(out, &[Piece::Words(" "), Piece::Core(core)])?;
-        }
+        put_listed(out, cores, core)?;
         index += 1;
     }
     Ok(())
@@ -181,6 +190,15 @@ fn put_few(out: &mut Vec<u8>, cores: CoreSet) -> Result<(), AllocError>
     }
 }
 
+// Appends which cores a call waits for.
+fn put_acks(out: &mut Vec<u8>, cores: CoreSet) -> Result<(), AllocError>
+    ensures { OnOk result (out.new.items ≡ out.old.items ++ acks_text cores) }
+{
+    put(out, "waits, acks:")?;
+    put_few(out, cores)?;
+    Ok(())
+}
+
 // Appends what a call waits for.
 fn put_cause(out: &mut Vec<u8>, cause: Cause) -> Result<(), AllocError>
     ensures { OnOk result (out.new.items ≡ out.old.items ++ cause_text cause) }
@@ -190,11 +208,7 @@ fn put_cause(out: &mut Vec<u8>, cause: Cause) -> Result<(), AllocError>
             out,
             &[Piece::Words("waits, lock: core "), Piece::Core(core)],
         ),
-        Cause::Acks(cores) => {
-            put(out, "waits, acks:")?;
-            put_few(out, cores)?;
-            Ok(())
-        }
+        Cause::Acks(cores) => put_acks(out, cores),
     }
 }
 

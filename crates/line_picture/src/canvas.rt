@@ -1,13 +1,14 @@
 //! A whole picture: its canvas with columns, lanes and rows, and all shapes on it.
 ghost use Rattle.std.specs.Prelude.{◌≡◌, ◌++◌, ◌≤◌, IfOk, OnOk};
 ghost use Rattle.std.specs.List.{flat_map};
-ghost use Rattle.line_picture.specs.Canvas.{canvas_text, column_text, columns_text, drawn, form_class, front_text, head_text, head_words, height, lane_text, lanes_text, legend_text, line_at, picture_text, row_text, rows_text, title_text, width};
+ghost use Rattle.picture.specs.Canvas.{head_words};
+ghost use Rattle.line_picture.specs.Canvas.{canvas_text, column_text, columns_text, drawn, form_class, front_text, head_text, height, lane_of, lane_text, lanes_text, legend_text, line_at, picture_text, row_text, rows_text, title_text, width};
 ghost use Rattle.line_picture.specs.Drawing.{arrow_text, bar_text, danger_text, mark_text, stretch_text, wait_text};
 
 use crate::cores::acting;
 use crate::dangers::{Danger, dangers_of};
 use crate::drawing::{put_arrow, put_bar, put_danger, put_mark, put_stretch, put_wait};
-use crate::sheet::{Form, Sheet, lane, lanes_of, row_y, rows_y, sheet_of};
+use crate::sheet::{Form, Sheet, across, lane, lanes_of, pitch, row_y, rows_y, sheet_of, wide};
 use crate::style::{LEGEND, STYLE};
 use crate::waits::Waited;
 use picture::elements::{Piece, Way, put, put_all, put_text};
@@ -19,7 +20,7 @@ use std::alloc::{AllocError, Global};
 use vm_base::{CoreId, PageRange};
 
 /// What a picture is of: what happened, from this column on, the numbers of the columns' lines, and the waits in them.
-#[derive(Clone, Copy, Debug)]
+#[derive(Clone, Copy)]
 pub struct Scene<'a> {
     /// The number of the first column.
     pub first: u64,
@@ -32,15 +33,15 @@ pub struct Scene<'a> {
 }
 
 // How wide the picture is: at least as its legend.
-fn width(sheet: Sheet) -> u64
-    ensures { result ≡ width sheet }
+fn width(sheet: &Sheet) -> u64
+    ensures { result ≡ width sheet.now }
 {
-    (160 + u64::from(sheet.wide) * u64::from(sheet.columns)).max(740)
+    (160 + across(sheet, u64::from(sheet.columns))).max(740)
 }
 
 // How high the picture is.
-fn height(sheet: Sheet, rows: usize) -> u64
-    ensures value { result ≡ height sheet rows }
+fn height(sheet: &Sheet, rows: usize) -> u64
+    ensures value { result ≡ height sheet.now rows }
     ensures bounded { result ≤ 20000000 }
 {
     rows_y(sheet) + 20 * rows.min(256) as u64 + 56
@@ -65,8 +66,8 @@ fn line_at(heads: &[u64], at: usize) -> u64
 }
 
 // Appends the title.
-fn put_title(out: &mut Vec<u8>, sheet: Sheet, heads: &[u64]) -> Result<(), AllocError>
-    ensures { OnOk result (out.new.items ≡ out.old.items ++ title_text sheet heads.now) }
+fn put_title(out: &mut Vec<u8>, sheet: &Sheet, heads: &[u64]) -> Result<(), AllocError>
+    ensures { OnOk result (out.new.items ≡ out.old.items ++ title_text sheet.now heads.now) }
 {
     let first = line_at(heads, 0);
     let last = line_at(heads, heads.len().saturating_sub(1));
@@ -88,11 +89,11 @@ fn put_title(out: &mut Vec<u8>, sheet: Sheet, heads: &[u64]) -> Result<(), Alloc
 // Appends the beginning of the text: size, title, colours, and heads of arrows.
 fn put_front(
     out: &mut Vec<u8>,
-    sheet: Sheet,
+    sheet: &Sheet,
     heads: &[u64],
     high: u64,
 ) -> Result<(), AllocError>
-    ensures { OnOk result (out.new.items ≡ out.old.items ++ front_text sheet heads.now high) }
+    ensures { OnOk result (out.new.items ≡ out.old.items ++ front_text sheet.now heads.now high) }
 {
     let wide = width(sheet);
     put_all(
@@ -119,15 +120,15 @@ fn put_front(
 // Appends the line at the left of a column, and the number of its trace's line.
 fn put_column(
     out: &mut Vec<u8>,
-    sheet: Sheet,
+    sheet: &Sheet,
     bottom: u64,
     at: usize,
     line: u64,
 ) -> Result<(), AllocError>
-    requires { at ≤ 4000000 }
-    ensures { OnOk result (out.new.items ≡ out.old.items ++ column_text sheet bottom at line) }
+    requires { at ≤ 65535 }
+    ensures { OnOk result (out.new.items ≡ out.old.items ++ column_text sheet.now bottom at line) }
 {
-    let x = 150 + u64::from(sheet.wide) * at as u64;
+    let x = 150 + across(sheet, at as u64);
     let way = Way {
         x1: x,
         y1: 36,
@@ -138,7 +139,7 @@ fn put_column(
         out,
         &[
             Part::Line("grid", way),
-            Part::Text("step", x + u64::from(sheet.wide) / 2, 30),
+            Part::Text("step", x + wide(sheet) / 2, 30),
             Part::Plain(Piece::Number(line)),
             Part::Plain(Piece::Words("</text>\n")),
         ],
@@ -148,11 +149,11 @@ fn put_column(
 // Appends the first 2,000 columns.
 fn put_columns(
     out: &mut Vec<u8>,
-    sheet: Sheet,
+    sheet: &Sheet,
     heads: &[u64],
     bottom: u64,
 ) -> Result<(), AllocError>
-    ensures { OnOk result (out.new.items ≡ out.old.items ++ columns_text sheet bottom heads.now) }
+    ensures { OnOk result (out.new.items ≡ out.old.items ++ columns_text sheet.now bottom heads.now) }
 {
     let most = heads.len().min(2000);
     let mut at = 0;
@@ -164,21 +165,21 @@ fn put_columns(
 }
 
 // Appends a core's lane.
-fn put_lane(out: &mut Vec<u8>, sheet: Sheet, core: CoreId) -> Result<(), AllocError>
-    ensures { OnOk result (out.new.items ≡ out.old.items ++ lane_text sheet core) }
+fn put_lane(out: &mut Vec<u8>, sheet: &Sheet, core: CoreId) -> Result<(), AllocError>
+    ensures { OnOk result (out.new.items ≡ out.old.items ++ lane_text sheet.now core) }
 {
     let y = lane(sheet, core);
     let way = Way {
         x1: 8,
         y1: y,
-        x2: 150 + u64::from(sheet.wide) * u64::from(sheet.columns),
+        x2: 150 + across(sheet, u64::from(sheet.columns)),
         y2: y,
     };
     put_parts(
         out,
         &[
             Part::Line("lane", way),
-            Part::Text("core", 8, y + u64::from(sheet.pitch) / 2 + 4),
+            Part::Text("core", 8, y + pitch(sheet) / 2 + 4),
             Part::Plain(Piece::Words("core ")),
             Part::Plain(Piece::Core(core)),
             Part::Plain(Piece::Words("</text>\n")),
@@ -186,24 +187,33 @@ fn put_lane(out: &mut Vec<u8>, sheet: Sheet, core: CoreId) -> Result<(), AllocEr
     )
 }
 
+// Appends the core's lane, if it has one.
+fn put_lane_of(out: &mut Vec<u8>, sheet: &Sheet, core: CoreId) -> Result<(), AllocError>
+    ensures { OnOk result (out.new.items ≡ out.old.items ++ lane_of sheet.now core) }
+{
+    if sheet.cores.contains(core) {
+        put_lane(out, sheet, core)
+    } else {
+        Ok(())
+    }
+}
+
 // Appends the lanes of all cores that have one.
-fn put_lanes(out: &mut Vec<u8>, sheet: Sheet) -> Result<(), AllocError>
-    ensures { OnOk result (out.new.items ≡ out.old.items ++ lanes_text sheet 64) }
+fn put_lanes(out: &mut Vec<u8>, sheet: &Sheet) -> Result<(), AllocError>
+    ensures { OnOk result (out.new.items ≡ out.old.items ++ lanes_text sheet.now 64) }
 {
     let mut index = 0u8;
     'lanes: while index < 64 {
         let core = CoreId::new(index);
-        if sheet.cores.contains(core) {
-            put_lane(out, sheet, core)?;
-        }
+        put_lane_of(out, sheet, core)?;
         index += 1;
     }
     Ok(())
 }
 
 // Appends the addresses of a row.
-fn put_row(out: &mut Vec<u8>, sheet: Sheet, row: u16, pages: PageRange) -> Result<(), AllocError>
-    ensures { OnOk result (out.new.items ≡ out.old.items ++ row_text sheet row pages) }
+fn put_row(out: &mut Vec<u8>, sheet: &Sheet, row: u16, pages: PageRange) -> Result<(), AllocError>
+    ensures { OnOk result (out.new.items ≡ out.old.items ++ row_text sheet.now row pages) }
 {
     let y = row_y(sheet, row) + 14;
     put_parts(
@@ -219,8 +229,8 @@ fn put_row(out: &mut Vec<u8>, sheet: Sheet, row: u16, pages: PageRange) -> Resul
 }
 
 // Appends the addresses of the first 256 rows.
-fn put_rows(out: &mut Vec<u8>, sheet: Sheet, rows: &[PageRange]) -> Result<(), AllocError>
-    ensures { OnOk result (out.new.items ≡ out.old.items ++ rows_text sheet rows.now) }
+fn put_rows(out: &mut Vec<u8>, sheet: &Sheet, rows: &[PageRange]) -> Result<(), AllocError>
+    ensures { OnOk result (out.new.items ≡ out.old.items ++ rows_text sheet.now rows.now) }
 {
     let most = rows.len().min(256);
     let mut at = 0;
@@ -251,8 +261,8 @@ fn put_head_words(out: &mut Vec<u8>, rows: usize) -> Result<(), AllocError>
 }
 
 // Appends what stands above the rows.
-fn put_head(out: &mut Vec<u8>, sheet: Sheet, rows: usize) -> Result<(), AllocError>
-    ensures { OnOk result (out.new.items ≡ out.old.items ++ head_text sheet rows) }
+fn put_head(out: &mut Vec<u8>, sheet: &Sheet, rows: usize) -> Result<(), AllocError>
+    ensures { OnOk result (out.new.items ≡ out.old.items ++ head_text sheet.now rows) }
 {
     let y = rows_y(sheet).saturating_sub(8);
     put_text(out, "head", 8, y)?;
@@ -278,8 +288,8 @@ fn put_legend(out: &mut Vec<u8>, bottom: u64) -> Result<(), AllocError>
 }
 
 // Appends all spans of danger.
-fn put_dangers(out: &mut Vec<u8>, sheet: Sheet, dangers: &[Danger]) -> Result<(), AllocError>
-    ensures { OnOk result (out.new.items ≡ out.old.items ++ flat_map (danger_text sheet) dangers.now) }
+fn put_dangers(out: &mut Vec<u8>, sheet: &Sheet, dangers: &[Danger]) -> Result<(), AllocError>
+    ensures { OnOk result (out.new.items ≡ out.old.items ++ flat_map (danger_text sheet.now) dangers.now) }
 {
     let mut at = 0;
     'dangers: while at < dangers.len() {
@@ -290,8 +300,8 @@ fn put_dangers(out: &mut Vec<u8>, sheet: Sheet, dangers: &[Danger]) -> Result<()
 }
 
 // Appends all bars.
-fn put_bars(out: &mut Vec<u8>, sheet: Sheet, bars: &[Bar]) -> Result<(), AllocError>
-    ensures { OnOk result (out.new.items ≡ out.old.items ++ flat_map (bar_text sheet) bars.now) }
+fn put_bars(out: &mut Vec<u8>, sheet: &Sheet, bars: &[Bar]) -> Result<(), AllocError>
+    ensures { OnOk result (out.new.items ≡ out.old.items ++ flat_map (bar_text sheet.now) bars.now) }
 {
     let mut at = 0;
     'bars: while at < bars.len() {
@@ -302,8 +312,8 @@ fn put_bars(out: &mut Vec<u8>, sheet: Sheet, bars: &[Bar]) -> Result<(), AllocEr
 }
 
 // Appends all arrows.
-fn put_arrows(out: &mut Vec<u8>, sheet: Sheet, arrows: &[Arrow]) -> Result<(), AllocError>
-    ensures { OnOk result (out.new.items ≡ out.old.items ++ flat_map (arrow_text sheet) arrows.now) }
+fn put_arrows(out: &mut Vec<u8>, sheet: &Sheet, arrows: &[Arrow]) -> Result<(), AllocError>
+    ensures { OnOk result (out.new.items ≡ out.old.items ++ flat_map (arrow_text sheet.now) arrows.now) }
 {
     let mut at = 0;
     'arrows: while at < arrows.len() {
@@ -314,8 +324,8 @@ fn put_arrows(out: &mut Vec<u8>, sheet: Sheet, arrows: &[Arrow]) -> Result<(), A
 }
 
 // Appends all marks.
-fn put_marks(out: &mut Vec<u8>, sheet: Sheet, moments: &[Recorded]) -> Result<(), AllocError>
-    ensures { OnOk result (out.new.items ≡ out.old.items ++ flat_map (mark_text sheet) moments.now) }
+fn put_marks(out: &mut Vec<u8>, sheet: &Sheet, moments: &[Recorded]) -> Result<(), AllocError>
+    ensures { OnOk result (out.new.items ≡ out.old.items ++ flat_map (mark_text sheet.now) moments.now) }
 {
     let mut at = 0;
     'marks: while at < moments.len() {
@@ -326,8 +336,8 @@ fn put_marks(out: &mut Vec<u8>, sheet: Sheet, moments: &[Recorded]) -> Result<()
 }
 
 // Appends all waits.
-fn put_waits(out: &mut Vec<u8>, sheet: Sheet, waits: &[Waited]) -> Result<(), AllocError>
-    ensures { OnOk result (out.new.items ≡ out.old.items ++ flat_map (wait_text sheet) waits.now) }
+fn put_waits(out: &mut Vec<u8>, sheet: &Sheet, waits: &[Waited]) -> Result<(), AllocError>
+    ensures { OnOk result (out.new.items ≡ out.old.items ++ flat_map (wait_text sheet.now) waits.now) }
 {
     let mut at = 0;
     'waits: while at < waits.len() {
@@ -340,11 +350,11 @@ fn put_waits(out: &mut Vec<u8>, sheet: Sheet, waits: &[Waited]) -> Result<(), Al
 // Appends all stretches.
 fn put_stretches(
     out: &mut Vec<u8>,
-    sheet: Sheet,
+    sheet: &Sheet,
     text: &[u8],
     stretches: &[Stretch],
 ) -> Result<(), AllocError>
-    ensures { OnOk result (out.new.items ≡ out.old.items ++ flat_map (stretch_text sheet text.now) stretches.now) }
+    ensures { OnOk result (out.new.items ≡ out.old.items ++ flat_map (stretch_text sheet.now text.now) stretches.now) }
 {
     let mut at = 0;
     'stretches: while at < stretches.len() {
@@ -357,14 +367,14 @@ fn put_stretches(
 // Appends the canvas: columns, lanes, rows and legend.
 fn put_canvas(
     out: &mut Vec<u8>,
-    sheet: Sheet,
+    sheet: &Sheet,
     heads: &[u64],
     rows: &[PageRange],
     high: u64,
     bottom: u64,
 ) -> Result<(), AllocError>
     requires { bottom ≤ 20000000 }
-    ensures { OnOk result (out.new.items ≡ out.old.items ++ canvas_text sheet heads.now rows.now high bottom) }
+    ensures { OnOk result (out.new.items ≡ out.old.items ++ canvas_text sheet.now heads.now rows.now high bottom) }
 {
     put_front(out, sheet, heads, high)?;
     put_columns(out, sheet, heads, bottom)?;
@@ -378,7 +388,7 @@ fn put_canvas(
 // Appends all shapes: pages first, dangers, arrows, then calls over them, marks and waits.
 fn put_shapes(
     out: &mut Vec<u8>,
-    sheet: Sheet,
+    sheet: &Sheet,
     text: &[u8],
     scene: &Scene,
     stretches: &[Stretch],
@@ -387,7 +397,7 @@ fn put_shapes(
     bars: &[Bar],
 ) -> Result<(), AllocError>
     ensures { OnOk result (out.new.items
-        ≡ out.old.items ++ drawn sheet text.now scene.now.moments.now scene.now.waits.now stretches.now dangers.now arrows.now bars.now) }
+        ≡ out.old.items ++ drawn sheet.now text.now scene.now.moments.now scene.now.waits.now stretches.now dangers.now arrows.now bars.now) }
 {
     put_stretches(out, sheet, text, stretches)?;
     put_dangers(out, sheet, dangers)?;
@@ -414,12 +424,12 @@ pub fn draw(alloc: Global, text: &[u8], scene: &Scene) -> Result<Vec<u8>, AllocE
     let dangers = dangers_of(alloc, scene.moments)?;
     let arrows = arrows_of(alloc, scene.moments)?;
     let bars = bars_of(alloc, scene.moments)?;
-    let high = height(sheet, rows.len());
+    let high = height(&sheet, rows.len());
     let bottom = high.saturating_sub(52);
     let mut out: Vec<u8> = Vec::new(alloc);
     put_canvas(
         &mut out,
-        sheet,
+        &sheet,
         scene.heads,
         rows.as_slice(),
         high,
@@ -427,7 +437,7 @@ pub fn draw(alloc: Global, text: &[u8], scene: &Scene) -> Result<Vec<u8>, AllocE
     )?;
     put_shapes(
         &mut out,
-        sheet,
+        &sheet,
         text,
         scene,
         stretches.as_slice(),

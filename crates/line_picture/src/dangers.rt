@@ -1,7 +1,7 @@
 //! Where translations are in danger: a core was told to drop them, and may still have them.
 ghost use Rattle.std.specs.Prelude.{◌≡◌, ◌++◌, IfOk, OnOk};
 ghost use Rattle.std.specs.List.{flat_map};
-ghost use Rattle.line_picture.specs.Dangers.{acknowledges, acknowledged, danger_of, dangers_below, dangers_in, dangers_of};
+ghost use Rattle.line_picture.specs.Dangers.{acknowledges, acknowledged, danger_at, danger_of, dangers_below, dangers_in, dangers_of};
 
 use picture::moments::{Moment, Pass, Recorded};
 use std::alloc::{AllocError, Global};
@@ -61,6 +61,23 @@ fn danger_of(moments: &[Recorded], sender: CoreId, core: CoreId, column: u64) ->
     }
 }
 
+// Appends that of the core, if it was told in this column.
+fn put_danger(
+    dangers: &mut Vec<Danger>,
+    moments: &[Recorded],
+    sender: CoreId,
+    cores: CoreSet,
+    core: CoreId,
+    column: u64,
+) -> Result<(), AllocError>
+    ensures { OnOk result (dangers.new.items ≡ dangers.old.items ++ danger_at moments.now sender cores core column) }
+{
+    if cores.contains(core) {
+        dangers.push(danger_of(moments, sender, core, column))?;
+    }
+    Ok(())
+}
+
 // Appends those of the cores that were told in this column.
 fn put_dangers(
     dangers: &mut Vec<Danger>,
@@ -74,9 +91,7 @@ fn put_dangers(
     let mut index = 0u8;
     'cores: while index < 64 {
         let core = CoreId::new(index);
-        if cores.contains(core) {
-            dangers.push(danger_of(moments, sender, core, column))?;
-        }
+        put_danger(dangers, moments, sender, cores, core, column)?;
         index += 1;
     }
     Ok(())

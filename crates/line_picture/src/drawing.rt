@@ -6,7 +6,7 @@ ghost use Rattle.line_picture.specs.Drawing.{arrow_text, bar_text, danger_text, 
 use crate::bits::{Bit, put_bits};
 use crate::dangers::Danger;
 use crate::places::{arrow_way, bar_place, danger_place, mark_place, middle, stretch_place};
-use crate::sheet::{Form, Sheet, lane, row_y};
+use crate::sheet::{Form, Sheet, lane, pitch, row_y, wide};
 use crate::waits::Waited;
 use picture::drawing::prot_class;
 use picture::elements::Piece;
@@ -53,8 +53,8 @@ fn second_line(form: Form) -> &'static str
 }
 
 /// Appends a bar with its name, what it asks for, and its reply.
-pub fn put_bar(out: &mut Vec<u8>, sheet: Sheet, bar: &Bar) -> Result<(), AllocError>
-    ensures { OnOk result (out.new.items ≡ out.old.items ++ bar_text sheet bar.now) }
+pub fn put_bar(out: &mut Vec<u8>, sheet: &Sheet, bar: &Bar) -> Result<(), AllocError>
+    ensures { OnOk result (out.new.items ≡ out.old.items ++ bar_text sheet.now bar.now) }
 {
     let name = request_name(bar.request);
     let place = bar_place(sheet, bar);
@@ -92,8 +92,8 @@ fn wait_line(form: Form) -> &'static str
 }
 
 /// Appends what a call waits for, in the column in which it does.
-pub fn put_wait(out: &mut Vec<u8>, sheet: Sheet, waited: &Waited) -> Result<(), AllocError>
-    ensures { OnOk result (out.new.items ≡ out.old.items ++ wait_text sheet waited.now) }
+pub fn put_wait(out: &mut Vec<u8>, sheet: &Sheet, waited: &Waited) -> Result<(), AllocError>
+    ensures { OnOk result (out.new.items ≡ out.old.items ++ wait_text sheet.now waited.now) }
 {
     let line = wait_line(sheet.form);
     put_bits(
@@ -133,8 +133,8 @@ fn course_words(course: Course) -> &'static str
 }
 
 /// Appends an arrow, with what it says on pointing.
-pub fn put_arrow(out: &mut Vec<u8>, sheet: Sheet, arrow: &Arrow) -> Result<(), AllocError>
-    ensures { OnOk result (out.new.items ≡ out.old.items ++ arrow_text sheet arrow.now) }
+pub fn put_arrow(out: &mut Vec<u8>, sheet: &Sheet, arrow: &Arrow) -> Result<(), AllocError>
+    ensures { OnOk result (out.new.items ≡ out.old.items ++ arrow_text sheet.now arrow.now) }
 {
     let words = course_words(arrow.course);
     let class = course_class(arrow.course);
@@ -154,8 +154,8 @@ pub fn put_arrow(out: &mut Vec<u8>, sheet: Sheet, arrow: &Arrow) -> Result<(), A
 }
 
 /// Appends a span of danger, with what it says on pointing.
-pub fn put_danger(out: &mut Vec<u8>, sheet: Sheet, danger: &Danger) -> Result<(), AllocError>
-    ensures { OnOk result (out.new.items ≡ out.old.items ++ danger_text sheet danger.now) }
+pub fn put_danger(out: &mut Vec<u8>, sheet: &Sheet, danger: &Danger) -> Result<(), AllocError>
+    ensures { OnOk result (out.new.items ≡ out.old.items ++ danger_text sheet.now danger.now) }
 {
     let place = danger_place(sheet, danger);
     put_bits(
@@ -175,27 +175,27 @@ pub fn put_danger(out: &mut Vec<u8>, sheet: Sheet, danger: &Danger) -> Result<()
 }
 
 // The class of a mark's word, which isn't seen where it has no room.
-fn deed_class(sheet: Sheet) -> &'static str
-    ensures { result.now ≡ deed_class sheet }
+fn deed_class(sheet: &Sheet) -> &'static str
+    ensures { result.now ≡ deed_class sheet.now }
 {
-    if sheet.wide < 30 { "hid" } else { "deed" }
+    if wide(sheet) < 30 { "hid" } else { "deed" }
 }
 
 // Appends a mark of this class with a word.
-fn put_pill(
+fn put_pill<'a>(
     out: &mut Vec<u8>,
-    sheet: Sheet,
+    sheet: &Sheet,
     core: CoreId,
     number: u64,
-    class: &str,
-    word: &str,
+    class: &'a str,
+    word: &'a str,
 ) -> Result<(), AllocError>
-    ensures { OnOk result (out.new.items ≡ out.old.items ++ pill_text sheet core number class.now word.now) }
+    ensures { OnOk result (out.new.items ≡ out.old.items ++ pill_text sheet.now core number class.now word.now) }
 {
     let place = mark_place(sheet, core, number);
     let seen = deed_class(sheet);
     let x = middle(sheet, number);
-    let y = lane(sheet, core) + u64::from(sheet.pitch) / 2 + 3;
+    let y = lane(sheet, core) + pitch(sheet) / 2 + 3;
     put_bits(
         out,
         &[
@@ -225,12 +225,12 @@ fn pass_word(pass: Pass) -> &'static str
 // Appends the mark of what a core did besides; a wait has words in its bar.
 fn put_deed(
     out: &mut Vec<u8>,
-    sheet: Sheet,
+    sheet: &Sheet,
     core: CoreId,
     number: u64,
     deed: Deed,
 ) -> Result<(), AllocError>
-    ensures { OnOk result (out.new.items ≡ out.old.items ++ deed_text sheet core number deed) }
+    ensures { OnOk result (out.new.items ≡ out.old.items ++ deed_text sheet.now core number deed) }
 {
     match deed {
         Deed::Wait => Ok(()),
@@ -243,8 +243,8 @@ fn put_deed(
 }
 
 /// Appends the mark of a take, or of something else that a core did, where this is one.
-pub fn put_mark(out: &mut Vec<u8>, sheet: Sheet, recorded: &Recorded) -> Result<(), AllocError>
-    ensures { OnOk result (out.new.items ≡ out.old.items ++ mark_text sheet recorded.now) }
+pub fn put_mark(out: &mut Vec<u8>, sheet: &Sheet, recorded: &Recorded) -> Result<(), AllocError>
+    ensures { OnOk result (out.new.items ≡ out.old.items ++ mark_text sheet.now recorded.now) }
 {
     match &recorded.moment {
         Moment::Took { core, pass, .. } => {
@@ -262,11 +262,11 @@ pub fn put_mark(out: &mut Vec<u8>, sheet: Sheet, recorded: &Recorded) -> Result<
 /// Appends a stretch with its rights, and what it says on pointing, with names that the text of the trace has.
 pub fn put_stretch(
     out: &mut Vec<u8>,
-    sheet: Sheet,
+    sheet: &Sheet,
     text: &[u8],
     stretch: Stretch,
 ) -> Result<(), AllocError>
-    ensures { OnOk result (out.new.items ≡ out.old.items ++ stretch_text sheet text.now stretch) }
+    ensures { OnOk result (out.new.items ≡ out.old.items ++ stretch_text sheet.now text.now stretch) }
 {
     let class = prot_class(stretch.prot);
     let place = stretch_place(sheet, stretch);

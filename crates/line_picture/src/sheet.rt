@@ -1,6 +1,6 @@
 //! How a picture is laid out: by how many cores act, and how many columns there are.
 ghost use Rattle.std.specs.Prelude.{◌≡◌, ◌≤◌};
-ghost use Rattle.line_picture.specs.Sheet.{column, form_of, lane, lanes_of, pitch_of, row_y, rows_y, sheet_of, wide_of};
+ghost use Rattle.line_picture.specs.Sheet.{across, column, down, form_of, lane, lanes_of, pitch, row_y, rows_y, sheet_of, wide};
 ghost use Rattle.vm_base.specs.Cores.{members};
 
 use crate::cores::count_members;
@@ -28,10 +28,6 @@ pub struct Sheet {
     pub columns: u16,
     /// How words stand.
     pub form: Form,
-    /// How wide a column is.
-    pub wide: u16,
-    /// How high a lane is.
-    pub pitch: u16,
 }
 
 /// How many cores have a lane.
@@ -55,24 +51,54 @@ fn form_of(lanes: u64, columns: u16) -> Form
     }
 }
 
-// How wide a column is: 12 or 40 of them have 1,440.
-fn wide_of(form: Form, columns: u16) -> u16
-    ensures { result ≡ wide_of form columns }
+/// How wide so many columns are: 12, or 40, have 1,440.
+pub fn across(sheet: &Sheet, count: u64) -> u64
+    requires { count ≤ 65535 }
+    ensures value { result ≡ across sheet.now count }
+    ensures bounded { result ≤ 8000000 }
 {
-    if columns <= 12 {
+    if sheet.columns <= 12 {
+        return 120 * count;
+    }
+    match sheet.form {
+        Form::Flat if sheet.columns > 40 => 16 * count,
+        _ => 36 * count,
+    }
+}
+
+/// How wide a column is.
+pub fn wide(sheet: &Sheet) -> u64
+    ensures value { result ≡ wide sheet.now }
+    ensures bounded { result ≤ 120 }
+{
+    if sheet.columns <= 12 {
         return 120;
     }
-    match form {
-        Form::Flat if columns > 40 => 16,
+    match sheet.form {
+        Form::Flat if sheet.columns > 40 => 16,
         _ => 36,
     }
 }
 
-// How high a lane is.
-fn pitch_of(form: Form) -> u16
-    ensures { result ≡ pitch_of form }
+/// How high so many lanes are.
+pub fn down(sheet: &Sheet, count: u64) -> u64
+    requires { count ≤ 64 }
+    ensures value { result ≡ down sheet.now count }
+    ensures bounded { result ≤ 7424 }
 {
-    match form {
+    match sheet.form {
+        Form::Wide => 62 * count,
+        Form::Narrow => 116 * count,
+        Form::Flat => 15 * count,
+    }
+}
+
+/// How high a lane is.
+pub fn pitch(sheet: &Sheet) -> u64
+    ensures value { result ≡ pitch sheet.now }
+    ensures bounded { result ≤ 116 }
+{
+    match sheet.form {
         Form::Wide => 62,
         Form::Narrow => 116,
         Form::Flat => 15,
@@ -83,47 +109,46 @@ fn pitch_of(form: Form) -> u16
 pub fn sheet_of(cores: CoreSet, first: u64, columns: u16) -> Sheet
     ensures { result ≡ sheet_of cores first columns }
 {
-    let form = form_of(lanes_of(cores), columns);
     Sheet {
         cores,
         first,
         columns,
-        form,
-        wide: wide_of(form, columns),
-        pitch: pitch_of(form),
+        form: form_of(lanes_of(cores), columns),
     }
 }
 
 /// Where the column begins, from the left: behind the names, and the columns before it. Columns before the first have its
 /// place, and columns after the last one begin where that ends.
-pub fn column(sheet: Sheet, number: u64) -> u64
-    ensures value { result ≡ column sheet number }
-    ensures bounded { result ≤ 5000000000 }
+pub fn column(sheet: &Sheet, number: u64) -> u64
+    ensures value { result ≡ column sheet.now number }
+    ensures bounded { result ≤ 9000000 }
 {
     let at = number.saturating_sub(sheet.first).min(u64::from(sheet.columns));
-    150 + u64::from(sheet.wide) * at
+    150 + across(sheet, at)
 }
 
 /// Where the core's lane begins, from above.
-pub fn lane(sheet: Sheet, core: CoreId) -> u64
-    ensures value { result ≡ lane sheet core }
-    ensures bounded { result ≤ 5000000 }
+pub fn lane(sheet: &Sheet, core: CoreId) -> u64
+    ensures value { result ≡ lane sheet.now core }
+    ensures bounded { result ≤ 8000 }
 {
-    40 + u64::from(sheet.pitch) * count_members(sheet.cores, core.index())
+    let above = count_members(sheet.cores, core.index());
+    40 + down(sheet, above)
 }
 
 /// Where the rows of pages begin, from above.
-pub fn rows_y(sheet: Sheet) -> u64
-    ensures value { result ≡ rows_y sheet }
-    ensures bounded { result ≤ 5000000 }
+pub fn rows_y(sheet: &Sheet) -> u64
+    ensures value { result ≡ rows_y sheet.now }
+    ensures bounded { result ≤ 8000 }
 {
-    76 + u64::from(sheet.pitch) * lanes_of(sheet.cores)
+    let lanes = lanes_of(sheet.cores);
+    76 + down(sheet, lanes)
 }
 
 /// Where this row begins, from above.
-pub fn row_y(sheet: Sheet, row: u16) -> u64
-    ensures value { result ≡ row_y sheet row }
-    ensures bounded { result ≤ 10000000 }
+pub fn row_y(sheet: &Sheet, row: u16) -> u64
+    ensures value { result ≡ row_y sheet.now row }
+    ensures bounded { result ≤ 2000000 }
 {
     rows_y(sheet) + 20 * u64::from(row)
 }

@@ -396,28 +396,36 @@ picture reads a trace, and writes a picture of what happened as one SVG text:
 
   radixvm picture TRACE > trace.svg
 
-Each step has a column; of a call that goes on by itself (cC! REQ) each of its
-steps has one. Each core has a lane. In it lie
+Each line that does something has a column, under its number. Lines whose steps
+are those of one call, with no other step between, share one. Each core that
+has a part in it has a lane. In it lie
 
-  bars     a call each, from its begin to its answer, with the reply. A call
+  bars     a call each, from its begin to its answer, with what it asks for and
+           the reply. A call that waits says for what, in that column. A call
            that isn't answered goes on to the last column, and one that began
            before the first column begins there
-  arrows   from a call that tells other cores to drop their translations to
-           each core's first take, and back from its second, which acknowledges
-  marks    takes, walks, evictions, flushes, reviews, a call that waits, and a
-           core that looked for a message and had none
+  marks    takes, walks, evictions, flushes, reviews, and a core that looked
+           for a message and had none
+  arrows   in the column of a take: from the call that told this core to drop
+           translations, at the first, and back to it, at the second
+  hatched  from the column in which a core is told to that of its second take:
+           up to there it may use the translations
 
 Below, a row shows pages that are mapped and unmapped together. Its colour says
-what may be done with them, from the step that makes the change. What was
+what may be done with them, from the column that makes the change. What was
 mapped before the first column isn't shown. Point at a bar, a mark or a stretch
 to read what it is. Of pages that is their addresses, rights and BACK (help
 maps), and the file's name, if a comment # file N NAME stands right before the
 file's line, as import writes it.
 
-  --from N  the first step that is shown: 1 where it is left out. Where the
+  --from N  the first line that is shown: 1 where it is left out. Where the
             trace has fewer there is no picture, and the status is 2
-  --to N    the last one, not below N of --from. 2000 steps are shown at most,
-            which is then said on standard error
+  --to N    the last one, not below N of --from. What stands behind it isn't
+            looked at. 2000 columns are shown at most, which is then said on
+            standard error
+  --steps   in place of lines each step has a column, under its number. Of a
+            call that goes on by itself (cC! REQ) each of its steps has one.
+            --from and --to name steps, and 2000 steps are shown at most
   --lives   in place of that the lives of mappings over the whole trace, which
             may ask for up to 2^40 calls. Pages that lie beside each other
             share a row where they are alike in all steps. In it lies a
@@ -426,7 +434,8 @@ file's line, as import writes it.
             to 63 of them, stand their addresses and BACK, of the last
             rectangle. Colours say what may be done with the pages, and shades
             what backs them. 2000 rectangles are shown at most, from the lowest
-            pages on, and the picture says so. Not beside --from or --to
+            pages on, and the picture says so. Not beside --steps, --from or
+            --to
 
 The trace is held in memory.
 

@@ -1,0 +1,15 @@
+use Rattle.std.proofs.Common.{inl}
+use Rattle.std.proofs.KnownBytes.{Keeps-refl}
+use Rattle.command_line.proofs.LiningLemmas.{lines_drawn}
+use Rattle.command_line.proofs.StateLemmas.{state_unseen}
+use Rattle.command_line.proofs.lining.draw_lines.Goals as goal
+
+pub returns-in-Ok-record-clause-ends : goal.returns-in-Ok-record-clause-ends
+returns-in-Ok-record-clause-ends g c =
+    lines_drawn c.args.lines c.args.trace.now c.front_of-front.result.now _ _ c.in-Ok.recorder c.in-Ok-record.recorder c.lacking_from-lacking.result
+    c.write_lines.result c.front_of-front.ensures c.lacking_from-lacking.ensures c.in-Ok.ensures c.in-Ok-record.ensures.ends
+    c.write_lines.ensures.ok c.write_lines.ensures.err
+
+pub returns-in-Err-clause-ends : goal.returns-in-Err-clause-ends
+returns-in-Err-clause-ends g c =
+    inl (state_unseen _ c.args.trace.now c.front_of-front.result.now _ c.front_of-front.ensures c.in-Err.ensures.ends, Keeps-refl _)
