@@ -3,7 +3,9 @@ use Rattle.std.specs.Prelude.{ℕ, zero, suc, ◌+◌, List, [], ◌∷◌, ◌+
 use Rattle.std.specs.List.{concat, flat_map}
 use Rattle.vm_base.specs.Cores.{members}
 use Rattle.trace_text.specs.Printing.{text_of}
-use Rattle.picture.specs.Parts.{part_text, reply_class}
+use Rattle.picture.specs.Backing.{backing_words}
+use Rattle.picture.specs.Elements.{line_text, piece_text, rect_text, text_front}
+use Rattle.picture.specs.Parts.{arguments_of, reply_class}
 use Rattle.picture.specs.declared.moments.Answer.{Answer}
 use Rattle.line_picture.specs.Cores.{count_members}
 use Rattle.line_picture.specs.Places.{words_y}
@@ -88,7 +90,12 @@ cause_text (Acks cores) = acks_text cores
 -- ---- bits
 
 abbrev pub bit_text : Bit → List ℕ
-bit_text (In.Of part) = part_text part
+bit_text (In.Plain piece) = piece_text piece
+bit_text (In.Rect class place) = rect_text class.now place
+bit_text (In.Line class way) = line_text class.now way
+bit_text (In.Text class x y) = text_front class.now x y
+bit_text (In.Arguments request) = arguments_of request
+bit_text (In.Backing text back) = backing_words text.now back
 bit_text (In.Spot sheet core number) = spot_text sheet.now core number
 bit_text (In.Answer answer) = answer_text answer
 bit_text (In.End sheet core answer) = after_words sheet.now core answer

@@ -50,7 +50,7 @@ middle sheet number = column sheet number + wide sheet / 2
 -- how far a mark lies from the edges of its lane
 abbrev pub mark_inset : Form → ℕ
 mark_inset Wide = 22
-mark_inset Narrow = 49
+mark_inset Narrow = 55
 mark_inset Flat = 2
 
 -- a mark is as wide as its column, but for 4, and 60 at the most

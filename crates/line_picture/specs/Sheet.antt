@@ -30,7 +30,7 @@ across sheet count = wide sheet * count
 -- how high a lane is
 abbrev pub pitch_of : Form → ℕ
 pitch_of Wide = 62
-pitch_of Narrow = 116
+pitch_of Narrow = 128
 pitch_of Flat = 15
 
 abbrev pub pitch : Sheet → ℕ

@@ -2,23 +2,34 @@
 ghost use Rattle.std.specs.Prelude.{◌≡◌, ◌++◌, OnOk};
 ghost use Rattle.std.specs.List.{flat_map};
 ghost use Rattle.line_picture.specs.Bits.{acks_text, after_words, answer_text, bit_text, cause_text, cores_below, few_text, flat_answer, listed, own_answer, spot_text, third_line, turn_words};
-ghost use Rattle.picture.specs.Parts.{reply_class};
+ghost use Rattle.picture.specs.Parts.{arguments_of, reply_class};
 
 use crate::cores::count_members;
 use crate::places::words_y;
 use crate::sheet::{Form, Sheet, column};
 use crate::waits::Cause;
-use picture::elements::{Piece, put, put_all};
+use picture::backing::put_backing;
+use picture::elements::{Piece, Place, Way, put, put_all, put_line, put_piece, put_rect, put_text};
 use picture::moments::Answer;
 use picture::parts::{Part, put_parts};
 use std::alloc::AllocError;
-use vm_base::{CoreId, CoreSet, Reply};
+use vm_base::{Back, CoreId, CoreSet, Reply, Request};
 
-/// A bit of what a shape is written as.
+/// A bit of what a shape is written as: of any picture, or by how words stand.
 #[derive(Clone, Copy, Debug, PartialEq, Eq)]
 pub enum Bit<'a> {
-    /// A part of any picture.
-    Of(Part<'a>),
+    /// A piece.
+    Plain(Piece<'a>),
+    /// A rectangle of this class.
+    Rect(&'a str, Place),
+    /// A line of this class.
+    Line(&'a str, Way),
+    /// The beginning of a text of this class, and where it stands.
+    Text(&'a str, u64, u64),
+    /// What a request asks for, after its name.
+    Arguments(Request),
+    /// What backs pages, where that is known, with a file's name if the text of the trace has one.
+    Backing(&'a [u8], Option<Back>),
     /// The place at which the words of a core's bar begin in this column.
     Spot(&'a Sheet, CoreId, u64),
     /// The reply behind an equals sign, if there is one.
@@ -212,12 +223,24 @@ fn put_cause(out: &mut Vec<u8>, cause: Cause) -> Result<(), AllocError>
     }
 }
 
+// Appends what a request asks for.
+fn put_arguments(out: &mut Vec<u8>, request: Request) -> Result<(), AllocError>
+    ensures { OnOk result (out.new.items ≡ out.old.items ++ arguments_of request) }
+{
+    put_parts(out, &[Part::Arguments(request)])
+}
+
 // Appends a bit.
 fn put_bit(out: &mut Vec<u8>, bit: &Bit) -> Result<(), AllocError>
     ensures { OnOk result (out.new.items ≡ out.old.items ++ bit_text bit.now) }
 {
     match bit {
-        Bit::Of(part) => put_parts(out, &[*part]),
+        Bit::Plain(piece) => put_piece(out, piece),
+        Bit::Rect(class, place) => put_rect(out, class, *place),
+        Bit::Line(class, way) => put_line(out, class, *way),
+        Bit::Text(class, x, y) => put_text(out, class, *x, *y),
+        Bit::Arguments(request) => put_arguments(out, *request),
+        Bit::Backing(text, back) => put_backing(out, text, *back),
         Bit::Spot(sheet, core, number) => put_spot(out, *sheet, *core, *number),
         Bit::Answer(answer) => put_answer(out, *answer),
         Bit::End(sheet, core, answer) => put_end(out, *sheet, *core, *answer),

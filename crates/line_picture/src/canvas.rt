@@ -70,7 +70,8 @@ fn put_title(out: &mut Vec<u8>, sheet: &Sheet, heads: &[u64]) -> Result<(), Allo
     ensures { OnOk result (out.new.items ≡ out.old.items ++ title_text sheet.now heads.now) }
 {
     let first = line_at(heads, 0);
-    let last = line_at(heads, heads.len().saturating_sub(1));
+    let end = heads.len().saturating_sub(1);
+    let last = line_at(heads, end);
     let cores = lanes_of(sheet.cores);
     put_all(
         out,
@@ -169,10 +170,11 @@ fn put_lane(out: &mut Vec<u8>, sheet: &Sheet, core: CoreId) -> Result<(), AllocE
     ensures { OnOk result (out.new.items ≡ out.old.items ++ lane_text sheet.now core) }
 {
     let y = lane(sheet, core);
+    let columns = u64::from(sheet.columns);
     let way = Way {
         x1: 8,
         y1: y,
-        x2: 150 + across(sheet, u64::from(sheet.columns)),
+        x2: 150 + across(sheet, columns),
         y2: y,
     };
     put_parts(

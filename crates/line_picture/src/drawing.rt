@@ -11,7 +11,6 @@ use crate::waits::Waited;
 use picture::drawing::prot_class;
 use picture::elements::Piece;
 use picture::moments::{Deed, Moment, Pass, Recorded};
-use picture::parts::Part;
 use picture::shapes::{Arrow, Bar, Course, Stretch};
 use std::alloc::AllocError;
 use vm_base::{CoreId, Request};
@@ -63,19 +62,19 @@ pub fn put_bar(out: &mut Vec<u8>, sheet: &Sheet, bar: &Bar) -> Result<(), AllocE
     put_bits(
         out,
         &[
-            Bit::Of(Part::Plain(Piece::Words("<g><title>"))),
-            Bit::Of(Part::Plain(Piece::Words(name))),
-            Bit::Of(Part::Arguments(bar.request)),
+            Bit::Plain(Piece::Words("<g><title>")),
+            Bit::Plain(Piece::Words(name)),
+            Bit::Arguments(bar.request),
             Bit::Answer(bar.answer),
-            Bit::Of(Part::Plain(Piece::Words("</title>"))),
-            Bit::Of(Part::Rect(name, place)),
+            Bit::Plain(Piece::Words("</title>")),
+            Bit::Rect(name, place),
             Bit::Spot(sheet, bar.core, bar.begin),
-            Bit::Of(Part::Plain(Piece::Words(first))),
-            Bit::Of(Part::Plain(Piece::Words(name))),
-            Bit::Of(Part::Plain(Piece::Words(second))),
-            Bit::Of(Part::Arguments(bar.request)),
+            Bit::Plain(Piece::Words(first)),
+            Bit::Plain(Piece::Words(name)),
+            Bit::Plain(Piece::Words(second)),
+            Bit::Arguments(bar.request),
             Bit::End(sheet, bar.core, bar.answer),
-            Bit::Of(Part::Plain(Piece::Words("</g>\n"))),
+            Bit::Plain(Piece::Words("</g>\n")),
         ],
     )
 }
@@ -99,15 +98,15 @@ pub fn put_wait(out: &mut Vec<u8>, sheet: &Sheet, waited: &Waited) -> Result<(),
     put_bits(
         out,
         &[
-            Bit::Of(Part::Plain(Piece::Words("<g><title>core "))),
-            Bit::Of(Part::Plain(Piece::Core(waited.core))),
-            Bit::Of(Part::Plain(Piece::Words(" "))),
+            Bit::Plain(Piece::Words("<g><title>core ")),
+            Bit::Plain(Piece::Core(waited.core)),
+            Bit::Plain(Piece::Words(" ")),
             Bit::For(waited.cause),
-            Bit::Of(Part::Plain(Piece::Words("</title>"))),
+            Bit::Plain(Piece::Words("</title>")),
             Bit::Spot(sheet, waited.core, waited.column),
-            Bit::Of(Part::Plain(Piece::Words(line))),
+            Bit::Plain(Piece::Words(line)),
             Bit::For(waited.cause),
-            Bit::Of(Part::Plain(Piece::Words("</text></g></g>\n"))),
+            Bit::Plain(Piece::Words("</text></g></g>\n")),
         ],
     )
 }
@@ -142,13 +141,13 @@ pub fn put_arrow(out: &mut Vec<u8>, sheet: &Sheet, arrow: &Arrow) -> Result<(), 
     put_bits(
         out,
         &[
-            Bit::Of(Part::Plain(Piece::Words("<g><title>core "))),
-            Bit::Of(Part::Plain(Piece::Core(arrow.from))),
-            Bit::Of(Part::Plain(Piece::Words(words))),
-            Bit::Of(Part::Plain(Piece::Core(arrow.to))),
-            Bit::Of(Part::Plain(Piece::Words("</title>"))),
-            Bit::Of(Part::Line(class, way)),
-            Bit::Of(Part::Plain(Piece::Words("</g>\n"))),
+            Bit::Plain(Piece::Words("<g><title>core ")),
+            Bit::Plain(Piece::Core(arrow.from)),
+            Bit::Plain(Piece::Words(words)),
+            Bit::Plain(Piece::Core(arrow.to)),
+            Bit::Plain(Piece::Words("</title>")),
+            Bit::Line(class, way),
+            Bit::Plain(Piece::Words("</g>\n")),
         ],
     )
 }
@@ -161,15 +160,13 @@ pub fn put_danger(out: &mut Vec<u8>, sheet: &Sheet, danger: &Danger) -> Result<(
     put_bits(
         out,
         &[
-            Bit::Of(Part::Plain(Piece::Words("<g><title>core "))),
-            Bit::Of(Part::Plain(Piece::Core(danger.core))),
-            Bit::Of(Part::Plain(Piece::Words(
-                " may use translations that it is told to drop by core ",
-            ))),
-            Bit::Of(Part::Plain(Piece::Core(danger.sender))),
-            Bit::Of(Part::Plain(Piece::Words("</title>"))),
-            Bit::Of(Part::Rect("danger", place)),
-            Bit::Of(Part::Plain(Piece::Words("</g>\n"))),
+            Bit::Plain(Piece::Words("<g><title>core ")),
+            Bit::Plain(Piece::Core(danger.core)),
+            Bit::Plain(Piece::Words(" may use translations that it is told to drop by core ")),
+            Bit::Plain(Piece::Core(danger.sender)),
+            Bit::Plain(Piece::Words("</title>")),
+            Bit::Rect("danger", place),
+            Bit::Plain(Piece::Words("</g>\n")),
         ],
     )
 }
@@ -199,15 +196,15 @@ fn put_pill<'a>(
     put_bits(
         out,
         &[
-            Bit::Of(Part::Plain(Piece::Words("<g><title>core "))),
-            Bit::Of(Part::Plain(Piece::Core(core))),
-            Bit::Of(Part::Plain(Piece::Words(": "))),
-            Bit::Of(Part::Plain(Piece::Words(word))),
-            Bit::Of(Part::Plain(Piece::Words("</title>"))),
-            Bit::Of(Part::Rect(class, place)),
-            Bit::Of(Part::Text(seen, x, y)),
-            Bit::Of(Part::Plain(Piece::Words(word))),
-            Bit::Of(Part::Plain(Piece::Words("</text></g>\n"))),
+            Bit::Plain(Piece::Words("<g><title>core ")),
+            Bit::Plain(Piece::Core(core)),
+            Bit::Plain(Piece::Words(": ")),
+            Bit::Plain(Piece::Words(word)),
+            Bit::Plain(Piece::Words("</title>")),
+            Bit::Rect(class, place),
+            Bit::Text(seen, x, y),
+            Bit::Plain(Piece::Words(word)),
+            Bit::Plain(Piece::Words("</text></g>\n")),
         ],
     )
 }
@@ -275,18 +272,18 @@ pub fn put_stretch(
     put_bits(
         out,
         &[
-            Bit::Of(Part::Plain(Piece::Words("<g><title>"))),
-            Bit::Of(Part::Plain(Piece::Start(stretch.pages.first))),
-            Bit::Of(Part::Plain(Piece::Words("-"))),
-            Bit::Of(Part::Plain(Piece::Start(stretch.pages.end))),
-            Bit::Of(Part::Plain(Piece::Words(" "))),
-            Bit::Of(Part::Plain(Piece::Rights(stretch.prot))),
-            Bit::Of(Part::Backing(text, stretch.back)),
-            Bit::Of(Part::Plain(Piece::Words("</title>"))),
-            Bit::Of(Part::Rect(class, place)),
-            Bit::Of(Part::Text("prot", x, y)),
-            Bit::Of(Part::Plain(Piece::Rights(stretch.prot))),
-            Bit::Of(Part::Plain(Piece::Words("</text></g>\n"))),
+            Bit::Plain(Piece::Words("<g><title>")),
+            Bit::Plain(Piece::Start(stretch.pages.first)),
+            Bit::Plain(Piece::Words("-")),
+            Bit::Plain(Piece::Start(stretch.pages.end)),
+            Bit::Plain(Piece::Words(" ")),
+            Bit::Plain(Piece::Rights(stretch.prot)),
+            Bit::Backing(text, stretch.back),
+            Bit::Plain(Piece::Words("</title>")),
+            Bit::Rect(class, place),
+            Bit::Text("prot", x, y),
+            Bit::Plain(Piece::Rights(stretch.prot)),
+            Bit::Plain(Piece::Words("</text></g>\n")),
         ],
     )
 }

@@ -69,11 +69,11 @@ pub fn middle(sheet: &Sheet, number: u64) -> u64
 // How far a mark lies from the edges of its lane.
 fn mark_inset(form: Form) -> u64
     ensures value { result ≡ mark_inset form }
-    ensures bounded { result ≤ 50 }
+    ensures bounded { result ≤ 60 }
 {
     match form {
         Form::Wide => 22,
-        Form::Narrow => 49,
+        Form::Narrow => 55,
         Form::Flat => 2,
     }
 }
@@ -102,7 +102,7 @@ pub fn mark_place(sheet: &Sheet, core: CoreId, number: u64) -> Place
 
 // Where an arrow from or to the core meets what lies so far from the edges of its lane: below it where the other core lies below.
 fn edge(sheet: &Sheet, core: CoreId, other: CoreId, by: u64) -> u64
-    requires { by ≤ 50 }
+    requires { by ≤ 60 }
     ensures { result ≡ edge sheet.now core other by }
 {
     if core.index() < other.index() {

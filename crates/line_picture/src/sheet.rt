@@ -84,11 +84,11 @@ pub fn wide(sheet: &Sheet) -> u64
 pub fn down(sheet: &Sheet, count: u64) -> u64
     requires { count ≤ 64 }
     ensures value { result ≡ down sheet.now count }
-    ensures bounded { result ≤ 7424 }
+    ensures bounded { result ≤ 8192 }
 {
     match sheet.form {
         Form::Wide => 62 * count,
-        Form::Narrow => 116 * count,
+        Form::Narrow => 128 * count,
         Form::Flat => 15 * count,
     }
 }
@@ -96,11 +96,11 @@ pub fn down(sheet: &Sheet, count: u64) -> u64
 /// How high a lane is.
 pub fn pitch(sheet: &Sheet) -> u64
     ensures value { result ≡ pitch sheet.now }
-    ensures bounded { result ≤ 116 }
+    ensures bounded { result ≤ 128 }
 {
     match sheet.form {
         Form::Wide => 62,
-        Form::Narrow => 116,
+        Form::Narrow => 128,
         Form::Flat => 15,
     }
 }
@@ -130,7 +130,7 @@ pub fn column(sheet: &Sheet, number: u64) -> u64
 /// Where the core's lane begins, from above.
 pub fn lane(sheet: &Sheet, core: CoreId) -> u64
     ensures value { result ≡ lane sheet.now core }
-    ensures bounded { result ≤ 8000 }
+    ensures bounded { result ≤ 9000 }
 {
     let above = count_members(sheet.cores, core.index());
     40 + down(sheet, above)
@@ -139,7 +139,7 @@ pub fn lane(sheet: &Sheet, core: CoreId) -> u64
 /// Where the rows of pages begin, from above.
 pub fn rows_y(sheet: &Sheet) -> u64
     ensures value { result ≡ rows_y sheet.now }
-    ensures bounded { result ≤ 8000 }
+    ensures bounded { result ≤ 9000 }
 {
     let lanes = lanes_of(sheet.cores);
     76 + down(sheet, lanes)

@@ -9,11 +9,13 @@ text.name{font-weight:bold}text.flat{font-size:9px}text.wait{fill:#8a4b00;font-s
 .Wide text.wait{font-size:9px}text.fault{fill:#b0433b}
 text.name,text.what,text.reply,text.fault,text.flat,text.wait{paint-order:stroke;stroke:#fff;stroke-width:1.6px;stroke-opacity:.7}
 text.step,text.deed{text-anchor:middle}text.step{fill:#666}text.hid{display:none}
-text.core,text.head{font-weight:bold;font-size:11px}.Flat text.core{font-size:10px}text.note{fill:#555;font-size:10px}
+text.core,text.head{font-weight:bold;font-size:11px}.Flat text.core{font-size:10px}.Flat text.step{font-size:7px}.Narrow text.what{font-size:8px}
+text.note{fill:#555;font-size:10px}
 .grid{stroke:#eee}.lane{stroke:#ccc}
 .told{stroke:#b0433b;stroke-width:1.6;marker-end:url(#told)}
 .back{stroke:#3b8f5a;stroke-width:1.4;stroke-dasharray:4 3;marker-end:url(#back)}
 .ask{fill:#b0433b}.answer{fill:#3b8f5a}
+.mmap,.munmap,.mprotect,.load,.store,.fetch{fill-opacity:.75}
 .mmap{fill:#d3e6e6;stroke:#3f7f7f}.munmap{fill:#f3d3d3;stroke:#b0433b}.mprotect{fill:#e6daf2;stroke:#8a5fb5}
 .load{fill:#d9efdf;stroke:#2f7d4c}.store{fill:#f6e3c4;stroke:#a8650f}.fetch{fill:#d5e4f4;stroke:#2f6fb0}
 .take{fill:#fff6d8;stroke:#a98}.spot{fill:#eee;stroke:#aaa}

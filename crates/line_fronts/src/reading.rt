@@ -1,0 +1,93 @@
+//! A text that is read up to one of its lines.
+ghost use Rattle.std.specs.Prelude.{◌≡◌, ◌≢◌, ◌≤◌, ◌+◌, ◌<◌, ◌^◌, ◌×◌, Err, IfOk, OnErr, OnOk, drop, length};
+ghost use Rattle.line_fronts.specs.Reading.{IsEnough, newlines};
+ghost use Rattle.trace_io.specs.Source.{Gives, HasEnded, HasStopped, Reads, read_bytes};
+
+use std::alloc::{AllocError, Allocator};
+use trace_io::IoFault;
+use trace_io::source::{ReadFailed, Source};
+
+/// How much is read at once at the most.
+const CHUNK: usize = 65536;
+
+// How many newlines there are.
+fn newlines(bytes: &[u8]) -> u64
+    ensures { result ≡ newlines bytes.now }
+{
+    let mut count = 0u64;
+    let mut at = 0usize;
+    'bytes: while at < bytes.len() {
+        if bytes[at] == b'\n' {
+            count += 1;
+        }
+        at += 1;
+    }
+    count
+}
+
+// Room for what one read gives.
+fn new_chunk<A: Allocator>(alloc: A) -> Result<Vec<u8, A>, AllocError>
+    ensures { IfOk result (λ chunk. length chunk.items ≡ 65536) }
+{
+    let chunk = vec![in alloc; 0u8; CHUNK]?;
+    Ok(chunk)
+}
+
+// Reads into the chunk.
+fn read_chunk<A: Allocator, S: Source>(
+    chunk: &mut Vec<u8, A>,
+    reader: &mut S,
+) -> Result<usize, ReadFailed>
+    requires { 0 < length chunk.old.items }
+    ensures same { length chunk.new.items ≡ length chunk.old.items }
+    ensures room { IfOk result (λ n. n ≤ length chunk.new.items) }
+    ensures bytes { Gives (S.stream reader.old) (S.stream reader.new)
+        (read_bytes result (drop 0 chunk.new.items)) }
+    ensures end { IfOk result (λ n. n ≡ 0 → HasEnded (S.stream reader.new)) }
+    ensures count { OnOk result (S.reads reader.new ≡ S.reads reader.old + 1) }
+    ensures limit { OnOk result (S.reads reader.old < 2 ^ 32) }
+    ensures stopped { OnErr result (HasStopped (S.failed reader.new) (S.reads reader.new)) }
+{
+    reader.read(&mut chunk[0..])
+}
+
+/// Reads until so many lines are read or the input ends. Where a read fails, or there is no memory, some of it was read.
+pub fn read_lines<A: Allocator + Clone, S: Source>(
+    alloc: A,
+    reader: &mut S,
+    lines: u64,
+) -> Result<Vec<u8, A>, IoFault>
+    ensures text { IfOk result (λ text. Reads (S.stream reader.old) (S.stream reader.new)
+        (λ input unread. IsEnough lines text.items input unread)) }
+    ensures kept { OnErr result
+        (Reads (S.stream reader.old) (S.stream reader.new) (λ input unread. input ≡ input)) }
+    ensures read { result ≡ Err IoFault.ReadFailed →
+        HasStopped (S.failed reader.new) (S.reads reader.new) }
+    ensures write { result ≢ Err IoFault.WriteFailed }
+{
+    let Ok(for_text) = alloc.clone() else {
+        return Err(IoFault::NoMemory);
+    };
+    let Ok(mut chunk) = new_chunk(alloc) else {
+        return Err(IoFault::NoMemory);
+    };
+    let mut text: Vec<u8, A> = Vec::new(for_text);
+    let mut left = lines;
+    'reads: loop {
+        let count = match read_chunk(&mut chunk, reader) {
+            Ok(count) => count,
+            Err(_) => return Err(IoFault::ReadFailed),
+        };
+        if count == 0 {
+            return Ok(text);
+        }
+        let (part, _) = chunk.as_slice().split_at(count);
+        if let Err(_) = text.extend_from_slice(part) {
+            return Err(IoFault::NoMemory);
+        }
+        left = left.saturating_sub(newlines(part));
+        if left == 0 {
+            return Ok(text);
+        }
+    }
+}
