@@ -50,7 +50,8 @@ impl<A: Allocator> Model for ColumnRecorder<A> {
 impl<A: Allocator> ColumnRecorder<A> {
     ghost use Rattle.std.specs.Prelude.{◌≡◌, IfOk};
     ghost use Rattle.core_steps.specs.Machine.{state};
-    ghost use Rattle.columns.specs.Columns.{column_begun, line_begun, next_column, next_line, noted, nothing_columned, shown_from, step_ended, wait_noted, waited};
+    ghost use Rattle.columns.specs.Columns.{column_begun, line_begun, next_column, next_line, noted, nothing_columned, shown_from, step_ended};
+    ghost use Rattle.columns.specs.Columns.{wait_noted, waited};
 
     /// A recorder of what happens from the line with this number on, in a trace of which these lines ask for steps, before the first
     /// step of a run.

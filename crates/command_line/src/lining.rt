@@ -7,20 +7,26 @@ ghost use Rattle.command_line.specs.Picture.{ShowsText, TextEnds};
 ghost use Rattle.command_line.specs.State.{FailsTo};
 ghost use Rattle.trace.specs.declared.fault.TraceFault.TheVariants as Of;
 ghost use Rattle.trace_io.specs.Lines.{lines_of};
+ghost use Rattle.trace.specs.Ends.{fault_named};
+ghost use Rattle.trace_io.specs.Io.{TellsIo, read_from, written_to};
 ghost use Rattle.trace_io.specs.Sink.{AppendsFront};
+ghost use Rattle.trace_io.specs.Source.{Reads};
 
 use crate::picturing::record;
 use columns::ColumnRecorder;
 use columns::lines::asking_of;
 use columns::margin::Margin;
 use core_steps::CallLimit;
+use line_fronts::reading::read_lines;
 use line_picture::canvas::{Scene, draw};
 use recorder::Recorder;
 use state_text::fronts::{front_of, lacking_line};
 use std::alloc::{AllocError, Global};
 use std::io::Write;
 use trace::fault::TraceFault;
+use trace_io::IoFault;
 use trace_io::sink::{Sink, write_all};
+use trace_io::source::Source;
 
 /// Which lines a picture shows, by their numbers.
 #[derive(Clone, Copy, Debug, PartialEq, Eq)]
@@ -109,7 +115,10 @@ fn lacking_from(front: &[u8], first: u64) -> Option<u64>
 // Says how many columns are shown, where there are more.
 fn tell_columns<E: Write>(recorder: &ColumnRecorder<Global>, errors: &mut E) {
     let moments = recorder.moments();
-    let all = moments.steps().saturating_sub(moments.first()).saturating_add(1);
+    let all = moments
+        .steps()
+        .saturating_sub(moments.first())
+        .saturating_add(1);
     if all > 2000 {
         let _ = writeln!(errors, "picture: shows the first 2000 columns of {all}");
     }
@@ -142,5 +151,26 @@ pub(crate) fn draw_lines<W: Sink, E: Write>(
             write_lines(alloc, front, &recorder, lacking, out)
         }
         Err(fault) => Err(fault),
+    }
+}
+
+/// Reads the trace up to the last line, whose comments name files, and draws its lines. What stands behind the last isn't read, but for
+/// what came with it in one read.
+pub(crate) fn draw_front<S: Source, W: Sink, E: Write>(
+    alloc: Global,
+    reader: &mut S,
+    out: &mut W,
+    errors: &mut E,
+    lines: Lines,
+) -> Result<Option<u64>, TraceFault>
+    ensures ends { Reads (S.stream reader.old) (S.stream reader.new) (λ input unread.
+        TextEnds (Lined lines input) (FailsTo (Some lines.last) input) (lacking_of lines) picture_drawn
+        (W.contents out.old) (W.contents out.new) result) }
+    ensures told { TellsIo fault_named result (read_from S.Source reader.old reader.new) (written_to W.Sink out.old out.new) }
+{
+    match read_lines(alloc, reader, lines.last) {
+        Ok(trace) => draw_lines(alloc, trace.as_slice(), out, errors, lines),
+        Err(IoFault::ReadFailed) => Err(TraceFault::ReadFailed),
+        Err(_) => Err(TraceFault::NoMemory),
     }
 }

@@ -16,7 +16,7 @@ ghost use Rattle.trace_io.specs.Source.{Reads};
 ghost use Rattle.watched.specs.Watching.{makes};
 
 use crate::ended::{Ended, Trouble};
-use crate::lining::{Lines, draw_lines};
+use crate::lining::{Lines, draw_front, draw_lines};
 use crate::listing::list_named;
 use crate::stating::draw_state;
 use core_steps::CallLimit;
@@ -281,8 +281,8 @@ pub(crate) fn draw_text<W: Sink, E: Write>(
     }
 }
 
-// Reads the trace, whose comments name files, replays it, and writes this picture of it.
-fn draw_trace<S: Source, W: Sink, E: Write>(
+// Reads the whole trace, whose comments name files, replays it, and writes this picture of it.
+fn draw_whole<S: Source, W: Sink, E: Write>(
     alloc: Global,
     reader: &mut S,
     out: &mut W,
@@ -297,6 +297,24 @@ fn draw_trace<S: Source, W: Sink, E: Write>(
         Ok(trace) => draw_text(alloc, trace.as_slice(), out, errors, drawing),
         Err(IoFault::ReadFailed) => Err(TraceFault::ReadFailed),
         Err(_) => Err(TraceFault::NoMemory),
+    }
+}
+
+// Reads the trace, or as much of it as is asked for, and writes this picture of it.
+fn draw_trace<S: Source, W: Sink, E: Write>(
+    alloc: Global,
+    reader: &mut S,
+    out: &mut W,
+    errors: &mut E,
+    drawing: Drawing,
+) -> Result<Option<u64>, TraceFault>
+    ensures ends { Reads (S.stream reader.old) (S.stream reader.new) (λ input unread.
+        PictureEnds drawing input (W.contents out.old) (W.contents out.new) result) }
+    ensures told { TellsIo fault_named result (read_from S.Source reader.old reader.new) (written_to W.Sink out.old out.new) }
+{
+    match drawing {
+        Drawing::Lines(lines) => draw_front(alloc, reader, out, errors, lines),
+        _ => draw_whole(alloc, reader, out, errors, drawing),
     }
 }
 

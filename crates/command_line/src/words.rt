@@ -9,8 +9,8 @@ ghost use Rattle.core_steps.specs.declared.setup.CallLimit.{CallLimit};
 use crate::help;
 use crate::help::{Topic, page, topic_named};
 use crate::job::Shows;
-use crate::litmus_tests::{POINTS, Test};
 use crate::lining::Lines;
+use crate::litmus_tests::{POINTS, Test};
 use crate::picturing::{Drawing, Steps};
 use crate::witnessing::WitnessPicture;
 use audit_text::Terms;
@@ -619,10 +619,12 @@ fn checked<'a>(task: Task<'a>, files: usize) -> Result<Task<'a>, Told> {
         Work::Picture(Drawing::Steps(steps)) if steps.last < steps.first => {
             Err(Told::NoSteps(steps))
         }
-        Work::Picture(Drawing::Lines(lines)) if lines.last < lines.first => Err(Told::NoSteps(Steps {
-            first: lines.first,
-            last: lines.last,
-        })),
+        Work::Picture(Drawing::Lines(lines)) if lines.last < lines.first => Err(Told::NoSteps(
+            Steps {
+                first: lines.first,
+                last: lines.last,
+            },
+        )),
         Work::Picture(Drawing::State(Some(0))) => Err(Told::NoLine),
         _ => Ok(task),
     }

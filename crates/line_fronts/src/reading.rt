@@ -81,11 +81,11 @@ pub fn read_lines<A: Allocator + Clone, S: Source>(
         if count == 0 {
             return Ok(text);
         }
-        let (part, _) = chunk.as_slice().split_at(count);
-        if let Err(_) = text.extend_from_slice(part) {
+        if let Err(_) = text.extend_from_slice(&chunk[..count]) {
             return Err(IoFault::NoMemory);
         }
-        left = left.saturating_sub(newlines(part));
+        let ended = newlines(&chunk[..count]);
+        left = left.saturating_sub(ended);
         if left == 0 {
             return Ok(text);
         }

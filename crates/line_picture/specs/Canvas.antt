@@ -1,5 +1,6 @@
 -- A whole picture
-use Rattle.std.specs.Prelude.{ℕ, zero, suc, ◌+◌, ◌-◌, ◌*◌, ◌/◌, List, [], ◌∷◌, ◌++◌, if◌then◌else◌, codes, decimal, length, min, max, nat_lt, slice_index_or}
+use Rattle.std.specs.Prelude.{ℕ, zero, suc, ◌+◌, ◌-◌, ◌*◌, ◌/◌, List, [], ◌∷◌, ◌++◌, if◌then◌else◌, codes, decimal, length, min, max}
+use Rattle.std.specs.Prelude.{slice_index_or}
 use Rattle.std.specs.List.{concat, flat_map}
 use Rattle.vm_base.specs.Cores.{members}
 use Rattle.vm_base.specs.declared.page.PageRange.{PageRange}

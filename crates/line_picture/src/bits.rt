@@ -1,7 +1,8 @@
 //! Bits of which the texts of a picture are made: parts of any picture, and what depends on how words stand.
 ghost use Rattle.std.specs.Prelude.{◌≡◌, ◌++◌, OnOk};
 ghost use Rattle.std.specs.List.{flat_map};
-ghost use Rattle.line_picture.specs.Bits.{acks_text, after_words, answer_text, bit_text, cause_text, cores_below, few_text, flat_answer, listed, own_answer, spot_text, third_line, turn_words};
+ghost use Rattle.line_picture.specs.Bits.{acks_text, after_words, answer_text, bit_text, cause_text, cores_below, few_text, flat_answer, listed};
+ghost use Rattle.line_picture.specs.Bits.{own_answer, spot_text, third_line, turn_words};
 ghost use Rattle.picture.specs.Parts.{arguments_of, reply_class};
 
 use crate::cores::count_members;
@@ -117,12 +118,7 @@ fn third_line(form: Form) -> &'static str
 }
 
 // Appends a reply in a line of its own, in the column of the answer.
-fn put_own(
-    out: &mut Vec<u8>,
-    sheet: &Sheet,
-    core: CoreId,
-    answer: Answer,
-) -> Result<(), AllocError>
+fn put_own(out: &mut Vec<u8>, sheet: &Sheet, core: CoreId, answer: Answer) -> Result<(), AllocError>
     ensures { OnOk result (out.new.items ≡ out.old.items ++ own_answer sheet.now core answer) }
 {
     put(out, "</text></g>")?;

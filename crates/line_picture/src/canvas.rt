@@ -2,7 +2,8 @@
 ghost use Rattle.std.specs.Prelude.{◌≡◌, ◌++◌, ◌≤◌, IfOk, OnOk};
 ghost use Rattle.std.specs.List.{flat_map};
 ghost use Rattle.picture.specs.Canvas.{head_words};
-ghost use Rattle.line_picture.specs.Canvas.{canvas_text, column_text, columns_text, drawn, form_class, front_text, head_text, height, lane_of, lane_text, lanes_text, legend_text, line_at, picture_text, row_text, rows_text, title_text, width};
+ghost use Rattle.line_picture.specs.Canvas.{canvas_text, column_text, columns_text, drawn, form_class, front_text, head_text, height, lane_of};
+ghost use Rattle.line_picture.specs.Canvas.{lane_text, lanes_text, legend_text, line_at, picture_text, row_text, rows_text, title_text, width};
 ghost use Rattle.line_picture.specs.Drawing.{arrow_text, bar_text, danger_text, mark_text, stretch_text, wait_text};
 
 use crate::cores::acting;
@@ -88,12 +89,7 @@ fn put_title(out: &mut Vec<u8>, sheet: &Sheet, heads: &[u64]) -> Result<(), Allo
 }
 
 // Appends the beginning of the text: size, title, colours, and heads of arrows.
-fn put_front(
-    out: &mut Vec<u8>,
-    sheet: &Sheet,
-    heads: &[u64],
-    high: u64,
-) -> Result<(), AllocError>
+fn put_front(out: &mut Vec<u8>, sheet: &Sheet, heads: &[u64], high: u64) -> Result<(), AllocError>
     ensures { OnOk result (out.new.items ≡ out.old.items ++ front_text sheet.now heads.now high) }
 {
     let wide = width(sheet);
@@ -429,14 +425,7 @@ pub fn draw(alloc: Global, text: &[u8], scene: &Scene) -> Result<Vec<u8>, AllocE
     let high = height(&sheet, rows.len());
     let bottom = high.saturating_sub(52);
     let mut out: Vec<u8> = Vec::new(alloc);
-    put_canvas(
-        &mut out,
-        &sheet,
-        scene.heads,
-        rows.as_slice(),
-        high,
-        bottom,
-    )?;
+    put_canvas(&mut out, &sheet, scene.heads, rows.as_slice(), high, bottom)?;
     put_shapes(
         &mut out,
         &sheet,

@@ -29,7 +29,9 @@ fn acts_in(recorded: &Recorded, core: CoreId) -> bool
         Moment::Begins { core: one, .. } => *one == core,
         Moment::Told { core: one, cores } => *one == core || cores.contains(core),
         Moment::Took {
-            core: one, sender, ..
+            core: one,
+            sender,
+            ..
         } => *one == core || *sender == core,
         Moment::Did { core: one, .. } => *one == core,
         Moment::Answers { .. } | Moment::Mapped { .. } | Moment::Unmapped { .. } => false,

@@ -1,7 +1,8 @@
 //! What shapes are written as.
 ghost use Rattle.std.specs.Prelude.{◌≡◌, ◌++◌, OnOk};
 ghost use Rattle.picture.specs.Drawing.{course_class, course_words, request_name};
-ghost use Rattle.line_picture.specs.Drawing.{arrow_text, bar_text, danger_text, deed_class, deed_text, first_line, mark_text, pass_word, pill_text, second_line, stretch_text, wait_line, wait_text};
+ghost use Rattle.line_picture.specs.Drawing.{arrow_text, bar_text, danger_text, deed_class, deed_text, first_line, mark_text, pass_word, pill_text};
+ghost use Rattle.line_picture.specs.Drawing.{second_line, stretch_text, wait_line, wait_text};
 
 use crate::bits::{Bit, put_bits};
 use crate::dangers::Danger;

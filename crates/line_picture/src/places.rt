@@ -1,6 +1,7 @@
 //! Where things lie in a picture, in its units.
 ghost use Rattle.std.specs.Prelude.{◌≡◌, ◌≤◌};
-ghost use Rattle.line_picture.specs.Places.{arrow_way, bar_place, danger_place, edge, inset, last_column, mark_inset, mark_place, mark_wide, middle, right_of, stretch_place, words_y};
+ghost use Rattle.line_picture.specs.Places.{arrow_way, bar_place, danger_place, edge, inset, last_column, mark_inset, mark_place, mark_wide, middle};
+ghost use Rattle.line_picture.specs.Places.{right_of, stretch_place, words_y};
 
 use crate::dangers::Danger;
 use crate::sheet::{Form, Sheet, across, column, lane, pitch, row_y, wide};

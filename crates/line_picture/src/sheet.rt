@@ -123,7 +123,9 @@ pub fn column(sheet: &Sheet, number: u64) -> u64
     ensures value { result ≡ column sheet.now number }
     ensures bounded { result ≤ 9000000 }
 {
-    let at = number.saturating_sub(sheet.first).min(u64::from(sheet.columns));
+    let at = number
+        .saturating_sub(sheet.first)
+        .min(u64::from(sheet.columns));
     150 + across(sheet, at)
 }
 

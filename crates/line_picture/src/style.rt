@@ -9,7 +9,8 @@ text.name{font-weight:bold}text.flat{font-size:9px}text.wait{fill:#8a4b00;font-s
 .Wide text.wait{font-size:9px}text.fault{fill:#b0433b}
 text.name,text.what,text.reply,text.fault,text.flat,text.wait{paint-order:stroke;stroke:#fff;stroke-width:1.6px;stroke-opacity:.7}
 text.step,text.deed{text-anchor:middle}text.step{fill:#666}text.hid{display:none}
-text.core,text.head{font-weight:bold;font-size:11px}.Flat text.core{font-size:10px}.Flat text.step{font-size:7px}.Narrow text.what{font-size:8px}
+text.core,text.head{font-weight:bold;font-size:11px}.Flat text.core{font-size:10px}
+.Flat text.step{font-size:7px}.Narrow text.what{font-size:8px}
 text.note{fill:#555;font-size:10px}
 .grid{stroke:#eee}.lane{stroke:#ccc}
 .told{stroke:#b0433b;stroke-width:1.6;marker-end:url(#told)}
@@ -49,7 +50,10 @@ pub const LEGEND: &str = "\
 <rect class=\"exec\" x=\"280\" width=\"14\" height=\"12\"/><text class=\"note\" x=\"299\" y=\"10\">execute</text>
 <rect class=\"both\" x=\"360\" width=\"14\" height=\"12\"/><text class=\"note\" x=\"379\" y=\"10\">write and execute</text>
 <text class=\"note\" x=\"8\" y=\"30\">cores:</text>
-<rect class=\"danger\" x=\"60\" y=\"20\" width=\"24\" height=\"12\"/><text class=\"note\" x=\"89\" y=\"30\">told to drop translations, and may use them</text>
-<line class=\"told\" x1=\"370\" y1=\"26\" x2=\"394\" y2=\"26\"/><text class=\"note\" x=\"399\" y=\"30\">message, first take</text>
-<line class=\"back\" x1=\"530\" y1=\"26\" x2=\"554\" y2=\"26\"/><text class=\"note\" x=\"559\" y=\"30\">acknowledged, second take</text>
+<rect class=\"danger\" x=\"60\" y=\"20\" width=\"24\" height=\"12\"/>
+<text class=\"note\" x=\"89\" y=\"30\">told to drop translations, and may use them</text>
+<line class=\"told\" x1=\"370\" y1=\"26\" x2=\"394\" y2=\"26\"/>
+<text class=\"note\" x=\"399\" y=\"30\">message, first take</text>
+<line class=\"back\" x1=\"530\" y1=\"26\" x2=\"554\" y2=\"26\"/>
+<text class=\"note\" x=\"559\" y=\"30\">acknowledged, second take</text>
 ";

@@ -1,7 +1,7 @@
 use Rattle.std.proofs.Common.{ℕ, List, subst}
 use Rattle.command_line.specs.Picture.{PictureEnds}
 use Rattle.command_line.proofs.PictureLemmas.{picture_read}
-use Rattle.command_line.proofs.picturing.draw_trace.Goals as goal
+use Rattle.command_line.proofs.picturing.draw_whole.Goals as goal
 
 pub returns-in-Ok-clause-ends : goal.returns-in-Ok-clause-ends
 returns-in-Ok-clause-ends g c =
