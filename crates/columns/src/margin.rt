@@ -1,5 +1,5 @@
 //! What stands at the columns of a picture: the number of the line of each, and which calls wait in them.
-ghost use Rattle.std.specs.Prelude.{◌≡◌, ◌≤◌, ◌×◌, IfOk, vec_capacity};
+ghost use Rattle.std.specs.Prelude.{◌≡◌, ◌≤◌, IfOk, vec_capacity};
 ghost use Rattle.columns.specs.Columns.{Margins, headed, no_margins, waiting};
 
 use line_picture::waits::Waited;

@@ -1,5 +1,5 @@
 //! A text that is read up to one of its lines.
-ghost use Rattle.std.specs.Prelude.{◌≡◌, ◌≢◌, ◌≤◌, ◌+◌, ◌<◌, ◌^◌, ◌×◌, Err, IfOk, OnErr, OnOk, drop, length};
+ghost use Rattle.std.specs.Prelude.{◌≡◌, ◌≢◌, ◌≤◌, ◌+◌, ◌<◌, ◌^◌, Err, IfOk, OnErr, OnOk, drop, length};
 ghost use Rattle.line_fronts.specs.Reading.{IsEnough, newlines};
 ghost use Rattle.trace_io.specs.Source.{Gives, HasEnded, HasStopped, Reads, read_bytes};
 
