@@ -11,11 +11,12 @@ use Rattle.line_fronts.specs.Reading.{IsEnough, newlines}
 
 pub newlines_more : (xs ys : List ℕ) → newlines (xs ++ ys) ≡ newlines xs + newlines ys
 newlines_more [] ys = refl
-newlines_more (x ∷ xs) ys = go (x == 10)
+newlines_more (x ∷ xs) ys = go (newlines_more xs ys) (x == 10)
   where
-    go : (b : Bool) → (if b then suc (newlines (xs ++ ys)) else newlines (xs ++ ys)) ≡ (if b then suc (newlines xs) else newlines xs) + newlines ys
-    go true = let rest = newlines_more xs ys in omega (arith, rest)
-    go false = newlines_more xs ys
+    go : newlines (xs ++ ys) ≡ newlines xs + newlines ys → (b : Bool)
+        → (if b then suc (newlines (xs ++ ys)) else newlines (xs ++ ys)) ≡ (if b then suc (newlines xs) else newlines xs) + newlines ys
+    go rest true = omega (arith, rest)
+    go rest false = rest
 
 onto_take : (x n : ℕ) (ls : List (List ℕ)) → onto x (take (suc n) ls) ≡ take (suc n) (onto x ls)
 onto_take x zero [] = refl
@@ -26,12 +27,14 @@ onto_take x n (l ∷ ls) = refl
 pub first_lines : (n : ℕ) (xs more : List ℕ) → n ≤ newlines xs → take n (lines_of (xs ++ more)) ≡ take n (lines_of xs)
 first_lines zero xs more few = refl
 first_lines (suc n) [] more few = absurd (omega (arith, few))
-first_lines (suc n) (x ∷ xs) more few = go (x == 10) few
+first_lines (suc n) (x ∷ xs) more few = go (first_lines n xs more) (first_lines (suc n) xs more) (x == 10) few
   where
-    go : (b : Bool) → suc n ≤ (if b then suc (newlines xs) else newlines xs)
+    go : (n ≤ newlines xs → take n (lines_of (xs ++ more)) ≡ take n (lines_of xs))
+        → (suc n ≤ newlines xs → take (suc n) (lines_of (xs ++ more)) ≡ take (suc n) (lines_of xs))
+        → (b : Bool) → suc n ≤ (if b then suc (newlines xs) else newlines xs)
         → take (suc n) (if b then [] ∷ lines_of (xs ++ more) else onto x (lines_of (xs ++ more))) ≡ take (suc n) (if b then [] ∷ lines_of xs else onto x (lines_of xs))
-    go true h = ap (λ l. [] ∷ l) (first_lines n xs more (omega (arith, h)))
-    go false h = sym (onto_take x n (lines_of (xs ++ more))) ∙ (ap (onto x) (first_lines (suc n) xs more h) ∙ onto_take x n (lines_of xs))
+    go one all true h = ap (λ l. [] ∷ l) (one (omega (arith, h)))
+    go one all false h = sym (onto_take x n (lines_of (xs ++ more))) ∙ (ap (onto x) (all h) ∙ onto_take x n (lines_of xs))
 
 -- ---- reading
 
