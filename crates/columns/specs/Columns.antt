@@ -60,10 +60,19 @@ last_in (Some core) Full = Nothing
 abbrev pub last_after : Event → Outcome → Last
 last_after e o = last_in (caller_of e) o
 
+-- the last step was one of a call that waits, and this is its next
+abbrev pub is_waiting : Last → Event → Bool
+is_waiting (Waits core) e = is_part core e
+is_waiting Nothing e = false
+is_waiting (Went core) e = false
+
 -- a call waits that waited before, in the same column
 abbrev pub waits_on : Last → Event → Outcome → Bool
-waits_on (Waits core) e (Wait blocker) = is_part core e
-waits_on _ e _ = false
+waits_on last e (Wait blocker) = is_waiting last e
+waits_on last e Stepped = false
+waits_on last e Idle = false
+waits_on last e (Answered reply) = false
+waits_on last e Full = false
 
 -- ---- what stands at columns
 
@@ -142,7 +151,10 @@ waited r (Some core) blocker = if is_kept r.recording
 
 abbrev pub wait_noted : Columned → Event → Outcome → Columned
 wait_noted r e (Wait blocker) = waited r (core_of e) blocker
-wait_noted r e _ = r
+wait_noted r e Stepped = r
+wait_noted r e Idle = r
+wait_noted r e (Answered reply) = r
+wait_noted r e Full = r
 
 -- what a recorder of steps records of it; a wait once in a column
 abbrev pub noted : Columned → Before → Event → Outcome → World → Columned

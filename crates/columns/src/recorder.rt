@@ -92,6 +92,13 @@ impl<A: Allocator> ColumnRecorder<A> {
         &self.margin
     }
 
+    // In which column each core told others last, or 0.
+    fn told(&self) -> &[u64; 64]
+        ensures { result.now ≡ self.now.recording.told }
+    {
+        self.moments.told()
+    }
+
     // The next line that asks for steps has begun.
     fn next_line(&mut self)
         ensures { self.new ≡ next_line self.old }
@@ -202,7 +209,7 @@ impl<B: Allocator> Watch for ColumnRecorder<B> {
         machine: &mut Machine<M, A, L>,
         event: Event,
     ) -> Result<Outcome, NoMemory> {
-        let before = look(machine, self.moments.told(), &event);
+        let before = look(machine, self.told(), &event);
         let outcome = match machine.step(event) {
             Ok(outcome) => outcome,
             Err(refused) => return Err(refused),

@@ -1,6 +1,6 @@
 //! How far a trace has come: the line of its last step, and whether the next step has the same column.
 ghost use Rattle.std.specs.Prelude.{◌≡◌};
-ghost use Rattle.columns.specs.Columns.{caller_of, cause_of, goes_on, is_part, last_after, last_in, waits_on};
+ghost use Rattle.columns.specs.Columns.{caller_of, cause_of, goes_on, is_part, is_waiting, last_after, last_in, waits_on};
 
 use crate::lines::Asking;
 use line_picture::waits::Cause;
@@ -106,13 +106,23 @@ pub fn last_after(event: &Event, outcome: &Outcome) -> Last
     last_in(caller, outcome)
 }
 
+// Tells whether the last step was one of a call that waits, and the event is its next.
+fn is_waiting(last: Last, event: &Event) -> bool
+    ensures { result ≡ is_waiting last event.now }
+{
+    match last {
+        Last::Waits(core) => is_part(core, event),
+        Last::Nothing | Last::Went(_) => false,
+    }
+}
+
 /// Tells whether the step is again one of a call that waited before it, in the same column.
 pub fn waits_on(last: Last, event: &Event, outcome: &Outcome) -> bool
     ensures { result ≡ waits_on last event.now outcome.now }
 {
-    match (last, outcome) {
-        (Last::Waits(core), Outcome::Wait(_)) => is_part(core, event),
-        _ => false,
+    match outcome {
+        Outcome::Wait(_) => is_waiting(last, event),
+        Outcome::Stepped | Outcome::Idle | Outcome::Answered(_) | Outcome::Full => false,
     }
 }
 

@@ -10,7 +10,7 @@ use Rattle.line_fronts.specs.Reading.{IsEnough, newlines}
 -- ---- newlines
 
 pub newlines_more : (xs ys : List ℕ) → newlines (xs ++ ys) ≡ newlines xs + newlines ys
-newlines_more [] ys = refl
+newlines_more [] ys = omega arith
 newlines_more (x ∷ xs) ys = go (newlines_more xs ys) (x == 10)
   where
     go : newlines (xs ++ ys) ≡ newlines xs + newlines ys → (b : Bool)

@@ -4,7 +4,7 @@ use Rattle.columns.specs.Lines.{asking_from}
 use Rattle.columns.proofs.lines.asking_of.Given as goal
 
 abbrev pub invariant-lines : goal.invariant-lines
-invariant-lines l = record { made : l.all.items ++ asking_from l.number (lines_of l.rest) ≡ asking_from 1 (lines_of l.text) }
+invariant-lines g l = record { made : l.all.items ++ asking_from l.number (lines_of l.rest) ≡ asking_from 1 (lines_of l.text) }
 
 abbrev pub decreases-lines : goal.decreases-lines
-decreases-lines l = length l.rest
+decreases-lines g l = length l.rest
