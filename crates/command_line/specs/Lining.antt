@@ -1,5 +1,5 @@
 -- The picture of the lines of a trace
-use Rattle.std.specs.Prelude.{◌≡◌, ◌×◌, ℕ, ◌-◌, ◌^◌, List, Option, None, Some, if◌then◌else◌, nat_le}
+use Rattle.std.specs.Prelude.{◌≡◌, ℕ, ◌-◌, ◌^◌, List, Option, None, Some, if◌then◌else◌, nat_le}
 use Rattle.columns.specs.Columns.{Columned, columned, no_margins, nothing_columned}
 use Rattle.columns.specs.Lines.{asking_from}
 use Rattle.command_line.specs.declared.lining.Lines.{Lines}

@@ -109,7 +109,7 @@ impl<A: Allocator> Recorder<A> {
     pub fn keeps(&self) -> bool
         ensures { result ≡ is_kept self.now }
     {
-        self.first <= self.step && self.step <= self.last && self.moments.len() < ROOM
+        self.first <= self.step && self.last >= self.step && self.moments.len() < ROOM
     }
 
     /// The first step of the range.
