@@ -3,13 +3,10 @@ range calls one by one, knows slots that are cut, locked and folded, pages of fi
 accesses whole. It shares nothing with the program but what the help says. bench/state_reading.py runs it."""
 import bisect
 import pathlib
-import re
 import subprocess
 
 LESSONS = pathlib.Path(__file__).resolve().parent.parent / "examples/lessons"
 SIZES = [1 << 27, 1 << 18, 1 << 9, 1]  # pages of a slot, level by level
-# The lines of a state that are read, by their beginnings. (What a call holds, and lists of mappings, aren't.)
-READ = re.compile(r"epoch |core \d+ (?!holds |took )|page ")
 
 
 class Reader:
@@ -142,7 +139,7 @@ class Reader:
             if any(message[0] == core for box in self.inboxes for message in box):
                 return False
             if call["word"] == "store":
-                self.copy(core, call["first"])
+                self.copy(core, call["first"], call["frame"])
                 self.calls[core] = None
                 return True
             self.change(core, call)
@@ -173,8 +170,8 @@ class Reader:
         self.drop(core, page, page + 1)
         self.tlbs[core].append([page, self.tables[core][page]])
 
-    def copy(self, core, page):
-        info, frame = self.pages[page], self.free.pop(0)
+    def copy(self, core, page, frame):
+        info = self.pages[page]
         self.counts(core, info["frame"], -1)
         self.count[frame] = 1
         info.update(frame=frame, cores=set())
@@ -214,7 +211,7 @@ class Reader:
         if word == "store" and info["back"] and not info["back"][2] and info["frame"] == self.cached.get(info["back"][:2]):
             self.begin(core, "store", page, page + 1)
             self.tell(core, page, page + 1)
-            self.calls[core].update(does="awaits cores for", held=[(page, page + 1)])
+            self.calls[core].update(does="awaits cores for", at=page + 1, held=[(page, page + 1)], frame=self.free.pop(0))
             self.finish(core)
             return
         self.enter(core, page)
@@ -249,14 +246,26 @@ class Reader:
 
     def call_line(self, core, call):
         word = "call" if call["does"] in ("unlocks", "answers") else call["word"]
-        where = f" {call['first'] * 4096:#x}" + ("" if call["word"] == "store" else f"-{call['end'] * 4096:#x}")
+        where = f" {self.spot(call, call['end'])}"
         return f"core {core} {word} {call['does']}" + ("" if call["does"] in ("checks its arguments", "answers") else where)
 
-    def text(self):
+    def spot(self, call, end):
+        return f"{call['first'] * 4096:#x}" + ("" if call["word"] == "store" else f"-{end * 4096:#x}")
+
+    def held_lines(self, core, call):
+        """The pages that a call holds, and the frame that it has taken."""
+        if call["held"]:
+            yield f"core {core} holds {self.spot(call, call['at'])}"
+        if "frame" in call:
+            yield f"core {core} took frame {call['frame']}"
+
+    def text(self, full):
+        """The lines of the state; those of what calls hold, of mappings and of pages if all are asked for."""
         yield f"epoch {self.epoch}"
         for core in range(self.cores):
             if self.calls[core]:
                 yield self.call_line(core, self.calls[core])
+                yield from self.held_lines(core, self.calls[core]) if full else ()
             entries = [("tlb", page, entry) for page, entry in self.tlbs[core]]
             for place, page, (frame, write, execute) in entries + [("table", page, entry) for page, entry in sorted(self.tables[core].items())]:
                 going = [m[3] for m in self.inboxes[core] if m[1] <= page < m[2]]
@@ -264,6 +273,23 @@ class Reader:
                 yield f"core {core} {place} {page * 4096:#x} frame {frame} r{'w' if write else '-'}{'x' if execute else '-'}{tail}"
             for sender, first, end, cleared in self.inboxes[core]:
                 yield f"core {core} inbox from {sender} {first * 4096:#x}-{end * 4096:#x} {'second' if cleared else 'first'} take due"
+
+        if full:
+            yield from self.mappings()
+            yield from self.page_lines()
+
+    def mappings(self):
+        """Neighbouring pages of one protection are one line if they have no file, or continue in it."""
+        runs = []
+        for page, info in sorted(self.pages.items()):
+            back = info["back"]
+            if runs and runs[-1][1] == page and runs[-1][2] == info["prot"] and runs[-1][4] == (back and (back[0], back[1] - 1, back[2])):
+                runs[-1][1], runs[-1][4] = page + 1, back
+            else:
+                runs.append([page, page + 1, info["prot"], back, back])
+        for first, end, prot, back, _ in runs:
+            behind = f"{'shared' if back[2] else 'private'} {back[0]} {back[1] * 4096:#x}" if back else "anon"
+            yield f"{first * 4096:#x}-{end * 4096:#x} {prot} {behind}"
 
     def page_lines(self):
         """The pages that have a frame, or on which cores are recorded."""
@@ -274,7 +300,7 @@ class Reader:
                 yield f"page {page * 4096:#x}{frame}{cores}"
 
 
-def read_lesson(program, path):
+def read_lesson(program, path, full):
     """Compares the state behind each line; how many lines of state there were, or what is wrong."""
     lines, reader, count = path.read_text().rstrip("\n").split("\n"), None, 0
     for number, said in enumerate(lines, 1):
@@ -286,16 +312,16 @@ def read_lesson(program, path):
         if reader is None:
             continue
         done = subprocess.run([program, "state", "--at", str(number), str(path)], capture_output=True, text=True, check=False)
-        wrote = [text for text in done.stdout.rstrip("\n").split("\n") if READ.match(text)]
-        due = [*reader.text(), *(reader.page_lines() if any(text.startswith("page ") for text in wrote) else ())]
-        if wrote != due or done.returncode != 0:
-            raise SystemExit(f"{path.name} behind line {number}, {said}, comes to\n{done.stdout}{done.stderr}and not to\n" + "\n".join(due))
-        count += len(due)
+        due = "".join(f"{text}\n" for text in reader.text(full))
+        if done.stdout != due or done.returncode != 0:
+            raise SystemExit(f"{path.name} behind line {number}, {said}, comes to\n{done.stdout}{done.stderr}and not to\n{due}")
+        count += due.count("\n")
     return count
 
 
 def read_lessons(program):
     """What is told of all lessons."""
     paths = sorted(LESSONS.glob("*.trace"))
-    count = sum(read_lesson(program, path) for path in paths)
+    full = "holds" in subprocess.run([program, "help", "state"], capture_output=True, text=True, check=False).stdout
+    count = sum(read_lesson(program, path, full) for path in paths)
     return f"{len(paths)} lessons, behind each of their lines: {count} lines of state are those of the second reading"
