@@ -86,7 +86,7 @@ class Map:
         return words[1]
 
 
-def request(choose, pages):
+def request(choose, pages, has_files=True):
     page = choose.randrange(pages)
     addr = BASE + page * PAGE
     kind = choose.random()
@@ -102,12 +102,12 @@ def request(choose, pages):
         return f"munmap {addr:#x} {count * PAGE}"
     if kind < 0.85:
         return f"mprotect {addr:#x} {count * PAGE} {prot}"
-    flags = choose.choice(["pfa", "pfa", "sf", "pf"])
+    flags = choose.choice(["pfa", "pfa", "sf", "pf"] if has_files else ["pfa", "sfa"])
     back = "" if "a" in flags else f" 0 {choose.randrange(3) * PAGE:#x}"
     return f"mmap {addr:#x} {count * PAGE} {prot} {flags}{back}"
 
 
-def history(seed, threads, calls, pages=8):
+def history(seed, threads, calls, pages=8, has_files=True):
     """Threads that are always busy: each call takes effect at some moment between its begin and its end."""
     choose = random.Random(seed)
     plain, clock, lines = Map(), 0, []
@@ -118,7 +118,7 @@ def history(seed, threads, calls, pages=8):
         clock += 1
         if under[core] is None:
             if made < calls:
-                under[core] = [clock, request(choose, pages), None]
+                under[core] = [clock, request(choose, pages, has_files), None]
                 made += 1
         elif under[core][2] is None:
             if under[core][1].startswith("store") and choose.random() < 0.2:

@@ -17,6 +17,7 @@ use crate::given::given_order;
 use crate::order_text::order_text;
 use audit::Auditor;
 use backing::FileSpec;
+use cores::find_core;
 use no_order::{Answer, search_all};
 use orders::{Item, Timed, follow};
 use orders_text::{History, HistoryFault, completed, read_history};
@@ -123,8 +124,8 @@ fn call_at(calls: &[Timed], place: usize) -> Option<Timed>
     calls.get(place).copied()
 }
 
-// Tells whether it was shown that these calls of a space with these files have no order.
-fn has_none<A: Allocator + Clone + Drop>(
+// Tells whether it was shown by all orders of these calls of a space with these files that they have none.
+fn lacks_all<A: Allocator + Clone + Drop>(
     alloc: &A,
     files: &[FileSpec<A>],
     any_place: bool,
@@ -139,11 +140,48 @@ fn has_none<A: Allocator + Clone + Drop>(
     }
 }
 
-// Tells whether it was shown that the calls of a history have none, with whatever replies of those that wait at its end.
+// Tells whether it was shown by some of these calls that they have no order. None was found until the end of this one.
+#[tactic(auto, using(cores::proofs::Refuting::shown_none))]
+fn has_core<A: Allocator + Clone + Drop>(
+    alloc: &A,
+    files: &[FileSpec<A>],
+    any_place: bool,
+    calls: &[Timed],
+    stuck: usize,
+) -> Result<bool, NoMemory>
+    ensures { result ≡ Ok true → ¬ HasOrder (rule_of any_place) (nothing_mapped (given_files files.now)) calls.now }
+{
+    match find_core(alloc, any_place, calls, stuck)? {
+        Some(_core) => Ok(true),
+        None => Ok(false),
+    }
+}
+
+// Tells whether it was shown that these calls of a space with these files have no order. None was found until the end of this one.
+fn has_none<A: Allocator + Clone + Drop>(
+    alloc: &A,
+    files: &[FileSpec<A>],
+    any_place: bool,
+    calls: &[Timed],
+    stuck: usize,
+) -> Result<bool, NoMemory>
+    requires { length files.now ≤ 16 }
+    ensures { result ≡ Ok true → ¬ HasOrder (rule_of any_place) (nothing_mapped (given_files files.now)) calls.now }
+{
+    let none = lacks_all(alloc, files, any_place, calls)?;
+    if none {
+        return Ok(true);
+    }
+    has_core(alloc, files, any_place, calls, stuck)
+}
+
+// Tells whether it was shown that the calls of a history have none, with whatever replies of those that wait at its end. None was found
+// until the end of this one.
 fn is_disorder<A: Allocator + Clone + Drop>(
     alloc: &A,
     history: &History<A>,
     any_place: bool,
+    stuck: usize,
 ) -> Result<bool, NoMemory>
     requires { length history.now.declaration.files.items ≤ 16 }
     ensures { result ≡ Ok true → HasNone any_place (read_of history.now) }
@@ -152,7 +190,8 @@ fn is_disorder<A: Allocator + Clone + Drop>(
         Some(_core) => Ok(false),
         None => {
             let files = history.declaration.files.as_slice();
-            has_none(alloc, files, any_place, history.calls.as_slice())
+            let calls = history.calls.as_slice();
+            has_none(alloc, files, any_place, calls, stuck)
         }
     }
 }
@@ -174,7 +213,7 @@ fn rule_without<A: Allocator + Clone + Drop>(
     let Some(timed) = call_at(history.calls.as_slice(), place) else {
         return Ok(Ruling::Undecided(line));
     };
-    if is_disorder(alloc, history, any_place)? {
+    if is_disorder(alloc, history, any_place, place)? {
         let reply = timed.call.reply;
         Ok(Ruling::NoOrder { line, reply })
     } else {

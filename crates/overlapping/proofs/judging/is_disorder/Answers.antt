@@ -5,6 +5,6 @@ use Rattle.overlapping.proofs.judging.is_disorder.Goals as goal
 
 pub returns-in-None : goal.returns-in-None
 returns-in-None g c = λ e.
-    none_there c.args.history.now c.args.any_place c.as_slice-files.result.now c.as_slice-in-None.result.now
-    (subst NoneWaits c.as_slice.ensures.value c.in-None.ensures) c.as_slice-files.ensures.value c.as_slice-in-None.ensures.value
+    none_there c.args.history.now c.args.any_place c.as_slice-files.result.now c.as_slice-calls.result.now
+    (subst NoneWaits c.as_slice.ensures.value c.in-None.ensures) c.as_slice-files.ensures.value c.as_slice-calls.ensures.value
     (c.has_none.ensures e)

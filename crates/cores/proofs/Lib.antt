@@ -1,0 +1,6 @@
+pub mod Agreeing
+pub mod Meeting
+pub mod Picking
+pub mod Choosing
+pub mod Refuting
+pub mod Gathered

@@ -1,0 +1,366 @@
+//! A core of a history of which no order was found. Which one is tried is nobody's belief: each is shown to have no order.
+ghost use Rattle.std.specs.Prelude.{◌≡◌, ◌≤◌, IfOk, IfSome, Some, length, slice_get};
+ghost use Rattle.cores.specs.Shown.{IsShown};
+
+use crate::gathering::{Frame, gather, start_of};
+use crate::kept::Kept;
+use crate::parts::{is_aside, is_reset, part_of};
+use crate::trying::{followed_by, none_of};
+use audit::Call;
+use backing::FileSpec;
+use orders::Timed;
+use std::alloc::Allocator;
+use vm_base::{NoMemory, PageRange, Reply, Request, page_count, page_of, pages};
+
+/// How many first calls are tried for some pages.
+const FIRSTS: usize = 16;
+
+/// How many calls that change nothing are tried beside those that do.
+const READS: usize = 24;
+
+/// A range of more pages isn't tried.
+const WIDEST: u64 = 64;
+
+/// A core that has no order: what its first call does within some pages, and its other calls until the cut.
+#[derive(Debug, Drop)]
+pub struct Core<A: Allocator> {
+    /// The pages.
+    pub pages: PageRange,
+    /// The number of the first call.
+    pub number: usize,
+    /// The first call.
+    pub first: Timed,
+    /// What it does within these pages.
+    pub start: Timed,
+    /// The time until which calls are looked at.
+    pub cut: u64,
+    /// The other calls.
+    pub kept: Vec<Kept, A>,
+}
+
+/// The call of this number, if the history has it.
+fn call_at(history: &[Timed], number: usize) -> Option<Timed>
+    ensures { result ≡ slice_get history.now number }
+{
+    history.get(number).copied()
+}
+
+/// Shows that a core has no order, if that can be shown.
+#[tactic(auto, using(crate::proofs::Refuting::core_shown))]
+fn attempt<A: Allocator + Clone + Drop>(
+    alloc: &A,
+    files: &[FileSpec<A>],
+    any_place: bool,
+    history: &[Timed],
+    pages: PageRange,
+    number: usize,
+    cut: u64,
+    wanted: &[usize],
+) -> Result<Option<Core<A>>, NoMemory>
+    requires { length files.now ≤ 16 }
+    ensures { IfOk result (λ found. IfSome found (λ core. IsShown any_place history.now core)) }
+{
+    let Some(first) = call_at(history, number) else {
+        return Ok(None);
+    };
+    let Some(start) = start_of(pages, first) else {
+        return Ok(None);
+    };
+    let frame = Frame {
+        pages,
+        number,
+        first,
+        cut,
+    };
+    let Some(kept) = gather(alloc, history, frame, wanted)? else {
+        return Ok(None);
+    };
+    let nothing = Vec::new(alloc.clone()?);
+    let front = followed_by(alloc, nothing.as_slice(), start)?;
+    let none = none_of(alloc, files, any_place, front.as_slice(), kept.as_slice())?;
+    if !none {
+        return Ok(None);
+    }
+    Ok(Some(Core {
+        pages,
+        number,
+        first,
+        start,
+        cut,
+        kept,
+    }))
+}
+
+// All but one.
+fn without<A: Allocator + Clone + Drop>(
+    alloc: &A,
+    wanted: &[usize],
+    place: usize,
+) -> Result<Vec<usize, A>, NoMemory> {
+    let mut fewer = Vec::new(alloc.clone()?);
+    for at in 0..wanted.len() {
+        if at != place {
+            fewer.push(wanted[at])?;
+        }
+    }
+    Ok(fewer)
+}
+
+// The core, without those of the wanted calls that it doesn't need.
+fn shrink<A: Allocator + Clone + Drop>(
+    alloc: &A,
+    files: &[FileSpec<A>],
+    any_place: bool,
+    history: &[Timed],
+    found: Core<A>,
+    wanted: &[usize],
+) -> Result<Core<A>, NoMemory>
+    requires few { length files.now ≤ 16 }
+    requires shown { IsShown any_place history.now found }
+    ensures { IfOk result (λ core. IsShown any_place history.now core) }
+{
+    let mut core = found;
+    let (pages, number, cut) = (core.pages, core.number, core.cut);
+    let mut wanted = without(alloc, wanted, wanted.len())?;
+    let mut place = 0usize;
+    'wanted: for _ in 0..READS {
+        let fewer = without(alloc, wanted.as_slice(), place)?;
+        let less = attempt(
+            alloc,
+            files,
+            any_place,
+            history,
+            pages,
+            number,
+            cut,
+            fewer.as_slice(),
+        )?;
+        match less {
+            Some(smaller) => {
+                core = smaller;
+                wanted = fewer;
+            }
+            None => {
+                place = place.saturating_add(1);
+            }
+        }
+    }
+    Ok(core)
+}
+
+// The pages that a range call changes, if it was done.
+fn pages_of(call: Call) -> Option<PageRange> {
+    match (call.request, call.reply) {
+        (Request::Munmap { addr, len }, Reply::Done) => Some(pages(addr, len)),
+        (Request::Mprotect { addr, len, .. }, Reply::Done) => Some(pages(addr, len)),
+        (Request::Mmap { len, .. }, Reply::Mapped(at)) => {
+            let first = page_of(at);
+            Some(PageRange {
+                first,
+                end: first + page_count(len),
+            })
+        }
+        _ => None,
+    }
+}
+
+// The page of an access.
+fn accessed(request: Request) -> Option<u64> {
+    match request {
+        Request::Load { addr } | Request::Fetch { addr } | Request::Store { addr, .. } => {
+            Some(page_of(addr))
+        }
+        _ => None,
+    }
+}
+
+// The pages that may have a core: that of the access that has no reply, and those of calls that were under way with it; or those of the
+// range call, one by one, and all.
+fn candidates<A: Allocator + Clone + Drop>(
+    alloc: &A,
+    history: &[Timed],
+    stuck: Timed,
+) -> Result<Vec<PageRange, A>, NoMemory> {
+    let mut ranges = Vec::new(alloc.clone()?);
+    if let Some(page) = accessed(stuck.call.request) {
+        ranges.push(PageRange {
+            first: page,
+            end: page.saturating_add(1),
+        })?;
+        for at in 0..history.len() {
+            let timed = history[at];
+            if let Some(range) = pages_of(timed.call) {
+                let is_under = timed.begin <= stuck.end && stuck.begin <= timed.end;
+                let is_wide = range.end > range.first.saturating_add(1);
+                if is_under && is_wide && range.contains(page) && ranges.len() < FIRSTS {
+                    ranges.push(range)?;
+                }
+            }
+        }
+    } else if let Some(range) = pages_of(stuck.call) {
+        for step in 0..8u64 {
+            let page = range.first.saturating_add(step);
+            if page < range.end {
+                ranges.push(PageRange {
+                    first: page,
+                    end: page.saturating_add(1),
+                })?;
+            }
+        }
+        ranges.push(range)?;
+    }
+    Ok(ranges)
+}
+
+// Adds a call to the latest ones by their ends.
+fn keep_latest<A: Allocator>(
+    latest: &mut Vec<(u64, usize), A>,
+    most: usize,
+    end: u64,
+    number: usize,
+) -> Result<(), NoMemory> {
+    if latest.len() >= most {
+        if let Some((least, _)) = latest.get(0).copied() {
+            if end <= least {
+                return Ok(());
+            }
+            let _ = latest.remove(0);
+        }
+    }
+    latest.push((end, number))?;
+    latest.sort_unstable();
+    Ok(())
+}
+
+// The latest calls until the cut that map or unmap all of these pages.
+fn firsts<A: Allocator + Clone + Drop>(
+    alloc: &A,
+    history: &[Timed],
+    pages: PageRange,
+    cut: u64,
+) -> Result<Vec<(u64, usize), A>, NoMemory> {
+    let mut latest = Vec::new(alloc.clone()?);
+    for at in 0..history.len() {
+        let timed = history[at];
+        if timed.end <= cut && is_reset(pages, timed.call) {
+            keep_latest(&mut latest, FIRSTS, timed.end, at)?;
+        }
+    }
+    Ok(latest)
+}
+
+// The latest calls until the cut that tell something of these pages, and change nothing there.
+fn reads<A: Allocator + Clone + Drop>(
+    alloc: &A,
+    history: &[Timed],
+    pages: PageRange,
+    after: u64,
+    cut: u64,
+) -> Result<Vec<usize, A>, NoMemory> {
+    let mut latest = Vec::new(alloc.clone()?);
+    for at in 0..history.len() {
+        let timed = history[at];
+        if after < timed.begin
+            && timed.end <= cut
+            && is_aside(pages, timed.call)
+            && part_of(pages, timed.call).is_some()
+        {
+            keep_latest(&mut latest, READS, timed.end, at)?;
+        }
+    }
+    let mut numbers = Vec::new(alloc.clone()?);
+    for (_, number) in latest.as_slice() {
+        numbers.push(*number)?;
+    }
+    Ok(numbers)
+}
+
+// A core of these pages with this first call.
+fn find_behind<A: Allocator + Clone + Drop>(
+    alloc: &A,
+    files: &[FileSpec<A>],
+    any_place: bool,
+    history: &[Timed],
+    pages: PageRange,
+    number: usize,
+    cut: u64,
+) -> Result<Option<Core<A>>, NoMemory>
+    requires { length files.now ≤ 16 }
+    ensures { IfOk result (λ found. IfSome found (λ core. IsShown any_place history.now core)) }
+{
+    let Some(first) = call_at(history, number) else {
+        return Ok(None);
+    };
+    let wanted = reads(alloc, history, pages, first.end, cut)?;
+    let wanted = wanted.as_slice();
+    let found = attempt(
+        alloc, files, any_place, history, pages, number, cut, wanted,
+    )?;
+    match found {
+        Some(core) => {
+            let core = shrink(alloc, files, any_place, history, core, wanted)?;
+            Ok(Some(core))
+        }
+        None => Ok(None),
+    }
+}
+
+// A core of these pages.
+fn find_in<A: Allocator + Clone + Drop>(
+    alloc: &A,
+    files: &[FileSpec<A>],
+    any_place: bool,
+    history: &[Timed],
+    pages: PageRange,
+    cut: u64,
+) -> Result<Option<Core<A>>, NoMemory>
+    requires { length files.now ≤ 16 }
+    ensures { IfOk result (λ found. IfSome found (λ core. IsShown any_place history.now core)) }
+{
+    let latest = firsts(alloc, history, pages, cut)?;
+    let count = latest.len();
+    for back in 0..count {
+        if let Some((_, number)) = latest.get(count - 1 - back).copied() {
+            let found = find_behind(alloc, files, any_place, history, pages, number, cut)?;
+            if let Some(core) = found {
+                return Ok(Some(core));
+            }
+        }
+    }
+    Ok(None)
+}
+
+/// Finds a core of a history of which no order was found until the end of this call, and shows that it has none. So the history has none,
+/// whatever map it begins with. `None` says nothing. `Err` says that memory was wanting.
+pub fn find_core<A: Allocator + Clone + Drop>(
+    alloc: &A,
+    any_place: bool,
+    history: &[Timed],
+    stuck: usize,
+) -> Result<Option<Core<A>>, NoMemory>
+    ensures { IfOk result (λ found. IfSome found (λ core. IsShown any_place history.now core)) }
+{
+    let files = Vec::new(alloc.clone()?);
+    let Some(timed) = call_at(history, stuck) else {
+        return Ok(None);
+    };
+    let ranges = candidates(alloc, history, timed)?;
+    for at in 0..ranges.len() {
+        if let Some(range) = ranges.get(at).copied() {
+            if range.end <= range.first.saturating_add(WIDEST) {
+                let found = find_in(
+                    alloc,
+                    files.as_slice(),
+                    any_place,
+                    history,
+                    range,
+                    timed.end,
+                )?;
+                if let Some(core) = found {
+                    return Ok(Some(core));
+                }
+            }
+        }
+    }
+    Ok(None)
+}

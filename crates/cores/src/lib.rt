@@ -1,0 +1,11 @@
+//! Small cores of histories: a few calls that have no order, and so show that all have none.
+#![tactic(auto)]
+
+mod finding;
+mod gathering;
+mod kept;
+mod parts;
+mod trying;
+
+pub use finding::{Core, find_core};
+pub use kept::Kept;
