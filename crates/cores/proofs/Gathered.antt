@@ -14,13 +14,16 @@ pub record AreSoFar (h : List Timed) (p : PageRange) (number : ℕ) (first : Tim
   pub rises : Rises 0 ks
   pub all : (i : ℕ) (c : Timed) → i < at → slice_get h i ≡ Some c → (i ≡ number) ⊎ (is_left_out p first cut c ≡ true) ⊎ IsAmong i ks
 
-pub none_so_far : (h : List Timed) (p : PageRange) (number : ℕ) (first : Timed) (cut : ℕ) → AreSoFar h p number first cut [] 0
-none_so_far h p number first cut = record {
+none_yet : (h : List Timed) (p : PageRange) (number : ℕ) (first : Timed) (cut : ℕ) → AreSoFar h p number first cut [] 0
+none_yet h p number first cut = record {
   kept = λ n k e. absurd cc;
   below_at = λ n k e. absurd cc;
   rises = tt;
   all = λ i c l e. absurd (omega (arith, l));
 }
+
+pub none_so_far : (h : List Timed) (p : PageRange) (number : ℕ) (first : Timed) (cut : ℕ) (ks : List Kept) → ks ≡ [] → AreSoFar h p number first cut ks 0
+none_so_far h p number first cut ks e = subst (λ (xs : List Kept). AreSoFar h p number first cut xs 0) (sym e) (none_yet h p number first cut)
 
 here_is : (h : List Timed) (at i : ℕ) (d c : Timed) → at < length h → i ≡ at → d ≡ get_or h at d → slice_get h i ≡ Some c → c ≡ d
 here_is h at i d c l same is e =

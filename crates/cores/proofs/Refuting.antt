@@ -441,7 +441,7 @@ core_order rule t z h p number first start cut ks core has_order = (chosen, is_c
         (
           on.0,
           subst (λ (q : Option ℕ). LeadAll rule core_calls z (add q (pick g mid)) on.0) (sym (number_at names number 0 distinct refl))
-              (reset.0, ((start, refl, reset.1), on.1)),
+              (reset.0, (start, refl, reset.1), on.1),
         )
 
     order : IsOrder rule z core_calls (pick g seg)

@@ -1,5 +1,5 @@
 -- Small cores of histories
-use Rattle.std.specs.Prelude.{◌≡◌, ◌≢◌, ℕ, suc, ◌<◌, ◌≤◌, ◌⊎◌, ◌||◌, nat_lt, Bool, true, false, List, [], ◌∷◌, ◌++◌, map, slice_get, Some}
+use Rattle.std.specs.Prelude.{◌≡◌, ◌≢◌, ℕ, suc, ◌<◌, ◌≤◌, ◌⊎◌, ◌||◌, nat_lt, Bool, true, false, List, [], ◌∷◌, ◌++◌, map, slice_get, not, Option, None, Some}
 use Rattle.vm_base.specs.declared.page.PageRange.{PageRange}
 use Rattle.vm_base.specs.Places.{PlaceRule}
 use Rattle.vm_base.specs.Plain.{Plain}
@@ -64,6 +64,10 @@ pub record IsKeptCall (p : PageRange) (number : ℕ) (first : Timed) (cut at : �
   pub part : IsPart p c.call k.timed.call
   pub other : at ≢ number
   pub sure : k.is_open ≡ false → (first.end < c.begin) × (c.begin ≤ cut) × (c.end ≤ cut)
+
+abbrev pub IsKeptAs : ℕ → Option Timed → Bool → Role → Type 0
+IsKeptAs number (Some timed) is_sure role = role ≡ In (record { number = number; timed = timed; is_open = not is_sure })
+IsKeptAs number None is_sure role = role ≡ Unfit
 
 abbrev pub IsRole : PageRange → ℕ → Timed → ℕ → ℕ → Timed → Role → Type 0
 IsRole p number first cut at c Out = (at ≡ number) ⊎ (is_left_out p first cut c ≡ true)

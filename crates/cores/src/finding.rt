@@ -2,7 +2,7 @@
 ghost use Rattle.std.specs.Prelude.{◌≡◌, ◌≤◌, IfOk, IfSome, Some, length, slice_get};
 ghost use Rattle.cores.specs.Shown.{IsShown};
 
-use crate::gathering::{Frame, gather, start_of};
+use crate::gathering::{gather, start_of};
 use crate::kept::Kept;
 use crate::parts::{is_aside, is_reset, part_of};
 use crate::trying::{followed_by, none_of};
@@ -13,10 +13,13 @@ use std::alloc::Allocator;
 use vm_base::{NoMemory, PageRange, Reply, Request, page_count, page_of, pages};
 
 /// How many first calls are tried for some pages.
-const FIRSTS: usize = 16;
+const FIRSTS: usize = 6;
+
+/// How many ranges of pages are tried.
+const RANGES: usize = 6;
 
 /// How many calls that change nothing are tried beside those that do.
-const READS: usize = 24;
+const READS: usize = 16;
 
 /// A range of more pages isn't tried.
 const WIDEST: u64 = 64;
@@ -63,16 +66,10 @@ fn attempt<A: Allocator + Clone + Drop>(
     let Some(first) = call_at(history, number) else {
         return Ok(None);
     };
-    let Some(start) = start_of(pages, first) else {
+    let Some(start) = start_of(pages, &first) else {
         return Ok(None);
     };
-    let frame = Frame {
-        pages,
-        number,
-        first,
-        cut,
-    };
-    let Some(kept) = gather(alloc, history, frame, wanted)? else {
+    let Some(kept) = gather(alloc, history, pages, number, &first, cut, wanted)? else {
         return Ok(None);
     };
     let nothing = Vec::new(alloc.clone()?);
@@ -104,6 +101,21 @@ fn without<A: Allocator + Clone + Drop>(
         }
     }
     Ok(fewer)
+}
+
+// The last ones, so many.
+fn last_of<A: Allocator + Clone + Drop>(
+    alloc: &A,
+    numbers: &[usize],
+    count: usize,
+) -> Result<Vec<usize, A>, NoMemory> {
+    let mut last = Vec::new(alloc.clone()?);
+    for at in 0..numbers.len() {
+        if numbers.len() - at <= count {
+            last.push(numbers[at])?;
+        }
+    }
+    Ok(last)
 }
 
 // The core, without those of the wanted calls that it doesn't need.
@@ -192,13 +204,13 @@ fn candidates<A: Allocator + Clone + Drop>(
             if let Some(range) = pages_of(timed.call) {
                 let is_under = timed.begin <= stuck.end && stuck.begin <= timed.end;
                 let is_wide = range.end > range.first.saturating_add(1);
-                if is_under && is_wide && range.contains(page) && ranges.len() < FIRSTS {
+                if is_under && is_wide && range.contains(page) && ranges.len() < RANGES {
                     ranges.push(range)?;
                 }
             }
         }
     } else if let Some(range) = pages_of(stuck.call) {
-        for step in 0..8u64 {
+        for step in 0..4u64 {
             let page = range.first.saturating_add(step);
             if page < range.end {
                 ranges.push(PageRange {
@@ -291,18 +303,25 @@ fn find_behind<A: Allocator + Clone + Drop>(
     let Some(first) = call_at(history, number) else {
         return Ok(None);
     };
-    let wanted = reads(alloc, history, pages, first.end, cut)?;
-    let wanted = wanted.as_slice();
-    let found = attempt(
-        alloc, files, any_place, history, pages, number, cut, wanted,
-    )?;
-    match found {
-        Some(core) => {
+    let latest = reads(alloc, history, pages, first.end, cut)?;
+    let mut count = 1usize;
+    for _ in 0..5u8 {
+        let wanted = last_of(alloc, latest.as_slice(), count)?;
+        let wanted = wanted.as_slice();
+        let found = attempt(
+            alloc, files, any_place, history, pages, number, cut, wanted,
+        )?;
+        if let Some(core) = found {
             let core = shrink(alloc, files, any_place, history, core, wanted)?;
-            Ok(Some(core))
+            return Ok(Some(core));
         }
-        None => Ok(None),
+        if latest.len() <= count {
+            return Ok(None);
+        }
+        // (each overlaps some others, and so makes many orders more)
+        count = count.saturating_mul(2);
     }
+    Ok(None)
 }
 
 // A core of these pages.

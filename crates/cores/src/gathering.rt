@@ -1,6 +1,7 @@
 //! Which calls of a history a core has.
 ghost use Rattle.std.specs.Prelude.{◌≡◌, ◌<◌, ◌≤◌, IfOk, IfSome, slice_get, Some, false, true};
-ghost use Rattle.cores.specs.Cores.{AreAll, IsRole, IsStart, is_left_out};
+ghost use Rattle.cores.specs.Cores.{AreAll, IsKeptAs, IsRole, IsStart, is_left_out};
+ghost use Rattle.cores.specs.Parts.{IsPart};
 
 use crate::kept::Kept;
 use crate::parts::{is_aside, is_reset, part_of};
@@ -11,14 +12,8 @@ use vm_base::{NoMemory, PageRange, Request, page_of};
 /// At most so many calls are kept.
 const MOST: usize = 60;
 
-/// What a core is made of: the calls that have to do with these pages, from the first one on until the cut.
-#[derive(Clone, Copy, Debug, PartialEq, Eq)]
-pub(crate) struct Frame {
-    pub pages: PageRange,
-    pub number: usize,
-    pub first: Timed,
-    pub cut: u64,
-}
+/// At most so many of them are open: each doubles the work.
+const OPEN: usize = 6;
 
 /// What becomes of a call.
 #[derive(Clone, Copy, Debug, PartialEq, Eq)]
@@ -32,8 +27,8 @@ pub(crate) enum Role {
 }
 
 /// The first call of a core, as far as it is one of these pages.
-pub(crate) fn start_of(pages: PageRange, first: Timed) -> Option<Timed>
-    ensures { IfSome result (λ start. IsStart pages first start) }
+pub(crate) fn start_of(pages: PageRange, first: &Timed) -> Option<Timed>
+    ensures { IfSome result (λ start. IsStart pages first.now start) }
 {
     if !is_reset(pages, first.call) {
         return None;
@@ -47,15 +42,15 @@ pub(crate) fn start_of(pages: PageRange, first: Timed) -> Option<Timed>
 }
 
 /// Tells whether a call may be left out.
-fn is_left_out(pages: PageRange, first: Timed, cut: u64, timed: Timed) -> bool
-    ensures { result ≡ is_left_out pages first cut timed }
+fn is_left_out(pages: PageRange, first: &Timed, cut: u64, timed: &Timed) -> bool
+    ensures { result ≡ is_left_out pages first.now cut timed.now }
 {
     timed.end < first.begin || cut < timed.begin || is_aside(pages, timed.call)
 }
 
 /// Tells whether a call has surely taken effect after the first one and until the cut.
-fn is_sure(first: Timed, cut: u64, timed: Timed) -> bool
-    ensures { result ≡ true → (first.end < timed.begin) × (timed.begin ≤ cut) × (timed.end ≤ cut) }
+fn is_sure(first: &Timed, cut: u64, timed: &Timed) -> bool
+    ensures { result ≡ true → (first.now.end < timed.now.begin) × (timed.now.begin ≤ cut) × (timed.now.end ≤ cut) }
 {
     if first.end < timed.begin && timed.begin <= cut && timed.end <= cut {
         return true;
@@ -63,49 +58,80 @@ fn is_sure(first: Timed, cut: u64, timed: Timed) -> bool
     false
 }
 
-/// What becomes of a call of a history, if it may be wanted though it changes nothing.
-fn become_of(frame: Frame, is_wanted: bool, at: usize, timed: Timed) -> Role
-    ensures { IsRole frame.pages frame.number frame.first frame.cut at timed result }
+/// What a call does within these pages, at its times, if that can be told.
+fn timed_part(pages: PageRange, timed: &Timed) -> Option<Timed>
+    ensures begins { IfSome result (λ part. part.begin ≡ timed.now.begin) }
+    ensures ends { IfSome result (λ part. part.end ≡ timed.now.end) }
+    ensures part { IfSome result (λ part. IsPart pages timed.now.call part.call) }
 {
-    if at == frame.number {
-        return Role::Out;
-    }
-    let is_out = is_left_out(frame.pages, frame.first, frame.cut, timed);
-    if is_out && !is_wanted {
-        return Role::Out;
-    }
-    let Some(call) = part_of(frame.pages, timed.call) else {
-        return Role::Unfit;
-    };
-    let is_sure = is_sure(frame.first, frame.cut, timed);
-    Role::In(Kept {
-        number: at,
-        timed: Timed {
-            begin: timed.begin,
-            end: timed.end,
-            call,
-        },
-        is_open: !is_sure,
+    let call = part_of(pages, timed.call)?;
+    Some(Timed {
+        begin: timed.begin,
+        end: timed.end,
+        call,
     })
 }
 
-/// The calls of a core of this frame, and the wanted ones, if there is such a core.
+/// It is kept as this, if that can be told, and is open if it hasn't surely taken effect.
+fn kept_as(number: usize, part: Option<Timed>, is_sure: bool) -> Role
+    ensures { IsKeptAs number part is_sure result }
+{
+    match part {
+        Some(timed) => Role::In(Kept {
+            number,
+            timed,
+            is_open: !is_sure,
+        }),
+        None => Role::Unfit,
+    }
+}
+
+/// What becomes of a call of a history, if it may be wanted though it changes nothing.
+fn become_of(
+    pages: PageRange,
+    number: usize,
+    first: &Timed,
+    cut: u64,
+    is_wanted: bool,
+    at: usize,
+    timed: &Timed,
+) -> Role
+    ensures { IsRole pages number first.now cut at timed.now result }
+{
+    if at == number {
+        return Role::Out;
+    }
+    let is_out = is_left_out(pages, first, cut, timed);
+    if is_out && !is_wanted {
+        return Role::Out;
+    }
+    kept_as(at, timed_part(pages, timed), is_sure(first, cut, timed))
+}
+
+/// The calls of a core: those that have to do with these pages, from the first one on until the cut, and of the others the wanted ones; if
+/// there is such a core.
+#[tactic(auto, using(crate::proofs::Gathered::none_so_far, crate::proofs::Gathered::one_out, crate::proofs::Gathered::one_in, crate::proofs::Gathered::all_gathered))]
 pub(crate) fn gather<A: Allocator + Clone + Drop>(
     alloc: &A,
     history: &[Timed],
-    frame: Frame,
+    pages: PageRange,
+    number: usize,
+    first: &Timed,
+    cut: u64,
     wanted: &[usize],
 ) -> Result<Option<Vec<Kept, A>>, NoMemory>
     ensures { IfOk result (λ found. IfSome found (λ kept.
-        AreAll history.now frame.pages frame.number frame.first frame.cut kept.items)) }
+        AreAll history.now pages number first.now cut kept.items)) }
 {
     let mut kept = Vec::new(alloc.clone()?);
+    let mut open = 0usize;
     'calls: for at in 0..history.len() {
         let is_wanted = wanted.contains(&at);
-        match become_of(frame, is_wanted, at, history[at]) {
+        match become_of(pages, number, first, cut, is_wanted, at, &history[at]) {
             Role::Out => {}
             Role::In(call) => {
-                if kept.len() >= MOST {
+                open = open.saturating_add(usize::from(call.is_open));
+                if kept.len() >= MOST || open > OPEN {
                     return Ok(None);
                 }
                 kept.push(call)?;

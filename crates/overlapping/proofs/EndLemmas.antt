@@ -1,5 +1,5 @@
 -- How a judgement ends
-use Rattle.std.proofs.Common.{◌≡◌, Bool, ℕ, List, Option, Ok, Err, refl, subst, sym}
+use Rattle.std.proofs.Common.{◌≡◌, Bool, ℕ, List, ◌++◌, Option, Ok, Err, refl, subst, sym}
 use Rattle.std.specs.Io.KnownBytes.{Appends}
 use Rattle.trace_io.specs.Lines.{lines_of}
 use Rattle.trace_io.specs.Sink.{AppendsFront}
@@ -12,20 +12,28 @@ use Rattle.orders_text.specs.Faults.{IsAtFault}
 use Rattle.orders_text.specs.declared.faults.HistoryFault.{HistoryFault}
 use Rattle.orders_text.specs.declared.faults.HistoryFault.TheVariants.{Io}
 use Rattle.overlapping.specs.Ends.{Fails, JudgementEnds, ruling_text}
+use Rattle.overlapping.specs.Explained.{IsExplained}
 use Rattle.overlapping.specs.Rulings.{IsRuling}
 use Rattle.overlapping.specs.declared.judging.Ruled.{Ruled}
 
 pub judges_all : {A : Type 0} (any_place : Bool) (input text : List ℕ) (old new : Option (List ℕ)) (ruled : Ruled A)
-    → IsRuling any_place (lines_of input) ruled.ruling → text ≡ ruling_text ruled.ruling → Appends old new text
-    → JudgementEnds any_place input old new (Ok ruled)
-judges_all any_place input text old new ruled v e w = record { is = v; written = subst (Appends old new) e w }
+    → IsRuling any_place (lines_of input) ruled.ruling → IsExplained any_place (lines_of input) ruled.explanation.items
+    → text ≡ ruling_text ruled.ruling ++ ruled.explanation.items → Appends old new text → JudgementEnds any_place input old new (Ok ruled)
+judges_all any_place input text old new ruled v x e w =
+    record { is = v; explanation = ruled.explanation.items; explained = x; written = subst (Appends old new) e w }
 
 pub breaks_off : {A : Type 0} (any_place : Bool) (input text : List ℕ) (old new : Option (List ℕ)) (ruled : Ruled A) (f : HistoryFault)
-    → f ≡ Io WriteFailed → IsRuling any_place (lines_of input) ruled.ruling → text ≡ ruling_text ruled.ruling → AppendsFront old new text
+    → f ≡ Io WriteFailed → IsRuling any_place (lines_of input) ruled.ruling → IsExplained any_place (lines_of input) ruled.explanation.items
+    → text ≡ ruling_text ruled.ruling ++ ruled.explanation.items → AppendsFront old new text
     → JudgementEnds {A = A} any_place input old new (Err f)
-breaks_off {A} any_place input text old new ruled f is v e w =
-    subst (λ x. JudgementEnds {A = A} any_place input old new (Err x)) (sym is)
-    (record { ruling = ruled.ruling; is = v; written = subst (AppendsFront old new) e w })
+breaks_off {A} any_place input text old new ruled f is v x e w =
+    subst (λ x. JudgementEnds {A = A} any_place input old new (Err x)) (sym is) (record {
+      ruling = ruled.ruling;
+      is = v;
+      explanation = ruled.explanation.items;
+      explained = x;
+      written = subst (AppendsFront old new) e w;
+    })
 
 pub fails_so : (any_place : Bool) (input : List ℕ) (o : Option (List ℕ)) (f : HistoryFault) → IsAtFault (lines_of input) f
     → Fails any_place input o o f

@@ -1,5 +1,5 @@
 -- What an order that was checked says of a history
-use Rattle.std.proofs.Common.{◌≡◌, ◌∙◌, ℕ, zero, suc, ◌+◌, Bool, true, false, List, [], ◌∷◌, ◌++◌, Option, None, Some, append-nil, ap, arith, length, refl, slice_get, subst, sym}
+use Rattle.std.proofs.Common.{◌≡◌, ◌∙◌, ℕ, zero, suc, ◌+◌, ◌⊎◌, inl, inr, Bool, true, false, List, [], ◌∷◌, ◌++◌, Option, None, Some, append-nil, ap, arith, length, refl, slice_get, subst, sym}
 use Rattle.vm_base.specs.declared.replies.Reply.{Reply}
 use Rattle.vm_base.specs.Plain.{Plain, nothing_mapped}
 use Rattle.vm_base.specs.Places.{PlaceRule}
@@ -15,7 +15,16 @@ use Rattle.orders_text.specs.History.{IsHistory, Read, all_open, completed, repl
 use Rattle.orders_text.specs.declared.clock.Begun.{Begun}
 use Rattle.orders_text.specs.Steps.{read_of}
 use Rattle.orders_text.specs.declared.reading.History.{History}
-use Rattle.overlapping.specs.Rulings.{HasNone, IsLegal, IsUnordered}
+use Rattle.cores.specs.Shown.{IsShown}
+use Rattle.cores.specs.declared.finding.Core.{Core}
+use Rattle.core_text.specs.Told.{core_text}
+use Rattle.overlapping.specs.declared.judging.Ruling.{Ruling}
+use Rattle.overlapping.specs.declared.judging.Ruling.TheVariants.{Legal, NoOrder, Undecided}
+use Rattle.overlapping.specs.declared.judging.Told.{Told}
+use Rattle.overlapping.specs.declared.judging.Shown.{Shown}
+use Rattle.overlapping.specs.declared.judging.Shown.TheVariants as By
+use Rattle.overlapping.specs.Explained.{IsDisorder, IsExplanation, IsTold, ShowsNone}
+use Rattle.overlapping.specs.Rulings.{HasNone, IsLegal, IsRuling, IsUnordered}
 use Rattle.overlapping.specs.Waiting.{NoneWaits}
 
 pub judged_so : {A : Type 0} (files : List (FileSpec A)) (any_place rule : Bool) (t : Plain) (calls : List Timed) (items : List Item)
@@ -71,3 +80,64 @@ pub unordered_there : (any_place : Bool) (lines : List (List ℕ)) (r : Read) (n
     → IsUnordered any_place lines line c.call.reply
 unordered_there any_place lines r number line c none at is h =
     record { read = r; history = h; none = none; number = number; call = c; is_call = is; is_line = at; replied = refl }
+
+-- ---- what is told
+
+bare_told : {A : Type 0} (any_place : Bool) (lines : List (List ℕ)) (r : Read) (told : Told A) (ruling : Ruling) → told.ruling ≡ ruling
+    → told.explanation.items ≡ [] → ((ls : List (List ℕ)) → IsHistory ls r → IsRuling any_place ls ruling) → IsTold any_place lines r told
+bare_told any_place lines r told ruling e f h = record {
+  ruling = λ ls is. subst (λ (x : Ruling). IsRuling any_place ls x) (sym e) (h ls is);
+  explained = inl f;
+}
+
+pub undecided_bare : {A : Type 0} (any_place : Bool) (lines : List (List ℕ)) (r : Read) (told : Told A) (line : ℕ)
+    → (told.ruling ≡ Undecided line) × (told.explanation.items ≡ []) → IsTold any_place lines r told
+undecided_bare any_place lines r told line e = bare_told any_place lines r told (Undecided line) e.0 e.1 (λ ls is. (r, is))
+
+pub legal_bare : {A : Type 0} (any_place : Bool) (lines : List (List ℕ)) (r : Read) (told : Told A) (replies : ℕ → Reply) (n : ℕ)
+    → (told.ruling ≡ Legal n) × (told.explanation.items ≡ []) → n ≡ length r.calls
+    → HasOrder (rule_of any_place) (first_map r.declared) (completed replies r) → IsTold any_place lines r told
+legal_bare any_place lines r told replies n e count order =
+    bare_told any_place lines r told (Legal n) e.0 e.1 (λ ls is. legal_there any_place ls r replies n count order is)
+
+pub unordered_bare : {A : Type 0} (any_place : Bool) (lines : List (List ℕ)) (r : Read) (told : Told A) (number line : ℕ) (c : Timed)
+    → (told.ruling ≡ NoOrder line c.call.reply) × (told.explanation.items ≡ []) → HasNone any_place r → slice_get r.lines number ≡ Some line
+    → slice_get r.calls number ≡ Some c → IsTold any_place lines r told
+unordered_bare any_place lines r told number line c e none at is =
+    bare_told any_place lines r told (NoOrder line c.call.reply) e.0 e.1 (λ ls h. unordered_there any_place ls r number line c none at is h)
+
+pub unordered_by : {A : Type 0} (any_place : Bool) (lines : List (List ℕ)) (r : Read) (told : Told A) (number line : ℕ) (c : Timed) (core : Core A)
+    → told.ruling ≡ NoOrder line c.call.reply → told.explanation.items ≡ core_text lines r.lines core.number core.kept.items
+    → HasNone any_place r × IsShown any_place r.calls core → slice_get r.lines number ≡ Some line → slice_get r.calls number ≡ Some c
+    → IsTold any_place lines r told
+unordered_by any_place lines r told number line c core e text shown at is = record {
+  ruling = λ ls h. subst (λ (x : Ruling). IsRuling any_place ls x) (sym e) (unordered_there any_place ls r number line c shown.0 at is h);
+  explained = inr (record {
+    pages = core.pages;
+    number = core.number;
+    first = core.first;
+    start = core.start;
+    cut = core.cut;
+    kept = core.kept.items;
+    is = shown.1.is;
+    files = shown.1.files;
+    alone = shown.1.alone;
+    text = text;
+  });
+}
+
+-- where none waits, and a core shows that they have none
+pub core_there : {A : Type 0} (history : History A) (any_place : Bool) (calls : List Timed) (core : Core A)
+    → NoneWaits history.waiting.items → calls ≡ history.calls.items → IsShown any_place calls core
+    → HasNone any_place (read_of history) × IsShown any_place history.calls.items core
+core_there history any_place calls core none e shown = (
+  none_there history any_place history.declaration.files.items calls none refl e (shown.none (nothing_mapped (given_files history.declaration.files.items))),
+  subst (λ (cs : List Timed). IsShown any_place cs core) e shown,
+)
+
+pub disorder_there : {A : Type 0} (history : History A) (any_place : Bool) (files : List (FileSpec A)) (calls : List Timed) (shown : Shown A)
+    → NoneWaits history.waiting.items → files ≡ history.declaration.files.items → calls ≡ history.calls.items
+    → ShowsNone any_place (given_files files) calls shown → IsDisorder any_place (read_of history) shown
+disorder_there history any_place files calls By.Nothing none f e s = tt
+disorder_there history any_place files calls By.All none f e s = none_there history any_place files calls none f e s
+disorder_there history any_place files calls (By.Few core) none f e s = core_there history any_place calls core none e s

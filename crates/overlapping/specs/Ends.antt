@@ -9,6 +9,7 @@ use Rattle.trace_text.specs.Printing.{text_of}
 use Rattle.orders_text.specs.Faults.{IsAtFault}
 use Rattle.orders_text.specs.declared.faults.HistoryFault.{HistoryFault}
 use Rattle.orders_text.specs.declared.faults.HistoryFault.TheVariants.{Io}
+use Rattle.overlapping.specs.Explained.{IsExplained}
 use Rattle.overlapping.specs.Rulings.{IsRuling}
 use Rattle.overlapping.specs.declared.judging.Ruled.{Ruled}
 use Rattle.overlapping.specs.declared.judging.Ruling.{Ruling}
@@ -20,16 +21,20 @@ ruling_text (Legal calls) = codes "legal " ++ decimal calls ++ codes "\n"
 ruling_text (NoOrder line reply) = codes "no order " ++ decimal line ++ codes ": replied " ++ text_of reply ++ codes "\n"
 ruling_text (Undecided line) = codes "undecided " ++ decimal line ++ codes "\n"
 
--- it was written
+-- it was written, and what explains it
 pub record Judges (any_place : Bool) (input : List ℕ) (old new : Option (List ℕ)) (ruling : Ruling) : Type 0 where
   pub is : IsRuling any_place (lines_of input) ruling
-  pub written : Appends old new (ruling_text ruling)
+  pub explanation : List ℕ
+  pub explained : IsExplained any_place (lines_of input) explanation
+  pub written : Appends old new (ruling_text ruling ++ explanation)
 
 -- a front of it was
 pub record Breaks (any_place : Bool) (input : List ℕ) (old new : Option (List ℕ)) : Type 0 where
   pub ruling : Ruling
   pub is : IsRuling any_place (lines_of input) ruling
-  pub written : AppendsFront old new (ruling_text ruling)
+  pub explanation : List ℕ
+  pub explained : IsExplained any_place (lines_of input) explanation
+  pub written : AppendsFront old new (ruling_text ruling ++ explanation)
 
 -- after a fault nothing was written, but after a failed write
 abbrev pub Fails : Bool → List ℕ → Option (List ℕ) → Option (List ℕ) → HistoryFault → Type 0

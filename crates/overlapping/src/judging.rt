@@ -1,5 +1,5 @@
 //! Judging a text of calls that overlap.
-ghost use Rattle.std.specs.Prelude.{◌≡◌, ◌≤◌, ℕ, List, IfErr, IfOk, IfSome, Ok, Some, length, slice_get, true};
+ghost use Rattle.std.specs.Prelude.{◌≡◌, ◌≤◌, ℕ, List, [], IfErr, IfOk, IfSome, Ok, Some, length, slice_get, true};
 ghost use Rattle.trace_io.specs.Lines.{lines_of};
 ghost use Rattle.slot_lock.specs.Slots.{IsNew};
 ghost use Rattle.vm_base.specs.Plain.{nothing_mapped};
@@ -11,13 +11,15 @@ ghost use Rattle.orders_text.specs.Faults.{IsAtFault};
 ghost use Rattle.orders_text.specs.History.{IsHistory, completed, replies_in};
 ghost use Rattle.orders_text.specs.Steps.{HasPlaces, read_of};
 ghost use Rattle.overlapping.specs.Rulings.{HasNone, IsRuling};
+ghost use Rattle.overlapping.specs.Explained.{IsDisorder, IsExplained, IsTold, ShowsNone};
 
 use crate::found::{Order, search, waiting_core};
 use crate::given::given_order;
 use crate::order_text::order_text;
 use audit::Auditor;
 use backing::FileSpec;
-use cores::find_core;
+use core_text::core_text;
+use cores::{Core, find_core};
 use no_order::{Answer, search_all};
 use orders::{Item, Timed, follow};
 use orders_text::{History, HistoryFault, completed, read_history};
@@ -49,11 +51,12 @@ pub enum By<'a> {
     Given(&'a [u8]),
 }
 
-/// A ruling, and the text of the order that it rests on.
+/// A ruling, the text of the order that it rests on, and lines that explain it.
 #[derive(Debug, Drop)]
 pub struct Ruled<A: Allocator> {
     pub ruling: Ruling,
     pub order: Vec<u8, A>,
+    pub explanation: Vec<u8, A>,
 }
 
 // Tells whether the items are an order of these calls of a space with these files.
@@ -140,101 +143,123 @@ fn lacks_all<A: Allocator + Clone + Drop>(
     }
 }
 
-// Tells whether it was shown by some of these calls that they have no order. None was found until the end of this one.
-#[tactic(auto, using(cores::proofs::Refuting::shown_none))]
-fn has_core<A: Allocator + Clone + Drop>(
-    alloc: &A,
-    files: &[FileSpec<A>],
-    any_place: bool,
-    calls: &[Timed],
-    stuck: usize,
-) -> Result<bool, NoMemory>
-    ensures { result ≡ Ok true → ¬ HasOrder (rule_of any_place) (nothing_mapped (given_files files.now)) calls.now }
-{
-    match find_core(alloc, any_place, calls, stuck)? {
-        Some(_core) => Ok(true),
-        None => Ok(false),
-    }
+// By what it was shown that calls have no order.
+#[derive(Debug, Drop)]
+pub(crate) enum Shown<A: Allocator> {
+    Nothing,
+    All,
+    Few(Core<A>),
 }
 
-// Tells whether it was shown that these calls of a space with these files have no order. None was found until the end of this one.
-fn has_none<A: Allocator + Clone + Drop>(
+// Shows by some of these calls of a space with these files, or by all orders of them, that they have none. None was found until the end
+// of this one.
+fn show_none<A: Allocator + Clone + Drop>(
     alloc: &A,
     files: &[FileSpec<A>],
     any_place: bool,
     calls: &[Timed],
     stuck: usize,
-) -> Result<bool, NoMemory>
+) -> Result<Shown<A>, NoMemory>
     requires { length files.now ≤ 16 }
-    ensures { result ≡ Ok true → ¬ HasOrder (rule_of any_place) (nothing_mapped (given_files files.now)) calls.now }
+    ensures { IfOk result (λ shown. ShowsNone any_place (given_files files.now) calls.now shown) }
 {
+    if let Some(core) = find_core(alloc, any_place, calls, stuck)? {
+        return Ok(Shown::Few(core));
+    }
     let none = lacks_all(alloc, files, any_place, calls)?;
     if none {
-        return Ok(true);
+        return Ok(Shown::All);
     }
-    has_core(alloc, files, any_place, calls, stuck)
+    Ok(Shown::Nothing)
 }
 
-// Tells whether it was shown that the calls of a history have none, with whatever replies of those that wait at its end. None was found
-// until the end of this one.
-fn is_disorder<A: Allocator + Clone + Drop>(
+// Shows that the calls of a history have none, with whatever replies of those that wait at its end. None was found until the end of
+// this one.
+fn show_disorder<A: Allocator + Clone + Drop>(
     alloc: &A,
     history: &History<A>,
     any_place: bool,
     stuck: usize,
-) -> Result<bool, NoMemory>
+) -> Result<Shown<A>, NoMemory>
     requires { length history.now.declaration.files.items ≤ 16 }
-    ensures { result ≡ Ok true → HasNone any_place (read_of history.now) }
+    ensures { IfOk result (λ shown. IsDisorder any_place (read_of history.now) shown) }
 {
     match waiting_core(history.waiting.as_slice()) {
-        Some(_core) => Ok(false),
+        Some(_core) => Ok(Shown::Nothing),
         None => {
             let files = history.declaration.files.as_slice();
             let calls = history.calls.as_slice();
-            has_none(alloc, files, any_place, calls, stuck)
+            let shown = show_none(alloc, files, any_place, calls, stuck)?;
+            Ok(shown)
         }
     }
 }
 
+/// A ruling, and what explains it: nothing, or the lines of some calls that have no order by themselves.
+#[derive(Debug, Drop)]
+pub(crate) struct Told<A: Allocator> {
+    pub ruling: Ruling,
+    pub explanation: Vec<u8, A>,
+}
+
+// A ruling that nothing explains.
+fn bare<A: Allocator + Clone + Drop>(alloc: &A, ruling: Ruling) -> Result<Told<A>, NoMemory>
+    ensures { IfOk result (λ told. (told.ruling ≡ ruling) × (told.explanation.items ≡ [])) }
+{
+    let explanation = Vec::new(alloc.clone()?);
+    Ok(Told {
+        ruling,
+        explanation,
+    })
+}
+
 // The ruling where no order was found by the end of this line's call.
-#[tactic(auto, using(crate::proofs::RuleLemmas::unordered_there))]
+#[tactic(auto, using(crate::proofs::RuleLemmas::unordered_there, crate::proofs::RuleLemmas::undecided_bare, crate::proofs::RuleLemmas::unordered_bare, crate::proofs::RuleLemmas::unordered_by))]
 fn rule_without<A: Allocator + Clone + Drop>(
     alloc: &A,
+    text: &[u8],
     history: &History<A>,
     any_place: bool,
     line: u64,
-) -> Result<Ruling, NoMemory>
+) -> Result<Told<A>, NoMemory>
     requires { length history.now.declaration.files.items ≤ 16 }
-    ensures { IfOk result (λ ruling. (lines : List (List ℕ)) → IsHistory lines (read_of history.now) → IsRuling any_place lines ruling) }
+    ensures { IfOk result (λ told. IsTold any_place (lines_of text.now) (read_of history.now) told) }
 {
     let Some(place) = place_of(history.lines.as_slice(), line) else {
-        return Ok(Ruling::Undecided(line));
+        return bare(alloc, Ruling::Undecided(line));
     };
     let Some(timed) = call_at(history.calls.as_slice(), place) else {
-        return Ok(Ruling::Undecided(line));
+        return bare(alloc, Ruling::Undecided(line));
     };
-    if is_disorder(alloc, history, any_place, place)? {
-        let reply = timed.call.reply;
-        Ok(Ruling::NoOrder { line, reply })
-    } else {
-        Ok(Ruling::Undecided(line))
+    let reply = timed.call.reply;
+    match show_disorder(alloc, history, any_place, place)? {
+        Shown::Nothing => bare(alloc, Ruling::Undecided(line)),
+        Shown::All => bare(alloc, Ruling::NoOrder { line, reply }),
+        Shown::Few(core) => {
+            let explanation = core_text(alloc, text, history.lines.as_slice(), &core)?;
+            Ok(Told {
+                ruling: Ruling::NoOrder { line, reply },
+                explanation,
+            })
+        }
     }
 }
 
 // The ruling by the order that was found, or in a text of one.
-#[tactic(auto, using(crate::proofs::RuleLemmas::legal_there))]
+#[tactic(auto, using(crate::proofs::RuleLemmas::legal_there, crate::proofs::RuleLemmas::legal_bare, crate::proofs::RuleLemmas::undecided_bare))]
 fn rule_by<M: SlotMap + Drop, A: Allocator + Clone + Drop>(
     alloc: &A,
     map: M,
+    text: &[u8],
     history: History<A>,
     any_place: bool,
     order: &Order<A>,
     is_found: bool,
-) -> Result<Ruling, NoMemory>
+) -> Result<Told<A>, NoMemory>
     requires new { IsNew (M.slots map) }
     requires few { length history.declaration.files.items ≤ 16 }
     requires places { HasPlaces history }
-    ensures { IfOk result (λ ruling. (lines : List (List ℕ)) → IsHistory lines (read_of history) → IsRuling any_place lines ruling) }
+    ensures { IfOk result (λ told. IsTold any_place (lines_of text.now) (read_of history) told) }
 {
     let count = history.calls.len() as u64;
     match order {
@@ -245,13 +270,13 @@ fn rule_by<M: SlotMap + Drop, A: Allocator + Clone + Drop>(
         } => {
             let replies = replies.as_slice();
             if is_order(alloc, map, history, any_place, items.as_slice(), replies)? {
-                Ok(Ruling::Legal(count))
+                bare(alloc, Ruling::Legal(count))
             } else {
-                Ok(Ruling::Undecided(*line))
+                bare(alloc, Ruling::Undecided(*line))
             }
         }
-        Order::None(line) if is_found => rule_without(alloc, &history, any_place, *line),
-        Order::None(line) => Ok(Ruling::Undecided(*line)),
+        Order::None(line) if is_found => rule_without(alloc, text, &history, any_place, *line),
+        Order::None(line) => bare(alloc, Ruling::Undecided(*line)),
     }
 }
 
@@ -268,20 +293,26 @@ fn rule<M: SlotMap + Drop, A: Allocator + Clone + Drop>(
     requires new { IsNew (M.slots map) }
     requires few { length history.declaration.files.items ≤ 16 }
     requires places { HasPlaces history }
-    ensures { IfOk result (λ ruled. (lines : List (List ℕ)) → IsHistory lines (read_of history) → IsRuling any_place lines ruled.ruling) }
+    requires text { IsHistory (lines_of text.now) (read_of history) }
+    ensures ruling { IfOk result (λ ruled. IsRuling any_place (lines_of text.now) ruled.ruling) }
+    ensures explained { IfOk result (λ ruled. IsExplained any_place (lines_of text.now) ruled.explanation.items) }
 {
     let order = match by {
         By::Search => search(alloc, &history, any_place)?,
         By::Given(given) => given_order(alloc, &history, given)?,
     };
     let is_found = matches!(by, By::Search);
-    let ruling = rule_by(alloc, map, history, any_place, &order, is_found)?;
+    let told = rule_by(alloc, map, text, history, any_place, &order, is_found)?;
     let order = if is_wanted {
         order_text(alloc, text, &order)?
     } else {
         Vec::new(alloc.clone()?)
     };
-    Ok(Ruled { ruling, order })
+    Ok(Ruled {
+        ruling: told.ruling,
+        order,
+        explanation: told.explanation,
+    })
 }
 
 /// Judges a text: it is that of a history, whose calls have an order, or of which none was found; or it isn't, and why. Beside a
@@ -296,6 +327,7 @@ pub fn judge_text<M: SlotMap + Drop, A: Allocator + Clone + Drop>(
 ) -> Result<Ruled<A>, HistoryFault>
     requires new { IsNew (M.slots map) }
     ensures ok { IfOk result (λ ruled. IsRuling any_place (lines_of text.now) ruled.ruling) }
+    ensures explained { IfOk result (λ ruled. IsExplained any_place (lines_of text.now) ruled.explanation.items) }
     ensures err { IfErr result (λ f. IsAtFault (lines_of text.now) f) }
 {
     let history = match read_history(alloc, text) {

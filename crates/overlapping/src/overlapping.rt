@@ -1,5 +1,5 @@
 //! A text is read whole, its calls, which may overlap, are judged, and the ruling is written.
-ghost use Rattle.std.specs.Prelude.{◌≡◌, ◌≤◌, ◌⊎◌, ◌++◌, Err, OnOk, codes, decimal, length, true};
+ghost use Rattle.std.specs.Prelude.{◌≡◌, ◌≤◌, ◌⊎◌, ◌++◌, Err, IfOk, OnOk, codes, decimal, length, true};
 ghost use Rattle.trace_io.specs.Io.{read_from, written_to};
 ghost use Rattle.trace_io.specs.Source.{Reads};
 ghost use Rattle.trace_text.specs.Printing.{text_of};
@@ -14,7 +14,7 @@ use trace_io::IoFault;
 use trace_io::sink::{Sink, write_out};
 use trace_io::source::{Source, read_all};
 use trace_text::{LineText, push_number, push_reply};
-use vm_base::Reply;
+use vm_base::{NoMemory, Reply};
 
 // The line that tells a ruling.
 fn ruling_text(ruling: Ruling) -> LineText
@@ -52,7 +52,22 @@ fn no_order_text(line: u64, reply: Reply) -> LineText
     text
 }
 
-// Judges a text, and writes the ruling.
+// The line of a ruling, and behind it what explains it.
+fn told_text<A: Allocator + Clone + Drop>(
+    alloc: &A,
+    ruling: Ruling,
+    explanation: &[u8],
+) -> Result<Vec<u8, A>, NoMemory>
+    ensures { IfOk result (λ told. told.items ≡ ruling_text ruling ++ explanation.now) }
+{
+    let line = ruling_text(ruling);
+    let mut told = Vec::new(alloc.clone()?);
+    told.extend_from_slice(line.as_str().as_bytes())?;
+    told.extend_from_slice(explanation)?;
+    Ok(told)
+}
+
+// Judges a text, and writes the ruling and what explains it.
 #[tactic(auto, using(crate::proofs::EndLemmas::judges_all, crate::proofs::EndLemmas::breaks_off, crate::proofs::EndLemmas::fails_so, trace_io::proofs::IoLemmas::keeps_same))]
 fn judge_out<M: SlotMap + Drop, A: Allocator + Clone + Drop, W: Sink>(
     alloc: A,
@@ -74,8 +89,11 @@ fn judge_out<M: SlotMap + Drop, A: Allocator + Clone + Drop, W: Sink>(
         Ok(ruled) => ruled,
         Err(fault) => return Err(fault),
     };
-    let told = ruling_text(ruled.ruling);
-    match write_out(writer, told.as_str().as_bytes()) {
+    let told = match told_text(&alloc, ruled.ruling, ruled.explanation.as_slice()) {
+        Ok(told) => told,
+        Err(_) => return Err(HistoryFault::Io(IoFault::NoMemory)),
+    };
+    match write_out(writer, told.as_slice()) {
         Ok(()) => Ok(ruled),
         Err(_) => Err(HistoryFault::Io(IoFault::WriteFailed)),
     }
@@ -83,7 +101,7 @@ fn judge_out<M: SlotMap + Drop, A: Allocator + Clone + Drop, W: Sink>(
 
 /// Reads a text to its end, and writes whether its calls, which may overlap, have an order that begins with nothing mapped: `legal CALLS`,
 /// `no order LINE: replied TEXT` where it was shown that there is none, or `undecided LINE` where none was found. The order is searched, or
-/// given; `legal` is told only where it was checked. Its text is
+/// given; `legal` is told only where it was checked. Behind `no order` stand the lines of some calls that show it, if such were found. The order's text is
 /// answered, if it is wanted. The map has nothing mapped.
 pub fn judge_overlapping<M: SlotMap + Drop, A: Allocator + Clone + Drop, S: Source, W: Sink>(
     alloc: A,

@@ -284,9 +284,13 @@ not, and isn't counted. It writes one of these:
   legal CALLS          some order of the calls has just these replies
   no order N: replied REPLY
                        no order has these replies, and none was found that
-                       gets to the end of line N's call. All are tried where
-                       the calls are at most 64, none of which waits; after
-                       10,000 beginnings that is given up
+                       gets to the end of line N's call. Behind it stand the
+                       lines of some calls, each with its number, which have
+                       none by themselves: the first maps or unmaps pages of
+                       no file, and the others have changed them since, or
+                       tell of them. Where no such calls are found, all orders
+                       are tried of at most 64 calls; after 10,000 beginnings
+                       that is given up. It isn't told where a call waits
   undecided N          no order was found that gets to the end of line N's
                        call, or the search met its limit there: 300,000
                        configurations. There may be an order

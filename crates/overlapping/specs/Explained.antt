@@ -1,0 +1,51 @@
+-- What explains that there is no order.
+use Rattle.std.specs.Prelude.{◌≡◌, ℕ, ◌⊎◌, Bool, List, [], ◌∷◌, Option}
+use Rattle.vm_base.specs.declared.page.PageRange.{PageRange}
+use Rattle.vm_base.specs.Plain.{File, nothing_mapped}
+use Rattle.audit.specs.Placing.{rule_of}
+use Rattle.orders.specs.declared.history.Timed.{Timed}
+use Rattle.orders.specs.Orders.{HasOrder}
+use Rattle.orders_text.specs.History.{IsHistory, Read}
+use Rattle.cores.specs.Cores.{HasNone as HasNoneOf, IsCore}
+use Rattle.cores.specs.Shown.{IsShown}
+use Rattle.cores.specs.declared.kept.Kept.{Kept}
+use Rattle.core_text.specs.Told.{core_text}
+use Rattle.overlapping.specs.Rulings.{HasNone, IsRuling}
+use Rattle.overlapping.specs.declared.judging.Shown.{Shown}
+use Rattle.overlapping.specs.declared.judging.Shown.TheVariants as By
+use Rattle.overlapping.specs.declared.judging.Told.{Told}
+
+-- The lines are those of a core of the history, which has no order by itself: in its pages its first call leaves nothing of what was there.
+pub record IsExplanation (any_place : Bool) (lines : List (List ℕ)) (r : Read) (explanation : List ℕ) : Type 0 where
+  pub pages : PageRange
+  pub number : ℕ
+  pub first : Timed
+  pub start : Timed
+  pub cut : ℕ
+  pub kept : List Kept
+  pub is : IsCore r.calls pages number first start cut kept
+  pub files : ℕ → Option File
+  pub alone : HasNoneOf (rule_of any_place) (nothing_mapped files) (start ∷ []) kept
+  pub text : explanation ≡ core_text lines r.lines number kept
+
+-- So is what stands behind a ruling on the text, or nothing does.
+abbrev pub IsExplained : Bool → List (List ℕ) → List ℕ → Type 0
+IsExplained any_place lines explanation =
+    (explanation ≡ []) ⊎ ((r : Read) × IsHistory lines r × IsExplanation any_place lines r explanation)
+
+-- ---- how it was shown
+
+abbrev pub ShowsNone : {A : Type 0} → Bool → (ℕ → Option File) → List Timed → Shown A → Type 0
+ShowsNone any_place files calls By.Nothing = Unit {0}
+ShowsNone any_place files calls By.All = ¬ HasOrder (rule_of any_place) (nothing_mapped files) calls
+ShowsNone any_place files calls (By.Few core) = IsShown any_place calls core
+
+abbrev pub IsDisorder : {A : Type 0} → Bool → Read → Shown A → Type 0
+IsDisorder any_place r By.Nothing = Unit {0}
+IsDisorder any_place r By.All = HasNone any_place r
+IsDisorder any_place r (By.Few core) = HasNone any_place r × IsShown any_place r.calls core
+
+-- what is told of a history with these lines, if it is one
+pub record IsTold {A : Type 0} (any_place : Bool) (lines : List (List ℕ)) (r : Read) (told : Told A) : Type 0 where
+  pub ruling : (ls : List (List ℕ)) → IsHistory ls r → IsRuling any_place ls told.ruling
+  pub explained : (told.explanation.items ≡ []) ⊎ IsExplanation any_place lines r told.explanation.items
