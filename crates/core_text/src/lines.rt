@@ -10,7 +10,7 @@ use trace_text::{LineText, push_number};
 use vm_base::NoMemory;
 
 /// The line with this number, counted from 0, if the text has it; else nothing.
-#[tactic(auto, using(crate::proofs::Lines::no_line, crate::proofs::Lines::some_left, crate::proofs::Lines::this_line, crate::proofs::Lines::next_line))]
+#[tactic(auto, using(crate::proofs::Behind::no_line, crate::proofs::Behind::some_left, crate::proofs::Behind::this_line, crate::proofs::Behind::next_line))]
 fn line_at(text: &[u8], number: u64) -> &[u8]
     ensures { result.now ≡ get_or (lines_of text.now) number [] }
 {
@@ -40,7 +40,7 @@ fn front(number: u64) -> LineText
 }
 
 /// Appends the line with this number, counted from 1, behind it.
-#[tactic(auto, using(crate::proofs::Lines::pushed_line))]
+#[tactic(auto, using(crate::proofs::Behind::pushed_line))]
 fn push_line<A: Allocator>(
     out: &mut Vec<u8, A>,
     text: &[u8],
@@ -67,7 +67,7 @@ fn number_of(lines: &[u64], call: usize) -> u64
 }
 
 /// Appends the lines of calls.
-#[tactic(auto, using(crate::proofs::Lines::pushed_kept, crate::proofs::Lines::pushed_none))]
+#[tactic(auto, using(crate::proofs::Behind::pushed_kept, crate::proofs::Behind::pushed_none))]
 fn push_kept<A: Allocator>(
     out: &mut Vec<u8, A>,
     text: &[u8],
