@@ -6,13 +6,12 @@ use Rattle.std.specs.Prelude.{codes, decimal}
 use Rattle.cores.specs.declared.kept.Kept.{Kept}
 use Rattle.core_text.specs.Told.{kept_text, told_line}
 
-pub pushed_line : (a b c d line : List ℕ) (lines : List (List ℕ)) (number : ℕ) → b ≡ a ++ decimal number ++ codes ": " → c ≡ b ++ line
-    → line ≡ get_or lines (number - 1) [] → d ≡ c ++ codes "\n" → d ≡ a ++ told_line lines number
-pushed_line a b c d line lines number e f g h =
-    h ∙ (ap (λ (x : List ℕ). x ++ codes "\n") (f ∙ (ap (λ (x : List ℕ). x ++ line) e ∙ ap (λ (x : List ℕ). (a ++ decimal number ++ codes ": ") ++ x) g))
-    ∙ (append_assoc (a ++ decimal number ++ codes ": ") (get_or lines (number - 1) []) (codes "\n")
-    ∙ (append_assoc a (decimal number ++ codes ": ") (get_or lines (number - 1) [] ++ codes "\n")
-    ∙ ap (λ (x : List ℕ). a ++ x) (append_assoc (decimal number) (codes ": ") (get_or lines (number - 1) [] ++ codes "\n")))))
+pub pushed_line : (a b c d front line : List ℕ) (lines : List (List ℕ)) (number : ℕ) → front ≡ decimal number ++ codes ": " → b ≡ a ++ front
+    → line ≡ get_or lines (number - 1) [] → c ≡ b ++ line → d ≡ c ++ codes "\n" → d ≡ a ++ told_line lines number
+pushed_line a b c d front line lines number e f g h i =
+    i ∙ ap (λ (x : List ℕ). x ++ codes "\n") (h ∙ ap (λ (x : List ℕ). x ++ line) (f ∙ ap (λ (x : List ℕ). a ++ x) e)
+    ∙ ap (λ (x : List ℕ). (a ++ (decimal number ++ codes ": ")) ++ x) g ∙ append_assoc a (decimal number ++ codes ": ") (get_or lines (number - 1) []))
+    ∙ append_assoc a ((decimal number ++ codes ": ") ++ get_or lines (number - 1) []) (codes "\n")
 
 pub pushed_kept : (a b c : List ℕ) (lines : List (List ℕ)) (numbers : List ℕ) (ks rest : List Kept) (k : Kept) → ks ≡ k ∷ rest
     → b ≡ a ++ told_line lines (get_or numbers k.number 0) → c ≡ b ++ kept_text lines numbers rest → c ≡ a ++ kept_text lines numbers ks
