@@ -41,11 +41,7 @@ fn front(number: u64) -> LineText
 
 /// Appends the line with this number, counted from 1, behind it.
 #[tactic(auto, using(crate::proofs::Behind::pushed_line))]
-fn push_line<A: Allocator>(
-    out: &mut Vec<u8, A>,
-    text: &[u8],
-    number: u64,
-) -> Result<(), NoMemory>
+fn push_line<A: Allocator>(out: &mut Vec<u8, A>, text: &[u8], number: u64) -> Result<(), NoMemory>
     ensures { OnOk result (out.new.items ≡ out.old.items ++ told_line (lines_of text.now) number) }
 {
     let front = front(number);

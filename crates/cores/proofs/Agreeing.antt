@@ -255,10 +255,10 @@ access_goes rule p t s u core addr r y a byte c d to from is same h =
     let memory = told_memory y is.1 in
     let frame = told_frame y is.1 in
     let applies : Applies rule (with_copy t None) core r y u =
-        subst (λ (o : Option ℕ). Applies rule (with_copy t o) core r y u) c (reply_answers rule t u core r y memory frame h) in
+    subst (λ (o : Option ℕ). Applies rule (with_copy t o) core r y u) c (reply_answers rule t u core r y memory frame h) in
     let g = accesses_same p t s u addr a byte y is.0 same (to t u applies) in
     let back : Answers rule s core r y g.0 =
-        subst (λ (o : Option ℕ). Applies rule (with_copy s o) core r y g.0) (sym d) (from s g.0 g.1) in
+    subst (λ (o : Option ℕ). Applies rule (with_copy s o) core r y g.0) (sym d) (from s g.0 g.1) in
     (g.0, answers_reply rule s g.0 core r y memory frame back, g.2)
 
 -- ---- ranges
@@ -288,9 +288,8 @@ munmap_goes : (rule : PlaceRule) (p : PageRange) (t s u : Plain) (core addr len 
     → Goes p s u (λ (v : Plain). RepliesBy rule s core (Munmap a l) Done v)
 munmap_goes rule p t s u core addr len a l whole part meet same h =
     let done : AppliesAfter rule None t core (Munmap addr len) Done u =
-        subst (λ (o : Option Reply). AppliesAfter rule o t core (Munmap addr len) Done u) whole h in
-    let v : Plain = after_unmapping s (pages_of a l) in
-    (
+    subst (λ (o : Option Reply). AppliesAfter rule o t core (Munmap addr len) Done u) whole h in
+    let v : Plain = after_unmapping s (pages_of a l) in (
       v,
       subst (λ (o : Option Reply). AppliesAfter rule o s core (Munmap a l) Done v) (sym part) (refl, refl),
       subst (λ (m : Plain). Agrees p m v) (sym done.1)
@@ -344,7 +343,7 @@ mprotect_goes : (rule : PlaceRule) (p : PageRange) (t s u : Plain) (core addr le
     → Goes p s u (λ (v : Plain). RepliesBy rule s core (Mprotect a l prot) Done v)
 mprotect_goes rule p t s u core addr len a l prot whole part meet same h =
     let done : AppliesAfter rule None t core (Mprotect addr len prot) Done u =
-        subst (λ (o : Option Reply). AppliesAfter rule o t core (Mprotect addr len prot) Done u) whole h in
+    subst (λ (o : Option Reply). AppliesAfter rule o t core (Mprotect addr len prot) Done u) whole h in
     let g = protects_same p (pages_of addr len) (pages_of a l) t s u prot meet same done in
     (g.0, subst (λ (o : Option Reply). AppliesAfter rule o s core (Mprotect a l prot) Done g.0) (sym part) g.1, g.2)
 
@@ -359,12 +358,12 @@ refusal_same : (f g : ℕ → Option Mode) (addr len : ℕ) (prot : Prot) (flags
     → mmap_refusal f addr len prot flags file off ≡ mmap_refusal g addr len prot flags file off
 refusal_same f g addr len prot flags file off anon =
     ap (λ (rest : Option Reply).
-        if len == 0 then answer EINVAL
-        else if not (is_one_kind flags) then answer EINVAL
-        else if not flags.anon && not (is_aligned off) then answer EINVAL
-        else if flags.fixed && not (is_aligned addr) then answer EINVAL
-        else if flags.fixed && not (are_pages (pages_of addr len)) then answer ENOMEM
-        else rest)
+    if len == 0 then answer EINVAL
+    else if not (is_one_kind flags) then answer EINVAL
+    else if not flags.anon && not (is_aligned off) then answer EINVAL
+    else if flags.fixed && not (is_aligned addr) then answer EINVAL
+    else if flags.fixed && not (are_pages (pages_of addr len)) then answer ENOMEM
+    else rest)
     (no_file flags.anon (file_refusal (f file) len prot flags off) (file_refusal (g file) len prot flags off) anon)
 
 back_anon : (flags : Flags) (file off : ℕ) → flags.anon ≡ true → back_at flags file off ≡ Anon
@@ -408,11 +407,10 @@ mmap_goes rule p t s u core addr len a l at file off file2 off2 prot flags flags
     let backs : back ≡ Anon = back_anon flags file off anon in
     let backs2 : back2 ≡ Anon = back_anon flags2 file2 off2 anon2 in
     let done : AppliesAfter rule None t core (Mmap addr len prot flags file off) (Mapped at) u =
-        subst (λ (o : Option Reply). AppliesAfter rule o t core (Mmap addr len prot flags file off) (Mapped at) u) whole_here h in
+    subst (λ (o : Option Reply). AppliesAfter rule o t core (Mmap addr len prot flags file off) (Mapped at) u) whole_here h in
     let to = maps_put rule flags.fixed t u core addr len at back prot done in
     let v : Plain = after_mapping s (pages_of a l) back2 prot in
-    let y2 = Mapped ((pages_of a l).first * 4096) in
-    (
+    let y2 = Mapped ((pages_of a l).first * 4096) in (
       v,
       subst (λ (o : Option Reply). AppliesAfter rule o s core (Mmap a l prot flags2 file2 off2) y2 v) (sym part_here)
           (maps_fixed rule flags2.fixed s v (record { core = core; addr = a; len = l; meta = meta_of prot flags2 file2 off2 }) y2 fixed (refl, refl)),

@@ -135,7 +135,7 @@ stay_once h k items xs from g s o = record {
         let here = s.there (place g xs j) (Reply p.call) p.at in
         let there = s.there (place g xs n) (Reply q.call) q.at in
         let places = o.once p.call (from + place g xs j) (from + place g xs n) here
-            (subst (λ (c : ℕ). slice_get items (from + place g xs n) ≡ Some (Reply c)) (sym calls) there) in
+        (subst (λ (c : ℕ). slice_get items (from + place g xs n) ≡ Some (Reply c)) (sym calls) there) in
         one_place g xs j n (get_within (pick g xs) j (Reply i) e) (get_within (pick g xs) n (Reply i) f) (omega (arith, places))
 
     copies : (i j n : ℕ) → slice_get (pick g xs) j ≡ Some (Copy i) → slice_get (pick g xs) n ≡ Some (Reply i) → j < n

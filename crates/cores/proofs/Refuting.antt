@@ -287,7 +287,7 @@ core_order rule t z h p number first start cut ks core has_order = (chosen, is_c
             )
             at_place (inr (inl same)) =
                 let here : slice_get items b ≡ Some y =
-                    subst (λ (i : ℕ). slice_get items i ≡ Some y) (omega (arith, same, is)) where_at in
+                subst (λ (i : ℕ). slice_get items i ≡ Some y) (omega (arith, same, is)) where_at in
                 let both : Some y ≡ Some (Reply k.number) = sym here ∙ it.1 in
                 let that : y ≡ Reply k.number = cc in
                 let begun = times.1 in
@@ -428,17 +428,16 @@ core_order rule t z h p number first start cut ks core has_order = (chosen, is_c
     led : (v : Plain) × LeadAll rule core_calls z (pick g seg) v
     led =
         let here = front_leads rule h t o.last s.pre (Reply number ∷ s.rest)
-            (subst (λ (xs : List Item). LeadAll rule h t xs o.last) (sym s.whole) o.lead) in
+        (subst (λ (xs : List Item). LeadAll rule h t xs o.last) (sym s.whole) o.lead) in
         let next = here.2 in
         let rest = front_leads rule h next.0 o.last mid post.0 (subst (λ (xs : List Item). LeadAll rule h next.0 xs o.last) (sym post.1) next.2) in
         let reply = next.1 in
         let both : Some reply.0 ≡ Some first = sym reply.1 ∙ core.at in
         let same : reply.0 ≡ first = cc in
         let replied : RepliesBy rule here.0 first.call.core first.call.request first.call.reply next.0 =
-            subst (λ (x : Timed). RepliesBy rule here.0 x.call.core x.call.request x.call.reply next.0) same reply.2 in
+        subst (λ (x : Timed). RepliesBy rule here.0 x.call.core x.call.request x.call.reply next.0) same reply.2 in
         let reset = reset_goes rule p here.0 z next.0 first.call start.call core.starts.part core.starts.reset replied in
-        let on = lead_on rule p h core_calls g mid next.0 reset.0 rest.0 follows reset.2 rest.1 in
-        (
+        let on = lead_on rule p h core_calls g mid next.0 reset.0 rest.0 follows reset.2 rest.1 in (
           on.0,
           subst (λ (q : Option ℕ). LeadAll rule core_calls z (add q (pick g mid)) on.0) (sym (number_at names number 0 distinct refl))
               (reset.0, (start, refl, reset.1), on.1),

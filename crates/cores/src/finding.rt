@@ -308,9 +308,7 @@ fn find_behind<A: Allocator + Clone + Drop>(
     for _ in 0..5u8 {
         let wanted = last_of(alloc, latest.as_slice(), count)?;
         let wanted = wanted.as_slice();
-        let found = attempt(
-            alloc, files, any_place, history, pages, number, cut, wanted,
-        )?;
+        let found = attempt(alloc, files, any_place, history, pages, number, cut, wanted)?;
         if let Some(core) = found {
             let core = shrink(alloc, files, any_place, history, core, wanted)?;
             return Ok(Some(core));

@@ -5,7 +5,9 @@ ghost use Rattle.cores.specs.Parts.{Has, IsAccess, IsMeet, IsPart, IsPartOf, IsP
 
 use audit::Call;
 use vm_base::page::{PAGE_LIMIT, PAGE_SIZE};
-use vm_base::{CoreId, Flags, PageRange, Prot, Reply, Request, page_count, page_of, pages, refusal};
+use vm_base::{
+    CoreId, Flags, PageRange, Prot, Reply, Request, page_count, page_of, pages, refusal,
+};
 
 /// Tells whether a reply says that the call changed nothing.
 fn is_quiet(reply: Reply) -> bool
@@ -41,7 +43,10 @@ fn misses(of: PageRange, request: Request, reply: Reply) -> bool
 {
     match request {
         Request::Mmap {
-            addr, len, flags, ..
+            addr,
+            len,
+            flags,
+            ..
         } => match reply {
             Reply::Mapped(at) => are_apart(pages_put(flags.fixed, addr, len, at), of),
             _ => false,
@@ -282,7 +287,10 @@ pub(crate) fn is_reset(of: PageRange, call: Call) -> bool
     match call.request {
         Request::Munmap { addr, len } => has_all(pages(addr, len), of),
         Request::Mmap {
-            addr, len, flags, ..
+            addr,
+            len,
+            flags,
+            ..
         } => match call.reply {
             Reply::Mapped(at) => has_all(pages_put(flags.fixed, addr, len, at), of),
             _ => false,
