@@ -426,7 +426,7 @@ fn witness_asked<'a>(words: &ArgMatches<'a>, number: u64) -> Task<'a>
     let asked = WitnessPicture {
         number,
         limit: points_of(words),
-        drawing: Drawing::Steps(Steps {
+        drawing: Drawing::Lines(Lines {
             first: 1,
             last: u64::MAX,
         }),
