@@ -100,6 +100,7 @@ class Machine:
             if self.calls[core]:
                 word, first, end, _ = self.calls[core]
                 out.append(f"core {core} {word} awaits cores for {first * 4096:#x}-{end * 4096:#x}")
+                out.append(f"core {core} holds {first * 4096:#x}-{end * 4096:#x}")
             entries = [("tlb", *entry) for entry in self.tlbs[core]]
             entries += [("table", page, *self.tables[core][page]) for page in sorted(self.tables[core])]
             for place, page, frame, write, execute in entries:
@@ -108,7 +109,28 @@ class Machine:
                 out.append(f"core {core} {place} {page * 4096:#x} frame {frame} r{'w' if write else '-'}{'x' if execute else '-'}{tail}")
             for sender, first, end, cleared in self.inboxes[core]:
                 out.append(f"core {core} inbox from {sender} {first * 4096:#x}-{end * 4096:#x} {'second' if cleared else 'first'} take due")
-        return "\n".join(out) + "\n"
+        return "\n".join(out + self.mappings() + self.used()) + "\n"
+
+    def mappings(self):
+        """Neighbouring pages of one protection are one line."""
+        runs = []
+        for page in sorted(self.pages):
+            prot = self.pages[page]["prot"]
+            if runs and runs[-1][1] == page and runs[-1][2] == prot:
+                runs[-1][1] = page + 1
+            else:
+                runs.append([page, page + 1, prot])
+        return [f"{first * 4096:#x}-{end * 4096:#x} {prot} anon" for first, end, prot in runs]
+
+    def used(self):
+        """The pages that have a frame or a recorded core."""
+        out = []
+        for page, info in sorted(self.pages.items()):
+            frame = "" if info["frame"] is None else f" frame {info['frame']}"
+            cores = "".join(f" {c}" for c in sorted(info["cores"]))
+            if frame or cores:
+                out.append(f"page {page * 4096:#x}{frame}" + (f" cores{cores}" if cores else ""))
+        return out
 
 
 def line(machine, draw):

@@ -1,18 +1,22 @@
 -- The text of the state at a trace's end, or behind one of its lines, written
-use Rattle.std.proofs.Common.{◌≡◌, ℕ, ◌⊎◌, inl, inr, true, List, Option, None, Some, Result, Ok, Err, IfOk, IfErr, ap, subst, ◌∙◌}
+use Rattle.std.proofs.Common.{◌≡◌, ℕ, ◌⊎◌, inl, inr, true, List, [], Option, None, Some, Result, Ok, Err, IfOk, IfErr, ap, subst, ◌∙◌}
 use Rattle.std.specs.Io.KnownBytes.{Keeps}
 use Rattle.trace_io.specs.Lines.{lines_of}
 use Rattle.trace_io.specs.Sink.{AppendsFront}
 use Rattle.trace.specs.declared.fault.TraceFault.{TraceFault}
 use Rattle.trace.specs.declared.fault.TraceFault.TheVariants.{NoMemory, WriteFailed}
-use Rattle.trace.specs.declared.shown.Show.TheVariants.{Outcomes}
+use Rattle.trace.specs.declared.shown.Show.TheVariants.{Maps}
 use Rattle.core_steps.specs.declared.setup.CallLimit.TheVariants.{Usual}
 use Rattle.state_text.specs.Fronts.{IsFront, lacking_line, lines_to}
 use Rattle.state_text.specs.Shown.{Follows, IsNothing, Seen}
-use Rattle.state_text.specs.Texts.{seen_text, state_text}
-use Rattle.state_text.specs.Traces.{ComesTo}
+use Rattle.state_text.specs.Texts.{seen_text}
+use Rattle.state_text.specs.Traces.{IsTold, told_text}
 use Rattle.state_text.proofs.Traces.{seen_state}
-use Rattle.command_line.specs.Picture.{Fails, ShowsText, TextEnds, Watched}
+use Rattle.trace.specs.Seen.{IsSeen}
+use Rattle.trace_io.specs.Source.{Stream, Reads}
+use Rattle.command_line.specs.Listing.{FailsToList}
+use Rattle.command_line.specs.Picture.{ShowsText, TextEnds}
+use Rattle.command_line.proofs.PictureLemmas.{known_read}
 use Rattle.command_line.specs.State.{FailsTo, lacking_state}
 
 front_lines : (at : Option ℕ) (input front : List ℕ) → IsFront at input front → lines_of front ≡ lines_to at (lines_of input)
@@ -20,23 +24,33 @@ front_lines None input front is = ap lines_of is
 front_lines (Some n) input front is = is.1
 
 -- a fault of the front
-pub state_unseen : (at : Option ℕ) (input front : List ℕ) (f : TraceFault) → IsFront at input front → Fails Usual front f → FailsTo at input f
+pub state_unseen : (at : Option ℕ) (input front : List ℕ) (f : TraceFault) → IsFront at input front → FailsToList Usual front f → FailsTo at input f
 state_unseen at input front f is (inl h) = inl (front, is, h)
 state_unseen at input front f is (inr h) = inr h
 
-pub state_drawn : (at : Option ℕ) (input front : List ℕ) (old new : Option (List ℕ)) (one r : Seen) (lacks : Option ℕ)
+-- what was seen in memory
+pub was_seen : {T : Type 0} (s t : Stream) (one r : Seen) (text list : List ℕ) (old new : Option (List ℕ)) (ended : Result T TraceFault) (x : T)
+    → s.coming ≡ Some text → old ≡ Some [] → new ≡ Some list → ended ≡ Ok x
+    → IfOk ended (λ u. Reads s t (λ input unread. IsSeen Follows one r Maps input old new)) → IsSeen Follows one r Maps text (Some []) (Some list)
+was_seen s t one r text list old new (Ok y) x known a b is h =
+    subst (λ o. IsSeen Follows one r Maps text o (Some list)) a (subst (λ o. IsSeen Follows one r Maps text old o) b
+    (known_read s t (λ input unread. IsSeen Follows one r Maps input old new) text known h).1)
+was_seen s t one r text list old new (Err f) x known a b is h = absurd (cc)
+
+pub state_drawn : (at : Option ℕ) (input front list : List ℕ) (old new : Option (List ℕ)) (one r : Seen) (lacks : Option ℕ)
     (ended : Result (Option ℕ) TraceFault) → IsFront at input front → lacks ≡ lacking_line at (lines_of input) → IsNothing one
-    → Watched Follows one front r → IfOk ended (λ x. (r.whole ≡ true) × (x ≡ lacks) × ShowsText x (seen_text r) old new)
-    → IfErr ended (λ f. ((f ≡ NoMemory) × Keeps old new) ⊎ ((f ≡ WriteFailed) × (r.whole ≡ true) × AppendsFront old new (seen_text r)))
-    → TextEnds (ComesTo (lines_to at (lines_of input))) (FailsTo at input) (lacking_state at (lines_of input)) state_text old new ended
-state_drawn at input front old new one r lacks (Ok x) is lacking n w (whole, none, shows) err =
-    let to = seen_state one r Outcomes front None None n w whole in (
+    → IsSeen Follows one r Maps front (Some []) (Some list)
+    → IfOk ended (λ x. (r.whole ≡ true) × (x ≡ lacks) × ShowsText x (seen_text list r) old new)
+    → IfErr ended (λ f. ((f ≡ NoMemory) × Keeps old new) ⊎ ((f ≡ WriteFailed) × (r.whole ≡ true) × AppendsFront old new (seen_text list r)))
+    → TextEnds (IsTold (lines_to at (lines_of input))) (FailsTo at input) (lacking_state at (lines_of input)) told_text old new ended
+state_drawn at input front list old new one r lacks (Ok x) is lacking n w (whole, none, shows) err =
+    let to = seen_state one r front list n w whole in (
       to.0,
-      subst (λ ls. ComesTo ls to.0) (front_lines at input front is) to.1,
+      subst (λ ls. IsTold ls to.0) (front_lines at input front is) to.1,
       none ∙ lacking,
       subst (λ t. ShowsText x t old new) to.2 shows,
     )
-state_drawn at input front old new one r lacks (Err f) is lacking n w ok (inl (none, kept)) = inl (inr (inl none), kept)
-state_drawn at input front old new one r lacks (Err f) is lacking n w ok (inr (failed, whole, part)) =
-    let to = seen_state one r Outcomes front None None n w whole in
-    inr (failed, inr (to.0, subst (λ ls. ComesTo ls to.0) (front_lines at input front is) to.1, subst (AppendsFront old new) to.2 part))
+state_drawn at input front list old new one r lacks (Err f) is lacking n w ok (inl (none, kept)) = inl (inr (inl none), kept)
+state_drawn at input front list old new one r lacks (Err f) is lacking n w ok (inr (failed, whole, part)) =
+    let to = seen_state one r front list n w whole in
+    inr (failed, inr (to.0, subst (λ ls. IsTold ls to.0) (front_lines at input front is) to.1, subst (AppendsFront old new) to.2 part))

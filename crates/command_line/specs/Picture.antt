@@ -22,8 +22,7 @@ use Rattle.trace.specs.declared.fault.TraceFault.TheVariants.{BadLine, TooLong, 
 use Rattle.trace.specs.declared.shown.Show.TheVariants.{Outcomes}
 use Rattle.trace.specs.Ends.{Stops}
 use Rattle.trace.specs.Seen.{IsSeen}
-use Rattle.state_text.specs.Texts.{state_text}
-use Rattle.state_text.specs.Traces.{ComesTo}
+use Rattle.state_text.specs.Traces.{IsTold, told_text}
 use Rattle.state_text.specs.Fronts.{lines_to}
 use Rattle.command_line.specs.State.{FailsTo, lacking_state}
 use Rattle.trace_io.specs.Lines.{lines_of}
@@ -75,8 +74,8 @@ abbrev pub PictureEnds : Drawing → List ℕ → Option (List ℕ) → Option (
 PictureEnds (Lines lines) input old new r = TextEnds (Lined lines input) (FailsTo (Some lines.last) input) (lacking_of lines) picture_drawn old new r
 PictureEnds (Steps steps) input old new r = TextEnds (Watched (makes recorded) (nothing_recorded steps.first steps.last) input) (Fails Usual input)
     (lacking steps.first) (picture_of steps.first steps.last input) old new r
-PictureEnds (State at) input old new r = TextEnds (ComesTo (lines_to at (lines_of input))) (FailsTo at input)
-    (lacking_state at (lines_of input)) state_text old new r
+PictureEnds (State at) input old new r = TextEnds (IsTold (lines_to at (lines_of input))) (FailsTo at input)
+    (lacking_state at (lines_of input)) told_text old new r
 PictureEnds Lives input old new r = TextEnds (Watched ChangesRecorded nothing_changed input) (Fails Long input) lacking_none (lives_of input) old new r
 PictureEnds (Listing limit) input old new r = TextEnds (Listed limit input) (FailsToList limit input) lacking_nothing (named_list input) old new r
 

@@ -1,18 +1,28 @@
 -- The state at a trace's end, or behind one of its lines
-use Rattle.std.specs.Prelude.{◌≡◌, ℕ, ◌⊎◌, List, Option, None}
+use Rattle.std.specs.Prelude.{◌≡◌, ℕ, ◌⊎◌, List, [], Option, Some, Result, Ok, Err, Vec}
 use Rattle.core_steps.specs.declared.setup.CallLimit.TheVariants.{Usual}
-use Rattle.machine_model.specs.World.{World}
+use Rattle.command_line.specs.Listing.{FailsToList}
+use Rattle.std.specs.declared.alloc.Global.{Global}
 use Rattle.state_text.specs.Fronts.{IsFront, lacking_line}
+use Rattle.state_text.specs.Shown.{Follows, Seen}
+use Rattle.state_text.specs.Traces.{Told}
 use Rattle.trace.specs.declared.fault.TraceFault.{TraceFault}
 use Rattle.trace.specs.declared.fault.TraceFault.TheVariants.{NoMemory, ReadFailed}
-use Rattle.trace.specs.declared.shown.Show.TheVariants.{Outcomes}
+use Rattle.trace.specs.declared.shown.Show.TheVariants.{Maps}
 use Rattle.trace.specs.Ends.{Stops}
+use Rattle.trace.specs.Seen.{IsSeen}
 
 -- there is a state to show, but where that line is lacking
-abbrev pub lacking_state : Option ℕ → List (List ℕ) → World → Option ℕ
-lacking_state at lines w = lacking_line at lines
+abbrev pub lacking_state : Option ℕ → List (List ℕ) → Told → Option ℕ
+lacking_state at lines t = lacking_line at lines
 
 -- no state comes of the trace: for a fault of these lines, for want of memory, or since it couldn't be read
 abbrev pub FailsTo : Option ℕ → List ℕ → TraceFault → Type 0
 FailsTo at input f = ((front : List ℕ) × IsFront at input front
-    × ((unread : List ℕ) × Stops Usual Outcomes front unread None None f)) ⊎ ((f ≡ NoMemory) ⊎ (f ≡ ReadFailed))
+    × ((unread : List ℕ) × (held : List ℕ) × Stops Usual Maps front unread (Some []) (Some held) f))
+    ⊎ ((f ≡ NoMemory) ⊎ (f ≡ ReadFailed))
+
+-- what a replay came to that is watched, and lists its mappings
+abbrev pub SeesState : Seen → List ℕ → Result (Seen × Vec ℕ Global) TraceFault → Type 0
+SeesState one input (Ok (r, list)) = IsSeen Follows one r Maps input (Some []) (Some list.items)
+SeesState one input (Err f) = FailsToList Usual input f

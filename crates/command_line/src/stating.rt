@@ -2,35 +2,67 @@
 ghost use Rattle.std.specs.Prelude.{◌≡◌, ◌≢◌, ◌⊎◌, Err, IfErr, IfOk, true};
 ghost use Rattle.std.specs.Io.KnownBytes.{Keeps};
 ghost use Rattle.command_line.specs.Picture.{ShowsText, TextEnds};
-ghost use Rattle.command_line.specs.State.{FailsTo, lacking_state};
+ghost use Rattle.command_line.specs.State.{FailsTo, SeesState, lacking_state};
 ghost use Rattle.state_text.specs.Fronts.{lines_to};
-ghost use Rattle.state_text.specs.Texts.{seen_text, state_text};
-ghost use Rattle.state_text.specs.Traces.{ComesTo};
+ghost use Rattle.state_text.specs.Texts.{seen_text};
+ghost use Rattle.state_text.specs.Traces.{IsTold, told_text};
 ghost use Rattle.trace.specs.declared.fault.TraceFault.TheVariants as Of;
 ghost use Rattle.trace_io.specs.Lines.{lines_of};
 ghost use Rattle.trace_io.specs.Sink.{AppendsFront};
 
-use crate::picturing::record;
+use crate::held::Held;
+use crate::picturing::in_memory;
 use core_steps::CallLimit;
 use state_text::fronts::{front_of, lacking_line};
 use state_text::mirror::Mirror;
 use state_text::texts::put_state;
 use std::alloc::Global;
 use trace::fault::TraceFault;
+use trace::replay::replay_watched;
+use trace::shown::Show;
 use trace_io::sink::{Sink, write_all};
+use trace_io::source::Counted;
+
+// Replays the trace beside the mirror, and lists the mappings at its end.
+fn see(
+    alloc: Global,
+    trace: &[u8],
+    mirror: Mirror<Global>,
+) -> Result<(Mirror<Global>, Vec<u8>), TraceFault>
+    ensures ends { SeesState mirror trace.now result }
+    ensures read { result ≢ Err Of.ReadFailed }
+    ensures unwritten { result ≢ Err Of.WriteFailed }
+{
+    let mut reader = Counted::new(trace);
+    let bytes = Vec::new(alloc);
+    let mut held = Held::new(bytes);
+    let beside = replay_watched(
+        alloc,
+        &mut reader,
+        &mut held,
+        Show::Maps,
+        CallLimit::Usual,
+        mirror,
+    );
+    match beside.replayed.ended {
+        Ok(()) => Ok((beside.watch, held.bytes)),
+        Err(fault) => Err(in_memory(fault)),
+    }
+}
 
 // Writes what was seen, where all of it was, and no line is lacking.
 fn write_seen<W: Sink>(
     alloc: Global,
     mirror: &Mirror<Global>,
+    maps: &[u8],
     lacking: Option<u64>,
     out: &mut W,
 ) -> Result<Option<u64>, TraceFault>
     ensures ok { IfOk result (λ x. (mirror.now.whole ≡ true) × (x ≡ lacking)
-        × ShowsText x (seen_text mirror.now) (W.contents out.old) (W.contents out.new)) }
+        × ShowsText x (seen_text maps.now mirror.now) (W.contents out.old) (W.contents out.new)) }
     ensures err { IfErr result (λ f. ((f ≡ Of.NoMemory) × Keeps (W.contents out.old) (W.contents out.new))
         ⊎ ((f ≡ Of.WriteFailed) × (mirror.now.whole ≡ true)
-        × AppendsFront (W.contents out.old) (W.contents out.new) (seen_text mirror.now))) }
+        × AppendsFront (W.contents out.old) (W.contents out.new) (seen_text maps.now mirror.now))) }
     ensures read { result ≢ Err Of.ReadFailed }
     ensures write { result ≡ Err Of.WriteFailed → W.failed out.new ≡ true }
     ensures kept { (result ≡ Err Of.WriteFailed) ⊎ (W.failed out.new ≡ W.failed out.old) }
@@ -42,7 +74,7 @@ fn write_seen<W: Sink>(
         return Ok(Some(lines));
     }
     let mut text = Vec::new(alloc);
-    if put_state(&mut text, mirror).is_err() {
+    if put_state(&mut text, mirror, maps).is_err() {
         return Err(TraceFault::NoMemory);
     }
     if write_all(out, text.as_slice()).is_err() {
@@ -59,8 +91,8 @@ pub(crate) fn draw_state<W: Sink>(
     out: &mut W,
     at: Option<u64>,
 ) -> Result<Option<u64>, TraceFault>
-    ensures ends { TextEnds (ComesTo (lines_to at (lines_of trace.now))) (FailsTo at trace.now)
-        (lacking_state at (lines_of trace.now)) state_text (W.contents out.old) (W.contents out.new) result }
+    ensures ends { TextEnds (IsTold (lines_to at (lines_of trace.now))) (FailsTo at trace.now)
+        (lacking_state at (lines_of trace.now)) told_text (W.contents out.old) (W.contents out.new) result }
     ensures read { result ≢ Err Of.ReadFailed }
     ensures write { result ≡ Err Of.WriteFailed → W.failed out.new ≡ true }
     ensures kept { (result ≡ Err Of.WriteFailed) ⊎ (W.failed out.new ≡ W.failed out.old) }
@@ -70,8 +102,8 @@ pub(crate) fn draw_state<W: Sink>(
     };
     let front = front_of(trace, at);
     let lacking = lacking_line(trace, at);
-    match record(alloc, front, CallLimit::Usual, mirror) {
-        Ok(mirror) => write_seen(alloc, &mirror, lacking, out),
+    match see(alloc, front, mirror) {
+        Ok((mirror, maps)) => write_seen(alloc, &mirror, maps.as_slice(), lacking, out),
         Err(fault) => Err(fault),
     }
 }

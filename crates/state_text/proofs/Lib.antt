@@ -2,12 +2,11 @@ pub mod Cached
 pub mod Doing
 pub mod Entries
 pub mod FrontLines
+pub mod Holding
 pub mod Joined
 pub mod Lines
-pub mod Ordered
 pub mod Steps
 pub mod TableSteps
-pub mod TableTexts
 pub mod Told
 pub mod Traces
 pub mod Watched

@@ -4,10 +4,11 @@ use Rattle.std.proofs.Common.{◌∙◌, arith, append_assoc, add-one, None}
 use Rattle.std.proofs.Math.ListN.{set}
 use Rattle.std.proofs.lemmas.List.{get_or-set_other, get_or-set_same}
 use Rattle.std.proofs.lemmas.Bool.Decides.{nat_tests}
-use Rattle.mmu.specs.declared.tlb.TlbEntry.{TlbEntry}
+use Rattle.mmu.specs.declared.entry.Translation.{Translation}
+use Rattle.page_list.specs.declared.list.OfPage.{OfPage}
 use Rattle.state_text.specs.Edits.{table_at}
 use Rattle.state_text.specs.Held.{Holds, held, nothing_held}
-use Rattle.state_text.specs.Texts.{texts_below}
+use Rattle.page_list.specs.Texts.{texts_below}
 
 pub cores_none : (text : ℕ → List ℕ) → texts_below text 0 ≡ []
 unfolding texts_below
@@ -23,13 +24,6 @@ pub cores_more : (text : ℕ → List ℕ) (n : ℕ) (old now next : List ℕ) �
 cores_more text n old now next e f =
     f ∙ ap (λ l. l ++ text n) e ∙ append_assoc old (texts_below text n) (text n) ∙ ap (λ l. old ++ l) (sym (cores_next text n))
 
--- the same lines of the same cores
-pub cores_same : (f g : ℕ → List ℕ) (n : ℕ) → ((c : ℕ) → c < n → f c ≡ g c) → texts_below f n ≡ texts_below g n
-unfolding texts_below
-cores_same f g zero same = refl
-cores_same f g (suc n) same =
-    ap (λ l. l ++ f n) (cores_same f g n (λ c lt. same c (omega (arith, lt)))) ∙ ap (λ l. texts_below g n ++ l) (same n (omega arith))
-
 -- ---- cores that hold nothing
 
 pub held_more : (all : List Holds) → ((c : ℕ) → held all c ≡ nothing_held) → (c : ℕ) → held (all ++ nothing_held ∷ []) c ≡ nothing_held
@@ -40,13 +34,13 @@ held_more (x ∷ all) none (suc c) = held_more all (λ k. none (suc k)) c
 
 -- ---- tables without entries
 
-table_more : (all : List (List TlbEntry)) → ((c p : ℕ) → table_at all c p ≡ None) → (c p : ℕ) → table_at (all ++ [] ∷ []) c p ≡ None
+table_more : (all : List (List (OfPage Translation))) → ((c p : ℕ) → table_at all c p ≡ None) → (c p : ℕ) → table_at (all ++ [] ∷ []) c p ≡ None
 table_more [] none zero p = refl
 table_more [] none (suc c) p = refl
 table_more (x ∷ all) none zero p = none 0 p
 table_more (x ∷ all) none (suc c) p = table_more all (λ k. none (suc k)) c p
 
-pub table_pushed : (xs ys : List (List TlbEntry)) (x : List TlbEntry) → ys ≡ xs ++ x ∷ [] → x ≡ [] → ((c p : ℕ) → table_at xs c p ≡ None)
+pub table_pushed : (xs ys : List (List (OfPage Translation))) (x : List (OfPage Translation)) → ys ≡ xs ++ x ∷ [] → x ≡ [] → ((c p : ℕ) → table_at xs c p ≡ None)
     → (c p : ℕ) → table_at ys c p ≡ None
 table_pushed xs ys x e f none c p = ap (λ l. table_at l c p) (e ∙ ap (λ y. xs ++ y ∷ []) f) ∙ table_more xs none c p
 

@@ -9,7 +9,7 @@ use Rattle.shootdown.specs.declared.message.Took.TheVariants as took
 use Rattle.watched.specs.Watching.{Watches}
 use Rattle.state_text.specs.declared.deed.Deed.{Deed}
 use Rattle.state_text.specs.declared.deed.Deed.TheVariants.{Nothing, Translate, Shoot, Take, Walk, Evict}
-use Rattle.vm_base.specs.Functions.{over}
+use Rattle.vm_base.specs.Functions.{across, over}
 use Rattle.state_text.specs.Deeds.{deed_of}
 use Rattle.state_text.specs.declared.edit.Edit.{Edit}
 use Rattle.state_text.specs.declared.edit.Edit.TheVariants as to
@@ -17,10 +17,18 @@ use Rattle.state_text.specs.Edits.{after_edit, edit_of, edited, table_at, taken_
 use Rattle.state_text.specs.Held.{Holds, done, held, own_part, told}
 use Rattle.state_text.specs.Laws.{Knows}
 use Rattle.state_text.specs.Shown.{Follows, IsNothing, IsShown, Seen, after_step, holds_of, inboxes, phase_at, phase_in}
-use Rattle.state_text.specs.Tables.{page_limit}
-use Rattle.state_text.specs.Texts.{call_text, core_text, epoch_line, message_line, page_text, seen_core, seen_text, state_text, table_text}
-use Rattle.state_text.specs.Texts.{texts_below, tlb_line}
-use Rattle.state_text.proofs.Lines.{cores_same}
+use Rattle.core_steps.specs.Changing.{may_change}
+use Rattle.core_steps.proofs.Keeping.{keeps}
+use Rattle.machine_model.specs.Holding.{some_has}
+use Rattle.page_list.specs.Lists.{at_page}
+use Rattle.page_list.specs.Texts.{pages_text, texts_below}
+use Rattle.page_list.proofs.Texts.{pages_same, texts_same}
+use Rattle.used_pages.specs.declared.used.Used.{Used}
+use Rattle.used_pages.specs.Texts.{used_line}
+use Rattle.used_pages.specs.Used.{used_in, used_of}
+use Rattle.slot_lock.specs.Slots.{IsNew}
+use Rattle.state_text.specs.Texts.{core_text, epoch_line, message_line, seen_core, seen_text, state_text, table_line, table_text}
+use Rattle.state_text.specs.Texts.{tlb_line, work_text}
 use Rattle.state_text.proofs.Steps.{step_kept}
 use Rattle.state_text.proofs.TableSteps.{tables_kept}
 
@@ -100,6 +108,16 @@ after_alike Idle edit i j v t u box alike = alike
 after_alike (Answered reply) edit i j v t u box alike = alike
 after_alike Full edit i j v t u box alike = alike
 
+-- ---- of pages, where those that a step may change were looked at
+
+pages_kept : (before : ℕ → Option Used) (w : World) (e : Event) (o : Outcome) (v : World) → Step w e o v → ((p : ℕ) → before p ≡ used_in w p)
+    → (p : ℕ) → across before (some_has (may_change w e)) (used_in v) p ≡ used_in v p
+pages_kept before w e o v s same p = go (some_has (may_change w e) p) refl
+  where
+    go : (b : Bool) → some_has (may_change w e) p ≡ b → cond b (used_in v p) (before p) ≡ used_in v p
+    go true i = refl
+    go false i = same p ∙ sym (ap used_of (keeps w v e o s p i))
+
 -- ---- steps
 
 followed : (one : Seen) (w : World) (e : Event) (o : Outcome) (v : World) (other : Seen) → Step w e o v → Follows one w e o v other → Knows one w
@@ -112,6 +130,7 @@ followed one w e o v other s f k whole =
           ∙ after_alike o (edit_of w e) (inboxes one.cores) w.hardware.inbox v.hardware.table (table_at one.tables) w.hardware.table
           (λ d less. ap (λ (h : Holds). h.inbox) (before.holds d less)) before.tables c p lt
           ∙ sym (tables_kept w e o v s c p);
+      pages = λ p. f.pages whole p ∙ pages_kept (at_page one.pages) w e o v s before.pages p;
       phases = f.phases;
       epoch = f.epoch;
     }
@@ -132,10 +151,11 @@ run_of one w [] (o ∷ os) v other r = absurd r
 run_of one w (e ∷ es) [] v other r = absurd r
 
 -- a new machine has nothing to see
-pub opening : (r : Seen) (made : Made) (slots : Slots) → IsNothing r → Knows r (new_world made slots)
-opening r made slots n whole = record {
+pub opening : (r : Seen) (made : Made) (slots : Slots) → IsNew slots → IsNothing r → Knows r (new_world made slots)
+opening r made slots new n whole = record {
   holds = λ c lt. n.holds c;
   tables = λ c p lt. n.tables c p;
+  pages = λ p. n.pages p ∙ sym (ap used_of (new.unmapped p));
   phases = λ c lt. n.phases c ∙ free (nat_lt c made.cores);
   epoch = n.epoch;
 }
@@ -148,14 +168,16 @@ opening r made slots n whole = record {
 
 core_same : (c : ℕ) (phase : Phase) (h : Holds) (t u : ℕ → Option Translation) → ((p : ℕ) → t p ≡ u p) → core_text c phase h t ≡ core_text c phase h u
 core_same c phase h t u same =
-    ap (λ l. call_text c phase ++ flat_map (tlb_line c h.inbox) h.tlb ++ l ++ flat_map (message_line c) h.inbox)
-    (cores_same (λ p. page_text c h.inbox p (t p)) (λ p. page_text c h.inbox p (u p)) page_limit (λ p lt. ap (page_text c h.inbox p) (same p)))
+    ap (λ l. work_text c phase ++ flat_map (tlb_line c h.inbox) h.tlb ++ l ++ flat_map (message_line c) h.inbox)
+    (pages_same (table_line c h.inbox) t u same)
 
-pub text_shown : (r : Seen) (w : World) → IsShown r w → seen_text r ≡ state_text w
-text_shown r w k =
-    ap (λ n. epoch_line n ++ texts_below (seen_core r.phases r.cores r.tables) 64) k.epoch
-    ∙ ap (λ l. epoch_line w.memory.counts.epoch ++ l) (cores_same (seen_core r.phases r.cores r.tables)
-    (λ c. core_text c (phase_in w c) (holds_of w c) (w.hardware.table c)) 64 each)
+pub text_shown : (maps : List ℕ) (r : Seen) (w : World) → IsShown r w → seen_text maps r ≡ state_text maps w
+text_shown maps r w k =
+    ap (λ n. epoch_line n ++ texts_below (seen_core r.phases r.cores r.tables) 64 ++ maps ++ pages_text used_line (at_page r.pages)) k.epoch
+    ∙ ap (λ l. epoch_line w.memory.counts.epoch ++ l ++ maps ++ pages_text used_line (at_page r.pages))
+    (texts_same (seen_core r.phases r.cores r.tables) (λ c. core_text c (phase_in w c) (holds_of w c) (w.hardware.table c)) 64 each)
+    ∙ ap (λ l. epoch_line w.memory.counts.epoch ++ texts_below (λ c. core_text c (phase_in w c) (holds_of w c) (w.hardware.table c)) 64
+    ++ maps ++ l) (pages_same used_line (at_page r.pages) (used_in w) k.pages)
   where
     each : (c : ℕ) → c < 64 → seen_core r.phases r.cores r.tables c ≡ core_text c (phase_in w c) (holds_of w c) (w.hardware.table c)
     each c lt = ap (λ p. core_text c p (held r.cores c) (table_at r.tables c)) (k.phases c lt)

@@ -3,8 +3,8 @@ use Rattle.std.specs.Prelude.{ℕ, List, [], Option, None, cond, nat_lt, slice_i
 use Rattle.vm_base.specs.Functions.{has, over, put}
 use Rattle.slot_lock.specs.Plan.{range_of}
 use Rattle.mmu.specs.declared.entry.Translation.{Translation}
-use Rattle.mmu.specs.declared.tlb.TlbEntry.{TlbEntry}
-use Rattle.mmu.specs.Tlb.{tlb_at}
+use Rattle.page_list.specs.declared.list.OfPage.{OfPage}
+use Rattle.page_list.specs.Lists.{at_page}
 use Rattle.shootdown.specs.declared.message.Message.{Message}
 use Rattle.shootdown.specs.declared.message.Took.{Took}
 use Rattle.shootdown.specs.declared.message.Took.TheVariants as took
@@ -61,5 +61,5 @@ after_edit _ edit inbox new t = t
 -- ---- tables as lists of their entries
 
 -- the entry that a core's tables have of a page; those of a core that isn't there have none
-abbrev pub table_at : List (List TlbEntry) → ℕ → ℕ → Option Translation
-table_at tables c = tlb_at (slice_index_or tables c [])
+abbrev pub table_at : List (List (OfPage Translation)) → ℕ → ℕ → Option Translation
+table_at tables c = at_page (slice_index_or tables c [])

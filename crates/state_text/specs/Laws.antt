@@ -1,12 +1,14 @@
 -- What one who watches each step knows
-use Rattle.std.specs.Prelude.{◌≡◌, true, List}
+use Rattle.std.specs.Prelude.{◌≡◌, ◌↔◌, ℕ, Some, true, List}
 use Rattle.machine_model.specs.World.{World, Made, new_world}
 use Rattle.machine_model.specs.declared.event.Event.{Event}
 use Rattle.machine_model.specs.declared.event.Outcome.{Outcome}
-use Rattle.slot_lock.specs.Slots.{Slots}
+use Rattle.slot_lock.specs.Slots.{IsNew, Slots}
+use Rattle.machine_sound.specs.Sound.{IsReached}
 use Rattle.watched.specs.Watching.{Watches}
 use Rattle.state_text.specs.Shown.{Follows, IsNothing, IsShown, Seen}
 use Rattle.state_text.specs.Texts.{seen_text, state_text}
+use Rattle.state_text.specs.Words.{held_spot, spot_has}
 
 -- where all was taken in, that is what the state has
 abbrev pub Knows : Seen → World → Type 0
@@ -18,7 +20,12 @@ AllWatchersKnow =
     → Watches Follows one w es os v other → Knows one w → Knows other v
 
 abbrev pub AllOpeningsAreKnown : Type 0
-AllOpeningsAreKnown = (r : Seen) (made : Made) (slots : Slots) → IsNothing r → Knows r (new_world made slots)
+AllOpeningsAreKnown = (r : Seen) (made : Made) (slots : Slots) → IsNew slots → IsNothing r → Knows r (new_world made slots)
 
 abbrev pub AllTextsAreTheStates : Type 0
-AllTextsAreTheStates = (r : Seen) (w : World) → IsShown r w → seen_text r ≡ state_text w
+AllTextsAreTheStates = (maps : List ℕ) (r : Seen) (w : World) → IsShown r w → seen_text maps r ≡ state_text maps w
+
+-- in a reached state a core owns just the pages that are shown of its call
+abbrev pub AllHeldAreOwned : Type 0
+AllHeldAreOwned =
+    (w : World) → IsReached w → (c p : ℕ) → (w.slots.owner p ≡ Some c) ↔ (spot_has (held_spot (w.calls.phase c)) p ≡ true)

@@ -4,7 +4,6 @@ pub mod Fronts
 pub mod Held
 pub mod Laws
 pub mod Shown
-pub mod Tables
 pub mod Texts
 pub mod Traces
 pub mod Words

@@ -1,8 +1,13 @@
 -- What is shown of a state, and what one who watches its steps knows of it
 use Rattle.std.specs.Prelude.{◌≡◌, ℕ, ◌<◌, Bool, true, List, None, cond, nat_lt, length, slice_index_or}
-use Rattle.mmu.specs.declared.tlb.TlbEntry.{TlbEntry}
+use Rattle.mmu.specs.declared.entry.Translation.{Translation}
+use Rattle.vm_base.specs.Functions.{across}
+use Rattle.core_steps.specs.Changing.{may_change}
 use Rattle.shootdown.specs.declared.message.Message.{Message}
+use Rattle.machine_model.specs.Holding.{some_has}
 use Rattle.machine_model.specs.World.{World}
+use Rattle.page_list.specs.declared.list.OfPage.{OfPage}
+use Rattle.page_list.specs.Lists.{at_page}
 use Rattle.machine_model.specs.declared.event.Event.{Event}
 use Rattle.machine_model.specs.declared.event.Outcome.{Outcome}
 use Rattle.machine_model.specs.declared.event.Outcome.TheVariants.{Stepped}
@@ -12,6 +17,8 @@ use Rattle.state_text.specs.declared.deed.Deed.{Deed}
 use Rattle.state_text.specs.Deeds.{deed_of}
 use Rattle.state_text.specs.Edits.{after_edit, edit_of, table_at}
 use Rattle.state_text.specs.Held.{Holds, done, held, nothing_held}
+use Rattle.used_pages.specs.declared.used.Used.{Used}
+use Rattle.used_pages.specs.Used.{used_in}
 
 -- a core's TLB and inbox in a state
 abbrev pub holds_of : World → ℕ → Holds
@@ -23,14 +30,15 @@ phase_in w c = cond (nat_lt c w.made.cores) (w.calls.phase c) Free
 
 -- ---- one who watches
 
--- whether all was taken in, the epoch, and of each of 64 cores where its call stands, what it holds, and
--- the entries of its tables
+-- Whether all was taken in, the epoch, and of each of 64 cores where its call stands, what it holds, and
+-- the entries of its tables. And what the pages have that were used
 pub record Seen : Type 0 where
   pub whole : Bool
   pub epoch : ℕ
   pub phases : List Phase
   pub cores : List Holds
-  pub tables : List (List TlbEntry)
+  pub tables : List (List (OfPage Translation))
+  pub pages : List (OfPage Used)
 
 abbrev pub phase_at : Seen → ℕ → Phase
 phase_at r c = slice_index_or r.phases c Free
@@ -43,6 +51,7 @@ pub record IsNothing (r : Seen) : Type 0 where
   pub whole : r.whole ≡ true
   pub holds : (c : ℕ) → held r.cores c ≡ nothing_held
   pub tables : (c p : ℕ) → table_at r.tables c p ≡ None
+  pub pages : (p : ℕ) → at_page r.pages p ≡ None
   pub phases : (c : ℕ) → phase_at r c ≡ Free
   pub epoch : r.epoch ≡ 0
   pub full : length r.phases ≡ 64
@@ -51,6 +60,7 @@ pub record IsNothing (r : Seen) : Type 0 where
 pub record IsShown (r : Seen) (w : World) : Type 0 where
   pub holds : (c : ℕ) → c < 64 → held r.cores c ≡ holds_of w c
   pub tables : (c p : ℕ) → c < 64 → table_at r.tables c p ≡ w.hardware.table c p
+  pub pages : (p : ℕ) → at_page r.pages p ≡ used_in w p
   pub phases : (c : ℕ) → c < 64 → phase_at r c ≡ phase_in w c
   pub epoch : r.epoch ≡ w.memory.counts.epoch
 
@@ -68,5 +78,7 @@ pub record Follows (one : Seen) (w : World) (e : Event) (o : Outcome) (v : World
       → held other.cores c ≡ after_step o (deed_of w e) (held one.cores) c
   pub tables : other.whole ≡ true → (c p : ℕ) → c < 64 → table_at other.tables c p
       ≡ after_edit o (edit_of w e) (inboxes one.cores) v.hardware.table (table_at one.tables) c p
+  pub pages : other.whole ≡ true → (p : ℕ)
+      → at_page other.pages p ≡ across (at_page one.pages) (some_has (may_change w e)) (used_in v) p
   pub phases : (c : ℕ) → c < 64 → phase_at other c ≡ phase_in v c
   pub epoch : other.epoch ≡ v.memory.counts.epoch

@@ -1,5 +1,5 @@
 -- The text of a state
-use Rattle.std.specs.Prelude.{ℕ, zero, suc, Bool, true, false, List, [], ◌∷◌, ◌++◌, Option, None, Some, cond, codes, decimal, slice_index_or}
+use Rattle.std.specs.Prelude.{ℕ, Bool, true, false, List, [], ◌∷◌, ◌++◌, Option, None, Some, cond, codes, decimal, slice_index_or}
 use Rattle.std.specs.List.{concat, flat_map}
 use Rattle.vm_base.specs.declared.rights.Prot.{Prot}
 use Rattle.vm_base.specs.Functions.{has}
@@ -8,7 +8,11 @@ use Rattle.mmu.specs.declared.tlb.TlbEntry.{TlbEntry}
 use Rattle.shootdown.specs.declared.message.Message.{Message}
 use Rattle.trace_text.specs.Lists.{start_of}
 use Rattle.trace_text.specs.Spelling.{rights_text}
+use Rattle.machine_model.specs.Holding.{taken_in}
 use Rattle.machine_model.specs.World.{World}
+use Rattle.page_list.specs.declared.list.OfPage.{OfPage}
+use Rattle.page_list.specs.Lists.{at_page}
+use Rattle.page_list.specs.Texts.{pages_text, texts_below}
 use Rattle.machine_model.specs.declared.phase.Phase.{Phase}
 use Rattle.machine_model.specs.declared.phase.Phase.TheVariants.{Free}
 use Rattle.state_text.specs.declared.words.Spot.{Spot}
@@ -16,8 +20,9 @@ use Rattle.state_text.specs.declared.words.Spot.TheVariants.{Nowhere, Page, Page
 use Rattle.state_text.specs.Edits.{table_at}
 use Rattle.state_text.specs.Held.{Holds, held}
 use Rattle.state_text.specs.Shown.{Seen, holds_of, phase_in}
-use Rattle.state_text.specs.Tables.{page_limit}
-use Rattle.state_text.specs.Words.{call_word, doing_word, spot_of}
+use Rattle.state_text.specs.Words.{call_word, doing_word, held_spot, spot_of}
+use Rattle.used_pages.specs.Texts.{used_line}
+use Rattle.used_pages.specs.Used.{used_in}
 
 -- ---- a call
 
@@ -37,6 +42,25 @@ call_line c phase =
 abbrev pub call_text : ℕ → Phase → List ℕ
 call_text c Free = []
 call_text c phase = call_line c phase
+
+-- the pages that it holds
+unfoldable pub holds_line : ℕ → Spot → List ℕ
+holds_line c spot = concat (codes "core " ∷ decimal c ∷ codes " holds" ∷ []) ++ spot_text spot
+
+abbrev pub holds_text : ℕ → Spot → List ℕ
+holds_text c Nowhere = []
+holds_text c spot = holds_line c spot
+
+-- the frame that it has taken, and that no page has yet
+unfoldable pub took_line : ℕ → ℕ → List ℕ
+took_line c f = concat (codes "core " ∷ decimal c ∷ codes " took frame " ∷ decimal f ∷ codes "\n" ∷ [])
+
+abbrev pub took_text : ℕ → Option ℕ → List ℕ
+took_text c None = []
+took_text c (Some f) = took_line c f
+
+abbrev pub work_text : ℕ → Phase → List ℕ
+work_text c phase = call_text c phase ++ holds_text c (held_spot phase) ++ took_text c (taken_in phase)
 
 -- ---- a TLB
 
@@ -66,20 +90,16 @@ tlb_line c inbox e = entry_line (codes " tlb ") c inbox e
 
 -- ---- tables
 
--- of the numbers below one
-unfoldable pub texts_below : (ℕ → List ℕ) → ℕ → List ℕ
-texts_below text zero = []
-texts_below text (suc n) = texts_below text n ++ text n
-
 -- what the tables have of a page
-abbrev pub page_text : ℕ → List Message → ℕ → Option Translation → List ℕ
-page_text c inbox page None = []
-page_text c inbox page (Some t) =
-    entry_line (codes " table ") c inbox (record { page = page; translation = t })
+abbrev pub table_line : ℕ → List Message → ℕ → Translation → List ℕ
+table_line c inbox page t = entry_line (codes " table ") c inbox (record { page = page; translation = t })
+
+abbrev pub table_entry : ℕ → List Message → OfPage Translation → List ℕ
+table_entry c inbox e = table_line c inbox e.page e.value
 
 -- of all pages, the lowest first
 abbrev pub table_text : ℕ → List Message → (ℕ → Option Translation) → List ℕ
-table_text c inbox table = texts_below (λ p. page_text c inbox p (table p)) page_limit
+table_text c inbox table = pages_text (table_line c inbox) table
 
 -- ---- an inbox
 
@@ -95,24 +115,27 @@ message_line c m = concat (codes "core " ∷ decimal c ∷ codes " inbox from " 
 
 -- ---- a core, and all
 
--- its call, its TLB in order of filling, its tables, and its inbox, the oldest message first
+-- its call, and what that holds; its TLB in order of filling, its tables, and its inbox, the oldest message
+-- first
 abbrev pub core_text : ℕ → Phase → Holds → (ℕ → Option Translation) → List ℕ
-core_text c phase h table = call_text c phase ++ flat_map (tlb_line c h.inbox) h.tlb
+core_text c phase h table = work_text c phase ++ flat_map (tlb_line c h.inbox) h.tlb
     ++ table_text c h.inbox table ++ flat_map (message_line c) h.inbox
 
 unfoldable pub epoch_line : ℕ → List ℕ
 epoch_line epoch = concat (codes "epoch " ∷ decimal epoch ∷ codes "\n" ∷ [])
 
--- the text of a state
-abbrev pub state_text : World → List ℕ
-state_text w = epoch_line w.memory.counts.epoch
+-- the text of a state, where these are the lines of its mappings
+abbrev pub state_text : List ℕ → World → List ℕ
+state_text maps w = epoch_line w.memory.counts.epoch
     ++ texts_below (λ c. core_text c (phase_in w c) (holds_of w c) (w.hardware.table c)) 64
+    ++ maps ++ pages_text used_line (used_in w)
 
 -- ---- the same of what was seen of it
 
-abbrev pub seen_core : List Phase → List Holds → List (List TlbEntry) → ℕ → List ℕ
+abbrev pub seen_core : List Phase → List Holds → List (List (OfPage Translation)) → ℕ → List ℕ
 seen_core phases cores tables c =
     core_text c (slice_index_or phases c Free) (held cores c) (table_at tables c)
 
-abbrev pub seen_text : Seen → List ℕ
-seen_text r = epoch_line r.epoch ++ texts_below (seen_core r.phases r.cores r.tables) 64
+abbrev pub seen_text : List ℕ → Seen → List ℕ
+seen_text maps r = epoch_line r.epoch ++ texts_below (seen_core r.phases r.cores r.tables) 64
+    ++ maps ++ pages_text used_line (at_page r.pages)

@@ -1,5 +1,7 @@
 -- What a call does, in words
-use Rattle.std.specs.Prelude.{ℕ, List, codes}
+use Rattle.std.specs.Prelude.{ℕ, ◌==◌, Bool, false, List, codes, if◌then◌else◌}
+use Rattle.vm_base.specs.declared.page.PageRange.{PageRange}
+use Rattle.vm_base.specs.Functions.{has}
 use Rattle.vm_base.specs.declared.requests.Request.{Request}
 use Rattle.vm_base.specs.declared.requests.Request.TheVariants as Asks
 use Rattle.vm_base.specs.declared.rights.Access.{Access}
@@ -8,7 +10,8 @@ use Rattle.slot_lock.specs.declared.plan.Change.{Change}
 use Rattle.slot_lock.specs.declared.plan.Change.TheVariants.{Put, Clear, Protect}
 use Rattle.slot_lock.specs.declared.plan.Goal.{Goal}
 use Rattle.slot_lock.specs.declared.plan.Goal.TheVariants as To
-use Rattle.slot_lock.specs.Plan.{range_of, target_range}
+use Rattle.slot_lock.specs.Plan.{goal_range, range_of, target_range}
+use Rattle.slot_lock.specs.Slots.{between}
 use Rattle.machine_model.specs.declared.phase.Phase.{Phase}
 use Rattle.machine_model.specs.declared.phase.Phase.TheVariants as At
 use Rattle.state_text.specs.declared.words.Spot.{Spot}
@@ -115,3 +118,32 @@ spot_of (At.CopyPost touch frame) = Page touch.page
 spot_of (At.CopyAcks touch frame) = Page touch.page
 spot_of (At.Install touch) = Page touch.page
 spot_of (At.Release touch) = Page touch.page
+
+-- ---- what it holds
+
+abbrev pub pages_if : PageRange → Spot
+pages_if r = if r.first == r.end then Nowhere else Pages r
+
+abbrev pub held_spot : Phase → Spot
+held_spot (At.Lock goal cursor) = pages_if (between (goal_range goal).first cursor)
+held_spot (At.Find place target) = Pages (target_range place target)
+held_spot (At.Back place target held) = pages_if held
+held_spot (At.Cut place target range) = Pages (target_range place target)
+held_spot (At.Decide change) = Pages (range_of change)
+held_spot (At.Post change shoot) = Pages (range_of change)
+held_spot (At.Acks goal change) = goal_spot goal
+held_spot (At.Unlock held reply) = pages_if held
+held_spot (At.Settle touch) = Page touch.page
+held_spot (At.Want touch old) = Page touch.page
+held_spot (At.Fill touch frame) = Page touch.page
+held_spot (At.CopyPost touch frame) = Page touch.page
+held_spot (At.CopyAcks touch frame) = Page touch.page
+held_spot (At.Install touch) = Page touch.page
+held_spot (At.Release touch) = Page touch.page
+held_spot _ = Nowhere
+
+-- the pages that are there
+abbrev pub spot_has : Spot → ℕ → Bool
+spot_has Nowhere p = false
+spot_has (Page q) p = p == q
+spot_has (Pages r) p = has r p

@@ -1,4 +1,5 @@
-//! The state of a machine as text: of each core its call, its TLB, its tables and its inbox.
+//! The state of a machine as text: of each core its call, its TLB, its tables and its inbox, and of the machine its mappings and the
+//! pages that were used.
 #![tactic(auto)]
 
 pub mod deed;
@@ -8,7 +9,6 @@ pub mod held;
 pub mod laws;
 pub mod mirror;
 mod reading;
-pub mod table;
 mod tables;
 pub mod texts;
 pub mod tlb_lists;
@@ -19,4 +19,3 @@ pub use deed::Deed;
 pub use edit::Edit;
 pub use held::Held;
 pub use mirror::Mirror;
-pub use table::Table;

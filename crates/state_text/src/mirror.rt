@@ -5,10 +5,12 @@ ghost use Rattle.state_text.specs.Held.{held, nothing_held};
 ghost use Rattle.state_text.specs.Shown.{IsNothing, Seen};
 
 use crate::held::Held;
-use crate::table::Table;
 use machine_model::Phase;
+use mmu::entry::Translation;
+use page_list::PageList;
 use std::alloc::{AllocError, Allocator};
 use std::marker::Model;
+use used_pages::Used;
 
 /// The most cores.
 pub const CORES: usize = 64;
@@ -25,7 +27,9 @@ pub struct Mirror<A: Allocator> {
     /// What the cores hold.
     pub(crate) cores: Vec<Held, A>,
     /// The cores' tables.
-    pub(crate) tables: Vec<Table<A>, A>,
+    pub(crate) tables: Vec<PageList<Translation, A>, A>,
+    /// The pages that have a frame, or on which a core is recorded.
+    pub(crate) pages: PageList<Used, A>,
 }
 
 impl<A: Allocator> Model for Mirror<A> {
@@ -37,6 +41,7 @@ impl<A: Allocator> Model for Mirror<A> {
       phases = m.phases;
       cores = m.cores.items;
       tables = m.tables.items;
+      pages = m.pages;
     } };
 
     ghost invariant = { λ m. (length m.cores.items ≡ 64) × (length m.tables.items ≡ 64) };
@@ -57,7 +62,7 @@ fn empty_cores<A: Allocator>(alloc: A) -> Result<Vec<Held, A>, AllocError>
 
 // This many tables without entries.
 #[tactic(auto, using(crate::proofs::Lines::table_pushed))]
-fn empty_tables<A: Allocator + Clone>(alloc: A) -> Result<Vec<Table<A>, A>, AllocError>
+fn empty_tables<A: Allocator + Clone>(alloc: A) -> Result<Vec<PageList<Translation, A>, A>, AllocError>
     ensures full { IfOk result (λ tables. length tables.items ≡ 64) }
     ensures empty { IfOk result (λ tables. (c p : ℕ) → table_at tables.items c p ≡ None) }
 {
@@ -65,7 +70,7 @@ fn empty_tables<A: Allocator + Clone>(alloc: A) -> Result<Vec<Table<A>, A>, Allo
     let mut tables = Vec::with_capacity(own, CORES)?;
     'cores: for _core in 0..64u8 {
         let own = alloc.clone()?;
-        tables.push_reserved(Table::new(own));
+        tables.push_reserved(PageList::new(own));
     }
     Ok(tables)
 }
@@ -80,13 +85,15 @@ impl<A: Allocator + Clone> Mirror<A> {
     {
         let own = alloc.clone()?;
         let cores = empty_cores(own)?;
-        let tables = empty_tables(alloc)?;
+        let own = alloc.clone()?;
+        let tables = empty_tables(own)?;
         Ok(Mirror {
             whole: true,
             epoch: 0,
             phases: [Phase::Free; CORES],
             cores,
             tables,
+            pages: PageList::new(alloc),
         })
     }
 }
@@ -125,10 +132,17 @@ impl<A: Allocator> Mirror<A> {
     }
 
     /// The cores' tables.
-    pub fn tables(&self) -> &[Table<A>]
+    pub fn tables(&self) -> &[PageList<Translation, A>]
         ensures value { result.now ≡ self.now.tables }
         ensures full { length result.now ≡ 64 }
     {
         self.tables.as_slice()
+    }
+
+    /// The pages that have a frame, or on which a core is recorded.
+    pub fn pages(&self) -> &PageList<Used, A>
+        ensures { result.now ≡ self.now.pages }
+    {
+        &self.pages
     }
 }

@@ -9,17 +9,17 @@ ghost use Rattle.state_text.specs.Shown.{inboxes};
 use crate::edit::Edit;
 use crate::held::Held;
 use crate::reading::entry_of;
-use crate::table::Table;
 use core_steps::{Ledger, Machine};
 use machine_model::Outcome;
 use mmu::entry::Translation;
+use page_list::PageList;
 use shootdown::Message;
 use slot_lock::SlotMap;
 use std::alloc::Allocator;
 use vm_base::{CoreId, PageRange};
 
 // The core's tables lose the range.
-fn clear_at<B: Allocator>(tables: &mut Vec<Table<B>, B>, core: CoreId, range: PageRange)
+fn clear_at<B: Allocator>(tables: &mut Vec<PageList<Translation, B>, B>, core: CoreId, range: PageRange)
     requires { length tables.old.items ≡ 64 }
     ensures cores { length tables.new.items ≡ length tables.old.items }
     ensures tables { (c p : ℕ) → table_at tables.new.items c p
@@ -30,7 +30,7 @@ fn clear_at<B: Allocator>(tables: &mut Vec<Table<B>, B>, core: CoreId, range: Pa
 
 // The core's tables get this entry of the page; false where there was no room.
 fn set_at<B: Allocator>(
-    tables: &mut Vec<Table<B>, B>,
+    tables: &mut Vec<PageList<Translation, B>, B>,
     core: CoreId,
     page: u64,
     entry: Option<Translation>,
@@ -44,7 +44,7 @@ fn set_at<B: Allocator>(
 }
 
 // The core acts on the oldest of these messages: at the first take its tables lose the pages.
-fn take_at<B: Allocator>(tables: &mut Vec<Table<B>, B>, core: CoreId, inbox: &[Message])
+fn take_at<B: Allocator>(tables: &mut Vec<PageList<Translation, B>, B>, core: CoreId, inbox: &[Message])
     requires { length tables.old.items ≡ 64 }
     ensures cores { length tables.new.items ≡ length tables.old.items }
     ensures tables { (c p : ℕ) → table_at tables.new.items c p
@@ -59,7 +59,7 @@ fn take_at<B: Allocator>(tables: &mut Vec<Table<B>, B>, core: CoreId, inbox: &[M
 // The core's tables get the entry that the machine's have of the page; false where there was no room.
 fn install_at<M: SlotMap, A: Allocator + Clone, L: Ledger, B: Allocator>(
     machine: &Machine<M, A, L>,
-    tables: &mut Vec<Table<B>, B>,
+    tables: &mut Vec<PageList<Translation, B>, B>,
     core: CoreId,
     page: u64,
 ) -> bool
@@ -80,7 +80,7 @@ fn install_at<M: SlotMap, A: Allocator + Clone, L: Ledger, B: Allocator>(
 // step.
 fn do_edit<M: SlotMap, A: Allocator + Clone, L: Ledger, B: Allocator>(
     machine: &Machine<M, A, L>,
-    tables: &mut Vec<Table<B>, B>,
+    tables: &mut Vec<PageList<Translation, B>, B>,
     cores: &[Held],
     edit: &Edit,
 ) -> bool
@@ -108,7 +108,7 @@ fn do_edit<M: SlotMap, A: Allocator + Clone, L: Ledger, B: Allocator>(
 /// machine is past the step.
 pub(crate) fn edit_tables<M: SlotMap, A: Allocator + Clone, L: Ledger, B: Allocator>(
     machine: &Machine<M, A, L>,
-    tables: &mut Vec<Table<B>, B>,
+    tables: &mut Vec<PageList<Translation, B>, B>,
     cores: &[Held],
     edit: &Edit,
     outcome: &Outcome,

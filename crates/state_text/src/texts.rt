@@ -1,19 +1,23 @@
 //! The text of a state.
 ghost use Rattle.std.specs.Prelude.{◌≡◌, ◌+◌, ◌≤◌, ◌++◌, OnOk, length};
-ghost use Rattle.mmu.specs.Tlb.{tlb_at};
+ghost use Rattle.page_list.specs.Lists.{at_page};
+ghost use Rattle.page_list.specs.Texts.{texts_below};
 ghost use Rattle.std.specs.List.{flat_map};
-ghost use Rattle.state_text.specs.Texts.{call_line, call_text, core_text, epoch_line, entry_line, going_word, gone_word, message_line, message_word, rights_of, seen_core, seen_text, spot_text, table_text, texts_below, tlb_line};
+ghost use Rattle.state_text.specs.Texts.{call_line, call_text, core_text, epoch_line, entry_line, going_word, gone_word, message_line, message_word, rights_of, holds_line, holds_text, seen_core, seen_text, spot_text, table_entry, table_text, tlb_line, took_line, took_text, work_text};
+ghost use Rattle.state_text.specs.Words.{held_spot};
+ghost use Rattle.machine_model.specs.Holding.{taken_in};
 
 use crate::held::Held;
 use crate::mirror::Mirror;
-use crate::table::Table;
-use crate::words::{Spot, call_word, doing_word, spot_of};
+use crate::words::{Spot, call_word, doing_word, held_spot, spot_of, taken_in};
 use machine_model::Phase;
 use mmu::entry::Translation;
 use mmu::tlb::TlbEntry;
+use page_list::{OfPage, PageList};
 use picture::elements::{Piece, put, put_all};
 use shootdown::Message;
 use std::alloc::{AllocError, Allocator};
+use used_pages::texts::put_pages;
 use vm_base::{CoreId, Prot};
 
 // Which take of a message is due.
@@ -99,16 +103,37 @@ fn put_tlb(out: &mut Vec<u8>, core: CoreId, held: &Held) -> Result<(), AllocErro
     put_entries(out, " tlb ", core, held.inbox(), held.tlb())
 }
 
+// Appends the lines of what tables have, in order of the list.
+fn put_listed(
+    out: &mut Vec<u8>,
+    core: CoreId,
+    inbox: &[Message],
+    entries: &[OfPage<Translation>],
+) -> Result<(), AllocError>
+    ensures { OnOk result (out.new.items ≡ out.old.items ++ flat_map (table_entry core inbox.now) entries.now) }
+{
+    let mut at = 0;
+    'listed: while at < entries.len() {
+        let entry = TlbEntry {
+            page: entries[at].page,
+            translation: entries[at].value,
+        };
+        put_entry(out, " table ", core, inbox, &entry)?;
+        at += 1;
+    }
+    Ok(())
+}
+
 // Appends the lines of the pages that tables have, the lowest first.
 fn put_table<A: Allocator>(
     out: &mut Vec<u8>,
     core: CoreId,
     inbox: &[Message],
-    table: &Table<A>,
+    table: &PageList<Translation, A>,
 ) -> Result<(), AllocError>
-    ensures { OnOk result (out.new.items ≡ out.old.items ++ table_text core inbox.now (tlb_at table.now)) }
+    ensures { OnOk result (out.new.items ≡ out.old.items ++ table_text core inbox.now (at_page table.now)) }
 {
-    put_entries(out, " table ", core, inbox, table.entries())?;
+    put_listed(out, core, inbox, table.entries())?;
     Ok(())
 }
 
@@ -218,17 +243,75 @@ fn put_call(out: &mut Vec<u8>, core: CoreId, phase: &Phase) -> Result<(), AllocE
     put_phase(out, core, phase)
 }
 
+// Appends the line of the pages that a call holds.
+fn put_spot_held(out: &mut Vec<u8>, core: CoreId, spot: &Spot) -> Result<(), AllocError>
+    ensures { OnOk result (out.new.items ≡ out.old.items ++ holds_line core spot.now) }
+{
+    put_all(
+        out,
+        &[
+            Piece::Words("core "),
+            Piece::Core(core),
+            Piece::Words(" holds"),
+        ],
+    )?;
+    put_spot(out, spot)?;
+    Ok(())
+}
+
+// Appends that line, if it holds some.
+fn put_holds(out: &mut Vec<u8>, core: CoreId, spot: &Spot) -> Result<(), AllocError>
+    ensures { OnOk result (out.new.items ≡ out.old.items ++ holds_text core spot.now) }
+{
+    if let Spot::Nowhere = spot {
+        return Ok(());
+    }
+    put_spot_held(out, core, spot)
+}
+
+// Appends the line of the frame that a call has taken, if it has taken one.
+#[tactic(auto, unfolding(crate::specs::Texts::took_line))]
+fn put_took(out: &mut Vec<u8>, core: CoreId, frame: Option<u32>) -> Result<(), AllocError>
+    ensures { OnOk result (out.new.items ≡ out.old.items ++ took_text core frame) }
+{
+    match frame {
+        None => Ok(()),
+        Some(frame) => put_all(
+            out,
+            &[
+                Piece::Words("core "),
+                Piece::Core(core),
+                Piece::Words(" took frame "),
+                Piece::Number(u64::from(frame)),
+                Piece::Words("\n"),
+            ],
+        ),
+    }
+}
+
+// Appends the lines of a call, and of what it holds.
+fn put_work(out: &mut Vec<u8>, core: CoreId, phase: &Phase) -> Result<(), AllocError>
+    ensures { OnOk result (out.new.items ≡ out.old.items ++ work_text core phase.now) }
+{
+    let spot = held_spot(phase);
+    let frame = taken_in(phase);
+    put_call(out, core, phase)?;
+    put_holds(out, core, &spot)?;
+    put_took(out, core, frame)?;
+    Ok(())
+}
+
 // Appends the lines of a core.
 fn put_core<A: Allocator>(
     out: &mut Vec<u8>,
     core: CoreId,
     phase: &Phase,
     held: &Held,
-    table: &Table<A>,
+    table: &PageList<Translation, A>,
 ) -> Result<(), AllocError>
-    ensures { OnOk result (out.new.items ≡ out.old.items ++ core_text core phase.now held.now (tlb_at table.now)) }
+    ensures { OnOk result (out.new.items ≡ out.old.items ++ core_text core phase.now held.now (at_page table.now)) }
 {
-    put_call(out, core, phase)?;
+    put_work(out, core, phase)?;
     put_tlb(out, core, held)?;
     put_table(out, core, held.inbox(), table)?;
     put_inbox(out, core, held.inbox())?;
@@ -240,7 +323,7 @@ fn put_cores<A: Allocator>(
     out: &mut Vec<u8>,
     phases: &[Phase],
     cores: &[Held],
-    tables: &[Table<A>],
+    tables: &[PageList<Translation, A>],
 ) -> Result<(), AllocError>
     requires phases { length phases.now ≡ 64 }
     requires cores { length cores.now ≡ 64 }
@@ -260,10 +343,21 @@ fn put_cores<A: Allocator>(
     Ok(())
 }
 
-/// Appends the text of what was seen: the epoch, and of each core its call, its TLB in order of filling, the pages in
-/// its tables, and its inbox.
-pub fn put_state<A: Allocator>(out: &mut Vec<u8>, mirror: &Mirror<A>) -> Result<(), AllocError>
-    ensures { OnOk result (out.new.items ≡ out.old.items ++ seen_text mirror.now) }
+// Appends these bytes.
+fn put_bytes(out: &mut Vec<u8>, bytes: &[u8]) -> Result<(), AllocError>
+    ensures { OnOk result (out.new.items ≡ out.old.items ++ bytes.now) }
+{
+    out.extend_from_slice(bytes)
+}
+
+/// Appends the text of what was seen: the epoch; of each core its call with what it holds, its TLB in order of filling, the pages
+/// in its tables, and its inbox; these lines of mappings, and the pages that were used.
+pub fn put_state<A: Allocator>(
+    out: &mut Vec<u8>,
+    mirror: &Mirror<A>,
+    maps: &[u8],
+) -> Result<(), AllocError>
+    ensures { OnOk result (out.new.items ≡ out.old.items ++ seen_text maps.now mirror.now) }
 {
     let epoch = mirror.epoch();
     put_all(
@@ -275,5 +369,7 @@ pub fn put_state<A: Allocator>(out: &mut Vec<u8>, mirror: &Mirror<A>) -> Result<
         ],
     )?;
     put_cores(out, mirror.phases(), mirror.cores(), mirror.tables())?;
+    put_bytes(out, maps)?;
+    put_pages(out, mirror.pages())?;
     Ok(())
 }

@@ -16,7 +16,8 @@ use core_steps::{Ledger, Machine};
 use machine_model::{Event, Outcome, Phase};
 use slot_lock::SlotMap;
 use std::alloc::Allocator;
-use vm_base::{CoreId, NoMemory};
+use used_pages::used::follow;
+use vm_base::{CoreId, NoMemory, PageRange};
 use watched::Watch;
 
 // What the deed does to all; false where there was no room for a message.
@@ -99,10 +100,14 @@ fn phases_of<M: SlotMap, A: Allocator + Clone, L: Ledger>(
 
 impl<B: Allocator> Mirror<B> {
     ghost use Rattle.std.specs.Prelude.{◌≡◌, ℕ, ◌<◌, true};
+    ghost use Rattle.vm_base.specs.Functions.{across};
     ghost use Rattle.core_steps.specs.Machine.{state};
+    ghost use Rattle.machine_model.specs.Holding.{some_has};
+    ghost use Rattle.page_list.specs.Lists.{at_page};
     ghost use Rattle.state_text.specs.Edits.{after_edit, table_at};
     ghost use Rattle.state_text.specs.Held.{held};
     ghost use Rattle.state_text.specs.Shown.{after_step, inboxes, phase_at, phase_in};
+    ghost use Rattle.used_pages.specs.Used.{used_in};
 
     // The tables have what the step, which had this edit and led to the machine, leaves them.
     fn follow_tables<M: SlotMap, A: Allocator + Clone, L: Ledger>(
@@ -116,6 +121,7 @@ impl<B: Allocator> Mirror<B> {
         ensures tables { self.new.whole ≡ true → (c p : ℕ) → table_at self.new.tables c p
             ≡ after_edit outcome.now edit.now (inboxes self.old.cores) (state machine.now).hardware.table
             (table_at self.old.tables) c p }
+        ensures pages { self.new.pages ≡ self.old.pages }
     {
         let room = edit_tables(
             machine,
@@ -133,8 +139,25 @@ impl<B: Allocator> Mirror<B> {
         ensures held { self.new.whole ≡ true → (c : ℕ) → c < 64
             → held self.new.cores c ≡ after_step outcome.now deed.now (held self.old.cores) c }
         ensures tables { self.new.tables ≡ self.old.tables }
+        ensures pages { self.new.pages ≡ self.old.pages }
     {
         let room = do_step(&mut self.cores, deed, outcome);
+        self.whole = both(self.whole, room);
+    }
+
+    // The pages of the range have what the machine's have now.
+    fn follow_pages<M: SlotMap, A: Allocator + Clone, L: Ledger>(
+        &mut self,
+        machine: &Machine<M, A, L>,
+        range: Option<PageRange>,
+    )
+        ensures whole { self.new.whole ≡ true → self.old.whole ≡ true }
+        ensures cores { self.new.cores ≡ self.old.cores }
+        ensures tables { self.new.tables ≡ self.old.tables }
+        ensures pages { self.new.whole ≡ true → (p : ℕ) → at_page self.new.pages p
+            ≡ across (at_page self.old.pages) (some_has range) (used_in (state machine.now)) p }
+    {
+        let room = follow(machine, &mut self.pages, range);
         self.whole = both(self.whole, room);
     }
 
@@ -143,6 +166,7 @@ impl<B: Allocator> Mirror<B> {
         ensures whole { self.new.whole ≡ self.old.whole }
         ensures cores { self.new.cores ≡ self.old.cores }
         ensures tables { self.new.tables ≡ self.old.tables }
+        ensures pages { self.new.pages ≡ self.old.pages }
         ensures phases { (c : ℕ) → c < 64 → phase_at self.new c ≡ phase_in (state machine.now) c }
         ensures epoch { self.new.epoch ≡ (state machine.now).memory.counts.epoch }
     {
@@ -161,12 +185,14 @@ impl<B: Allocator> Watch for Mirror<B> {
     ) -> Result<Outcome, NoMemory> {
         let deed = deed_of(machine, &event);
         let edit = edit_of(machine, &event);
+        let range = machine.may_change(event);
         let outcome = match machine.step(event) {
             Ok(outcome) => outcome,
             Err(refused) => return Err(refused),
         };
         self.follow_tables(machine, &edit, &outcome);
         self.follow(&deed, &outcome);
+        self.follow_pages(machine, range);
         self.look(machine);
         Ok(outcome)
     }

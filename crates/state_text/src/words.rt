@@ -1,6 +1,8 @@
 //! What a call does, in words.
 ghost use Rattle.std.specs.Prelude.{◌≡◌};
-ghost use Rattle.state_text.specs.Words.{access_word, call_word, change_word, doing_word, goal_spot, goal_word, request_word, spot_of};
+ghost use Rattle.machine_model.specs.Holding.{taken_in};
+ghost use Rattle.slot_lock.specs.Plan.{goal_range};
+ghost use Rattle.state_text.specs.Words.{access_word, call_word, change_word, doing_word, goal_spot, goal_word, held_spot, pages_if, request_word, spot_of};
 
 use machine_model::Phase;
 use slot_lock::{Change, Goal};
@@ -144,5 +146,70 @@ pub(crate) fn spot_of(phase: &Phase) -> Spot
         | Phase::Fill { touch, .. }
         | Phase::CopyPost { touch, .. }
         | Phase::CopyAcks { touch, .. } => Spot::Page(touch.page),
+    }
+}
+
+// ---- what it holds
+
+// The first page that a call with this goal locks.
+fn goal_first(goal: &Goal) -> u64
+    ensures { result ≡ (goal_range goal.now).first }
+{
+    match goal {
+        Goal::Place { place, target } => target.range(*place).first,
+        Goal::Change(change) => change.range().first,
+        Goal::Access(touch) => touch.page,
+    }
+}
+
+// These pages, if there are some.
+fn pages_if(range: PageRange) -> Spot
+    ensures { result ≡ pages_if range }
+{
+    if range.first == range.end {
+        Spot::Nowhere
+    } else {
+        Spot::Pages(range)
+    }
+}
+
+/// The pages that the call holds.
+pub(crate) fn held_spot(phase: &Phase) -> Spot
+    ensures { result ≡ held_spot phase.now }
+{
+    match phase {
+        Phase::Free | Phase::Check(_) | Phase::Guess(_) | Phase::Answer(_) | Phase::Try(_) => {
+            Spot::Nowhere
+        }
+        Phase::Lock { goal, cursor } => pages_if(PageRange {
+            first: goal_first(goal),
+            end: *cursor,
+        }),
+        Phase::Find { place, target } => Spot::Pages(target.range(*place)),
+        Phase::Back { held, .. } => pages_if(*held),
+        Phase::Cut { place, target, .. } => Spot::Pages(target.range(*place)),
+        Phase::Decide(change) => Spot::Pages(change.range()),
+        Phase::Post { change, .. } => Spot::Pages(change.range()),
+        Phase::Acks { goal, .. } => goal_spot(goal),
+        Phase::Unlock { held, .. } => pages_if(*held),
+        Phase::Settle(touch) | Phase::Install(touch) | Phase::Release(touch) => {
+            Spot::Page(touch.page)
+        }
+        Phase::Want { touch, .. }
+        | Phase::Fill { touch, .. }
+        | Phase::CopyPost { touch, .. }
+        | Phase::CopyAcks { touch, .. } => Spot::Page(touch.page),
+    }
+}
+
+/// The frame that the call has taken, and that no page has yet.
+pub(crate) fn taken_in(phase: &Phase) -> Option<u32>
+    ensures { result ≡ taken_in phase.now }
+{
+    match phase {
+        Phase::Fill { frame, .. } => *frame,
+        Phase::CopyPost { frame, .. } => Some(*frame),
+        Phase::CopyAcks { frame, .. } => Some(*frame),
+        _ => None,
     }
 }

@@ -239,6 +239,9 @@ behind line N isn't looked at.
           gives back what it locked in vain; tells cores of the pages, and
           awaits cores for them; translates, looks at, wants a frame for,
           fills, installs; unlocks; answers
+  core C holds ADDR | START-END
+  core C took frame F
+        the call owns these pages, and has this frame that no page has yet
   core C tlb ADDR frame F RIGHTS
         the core's TLB translates the page at this address, the oldest filled
         first. Each translation permits loads, so RIGHTS begin with r
@@ -254,8 +257,14 @@ behind line N isn't looked at.
   core C inbox from D START-END second take due
         core D awaits that this one drops these pages, the oldest message first
 
-Cores, and the things of each, are in this order. Slots and frames aren't
-shown: see help maps and run --summary. The trace is held in memory.
+  START-END RIGHTS BACKING
+        a mapping (help maps), behind the lines of all cores
+  page ADDR [frame F] [cores C D ..]
+        the page has a frame, or these cores are recorded on it: those that a
+        change of the page has to tell
+
+Cores, and the things of each, are in this order, and pages the lowest first.
+How many frames are in use: run --summary. The trace is held in memory.
 
 Status: as for run; 2 where the trace has fewer than N lines. After a fault no
 state is written.

@@ -1,3 +1,4 @@
+use Rattle.state_text.proofs.Holding.{held_owned}
 use Rattle.state_text.proofs.Watched.{opening, text_shown, watched}
 use Rattle.state_text.proofs.laws.mirrors_know_states.Goals as goal
 
@@ -9,3 +10,6 @@ returns-clause-opening c = opening
 
 pub returns-clause-text : goal.returns-clause-text
 returns-clause-text c = text_shown
+
+pub returns-clause-owned : goal.returns-clause-owned
+returns-clause-owned c = held_owned

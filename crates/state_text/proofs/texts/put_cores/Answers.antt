@@ -1,5 +1,5 @@
 use Rattle.std.proofs.Common.{ap, get_or, ◌∙◌, ◌++◌, [], append-nil, arith, sym}
-use Rattle.mmu.specs.Tlb.{tlb_at}
+use Rattle.page_list.specs.Lists.{at_page}
 use Rattle.machine_model.specs.declared.phase.Phase.TheVariants.{Free}
 use Rattle.state_text.specs.Held.{nothing_held}
 use Rattle.state_text.specs.Texts.{core_text, seen_core}
@@ -26,11 +26,11 @@ cores-preserved g c =
       written = cores_more (seen_core c.args.phases.now c.args.cores.now c.args.tables.now) n c.args.out.now.items c.cores.out.items
           c.put_core.new.out.items c.cores.invariant.written
           (c.in_ok-put_core.ensures
-          ∙ ap (λ k. c.cores.out.items ++ core_text k phase held (tlb_at table)) c.new.ensures
-          ∙ ap (λ p. c.cores.out.items ++ core_text n p held (tlb_at table))
+          ∙ ap (λ k. c.cores.out.items ++ core_text k phase held (at_page table)) c.new.ensures
+          ∙ ap (λ p. c.cores.out.items ++ core_text n p held (at_page table))
           (element c.args.phases.now n c.from-at.result phase Free c.from-at.ensures c.index-phases-at.is (omega (arith, many, below)))
-          ∙ ap (λ h. c.cores.out.items ++ core_text n (get_or c.args.phases.now n Free) h (tlb_at table))
+          ∙ ap (λ h. c.cores.out.items ++ core_text n (get_or c.args.phases.now n Free) h (at_page table))
           (element c.args.cores.now n c.from-at.result held nothing_held c.from-at.ensures c.index-cores-at.is (omega (arith, all, below)))
-          ∙ ap (λ t. c.cores.out.items ++ core_text n (get_or c.args.phases.now n Free) (get_or c.args.cores.now n nothing_held) (tlb_at t))
+          ∙ ap (λ t. c.cores.out.items ++ core_text n (get_or c.args.phases.now n Free) (get_or c.args.cores.now n nothing_held) (at_page t))
           (element c.args.tables.now n c.from-at.result table [] c.from-at.ensures c.index-tables-at.is (omega (arith, each, below))));
     }

@@ -1,5 +1,6 @@
 use Rattle.std.proofs.Common.{◌≡◌, ◌++◌}
-use Rattle.state_text.specs.Texts.{texts_below, seen_core}
+use Rattle.page_list.specs.Texts.{texts_below}
+use Rattle.state_text.specs.Texts.{seen_core}
 use Rattle.state_text.proofs.texts.put_cores.Given as goal
 
 abbrev pub invariant-cores : goal.invariant-cores

@@ -8,6 +8,7 @@ returns g c = record {
   whole = refl;
   holds = c.in_ok-cores.ensures.empty;
   tables = c.in_ok-tables.ensures.empty;
+  pages = λ p. ap (λ l. at_page l p) c.new-result.ensures;
   phases = λ k. get_or-replicate_default 64 Free k;
   epoch = refl;
   full = refl;

@@ -1,0 +1,6 @@
+//! Lists of what pages have, the lowest page first.
+#![tactic(auto)]
+
+pub mod list;
+
+pub use list::{OfPage, PageList};

@@ -1,0 +1,3 @@
+pub mod Joined
+pub mod Reading
+pub mod Walking

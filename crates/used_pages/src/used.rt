@@ -1,0 +1,112 @@
+//! What the pages of a machine have that were used, read from the machine behind each step.
+ghost use Rattle.std.specs.Prelude.{◌≡◌, ℕ, ◌+◌, ◌<◌, ◌^◌, None, Some, if◌then◌else◌, true};
+ghost use Rattle.vm_base.specs.Functions.{across, has};
+ghost use Rattle.core_steps.specs.Machine.{state};
+ghost use Rattle.machine_model.specs.Holding.{some_has};
+ghost use Rattle.page_list.specs.Lists.{at_page};
+ghost use Rattle.used_pages.specs.Used.{used_in, used_of};
+
+use core_steps::{Ledger, Machine};
+use page_list::PageList;
+use slot_lock::SlotMap;
+use std::alloc::Allocator;
+use vm_base::info::is_leaf;
+use vm_base::page::is_valid;
+use vm_base::{CoreSet, PageInfo, PageRange};
+
+/// What a used page has.
+#[derive(Clone, Copy, Debug, PartialEq, Eq)]
+pub struct Used {
+    /// Its frame, if it has one.
+    pub frame: Option<u32>,
+    /// The cores that are recorded on it.
+    pub cores: CoreSet,
+}
+
+// What a page has, if it was used, as this says.
+fn used_if(used: bool, page: PageInfo) -> Option<Used>
+    ensures { result ≡ if used then Some (record { frame = page.frame; cores = page.cores }) else None }
+{
+    if used {
+        Some(Used {
+            frame: page.frame,
+            cores: page.cores,
+        })
+    } else {
+        None
+    }
+}
+
+// What a page has, if it was used.
+fn used_of(info: Option<PageInfo>) -> Option<Used>
+    ensures { result ≡ used_of info }
+{
+    let used = is_leaf(info);
+    match info {
+        None => None,
+        Some(page) => used_if(used, page),
+    }
+}
+
+// What the machine's page has, if it was used.
+fn used_at<M: SlotMap, A: Allocator + Clone, L: Ledger>(
+    machine: &Machine<M, A, L>,
+    page: u64,
+) -> Option<Used>
+    ensures { result ≡ used_in (state machine.now) page }
+{
+    let _kept = machine.kept_log();
+    if !is_valid(page) {
+        return None;
+    }
+    used_of(machine.page(page))
+}
+
+// A page above this one, where no page between them was used.
+fn next_of<M: SlotMap, A: Allocator + Clone, L: Ledger>(
+    machine: &Machine<M, A, L>,
+    page: u64,
+) -> u64
+    requires { page + 1 < 2 ^ 64 }
+    ensures above { page < result }
+    ensures between { (q : ℕ) → page < q → q < result → used_in (state machine.now) q ≡ None }
+{
+    if !is_valid(page) {
+        return page + 1;
+    }
+    machine.slot(page).end
+}
+
+// The pages of the range, which have nothing in the list, get what the machine's have; false where there was no room.
+fn gather<M: SlotMap, A: Allocator + Clone, L: Ledger, B: Allocator>(
+    machine: &Machine<M, A, L>,
+    list: &mut PageList<Used, B>,
+    range: PageRange,
+) -> bool
+    requires { (q : ℕ) → has range q ≡ true → at_page list.old q ≡ None }
+    ensures { result ≡ true → (q : ℕ) → at_page list.new q
+        ≡ across (at_page list.old) (has range) (used_in (state machine.now)) q }
+{
+    let mut page = range.first;
+    'pages: while page < range.end {
+        if !list.set(page, used_at(machine, page)) {
+            return false;
+        }
+        page = next_of(machine, page);
+    }
+    true
+}
+
+/// The list has of these pages what the machine's have now, and of all others what it had; false where there was no room.
+pub fn follow<M: SlotMap, A: Allocator + Clone, L: Ledger, B: Allocator>(
+    machine: &Machine<M, A, L>,
+    list: &mut PageList<Used, B>,
+    range: Option<PageRange>,
+) -> bool
+    ensures { result ≡ true → (q : ℕ) → at_page list.new q
+        ≡ across (at_page list.old) (some_has range) (used_in (state machine.now)) q }
+{
+    let Some(range) = range else { return true };
+    list.clear(range);
+    gather(machine, list, range)
+}
