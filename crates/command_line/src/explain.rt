@@ -13,7 +13,7 @@ use core_steps::{CallLimit, SetupFault};
 use std::io::Write;
 use trace::fault::TraceFault;
 use trace_text::number::read_number;
-use trace_text::{Line, is_printable, read_line};
+use trace_text::{Line, first_word_is_vm, is_printable, read_line};
 
 /// What a text is read as, and how more is said about it.
 #[derive(Clone, Copy, Debug, PartialEq, Eq)]
@@ -202,10 +202,15 @@ fn long_file(text: &[u8]) -> Option<&[u8]> {
     None
 }
 
-// Tells that no line is the first with words, or of the one that is and isn't the vm line.
+// Tells that no line is the first with words, or of the one that is and isn't the vm line. Where it is the vm line, only lines in front
+// of it were asked for.
 fn explain_first<E: Write>(manner: Manner, text: &[u8], errors: &mut E) {
     for line in text.split(|byte| *byte == b'\n') {
         if read_line(line) != Some(Line::Blank) {
+            if first_word_is_vm(line) {
+                expect("the vm line, or one behind it: no machine is there before it", errors);
+                return;
+            }
             point(line, word_start(line, 0), manner.coloured, errors);
             break;
         }
