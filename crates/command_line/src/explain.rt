@@ -208,7 +208,10 @@ fn explain_first<E: Write>(manner: Manner, text: &[u8], errors: &mut E) {
     for line in text.split(|byte| *byte == b'\n') {
         if read_line(line) != Some(Line::Blank) {
             if first_word_is_vm(line) {
-                expect("the vm line, or one behind it: no machine is there before it", errors);
+                expect(
+                    "the vm line, or one behind it: no machine is there before it",
+                    errors,
+                );
                 return;
             }
             point(line, word_start(line, 0), manner.coloured, errors);

@@ -69,5 +69,7 @@ shown_held (At.Install touch) p = one_page touch p
 shown_held (At.Release touch) p = one_page touch p
 
 pub held_owned : (w : World) → IsReached w → (c p : ℕ) → (w.slots.owner p ≡ Some c) ↔ (spot_has (held_spot (w.calls.phase c)) p ≡ true)
-held_owned w r c p = (λ own. shown_held (w.calls.phase c) p ∙ (reached_fine w r).order.only c p own,
-    λ is. (reached_fine w r).order.owned c p (sym (shown_held (w.calls.phase c) p) ∙ is))
+held_owned w r c p = (
+  λ own. shown_held (w.calls.phase c) p ∙ (reached_fine w r).order.only c p own,
+  λ is. (reached_fine w r).order.owned c p (sym (shown_held (w.calls.phase c) p) ∙ is),
+)

@@ -62,7 +62,9 @@ fn empty_cores<A: Allocator>(alloc: A) -> Result<Vec<Held, A>, AllocError>
 
 // This many tables without entries.
 #[tactic(auto, using(crate::proofs::Lines::table_pushed))]
-fn empty_tables<A: Allocator + Clone>(alloc: A) -> Result<Vec<PageList<Translation, A>, A>, AllocError>
+fn empty_tables<A: Allocator + Clone>(
+    alloc: A,
+) -> Result<Vec<PageList<Translation, A>, A>, AllocError>
     ensures full { IfOk result (λ tables. length tables.items ≡ 64) }
     ensures empty { IfOk result (λ tables. (c p : ℕ) → table_at tables.items c p ≡ None) }
 {

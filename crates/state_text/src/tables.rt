@@ -19,7 +19,11 @@ use std::alloc::Allocator;
 use vm_base::{CoreId, PageRange};
 
 // The core's tables lose the range.
-fn clear_at<B: Allocator>(tables: &mut Vec<PageList<Translation, B>, B>, core: CoreId, range: PageRange)
+fn clear_at<B: Allocator>(
+    tables: &mut Vec<PageList<Translation, B>, B>,
+    core: CoreId,
+    range: PageRange,
+)
     requires { length tables.old.items ≡ 64 }
     ensures cores { length tables.new.items ≡ length tables.old.items }
     ensures tables { (c p : ℕ) → table_at tables.new.items c p
@@ -44,7 +48,11 @@ fn set_at<B: Allocator>(
 }
 
 // The core acts on the oldest of these messages: at the first take its tables lose the pages.
-fn take_at<B: Allocator>(tables: &mut Vec<PageList<Translation, B>, B>, core: CoreId, inbox: &[Message])
+fn take_at<B: Allocator>(
+    tables: &mut Vec<PageList<Translation, B>, B>,
+    core: CoreId,
+    inbox: &[Message],
+)
     requires { length tables.old.items ≡ 64 }
     ensures cores { length tables.new.items ≡ length tables.old.items }
     ensures tables { (c p : ℕ) → table_at tables.new.items c p

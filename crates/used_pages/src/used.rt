@@ -1,5 +1,5 @@
 //! What the pages of a machine have that were used, read from the machine behind each step.
-ghost use Rattle.std.specs.Prelude.{◌≡◌, ℕ, ◌+◌, ◌<◌, ◌^◌, None, Some, if◌then◌else◌, true};
+ghost use Rattle.std.specs.Prelude.{◌≡◌, ℕ, ◌+◌, ◌<◌, ◌^◌, None, Some, true};
 ghost use Rattle.vm_base.specs.Functions.{across, has};
 ghost use Rattle.core_steps.specs.Machine.{state};
 ghost use Rattle.machine_model.specs.Holding.{some_has};
@@ -23,10 +23,11 @@ pub struct Used {
     pub cores: CoreSet,
 }
 
-// What a page has, if it was used, as this says.
-fn used_if(used: bool, page: PageInfo) -> Option<Used>
-    ensures { result ≡ if used then Some (record { frame = page.frame; cores = page.cores }) else None }
+// What a mapped page has, if it was used.
+fn used_if(page: &PageInfo) -> Option<Used>
+    ensures { result ≡ used_of (Some page.now) }
 {
+    let used = is_leaf(Some(*page));
     if used {
         Some(Used {
             frame: page.frame,
@@ -38,13 +39,12 @@ fn used_if(used: bool, page: PageInfo) -> Option<Used>
 }
 
 // What a page has, if it was used.
-fn used_of(info: Option<PageInfo>) -> Option<Used>
-    ensures { result ≡ used_of info }
+fn used_of(info: &Option<PageInfo>) -> Option<Used>
+    ensures { result ≡ used_of info.now }
 {
-    let used = is_leaf(info);
     match info {
         None => None,
-        Some(page) => used_if(used, page),
+        Some(page) => used_if(page),
     }
 }
 
@@ -59,7 +59,8 @@ fn used_at<M: SlotMap, A: Allocator + Clone, L: Ledger>(
     if !is_valid(page) {
         return None;
     }
-    used_of(machine.page(page))
+    let info = machine.page(page);
+    used_of(&info)
 }
 
 // A page above this one, where no page between them was used.
@@ -97,7 +98,20 @@ fn gather<M: SlotMap, A: Allocator + Clone, L: Ledger, B: Allocator>(
     true
 }
 
-/// The list has of these pages what the machine's have now, and of all others what it had; false where there was no room.
+// The list has of the range what the machine has now, and of all other pages what it had; false where there was no room.
+fn refresh<M: SlotMap, A: Allocator + Clone, L: Ledger, B: Allocator>(
+    machine: &Machine<M, A, L>,
+    list: &mut PageList<Used, B>,
+    range: PageRange,
+) -> bool
+    ensures { result ≡ true → (q : ℕ) → at_page list.new q
+        ≡ across (at_page list.old) (has range) (used_in (state machine.now)) q }
+{
+    list.clear(range);
+    gather(machine, list, range)
+}
+
+/// The list has of these pages what the machine has now, and of all others what it had; false where there was no room.
 pub fn follow<M: SlotMap, A: Allocator + Clone, L: Ledger, B: Allocator>(
     machine: &Machine<M, A, L>,
     list: &mut PageList<Used, B>,
@@ -106,7 +120,8 @@ pub fn follow<M: SlotMap, A: Allocator + Clone, L: Ledger, B: Allocator>(
     ensures { result ≡ true → (q : ℕ) → at_page list.new q
         ≡ across (at_page list.old) (some_has range) (used_in (state machine.now)) q }
 {
-    let Some(range) = range else { return true };
-    list.clear(range);
-    gather(machine, list, range)
+    match range {
+        None => true,
+        Some(range) => refresh(machine, list, range),
+    }
 }

@@ -1,4 +1,5 @@
-use Rattle.std.proofs.Common.{arith, sym, ◌∙◌}
+use Rattle.std.proofs.Common.{ap, arith, ◌∙◌}
+use Rattle.vm_base.specs.Functions.{put}
 use Rattle.core_steps.specs.Machine.{state}
 use Rattle.page_list.specs.Lists.{at_page}
 use Rattle.used_pages.specs.Used.{used_in}
@@ -10,3 +11,19 @@ pages-init g c = record {
   low = omega arith;
   gathered = gathered_none c.args.range (used_in (state c.args.machine.now)) (at_page c.args.list.now);
 }
+
+pub pages-preserved : goal.pages-preserved
+pages-preserved g c =
+    let low = c.pages.invariant.low in
+    let above = c.next_of.ensures.above in
+    record {
+      low = omega (arith, low, above);
+      gathered = gathered_more c.args.range (used_in (state c.args.machine.now)) (at_page c.args.list.now) (at_page c.pages.list)
+          (at_page c.set.new.self) c.pages.page c.next_of.result low c.pages-test.true above c.requires c.next_of.ensures.between
+          c.pages.invariant.gathered
+          (λ q. c.set.ensures c.if-not-set.false q ∙ ap (λ v. put (at_page c.pages.list) c.pages.page v q) c.used_at.ensures);
+    }
+
+pub returns : goal.returns
+returns g c = λ e. gathered_all c.args.range (used_in (state c.args.machine.now)) (at_page c.args.list.now) (at_page c.pages.list)
+    c.pages.page c.pages-test.false c.pages.invariant.gathered

@@ -1,4 +1,5 @@
-use Rattle.std.proofs.Common.{refl}
+use Rattle.std.proofs.Common.{ap, refl}
+use Rattle.page_list.specs.Lists.{at_page}
 use Rattle.mmu.proofs.Empty.{get_or-replicate_default}
 use Rattle.machine_model.specs.declared.phase.Phase.TheVariants.{Free}
 use Rattle.state_text.proofs.mirror.Mirror.new.Goals as goal
