@@ -37,7 +37,8 @@ one_page touch p = go (p == touch.page) refl (nat_le touch.page p) refl (nat_lt 
     go true i false j m k = absurd (let same : p ≡ touch.page = grind (arith, nat_tests, i) in
         let out : p < touch.page = grind (arith, nat_tests, j) in omega (arith, same, out))
     go false i true j true k = absurd (let other : p ≢ touch.page = grind (arith, nat_tests, i) in
-        let low : touch.page ≤ p = grind (arith, nat_tests, j) in let high : p < touch.page + 1 = grind (arith, nat_tests, k) in omega (arith, other, low, high))
+        let low : touch.page ≤ p = grind (arith, nat_tests, j) in let high : p < touch.page + 1 = grind (arith, nat_tests, k) in
+        omega (arith, other, low, high))
     go false i true j false k = i ∙ both true false j k
     go false i false j m k = i ∙ both false m j k
 

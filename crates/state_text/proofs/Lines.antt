@@ -40,7 +40,8 @@ table_more [] none (suc c) p = refl
 table_more (x ∷ all) none zero p = none 0 p
 table_more (x ∷ all) none (suc c) p = table_more all (λ k. none (suc k)) c p
 
-pub table_pushed : (xs ys : List (List (OfPage Translation))) (x : List (OfPage Translation)) → ys ≡ xs ++ x ∷ [] → x ≡ [] → ((c p : ℕ) → table_at xs c p ≡ None)
+pub table_pushed : (xs ys : List (List (OfPage Translation))) (x : List (OfPage Translation)) → ys ≡ xs ++ x ∷ [] → x ≡ []
+    → ((c p : ℕ) → table_at xs c p ≡ None)
     → (c p : ℕ) → table_at ys c p ≡ None
 table_pushed xs ys x e f none c p = ap (λ l. table_at l c p) (e ∙ ap (λ y. xs ++ y ∷ []) f) ∙ table_more xs none c p
 

@@ -3,7 +3,9 @@ ghost use Rattle.std.specs.Prelude.{◌≡◌, ◌+◌, ◌≤◌, ◌++◌, OnO
 ghost use Rattle.page_list.specs.Lists.{at_page};
 ghost use Rattle.page_list.specs.Texts.{texts_below};
 ghost use Rattle.std.specs.List.{flat_map};
-ghost use Rattle.state_text.specs.Texts.{call_line, call_text, core_text, epoch_line, entry_line, going_word, gone_word, message_line, message_word, rights_of, holds_line, holds_text, seen_core, seen_text, spot_text, table_entry, table_text, tlb_line, took_line, took_text, work_text};
+ghost use Rattle.state_text.specs.Texts.{call_line, call_text, core_text, epoch_line, entry_line, going_word, gone_word, message_line, message_word};
+ghost use Rattle.state_text.specs.Texts.{holds_line, holds_text, rights_of, seen_core, seen_text, spot_text, table_entry, table_text};
+ghost use Rattle.state_text.specs.Texts.{tlb_line, took_line, took_text, work_text};
 ghost use Rattle.state_text.specs.Words.{held_spot};
 ghost use Rattle.machine_model.specs.Holding.{taken_in};
 
