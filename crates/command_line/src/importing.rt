@@ -19,6 +19,7 @@ use import_text::counts::Counts;
 use import_text::each::{Part, import_log_each};
 use import_text::import::{Ending, Report};
 use import_text::losses::Losses;
+use import_text::meter::Unmetered;
 use import_text::processes::{Choice, Process};
 use import_text::programs::Program;
 use std::alloc::Global;
@@ -378,7 +379,7 @@ pub fn import_each<S: Source, E: Write>(
     ensures none { result.status ≡ 3 → parts.new ≡ parts.old }
     ensures within { result.status ≤ 3 }
 {
-    match import_log_each(alloc, reader) {
+    match import_log_each(alloc, reader, &mut Unmetered) {
         Ok(found) => {
             tell_parts(found.as_slice(), errors);
             let status = status_of_parts(found.as_slice());

@@ -11,6 +11,7 @@ use crate::entries::Entries;
 use crate::starting::{Start, read_list};
 use import_text::import::Report;
 use import_text::log::import_log;
+use import_text::meter::Unmetered;
 use import_text::processes::Choice;
 use std::alloc::Global;
 use trace_io::IoFault;
@@ -42,7 +43,7 @@ fn import_after<S: Source, W: Sink>(
     ensures told { TellsSent (λ f. f) result (read_from S.Source log.old log.new)
         (written_to W.Sink writer.old writer.new) }
 {
-    match import_log(alloc, &start.taken, log, writer, choice) {
+    match import_log(alloc, &start.taken, log, writer, choice, &mut Unmetered) {
         Ok(report) => Ok(Told {
             entries: start.entries,
             report,

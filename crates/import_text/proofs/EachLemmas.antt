@@ -1,13 +1,13 @@
 -- Lists that are made element by element, and the last line at which something holds.
-use Rattle.std.proofs.Common.{◌≡◌, ℕ, zero, suc, ◌+◌, ◌<◌, Bool, List, [], ◌∷◌, ◌++◌, None, Some, length, take, map, get_or, arith, refl, sym, ap, ◌∙◌}
+use Rattle.std.proofs.Common.{◌≡◌, ℕ, zero, suc, ◌+◌, ◌<◌, Bool, true, false, List, [], ◌∷◌, ◌++◌, Some, if◌then◌else◌, length, take, map, get_or, arith, refl, sym, ap, ◌∙◌}
 use Rattle.std.proofs.lemmas.List.{map_more}
 use Rattle.std.proofs.lemmas.List.Elements.{All-append}
-use Rattle.std.specs.Prelude.{All, unwrap_or}
+use Rattle.std.specs.Prelude.{All}
 use Rattle.import_forms.specs.Speech.{Spoken}
 use Rattle.import_text.specs.Imported.{processes_all}
 use Rattle.import_text.specs.Made.{all_makings}
 use Rattle.import_text.specs.Processes.{processes}
-use Rattle.import_text.specs.Programs.{program_at, program_before, programs_all, programs_for}
+use Rattle.import_text.specs.Programs.{begins_at, last_begun, programs_all, programs_for}
 use Rattle.import_text.specs.declared.made.Making.{Making}
 use Rattle.import_text.specs.declared.processes.Process.{Process}
 
@@ -37,19 +37,14 @@ one_of P x p (suc k) d lt = absurd (omega (arith, lt))
 pub all_push : {X : Type 0} (P : X → Type 0) (xs : List X) (x : X) → All P xs → P x → All P (xs ++ x ∷ [])
 all_push P xs x h p = All-append P xs (x ∷ []) h (one_of P x p)
 
--- the process begins no program at this line
-pub before_none : (all : List Spoken) (owned : List ℕ) (number n : ℕ) → program_at all owned number n ≡ None
-    → program_before all owned number n ≡ program_before all owned number (n + 1)
-before_none all owned number n e =
-    let one : n + 1 ≡ suc n = omega arith in
-    sym (ap (program_before all owned number) one ∙ ap (λ p. unwrap_or p (program_before all owned number n)) e)
-
--- it begins this one
-pub before_here : (all : List Spoken) (owned : List ℕ) (number n : ℕ) (name : List ℕ) → program_at all owned number n ≡ Some name
-    → name ≡ program_before all owned number (n + 1)
-before_here all owned number n name h =
-    let one : n + 1 ≡ suc n = omega arith in
-    sym (ap (program_before all owned number) one ∙ ap (λ p. unwrap_or p (program_before all owned number n)) h)
+-- the line at which a program begins is one of those
+pub last_low : (all : List Spoken) (owned : List ℕ) (n q k : ℕ) → last_begun all owned n q ≡ Some k → k < n
+last_low all owned zero q k h = absurd cc
+last_low all owned (suc n) q k h = by (last_low all owned n q k) (begins_at all owned n q) h
+  where
+    by : (last_begun all owned n q ≡ Some k → k < n) → (b : Bool) → (if b then Some n else last_begun all owned n q) ≡ Some k → k < suc n
+    by more true z = let same : n ≡ k = cc in omega (arith, same)
+    by more false z = let less = more z in omega (arith, less)
 
 -- the programs are those of all processes
 pub programs_known : (joined : Bool) (all : List Spoken) (n : ℕ) (made : List Making) (ps : List Process) (names : List (List ℕ))

@@ -1,46 +1,56 @@
--- Which process's address space is followed.
-use Rattle.std.proofs.Common.{◌≡◌, ℕ, zero, suc, ◌+◌, ◌-◌, ◌<◌, ◌≤◌, true, false, List, [], ◌∷◌, ◌++◌, Option, None, Some, if◌then◌else◌, length, map, arith, refl, sym, ap, ◌∙◌, append_assoc}
+-- Who made which thread, and lists that grow behind.
+use Rattle.std.proofs.Common.{◌≡◌, ℕ, zero, suc, ◌+◌, ◌-◌, ◌<◌, Bool, true, false, List, [], ◌∷◌, ◌++◌, Option, None, Some, if◌then◌else◌, ◌&&◌, ◌||◌, nat_lt, length, take, drop, get_or, map, arith, refl, sym, ap, ◌∙◌, eqb}
+use Rattle.std.proofs.lemmas.Bool.Decides.{nat_tests}
+use Rattle.std.proofs.lemmas.List.{drop_more}
 use Rattle.import_forms.specs.Speech.{Spoken}
-use Rattle.import_text.proofs.JoinLemmas.{map-len}
-use Rattle.import_text.specs.Made.{chain_within, fork_of, maker_of, process_of, start_from, starts_at}
-use Rattle.import_text.specs.declared.made.Hold.{Hold}
+use Rattle.import_text.specs.Made.{fork_of, maker_of, making_by, process_of, space_by, space_within, with_making, with_makings}
 use Rattle.import_text.specs.declared.made.Making.{Making}
+use Rattle.import_text.specs.declared.told.Telling.{Telling}
 
--- the first of a chain has no parent that is known
-pub chain_end : (found all : List Hold) (made : List Making) (n process : ℕ) → 0 < n → fork_of (maker_of made process) ≡ None
-    → found ++ chain_within made n process ≡ all → found ++ (record { process = process; from = 0 }) ∷ [] ≡ all
-chain_end found all made zero process p e h = absurd (omega (arith, p))
-chain_end found all made (suc n) process p e h = sym (rw e refl) ∙ h
+pub apart : (a b c : ℕ) → eqb a b ≡ false → eqb a c ≡ true → eqb b c ≡ false
+apart a b c h e = grind (arith, nat_tests)
 
--- it has one
-pub chain_more : (found all : List Hold) (made : List Making) (n process : ℕ) (m : Making) → 0 < n → fork_of (maker_of made process) ≡ Some m
-    → found ++ chain_within made n process ≡ all
-    → (found ++ (record { process = process; from = m.at }) ∷ []) ++ chain_within made (n - 1) (process_of made m.parent) ≡ all
-chain_more found all made zero process m p e h = absurd (omega (arith, p))
-chain_more found all made (suc n) process m p e h =
-    let k : suc n - 1 ≡ n = omega arith in
-    rw k (append_assoc found (record { process = process; from = m.at } ∷ []) (chain_within made n (process_of made m.parent))
-    ∙ sym (ap (λ l. found ++ l) (rw e refl)) ∙ h)
+-- one more behind the list
+pub maker_push : (made : List Making) (m : Making) (q : ℕ) → maker_of made m.child ≡ None
+    → maker_of (made ++ m ∷ []) q ≡ (if eqb m.child q then Some m else maker_of made q)
+maker_push [] m q h = refl
+maker_push (x ∷ xs) m q h = by (maker_push xs m q) (eqb x.child m.child) refl (eqb x.child q) refl h
+  where
+    by : (maker_of xs m.child ≡ None → maker_of (xs ++ m ∷ []) q ≡ (if eqb m.child q then Some m else maker_of xs q))
+        → (b : Bool) → eqb x.child m.child ≡ b → (t : Bool) → eqb x.child q ≡ t → (if b then Some x else maker_of xs m.child) ≡ None
+        → (if t then Some x else maker_of (xs ++ m ∷ []) q) ≡ (if eqb m.child q then Some m else (if t then Some x else maker_of xs q))
+    by more true e t f z = absurd cc
+    by more false e true f z = rw (apart x.child m.child q e f) refl
+    by more false e false f z = more z
 
--- no program begins at line k
-pub start_more : {X : Type 0} (f : X → Spoken) (xs : List X) (thread k : ℕ) → k < length xs → starts_at (map f xs) thread k ≡ false
-    → start_from (map f xs) thread (k + 1) (length (map f xs) - (k + 1)) ≡ start_from (map f xs) thread k (length (map f xs) - k)
-start_more f xs thread k p e =
-    let all = map f xs in
-    let one : length (map f xs) - k ≡ suc (length (map f xs) - (k + 1)) = omega (arith, p, map-len f xs) in
-    sym (ap (start_from all thread k) one ∙ ap (λ b. if b then k else start_from all thread (k + 1) (length all - (k + 1))) e)
+-- without its last
+pub take_front : {X : Type 0} (xs : List X) (x : X) (n : ℕ) → n ≡ length xs → take n (xs ++ x ∷ []) ≡ xs
+take_front [] x zero h = refl
+take_front [] x (suc n) h = absurd (omega (arith, h))
+take_front (y ∷ ys) x zero h = absurd (omega (arith, h))
+take_front (y ∷ ys) x (suc n) h = ap (λ l. y ∷ l) (take_front ys x n (omega (arith, h)))
 
--- one begins there
-pub start_here : {X : Type 0} (f : X → Spoken) (xs : List X) (thread k : ℕ) → k < length xs → starts_at (map f xs) thread k ≡ true
-    → k ≡ start_from (map f xs) thread k (length (map f xs) - k)
-start_here f xs thread k p e =
-    let all = map f xs in
-    let one : length (map f xs) - k ≡ suc (length (map f xs) - (k + 1)) = omega (arith, p, map-len f xs) in
-    sym (ap (start_from all thread k) one ∙ ap (λ b. if b then k else start_from all thread (k + 1) (length all - (k + 1))) e)
+-- one more was added
+pub makings_more : (all : List Spoken) (made : List Making) (ts : List Telling) (n : ℕ) (d : Telling) → n < length ts
+    → with_makings all (with_making made (making_by all (get_or ts n d))) (drop (n + 1) ts) ≡ with_makings all made (drop n ts)
+makings_more all made ts n d p = sym (ap (with_makings all made) (drop_more ts n d p))
 
--- no line is left
-pub start_end : {X : Type 0} (f : X → Spoken) (xs : List X) (thread k : ℕ) → length xs ≤ k
-    → k ≡ start_from (map f xs) thread k (length (map f xs) - k)
-start_end f xs thread k p =
-    let none : length (map f xs) - k ≡ 0 = omega (arith, p, map-len f xs) in
-    sym (ap (start_from (map f xs) thread k) none)
+-- a process has an address space of its own
+pub space_stops : (copies : Bool) (made : List Making) (k n process r : ℕ) (m : Making) (o : Option Making) (b : Bool) → 0 < n
+    → space_within copies made k n process ≡ r → o ≡ fork_of (maker_of made process) → o ≡ Some m
+    → b ≡ (copies || m.joins) && nat_lt k m.at → b ≡ false → process ≡ r
+space_stops copies made k zero process r m o b p h e f g z = absurd (omega (arith, p))
+space_stops copies made k (suc n) process r m o b p h e f g z =
+    sym (sym h ∙ ap (space_by copies (space_within copies made k n) made process k) (sym e ∙ f)
+    ∙ ap (λ t. if t then space_within copies made k n (process_of made m.parent) else process) (sym g ∙ z))
+
+-- it has its maker's
+pub space_goes : (copies : Bool) (made : List Making) (k n process r : ℕ) (m : Making) (o : Option Making) (b : Bool) → 0 < n
+    → space_within copies made k n process ≡ r → o ≡ fork_of (maker_of made process) → o ≡ Some m
+    → b ≡ (copies || m.joins) && nat_lt k m.at → b ≡ true → space_within copies made k (n - 1) (process_of made m.parent) ≡ r
+space_goes copies made k zero process r m o b p h e f g z = absurd (omega (arith, p))
+space_goes copies made k (suc n) process r m o b p h e f g z =
+    let one : suc n - 1 ≡ n = omega arith in
+    ap (λ x. space_within copies made k x (process_of made m.parent)) one
+    ∙ sym (sym h ∙ ap (space_by copies (space_within copies made k n) made process k) (sym e ∙ f)
+    ∙ ap (λ t. if t then space_within copies made k n (process_of made m.parent) else process) (sym g ∙ z))

@@ -12,7 +12,6 @@ use Rattle.import_text.specs.Taking.{SoFar, place_named, use_of, widened, files_
 use Rattle.import_text.specs.Texts.{use_lines, use_text}
 use Rattle.import_text.specs.declared.counts.Counts.{Counts}
 use Rattle.import_text.specs.declared.made.Making.{Making}
-use Rattle.import_text.specs.declared.made.Hold.{Hold}
 use Rattle.import_text.specs.declared.taking.Fate.{Fate}
 
 pub map-at : {X Y : Type 0} (f : X → Y) (xs : List X) (k : ℕ) (d : X) (e : Y) → k < length xs → get_or (map f xs) k e ≡ f (get_or xs k d)
@@ -48,13 +47,13 @@ named_here name us n all p e h =
     omega (arith, h, one)
 
 -- one more line was taken
-pub taken_more : (start : SoFar) (all : List Spoken) (made : List Making) (chain : List Hold) (n : ℕ) (s t : SoFar) (c d : Counts) (fate : Fate)
-    → (s, c) ≡ imported start all made chain n → (t, fate) ≡ line_taken start s all made chain n → d ≡ counted c fate
-    → (t, d) ≡ imported start all made chain (n + 1)
-taken_more start all made chain n s t c d fate e h w =
+pub taken_more : (start : SoFar) (all : List Spoken) (made : List Making) (chosen n : ℕ) (s t : SoFar) (c d : Counts) (fate : Fate)
+    → (s, c) ≡ imported start all made chosen n → (t, fate) ≡ line_taken start s all made chosen n → d ≡ counted c fate
+    → (t, d) ≡ imported start all made chosen (n + 1)
+taken_more start all made chosen n s t c d fate e h w =
     let one : n + 1 ≡ suc n = omega arith in
     rw one (ap (λ x. (t, x)) w ∙ ap (λ (a : SoFar × Fate). (a.0, counted c a.1)) h
-    ∙ ap (λ (b : SoFar × Counts). counted_with b.1 (line_taken start b.0 all made chain n)) e)
+    ∙ ap (λ (b : SoFar × Counts). counted_with b.1 (line_taken start b.0 all made chosen n)) e)
 
 -- the lines of one more file
 uses-append : (n : ℕ) (us vs : List (List ℕ × ℕ)) → use_lines n (us ++ vs) ≡ use_lines n us ++ use_lines (n + length us) vs

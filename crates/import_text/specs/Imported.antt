@@ -3,7 +3,7 @@ use Rattle.std.specs.Prelude.{ℕ, zero, suc, ◌+◌, Bool, true, false, List, 
 use Rattle.trace_io.specs.Lines.{lines_of}
 use Rattle.import_text.specs.Counts.{counted, no_counts}
 use Rattle.import_text.specs.Joining.{call_at, next_of, returns_by, speech_at}
-use Rattle.import_text.specs.Made.{all_makings, chain_of, holder, space_at}
+use Rattle.import_text.specs.Made.{all_makings, past_of, process_of, space_of}
 use Rattle.import_text.specs.Processes.{chosen, is_there, processes}
 use Rattle.import_forms.specs.Said.{is_known, said_of}
 use Rattle.import_forms.specs.Speech.{Spoken, begun_of, returned_of, speech_of}
@@ -11,7 +11,6 @@ use Rattle.import_text.specs.Taking.{SoFar, after_said}
 use Rattle.import_text.specs.declared.counts.Counts.{Counts}
 use Rattle.import_text.specs.declared.import.Ending.{Ending}
 use Rattle.import_text.specs.declared.import.Ending.TheVariants.{Written, Nothing, Absent}
-use Rattle.import_text.specs.declared.made.Hold.{Hold}
 use Rattle.import_text.specs.declared.processes.Choice.{Choice}
 use Rattle.import_text.specs.declared.processes.Process.{Process}
 use Rattle.import_forms.specs.declared.said.Said.{Said}
@@ -41,9 +40,10 @@ abbrev pub call_taken : SoFar → SoFar → ℕ → Reason → Option (List ℕ)
 call_taken start s thread why None = (s, Left why)
 call_taken start s thread why (Some text) = after_said start s thread text (said_of text)
 
--- line k is about a thread that has the address space that is followed there
-abbrev pub is_ours : List Making → List Hold → ℕ → ℕ → Bool
-is_ours made chain thread k = space_at made thread k == holder chain k
+-- Line k is about the process that was chosen: its thread's calls change there the address space that the process has at that line, or,
+-- before it was made, had from its maker.
+abbrev pub is_ours : List Making → ℕ → ℕ → ℕ → Bool
+is_ours made chosen thread k = space_of made k (process_of made thread) == past_of made k chosen
 
 -- after line k, where it is of the process: what was taken, and what became of the line
 abbrev pub taken_if : Bool → SoFar → SoFar → List Spoken → ℕ → SoFar × Fate
@@ -51,19 +51,19 @@ taken_if true start s all k = call_taken start s (speech_at all k).0 (half_at al
 taken_if false start s all k = (s, Left Elsewhere)
 
 -- after line k
-abbrev pub line_taken : SoFar → SoFar → List Spoken → List Making → List Hold → ℕ → SoFar × Fate
-line_taken start s all made chain k = taken_if (is_ours made chain (speech_at all k).0 k) start s all k
+abbrev pub line_taken : SoFar → SoFar → List Spoken → List Making → ℕ → ℕ → SoFar × Fate
+line_taken start s all made chosen k = taken_if (is_ours made chosen (speech_at all k).0 k) start s all k
 
 -- a line that met its fate, counted
 abbrev pub counted_with : Counts → SoFar × Fate → SoFar × Counts
 counted_with counts after = (after.0, counted counts after.1)
 
 -- after the first n lines, from what is there at the start
-abbrev pub imported : SoFar → List Spoken → List Making → List Hold → ℕ → SoFar × Counts
-imported start all made chain zero = (start, no_counts)
-imported start all made chain (suc n) =
-    let before = imported start all made chain n in
-    counted_with before.1 (line_taken start before.0 all made chain n)
+abbrev pub imported : SoFar → List Spoken → List Making → ℕ → ℕ → SoFar × Counts
+imported start all made chosen zero = (start, no_counts)
+imported start all made chosen (suc n) =
+    let before = imported start all made chosen n in
+    counted_with before.1 (line_taken start before.0 all made chosen n)
 
 -- the processes of all lines
 abbrev pub processes_all : Bool → List Spoken → List Process
@@ -78,7 +78,7 @@ chosen_all choice all = chosen choice.thread (all_makings choice.joined all) (pr
 abbrev pub import_all : SoFar → Choice → List Spoken → SoFar × Counts
 import_all start choice all =
     let made = all_makings choice.joined all in
-    imported start all made (chain_of made (chosen_all choice all)) (length all)
+    imported start all made (chosen_all choice all) (length all)
 
 -- an import without a line about the thread that was named, or without a request, is an error
 abbrev pub ending_by : Bool → ℕ → Ending

@@ -4,6 +4,7 @@ pub mod Processes
 pub mod Names
 pub mod Shared
 pub mod Taking
+pub mod Told
 pub mod Losses
 pub mod Counts
 pub mod Imported

@@ -1,10 +1,10 @@
--- Which threads were made, and by whom.
-use Rattle.std.specs.Prelude.{ℕ, zero, suc, ◌+◌, ◌-◌, Bool, true, false, List, [], ◌∷◌, ◌++◌, Option, None, Some, if◌then◌else◌, ◌==◌, length, nat_le, nat_lt, option_map}
+-- Which threads were made, and by whom; and whose address space a line is about.
+use Rattle.std.specs.Prelude.{ℕ, zero, suc, Bool, true, false, ◌&&◌, ◌||◌, List, [], ◌∷◌, ◌++◌, Option, None, Some, if◌then◌else◌, ◌==◌, length, nat_lt, option_map, unwrap_or}
 use Rattle.import_text.specs.Joining.{call_at, speech_at}
 use Rattle.import_forms.specs.Said.{said_of}
 use Rattle.import_forms.specs.Speech.{Spoken, returned_of}
 use Rattle.import_text.specs.declared.made.Making.{Making}
-use Rattle.import_text.specs.declared.made.Hold.{Hold}
+use Rattle.import_text.specs.declared.told.Telling.{Telling}
 use Rattle.import_forms.specs.declared.said.Said.{Said}
 use Rattle.import_forms.specs.declared.said.Said.TheVariants as Says
 
@@ -12,18 +12,14 @@ use Rattle.import_forms.specs.declared.said.Said.TheVariants as Says
 abbrev pub said_at : List Spoken → ℕ → Option Said
 said_at all k = option_map said_of (call_at all k)
 
--- the place of the thread's last line among the first n, and else this place
-abbrev pub last_place : ℕ → List Spoken → ℕ → ℕ → ℕ
-last_place thread all place zero = place
-last_place thread all place (suc n) = if (speech_at all n).0 == thread then n else last_place thread all place n
+-- whose line k is
+abbrev pub thread_at : List Spoken → ℕ → ℕ
+thread_at all k = (speech_at all k).0
 
-abbrev pub began_by : {T : Type 0} → List Spoken → ℕ → Option T → ℕ
-began_by all k None = k
-began_by all k (Some r) = last_place (speech_at all k).0 all k k
-
--- the line in which the call began that acts at line k: where it stands in two lines, the first of them
-abbrev pub began_at : List Spoken → ℕ → ℕ
-began_at all k = began_by all k (returned_of (speech_at all k).1)
+-- the thread's last line among the first n
+abbrev pub last_line : List Spoken → ℕ → ℕ → Option ℕ
+last_line all zero thread = None
+last_line all (suc n) thread = if thread_at all n == thread then Some n else last_line all n thread
 
 -- a program begins
 abbrev pub starts : Option Said → Bool
@@ -42,67 +38,100 @@ starts (Some Says.Fails) = false
 starts (Some Says.Unread) = false
 starts (Some Says.Other) = false
 
--- line k is the thread's, and a program begins there
+-- the thread begins a program at line k
 abbrev pub starts_at : List Spoken → ℕ → ℕ → Bool
-starts_at all thread k = if (speech_at all k).0 == thread then starts (said_at all k) else false
+starts_at all thread k = (thread_at all k == thread) && starts (said_at all k)
 
--- the first of n lines from line k on at which the thread begins a program, and else the line behind them
-abbrev pub start_from : List Spoken → ℕ → ℕ → ℕ → ℕ
-start_from all thread k zero = k
-start_from all thread k (suc n) = if starts_at all thread k then k else start_from all thread (k + 1) n
+-- the earlier line, if there is one, and else this one if it will do
+abbrev pub or_here : Option ℕ → Bool → ℕ → Option ℕ
+or_here (Some earlier) b k = Some earlier
+or_here None b k = if b then Some k else None
 
--- The line from which on a process has an address space of its own whose making began at line k: that line, or where it is to have its
--- maker's until it begins a program, the line at which it does, if it ever does.
-abbrev pub own_from : List Spoken → ℕ → Bool → ℕ → ℕ
-own_from all thread joins k = if joins then start_from all thread k (length all - k) else k
+-- the first line among the first n at which the thread begins a program
+abbrev pub first_start : List Spoken → ℕ → ℕ → Option ℕ
+first_start all zero thread = None
+first_start all (suc n) thread = or_here (first_start all n thread) (starts_at all thread n) n
 
--- the thread that line k says was made
-abbrev pub making_of : List Spoken → ℕ → Option Said → Option Making
-making_of all k None = None
-making_of all k (Some (Says.Makes thread shares joins)) =
-    Some (record { child = thread; parent = (speech_at all k).0; shares = shares; joins = joins; at = own_from all thread joins (began_at all k) })
-making_of all k (Some (Says.Asks request)) = None
-making_of all k (Some (Says.Breaks to)) = None
-making_of all k (Some (Says.Moves from old to new)) = None
-making_of all k (Some Says.Begins) = None
-making_of all k (Some (Says.Keyed request)) = None
-making_of all k (Some (Says.Sizes number len)) = None
-making_of all k (Some (Says.Attaches number addr prot)) = None
-making_of all k (Some (Says.Detaches addr)) = None
-making_of all k (Some (Says.Loses lost)) = None
-making_of all k (Some Says.Fails) = None
-making_of all k (Some Says.Unread) = None
-making_of all k (Some Says.Other) = None
+-- ---- what lines tell of threads that were made
+
+abbrev pub began_by : {T : Type 0} → List Spoken → ℕ → Option T → ℕ
+began_by all k None = k
+began_by all k (Some r) = unwrap_or (last_line all k (thread_at all k)) k
+
+-- the line in which the call began that acts at line k: where that tells a return, its thread's last line before it
+abbrev pub began_at : List Spoken → ℕ → ℕ
+began_at all k = began_by all k (returned_of (speech_at all k).1)
+
+-- what line k tells of a thread that was made
+abbrev pub telling_of : List Spoken → ℕ → Option Said → Option Telling
+telling_of all k None = None
+telling_of all k (Some (Says.Makes thread shares joins)) =
+    Some (record { child = thread; parent = thread_at all k; shares = shares; joins = joins; began = began_at all k })
+telling_of all k (Some (Says.Asks request)) = None
+telling_of all k (Some (Says.Breaks to)) = None
+telling_of all k (Some (Says.Moves from old to new)) = None
+telling_of all k (Some Says.Begins) = None
+telling_of all k (Some (Says.Keyed request)) = None
+telling_of all k (Some (Says.Sizes number len)) = None
+telling_of all k (Some (Says.Attaches number addr prot)) = None
+telling_of all k (Some (Says.Detaches addr)) = None
+telling_of all k (Some (Says.Loses lost)) = None
+telling_of all k (Some Says.Fails) = None
+telling_of all k (Some Says.Unread) = None
+telling_of all k (Some Says.Other) = None
+
+abbrev pub with_telling : List Telling → Option Telling → List Telling
+with_telling ts None = ts
+with_telling ts (Some t) = ts ++ t ∷ []
+
+-- what the first n lines tell of threads that were made, in order
+abbrev pub tellings : List Spoken → ℕ → List Telling
+tellings all zero = []
+tellings all (suc n) = with_telling (tellings all n) (telling_of all n (said_at all n))
+
+-- ---- who made which thread
 
 -- who made a thread, where the list says so
 abbrev pub maker_of : List Making → ℕ → Option Making
 maker_of [] thread = None
 maker_of (m ∷ made) thread = if m.child == thread then Some m else maker_of made thread
 
--- with what a line says; of a thread the first line counts that says who made it
 abbrev pub first_made : List Making → Making → Option Making → List Making
 first_made made m None = made ++ m ∷ []
 first_made made m (Some earlier) = made
 
--- with what a line says, if it says that a thread was made
-abbrev pub with_making : List Making → Option Making → List Making
-with_making made None = made
-with_making made (Some m) = first_made made m (maker_of made m.child)
+-- with who made one more thread; of each thread the first that is told counts
+abbrev pub with_making : List Making → Making → List Making
+with_making made m = first_made made m (maker_of made m.child)
 
--- those that the first n lines say were made, each once
-abbrev pub makings : List Spoken → ℕ → List Making
-makings all zero = []
-makings all (suc n) = with_making (makings all n) (making_of all n (said_at all n))
+-- The line from which on a child has an address space of its own: that in which the call began that made it; or, where it shares its
+-- maker's memory, the first line at which it begins a program, and none of the log's where it begins none.
+abbrev pub own_from : List Spoken → Telling → ℕ
+own_from all t = if t.joins then unwrap_or (first_start all (length all) t.child) (length all) else t.began
 
--- with each thread of which no line says who made it, as one of process 0
+abbrev pub making_by : List Spoken → Telling → Making
+making_by all t = record { child = t.child; parent = t.parent; shares = t.shares; joins = t.joins; at = own_from all t }
+
+abbrev pub with_makings : List Spoken → List Making → List Telling → List Making
+with_makings all made [] = made
+with_makings all made (t ∷ ts) = with_makings all (with_making made (making_by all t)) ts
+
+-- those that the lines tell of, each once
+abbrev pub makings : List Spoken → List Making
+makings all = with_makings all [] (tellings all (length all))
+
+-- a thread of which no line says who made it, as one of process 0
+abbrev pub adopted_one : ℕ → Making
+adopted_one thread = record { child = thread; parent = 0; shares = true; joins = false; at = 0 }
+
+-- with each thread of the first n lines of which no line says who made it
 abbrev pub adopted : List Spoken → List Making → ℕ → List Making
 adopted all made zero = made
-adopted all made (suc n) =
-    with_making (adopted all made n) (Some (record { child = (speech_at all n).0; parent = 0; shares = true; joins = false; at = 0 }))
+adopted all made (suc n) = with_making (adopted all made n) (adopted_one (thread_at all n))
 
 -- who made which thread, as all lines say; those of which none says so are of one process only where that was asked for
 abbrev pub all_makings : Bool → List Spoken → List Making
-all_makings joined all = if joined then adopted all (makings all (length all)) (length all) else makings all (length all)
+all_makings joined all = if joined then adopted all (makings all) (length all) else makings all
 
 -- ---- processes
 
@@ -125,28 +154,24 @@ abbrev pub fork_of : Option Making → Option Making
 fork_of None = None
 fork_of (Some m) = if m.shares then None else Some m
 
-abbrev pub space_by : List Making → ℕ → ℕ → Option Making → ℕ
-space_by made process k None = process
-space_by made process k (Some m) = if m.joins then (if nat_lt k m.at then process_of made m.parent else process) else process
+-- ---- whose address space a line is about
 
--- the process whose address space a thread's process has at line k: its own, or its maker's
-abbrev pub space_at : List Making → ℕ → ℕ → ℕ
-space_at made thread k = space_by made (process_of made thread) k (fork_of (maker_of made (process_of made thread)))
+-- the process itself, or what is said of its maker's where it was made so, and has no address space of its own at line k
+abbrev pub space_by : Bool → (ℕ → ℕ) → List Making → ℕ → ℕ → Option Making → ℕ
+space_by copies maker made process k None = process
+space_by copies maker made process k (Some m) = if (copies || m.joins) && nat_lt k m.at then maker (process_of made m.parent) else process
 
--- a process that had its parent's address space before it was made, or one from the log's first line on
-abbrev pub held_by : (ℕ → List Hold) → List Making → ℕ → Option Making → List Hold
-held_by older made process None = record { process = process; from = 0 } ∷ []
-held_by older made process (Some m) = record { process = process; from = m.at } ∷ older (process_of made m.parent)
+-- after at most n makers
+abbrev pub space_within : Bool → List Making → ℕ → ℕ → ℕ → ℕ
+space_within copies made k zero process = process
+space_within copies made k (suc n) process =
+    space_by copies (space_within copies made k n) made process k (fork_of (maker_of made process))
 
--- a process, its parent, and so on, n of them and one at most
-abbrev pub chain_within : List Making → ℕ → ℕ → List Hold
-chain_within made zero process = record { process = process; from = 0 } ∷ []
-chain_within made (suc n) process = held_by (chain_within made n) made process (fork_of (maker_of made process))
+-- Whose address space the calls of a process change at line k: its own. But a child that shares memory maps for its maker until it
+-- begins a program.
+abbrev pub space_of : List Making → ℕ → ℕ → ℕ
+space_of made k process = space_within false made k (length made) process
 
-abbrev pub chain_of : List Making → ℕ → List Hold
-chain_of made process = chain_within made (length made) process
-
--- the process whose address space is followed at line k: the first of these that is there by then
-abbrev pub holder : List Hold → ℕ → ℕ
-holder [] k = 0
-holder (h ∷ hs) k = if nat_le h.from k then h.process else holder hs k
+-- Whose address space a process has at line k: before it has one of its own, its maker's, whether it shares or copies that.
+abbrev pub past_of : List Making → ℕ → ℕ → ℕ
+past_of made k process = space_within true made k (length made) process

@@ -29,10 +29,14 @@ asks (Some Says.Other) = false
 abbrev pub with_request : Process → Bool → Process
 with_request p asks = if asks then record { number = p.number; requests = min (p.requests + 1) (2 ^ 64 - 1) } else p
 
--- where the process stands, or would stand behind all
-abbrev pub place_in : ℕ → List Process → ℕ
-place_in number [] = 0
-place_in number (p ∷ ps) = if p.number == number then 0 else place_in number ps + 1
+abbrev pub one_later : Option ℕ → Option ℕ
+one_later None = None
+one_later (Some n) = Some (suc n)
+
+-- where the process stands, if it is there
+abbrev pub place_of : ℕ → List Process → Option ℕ
+place_of number [] = None
+place_of number (p ∷ ps) = if p.number == number then Some 0 else one_later (place_of number ps)
 
 -- with a line of the process
 abbrev pub with_line : List Process → ℕ → Bool → List Process

@@ -1,5 +1,5 @@
 -- Which programs the processes of a log ran.
-use Rattle.std.specs.Prelude.{ℕ, zero, suc, Bool, true, false, List, [], ◌∷◌, Option, None, Some, if◌then◌else◌, ◌==◌, codes, length, map, nat_lt, slice_index_or, unwrap_or}
+use Rattle.std.specs.Prelude.{ℕ, zero, suc, Bool, true, false, List, [], ◌∷◌, Option, None, Some, if◌then◌else◌, ◌==◌, ◌&&◌, codes, is_some, length, map, nat_lt, slice_index_or, unwrap_or}
 use Rattle.trace_text.specs.Words.{byte}
 use Rattle.import_forms.specs.Said.{said_of}
 use Rattle.import_forms.specs.Speech.{Spoken}
@@ -52,18 +52,23 @@ program_in (Some text) = if begins (said_of text) then Some (quoted text) else N
 abbrev pub owners : List Making → List Spoken → List ℕ
 owners made all = map (λ s. process_of made s.0) all
 
--- the file of the program that the process begins at line k, if it does so
-abbrev pub program_at : List Spoken → List ℕ → ℕ → ℕ → Option (List ℕ)
-program_at all owned number k = if slice_index_or owned k 0 == number then program_in (call_at all k) else None
+-- the process begins a program at line k
+abbrev pub begins_at : List Spoken → List ℕ → ℕ → ℕ → Bool
+begins_at all owned k number = (slice_index_or owned k 0 == number) && is_some (program_in (call_at all k))
 
--- the file of the program that the process began last in the first n lines, nothing where it began none
-abbrev pub program_before : List Spoken → List ℕ → ℕ → ℕ → List ℕ
-program_before all owned number zero = []
-program_before all owned number (suc n) = unwrap_or (program_at all owned number n) (program_before all owned number n)
+-- the last line among the first n at which the process begins a program
+abbrev pub last_begun : List Spoken → List ℕ → ℕ → ℕ → Option ℕ
+last_begun all owned zero number = None
+last_begun all owned (suc n) number = if begins_at all owned n number then Some n else last_begun all owned n number
 
--- what is shown of it in 80 bytes
+-- the file of the program that begins at this line, nothing where there is none
+abbrev pub program_at : List Spoken → Option ℕ → List ℕ
+program_at all None = []
+program_at all (Some k) = unwrap_or (program_in (call_at all k)) []
+
+-- what is shown, in 80 bytes, of the file of the program that the process began last
 abbrev pub program_of : List Spoken → List ℕ → ℕ → List ℕ
-program_of all owned number = name_shown 80 (program_before all owned number (length all))
+program_of all owned number = name_shown 80 (program_at all (last_begun all owned (length all) number))
 
 -- that of each process
 abbrev pub programs_of : List Spoken → List ℕ → List Process → List (List ℕ)

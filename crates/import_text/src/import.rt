@@ -11,7 +11,8 @@ ghost use Rattle.import_text.specs.Taking.{so_far};
 
 use crate::counts::Counts;
 use crate::joining::{next_of, put_call, returns_by};
-use crate::made::{Hold, Making, all_makings, chain_of, holder};
+use crate::made::{Made, all_makings, fork_of, past_of};
+use crate::meter::{Meter, tell_of};
 use crate::processes::{Choice, Process, chosen, is_there, look, read_processes, recall, space_at};
 use crate::programs::{Program, read_programs};
 use crate::taking::{Fate, Reason, Taken, take};
@@ -108,26 +109,29 @@ fn take_line<'a>(
 }
 
 /// Takes what all lines of this process say.
-pub(crate) fn take_lines<'a>(
+pub(crate) fn take_lines<'a, M: Meter>(
     alloc: Global,
     start: &Taken,
     speeches: &[Speech<'a>],
-    made: &[Making],
-    chain: &[Hold],
+    made: &Made,
+    process: u64,
     text: &mut Vec<u8>,
+    meter: &mut M,
 ) -> Result<Imported, AllocError>
     ensures value { IfOk result (λ i. (so_far i.taken, i.counts)
-        ≡ imported (so_far start.now) (map spoken speeches.now) made.now chain.now (length speeches.now)) }
+        ≡ imported (so_far start.now) (map spoken speeches.now) made.now process (length speeches.now)) }
     ensures total { IfOk result (λ i. total i.counts ≡ length speeches.now) }
     ensures few { IfOk result (λ i. total i.counts < 2 ^ 64) }
 {
     let mut taken = start.copy(alloc)?;
     let mut counts = Counts::new();
     let mut known = look(made, 0);
+    let own = fork_of(made, process);
     let mut at = 0;
     'lines: while at < speeches.len() {
+        tell_of(meter, 3, at, speeches.len());
         known = recall(made, known, speeches[at].thread);
-        let is_ours = space_at(made, known, at) == holder(chain, at);
+        let is_ours = space_at(made, known, at) == past_of(made, at, process, own);
         let fate = take_line(alloc, start, &mut taken, speeches, is_ours, at, text)?;
         counts = counts.and(fate);
         at += 1;
@@ -203,12 +207,13 @@ pub(crate) fn ending_by(is_there: bool, steps: usize) -> Ending
 }
 
 // What is taken of the lines, for the process that is chosen, and what is said about that.
-fn import_speeches<'a>(
+fn import_speeches<'a, M: Meter>(
     alloc: Global,
     start: &Taken,
     log: &[u8],
     speeches: &[Speech<'a>],
     choice: Choice,
+    meter: &mut M,
 ) -> Result<(Taken, Report), AllocError>
     ensures value { IfOk result (λ i. (so_far i.0, i.1.counts) ≡ import_all (so_far start.now) choice (map spoken speeches.now)) }
     ensures ending { IfOk result (λ i. i.1.ending ≡ ending_all (so_far start.now) choice (map spoken speeches.now)) }
@@ -220,25 +225,11 @@ fn import_speeches<'a>(
     ensures few { IfOk result (λ i. total i.1.counts < 2 ^ 64) }
 {
     let mut text: Vec<u8> = Vec::new(alloc);
-    let made = all_makings(alloc, speeches, choice.joined, &mut text)?;
-    let processes = read_processes(alloc, speeches, made.as_slice(), &mut text)?;
-    let programs = read_programs(
-        alloc,
-        speeches,
-        made.as_slice(),
-        processes.as_slice(),
-        &mut text,
-    )?;
-    let process = chosen(choice, made.as_slice(), processes.as_slice());
-    let chain = chain_of(alloc, made.as_slice(), process)?;
-    let imported = take_lines(
-        alloc,
-        start,
-        speeches,
-        made.as_slice(),
-        chain.as_slice(),
-        &mut text,
-    )?;
+    let made = all_makings(alloc, speeches, choice.joined, &mut text, meter)?;
+    let processes = read_processes(alloc, speeches, &made, &mut text, meter)?;
+    let programs = read_programs(alloc, speeches, &made, processes.as_slice(), &mut text)?;
+    let process = chosen(choice, &made, processes.as_slice());
+    let imported = take_lines(alloc, start, speeches, &made, process, &mut text, meter)?;
     let ending = ending_by(is_there(choice, speeches), imported.taken.steps.len());
     let unread = copy_unread(alloc, log, ending)?;
     let report = Report {
@@ -254,11 +245,12 @@ fn import_speeches<'a>(
 
 /// What is taken of a log of strace, beside what is there at the start: what the chosen process asked of its address space, and
 /// before it was made its parent of its own, since the last program began. Each line is counted once.
-pub fn import_lines(
+pub fn import_lines<M: Meter>(
     alloc: Global,
     start: &Taken,
     log: &[u8],
     choice: Choice,
+    meter: &mut M,
 ) -> Result<(Taken, Report), AllocError>
     ensures value { IfOk result (λ i. (so_far i.0, i.1.counts) ≡ import_of (so_far start.now) choice log.now) }
     ensures ending { IfOk result (λ i. i.1.ending ≡ ending_of (so_far start.now) choice log.now) }
@@ -270,6 +262,6 @@ pub fn import_lines(
     ensures few { IfOk result (λ i. total i.1.counts < 2 ^ 64) }
 {
     let speeches = read_speeches(alloc, log)?;
-    let imported = import_speeches(alloc, start, log, speeches.as_slice(), choice)?;
+    let imported = import_speeches(alloc, start, log, speeches.as_slice(), choice, meter)?;
     Ok(imported)
 }

@@ -7,6 +7,7 @@ ghost use Rattle.trace_io.specs.Io.{TellsSent, read_from, written_to};
 ghost use Rattle.trace_io.specs.Source.{Reads};
 
 use crate::import::{Ending, Report, import_lines};
+use crate::meter::Meter;
 use crate::processes::Choice;
 use crate::taking::Taken;
 use crate::writing::{FRAMES, write_taken};
@@ -31,12 +32,13 @@ pub(crate) fn write_ended(
 
 // Writes the trace of a log, and answers what is said about it.
 #[tactic(auto, using(crate::proofs::EndLemmas::imports_all, crate::proofs::EndLemmas::imports_front, trace_io::proofs::IoLemmas::keeps_same))]
-fn write_import<W: Sink>(
+fn write_import<W: Sink, M: Meter>(
     alloc: Global,
     start: &Taken,
     log: &[u8],
     writer: &mut W,
     choice: Choice,
+    meter: &mut M,
 ) -> Result<Report, IoFault>
     ensures ends { ImportEnds (so_far start.now) choice log.now (W.contents writer.old) (W.contents writer.new) result }
     ensures few { IfOk result (λ report. total report.counts < 2 ^ 64) }
@@ -45,7 +47,7 @@ fn write_import<W: Sink>(
     ensures write { result ≡ Err IoFault.WriteFailed → W.failed writer.new ≡ true }
     ensures kept { (result ≡ Err IoFault.WriteFailed) ⊎ (W.failed writer.new ≡ W.failed writer.old) }
 {
-    let Ok((taken, report)) = import_lines(alloc, start, log, choice) else {
+    let Ok((taken, report)) = import_lines(alloc, start, log, choice, meter) else {
         return Err(IoFault::NoMemory);
     };
     let Ok(text) = write_ended(alloc, report.ending, &taken) else {
@@ -60,12 +62,13 @@ fn write_import<W: Sink>(
 /// Reads a log of strace to its end, and writes its trace: what is there at the start, and what the chosen process asked of its
 /// address space. Answers what is said about that. Nothing is written before all is read and found its memory; and nothing at all
 /// where no request would be in the trace, or no line is about the thread that was named.
-pub fn import_log<S: Source, W: Sink>(
+pub fn import_log<S: Source, W: Sink, M: Meter>(
     alloc: Global,
     start: &Taken,
     reader: &mut S,
     writer: &mut W,
     choice: Choice,
+    meter: &mut M,
 ) -> Result<Report, IoFault>
     ensures ends { Reads (S.stream reader.old) (S.stream reader.new) (λ input unread.
         ImportEnds (so_far start.now) choice input (W.contents writer.old) (W.contents writer.new) result) }
@@ -74,7 +77,7 @@ pub fn import_log<S: Source, W: Sink>(
         (written_to W.Sink writer.old writer.new) }
 {
     match read_all(alloc, reader) {
-        Ok(log) => write_import(alloc, start, log.as_slice(), writer, choice),
+        Ok(log) => write_import(alloc, start, log.as_slice(), writer, choice, meter),
         Err(fault) => Err(fault),
     }
 }

@@ -1,14 +1,16 @@
-//! Which threads were made, and by whom: of which process a thread is, and whose address space a process had before it was made.
-ghost use Rattle.std.specs.Prelude.{◌≡◌, ◌-◌, ◌<◌, ◌≤◌, IfOk, OnOk, Some, length, map, option_map};
+//! Which threads were made, and by whom: of which process a thread is, and whose address space a process has.
+ghost use Rattle.std.specs.Prelude.{◌≡◌, ◌&&◌, ◌||◌, ◌++◌, ◌∷◌, [], ℕ, IfOk, None, OnOk, length, map, nat_eq, nat_lt};
+ghost use Rattle.std.specs.HashMap.{get};
 ghost use Rattle.import_forms.specs.Speech.{spoken};
-ghost use Rattle.import_text.specs.Joining.{acting_text};
-ghost use Rattle.import_text.specs.Made.{adopted, all_makings, began_at, chain_of, fork_of, holder, last_place, maker_of, makings, making_of, own_from, process_of, said_at, space_by, start_from, starts, starts_at, with_making};
-ghost use Rattle.import_forms.specs.Said.{said_of};
+ghost use Rattle.import_text.specs.Made.{adopted, all_makings, first_start, fork_of, maker_of, making_by, makings, own_from, past_of, process_of, space_of};
+ghost use Rattle.import_text.specs.Made.{space_within, with_making, with_makings};
 
-use crate::joining::put_call;
-use import_forms::said::{Said, read_call};
-use import_forms::speech::{Speech, returned};
+use crate::meter::Meter;
+use crate::told::{Telling, hear_all};
+use import_forms::speech::Speech;
 use std::alloc::{AllocError, Global};
+use std::collections::HashMap;
+use std::marker::Model;
 
 /// One thread that another made.
 #[derive(Clone, Copy, Debug, PartialEq, Eq)]
@@ -26,216 +28,145 @@ pub struct Making {
     pub at: usize,
 }
 
-/// A process, and the first line at which it has an address space of its own.
-#[derive(Clone, Copy, Debug, PartialEq, Eq)]
-pub struct Hold {
-    /// The number of its first thread.
-    pub process: u64,
-    /// The line, counted from 0.
-    pub from: usize,
+/// The threads that others made, each once, and found by their numbers.
+#[derive(Debug, Drop)]
+pub struct Made {
+    list: Vec<Making>,
+    index: HashMap<u64, Making>,
 }
 
-// The place of the thread's last line before this one; this one where there is none.
-fn last_place<'a>(speeches: &[Speech<'a>], place: usize, thread: u64) -> usize
-    requires { place ≤ length speeches.now }
-    ensures within { result ≤ place }
-    ensures value { result ≡ last_place thread (map spoken speeches.now) place place }
+impl Model for Made {
+    ghost use Rattle.std.specs.Prelude.{◌≡◌, ℕ, List, nat_eq};
+    ghost use Rattle.std.specs.HashMap.{get};
+    ghost use Rattle.import_text.specs.Made.{maker_of};
+    ghost use Rattle.import_text.specs.declared.made.Making.{Making};
+
+    ghost Value = { List Making };
+
+    ghost view = { λ s. s.list.items };
+
+    ghost invariant = { λ s. (q : ℕ) → get nat_eq s.index q ≡ maker_of s.list.items q };
+}
+
+// No thread yet.
+fn no_makings(alloc: Global) -> Made
+    ensures { result ≡ [] }
 {
-    let mut at = place;
-    'earlier: while at > 0 {
-        at -= 1;
-        if speeches[at].thread == thread {
-            return at;
+    Made {
+        list: Vec::new(alloc),
+        index: HashMap::new(alloc),
+    }
+}
+
+// Who made this thread, where the list says so.
+fn maker_of(made: &Made, thread: u64) -> Option<Making>
+    ensures { result ≡ maker_of made.now thread }
+{
+    match made.index.get(&thread) {
+        Some(making) => Some(*making),
+        None => None,
+    }
+}
+
+// Adds a thread, of which the list doesn't say yet who made it.
+fn push_making(made: &mut Made, making: Making) -> Result<(), AllocError>
+    requires { maker_of made.old making.child ≡ None }
+    ensures { OnOk result (made.new ≡ made.old ++ making ∷ []) }
+{
+    made.list.push(making)?;
+    match made.index.insert(making.child, making) {
+        Ok(_) => Ok(()),
+        Err(_) => {
+            let _ = made.list.pop();
+            Err(AllocError)
         }
-    }
-    place
-}
-
-// The line in which the call began that acts at this one.
-fn began_at<'a>(speeches: &[Speech<'a>], place: usize) -> usize
-    requires { place < length speeches.now }
-    ensures within { result ≤ place }
-    ensures value { result ≡ began_at (map spoken speeches.now) place }
-{
-    let speech = speeches[place];
-    match returned(speech.text) {
-        Some(_) => last_place(speeches, place, speech.thread),
-        None => place,
-    }
-}
-
-// Tells whether a program begins.
-fn starts(said: Said) -> bool
-    ensures { result ≡ starts (Some said) }
-{
-    match said {
-        Said::Begins => true,
-        Said::Asks(_)
-        | Said::Breaks(_)
-        | Said::Moves { .. }
-        | Said::Makes { .. }
-        | Said::Keyed(_)
-        | Said::Sizes { .. }
-        | Said::Attaches { .. }
-        | Said::Detaches(_)
-        | Said::Loses(_)
-        | Said::Fails
-        | Said::Unread
-        | Said::Other => false,
-    }
-}
-
-// Tells whether the call that acts at this line, if one does, begins a program.
-fn line_starts<'a>(
-    speeches: &[Speech<'a>],
-    place: usize,
-    text: &mut Vec<u8>,
-) -> Result<bool, AllocError>
-    requires { place < length speeches.now }
-    ensures { IfOk result (λ b. b ≡ starts (said_at (map spoken speeches.now) place)) }
-{
-    if put_call(speeches, place, text)? {
-        Ok(starts(read_call(text.as_slice())))
-    } else {
-        Ok(false)
-    }
-}
-
-// Tells whether the line is the thread's, and a program begins there.
-fn starts_at<'a>(
-    speeches: &[Speech<'a>],
-    thread: u64,
-    place: usize,
-    text: &mut Vec<u8>,
-) -> Result<bool, AllocError>
-    requires { place < length speeches.now }
-    ensures { IfOk result (λ b. b ≡ starts_at (map spoken speeches.now) thread place) }
-{
-    if speeches[place].thread == thread {
-        line_starts(speeches, place, text)
-    } else {
-        Ok(false)
-    }
-}
-
-// The first line from this one on at which the thread begins a program, and the number of all lines where there is none.
-#[tactic(auto, using(crate::proofs::MadeLemmas::start_more, crate::proofs::MadeLemmas::start_here, crate::proofs::MadeLemmas::start_end))]
-fn start_from<'a>(
-    speeches: &[Speech<'a>],
-    thread: u64,
-    from: usize,
-    text: &mut Vec<u8>,
-) -> Result<usize, AllocError>
-    requires { from ≤ length speeches.now }
-    ensures { IfOk result (λ k. k ≡ start_from (map spoken speeches.now) thread from (length (map spoken speeches.now) - from)) }
-{
-    let mut at = from;
-    'lines: while at < speeches.len() {
-        if starts_at(speeches, thread, at, text)? {
-            return Ok(at);
-        }
-        at += 1;
-    }
-    Ok(at)
-}
-
-// The line from which on a process has an address space of its own whose making began at this line.
-fn own_from<'a>(
-    speeches: &[Speech<'a>],
-    thread: u64,
-    joins: bool,
-    from: usize,
-    text: &mut Vec<u8>,
-) -> Result<usize, AllocError>
-    requires { from ≤ length speeches.now }
-    ensures { IfOk result (λ k. k ≡ own_from (map spoken speeches.now) thread joins from) }
-{
-    if joins {
-        start_from(speeches, thread, from, text)
-    } else {
-        Ok(from)
-    }
-}
-
-// The thread that this line says was made.
-fn making_of<'a>(
-    speeches: &[Speech<'a>],
-    place: usize,
-    said: Said,
-    text: &mut Vec<u8>,
-) -> Result<Option<Making>, AllocError>
-    requires { place < length speeches.now }
-    ensures { IfOk result (λ m. m ≡ making_of (map spoken speeches.now) place (Some said)) }
-{
-    match said {
-        Said::Makes {
-            thread,
-            shares,
-            joins,
-        } => {
-            let began = began_at(speeches, place);
-            let at = own_from(speeches, thread, joins, began, text)?;
-            Ok(Some(Making {
-                child: thread,
-                parent: speeches[place].thread,
-                shares,
-                joins,
-                at,
-            }))
-        }
-        Said::Asks(_)
-        | Said::Breaks(_)
-        | Said::Moves { .. }
-        | Said::Begins
-        | Said::Keyed(_)
-        | Said::Sizes { .. }
-        | Said::Attaches { .. }
-        | Said::Detaches(_)
-        | Said::Loses(_)
-        | Said::Fails
-        | Said::Unread
-        | Said::Other => Ok(None),
     }
 }
 
 // Adds a thread, if the list doesn't say yet who made it.
-fn add_making(made: &mut Vec<Making>, making: Making) -> Result<(), AllocError>
-    ensures { OnOk result (made.new.items ≡ with_making made.old.items (Some making)) }
+fn add_making(made: &mut Made, making: Making) -> Result<(), AllocError>
+    ensures { OnOk result (made.new ≡ with_making made.old making) }
 {
-    match maker_of(made.as_slice(), making.child) {
+    match maker_of(made, making.child) {
         Some(_) => Ok(()),
         None => {
-            made.push(making)?;
+            push_making(made, making)?;
             Ok(())
         }
     }
 }
 
+// The line from which on the child has an address space of its own, as it is known where each thread begins its first program.
+fn own_from<'a>(starts: &HashMap<u64, usize>, speeches: &[Speech<'a>], telling: Telling) -> usize
+    requires { (t : ℕ) → get nat_eq starts.now t ≡ first_start (map spoken speeches.now) (length speeches.now) t }
+    ensures { result ≡ own_from (map spoken speeches.now) telling }
+{
+    if !telling.joins {
+        return telling.began;
+    }
+    match starts.get(&telling.child) {
+        Some(at) => *at,
+        None => speeches.len(),
+    }
+}
+
+// The same with the line from which on it has an address space of its own.
+fn making_by<'a>(starts: &HashMap<u64, usize>, speeches: &[Speech<'a>], telling: Telling) -> Making
+    requires { (t : ℕ) → get nat_eq starts.now t ≡ first_start (map spoken speeches.now) (length speeches.now) t }
+    ensures { result ≡ making_by (map spoken speeches.now) telling }
+{
+    let at = own_from(starts, speeches, telling);
+    Making {
+        child: telling.child,
+        parent: telling.parent,
+        shares: telling.shares,
+        joins: telling.joins,
+        at,
+    }
+}
+
+// Adds these threads, each if the list doesn't say yet who made it.
+fn add_makings<'a>(
+    made: &mut Made,
+    speeches: &[Speech<'a>],
+    starts: &HashMap<u64, usize>,
+    tellings: &[Telling],
+) -> Result<(), AllocError>
+    requires { (t : ℕ) → get nat_eq starts.now t ≡ first_start (map spoken speeches.now) (length speeches.now) t }
+    ensures { OnOk result (made.new ≡ with_makings (map spoken speeches.now) made.old tellings.now) }
+{
+    let mut at = 0;
+    'tellings: while at < tellings.len() {
+        let making = making_by(starts, speeches, tellings[at]);
+        add_making(made, making)?;
+        at += 1;
+    }
+    Ok(())
+}
+
 // All threads that the lines say were made, each once, in the order of the first lines that say so.
-fn read_makings<'a>(
+fn read_makings<'a, M: Meter>(
     alloc: Global,
     speeches: &[Speech<'a>],
     text: &mut Vec<u8>,
-) -> Result<Vec<Making>, AllocError>
-    ensures { IfOk result (λ made. made.items ≡ makings (map spoken speeches.now) (length speeches.now)) }
+    meter: &mut M,
+) -> Result<Made, AllocError>
+    ensures { IfOk result (λ made. made ≡ makings (map spoken speeches.now)) }
 {
-    let mut made: Vec<Making> = Vec::new(alloc);
-    let mut at = 0;
-    'lines: while at < speeches.len() {
-        if put_call(speeches, at, text)? {
-            let said = read_call(text.as_slice());
-            if let Some(making) = making_of(speeches, at, said, text)? {
-                add_making(&mut made, making)?;
-            }
-        }
-        at += 1;
-    }
+    let heard = hear_all(alloc, speeches, text, meter)?;
+    let mut made = no_makings(alloc);
+    add_makings(
+        &mut made,
+        speeches,
+        &heard.starts,
+        heard.tellings.as_slice(),
+    )?;
     Ok(made)
 }
 
 // Adds each thread of which no line says who made it as one of process 0.
-fn adopt<'a>(made: &mut Vec<Making>, speeches: &[Speech<'a>]) -> Result<(), AllocError>
-    ensures { OnOk result (made.new.items ≡ adopted (map spoken speeches.now) made.old.items (length speeches.now)) }
+fn adopt<'a>(made: &mut Made, speeches: &[Speech<'a>]) -> Result<(), AllocError>
+    ensures { OnOk result (made.new ≡ adopted (map spoken speeches.now) made.old (length speeches.now)) }
 {
     let mut at = 0;
     'lines: while at < speeches.len() {
@@ -254,43 +185,29 @@ fn adopt<'a>(made: &mut Vec<Making>, speeches: &[Speech<'a>]) -> Result<(), Allo
 }
 
 /// Who made which thread, as the lines say. Where all threads of which none says so are of one process, that is process 0.
-pub(crate) fn all_makings<'a>(
+pub(crate) fn all_makings<'a, M: Meter>(
     alloc: Global,
     speeches: &[Speech<'a>],
     joined: bool,
     text: &mut Vec<u8>,
-) -> Result<Vec<Making>, AllocError>
-    ensures { IfOk result (λ made. made.items ≡ all_makings joined (map spoken speeches.now)) }
+    meter: &mut M,
+) -> Result<Made, AllocError>
+    ensures { IfOk result (λ made. made ≡ all_makings joined (map spoken speeches.now)) }
 {
-    let mut made = read_makings(alloc, speeches, text)?;
+    let mut made = read_makings(alloc, speeches, text, meter)?;
     if joined {
         adopt(&mut made, speeches)?;
     }
     Ok(made)
 }
 
-// Who made this thread, where the list says so.
-fn maker_of(made: &[Making], thread: u64) -> Option<Making>
-    ensures { result ≡ maker_of made.now thread }
-{
-    let mut at = 0;
-    'makings: while at < made.len() {
-        let making = made[at];
-        if making.child == thread {
-            return Some(making);
-        }
-        at += 1;
-    }
-    None
-}
-
 /// The process of a thread: the number of its first thread, which is the first of whose maker no line tells, or which was made
 /// with an address space of its own.
-pub(crate) fn process_of(made: &[Making], thread: u64) -> u64
+pub(crate) fn process_of(made: &Made, thread: u64) -> u64
     ensures { result ≡ process_of made.now thread }
 {
     let mut thread = thread;
-    let mut more = made.len();
+    let mut more = made.list.len();
     'makers: while more > 0 {
         more -= 1;
         let Some(making) = maker_of(made, thread) else {
@@ -305,7 +222,7 @@ pub(crate) fn process_of(made: &[Making], thread: u64) -> u64
 }
 
 /// How the first thread of a process was made, where it was made with an address space of its own.
-pub(crate) fn fork_of(made: &[Making], process: u64) -> Option<Making>
+pub(crate) fn fork_of(made: &Made, process: u64) -> Option<Making>
     ensures { result ≡ fork_of (maker_of made.now process) }
 {
     match maker_of(made, process) {
@@ -314,61 +231,50 @@ pub(crate) fn fork_of(made: &[Making], process: u64) -> Option<Making>
     }
 }
 
-/// The process whose address space a process has at this line that was made so: its own, or its maker's.
-pub(crate) fn space_by(made: &[Making], process: u64, line: usize, own: Option<Making>) -> u64
-    ensures { result ≡ space_by made.now process line own }
+// Tells whether a process that was made so has no address space of its own at this line. Whether a child that copies its maker's
+// counts, too, and not only one that shares that.
+fn is_lent(copies: bool, line: usize, making: Making) -> bool
+    ensures { result ≡ (copies || making.joins) && nat_lt line making.at }
 {
-    match own {
-        Some(making) => {
-            if making.joins && line < making.at {
-                process_of(made, making.parent)
-            } else {
-                process
-            }
-        }
-        None => process,
-    }
+    (copies || making.joins) && line < making.at
 }
 
-/// The process, and after it those whose address spaces it had before it was made: its parent's, and before that the parent's
-/// parent's, and so on.
-pub(crate) fn chain_of(
-    alloc: Global,
-    made: &[Making],
-    process: u64,
-) -> Result<Vec<Hold>, AllocError>
-    ensures { IfOk result (λ chain. chain.items ≡ chain_of made.now process) }
+// The process whose address space one has at this line that was made so: its own, or its maker's, and so on.
+#[tactic(auto, using(crate::proofs::MadeLemmas::space_stops, crate::proofs::MadeLemmas::space_goes))]
+fn space_within(copies: bool, made: &Made, line: usize, process: u64, own: Option<Making>) -> u64
+    requires { own ≡ fork_of (maker_of made.now process) }
+    ensures { result ≡ space_within copies made.now line (length made.now) process }
 {
-    let mut chain: Vec<Hold> = Vec::new(alloc);
     let mut process = process;
-    let mut more = made.len();
-    'forks: while more > 0 {
+    let mut own = own;
+    let mut more = made.list.len();
+    'makers: while more > 0 {
         more -= 1;
-        let Some(making) = fork_of(made, process) else {
-            chain.push(Hold { process, from: 0 })?;
-            return Ok(chain);
+        let Some(making) = own else {
+            return process;
         };
-        chain.push(Hold {
-            process,
-            from: making.at,
-        })?;
+        let lent = is_lent(copies, line, making);
+        if !lent {
+            return process;
+        }
         process = process_of(made, making.parent);
+        own = fork_of(made, process);
     }
-    chain.push(Hold { process, from: 0 })?;
-    Ok(chain)
+    process
 }
 
-/// The process whose address space is followed at this line.
-pub(crate) fn holder(chain: &[Hold], line: usize) -> u64
-    ensures { result ≡ holder chain.now line }
+/// The process whose address space the calls of this one change at this line: its own, or its maker's while it shares that.
+pub(crate) fn space_of(made: &Made, line: usize, process: u64, own: Option<Making>) -> u64
+    requires { own ≡ fork_of (maker_of made.now process) }
+    ensures { result ≡ space_of made.now line process }
 {
-    let mut at = 0;
-    'holds: while at < chain.len() {
-        let hold = chain[at];
-        if hold.from <= line {
-            return hold.process;
-        }
-        at += 1;
-    }
-    0
+    space_within(false, made, line, process, own)
+}
+
+/// The process whose address space this one has at this line: its own, or before it has one, its maker's.
+pub(crate) fn past_of(made: &Made, line: usize, process: u64, own: Option<Making>) -> u64
+    requires { own ≡ fork_of (maker_of made.now process) }
+    ensures { result ≡ past_of made.now line process }
+{
+    space_within(true, made, line, process, own)
 }

@@ -1,14 +1,18 @@
 //! The processes of a log, and how much each asks of its address space.
-ghost use Rattle.std.specs.Prelude.{◌≡◌, ◌<◌, ◌≤◌, IfOk, OnOk, Some, length, map, slice_get};
+ghost use Rattle.std.specs.Prelude.{◌≡◌, ◌<◌, ◌++◌, ◌∷◌, [], ℕ, IfOk, OnOk, Some, length, map, nat_eq, slice_get};
+ghost use Rattle.std.specs.HashMap.{get};
 ghost use Rattle.import_forms.specs.Speech.{spoken};
-ghost use Rattle.import_text.specs.Made.{fork_of, maker_of, process_of, said_at, space_at};
-ghost use Rattle.import_text.specs.Processes.{asks, best_of, busiest, chosen, is_there, place_in, process_at, processes, with_request, with_line};
+ghost use Rattle.import_text.specs.Made.{fork_of, maker_of, process_of, said_at, space_of};
+ghost use Rattle.import_text.specs.Processes.{asks, best_of, busiest, chosen, is_there, place_of, process_at, processes, with_request, with_line};
 
-use crate::joining::put_call;
-use crate::made::{Making, fork_of, process_of, space_by};
-use import_forms::said::{Said, read_call};
+use crate::made::{Made, Making, fork_of, process_of, space_of};
+use crate::meter::{Meter, tell_of};
+use crate::told::said_at;
+use import_forms::said::Said;
 use import_forms::speech::Speech;
 use std::alloc::{AllocError, Global};
+use std::collections::HashMap;
+use std::marker::Model;
 
 /// A process of a log.
 #[derive(Clone, Copy, Debug, PartialEq, Eq)]
@@ -38,7 +42,7 @@ pub(crate) struct Known {
 }
 
 /// Looks of which process the thread is.
-pub(crate) fn look(made: &[Making], thread: u64) -> Known
+pub(crate) fn look(made: &Made, thread: u64) -> Known
     ensures thread { result.thread ≡ thread }
     ensures known { result.process ≡ process_of made.now thread }
     ensures own { result.own ≡ fork_of (maker_of made.now (process_of made.now thread)) }
@@ -52,7 +56,7 @@ pub(crate) fn look(made: &[Making], thread: u64) -> Known
 }
 
 /// Of which process the thread is, as it is known of one thread: the next line is often of the same.
-pub(crate) fn recall(made: &[Making], known: Known, thread: u64) -> Known
+pub(crate) fn recall(made: &Made, known: Known, thread: u64) -> Known
     requires known { known.process ≡ process_of made.now known.thread }
     requires own { known.own ≡ fork_of (maker_of made.now (process_of made.now known.thread)) }
     ensures thread { result.thread ≡ thread }
@@ -67,12 +71,12 @@ pub(crate) fn recall(made: &[Making], known: Known, thread: u64) -> Known
 }
 
 /// The process whose address space the thread has at this line.
-pub(crate) fn space_at(made: &[Making], known: Known, line: usize) -> u64
+pub(crate) fn space_at(made: &Made, known: Known, line: usize) -> u64
     requires known { known.process ≡ process_of made.now known.thread }
     requires own { known.own ≡ fork_of (maker_of made.now (process_of made.now known.thread)) }
-    ensures { result ≡ space_at made.now known.thread line }
+    ensures { result ≡ space_of made.now line (process_of made.now known.thread) }
 {
-    space_by(made, known.process, line, known.own)
+    space_of(made, line, known.process, known.own)
 }
 
 // Tells whether this asks for something of the address space.
@@ -105,23 +109,10 @@ fn line_asks<'a>(
     requires { place < length speeches.now }
     ensures { IfOk result (λ b. b ≡ asks (said_at (map spoken speeches.now) place)) }
 {
-    if put_call(speeches, place, text)? {
-        Ok(asks(read_call(text.as_slice())))
-    } else {
-        Ok(false)
+    match said_at(speeches, place, text)? {
+        Some(said) => Ok(asks(said)),
+        None => Ok(false),
     }
-}
-
-// Where the process stands, or would stand after all.
-fn place_in(processes: &[Process], number: u64) -> usize
-    ensures value { result ≡ place_in number processes.now }
-    ensures within { result ≤ length processes.now }
-{
-    let mut at = 0;
-    'processes: while at < processes.len() && processes[at].number != number {
-        at += 1;
-    }
-    at
 }
 
 // With one request more, if the line makes one.
@@ -138,45 +129,111 @@ fn with_request(process: Process, asks: bool) -> Process
     }
 }
 
-// Counts a line of this process.
-fn count_line(processes: &mut Vec<Process>, number: u64, asks: bool) -> Result<(), AllocError>
-    ensures { OnOk result (processes.new.items ≡ with_line processes.old.items number asks) }
+// The processes that were counted so far, and where each stands.
+#[derive(Drop)]
+struct Counted {
+    all: Vec<Process>,
+    places: HashMap<u64, usize>,
+}
+
+impl Model for Counted {
+    ghost use Rattle.std.specs.Prelude.{◌≡◌, ℕ, List, nat_eq};
+    ghost use Rattle.std.specs.HashMap.{get};
+    ghost use Rattle.import_text.specs.Processes.{place_of};
+    ghost use Rattle.import_text.specs.declared.processes.Process.{Process};
+
+    ghost Value = { List Process };
+
+    ghost view = { λ s. s.all.items };
+
+    ghost invariant = { λ s. (q : ℕ) → get nat_eq s.places q ≡ place_of q s.all.items };
+}
+
+// Where the process stands.
+fn place_of(counted: &Counted, number: u64) -> Option<usize>
+    ensures { result ≡ place_of number counted.now }
 {
-    let place = place_in(processes.as_slice(), number);
-    if place == processes.len() {
-        processes.push(with_request(
-            Process {
-                number,
-                requests: 0,
-            },
-            asks,
-        ))?;
-        return Ok(());
+    match counted.places.get(&number) {
+        Some(place) => Some(*place),
+        None => None,
     }
-    let process = processes[place];
-    processes[place] = with_request(process, asks);
-    Ok(())
+}
+
+// Adds a process that isn't there yet.
+fn push_process(counted: &mut Counted, process: Process) -> Result<(), AllocError>
+    requires { place_of process.number counted.old ≡ None }
+    ensures { OnOk result (counted.new ≡ counted.old ++ process ∷ []) }
+{
+    let place = counted.all.as_slice().len();
+    counted.all.push(process)?;
+    match counted.places.insert(process.number, place) {
+        Ok(_) => Ok(()),
+        Err(_) => {
+            let _ = counted.all.pop();
+            Err(AllocError)
+        }
+    }
+}
+
+// Counts a line of the process that stands here.
+#[tactic(auto, using(crate::proofs::ProcessLemmas::place_low))]
+fn count_at(counted: &mut Counted, number: u64, place: usize, asks: bool)
+    requires { place_of number counted.old ≡ Some place }
+    ensures { counted.new ≡ with_line counted.old number asks }
+{
+    let count = counted.all.as_slice().len();
+    prove!(place < count);
+    let process = counted.all[place];
+    counted.all[place] = with_request(process, asks);
+}
+
+// Counts a line of this process.
+fn count_line(counted: &mut Counted, number: u64, asks: bool) -> Result<(), AllocError>
+    ensures { OnOk result (counted.new ≡ with_line counted.old number asks) }
+{
+    match place_of(counted, number) {
+        Some(place) => {
+            count_at(counted, number, place, asks);
+            Ok(())
+        }
+        None => {
+            let process = with_request(
+                Process {
+                    number,
+                    requests: 0,
+                },
+                asks,
+            );
+            push_process(counted, process)?;
+            Ok(())
+        }
+    }
 }
 
 /// The processes of the lines, in the order of their first lines.
-pub(crate) fn read_processes<'a>(
+pub(crate) fn read_processes<'a, M: Meter>(
     alloc: Global,
     speeches: &[Speech<'a>],
-    made: &[Making],
+    made: &Made,
     text: &mut Vec<u8>,
+    meter: &mut M,
 ) -> Result<Vec<Process>, AllocError>
     ensures { IfOk result (λ all. all.items ≡ processes (map spoken speeches.now) made.now (length speeches.now)) }
 {
-    let mut all: Vec<Process> = Vec::new(alloc);
+    let mut counted = Counted {
+        all: Vec::new(alloc),
+        places: HashMap::new(alloc),
+    };
     let mut known = look(made, 0);
     let mut at = 0;
     'lines: while at < speeches.len() {
+        tell_of(meter, 2, at, speeches.len());
         known = recall(made, known, speeches[at].thread);
         let asks = line_asks(speeches, at, text)?;
-        count_line(&mut all, known.process, asks)?;
+        count_line(&mut counted, known.process, asks)?;
         at += 1;
     }
-    Ok(all)
+    Ok(counted.all)
 }
 
 // The first process, one without requests where there is none.
@@ -209,7 +266,7 @@ fn busiest(processes: &[Process]) -> u64
 }
 
 /// The process that is chosen: that of the thread that was named, else the one with the most requests.
-pub(crate) fn chosen(choice: Choice, made: &[Making], processes: &[Process]) -> u64
+pub(crate) fn chosen(choice: Choice, made: &Made, processes: &[Process]) -> u64
     ensures { result ≡ chosen choice.thread made.now processes.now }
 {
     match choice.thread {

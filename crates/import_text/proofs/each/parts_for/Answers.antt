@@ -8,7 +8,7 @@ use Rattle.import_text.proofs.EachLemmas.{all_push, told_more}
 use Rattle.import_text.proofs.each.parts_for.Goals as goal
 
 pub processes-preserved : goal.processes-preserved
-processes-preserved c =
+processes-preserved g c =
     let all = map spoken c.args.speeches.now in
     record {
       within = omega (arith, c.processes-test.true);

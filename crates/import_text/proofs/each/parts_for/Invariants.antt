@@ -7,11 +7,11 @@ use Rattle.import_text.specs.Taking.{so_far}
 use Rattle.import_text.proofs.each.parts_for.Given as goal
 
 abbrev pub invariant-processes : goal.invariant-processes
-invariant-processes l = record {
+invariant-processes g l = record {
   within : l.at ≤ length l.processes;
   value : map parted l.parts.items ≡ map (part_all (so_far l.start) (map spoken l.speeches)) (take l.at l.processes);
   few : All (λ p. total p.counts < 2 ^ 64) l.parts.items;
 }
 
 abbrev pub decreases-processes : goal.decreases-processes
-decreases-processes l = length l.processes - l.at
+decreases-processes g l = length l.processes - l.at

@@ -1,25 +1,26 @@
 use Rattle.std.proofs.Common.{arith, map, ap, sym, ◌∙◌, eqb}
 use Rattle.import_forms.specs.Speech.{spoken}
 use Rattle.import_text.specs.Imported.{is_ours, taken_if}
-use Rattle.import_text.specs.Made.{fork_of, holder, maker_of, process_of}
+use Rattle.import_text.specs.Made.{fork_of, maker_of, past_of, process_of}
 use Rattle.import_text.specs.Taking.{so_far}
 use Rattle.import_text.proofs.JoinLemmas.{map-get}
 use Rattle.import_text.proofs.TakingLemmas.{taken_more}
 use Rattle.import_text.proofs.import.take_lines.Goals as goal
 
 pub lines-preserved : goal.lines-preserved
-lines-preserved c =
+lines-preserved g c =
     let all = map spoken c.args.speeches.now in
     let here = map-get spoken c.args.speeches.now c.lines.at _ c.lines-test.true in
-    let ours = ap (λ h. eqb c.space_at.result h) c.holder.ensures
-    ∙ ap (λ p. eqb p (holder c.args.chain.now c.lines.at)) c.space_at.ensures
-    ∙ ap (λ t. is_ours c.args.made.now c.args.chain.now t c.lines.at) c.recall-known.ensures.thread
-    ∙ ap (λ s. is_ours c.args.made.now c.args.chain.now s.0 c.lines.at) (sym here) in
+    let ours = ap (λ h. eqb c.space_at.result h) c.past_of.ensures
+    ∙ ap (λ p. eqb p (past_of c.args.made.now c.lines.at c.args.process)) c.space_at.ensures
+    ∙ ap (λ t. is_ours c.args.made.now c.args.process t c.lines.at) c.recall-known.ensures.thread
+    ∙ ap (λ s. is_ours c.args.made.now c.args.process s.0 c.lines.at) (sym here) in
     record {
       within = omega (arith, c.lines-test.true);
-      value = taken_more (so_far c.args.start.now) all c.args.made.now c.args.chain.now c.lines.at _ _ _ _ _ c.lines.invariant.value
+      value = taken_more (so_far c.args.start.now) all c.args.made.now c.args.process c.lines.at _ _ _ _ _ c.lines.invariant.value
           (c.in_ok-fate.ensures ∙ ap (λ b. taken_if b (so_far c.args.start.now) (so_far c.lines.taken) all c.lines.at) ours) c.and-counts.ensures.value;
       known = c.recall-known.ensures.known ∙ ap (process_of c.args.made.now) (sym c.recall-known.ensures.thread);
       own = c.recall-known.ensures.own ∙ ap (λ t. fork_of (maker_of c.args.made.now (process_of c.args.made.now t))) (sym c.recall-known.ensures.thread);
+      first = c.lines.invariant.first;
       total = omega (arith, c.and-counts.ensures.total, c.lines.invariant.total);
     }

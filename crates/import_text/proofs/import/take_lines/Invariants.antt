@@ -7,13 +7,14 @@ use Rattle.import_text.specs.Taking.{so_far}
 use Rattle.import_text.proofs.import.take_lines.Given as goal
 
 abbrev pub invariant-lines : goal.invariant-lines
-invariant-lines l = record {
+invariant-lines g l = record {
   within : l.at ≤ length l.speeches;
-  value : (so_far l.taken, l.counts) ≡ imported (so_far l.start) (map spoken l.speeches) l.made l.chain l.at;
+  value : (so_far l.taken, l.counts) ≡ imported (so_far l.start) (map spoken l.speeches) l.made l.process l.at;
   known : l.known.process ≡ process_of l.made l.known.thread;
   own : l.known.own ≡ fork_of (maker_of l.made (process_of l.made l.known.thread));
+  first : l.own ≡ fork_of (maker_of l.made l.process);
   total : total l.counts ≡ l.at;
 }
 
 abbrev pub decreases-lines : goal.decreases-lines
-decreases-lines l = length l.speeches - l.at
+decreases-lines g l = length l.speeches - l.at

@@ -6,7 +6,7 @@ use Rattle.import_text.proofs.made.adopt.Given as goal
 abbrev pub invariant-lines : goal.invariant-lines
 invariant-lines l = record {
   within : l.at ≤ length l.speeches;
-  made : l.made.items ≡ adopted (map spoken l.speeches) l.initial.made.items l.at;
+  made : l.made ≡ adopted (map spoken l.speeches) l.initial.made l.at;
 }
 
 abbrev pub decreases-lines : goal.decreases-lines

@@ -6,7 +6,7 @@ use Rattle.import_text.proofs.ProcessLemmas.{counted_more}
 use Rattle.import_text.proofs.processes.read_processes.Goals as goal
 
 pub lines-preserved : goal.lines-preserved
-lines-preserved c =
+lines-preserved g c =
     let all = map spoken c.args.speeches.now in
     let here = map-get spoken c.args.speeches.now c.lines.at _ c.lines-test.true in
     record {

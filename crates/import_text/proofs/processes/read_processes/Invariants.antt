@@ -5,12 +5,12 @@ use Rattle.import_text.specs.Processes.{processes}
 use Rattle.import_text.proofs.processes.read_processes.Given as goal
 
 abbrev pub invariant-lines : goal.invariant-lines
-invariant-lines l = record {
+invariant-lines g l = record {
   within : l.at ≤ length l.speeches;
-  all : l.all.items ≡ processes (map spoken l.speeches) l.made l.at;
+  all : l.counted ≡ processes (map spoken l.speeches) l.made l.at;
   known : l.known.process ≡ process_of l.made l.known.thread;
   own : l.known.own ≡ fork_of (maker_of l.made (process_of l.made l.known.thread));
 }
 
 abbrev pub decreases-lines : goal.decreases-lines
-decreases-lines l = length l.speeches - l.at
+decreases-lines g l = length l.speeches - l.at
