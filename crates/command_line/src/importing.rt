@@ -351,7 +351,7 @@ pub fn import<L: Source, S: Source, W: Sink, E: Write>(
         (read_from S.Source reader.old reader.new) (written_to W.Sink out.old out.new) result.status }
     ensures within { result.status ≤ 3 }
 {
-    match import_mapped(alloc, list, reader, out, choice) {
+    match import_mapped(alloc, list, reader, out, choice, &mut Unmetered) {
         Ok(told) => {
             tell_entries(&told.entries, errors);
             tell_report(&told.report, choice, errors);

@@ -11,7 +11,7 @@ use crate::entries::Entries;
 use crate::starting::{Start, read_list};
 use import_text::import::Report;
 use import_text::log::import_log;
-use import_text::meter::Unmetered;
+use import_text::meter::Meter;
 use import_text::processes::Choice;
 use std::alloc::Global;
 use trace_io::IoFault;
@@ -28,12 +28,13 @@ pub struct Told {
 }
 
 // Writes the trace of what a list said and of the log.
-fn import_after<S: Source, W: Sink>(
+fn import_after<S: Source, W: Sink, M: Meter>(
     alloc: Global,
     start: &Start,
     log: &mut S,
     writer: &mut W,
     choice: Choice,
+    meter: &mut M,
 ) -> Result<Told, IoFault>
     ensures ends { Reads (S.stream log.old) (S.stream log.new) (λ input unread.
         StartedEnds (so_far start.now.taken, start.now.entries) (entries_total start.now.entries) choice input
@@ -43,7 +44,7 @@ fn import_after<S: Source, W: Sink>(
     ensures told { TellsSent (λ f. f) result (read_from S.Source log.old log.new)
         (written_to W.Sink writer.old writer.new) }
 {
-    match import_log(alloc, &start.taken, log, writer, choice, &mut Unmetered) {
+    match import_log(alloc, &start.taken, log, writer, choice, meter) {
         Ok(report) => Ok(Told {
             entries: start.entries,
             report,
@@ -53,12 +54,13 @@ fn import_after<S: Source, W: Sink>(
 }
 
 // Writes the trace of what the list says and of the log.
-fn import_behind<S: Source, W: Sink>(
+fn import_behind<S: Source, W: Sink, M: Meter>(
     alloc: Global,
     list: &[u8],
     log: &mut S,
     writer: &mut W,
     choice: Choice,
+    meter: &mut M,
 ) -> Result<Told, IoFault>
     ensures ends { Reads (S.stream log.old) (S.stream log.new) (λ input unread.
         MapsEnds list.now choice input (W.contents writer.old) (W.contents writer.new) result) }
@@ -68,7 +70,7 @@ fn import_behind<S: Source, W: Sink>(
         (written_to W.Sink writer.old writer.new) }
 {
     match read_list(alloc, list) {
-        Ok(start) => import_after(alloc, &start, log, writer, choice),
+        Ok(start) => import_after(alloc, &start, log, writer, choice, meter),
         Err(_) => Err(IoFault::NoMemory),
     }
 }
@@ -76,12 +78,13 @@ fn import_behind<S: Source, W: Sink>(
 /// Reads a list of mappings and then a log of strace, both to their ends, and writes their trace: what the list says, and what
 /// the chosen process asked of its address space. Answers what is said about both. Nothing is written before all is read and found
 /// its memory; and nothing at all where no request would be in the trace, or no line is about the thread that was named.
-pub fn import_mapped<L: Source, S: Source, W: Sink>(
+pub fn import_mapped<L: Source, S: Source, W: Sink, M: Meter>(
     alloc: Global,
     list: &mut L,
     log: &mut S,
     writer: &mut W,
     choice: Choice,
+    meter: &mut M,
 ) -> Result<Told, IoFault>
     ensures ends { Reads (L.stream list.old) (L.stream list.new) (λ listed left.
         Reads (S.stream log.old) (S.stream log.new) (λ input unread.
@@ -92,7 +95,7 @@ pub fn import_mapped<L: Source, S: Source, W: Sink>(
         (read_from S.Source log.old log.new) (written_to W.Sink writer.old writer.new) }
 {
     match read_all(alloc, list) {
-        Ok(listed) => import_behind(alloc, listed.as_slice(), log, writer, choice),
+        Ok(listed) => import_behind(alloc, listed.as_slice(), log, writer, choice, meter),
         Err(fault) => Err(fault),
     }
 }
