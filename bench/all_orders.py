@@ -2,9 +2,9 @@
 """Compares `radixvm audit --overlapping` with a search of all orders, on short random histories of calls that overlap. Half of them have an order, by a
 simulator that makes them; in the others one reply was changed, so that some have none. The program has to call a history legal where an order exists, and
 must never do so where none does; what it calls legal is judged again by the order that it writes. It may tell that there is none only where that is so.
+Each is judged by pages, too: there each call on a range is replaced by calls of its pages before the search, and half of the histories are made so.
 Usage: bench/all_orders.py [HISTORIES [SEED]], 400 and 0 where left out; RADIXVM_PROGRAM names the program."""
 import collections
-import copy
 import os
 import pathlib
 import random
@@ -12,7 +12,7 @@ import subprocess
 import sys
 import tempfile
 
-from plain_map import PAGE, File, Map, arguments
+from plain_map import PAGE, File, Map, Page, arguments
 
 TOP = pathlib.Path(__file__).resolve().parent.parent
 PROGRAM = os.environ.get("RADIXVM_PROGRAM", str(TOP / "crates/radixvm/out/run/radixvm"))
@@ -20,7 +20,42 @@ BASE, PAGES, FILE = 0x10000, 4, PAGE + 100
 LOOKED_AT = (0, 2048)  # offsets in a page
 REPLIES = ["done", "enomem", "einval", "eacces", "segv maperr", "segv accerr", "bus", "noframe", "nomemory"]
 
-Call = collections.namedtuple("Call", "begin end core words reply")
+# a call that isn't sure may as well have changed nothing
+Call = collections.namedtuple("Call", "begin end core words reply sure", defaults=[True])
+
+
+def again(plain):
+    """The same map once more."""
+    after = Map(plain.any_place)
+    for number, page in plain.pages.items():
+        after.pages[number] = Page(page.back, page.prot)
+        after.pages[number].own = None if page.own is None else dict(page.own)
+    for file in plain.files:
+        after.files.append(File(file.mode, file.length, file.seed))
+        after.files[-1].changed = dict(file.changed)
+    return after
+
+
+def of_page(words, at):
+    """The words of a call for one of its pages alone."""
+    first = [words[0], hex(int(words[1], 0) + at * PAGE), str(PAGE), *words[3:]]
+    return [*first[:6], hex(int(first[6], 0) + at * PAGE)] if len(first) == 7 else first
+
+
+def by_pages(calls):
+    """The history by pages: a call for each page of one on a range that was done, or that may have protected some before it was refused."""
+    split = []
+    for call in calls:
+        count = int(call.words[2], 0) // PAGE if call.words[0] in ("mmap", "munmap", "mprotect") else 0
+        is_done = count > 0 and (call.reply == "done" or call.words[0] == "mmap" and call.reply == call.words[1])
+        was_refused = count > 1 and call.words[0] == "mprotect" and call.reply in ("enomem", "eacces")
+        if not is_done:
+            split.append(call)
+        if is_done or was_refused:
+            for at in range(count):
+                words = of_page(call.words, at)
+                split.append(call._replace(words=words, reply=words[1] if words[0] == "mmap" else "done", sure=is_done))
+    return split
 
 
 def copies(plain, words):
@@ -32,7 +67,7 @@ def copies(plain, words):
         return None
     if plain.files[page.back[1]].byte(page.back[2] * PAGE) is None:
         return None
-    after = copy.deepcopy(plain)
+    after = again(plain)
     copied = after.pages[int(words[1], 0) // PAGE]
     copied.own = {offset: after.shown(copied, offset) for offset in LOOKED_AT}
     return after
@@ -56,7 +91,7 @@ def takes_effect(plain, call):
         return plain if call.words[0] in ("load", "store", "fetch") and (due == "done" or due.isdigit()) else None
     if due != call.reply:
         return None
-    after = copy.deepcopy(plain)
+    after = again(plain)
     acts(after, getattr(after, call.words[0])(call.core, call.reply, *named)[1])
     return after
 
@@ -88,6 +123,8 @@ def has_order(start, calls):
                 continue
             if (after := takes_effect(plain, calls[at])) is not None:
                 todo.append((done | {at}, after))
+            if not calls[at].sure:
+                todo.append((done | {at}, plain))
             if (after := copies(plain, calls[at].words)) is not None:
                 todo.append((done, after))
     return False
@@ -117,8 +154,18 @@ def start():
     return plain
 
 
-def history(choose):
-    """Calls of busy threads, each of which takes effect between its begin and its end; a store may copy its page before."""
+def changes_page(choose, plain, core, words, left):
+    """A call on a range changes one more of its pages, of those that are left; its reply once it has one."""
+    page = of_page(words, left.pop(choose.randrange(len(left))))
+    due, change = getattr(plain, words[0])(core, "", *arguments(page[1:]))
+    acts(plain, change)
+    if due == "enomem":
+        return due
+    return None if left else words[1] if words[0] == "mmap" else due
+
+
+def history(choose, is_by_pages):
+    """Calls of busy threads, each of which takes effect between its begin and its end, at one moment or by pages; a store may copy its page before."""
     plain, clock, made, calls = start(), 0, 0, []
     threads, most = choose.randint(2, 4), choose.randint(4, 9)
     under = [None] * threads
@@ -127,12 +174,16 @@ def history(choose):
         clock += 1
         if under[core] is None:
             if made < most:
-                under[core], made = [clock, request(choose), None], made + 1
+                words = request(choose)
+                left = list(range(int(words[2], 0) // PAGE)) if is_by_pages and words[0] in ("mmap", "munmap", "mprotect") else []
+                under[core], made = [clock, words, None, left], made + 1
             continue
-        begin, words, reply = under[core]
+        begin, words, reply, left = under[core]
         if reply is not None:
             calls.append(Call(begin, clock, core, words, reply))
             under[core] = None
+        elif left:
+            under[core][2] = changes_page(choose, plain, core, words, left)
         elif choose.random() < 0.3:
             plain = copies(plain, words) or plain
         else:
@@ -152,44 +203,64 @@ def changed(choose, calls):
     return [*calls[:at], calls[at]._replace(reply=choose.choice([it for it in others if it != calls[at].reply])), *calls[at + 1 :]]
 
 
-def judged(calls, folder):
+def judged(calls, folder, flags):
     text = f"vm 4 64\nfile 0 rw {FILE} 195\n" + "".join(f"{it.begin} {it.end} c{it.core}! {' '.join(it.words)} = {it.reply}\n" for it in calls)
     order = f"{folder}/order"
     pathlib.Path(order).unlink(missing_ok=True)
-    told = subprocess.run([PROGRAM, "audit", "--overlapping", "--order", order], input=text, capture_output=True, text=True)
+    told = subprocess.run([PROGRAM, "audit", "--overlapping", *flags, "--order", order], input=text, capture_output=True, text=True)
     if told.returncode == 0:
-        again = subprocess.run([PROGRAM, "audit", "--overlapping", "--given", order], input=text, capture_output=True, text=True)
         alone = subprocess.run([PROGRAM, "audit", order], capture_output=True, text=True)
-        if again.returncode or alone.returncode:
-            sys.exit(f"the order of this history isn't legal: {again.stdout}{alone.stdout}{again.stderr}{alone.stderr}\n{text}")
+        is_legal = alone.returncode == 0
+        if not flags:
+            given = subprocess.run([PROGRAM, "audit", "--overlapping", "--given", order], input=text, capture_output=True, text=True)
+            is_legal &= given.returncode == 0
+        if not is_legal or told.stdout != f"legal {len(calls)}\n":
+            sys.exit(f"the order of this history isn't legal: {told.stdout}{alone.stdout}{alone.stderr}\n{text}")
     if told.returncode not in (0, 1, 3):
         sys.exit(f"{told.stdout}{told.stderr}\n{text}")
     return told.returncode, text
 
 
+class Counts:
+    """How many histories have an order, have none, have one that the program doesn't find, and are told to have none."""
+
+    def __init__(self, flags):
+        self.flags, self.some, self.none, self.undecided, self.shown = flags, 0, 0, 0, 0
+
+    def judge(self, name, calls, has_one, folder):
+        exists, (status, text) = has_order(start(), by_pages(calls) if self.flags else calls), judged(calls, folder, self.flags)
+        if has_one and not exists:
+            sys.exit(f"the search of all orders misses the simulator's own\n{text}")
+        if status == 0 and not exists:
+            sys.exit(f"{name} has no order, and is called legal\n{text}")
+        if status == 1 and exists:
+            sys.exit(f"{name} has an order, and is told to have none\n{text}")
+        self.some, self.none, self.shown = self.some + exists, self.none + (not exists), self.shown + (status == 1)
+        if exists and status:
+            self.undecided += 1
+            print(f"{name} has an order, and isn't called legal\n{text}")
+
+    def tell(self):
+        print(f"{' '.join(self.flags) or 'at one moment'}: {self.some} histories with an order, {self.undecided} of them undecided; {self.none} without, "
+              f"none of them called legal, {self.shown} of them told to have none")
+
+
 def main():
     count, seed = (int(sys.argv[at]) if len(sys.argv) > at else usual for at, usual in ((1, 400), (2, 0)))
-    some = none = undecided = shown = 0
+    whole, pages = Counts([]), Counts(["--by-pages"])
     with tempfile.TemporaryDirectory() as folder:
         for number in range(count):
             choose = random.Random(f"{seed} {number}")
-            calls = history(choose)
+            is_by_pages = number % 4 >= 2
+            calls = history(choose, is_by_pages)
             if number % 2:
                 calls = changed(choose, calls)
-            exists, (status, text) = has_order(start(), calls), judged(calls, folder)
-            is_legal = status == 0
-            if not number % 2 and not exists:
-                sys.exit(f"the search of all orders misses the simulator's own\n{text}")
-            if is_legal and not exists:
-                sys.exit(f"history {number} of seed {seed} has no order, and is called legal\n{text}")
-            if status == 1 and exists:
-                sys.exit(f"history {number} of seed {seed} has an order, and is told to have none\n{text}")
-            some, none, shown = some + exists, none + (not exists), shown + (status == 1)
-            if exists and not is_legal:
-                undecided += 1
-                print(f"history {number} of seed {seed} has an order, and isn't called legal\n{text}")
-    print(f"{some} histories with an order, {undecided} of them undecided; {none} without, none of them called legal, {shown} of them told to have none")
-    sys.exit(undecided != 0)
+            name = f"history {number} of seed {seed}"
+            whole.judge(name, calls, not number % 2 and not is_by_pages, folder)
+            pages.judge(f"{name}, by pages,", calls, not number % 2, folder)
+    whole.tell()
+    pages.tell()
+    sys.exit(whole.undecided + pages.undecided != 0)
 
 
 if __name__ == "__main__":

@@ -3,6 +3,7 @@ use Rattle.std.specs.Prelude.{◌≡◌, ◌⊎◌, ℕ, Bool, List, Option, Res
 use Rattle.std.specs.Io.KnownBytes.{Keeps}
 use Rattle.overlapping.specs.Ends.{JudgementEnds, TellsJudgement}
 use Rattle.overlapping.specs.Replies.{AuditEnds}
+use Rattle.page_orders.specs.Ends.{EndsByPages}
 use Rattle.audit_text.specs.Ends.{TellsAudit}
 use Rattle.audit_text.specs.Reviewed.{ReviewEnds}
 use Rattle.audit_text.specs.declared.allowing.Terms.{Terms}
@@ -113,6 +114,11 @@ JudgesCalls A any_place text out n =
 abbrev pub JudgesOrGivesUp : Type 0 → Bool → ReadFrom → WrittenTo → ℕ → Type 0
 JudgesOrGivesUp A any_place text out n = JudgesCalls A any_place text out n ⊎ ((n ≡ 3) × Keeps out.before out.after)
 
+-- the judgement of calls that overlap, where each page of a range changes at a moment of its own
+abbrev pub JudgesByPages : Type 0 → Bool → ReadFrom → WrittenTo → ℕ → Type 0
+JudgesByPages A any_place text out n =
+    EndsInOneWay judgement_status (λ input unread. EndsByPages {A = A} any_place input) TellsJudgement text out n
+
 -- a picture of a trace, of its steps or of lives
 abbrev pub PicturesTrace : Drawing → ReadFrom → WrittenTo → ℕ → Type 0
 PicturesTrace drawing text out n = EndsInOneWay picture_status (λ input unread. PictureEnds drawing input) TellsFaults text out n
@@ -133,6 +139,7 @@ DoesWork A parts CanFold Folds For.ImportAccesses list text out n = ImportsAcces
 DoesWork A parts CanFold Folds (For.Audit terms) list text out n = AuditsReplies terms text out n
 DoesWork A parts CanFold Folds (For.AuditAll terms) list text out n = ReviewsReplies terms text out n
 DoesWork A parts CanFold Folds (For.Overlapping overlaps) list text out n = JudgesOrGivesUp A overlaps.any_place text out n
+DoesWork A parts CanFold Folds (For.ByPages overlaps) list text out n = JudgesByPages A overlaps.any_place text out n
 DoesWork A parts CanFold Folds (For.Picture drawing) list text out n = PicturesTrace drawing text out n
 DoesWork A parts CanFold Folds (For.Litmus test) list text out n = TellsTest test list text out n
 DoesWork A parts CanFold Folds (For.PictureWitness asked) list text out n = PicturesWitness asked text out n

@@ -111,7 +111,7 @@ pub fn audit_each<S: Source, W: Sink, E: Write>(
 }
 
 // Prints why a text is that of no history, as `radixvm: ` and its text, and answers the status.
-fn refuse_history<E: Write>(fault: HistoryFault, errors: &mut E) -> Ended
+pub(crate) fn refuse_history<E: Write>(fault: HistoryFault, errors: &mut E) -> Ended
     ensures value { result.status ≡ history_fault_status fault }
     ensures within { result.status ≤ 3 }
 {
@@ -129,7 +129,7 @@ fn refuse_history<E: Write>(fault: HistoryFault, errors: &mut E) -> Ended
 }
 
 // How the judgement of a history ended.
-fn ended_by(ruling: Ruling) -> Ended
+pub(crate) fn ended_by(ruling: Ruling) -> Ended
     ensures value { result.status ≡ ruling_status ruling }
     ensures within { result.status ≤ 3 }
 {

@@ -4,6 +4,7 @@ ghost use Rattle.command_line.specs.Words.{DoesWork};
 ghost use Rattle.trace_io.specs.Io.{read_from, written_to};
 
 use crate::auditing::{audit, audit_each, audit_overlapping};
+use crate::paging::audit_by_pages;
 use crate::certifying::certify;
 use crate::ended::{Ended, Trouble};
 use crate::explain::{Manner, explain};
@@ -96,6 +97,7 @@ fn act<T: Threads + Wait + Sync, R: Runner<Global>, L: Source, S: Source, W: Sin
             Work::Overlapping(overlaps) => audit_overlapping(
                 alloc, list, reader, out, errors, overlaps, order,
             ),
+            Work::ByPages(overlaps) => audit_by_pages(alloc, reader, out, errors, overlaps, order),
             Work::Picture(drawing) => picture(alloc, reader, out, errors, drawing),
             Work::Litmus(test) => {
                 litmus(
@@ -152,7 +154,7 @@ fn manner_of(work: Work, coloured: bool) -> Manner {
         Work::Certify => (Kind::Notes, CallLimit::Usual, false),
         Work::Live { .. } | Work::CertifyLive { .. } | Work::LiveHistory { .. } | Work::ShareLive =>
             (Kind::Script, CallLimit::Usual, false),
-        Work::Audit(_) | Work::AuditAll(_) | Work::Overlapping(_) => {
+        Work::Audit(_) | Work::AuditAll(_) | Work::Overlapping(_) | Work::ByPages(_) => {
             (Kind::Replies, CallLimit::Usual, false)
         }
         Work::Picture(Drawing::Listing(limit)) => (Kind::Trace, limit, limit == CallLimit::Usual),
@@ -189,7 +191,8 @@ fn example_of(work: Work) -> &'static str {
         | Work::PictureWitness(_)
         | Work::Audit(_)
         | Work::AuditAll(_)
-        | Work::Overlapping(_) => "vm 1 4",
+        | Work::Overlapping(_)
+        | Work::ByPages(_) => "vm 1 4",
     }
 }
 
@@ -197,7 +200,7 @@ fn example_of(work: Work) -> &'static str {
 fn keeps_of(work: Work, explains: bool) -> Keeps {
     match work {
         Work::Audit(_) | Work::AuditAll(_) => Keeps::All,
-        Work::Overlapping(_) | Work::Picture(_) if explains => Keeps::All,
+        Work::Overlapping(_) | Work::ByPages(_) | Work::Picture(_) if explains => Keeps::All,
         Work::Import(_) | Work::ImportEach | Work::ImportAccesses => Keeps::Nothing,
         _ if explains => Keeps::End,
         _ => Keeps::Nothing,

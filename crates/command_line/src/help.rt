@@ -23,7 +23,7 @@ radixvm run [--summary | [--echo] [--log]] [--long] [--explain] [FILE]
        radixvm import [--lackey | --all DIR |
                       [--pid N] [--one-process] [--maps FILE]]
                       [--explain] [FILE..]
-       radixvm audit [--overlapping [--given IN] [--order OUT] |
+       radixvm audit [--overlapping [--given IN | --by-pages] [--order OUT] |
                      [--strict] [--all]] [--any-place] [--explain] [FILE]
        radixvm picture [--lives | [--steps] [--from N] [--to N]]
                        [--explain] [FILE]
@@ -46,7 +46,7 @@ Usage: radixvm run [--summary | [--echo] [--log]] [--long] [--explain] [FILE]
        radixvm import [--lackey | --all DIR |
                       [--pid N] [--one-process] [--maps FILE]]
                       [--explain] [FILE..]
-       radixvm audit [--overlapping [--given IN] [--order OUT] |
+       radixvm audit [--overlapping [--given IN | --by-pages] [--order OUT] |
                      [--strict] [--all]] [--any-place] [--explain] [FILE]
        radixvm picture [--lives | [--steps] [--from N] [--to N]]
                        [--explain] [FILE]

@@ -23,6 +23,7 @@ mod litmus_tests;
 pub mod live;
 mod naming;
 mod noting;
+mod paging;
 mod picturing;
 mod pointing;
 mod stating;

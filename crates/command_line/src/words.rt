@@ -61,6 +61,8 @@ pub(crate) enum Work {
     AuditAll(Terms),
     /// The judgement of calls that overlap, by an order that is searched, or given.
     Overlapping(Overlaps),
+    /// The same, where each page of a range changes at a moment of its own.
+    ByPages(Overlaps),
     /// A picture of a trace, of its steps or of lives, or the state at its end or behind a line.
     Picture(Drawing),
     /// The outcomes of a litmus test.
@@ -161,7 +163,7 @@ const IMPORT_USAGE: &str =
     "radixvm import [--lackey | --all DIR | [--pid N] [--one-process] [--maps FILE]] [--explain] [FILE..]";
 
 const AUDIT_USAGE: &str =
-    "radixvm audit [--overlapping [--given IN] [--order OUT] | [--strict] [--all]] [--any-place] [--explain] [FILE]";
+    "radixvm audit [--overlapping [--given IN | --by-pages] [--order OUT] | [--strict] [--all]] [--any-place] [--explain] [FILE]";
 
 const LITMUS_USAGE: &str =
     "radixvm litmus [--to-c | [--limit N] [--list | --witness N | --picture N | --observed COUNTS | --live N]] [--explain] [FILE]";
@@ -314,13 +316,17 @@ fn audit_word<'a>(alloc: Global) -> Result<Command<'a>, AllocError> {
     let order = Arg::new(alloc, "order")
         .long("order")
         .requires_arg("overlapping")?;
+    let by_pages = flag(alloc, "by-pages")
+        .requires_arg("overlapping")?
+        .conflicts_with("given")?;
     let command = reading(alloc, "audit", AUDIT_USAGE)?
         .arg(flag(alloc, "any-place"))?
         .arg(flag(alloc, "strict"))?
         .arg(flag(alloc, "all"))?
         .arg(overlapping)?
         .arg(given)?
-        .arg(order)?;
+        .arg(order)?
+        .arg(by_pages)?;
     Ok(command)
 }
 
@@ -533,12 +539,17 @@ fn topic_of<'a>(words: &ArgMatches<'a>) -> Topic {
 // What the words behind `audit` ask for of calls that overlap.
 fn overlapping<'a>(words: &ArgMatches<'a>) -> Task<'a> {
     let given = words.get_str("given");
+    let overlaps = Overlaps {
+        any_place: words.get_flag("any-place"),
+        is_given: given.is_some(),
+        is_wanted: words.get_str("order").is_some(),
+    };
     Task {
-        work: Work::Overlapping(Overlaps {
-            any_place: words.get_flag("any-place"),
-            is_given: given.is_some(),
-            is_wanted: words.get_str("order").is_some(),
-        }),
+        work: if words.get_flag("by-pages") {
+            Work::ByPages(overlaps)
+        } else {
+            Work::Overlapping(overlaps)
+        },
         file: words.get_str("FILE"),
         maps: given,
         order: words.get_str("order"),

@@ -30,7 +30,7 @@ fn file_again<A: Allocator + Clone + Drop>(
 }
 
 /// The same files once more.
-fn files_again<A: Allocator + Clone + Drop>(
+pub fn files_again<A: Allocator + Clone + Drop>(
     alloc: &A,
     files: &[FileSpec<A>],
 ) -> Result<Vec<FileSpec<A>, A>, NoMemory>

@@ -6,4 +6,5 @@ mod fresh;
 mod placing;
 mod searching;
 
+pub use fresh::files_again;
 pub use searching::{Answer, MOST, search_all};

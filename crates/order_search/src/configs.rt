@@ -7,7 +7,7 @@ use crate::arena::Spot;
 pub(crate) struct Config {
     /// Where its map is.
     pub spot: Spot,
-    /// The bits of the cores whose call under way has taken effect.
+    /// The bits of the calls under way that have taken effect.
     pub done: u64,
     /// The node of the last item that took effect.
     pub trail: usize,

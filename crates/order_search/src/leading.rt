@@ -22,7 +22,7 @@ pub(crate) enum Reach {
     Full,
 }
 
-/// The calls under way, and the bit of the core whose call ends.
+/// The calls under way, and the bit of the one that ends.
 #[derive(Clone, Copy, Debug)]
 pub(crate) struct Ending<'u> {
     pub under: &'u [Under],
@@ -163,6 +163,16 @@ impl<'a, A: Allocator + Clone + Drop> Ways<'a, A> {
         Ok(())
     }
 
+    // The way on from a node by the reply of a call that was lost: its copy is no step of its own.
+    fn add_reply(&mut self, from: &Config, step: &Step, node: usize) -> Result<usize, NoMemory> {
+        match step.item {
+            Item::Copy(number) if step.done != from.done => {
+                self.trail.add(node, Item::Reply(number))
+            }
+            _ => Ok(node),
+        }
+    }
+
     // Adds the configuration to which a step leads from another one, if it is new.
     fn add(&mut self, ending: Ending<'_>, from: &Config, step: &Step) -> Result<bool, NoMemory> {
         let settled = self.settled(ending.under, &step.spot, step.done, step.may);
@@ -170,6 +180,7 @@ impl<'a, A: Allocator + Clone + Drop> Ways<'a, A> {
             return Ok(false);
         }
         let trail = self.trail.add(from.trail, step.item)?;
+        let trail = self.add_reply(from, step, trail)?;
         let trail = self.add_settled(ending.under, trail, step.done, settled)?;
         self.take_in(
             Config {
@@ -234,6 +245,20 @@ impl<'a, A: Allocator + Clone + Drop> Ways<'a, A> {
         Ok(())
     }
 
+    // Adds what a call under way leads to from a configuration that is lost, if it may be: nothing changes.
+    fn lose(&mut self, ending: Ending<'_>, from: &Config, under: &Under) -> Result<(), NoMemory> {
+        if under.is_unsure {
+            let step = Step {
+                item: Item::Copy(under.number),
+                spot: from.spot,
+                done: from.done | under.bit,
+                may: 0,
+            };
+            let _is_new = self.add(ending, from, &step)?;
+        }
+        Ok(())
+    }
+
     // Adds all that the calls under way lead to from a configuration, one of them more.
     fn expand(&mut self, ending: Ending<'_>, from: &Config) -> Result<(), NoMemory> {
         let before = ending.before(from.done);
@@ -241,6 +266,7 @@ impl<'a, A: Allocator + Clone + Drop> Ways<'a, A> {
             if before & under.bit != 0 {
                 self.reply(ending, from, under)?;
                 self.copy(ending, from, under)?;
+                self.lose(ending, from, under)?;
             }
         }
         Ok(())

@@ -28,6 +28,7 @@ struct Search<'a, A: Allocator> {
     objects: &'a Objects<A>,
     mapped: Mapped,
     answered: usize,
+    unsure: &'a [bool],
     ways: Ways<'a, A>,
     under: Vec<Under, A>,
     configs: Vec<Config, A>,
@@ -43,13 +44,14 @@ fn item_number(call: usize) -> u32 {
 }
 
 impl<'a, A: Allocator + Clone + Drop> Search<'a, A> {
-    // Nothing has begun. So many calls end, and the others are open.
+    // Nothing has begun. So many calls end, and the others are open. Those that aren't sure may be lost.
     fn new(
         alloc: &A,
         objects: &'a Objects<A>,
         any_place: bool,
         history: &[Timed],
         answered: usize,
+        unsure: &'a [bool],
     ) -> Result<Search<'a, A>, NoMemory> {
         let ways = Ways::new(alloc, objects, any_place, history.len())?;
         let mut configs = Vec::new(alloc.clone()?);
@@ -58,16 +60,30 @@ impl<'a, A: Allocator + Clone + Drop> Search<'a, A> {
             objects,
             mapped: mapped_by(history),
             answered,
+            unsure,
             ways,
             under: Vec::new(alloc.clone()?),
             configs,
         })
     }
 
-    // A call begins.
-    fn begin(&mut self, history: &[Timed], call: usize) -> Result<(), NoMemory> {
+    // A bit that no call under way has: this one, if it is free.
+    fn free_bit(&self, wanted: u64) -> Option<u64> {
+        let mut taken = 0u64;
+        for under in self.under.as_slice() {
+            taken |= under.bit;
+        }
+        if taken & wanted == 0 {
+            return Some(wanted);
+        }
+        let lowest = !taken & taken.wrapping_add(1);
+        if lowest == 0 { None } else { Some(lowest) }
+    }
+
+    // A call begins. `false` says that too many are under way.
+    fn begin(&mut self, history: &[Timed], call: usize) -> Result<bool, NoMemory> {
         let Some(timed) = history.get(call).copied() else {
-            return Ok(());
+            return Ok(true);
         };
         let mut under = Under::new(
             self.objects,
@@ -76,12 +92,17 @@ impl<'a, A: Allocator + Clone + Drop> Search<'a, A> {
             call >= self.answered,
             self.mapped.has_copies,
         );
+        let Some(bit) = self.free_bit(under.bit) else {
+            return Ok(false);
+        };
+        under.bit = bit;
+        under.is_unsure = matches!(self.unsure.get(call), Some(true));
         if !under.is_late {
             self.ways.settle(&mut self.configs, &under)?;
         }
         self.note_rivals(&mut under);
         self.under.push(under)?;
-        Ok(())
+        Ok(true)
     }
 
     // Notes which calls under way are a call's rivals, and it as theirs.
@@ -256,19 +277,22 @@ fn find_some<A: Allocator + Clone + Drop>(
     any_place: bool,
     history: &[Timed],
     answered: usize,
+    unsure: &[bool],
 ) -> Result<Found<A>, NoMemory>
     requires { 1 ≤ length history.now }
     ensures { IfOk result (λ found. IsFound (length history.now) found) }
 {
     let begins = begins(alloc, history)?;
-    let mut search = Search::new(alloc, objects, any_place, history, answered)?;
+    let mut search = Search::new(alloc, objects, any_place, history, answered, unsure)?;
     for at in 0..begins.len() {
         let (begin, call) = begins[at];
         // at one time begins come before ends
         if let Some((reach, call)) = search.end_all(alloc, Some(begin))? {
             return Ok(stopped(history.len(), reach, call));
         }
-        search.begin(history, call)?;
+        if !search.begin(history, call)? {
+            return Ok(stopped(history.len(), Reach::Full, call));
+        }
     }
     if let Some((reach, call)) = search.end_all(alloc, None)? {
         return Ok(stopped(history.len(), reach, call));
@@ -292,5 +316,23 @@ pub fn find_order<A: Allocator + Clone + Drop>(
     if history.is_empty() {
         return Ok(Found::Order(Vec::new(alloc.clone()?), CoreSet::empty()));
     }
-    find_some(alloc, objects, any_place, history, answered)
+    find_some(alloc, objects, any_place, history, answered, &[])
+}
+
+/// The same where all calls have their replies, but some may be lost: such a call may as well have changed nothing. Where it did, an item
+/// `Copy` of it stands right before its reply. Calls of one core may overlap.
+#[tactic(auto, using(crate::proofs::NoCalls::none_found))]
+pub fn find_choice<A: Allocator + Clone + Drop>(
+    alloc: &A,
+    objects: &Objects<A>,
+    any_place: bool,
+    history: &[Timed],
+    unsure: &[bool],
+) -> Result<Found<A>, NoMemory>
+    ensures { IfOk result (λ found. IsFound (length history.now) found) }
+{
+    if history.is_empty() {
+        return Ok(Found::Order(Vec::new(alloc.clone()?), CoreSet::empty()));
+    }
+    find_some(alloc, objects, any_place, history, history.len(), unsure)
 }

@@ -21,7 +21,7 @@ const EVERYWHERE: PageRange = PageRange {
 pub(crate) struct Under {
     pub number: u32,
     pub core: CoreId,
-    /// The bit of its core in a set of these.
+    /// Its bit in a set of calls under way: that of its core, if no other has it.
     pub bit: u64,
     /// A time at which it has taken effect.
     pub end: u64,
@@ -31,13 +31,15 @@ pub(crate) struct Under {
     pub stores_to: Option<u64>,
     /// Whether it never ends: then it may take effect with its reply, or not.
     pub is_open: bool,
+    /// Whether it may be lost: then it takes effect with its reply, or changes nothing.
+    pub is_unsure: bool,
     /// Whether its reply says that it changed something. A call that is answered at its check changes nothing.
     pub changes: bool,
     /// Whether something may be lost where it takes effect as soon as it can: it changes something, or its page may get a copy before.
     pub is_late: bool,
     /// The pages on which it depends, or which it changes.
     pub pages: PageRange,
-    /// The bits of the cores whose call under way may lead elsewhere if this one comes first.
+    /// The bits of the calls under way that may lead elsewhere if this one comes first.
     pub rivals: u64,
 }
 
@@ -79,6 +81,7 @@ impl Under {
             reply: call.reply,
             stores_to,
             is_open,
+            is_unsure: false,
             changes,
             is_late: changes || stores_to.is_some(),
             pages: pages_of(plan),

@@ -16,8 +16,8 @@ use trace_io::source::{Source, read_all};
 use trace_text::{LineText, push_number, push_reply};
 use vm_base::{NoMemory, Reply};
 
-// The line that tells a ruling.
-fn ruling_text(ruling: Ruling) -> LineText
+/// The line that tells a ruling.
+pub fn ruling_text(ruling: Ruling) -> LineText
     ensures { result.bytes ≡ ruling_text ruling }
 {
     match ruling {

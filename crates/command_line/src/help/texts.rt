@@ -301,6 +301,19 @@ store. --given IN judges by such a text, and searches none; where it is no
 order, the answer is undecided. What is found or given is checked, so legal
 rests on no search; and no order is told only where none is left to try.
 
+A kernel may change the pages of a range one after another, while accesses see
+some changed and others not. With --by-pages that is no fault: a mmap, munmap
+or mprotect that was done stands for one call for each of its pages, all with
+its times, and each takes effect at a moment of its own. A mmap of a file maps
+the next page of the file in each; one without f may be anywhere, as long as
+each of its pages is free at its moment. Where mprotect of several pages has
+enomem or eacces, that is its reply at some moment, and each of the pages was
+protected at a moment of its own or not (POSIX: they may have been changed).
+Every other call takes effect at one moment. CALLS counts the calls of the
+text. no order is told where at most 64 calls, of pages and others, have none.
+--order OUT writes calls of one page each. More than 33,554,432 of them are
+told as a want of memory.
+
 Example:
   printf '%s\\n' 'vm 1 4' 'c0! mmap 0x10000 4096 rw- pfa = 0x10000' \\
     'c0! store 0x10004 41 = done' 'c0! load 0x10004 = 40' | radixvm audit

@@ -1,0 +1,3 @@
+pub mod ChoiceLemmas
+pub mod EndLemmas
+pub mod RuleLemmas

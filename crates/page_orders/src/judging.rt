@@ -1,0 +1,321 @@
+//! Judging a text of calls that overlap, whose ranges change page by page.
+ghost use Rattle.std.specs.Prelude.{◌≡◌, ◌≤◌, ℕ, List, IfErr, IfOk, Ok, length, slice_get, true};
+ghost use Rattle.trace_io.specs.Lines.{lines_of};
+ghost use Rattle.slot_lock.specs.Slots.{IsNew};
+ghost use Rattle.vm_base.specs.Plain.{nothing_mapped};
+ghost use Rattle.backing.specs.Given.{given_files};
+ghost use Rattle.audit.specs.Placing.{rule_of};
+ghost use Rattle.orders_text.specs.Faults.{IsAtFault};
+ghost use Rattle.orders_text.specs.History.{IsHistory, completed, replies_in};
+ghost use Rattle.orders_text.specs.Steps.{HasPlaces, read_of};
+ghost use Rattle.overlapping.specs.Waiting.{NoneWaits};
+ghost use Rattle.by_pages.specs.ByPages.{HasOrderAmong, HasOrderByPages};
+ghost use Rattle.by_pages.specs.Pages.{parts_from};
+ghost use Rattle.page_orders.specs.Rulings.{HasNone, IsRuling};
+
+use crate::choices::none_chosen;
+use crate::found::{Order, search};
+use crate::order_text::order_text;
+use audit::Auditor;
+use backing::FileSpec;
+use by_pages::{Part, chosen, split};
+use no_order::files_again;
+use orders::{Item, Timed, follow};
+use orders_text::clock::Begun;
+use orders_text::{History, HistoryFault, completed, read_history};
+use overlapping::{Ruled, Ruling};
+use slot_lock::SlotMap;
+use std::alloc::Allocator;
+use trace_io::IoFault;
+use vm_base::{NoMemory, Reply, Request};
+
+/// How many cores a space may have.
+const CORES: usize = 64;
+
+// The replies of the calls that wait at a history's end, its parts, and what a search finds of them.
+#[derive(Drop)]
+struct Tried<A: Allocator> {
+    replies: Vec<Reply, A>,
+    parts: Vec<Part, A>,
+    order: Order<A>,
+}
+
+// Tells whether no core's call waits.
+fn none_waits(waiting: &[Option<Begun>]) -> bool
+    ensures { result ≡ true → NoneWaits waiting.now }
+{
+    'cores: for core in 0..waiting.len() {
+        if waiting[core].is_some() {
+            return false;
+        }
+    }
+    true
+}
+
+// The reply of a call that takes effect, as far as its request tells it.
+fn effect_of(request: Request) -> Reply {
+    match request {
+        Request::Mmap { addr, .. } => Reply::Mapped(addr),
+        Request::Munmap { .. } | Request::Mprotect { .. } | Request::Store { .. } => Reply::Done,
+        Request::Load { .. } | Request::Fetch { .. } => Reply::NoMemory,
+    }
+}
+
+// The replies of the calls that wait, if they take effect, and else that they found no memory.
+fn effects<A: Allocator + Clone + Drop>(
+    alloc: &A,
+    waiting: &[Option<Begun>],
+    take_effect: bool,
+) -> Result<Vec<Reply, A>, NoMemory> {
+    let mut replies = vec![in alloc.clone()?; Reply::NoMemory; CORES]?;
+    for core in 0..CORES {
+        if let Some(Some(begun)) = waiting.get(core).copied() {
+            if take_effect && core < replies.len() {
+                replies[core] = effect_of(begun.request);
+            }
+        }
+    }
+    Ok(replies)
+}
+
+// The parts of a history's calls, and of those that wait at its end with these replies. Where none waits the calls aren't copied.
+#[tactic(auto, using(crate::proofs::RuleLemmas::parts_of_these))]
+fn split_history<A: Allocator + Clone + Drop>(
+    alloc: &A,
+    history: &History<A>,
+    replies: &[Reply],
+) -> Result<Vec<Part, A>, NoMemory>
+    requires { HasPlaces history.now }
+    ensures { IfOk result (λ parts. parts.items ≡ parts_from 0 (completed (replies_in replies.now) (read_of history.now))) }
+{
+    let waiting = history.waiting.as_slice();
+    let none = none_waits(waiting);
+    if none {
+        let calls = history.calls.as_slice();
+        let parts = split(alloc, calls)?;
+        return Ok(parts);
+    }
+    let all = completed(alloc, history, replies)?;
+    let every = all.as_slice();
+    let parts = split(alloc, every)?;
+    Ok(parts)
+}
+
+// Searches an order of a history's parts, where the calls that wait take effect, or don't.
+#[tactic(auto, using(crate::proofs::RuleLemmas::with_replies))]
+fn try_with<A: Allocator + Clone + Drop>(
+    alloc: &A,
+    history: &History<A>,
+    any_place: bool,
+    take_effect: bool,
+) -> Result<Tried<A>, NoMemory>
+    requires few { length history.now.declaration.files.items ≤ 16 }
+    requires places { HasPlaces history.now }
+    ensures { IfOk result (λ tried. tried.parts.items ≡ parts_from 0 (completed (replies_in tried.replies.items) (read_of history.now))) }
+{
+    let replies = effects(alloc, history.waiting.as_slice(), take_effect)?;
+    let told = replies.as_slice();
+    let parts = split_history(alloc, history, told)?;
+    let files = history.declaration.files.as_slice();
+    let order = search(alloc, files, any_place, parts.as_slice())?;
+    Ok(Tried {
+        replies,
+        parts,
+        order,
+    })
+}
+
+// Searches an order of a history's parts.
+fn search_history<A: Allocator + Clone + Drop>(
+    alloc: &A,
+    history: &History<A>,
+    any_place: bool,
+) -> Result<Tried<A>, NoMemory>
+    requires few { length history.now.declaration.files.items ≤ 16 }
+    requires places { HasPlaces history.now }
+    ensures { IfOk result (λ tried. tried.parts.items ≡ parts_from 0 (completed (replies_in tried.replies.items) (read_of history.now))) }
+{
+    let tried = try_with(alloc, history, any_place, true)?;
+    if matches!(tried.order, Order::Of { .. }) || none_waits(history.waiting.as_slice()) {
+        return Ok(tried);
+    }
+    let other = try_with(alloc, history, any_place, false)?;
+    Ok(other)
+}
+
+// Tells whether the items are an order of the calls of these parts of a space with these files, where these are lost.
+fn is_order<M: SlotMap + Drop, A: Allocator + Clone + Drop>(
+    alloc: &A,
+    map: M,
+    files: &[FileSpec<A>],
+    any_place: bool,
+    parts: &[Part],
+    items: &[Item],
+    losses: &[bool],
+) -> Result<bool, NoMemory>
+    requires new { IsNew (M.slots map) }
+    requires few { length files.now ≤ 16 }
+    ensures { result ≡ Ok true → HasOrderAmong (rule_of any_place) (nothing_mapped (given_files files.now)) parts.now }
+{
+    let made = chosen(alloc, parts, losses)?;
+    let calls = made.as_slice();
+    let again = files_again(alloc, files)?;
+    let mut auditor = Auditor::new(alloc.clone()?, map, again, any_place)?;
+    follow(alloc.clone()?, &mut auditor, calls, items)
+}
+
+// The line of the call at this place of a history, if there is one.
+fn line_at(lines: &[u64], place: usize) -> Option<u64>
+    ensures { result ≡ slice_get lines.now place }
+{
+    lines.get(place).copied()
+}
+
+// The call at this place, if there is one.
+fn call_at(calls: &[Timed], place: usize) -> Option<Timed>
+    ensures { result ≡ slice_get calls.now place }
+{
+    calls.get(place).copied()
+}
+
+// Tells whether it was shown that the parts of a history's calls have no order, with whatever replies of those that wait at its end.
+fn is_disorder<A: Allocator + Clone + Drop>(
+    alloc: &A,
+    history: &History<A>,
+    any_place: bool,
+    tried: &Tried<A>,
+) -> Result<bool, NoMemory>
+    requires few { length history.now.declaration.files.items ≤ 16 }
+    requires parts { tried.now.parts.items ≡ parts_from 0 (completed (replies_in tried.now.replies.items) (read_of history.now)) }
+    ensures { result ≡ Ok true → HasNone (HasOrderByPages (rule_of any_place)) (read_of history.now) }
+{
+    let waiting = history.waiting.as_slice();
+    let none = none_waits(waiting);
+    if !none {
+        return Ok(false);
+    }
+    let files = history.declaration.files.as_slice();
+    let parts = tried.parts.as_slice();
+    none_chosen(alloc, files, any_place, parts)
+}
+
+// The ruling where no order was found by the end of the call at this place.
+#[tactic(auto, using(crate::proofs::RuleLemmas::unordered_there))]
+fn rule_without<A: Allocator + Clone + Drop>(
+    alloc: &A,
+    history: &History<A>,
+    any_place: bool,
+    tried: &Tried<A>,
+    place: usize,
+) -> Result<Ruling, NoMemory>
+    requires few { length history.now.declaration.files.items ≤ 16 }
+    requires parts { tried.now.parts.items ≡ parts_from 0 (completed (replies_in tried.now.replies.items) (read_of history.now)) }
+    ensures { IfOk result (λ ruling. (lines : List (List ℕ)) → IsHistory lines (read_of history.now)
+        → IsRuling (HasOrderByPages (rule_of any_place)) lines ruling) }
+{
+    let Some(line) = line_at(history.lines.as_slice(), place) else {
+        return Ok(Ruling::Undecided(0));
+    };
+    let Some(timed) = call_at(history.calls.as_slice(), place) else {
+        return Ok(Ruling::Undecided(line));
+    };
+    let shown = is_disorder(alloc, history, any_place, tried)?;
+    if shown {
+        let reply = timed.call.reply;
+        Ok(Ruling::NoOrder { line, reply })
+    } else {
+        Ok(Ruling::Undecided(line))
+    }
+}
+
+// The place of the call that a part is of.
+fn call_of(parts: &[Part], part: usize) -> usize {
+    match parts.get(part) {
+        Some(part) => part.of,
+        None => 0,
+    }
+}
+
+// The ruling by what the search found.
+#[tactic(auto, using(crate::proofs::RuleLemmas::legal_there))]
+fn rule_by<M: SlotMap + Drop, A: Allocator + Clone + Drop>(
+    alloc: &A,
+    map: M,
+    history: &History<A>,
+    any_place: bool,
+    tried: &Tried<A>,
+) -> Result<Ruling, NoMemory>
+    requires new { IsNew (M.slots map) }
+    requires few { length history.now.declaration.files.items ≤ 16 }
+    requires parts { tried.now.parts.items ≡ parts_from 0 (completed (replies_in tried.now.replies.items) (read_of history.now)) }
+    ensures { IfOk result (λ ruling. (lines : List (List ℕ)) → IsHistory lines (read_of history.now)
+        → IsRuling (HasOrderByPages (rule_of any_place)) lines ruling) }
+{
+    let parts = tried.parts.as_slice();
+    match &tried.order {
+        Order::Of { items, losses } => {
+            let files = history.declaration.files.as_slice();
+            let items = items.as_slice();
+            let is_one = is_order(alloc, map, files, any_place, parts, items, losses.as_slice())?;
+            if is_one {
+                Ok(Ruling::Legal(history.calls.len() as u64))
+            } else {
+                let last = history.calls.len().saturating_sub(1);
+                Ok(Ruling::Undecided(line_at(history.lines.as_slice(), last).unwrap_or(0)))
+            }
+        }
+        Order::None(part) => {
+            let place = call_of(parts, *part);
+            rule_without(alloc, history, any_place, tried, place)
+        }
+    }
+}
+
+// Judges a history that was read from the text.
+fn rule<M: SlotMap + Drop, A: Allocator + Clone + Drop>(
+    alloc: &A,
+    map: M,
+    text: &[u8],
+    history: &History<A>,
+    any_place: bool,
+    is_wanted: bool,
+) -> Result<Ruled<A>, NoMemory>
+    requires new { IsNew (M.slots map) }
+    requires few { length history.now.declaration.files.items ≤ 16 }
+    requires places { HasPlaces history.now }
+    ensures { IfOk result (λ ruled. (lines : List (List ℕ)) → IsHistory lines (read_of history.now)
+        → IsRuling (HasOrderByPages (rule_of any_place)) lines ruled.ruling) }
+{
+    let tried = search_history(alloc, history, any_place)?;
+    let ruling = rule_by(alloc, map, history, any_place, &tried)?;
+    let parts = tried.parts.as_slice();
+    let order = if is_wanted {
+        order_text(alloc, text, parts, history.calls.len(), &tried.order)?
+    } else {
+        Vec::new(alloc.clone()?)
+    };
+    Ok(Ruled { ruling, order })
+}
+
+/// Judges a text: it is that of a history, whose calls have an order by pages, or of which none was found; or it isn't, and why. Beside a
+/// ruling that it is legal stands the text of the order, if it is wanted: of calls of one page each.
+pub fn judge_pages<M: SlotMap + Drop, A: Allocator + Clone + Drop>(
+    alloc: &A,
+    map: M,
+    text: &[u8],
+    any_place: bool,
+    is_wanted: bool,
+) -> Result<Ruled<A>, HistoryFault>
+    requires new { IsNew (M.slots map) }
+    ensures ok { IfOk result (λ ruled. IsRuling (HasOrderByPages (rule_of any_place)) (lines_of text.now) ruled.ruling) }
+    ensures err { IfErr result (λ f. IsAtFault (lines_of text.now) f) }
+{
+    let history = match read_history(alloc, text) {
+        Ok(history) => history,
+        Err(fault) => return Err(fault),
+    };
+    match rule(alloc, map, text, &history, any_place, is_wanted) {
+        Ok(ruled) => Ok(ruled),
+        Err(_) => Err(HistoryFault::Io(IoFault::NoMemory)),
+    }
+}

@@ -1,0 +1,12 @@
+//! The judgement of a history by pages: it is legal where an order is found of the calls of its pages, and checked.
+#![tactic(auto)]
+
+mod choices;
+mod found;
+mod joining;
+pub mod judging;
+mod order_text;
+pub mod paging;
+
+pub use judging::judge_pages;
+pub use paging::judge_by_pages;

@@ -1,0 +1,73 @@
+//! A text is read whole, its calls are judged by pages, and the ruling is written.
+ghost use Rattle.std.specs.Prelude.{◌≡◌, ◌⊎◌, Err, OnOk, true};
+ghost use Rattle.trace_io.specs.Io.{read_from, written_to};
+ghost use Rattle.trace_io.specs.Source.{Reads};
+ghost use Rattle.slot_lock.specs.Slots.{IsNew};
+ghost use Rattle.audit.specs.Placing.{rule_of};
+ghost use Rattle.overlapping.specs.Ends.{TellsJudgement};
+ghost use Rattle.by_pages.specs.ByPages.{HasOrderByPages};
+ghost use Rattle.page_orders.specs.Ends.{JudgementEnds};
+
+use crate::judging::judge_pages;
+use orders_text::HistoryFault;
+use overlapping::overlapping::ruling_text;
+use overlapping::Ruled;
+use slot_lock::SlotMap;
+use std::alloc::Allocator;
+use trace_io::IoFault;
+use trace_io::sink::{Sink, write_out};
+use trace_io::source::{Source, read_all};
+
+// Judges a text by pages, and writes the ruling.
+#[tactic(auto, using(crate::proofs::EndLemmas::judges_all, crate::proofs::EndLemmas::breaks_off, crate::proofs::EndLemmas::fails_so, trace_io::proofs::IoLemmas::keeps_same))]
+fn judge_out<M: SlotMap + Drop, A: Allocator + Clone + Drop, W: Sink>(
+    alloc: A,
+    map: M,
+    text: &[u8],
+    writer: &mut W,
+    any_place: bool,
+    is_wanted: bool,
+) -> Result<Ruled<A>, HistoryFault>
+    requires new { IsNew (M.slots map) }
+    ensures ends { JudgementEnds (HasOrderByPages (rule_of any_place)) text.now (W.contents writer.old) (W.contents writer.new) result }
+    ensures out { OnOk result (W.is_flushed writer.new ≡ true) }
+    ensures read { result ≡ Err (HistoryFault.Io IoFault.ReadFailed) → ⊥ }
+    ensures write { result ≡ Err (HistoryFault.Io IoFault.WriteFailed) → W.failed writer.new ≡ true }
+    ensures kept { (result ≡ Err (HistoryFault.Io IoFault.WriteFailed)) ⊎ (W.failed writer.new ≡ W.failed writer.old) }
+{
+    let ruled = match judge_pages(&alloc, map, text, any_place, is_wanted) {
+        Ok(ruled) => ruled,
+        Err(fault) => return Err(fault),
+    };
+    let told = ruling_text(ruled.ruling);
+    match write_out(writer, told.as_str().as_bytes()) {
+        Ok(()) => Ok(ruled),
+        Err(_) => Err(HistoryFault::Io(IoFault::WriteFailed)),
+    }
+}
+
+/// Reads a text to its end, and writes whether its calls, which may overlap, have an order by pages that begins with nothing mapped:
+/// `legal CALLS`, `no order LINE: replied TEXT` where it was shown that there is none, or `undecided LINE` where none was found. `legal` is
+/// told only where the order was checked. Its text is answered, if it is wanted. The map has nothing mapped.
+pub fn judge_by_pages<M: SlotMap + Drop, A: Allocator + Clone + Drop, S: Source, W: Sink>(
+    alloc: A,
+    map: M,
+    reader: &mut S,
+    writer: &mut W,
+    any_place: bool,
+    is_wanted: bool,
+) -> Result<Ruled<A>, HistoryFault>
+    requires new { IsNew (M.slots map) }
+    ensures ends { Reads (S.stream reader.old) (S.stream reader.new) (λ input unread.
+        JudgementEnds (HasOrderByPages (rule_of any_place)) input (W.contents writer.old) (W.contents writer.new) result) }
+    ensures told { TellsJudgement result (read_from S.Source reader.old reader.new)
+        (written_to W.Sink writer.old writer.new) }
+{
+    let Ok(for_text) = alloc.clone() else {
+        return Err(HistoryFault::Io(IoFault::NoMemory));
+    };
+    match read_all(for_text, reader) {
+        Ok(text) => judge_out(alloc, map, text.as_slice(), writer, any_place, is_wanted),
+        Err(fault) => Err(HistoryFault::Io(fault)),
+    }
+}
