@@ -47,7 +47,7 @@ def by_pages(calls):
     split = []
     for call in calls:
         count = int(call.words[2], 0) // PAGE if call.words[0] in ("mmap", "munmap", "mprotect") else 0
-        is_done = count > 0 and (call.reply == "done" or call.words[0] == "mmap" and call.reply == call.words[1])
+        is_done = count > 0 and call.reply == (call.words[1] if call.words[0] == "mmap" else "done")
         was_refused = count > 1 and call.words[0] == "mprotect" and call.reply in ("enomem", "eacces")
         if not is_done:
             split.append(call)

@@ -31,16 +31,16 @@ one_page_more n c k old now new p is so added =
 
 pub behind_itself : (n : ℕ) (c : Timed) (old now new : List Part) (is : Bool) → is ≡ stays c.call.reply (stretch_of c.call) → is ≡ true
     → now ≡ old ++ whole n c ∷ [] → new ≡ now ++ pages_below n c (stretch_of c.call).count → new ≡ old ++ parts_of n c
-behind_itself n c old now new is e yes so added =
-    let here : itself n c ≡ whole n c ∷ [] = rw (sym e ∙ yes) refl in
+behind_itself n c old now new is e there so added =
+    let here : itself n c ≡ whole n c ∷ [] = rw (sym e ∙ there) refl in
     added ∙ ap (λ (l : List Part). l ++ pages_below n c (stretch_of c.call).count) so
     ∙ append_assoc old (whole n c ∷ []) (pages_below n c (stretch_of c.call).count)
     ∙ ap (λ (l : List Part). old ++ (l ++ pages_below n c (stretch_of c.call).count)) (sym here)
 
 pub pages_alone : (n : ℕ) (c : Timed) (old new : List Part) (is : Bool) → is ≡ stays c.call.reply (stretch_of c.call) → is ≡ false
     → new ≡ old ++ pages_below n c (stretch_of c.call).count → new ≡ old ++ parts_of n c
-pages_alone n c old new is e no added =
-    let here : itself n c ≡ [] = rw (sym e ∙ no) refl in
+pages_alone n c old new is e absent added =
+    let here : itself n c ≡ [] = rw (sym e ∙ absent) refl in
     added ∙ ap (λ (l : List Part). old ++ (l ++ pages_below n c (stretch_of c.call).count)) (sym here)
 
 -- ---- parts of all

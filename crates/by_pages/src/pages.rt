@@ -88,7 +88,10 @@ fn stretch_asked(request: Request, reply: Reply) -> Stretch
 {
     match request {
         Request::Mmap {
-            addr, len, flags, ..
+            addr,
+            len,
+            flags,
+            ..
         } => pages_mapped(flags, addr, len, reply),
         Request::Munmap { addr, len } => {
             if is_done(reply) {

@@ -65,8 +65,9 @@ fn push_parts<A: Allocator>(
 ) -> Result<(), NoMemory>
     ensures { OnOk result (parts.new.items ≡ parts.old.items ++ parts_of of timed) }
 {
-    let stretch = stretch_of(timed.call);
-    if stays(timed.call.reply, stretch) {
+    let call = timed.call;
+    let stretch = stretch_of(call);
+    if stays(call.reply, stretch) {
         parts.push(Part {
             timed,
             of,

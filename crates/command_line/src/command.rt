@@ -4,7 +4,6 @@ ghost use Rattle.command_line.specs.Words.{DoesWork};
 ghost use Rattle.trace_io.specs.Io.{read_from, written_to};
 
 use crate::auditing::{audit, audit_each, audit_overlapping};
-use crate::paging::audit_by_pages;
 use crate::certifying::certify;
 use crate::ended::{Ended, Trouble};
 use crate::explain::{Manner, explain};
@@ -18,6 +17,7 @@ use crate::keeping::{Keeping, Keeps};
 use crate::litmus_tests::{explain_litmus, litmus, test_name};
 use crate::live::{certify_live, live, live_history, share_live};
 use crate::noting::{show_request, tell_notes, tell_undecided};
+use crate::paging::audit_by_pages;
 use crate::picturing::{Drawing, picture};
 pub use crate::telling::{WordsFault, refuse_words};
 use crate::telling::{tell, tell_cause, tell_of_terminal};

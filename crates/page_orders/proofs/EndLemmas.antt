@@ -50,4 +50,3 @@ stopped a b has o f n r = reads_map a b _ _ r (λ xs ys k e. unread_fails has xs
 pub unmade : (a : Stream) (has : OrderRule) (o : Option (List ℕ))
     → Reads a a (λ input unread. Fails has input o o (Io NoMemory))
 unmade a has o = reads_none a _ (λ xs. (tt, keeps_same o))
-

@@ -2,10 +2,10 @@
 //! has orders of its own.
 
 use audit::Call;
-use by_pages::Part;
+use by_pages::{Part, stretch_of};
 use std::alloc::Allocator;
-use vm_base::page::pages;
-use vm_base::{NoMemory, PageRange, Reply, Request, page_of};
+use vm_base::page::{PAGE_SIZE, pages};
+use vm_base::{Errno, NoMemory, PageRange, Reply, Request, page_of};
 
 /// The keys of pages of files begin here. Below stand numbers of pages.
 const FILES: u64 = 0x8000_0000_0000_0000;
@@ -86,6 +86,31 @@ fn reach(call: Call) -> Reach {
     }
 }
 
+/// How many pages a call looks at, one of which has to be unmapped: those of an `mprotect` of several that was refused.
+pub(crate) fn looked_at(call: Call) -> u64 {
+    match call.reply {
+        Reply::Refused(Errno::ENOMEM) => stretch_of(call).count,
+        _ => 0,
+    }
+}
+
+/// The look at one of these pages alone.
+pub(crate) fn look_at(call: Call, page: u64) -> Call {
+    let request = match call.request {
+        Request::Mprotect { addr, prot, .. } => Request::Mprotect {
+            addr: addr.wrapping_add(PAGE_SIZE.wrapping_mul(page)),
+            len: PAGE_SIZE,
+            prot,
+        },
+        other => other,
+    };
+    Call {
+        core: call.core,
+        request,
+        reply: call.reply,
+    }
+}
+
 /// Keys of pages in ascending order, each with the place of another one that it is joined to, or its own.
 #[derive(Drop)]
 pub(crate) struct Joins<A: Allocator> {
@@ -94,8 +119,8 @@ pub(crate) struct Joins<A: Allocator> {
 }
 
 impl<A: Allocator + Clone + Drop> Joins<A> {
-    /// The pages of the calls, as far as these join them.
-    pub fn new(alloc: &A, parts: &[Part]) -> Result<Joins<A>, NoMemory> {
+    /// The pages of the calls, as far as these join them. Where looks stand apart, a look at several pages joins none.
+    pub fn new(alloc: &A, parts: &[Part], are_apart: bool) -> Result<Joins<A>, NoMemory> {
         let keys = keys_of(alloc, parts)?;
         let mut to = Vec::with_capacity(alloc.clone()?, keys.len())?;
         for at in 0..keys.len() {
@@ -103,7 +128,9 @@ impl<A: Allocator + Clone + Drop> Joins<A> {
         }
         let mut joins = Joins { keys, to };
         for part in parts {
-            joins.join(reach(part.timed.call));
+            if !are_apart || looked_at(part.timed.call) == 0 {
+                joins.join(reach(part.timed.call));
+            }
         }
         Ok(joins)
     }

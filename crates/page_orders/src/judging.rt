@@ -256,7 +256,15 @@ fn rule_by<M: SlotMap + Drop, A: Allocator + Clone + Drop>(
         Order::Of { items, losses } => {
             let files = history.declaration.files.as_slice();
             let items = items.as_slice();
-            let is_one = is_order(alloc, map, files, any_place, parts, items, losses.as_slice())?;
+            let is_one = is_order(
+                alloc,
+                map,
+                files,
+                any_place,
+                parts,
+                items,
+                losses.as_slice(),
+            )?;
             if is_one {
                 Ok(Ruling::Legal(history.calls.len() as u64))
             } else {

@@ -99,11 +99,7 @@ fn put_mapping<A: Allocator>(out: &mut Vec<u8, A>, request: Request) -> Result<(
 }
 
 // Appends an access: its word and its address.
-fn put_access<A: Allocator>(
-    out: &mut Vec<u8, A>,
-    word: &[u8],
-    addr: u64,
-) -> Result<(), NoMemory> {
+fn put_access<A: Allocator>(out: &mut Vec<u8, A>, word: &[u8], addr: u64) -> Result<(), NoMemory> {
     out.extend_from_slice(word)?;
     put_address(out, addr)
 }

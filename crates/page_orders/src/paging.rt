@@ -10,8 +10,8 @@ ghost use Rattle.page_orders.specs.Ends.{JudgementEnds};
 
 use crate::judging::judge_pages;
 use orders_text::HistoryFault;
-use overlapping::overlapping::ruling_text;
 use overlapping::Ruled;
+use overlapping::overlapping::ruling_text;
 use slot_lock::SlotMap;
 use std::alloc::Allocator;
 use trace_io::IoFault;
