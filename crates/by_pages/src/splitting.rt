@@ -2,10 +2,10 @@
 ghost use Rattle.std.specs.Prelude.{◌≡◌, ◌++◌, IfOk, OnOk};
 ghost use Rattle.by_pages.specs.Pages.{pages_below, parts_from, parts_of, stays, stretch_of};
 
-use crate::pages::{Stretch, is_refused, page_call, stretch_of};
+use crate::pages::{is_refused, page_call, stretch_of};
 use orders::Timed;
 use std::alloc::Allocator;
-use vm_base::{NoMemory, Reply};
+use vm_base::NoMemory;
 
 /// At most so many calls of pages are made. More are told as a want of memory.
 pub const MOST: usize = 0x200_0000;
@@ -22,19 +22,20 @@ pub struct Part {
 }
 
 // Tells whether a call is itself a part: it has no pages that change each for itself, or it was refused at a moment of its own.
-fn stays(reply: Reply, stretch: Stretch) -> bool
-    ensures { result ≡ stays reply stretch }
+fn stays(timed: &Timed) -> bool
+    ensures { result ≡ stays timed.now.call.reply (stretch_of timed.now.call) }
 {
-    stretch.count == 0 || is_refused(reply)
+    let stretch = stretch_of(timed.call);
+    stretch.count == 0 || is_refused(timed.call.reply)
 }
 
 // Appends the calls of the pages of a call.
 fn push_pages<A: Allocator>(
     parts: &mut Vec<Part, A>,
     of: usize,
-    timed: Timed,
+    timed: &Timed,
 ) -> Result<(), NoMemory>
-    ensures { OnOk result (parts.new.items ≡ parts.old.items ++ pages_below of timed (stretch_of timed.call).count) }
+    ensures { OnOk result (parts.new.items ≡ parts.old.items ++ pages_below of timed.now (stretch_of timed.now.call).count) }
 {
     let stretch = stretch_of(timed.call);
     let is_sure = !is_refused(timed.call.reply);
@@ -61,15 +62,13 @@ fn push_pages<A: Allocator>(
 fn push_parts<A: Allocator>(
     parts: &mut Vec<Part, A>,
     of: usize,
-    timed: Timed,
+    timed: &Timed,
 ) -> Result<(), NoMemory>
-    ensures { OnOk result (parts.new.items ≡ parts.old.items ++ parts_of of timed) }
+    ensures { OnOk result (parts.new.items ≡ parts.old.items ++ parts_of of timed.now) }
 {
-    let call = timed.call;
-    let stretch = stretch_of(call);
-    if stays(call.reply, stretch) {
+    if stays(timed) {
         parts.push(Part {
-            timed,
+            timed: *timed,
             of,
             is_sure: true,
         })?;
@@ -87,8 +86,7 @@ pub fn split<A: Allocator + Clone + Drop>(
 {
     let mut parts = Vec::with_capacity(alloc.clone()?, history.len())?;
     'calls: for at in 0..history.len() {
-        let timed = history[at];
-        push_parts(&mut parts, at, timed)?;
+        push_parts(&mut parts, at, &history[at])?;
     }
     Ok(parts)
 }
