@@ -79,7 +79,8 @@ fn none_behind<A: Allocator + Clone + Drop>(
     if !took {
         return Ok(false);
     }
-    if part.is_sure {
+    let sure = part.is_sure;
+    if sure {
         return Ok(true);
     }
     let less = followed_by(alloc, calls, lost(part.timed))?;

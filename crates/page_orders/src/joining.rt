@@ -74,7 +74,7 @@ fn reach_of(pages: PageRange) -> Reach {
 }
 
 // What a call takes effect on.
-fn reach(call: Call) -> Reach {
+fn call_reach(call: Call) -> Reach {
     match call.request {
         Request::Mmap { .. } => reach_of_mapping(call),
         Request::Munmap { addr, len } | Request::Mprotect { addr, len, .. } => {
@@ -129,7 +129,7 @@ impl<A: Allocator + Clone + Drop> Joins<A> {
         let mut joins = Joins { keys, to };
         for part in parts {
             if !are_apart || looked_at(part.timed.call) == 0 {
-                joins.join(reach(part.timed.call));
+                joins.join(call_reach(part.timed.call));
             }
         }
         Ok(joins)
@@ -215,7 +215,7 @@ impl<A: Allocator + Clone + Drop> Joins<A> {
 
     /// The place of the key that stands for the pages that a call takes effect on.
     pub fn place(&mut self, call: Call) -> usize {
-        let first = self.place_of(reach(call).pages.first);
+        let first = self.place_of(call_reach(call).pages.first);
         self.root(first)
     }
 }
@@ -227,7 +227,7 @@ fn keys_of<A: Allocator + Clone + Drop>(
 ) -> Result<Vec<u64, A>, NoMemory> {
     let mut all = Vec::with_capacity(alloc.clone()?, parts.len())?;
     for part in parts {
-        let reach = reach(part.timed.call);
+        let reach = call_reach(part.timed.call);
         all.push(reach.pages.first)?;
         if let Some(key) = reach.file {
             all.push(key)?;

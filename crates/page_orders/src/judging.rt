@@ -14,7 +14,7 @@ ghost use Rattle.by_pages.specs.Pages.{parts_from};
 ghost use Rattle.page_orders.specs.Rulings.{HasNone, IsRuling};
 
 use crate::choices::none_chosen;
-use crate::found::{Order, search};
+use crate::found::{Order, search_parts};
 use crate::order_text::order_text;
 use audit::Auditor;
 use backing::FileSpec;
@@ -117,7 +117,7 @@ fn try_with<A: Allocator + Clone + Drop>(
     let told = replies.as_slice();
     let parts = split_history(alloc, history, told)?;
     let files = history.declaration.files.as_slice();
-    let order = search(alloc, files, any_place, parts.as_slice())?;
+    let order = search_parts(alloc, files, any_place, parts.as_slice())?;
     Ok(Tried {
         replies,
         parts,

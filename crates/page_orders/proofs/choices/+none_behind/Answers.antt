@@ -7,17 +7,17 @@ use Rattle.orders.specs.Orders.{HasOrder}
 use Rattle.page_orders.proofs.ChoiceLemmas.{none_left, sure_next, unsure_next}
 use Rattle.page_orders.proofs.choices.+none_behind.Goals as goal
 
-pub returns-then-many : goal.returns-then-many
-returns-then-many g t c = λ e. none_left (HasOrder (rule_of c.args.any_place) (nothing_mapped (given_files c.args.files.now))) c.args.parts.now
-    c.args.calls.now c.if-many.true (c.has_none.ensures e)
+pub returns-then-at-ge-len : goal.returns-then-at-ge-len
+returns-then-at-ge-len g t c = λ e. none_left (HasOrder (rule_of c.args.any_place) (nothing_mapped (given_files c.args.files.now))) c.args.parts.now
+    c.args.calls.now c.if-at-ge-len.true (c.has_none.ensures e)
 
 pub returns-then-sure : goal.returns-then-sure
 returns-then-sure g t c = λ e. sure_next (HasOrder (rule_of c.args.any_place) (nothing_mapped (given_files c.args.files.now))) c.args.parts.now
-    c.args.calls.now c.as_slice-longer.result.now c.index-part.result c.if-many.false c.index-part.is c.if-sure.true
+    c.args.calls.now c.as_slice-longer.result.now c.index-part.result c.if-at-ge-len.false c.index-part.is c.if-sure.true
     (c.as_slice-longer.ensures.value ∙ c.in_ok-more.ensures) (c.in_ok-took.ensures (ap Ok c.if-not-took.false))
 
 pub returns : goal.returns
 returns g t c = λ e. unsure_next (HasOrder (rule_of c.args.any_place) (nothing_mapped (given_files c.args.files.now))) c.args.parts.now
-    c.args.calls.now c.as_slice-longer.result.now c.as_slice-other.result.now c.index-part.result c.if-many.false c.index-part.is
+    c.args.calls.now c.as_slice-longer.result.now c.as_slice-other.result.now c.index-part.result c.if-at-ge-len.false c.index-part.is
     (c.as_slice-longer.ensures.value ∙ c.in_ok-more.ensures) (c.in_ok-took.ensures (ap Ok c.if-not-took.false))
     (c.as_slice-other.ensures.value ∙ c.in_ok-less.ensures) (c.none_behind.ensures e)
