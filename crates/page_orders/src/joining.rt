@@ -196,8 +196,9 @@ impl<A: Allocator + Clone + Drop> Joins<A> {
     // Joins what a call takes effect on at one moment.
     fn join(&mut self, reach: Reach) {
         let first = self.place_of(reach.pages.first);
+        let all = self.keys.len();
         if reach.is_all {
-            self.join_between(0, self.keys.len());
+            self.join_between(0, all);
         } else if reach.pages.first.wrapping_add(1) < reach.pages.end {
             let end = self.place_of(reach.pages.end.min(FILES));
             self.join_between(first, end);
