@@ -113,7 +113,7 @@ pub(crate) fn look_at(call: Call, page: u64) -> Call {
 
 /// Keys of pages in ascending order, each with the place of another one that it is joined to, or its own.
 #[derive(Drop)]
-pub(crate) struct Joins<A: Allocator> {
+pub struct Joins<A: Allocator> {
     keys: Vec<u64, A>,
     to: Vec<usize, A>,
 }
@@ -196,9 +196,9 @@ impl<A: Allocator + Clone + Drop> Joins<A> {
     // Joins what a call takes effect on at one moment.
     fn join(&mut self, reach: Reach) {
         let first = self.place_of(reach.pages.first);
-        let all = self.keys.len();
         if reach.is_all {
-            self.join_between(0, all);
+            let count = self.keys.len();
+            self.join_between(0, count);
         } else if reach.pages.first.wrapping_add(1) < reach.pages.end {
             let end = self.place_of(reach.pages.end.min(FILES));
             self.join_between(first, end);

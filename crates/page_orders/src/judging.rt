@@ -40,8 +40,8 @@ struct Tried<A: Allocator> {
     order: Order<A>,
 }
 
-// Tells whether no core's call waits.
-fn none_waits(waiting: &[Option<Begun>]) -> bool
+/// Tells whether no core's call waits.
+pub fn none_waits(waiting: &[Option<Begun>]) -> bool
     ensures { result ≡ true → NoneWaits waiting.now }
 {
     'cores: for core in 0..waiting.len() {
@@ -61,8 +61,8 @@ fn effect_of(request: Request) -> Reply {
     }
 }
 
-// The replies of the calls that wait, if they take effect, and else that they found no memory.
-fn effects<A: Allocator + Clone + Drop>(
+/// The replies of the calls that wait, if they take effect, and else that they found no memory.
+pub fn effects<A: Allocator + Clone + Drop>(
     alloc: &A,
     waiting: &[Option<Begun>],
     take_effect: bool,
@@ -78,9 +78,9 @@ fn effects<A: Allocator + Clone + Drop>(
     Ok(replies)
 }
 
-// The parts of a history's calls, and of those that wait at its end with these replies. Where none waits the calls aren't copied.
+/// The parts of a history's calls, and of those that wait at its end with these replies. Where none waits the calls aren't copied.
 #[tactic(auto, using(crate::proofs::RuleLemmas::parts_of_these))]
-fn split_history<A: Allocator + Clone + Drop>(
+pub fn split_history<A: Allocator + Clone + Drop>(
     alloc: &A,
     history: &History<A>,
     replies: &[Reply],

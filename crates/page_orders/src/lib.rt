@@ -8,5 +8,6 @@ pub mod judging;
 mod order_text;
 pub mod paging;
 
-pub use judging::judge_pages;
+pub use joining::Joins;
+pub use judging::{effects, judge_pages, none_waits, split_history};
 pub use paging::judge_by_pages;

@@ -10,7 +10,7 @@ use trace_text::{
     LineText, push_address, push_count, push_letter, push_number, push_reply, push_rights,
 };
 use vm_base::page::PAGE_SIZE;
-use vm_base::{CoreId, Flags, NoMemory, Prot, Reply, Request, page_of};
+use vm_base::{Flags, NoMemory, Prot, Reply, Request, page_of};
 
 // Appends what a line says in front of calls.
 fn push_fronts<A: Allocator>(out: &mut Vec<u8, A>, text: &[u8]) -> Result<(), NoMemory> {
@@ -122,23 +122,24 @@ fn put_request<A: Allocator>(out: &mut Vec<u8, A>, request: Request) -> Result<(
     }
 }
 
-// Appends the word of a core.
-fn put_core<A: Allocator>(out: &mut Vec<u8, A>, core: CoreId) -> Result<(), NoMemory> {
+// Appends the word of a call's core.
+fn put_core<A: Allocator>(out: &mut Vec<u8, A>, call: Call) -> Result<(), NoMemory> {
     let mut text = LineText::new();
     text.push_str("c");
-    push_number(&mut text, u64::from(core.index()));
+    push_number(&mut text, u64::from(call.core.index()));
     out.extend_from_slice(text.as_str().as_bytes())?;
     Ok(())
 }
 
 // Appends the line of a call.
 fn push_call<A: Allocator>(out: &mut Vec<u8, A>, call: Call) -> Result<(), NoMemory> {
-    put_core(out, call.core)?;
+    let (request, reply) = (call.request, call.reply);
+    put_core(out, call)?;
     out.extend_from_slice(b"! ")?;
-    put_request(out, call.request)?;
+    put_request(out, request)?;
     let mut text = LineText::new();
     text.push_str(" = ");
-    push_reply(&mut text, call.reply);
+    push_reply(&mut text, reply);
     text.push_str("\n");
     out.extend_from_slice(text.as_str().as_bytes())?;
     Ok(())
@@ -147,7 +148,7 @@ fn push_call<A: Allocator>(out: &mut Vec<u8, A>, call: Call) -> Result<(), NoMem
 // Appends the line of a copy for a store.
 fn push_copy<A: Allocator>(out: &mut Vec<u8, A>, call: Call) -> Result<(), NoMemory> {
     if let Request::Store { addr, .. } = call.request {
-        put_core(out, call.core)?;
+        put_core(out, call)?;
         out.extend_from_slice(b" copy")?;
         put_address(out, page_of(addr).wrapping_mul(PAGE_SIZE))?;
         out.extend_from_slice(b"\n")?;
