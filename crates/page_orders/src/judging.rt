@@ -302,7 +302,13 @@ fn rule<M: SlotMap + Drop, A: Allocator + Clone + Drop>(
     } else {
         Vec::new(alloc.clone()?)
     };
-    Ok(Ruled { ruling, order })
+    // Parts of calls have no lines of their own, so nothing stands behind a ruling here.
+    let explanation = Vec::new(alloc.clone()?);
+    Ok(Ruled {
+        ruling,
+        order,
+        explanation,
+    })
 }
 
 /// Judges a text: it is that of a history, whose calls have an order by pages, or of which none was found; or it isn't, and why. Beside a
