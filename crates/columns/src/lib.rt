@@ -3,7 +3,7 @@
 
 pub mod lines;
 pub mod margin;
-pub mod recorder;
 pub mod spot;
+pub mod watching;
 
-pub use recorder::ColumnRecorder;
+pub use watching::ColumnRecorder;

@@ -1,6 +1,6 @@
 use Rattle.core_steps.specs.Machine.{state}
 use Rattle.columns.proofs.Steps.{step_columned}
-use Rattle.columns.proofs.recorder.ColumnRecorderWatch.step.Goals as goal
+use Rattle.columns.proofs.watching.ColumnRecorderWatch.step.Goals as goal
 
 pub returns-clause-watched : goal.returns-clause-watched
 returns-clause-watched g c =
