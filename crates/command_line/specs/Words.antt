@@ -4,6 +4,7 @@ use Rattle.std.specs.Io.KnownBytes.{Keeps}
 use Rattle.overlapping.specs.Ends.{JudgementEnds, TellsJudgement}
 use Rattle.overlapping.specs.Replies.{AuditEnds}
 use Rattle.page_orders.specs.Ends.{EndsByPages}
+use Rattle.loosely.specs.Loosely.{EndsLoosely}
 use Rattle.audit_text.specs.Ends.{TellsAudit}
 use Rattle.audit_text.specs.Reviewed.{ReviewEnds}
 use Rattle.audit_text.specs.declared.allowing.Terms.{Terms}
@@ -119,6 +120,11 @@ abbrev pub JudgesByPages : Type 0 → Bool → ReadFrom → WrittenTo → ℕ �
 JudgesByPages A any_place text out n =
     EndsInOneWay judgement_status (λ input unread. EndsByPages {A = A} any_place input) TellsJudgement text out n
 
+-- the same by the loose rule
+abbrev pub JudgesLoosely : Type 0 → Bool → ReadFrom → WrittenTo → ℕ → Type 0
+JudgesLoosely A any_place text out n =
+    EndsInOneWay judgement_status (λ input unread. EndsLoosely {A = A} any_place input) TellsJudgement text out n
+
 -- a picture of a trace, of its steps or of lives
 abbrev pub PicturesTrace : Drawing → ReadFrom → WrittenTo → ℕ → Type 0
 PicturesTrace drawing text out n = EndsInOneWay picture_status (λ input unread. PictureEnds drawing input) TellsFaults text out n
@@ -140,6 +146,7 @@ DoesWork A parts CanFold Folds (For.Audit terms) list text out n = AuditsReplies
 DoesWork A parts CanFold Folds (For.AuditAll terms) list text out n = ReviewsReplies terms text out n
 DoesWork A parts CanFold Folds (For.Overlapping overlaps) list text out n = JudgesOrGivesUp A overlaps.any_place text out n
 DoesWork A parts CanFold Folds (For.ByPages overlaps) list text out n = JudgesByPages A overlaps.any_place text out n
+DoesWork A parts CanFold Folds (For.Loosely any_place) list text out n = JudgesLoosely A any_place text out n
 DoesWork A parts CanFold Folds (For.Picture drawing) list text out n = PicturesTrace drawing text out n
 DoesWork A parts CanFold Folds (For.Litmus test) list text out n = TellsTest test list text out n
 DoesWork A parts CanFold Folds (For.PictureWitness asked) list text out n = PicturesWitness asked text out n

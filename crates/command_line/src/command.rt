@@ -16,6 +16,7 @@ use crate::job::{run, run_echoing};
 use crate::keeping::{Keeping, Keeps};
 use crate::litmus_tests::{explain_litmus, litmus, test_name};
 use crate::live::{certify_live, live, live_history, share_live};
+use crate::loosening::audit_loosely;
 use crate::noting::{show_request, tell_notes, tell_undecided};
 use crate::paging::audit_by_pages;
 use crate::picturing::{Drawing, picture};
@@ -98,6 +99,7 @@ fn act<T: Threads + Wait + Sync, R: Runner<Global>, L: Source, S: Source, W: Sin
                 alloc, list, reader, out, errors, overlaps, order,
             ),
             Work::ByPages(overlaps) => audit_by_pages(alloc, reader, out, errors, overlaps, order),
+            Work::Loosely(any_place) => audit_loosely(alloc, reader, out, errors, any_place),
             Work::Picture(drawing) => picture(alloc, reader, out, errors, drawing),
             Work::Litmus(test) => {
                 litmus(
@@ -154,9 +156,11 @@ fn manner_of(work: Work, coloured: bool) -> Manner {
         Work::Certify => (Kind::Notes, CallLimit::Usual, false),
         Work::Live { .. } | Work::CertifyLive { .. } | Work::LiveHistory { .. } | Work::ShareLive =>
             (Kind::Script, CallLimit::Usual, false),
-        Work::Audit(_) | Work::AuditAll(_) | Work::Overlapping(_) | Work::ByPages(_) => {
-            (Kind::Replies, CallLimit::Usual, false)
-        }
+        Work::Audit(_)
+        | Work::AuditAll(_)
+        | Work::Overlapping(_)
+        | Work::ByPages(_)
+        | Work::Loosely(_) => { (Kind::Replies, CallLimit::Usual, false) }
         Work::Picture(Drawing::Listing(limit)) => (Kind::Trace, limit, limit == CallLimit::Usual),
         Work::Picture(Drawing::Lives) => (Kind::Trace, CallLimit::Long, false),
         Work::Picture(_)
@@ -192,7 +196,8 @@ fn example_of(work: Work) -> &'static str {
         | Work::Audit(_)
         | Work::AuditAll(_)
         | Work::Overlapping(_)
-        | Work::ByPages(_) => "vm 1 4",
+        | Work::ByPages(_)
+        | Work::Loosely(_) => "vm 1 4",
     }
 }
 
@@ -200,7 +205,8 @@ fn example_of(work: Work) -> &'static str {
 fn keeps_of(work: Work, explains: bool) -> Keeps {
     match work {
         Work::Audit(_) | Work::AuditAll(_) => Keeps::All,
-        Work::Overlapping(_) | Work::ByPages(_) | Work::Picture(_) if explains => Keeps::All,
+        Work::Overlapping(_) | Work::ByPages(_) | Work::Loosely(_) | Work::Picture(_) if explains =>
+            Keeps::All,
         Work::Import(_) | Work::ImportEach | Work::ImportAccesses => Keeps::Nothing,
         _ if explains => Keeps::End,
         _ => Keeps::Nothing,

@@ -23,7 +23,8 @@ radixvm run [--summary | [--echo] [--log]] [--long] [--explain] [FILE]
        radixvm import [--lackey | --all DIR |
                       [--pid N] [--one-process] [--maps FILE]]
                       [--explain] [FILE..]
-       radixvm audit [--overlapping [--given IN | --by-pages] [--order OUT] |
+       radixvm audit [--overlapping [--loose |
+                       [--given IN | --by-pages] [--order OUT]] |
                      [--strict] [--all]] [--any-place] [--explain] [FILE]
        radixvm picture [--lives | [--steps] [--from N] [--to N]]
                        [--explain] [FILE]
@@ -46,7 +47,8 @@ Usage: radixvm run [--summary | [--echo] [--log]] [--long] [--explain] [FILE]
        radixvm import [--lackey | --all DIR |
                       [--pid N] [--one-process] [--maps FILE]]
                       [--explain] [FILE..]
-       radixvm audit [--overlapping [--given IN | --by-pages] [--order OUT] |
+       radixvm audit [--overlapping [--loose |
+                       [--given IN | --by-pages] [--order OUT]] |
                      [--strict] [--all]] [--any-place] [--explain] [FILE]
        radixvm picture [--lives | [--steps] [--from N] [--to N]]
                        [--explain] [FILE]

@@ -21,6 +21,7 @@ mod lining;
 mod listing;
 mod litmus_tests;
 pub mod live;
+mod loosening;
 mod naming;
 mod noting;
 mod paging;

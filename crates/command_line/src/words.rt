@@ -63,6 +63,8 @@ pub(crate) enum Work {
     Overlapping(Overlaps),
     /// The same, where each page of a range changes at a moment of its own.
     ByPages(Overlaps),
+    /// The same, where an access may go as before a call that hasn't ended; whether a mapping may have any place.
+    Loosely(bool),
     /// A picture of a trace, of its steps or of lives, or the state at its end or behind a line.
     Picture(Drawing),
     /// The outcomes of a litmus test.
@@ -163,7 +165,7 @@ const IMPORT_USAGE: &str =
     "radixvm import [--lackey | --all DIR | [--pid N] [--one-process] [--maps FILE]] [--explain] [FILE..]";
 
 const AUDIT_USAGE: &str =
-    "radixvm audit [--overlapping [--given IN | --by-pages] [--order OUT] | [--strict] [--all]] [--any-place] [--explain] [FILE]";
+    "radixvm audit [--overlapping [--loose | [--given IN | --by-pages] [--order OUT]] | [--strict] [--all]] [--any-place] [--explain] [FILE]";
 
 const LITMUS_USAGE: &str =
     "radixvm litmus [--to-c | [--limit N] [--list | --witness N | --picture N | --observed COUNTS | --live N]] [--explain] [FILE]";
@@ -319,6 +321,11 @@ fn audit_word<'a>(alloc: Global) -> Result<Command<'a>, AllocError> {
     let by_pages = flag(alloc, "by-pages")
         .requires_arg("overlapping")?
         .conflicts_with("given")?;
+    let loose = flag(alloc, "loose")
+        .requires_arg("overlapping")?
+        .conflicts_with("by-pages")?
+        .conflicts_with("given")?
+        .conflicts_with("order")?;
     let command = reading(alloc, "audit", AUDIT_USAGE)?
         .arg(flag(alloc, "any-place"))?
         .arg(flag(alloc, "strict"))?
@@ -326,7 +333,8 @@ fn audit_word<'a>(alloc: Global) -> Result<Command<'a>, AllocError> {
         .arg(overlapping)?
         .arg(given)?
         .arg(order)?
-        .arg(by_pages)?;
+        .arg(by_pages)?
+        .arg(loose)?;
     Ok(command)
 }
 
@@ -545,7 +553,9 @@ fn overlapping<'a>(words: &ArgMatches<'a>) -> Task<'a> {
         is_wanted: words.get_str("order").is_some(),
     };
     Task {
-        work: if words.get_flag("by-pages") {
+        work: if words.get_flag("loose") {
+            Work::Loosely(overlaps.any_place)
+        } else if words.get_flag("by-pages") {
             Work::ByPages(overlaps)
         } else {
             Work::Overlapping(overlaps)

@@ -122,6 +122,17 @@ impl<'a, A: Allocator + Clone + Drop> Ways<'a, A> {
         Ok(())
     }
 
+    /// Lets a call take effect in all configurations, as though it changed nothing.
+    pub fn pass_over(&mut self, configs: &mut [Config], under: &Under) -> Result<(), NoMemory> {
+        for at in 0..configs.len() {
+            let config = configs[at];
+            let trail = self.trail.add(config.trail, Item::Reply(under.number))?;
+            configs[at].done = config.done | under.bit;
+            configs[at].trail = trail;
+        }
+        Ok(())
+    }
+
     // The calls that have taken effect once those that change nothing have, as far as they can where only these may newly.
     fn settled(&self, calls: &[Under], spot: &Spot, done: u64, may: u64) -> u64 {
         let mut settled = done;

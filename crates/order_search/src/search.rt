@@ -7,8 +7,9 @@ use crate::leading::{Ending, Reach, Ways};
 use crate::under::{Mapped, Under, mapped_by};
 use backing::Objects;
 use orders::{Item, Timed, each_once};
+use slot_lock::Plan;
 use std::alloc::Allocator;
-use vm_base::{CoreSet, NoMemory};
+use vm_base::{CoreSet, NoMemory, PageRange};
 
 /// What a search comes to. That it is right isn't claimed.
 #[derive(Debug, Drop)]
@@ -22,16 +23,39 @@ pub enum Found<A: Allocator> {
     Full(usize),
 }
 
-// The state of a search between two begins or ends.
+/// An access that may have gone as before a call that hadn't ended, by the numbers of both.
+#[derive(Clone, Copy, Debug, PartialEq, Eq)]
+pub struct Lag {
+    /// The call.
+    pub behind: u32,
+    /// The access.
+    pub access: u32,
+}
+
+// A call that changes pages.
+#[derive(Clone, Copy, Debug, PartialEq, Eq)]
+struct Recent {
+    number: u32,
+    end: u64,
+    pages: PageRange,
+}
+
+/// So many calls that change pages are kept at least, before those are left out that all calls under way began after.
+const FEW_RECENT: usize = 64;
+
+// The state of a search between two begins or ends. Where accesses may lag, the calls are kept that have changed pages of late.
 #[derive(Drop)]
 struct Search<'a, A: Allocator> {
     objects: &'a Objects<A>,
     mapped: Mapped,
     answered: usize,
     unsure: &'a [bool],
+    may_lag: bool,
     ways: Ways<'a, A>,
     under: Vec<Under, A>,
     configs: Vec<Config, A>,
+    recent: Vec<Recent, A>,
+    lags: Vec<Lag, A>,
 }
 
 // The number of a call in an order.
@@ -61,9 +85,12 @@ impl<'a, A: Allocator + Clone + Drop> Search<'a, A> {
             mapped: mapped_by(history),
             answered,
             unsure,
+            may_lag: false,
             ways,
             under: Vec::new(alloc.clone()?),
             configs,
+            recent: Vec::new(alloc.clone()?),
+            lags: Vec::new(alloc.clone()?),
         })
     }
 
@@ -102,6 +129,61 @@ impl<'a, A: Allocator + Clone + Drop> Search<'a, A> {
         }
         self.note_rivals(&mut under);
         self.under.push(under)?;
+        if self.may_lag {
+            self.note_change(history, &under)?;
+        }
+        Ok(true)
+    }
+
+    // The least begin of the calls under way.
+    fn least_begin(&self, history: &[Timed]) -> u64 {
+        let mut least = u64::MAX;
+        for under in self.under.as_slice() {
+            if let Some(timed) = history.get(under.number as usize) {
+                least = least.min(timed.begin);
+            }
+        }
+        least
+    }
+
+    // Keeps a call that changes pages, as long as accesses under way may have begun before its end.
+    fn note_change(&mut self, history: &[Timed], under: &Under) -> Result<(), NoMemory> {
+        if !under.changes || matches!(under.plan, Ok(Plan::Touch(_))) {
+            return Ok(());
+        }
+        if self.recent.len() >= FEW_RECENT {
+            let least = self.least_begin(history);
+            self.recent.retain(|recent| recent.end >= least);
+        }
+        self.recent.push(Recent {
+            number: under.number,
+            end: under.end,
+            pages: under.pages,
+        })?;
+        Ok(())
+    }
+
+    // Passes over a call that none of the configurations reaches, if it is an access that may lag: then it changes nothing in any of them.
+    fn pass_over(&mut self, history: &[Timed], under: &Under) -> Result<bool, NoMemory> {
+        let Ok(Plan::Touch(touch)) = under.plan else {
+            return Ok(false);
+        };
+        let Some(timed) = history.get(under.number as usize).copied() else {
+            return Ok(false);
+        };
+        let known = self.lags.len();
+        for recent in self.recent.as_slice() {
+            if recent.end >= timed.begin && recent.pages.contains(touch.page) {
+                self.lags.push(Lag {
+                    behind: recent.number,
+                    access: under.number,
+                })?;
+            }
+        }
+        if self.lags.len() == known {
+            return Ok(false);
+        }
+        self.ways.pass_over(&mut self.configs, under)?;
         Ok(true)
     }
 
@@ -159,6 +241,7 @@ impl<'a, A: Allocator + Clone + Drop> Search<'a, A> {
     fn end_all(
         &mut self,
         alloc: &A,
+        history: &[Timed],
         time: Option<u64>,
     ) -> Result<Option<(Reach, usize)>, NoMemory> {
         for _ in 0..self.under.len() {
@@ -168,8 +251,8 @@ impl<'a, A: Allocator + Clone + Drop> Search<'a, A> {
             let Some(under) = self.under.get(at) else {
                 return Ok(None);
             };
-            let (number, bit) = (under.number, under.bit);
-            let reach = self.end(alloc, at, bit)?;
+            let (number, ends) = (under.number, *under);
+            let reach = self.end(alloc, history, at, &ends)?;
             if reach != Reach::Reached {
                 return Ok(Some((reach, number as usize)));
             }
@@ -177,18 +260,43 @@ impl<'a, A: Allocator + Clone + Drop> Search<'a, A> {
         Ok(None)
     }
 
-    // The call under way at this place ends, which is of the core with this bit.
-    fn end(&mut self, alloc: &A, at: usize, bit: u64) -> Result<Reach, NoMemory> {
+    // This call under way, which is at this place, ends.
+    fn end(
+        &mut self,
+        alloc: &A,
+        history: &[Timed],
+        at: usize,
+        ends: &Under,
+    ) -> Result<Reach, NoMemory> {
+        let bit = ends.bit;
         if !self.is_done(bit) {
             let under = self.under.as_slice();
             let reach = self.ways.reach(Ending { under, bit }, &mut self.configs)?;
-            if reach != Reach::Reached {
+            let lags = self.may_lag && reach == Reach::Stuck && self.pass_over(history, ends)?;
+            if reach != Reach::Reached && !lags {
                 return Ok(reach);
             }
         }
         self.forget(at, bit);
         self.ways.shorten(alloc, &mut self.configs)?;
         Ok(Reach::Reached)
+    }
+
+    // Goes through all begins and ends, and tells the first call that isn't reached.
+    fn run(&mut self, alloc: &A, history: &[Timed]) -> Result<Option<(Reach, usize)>, NoMemory> {
+        let begins = begins(alloc, history)?;
+        for at in 0..begins.len() {
+            let (begin, call) = begins[at];
+            // at one time begins come before ends
+            let stop = self.end_all(alloc, history, Some(begin))?;
+            if stop.is_some() {
+                return Ok(stop);
+            }
+            if !self.begin(history, call)? {
+                return Ok(Some((Reach::Full, call)));
+            }
+        }
+        self.end_all(alloc, history, None)
     }
 
     // The items of the open calls that haven't taken effect in a configuration.
@@ -282,19 +390,8 @@ fn find_some<A: Allocator + Clone + Drop>(
     requires { 1 ≤ length history.now }
     ensures { IfOk result (λ found. IsFound (length history.now) found) }
 {
-    let begins = begins(alloc, history)?;
     let mut search = Search::new(alloc, objects, any_place, history, answered, unsure)?;
-    for at in 0..begins.len() {
-        let (begin, call) = begins[at];
-        // at one time begins come before ends
-        if let Some((reach, call)) = search.end_all(alloc, Some(begin))? {
-            return Ok(stopped(history.len(), reach, call));
-        }
-        if !search.begin(history, call)? {
-            return Ok(stopped(history.len(), Reach::Full, call));
-        }
-    }
-    if let Some((reach, call)) = search.end_all(alloc, None)? {
+    if let Some((reach, call)) = search.run(alloc, history)? {
         return Ok(stopped(history.len(), reach, call));
     }
     found_by(alloc, history.len(), search.into_order(alloc)?)
@@ -335,4 +432,32 @@ pub fn find_choice<A: Allocator + Clone + Drop>(
         return Ok(Found::Order(Vec::new(alloc.clone()?), CoreSet::empty()));
     }
     find_some(alloc, objects, any_place, history, history.len(), unsure)
+}
+
+/// Searches as `find_choice` does, where accesses may lag: one that no order so far gets to the end of is passed over, as though it changed
+/// nothing, if a call that changes its page hadn't ended when it began. It stands among the items, and `lags` tells it, once for each such
+/// call.
+#[tactic(auto, using(crate::proofs::NoCalls::none_found))]
+pub fn find_lagging<A: Allocator + Clone + Drop>(
+    alloc: &A,
+    objects: &Objects<A>,
+    any_place: bool,
+    history: &[Timed],
+    unsure: &[bool],
+    lags: &mut Vec<Lag, A>,
+) -> Result<Found<A>, NoMemory>
+    ensures { IfOk result (λ found. IsFound (length history.now) found) }
+{
+    lags.clear();
+    if history.is_empty() {
+        return Ok(Found::Order(Vec::new(alloc.clone()?), CoreSet::empty()));
+    }
+    let count = history.len();
+    let mut search = Search::new(alloc, objects, any_place, history, count, unsure)?;
+    search.may_lag = true;
+    if let Some((reach, call)) = search.run(alloc, history)? {
+        return Ok(stopped(count, reach, call));
+    }
+    lags.extend_from_slice(search.lags.as_slice())?;
+    found_by(alloc, count, search.into_order(alloc)?)
 }

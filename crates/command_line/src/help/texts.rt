@@ -314,6 +314,15 @@ text. no order is told where at most 64 calls, of pages and others, have none.
 --order OUT writes calls of one page each. More than 33,554,432 of them are
 told as a want of memory.
 
+Nor need a kernel hold accesses up while it changes a page: one may still use
+an old translation. With --loose that is no fault either. By pages, too, each
+call that was done keeps what it replaced on its page until it has ended, and
+an access may go as before it: it has its reply with the old entry, and stores
+to that, so that the page itself stays as it is. So munmap may still run when
+a load of the page gets segv maperr, and another one, after it, the old byte.
+The answer is legal, which was checked, or undecided: an access of a page of a
+file is not looked at as before a call.
+
 Example:
   printf '%s\\n' 'vm 1 4' 'c0! mmap 0x10000 4096 rw- pfa = 0x10000' \\
     'c0! store 0x10004 41 = done' 'c0! load 0x10004 = 40' | radixvm audit

@@ -1,0 +1,9 @@
+pub mod Maps
+pub mod Accesses
+pub mod LateLemmas
+pub mod StepLemmas
+pub mod StepLists
+pub mod KeptLemmas
+pub mod FoundLemmas
+pub mod AtomicLemmas
+mod Examples

@@ -1,0 +1,5 @@
+pub mod Loose
+pub mod Kept
+pub mod Late
+pub mod Following
+pub mod Laws

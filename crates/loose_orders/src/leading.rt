@@ -1,0 +1,180 @@
+//! Whether steps, one after another, lead from one state to another.
+ghost use Rattle.std.specs.Prelude.{◌≡◌, ◌↔◌, Bool, IsTrue, List, Ok, true};
+ghost use Rattle.vm_base.specs.Log.{RepliesBy};
+ghost use Rattle.vm_base.specs.Plain.{Plain};
+ghost use Rattle.orders.specs.declared.history.Timed.{Timed};
+ghost use Rattle.orders.specs.Orders.{CopiesFor};
+ghost use Rattle.audit.specs.Auditor.{plain_of};
+ghost use Rattle.audit.specs.Placing.{rule_of};
+ghost use Rattle.loose_orders.specs.Following.{StepsOn};
+ghost use Rattle.loose_orders.specs.Loose.{LeadAll, Loose, begun};
+ghost use Rattle.loose_orders.specs.declared.steps.Step.TheVariants as StepOf;
+
+use crate::keeping::{Kept, Use, call_at, forget, note};
+use crate::late::goes_late;
+use crate::steps::Step;
+use audit::{Auditor, Call, Verdict};
+use orders::Timed;
+use slot_lock::SlotMap;
+use std::alloc::Allocator;
+use vm_base::{NoMemory, Reply, Request, page_of};
+
+/// Tells whether a reply says that no memory was there.
+fn wants_memory(reply: Reply) -> bool
+    ensures { IsTrue result ↔ (reply ≡ Reply.NoMemory) }
+{
+    matches!(reply, Reply::NoMemory)
+}
+
+/// Tells whether a reply says that no frame was free.
+fn wants_frame(reply: Reply) -> bool
+    ensures { IsTrue result ↔ (reply ≡ Reply.NoFrame) }
+{
+    matches!(reply, Reply::NoFrame)
+}
+
+/// Tells whether a call's reply is the plain page map's, which goes on from there.
+fn is_plain<M: SlotMap, A: Allocator>(
+    auditor: &mut Auditor<M, A>,
+    call: Call,
+) -> Result<bool, NoMemory>
+    ensures yes { result ≡ Ok true → RepliesBy (rule_of auditor.old.any_place) (plain_of auditor.old) call.core call.request
+        call.reply (plain_of auditor.new) }
+    ensures any_place { auditor.new.any_place ≡ auditor.old.any_place }
+{
+    if wants_memory(call.reply) {
+        return Ok(true);
+    }
+    if wants_frame(call.reply) {
+        return Ok(auditor.would_serve(call.request));
+    }
+    match auditor.judge(call.core, call.request, call.reply)? {
+        Verdict::Legal => Ok(true),
+        Verdict::Illegal(_) => Ok(false),
+    }
+}
+
+/// Tells whether the page that the request stores to gets a copy here, and makes it.
+fn is_copied<M: SlotMap, A: Allocator>(
+    auditor: &mut Auditor<M, A>,
+    request: Request,
+) -> Result<bool, NoMemory>
+    ensures yes { result ≡ Ok true → CopiesFor (plain_of auditor.old) request (plain_of auditor.new) }
+    ensures any_place { auditor.new.any_place ≡ auditor.old.any_place }
+{
+    match request {
+        Request::Store { addr, .. } => auditor.copy(page_of(addr)),
+        Request::Mmap { .. }
+        | Request::Munmap { .. }
+        | Request::Mprotect { .. }
+        | Request::Load { .. }
+        | Request::Fetch { .. } => Ok(false),
+    }
+}
+
+/// Tells whether a call has its reply in the plain page map, and lets it take effect.
+fn replies<M: SlotMap, A: Allocator>(
+    auditor: &mut Auditor<M, A>,
+    kept: &mut Vec<Kept, A>,
+    history: &[Timed],
+    uses: &[Use],
+    call: u32,
+) -> Result<bool, NoMemory>
+    ensures yes { result ≡ Ok true → StepsOn (rule_of auditor.old.any_place) history.now (plain_of auditor.old) kept.old.items
+        (StepOf.Reply call) (plain_of auditor.new) kept.new.items }
+    ensures any_place { auditor.new.any_place ≡ auditor.old.any_place }
+{
+    let Some(timed) = call_at(history, call) else {
+        return Ok(false);
+    };
+    forget(kept, call);
+    note(auditor, kept, history, uses, call)?;
+    let goes = is_plain(auditor, timed.call)?;
+    Ok(goes)
+}
+
+/// Tells whether the page that a call stores to gets a copy here, and makes it.
+fn copies<M: SlotMap, A: Allocator>(
+    auditor: &mut Auditor<M, A>,
+    kept: &[Kept],
+    history: &[Timed],
+    call: u32,
+) -> Result<bool, NoMemory>
+    ensures yes { result ≡ Ok true → StepsOn (rule_of auditor.old.any_place) history.now (plain_of auditor.old) kept.now
+        (StepOf.Copy call) (plain_of auditor.new) kept.now }
+    ensures any_place { auditor.new.any_place ≡ auditor.old.any_place }
+{
+    let Some(timed) = call_at(history, call) else {
+        return Ok(false);
+    };
+    let goes = is_copied(auditor, timed.call.request)?;
+    Ok(goes)
+}
+
+/// Tells whether a call goes as before one that hasn't ended.
+fn goes_as_before<A: Allocator>(kept: &mut Vec<Kept, A>, history: &[Timed], call: u32) -> bool
+    ensures { result ≡ true → (any_place : Bool) (t : Plain)
+        → StepsOn (rule_of any_place) history.now t kept.old.items (StepOf.Late call) t kept.new.items }
+{
+    match call_at(history, call) {
+        Some(timed) => goes_late(kept, timed.call),
+        None => false,
+    }
+}
+
+/// A call has ended.
+fn ends<A: Allocator>(kept: &mut Vec<Kept, A>, call: u32)
+    ensures { (any_place : Bool) (h : List Timed) (t : Plain) → StepsOn (rule_of any_place) h t kept.old.items (StepOf.End call) t kept.new.items }
+{
+    forget(kept, call);
+}
+
+/// Tells whether a step leads on, and goes there.
+fn leads<M: SlotMap, A: Allocator>(
+    auditor: &mut Auditor<M, A>,
+    kept: &mut Vec<Kept, A>,
+    history: &[Timed],
+    uses: &[Use],
+    step: Step,
+) -> Result<bool, NoMemory>
+    ensures yes { result ≡ Ok true → StepsOn (rule_of auditor.old.any_place) history.now (plain_of auditor.old) kept.old.items
+        step (plain_of auditor.new) kept.new.items }
+    ensures any_place { auditor.new.any_place ≡ auditor.old.any_place }
+{
+    match step {
+        Step::Reply(call) => {
+            let goes = replies(auditor, kept, history, uses, call)?;
+            Ok(goes)
+        }
+        Step::Late(call) => Ok(goes_as_before(kept, history, call)),
+        Step::Copy(call) => {
+            let goes = copies(auditor, kept.as_slice(), history, call)?;
+            Ok(goes)
+        }
+        Step::End(call) => {
+            ends(kept, call);
+            Ok(true)
+        }
+    }
+}
+
+/// Tells whether all steps lead on, one after another, where nothing was replaced before.
+pub(crate) fn all_lead<M: SlotMap, A: Allocator>(
+    alloc: A,
+    auditor: &mut Auditor<M, A>,
+    history: &[Timed],
+    uses: &[Use],
+    steps: &[Step],
+) -> Result<bool, NoMemory>
+    ensures { result ≡ Ok true → (last : Loose) × LeadAll (rule_of auditor.old.any_place) history.now (begun (plain_of auditor.old)) steps.now last }
+{
+    let mut kept = Vec::new(alloc);
+    'steps: for at in 0..steps.len() {
+        let step = steps[at];
+        let goes = leads(auditor, &mut kept, history, uses, step)?;
+        if !goes {
+            return Ok(false);
+        }
+    }
+    Ok(true)
+}

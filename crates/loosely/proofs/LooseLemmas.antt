@@ -1,0 +1,51 @@
+-- What an order by the loose rule says of a history
+use Rattle.std.proofs.Common.{◌≡◌, ◌∙◌, ℕ, Bool, List, ap, length, subst, sym}
+use Rattle.vm_base.specs.declared.replies.Reply.{Reply}
+use Rattle.vm_base.specs.Plain.{Plain, nothing_mapped}
+use Rattle.backing.specs.declared.file_spec.FileSpec.{FileSpec}
+use Rattle.backing.specs.Given.{given_files}
+use Rattle.audit.specs.Placing.{rule_of}
+use Rattle.audit_text.specs.Legal.{first_map}
+use Rattle.audit_text.proofs.FileLemmas.{same_files}
+use Rattle.orders.specs.declared.history.Timed.{Timed}
+use Rattle.orders_text.specs.History.{IsHistory, completed, replies_in}
+use Rattle.orders_text.specs.Steps.{read_of}
+use Rattle.orders_text.specs.declared.reading.History.{History}
+use Rattle.loose_orders.specs.declared.steps.Step.{Step}
+use Rattle.loose_orders.specs.Loose.{HasLooseOrder, IsLooseOrder}
+use Rattle.by_pages.specs.Pages.{AreChosen, parts_from}
+use Rattle.by_pages.specs.declared.splitting.Part.{Part}
+use Rattle.page_orders.specs.Rulings.{IsLegal}
+use Rattle.loosely.specs.Loosely.{HasLooseOrderAmong, HasLooseOrderByPages}
+
+pub order_among : (any_place rule : Bool) (t u : Plain) (parts : List Part) (calls made : List Timed) (steps : List Step) → rule ≡ any_place
+    → t ≡ u → calls ≡ made → AreChosen parts made → IsLooseOrder (rule_of rule) t calls steps → HasLooseOrderAmong (rule_of any_place) u parts
+order_among any_place rule t u parts calls made steps e f same c o = record {
+  calls = calls;
+  chosen = subst (λ (cs : List Timed). AreChosen parts cs) (sym same) c;
+  order = record {
+    steps = steps;
+    is_order = subst (λ (p : Plain). IsLooseOrder (rule_of any_place) p calls steps) f
+        (subst (λ (b : Bool). IsLooseOrder (rule_of b) t calls steps) e o);
+  };
+}
+
+-- the first map of a history
+first_of : {A : Type 0} (history : History A) (files : List (FileSpec A)) → files ≡ history.declaration.files.items
+    → nothing_mapped (given_files files) ≡ first_map (read_of history).declared
+first_of {A} history files e =
+    ap (λ (fs : List (FileSpec A)). nothing_mapped (given_files fs)) e ∙ ap nothing_mapped (same_files history.declaration.files.items)
+
+pub legal_there : {A : Type 0} (any_place : Bool) (lines : List (List ℕ)) (history : History A) (replies : List Reply) (parts all : List Part)
+    (files : List (FileSpec A)) (n : ℕ) → n ≡ length history.calls.items → files ≡ history.declaration.files.items → parts ≡ all
+    → all ≡ parts_from 0 (completed (replies_in replies) (read_of history))
+    → HasLooseOrderAmong (rule_of any_place) (nothing_mapped (given_files files)) parts → IsHistory lines (read_of history)
+    → IsLegal (HasLooseOrderByPages (rule_of any_place)) lines n
+legal_there any_place lines history replies parts all files n count f same is o h = record {
+  read = read_of history;
+  history = h;
+  count = count;
+  replies = replies_in replies;
+  order = subst (λ (ps : List Part). HasLooseOrderAmong (rule_of any_place) (first_map (read_of history).declared) ps) (same ∙ is)
+      (subst (λ (t : Plain). HasLooseOrderAmong (rule_of any_place) t parts) (first_of history files f) o);
+}

@@ -1,0 +1,200 @@
+//! Judging a text of calls that overlap by the loose rule.
+ghost use Rattle.std.specs.Prelude.{◌≡◌, ◌≤◌, ℕ, List, IfErr, IfOk, Ok, length, true};
+ghost use Rattle.trace_io.specs.Lines.{lines_of};
+ghost use Rattle.slot_lock.specs.Slots.{IsNew};
+ghost use Rattle.vm_base.specs.Plain.{nothing_mapped};
+ghost use Rattle.backing.specs.Given.{given_files};
+ghost use Rattle.audit.specs.Placing.{rule_of};
+ghost use Rattle.orders_text.specs.Faults.{IsAtFault};
+ghost use Rattle.orders_text.specs.History.{IsHistory, completed, replies_in};
+ghost use Rattle.orders_text.specs.Steps.{HasPlaces, read_of};
+ghost use Rattle.by_pages.specs.Pages.{parts_from};
+ghost use Rattle.page_orders.specs.Rulings.{IsRuling};
+ghost use Rattle.loosely.specs.Loosely.{HasLooseOrderAmong, HasLooseOrderByPages};
+
+use crate::searching::{Order, find};
+use audit::Auditor;
+use backing::FileSpec;
+use by_pages::{Part, chosen};
+use loose_orders::{Step, Use, follow};
+use no_order::files_again;
+use orders_text::{History, HistoryFault, read_history};
+use overlapping::{Ruled, Ruling};
+use page_orders::{effects, none_waits, split_history};
+use slot_lock::SlotMap;
+use std::alloc::Allocator;
+use trace_io::IoFault;
+use vm_base::{NoMemory, Reply};
+
+// The replies of the calls that wait at a history's end, its parts, and what a search finds of them.
+#[derive(Drop)]
+struct Tried<A: Allocator> {
+    replies: Vec<Reply, A>,
+    parts: Vec<Part, A>,
+    order: Order<A>,
+}
+
+// Searches an order of a history's parts, where the calls that wait take effect, or don't.
+#[tactic(auto, using(page_orders::proofs::RuleLemmas::with_replies))]
+fn try_with<A: Allocator + Clone + Drop>(
+    alloc: &A,
+    history: &History<A>,
+    any_place: bool,
+    take_effect: bool,
+) -> Result<Tried<A>, NoMemory>
+    requires few { length history.now.declaration.files.items ≤ 16 }
+    requires places { HasPlaces history.now }
+    ensures { IfOk result (λ tried. tried.parts.items ≡ parts_from 0 (completed (replies_in tried.replies.items) (read_of history.now))) }
+{
+    let replies = effects(alloc, history.waiting.as_slice(), take_effect)?;
+    let told = replies.as_slice();
+    let parts = split_history(alloc, history, told)?;
+    let files = history.declaration.files.as_slice();
+    let order = find(alloc, files, any_place, parts.as_slice())?;
+    Ok(Tried {
+        replies,
+        parts,
+        order,
+    })
+}
+
+// Searches an order of a history's parts.
+fn search_history<A: Allocator + Clone + Drop>(
+    alloc: &A,
+    history: &History<A>,
+    any_place: bool,
+) -> Result<Tried<A>, NoMemory>
+    requires few { length history.now.declaration.files.items ≤ 16 }
+    requires places { HasPlaces history.now }
+    ensures { IfOk result (λ tried. tried.parts.items ≡ parts_from 0 (completed (replies_in tried.replies.items) (read_of history.now))) }
+{
+    let tried = try_with(alloc, history, any_place, true)?;
+    if matches!(tried.order, Order::Of { .. }) || none_waits(history.waiting.as_slice()) {
+        return Ok(tried);
+    }
+    let other = try_with(alloc, history, any_place, false)?;
+    Ok(other)
+}
+
+// Tells whether the steps are an order of the calls of these parts of a space with these files, where these are lost.
+fn is_order<M: SlotMap + Drop, A: Allocator + Clone + Drop>(
+    alloc: &A,
+    map: M,
+    files: &[FileSpec<A>],
+    any_place: bool,
+    parts: &[Part],
+    losses: &[bool],
+    uses: &[Use],
+    steps: &[Step],
+) -> Result<bool, NoMemory>
+    requires new { IsNew (M.slots map) }
+    requires few { length files.now ≤ 16 }
+    ensures { result ≡ Ok true → HasLooseOrderAmong (rule_of any_place) (nothing_mapped (given_files files.now)) parts.now }
+{
+    let made = chosen(alloc, parts, losses)?;
+    let calls = made.as_slice();
+    let again = files_again(alloc, files)?;
+    let mut auditor = Auditor::new(alloc.clone()?, map, again, any_place)?;
+    follow(alloc.clone()?, &mut auditor, calls, uses, steps)
+}
+
+// The line of the call at this place of a history.
+fn line_at(lines: &[u64], place: usize) -> u64 {
+    match lines.get(place) {
+        Some(line) => *line,
+        None => 0,
+    }
+}
+
+// The place of the call that a part is of.
+fn call_of(parts: &[Part], part: usize) -> usize {
+    match parts.get(part) {
+        Some(part) => part.of,
+        None => 0,
+    }
+}
+
+// The ruling by what the search found.
+#[tactic(auto, using(crate::proofs::LooseLemmas::legal_there))]
+fn rule_by<M: SlotMap + Drop, A: Allocator + Clone + Drop>(
+    alloc: &A,
+    map: M,
+    history: &History<A>,
+    any_place: bool,
+    tried: &Tried<A>,
+) -> Result<Ruling, NoMemory>
+    requires new { IsNew (M.slots map) }
+    requires few { length history.now.declaration.files.items ≤ 16 }
+    requires parts { tried.now.parts.items ≡ parts_from 0 (completed (replies_in tried.now.replies.items) (read_of history.now)) }
+    ensures { IfOk result (λ ruling. (lines : List (List ℕ)) → IsHistory lines (read_of history.now)
+        → IsRuling (HasLooseOrderByPages (rule_of any_place)) lines ruling) }
+{
+    let parts = tried.parts.as_slice();
+    let lines = history.lines.as_slice();
+    match &tried.order {
+        Order::Of {
+            steps,
+            uses,
+            losses,
+        } => {
+            let files = history.declaration.files.as_slice();
+            let steps = steps.as_slice();
+            let uses = uses.as_slice();
+            let lost = losses.as_slice();
+            let is_one = is_order(alloc, map, files, any_place, parts, lost, uses, steps)?;
+            if is_one {
+                Ok(Ruling::Legal(history.calls.len() as u64))
+            } else {
+                let last = history.calls.len().saturating_sub(1);
+                Ok(Ruling::Undecided(line_at(lines, last)))
+            }
+        }
+        Order::None(part) => Ok(Ruling::Undecided(line_at(lines, call_of(parts, *part)))),
+    }
+}
+
+// Judges a history that was read from a text.
+fn rule<M: SlotMap + Drop, A: Allocator + Clone + Drop>(
+    alloc: &A,
+    map: M,
+    history: &History<A>,
+    any_place: bool,
+) -> Result<Ruling, NoMemory>
+    requires new { IsNew (M.slots map) }
+    requires few { length history.now.declaration.files.items ≤ 16 }
+    requires places { HasPlaces history.now }
+    ensures { IfOk result (λ ruling. (lines : List (List ℕ)) → IsHistory lines (read_of history.now)
+        → IsRuling (HasLooseOrderByPages (rule_of any_place)) lines ruling) }
+{
+    let tried = search_history(alloc, history, any_place)?;
+    let ruling = rule_by(alloc, map, history, any_place, &tried)?;
+    Ok(ruling)
+}
+
+/// Judges a text by the loose rule: it is that of a history, whose calls have an order by it, or of which none was found; or it isn't, and
+/// why.
+pub fn judge_text<M: SlotMap + Drop, A: Allocator + Clone + Drop>(
+    alloc: &A,
+    map: M,
+    text: &[u8],
+    any_place: bool,
+) -> Result<Ruled<A>, HistoryFault>
+    requires new { IsNew (M.slots map) }
+    ensures ok { IfOk result (λ ruled. IsRuling (HasLooseOrderByPages (rule_of any_place)) (lines_of text.now) ruled.ruling) }
+    ensures err { IfErr result (λ f. IsAtFault (lines_of text.now) f) }
+{
+    let history = match read_history(alloc, text) {
+        Ok(history) => history,
+        Err(fault) => return Err(fault),
+    };
+    let Ok(none) = alloc.clone() else {
+        return Err(HistoryFault::Io(IoFault::NoMemory));
+    };
+    match rule(alloc, map, &history, any_place) {
+        Ok(ruling) => Ok(Ruled {
+            ruling,
+            order: Vec::new(none),
+        }),
+        Err(_) => Err(HistoryFault::Io(IoFault::NoMemory)),
+    }
+}

@@ -1,0 +1,70 @@
+//! A text is read whole, its calls are judged by the loose rule, and the ruling is written.
+ghost use Rattle.std.specs.Prelude.{◌≡◌, ◌⊎◌, Err, OnOk, true};
+ghost use Rattle.trace_io.specs.Io.{read_from, written_to};
+ghost use Rattle.trace_io.specs.Source.{Reads};
+ghost use Rattle.slot_lock.specs.Slots.{IsNew};
+ghost use Rattle.audit.specs.Placing.{rule_of};
+ghost use Rattle.overlapping.specs.Ends.{TellsJudgement};
+ghost use Rattle.page_orders.specs.Ends.{JudgementEnds};
+ghost use Rattle.loosely.specs.Loosely.{HasLooseOrderByPages};
+
+use crate::judging::judge_text;
+use orders_text::HistoryFault;
+use overlapping::Ruled;
+use overlapping::overlapping::ruling_text;
+use slot_lock::SlotMap;
+use std::alloc::Allocator;
+use trace_io::IoFault;
+use trace_io::sink::{Sink, write_out};
+use trace_io::source::{Source, read_all};
+
+// Judges a text by the loose rule, and writes the ruling.
+#[tactic(auto, using(page_orders::proofs::EndLemmas::judges_all, page_orders::proofs::EndLemmas::breaks_off, page_orders::proofs::EndLemmas::fails_so, trace_io::proofs::IoLemmas::keeps_same))]
+fn judge_out<M: SlotMap + Drop, A: Allocator + Clone + Drop, W: Sink>(
+    alloc: A,
+    map: M,
+    text: &[u8],
+    writer: &mut W,
+    any_place: bool,
+) -> Result<Ruled<A>, HistoryFault>
+    requires new { IsNew (M.slots map) }
+    ensures ends { JudgementEnds (HasLooseOrderByPages (rule_of any_place)) text.now (W.contents writer.old) (W.contents writer.new) result }
+    ensures out { OnOk result (W.is_flushed writer.new ≡ true) }
+    ensures read { result ≡ Err (HistoryFault.Io IoFault.ReadFailed) → ⊥ }
+    ensures write { result ≡ Err (HistoryFault.Io IoFault.WriteFailed) → W.failed writer.new ≡ true }
+    ensures kept { (result ≡ Err (HistoryFault.Io IoFault.WriteFailed)) ⊎ (W.failed writer.new ≡ W.failed writer.old) }
+{
+    let ruled = match judge_text(&alloc, map, text, any_place) {
+        Ok(ruled) => ruled,
+        Err(fault) => return Err(fault),
+    };
+    let told = ruling_text(ruled.ruling);
+    match write_out(writer, told.as_str().as_bytes()) {
+        Ok(()) => Ok(ruled),
+        Err(_) => Err(HistoryFault::Io(IoFault::WriteFailed)),
+    }
+}
+
+/// Reads a text to its end, and writes whether its calls, which may overlap, have an order by the loose rule that begins with nothing mapped:
+/// `legal CALLS`, which is told only where the order was checked, or `undecided LINE` where none was found. The map has nothing mapped.
+pub fn judge_loosely<M: SlotMap + Drop, A: Allocator + Clone + Drop, S: Source, W: Sink>(
+    alloc: A,
+    map: M,
+    reader: &mut S,
+    writer: &mut W,
+    any_place: bool,
+) -> Result<Ruled<A>, HistoryFault>
+    requires new { IsNew (M.slots map) }
+    ensures ends { Reads (S.stream reader.old) (S.stream reader.new) (λ input unread.
+        JudgementEnds (HasLooseOrderByPages (rule_of any_place)) input (W.contents writer.old) (W.contents writer.new) result) }
+    ensures told { TellsJudgement result (read_from S.Source reader.old reader.new)
+        (written_to W.Sink writer.old writer.new) }
+{
+    let Ok(for_text) = alloc.clone() else {
+        return Err(HistoryFault::Io(IoFault::NoMemory));
+    };
+    match read_all(for_text, reader) {
+        Ok(text) => judge_out(alloc, map, text.as_slice(), writer, any_place),
+        Err(fault) => Err(HistoryFault::Io(fault)),
+    }
+}
