@@ -159,16 +159,23 @@ fn rule<M: SlotMap + Drop, A: Allocator + Clone + Drop>(
     map: M,
     history: &History<A>,
     any_place: bool,
-) -> Result<Ruling, NoMemory>
+) -> Result<Ruled<A>, NoMemory>
     requires new { IsNew (M.slots map) }
     requires few { length history.now.declaration.files.items ≤ 16 }
     requires places { HasPlaces history.now }
-    ensures { IfOk result (λ ruling. (lines : List (List ℕ)) → IsHistory lines (read_of history.now)
-        → IsRuling (HasLooseOrderByPages (rule_of any_place)) lines ruling) }
+    ensures { IfOk result (λ ruled. (lines : List (List ℕ)) → IsHistory lines (read_of history.now)
+        → IsRuling (HasLooseOrderByPages (rule_of any_place)) lines ruled.ruling) }
 {
     let tried = search_history(alloc, history, any_place)?;
     let ruling = rule_by(alloc, map, history, any_place, &tried)?;
-    Ok(ruling)
+    // Nothing stands beside a ruling by this rule.
+    let order = Vec::new(alloc.clone()?);
+    let explanation = Vec::new(alloc.clone()?);
+    Ok(Ruled {
+        ruling,
+        order,
+        explanation,
+    })
 }
 
 /// Judges a text by the loose rule: it is that of a history, whose calls have an order by it, or of which none was found; or it isn't, and
@@ -187,14 +194,8 @@ pub fn judge_text<M: SlotMap + Drop, A: Allocator + Clone + Drop>(
         Ok(history) => history,
         Err(fault) => return Err(fault),
     };
-    let Ok(none) = alloc.clone() else {
-        return Err(HistoryFault::Io(IoFault::NoMemory));
-    };
     match rule(alloc, map, &history, any_place) {
-        Ok(ruling) => Ok(Ruled {
-            ruling,
-            order: Vec::new(none),
-        }),
+        Ok(ruled) => Ok(ruled),
         Err(_) => Err(HistoryFault::Io(IoFault::NoMemory)),
     }
 }
