@@ -15,11 +15,11 @@ pages-init g c = record {
 pub pages-preserved : goal.pages-preserved
 pages-preserved g c =
     let low = c.pages.invariant.low in
-    let above = c.next_of.ensures.above in
+    let above = c.next_of-page.ensures.above in
     record {
       low = omega (arith, low, above);
       gathered = gathered_more c.args.range (used_in (state c.args.machine.now)) (at_page c.args.list.now) (at_page c.pages.list)
-          (at_page c.set.new.self) c.pages.page c.next_of.result low c.pages-test.true above c.requires c.next_of.ensures.between
+          (at_page c.set.new.self) c.pages.page c.next_of-page.result low c.pages-test.true above c.requires c.next_of-page.ensures.between
           c.pages.invariant.gathered
           (λ q. c.set.ensures c.if-not-set.false q ∙ ap (λ v. put (at_page c.pages.list) c.pages.page v q) c.used_at.ensures);
     }
