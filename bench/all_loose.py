@@ -8,7 +8,7 @@ import random
 import subprocess
 import sys
 
-from all_orders import FILE, PROGRAM, Call, acts, again, by_pages, changed, copies, key, of_page, request, start, takes_effect
+from all_orders import BASE, FILE, PROGRAM, Call, acts, again, by_pages, changed, copies, key, of_page, request, start, takes_effect
 from plain_map import PAGE, Page, arguments
 
 ACCESSES = ("load", "store", "fetch")
@@ -103,20 +103,34 @@ def reply_of(plain, core, words):
     return getattr(seen, words[0])(core, "", *arguments(words[1:]))[0]
 
 
+def asks(choose):
+    """What a thread asks for: two of three accesses are of the first two pages."""
+    words = request(choose)
+    if words[0] in ACCESSES and choose.random() < 0.67:
+        words[1] = hex(BASE + choose.randrange(2) * PAGE + int(words[1], 0) % PAGE)
+    return words
+
+
 def history(choose):
-    """Calls of busy threads, each of which takes effect between its begin and its end, page by page; an access may go as before a call under way."""
-    plain, clock, made, calls, olds = start(), 0, 0, [], {}
+    """Calls of busy threads, each of which takes effect between its begin and its end, page by page; an access may go as before a call under way.
+    Calls on ranges end late, so that many are. The first two pages are mapped."""
+    plain, clock, made, calls, olds = start(), 2, 0, [], {}
     threads, most = choose.randint(2, 4), choose.randint(4, 9)
     under = [None] * threads
+    first = Call(1, 2, 0, ["mmap", hex(BASE), str(2 * PAGE), choose.choice(["rw-", "rwx", "r--", "r-x"]), "pfa"], hex(BASE))
+    plain = takes_effect(plain, first)
+    calls.append(first)
     while made < most or any(under):
         core, clock = choose.randrange(threads), clock + 1
         if under[core] is None:
             if made < most:
-                words = request(choose)
+                words = asks(choose)
                 left = list(range(int(words[2], 0) // PAGE)) if words[0] in ("mmap", "munmap", "mprotect") else []
                 under[core], made = [clock, words, None, left], made + 1
             continue
         begin, words, reply, left = under[core]
+        if reply is not None and words[0] not in ACCESSES and made < most and choose.random() < 0.8:
+            continue
         if reply is not None:
             calls.append(Call(begin, clock, core, words, reply))
             olds = {place: page for place, page in olds.items() if place[0] != core}

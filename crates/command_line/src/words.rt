@@ -307,6 +307,20 @@ fn machine_words<'a>(alloc: Global) -> Result<Command<'a>, AllocError> {
     Ok(program)
 }
 
+// The word `audit` with the rules that orders of calls may have.
+fn with_rules<'a>(alloc: Global, command: Command<'a>) -> Result<Command<'a>, AllocError> {
+    let by_pages = flag(alloc, "by-pages")
+        .requires_arg("overlapping")?
+        .conflicts_with("given")?;
+    let loose = flag(alloc, "loose")
+        .requires_arg("overlapping")?
+        .conflicts_with("by-pages")?
+        .conflicts_with("given")?
+        .conflicts_with("order")?;
+    let command = command.arg(by_pages)?.arg(loose)?;
+    Ok(command)
+}
+
 // The word `audit` with what may stand after it.
 fn audit_word<'a>(alloc: Global) -> Result<Command<'a>, AllocError> {
     let overlapping = flag(alloc, "overlapping")
@@ -318,24 +332,14 @@ fn audit_word<'a>(alloc: Global) -> Result<Command<'a>, AllocError> {
     let order = Arg::new(alloc, "order")
         .long("order")
         .requires_arg("overlapping")?;
-    let by_pages = flag(alloc, "by-pages")
-        .requires_arg("overlapping")?
-        .conflicts_with("given")?;
-    let loose = flag(alloc, "loose")
-        .requires_arg("overlapping")?
-        .conflicts_with("by-pages")?
-        .conflicts_with("given")?
-        .conflicts_with("order")?;
     let command = reading(alloc, "audit", AUDIT_USAGE)?
         .arg(flag(alloc, "any-place"))?
         .arg(flag(alloc, "strict"))?
         .arg(flag(alloc, "all"))?
         .arg(overlapping)?
         .arg(given)?
-        .arg(order)?
-        .arg(by_pages)?
-        .arg(loose)?;
-    Ok(command)
+        .arg(order)?;
+    with_rules(alloc, command)
 }
 
 // The program with one word more.
