@@ -11,7 +11,7 @@ use Rattle.picture.specs.Canvas.{picture_text}
 use Rattle.picture.specs.Places.{view_of}
 use Rattle.command_line.specs.declared.picturing.Drawing.{Drawing}
 use Rattle.command_line.specs.declared.picturing.Drawing.TheVariants.{Lines, Steps, Lives, State, Listing}
-use Rattle.command_line.specs.Lining.{Lined, lacking_of, picture_drawn}
+use Rattle.command_line.specs.Lining.{FailsUpTo, Lined, lacking_of, picture_drawn}
 use Rattle.command_line.specs.Listing.{FailsToList, Listed, lacking_nothing}
 use Rattle.named_lists.specs.Lists.{named_list}
 use Rattle.recorder.specs.Changes.{Changes, ChangesRecorded, nothing_changed}
@@ -71,7 +71,7 @@ Watched after one input r = IsSeen after one r Outcomes input None None
 -- happened in them, beside one of changes that of lives; in place of a picture
 -- there may be the text of the state to which the lines, or the first of them, lead, or a list of the mappings at the end with the names of files
 abbrev pub PictureEnds : Drawing → List ℕ → Option (List ℕ) → Option (List ℕ) → Result (Option ℕ) TraceFault → Type 0
-PictureEnds (Lines lines) input old new r = TextEnds (Lined lines input) (FailsTo (Some lines.last) input) (lacking_of lines) picture_drawn old new r
+PictureEnds (Lines lines) input old new r = TextEnds (Lined lines input) (FailsUpTo (Some lines.last) input) (lacking_of lines) picture_drawn old new r
 PictureEnds (Steps steps) input old new r = TextEnds (Watched (makes recorded) (nothing_recorded steps.first steps.last) input) (Fails Usual input)
     (lacking steps.first) (picture_of steps.first steps.last input) old new r
 PictureEnds (State at) input old new r = TextEnds (IsTold (lines_to at (lines_of input))) (FailsTo at input)

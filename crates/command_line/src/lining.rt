@@ -2,9 +2,8 @@
 //! written.
 ghost use Rattle.std.specs.Prelude.{◌≡◌, ◌≢◌, ◌⊎◌, Err, IfErr, IfOk, Some, true};
 ghost use Rattle.std.specs.Io.KnownBytes.{Keeps};
-ghost use Rattle.command_line.specs.Lining.{Lined, begun_at, lacking_from, lacking_of, lines_picture, picture_drawn};
+ghost use Rattle.command_line.specs.Lining.{FailsUpTo, Lined, begun_at, lacking_from, lacking_of, lines_picture, picture_drawn};
 ghost use Rattle.command_line.specs.Picture.{ShowsText, TextEnds};
-ghost use Rattle.command_line.specs.State.{FailsTo};
 ghost use Rattle.trace.specs.declared.fault.TraceFault.TheVariants as Of;
 ghost use Rattle.trace_io.specs.Lines.{lines_of};
 ghost use Rattle.trace.specs.Ends.{fault_named};
@@ -134,7 +133,7 @@ pub(crate) fn draw_lines<W: Sink, E: Write>(
     errors: &mut E,
     lines: Lines,
 ) -> Result<Option<u64>, TraceFault>
-    ensures ends { TextEnds (Lined lines trace.now) (FailsTo (Some lines.last) trace.now) (lacking_of lines) picture_drawn
+    ensures ends { TextEnds (Lined lines trace.now) (FailsUpTo (Some lines.last) trace.now) (lacking_of lines) picture_drawn
         (W.contents out.old) (W.contents out.new) result }
     ensures read { result ≢ Err Of.ReadFailed }
     ensures write { result ≡ Err Of.WriteFailed → W.failed out.new ≡ true }
@@ -164,7 +163,7 @@ pub(crate) fn draw_front<S: Source, W: Sink, E: Write>(
     lines: Lines,
 ) -> Result<Option<u64>, TraceFault>
     ensures ends { Reads (S.stream reader.old) (S.stream reader.new) (λ input unread.
-        TextEnds (Lined lines input) (FailsTo (Some lines.last) input) (lacking_of lines) picture_drawn
+        TextEnds (Lined lines input) (FailsUpTo (Some lines.last) input) (lacking_of lines) picture_drawn
         (W.contents out.old) (W.contents out.new) result) }
     ensures told { TellsIo fault_named result (read_from S.Source reader.old reader.new) (written_to W.Sink out.old out.new) }
 {

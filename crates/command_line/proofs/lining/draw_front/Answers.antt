@@ -1,7 +1,6 @@
 use Rattle.std.proofs.Common.{ℕ, List, Some, subst}
-use Rattle.command_line.specs.Lining.{Lined, lacking_of, picture_drawn}
+use Rattle.command_line.specs.Lining.{FailsUpTo, Lined, lacking_of, picture_drawn}
 use Rattle.command_line.specs.Picture.{TextEnds}
-use Rattle.command_line.specs.State.{FailsTo}
 use Rattle.command_line.proofs.LiningLemmas.{lines_read}
 use Rattle.command_line.proofs.lining.draw_front.Goals as goal
 
@@ -11,5 +10,5 @@ returns-in-Ok-clause-ends g c =
     let new = g.W.Sink.contents c.draw_lines.new.out in
     let lines = c.args.lines in
     lines_read _ _ lines c.in-Ok.trace.items old new c.draw_lines.result c.in-Ok.ensures.text
-    (subst (λ (i : List ℕ). TextEnds (Lined lines i) (FailsTo (Some lines.last) i) (lacking_of lines) picture_drawn old new c.draw_lines.result)
+    (subst (λ (i : List ℕ). TextEnds (Lined lines i) (FailsUpTo (Some lines.last) i) (lacking_of lines) picture_drawn old new c.draw_lines.result)
     c.as_slice.ensures.value c.draw_lines.ensures.ends)

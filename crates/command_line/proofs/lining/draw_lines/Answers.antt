@@ -1,7 +1,6 @@
 use Rattle.std.proofs.Common.{Some, inl}
 use Rattle.std.proofs.KnownBytes.{Keeps-refl}
-use Rattle.command_line.proofs.LiningLemmas.{lines_drawn}
-use Rattle.command_line.proofs.StateLemmas.{state_unseen}
+use Rattle.command_line.proofs.LiningLemmas.{lines_drawn, lines_unseen}
 use Rattle.command_line.proofs.lining.draw_lines.Goals as goal
 
 pub returns-in-Ok-record-clause-ends : goal.returns-in-Ok-record-clause-ends
@@ -12,4 +11,4 @@ returns-in-Ok-record-clause-ends g c =
 
 pub returns-in-Err-clause-ends : goal.returns-in-Err-clause-ends
 returns-in-Err-clause-ends g c =
-    inl (state_unseen (Some c.args.lines.last) c.args.trace.now c.front_of-front.result.now _ c.front_of-front.ensures c.in-Err.ensures.ends, Keeps-refl _)
+    inl (lines_unseen (Some c.args.lines.last) c.args.trace.now c.front_of-front.result.now _ c.front_of-front.ensures c.in-Err.ensures.ends, Keeps-refl _)
