@@ -203,12 +203,8 @@ fn picturing<'a>(alloc: Global) -> Result<Command<'a>, AllocError> {
     Ok(command)
 }
 
-// The word `litmus` with what may stand after it.
-fn litmus_word<'a>(alloc: Global) -> Result<Command<'a>, AllocError> {
-    let list = flag(alloc, "list").conflicts_with("witness")?;
-    let picture = number(alloc, "picture")
-        .conflicts_with("list")?
-        .conflicts_with("witness")?;
+// The word `litmus` with what compares a test with threads and with other systems.
+fn with_others<'a>(alloc: Global, command: Command<'a>) -> Result<Command<'a>, AllocError> {
     let observed = Arg::new(alloc, "observed")
         .long("observed")
         .conflicts_with("list")?
@@ -226,15 +222,22 @@ fn litmus_word<'a>(alloc: Global) -> Result<Command<'a>, AllocError> {
         .conflicts_with("witness")?
         .conflicts_with("picture")?
         .conflicts_with("observed")?;
+    let command = command.arg(observed)?.arg(live)?.arg(program)?;
+    Ok(command)
+}
+
+// The word `litmus` with what may stand after it.
+fn litmus_word<'a>(alloc: Global) -> Result<Command<'a>, AllocError> {
+    let list = flag(alloc, "list").conflicts_with("witness")?;
+    let picture = number(alloc, "picture")
+        .conflicts_with("list")?
+        .conflicts_with("witness")?;
     let command = reading(alloc, "litmus", LITMUS_USAGE)?
         .arg(number(alloc, "limit"))?
         .arg(number(alloc, "witness"))?
         .arg(picture)?
-        .arg(list)?
-        .arg(observed)?
-        .arg(live)?
-        .arg(program)?;
-    Ok(command)
+        .arg(list)?;
+    with_others(alloc, command)
 }
 
 // The word `import` with what may stand after it.
