@@ -9,6 +9,7 @@ use import_lackey::traced::trace_log;
 use import_maps::entries::Entries;
 use import_maps::mapped::{Told, import_mapped};
 use import_text::counts::Counts;
+use import_text::meter::Unmetered;
 use import_text::processes::Choice;
 use std::alloc::Global;
 use std::fs::File;
@@ -54,7 +55,7 @@ fn imported(
         thread,
         joined: false,
     };
-    match import_mapped(alloc, &mut list, &mut log, &mut out, choice) {
+    match import_mapped(alloc, &mut list, &mut log, &mut out, choice, &mut Unmetered) {
         Ok(told) => Some((out.writer.into_parts().0, told)),
         Err(_) => None,
     }
