@@ -1,0 +1,5 @@
+pub mod Data
+pub mod Json
+pub mod Pages
+pub mod Recorded
+pub mod Spans

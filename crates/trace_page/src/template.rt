@@ -1,0 +1,416 @@
+//! The page around its data, as bench/page_template.py makes it of page.html, page.css and page.js.
+
+/// What stands before the data.
+pub const FRONT: &str = "\
+<!DOCTYPE html>
+<html lang=\"en\">
+<head>
+<meta charset=\"utf-8\">
+<meta name=\"viewport\" content=\"width=device-width, initial-scale=1\">
+<title>RadixVM: a trace, step by step</title>
+<style>
+:root { color-scheme: light dark; --back: #fbfbfa; --card: #fff; --ink: #1d2329; --faint: #626b75; --edge: #d3d8dd; --new: #fff0b3; --newedge: #c98a00;
+  --going: #c4281c; --mark: #1f5fbf; --line: #e7effa; }
+@media (prefers-color-scheme: dark) { :root { --back: #15181c; --card: #1e2329; --ink: #e8ebee; --faint: #9aa5b0; --edge: #3a424b; --new: #57450a;
+  --newedge: #e8b339; --going: #ff7a6b; --mark: #7fb2ff; --line: #24344b; } }
+* { box-sizing: border-box; }
+body { margin: 0; background: var(--back); color: var(--ink); font: 1rem/1.4 system-ui, sans-serif; height: 100vh; display: flex; flex-direction: column; }
+header { display: flex; flex-wrap: wrap; gap: .4rem 1.2rem; align-items: center; padding: .5rem 1rem; border-bottom: 1px solid var(--edge); }
+h1 { font-size: 1.1rem; margin: 0; }
+nav { display: flex; flex-wrap: wrap; gap: .4rem; align-items: center; }
+button { font: inherit; color: inherit; background: var(--card); border: 1px solid var(--edge); border-radius: .4rem; padding: .2rem .7rem; cursor: pointer; }
+button:disabled { color: var(--faint); cursor: default; }
+:focus-visible { outline: 3px solid var(--mark); outline-offset: 1px; }
+#where { margin: 0; color: var(--faint); min-width: 12rem; }
+main { flex: 1; min-height: 0; display: grid; grid-template-columns: minmax(17rem, 28%) 1fr; }
+#trace { overflow: auto; border-right: 1px solid var(--edge); }
+#lines { list-style: none; margin: 0; padding: .4rem 0; font: .95rem/1.45 ui-monospace, \"DejaVu Sans Mono\", monospace; }
+#lines a { display: grid; grid-template-columns: 3.2em 1fr; padding: 0 .6rem; color: inherit; text-decoration: none; border-left: .3rem solid transparent; }
+#lines a:hover { background: var(--line); }
+#lines a[aria-current] { background: var(--line); border-left-color: var(--mark); font-weight: 600; }
+#lines .number { color: var(--faint); text-align: right; padding-right: .8em; font-weight: 400; }
+#lines .text { white-space: pre-wrap; overflow-wrap: anywhere; }
+#lines .comment { color: var(--faint); }
+#lines .reply { color: var(--mark); }
+#lines .log { grid-column: 2; color: var(--faint); font-size: .85em; font-weight: 400; }
+#lines .later { display: none; }
+#state { overflow: auto; padding: .7rem 1rem; position: relative; }
+#arrows { position: absolute; left: 0; top: 0; pointer-events: none; overflow: visible; z-index: 1; }
+#arrows path.message { fill: none; stroke: var(--going); stroke-width: 2; opacity: .75; }
+#arrows .crowd path.message { stroke-width: 1; opacity: .5; }
+#arrows .crowd path.old { opacity: .12; }
+#arrows path.cleared { stroke-dasharray: 6 4; }
+#arrows marker path { fill: var(--going); }
+h2 { font-size: .95rem; margin: .8rem 0 .3rem; color: var(--faint); font-weight: 600; }
+.cores { display: grid; grid-template-columns: repeat(auto-fill, minmax(15.5rem, 1fr)); gap: .9rem; }
+.many .cores { grid-template-columns: repeat(auto-fill, minmax(12.5rem, 1fr)); gap: .5rem; font-size: .85rem; }
+.card { background: var(--card); border: 1px solid var(--edge); border-radius: .5rem; padding: .45rem .6rem; min-width: 0; }
+.card.busy { border-color: var(--mark); box-shadow: 0 0 0 1px var(--mark); }
+.card.idle { opacity: .6; padding: .1rem .6rem; }
+.card h3 { margin: 0; font-size: 1rem; }
+.card h4 { margin: .35rem 0 .1rem; font-size: .75rem; color: var(--faint); font-weight: 600; }
+.items { display: flex; flex-wrap: wrap; gap: .3rem; }
+.card .items { flex-direction: column; }
+.item { font: .85rem/1.35 ui-monospace, \"DejaVu Sans Mono\", monospace; border: 1px solid var(--edge); border-left: .45rem solid var(--hue, var(--edge));
+  border-radius: .3rem; padding: .05rem .4rem; background: var(--card); overflow-wrap: anywhere; }
+.many .item { font-size: .75rem; }
+.item.new { background: var(--new); border-color: var(--newedge); border-left-color: var(--hue, var(--newedge)); }
+.item.gone { opacity: .6; text-decoration: line-through; border-style: dashed; }
+.item.going { color: var(--going); border-color: var(--going); border-left-color: var(--hue, var(--going)); font-weight: 600; }
+.mapping { display: grid; grid-template-columns: minmax(16rem, max-content) 1fr; gap: .4rem; align-items: start; margin: .2rem 0; }
+.note { color: var(--faint); font-size: .85rem; }
+#text { font: .85rem/1.35 ui-monospace, \"DejaVu Sans Mono\", monospace; white-space: pre-wrap; }
+#legend { margin: 1rem 0 .4rem; }
+@media (max-width: 60rem) { body { height: auto; } main, .mapping { grid-template-columns: 1fr; } #trace { max-height: 40vh; border-right: 0; } }
+</style>
+</head>
+<body>
+<header>
+<h1>RadixVM</h1>
+<nav aria-label=\"Steps\">
+<button id=\"first\" title=\"First line (Home)\">&#8676; First</button>
+<button id=\"back\" title=\"Back (left arrow, up arrow or k)\">&#8592; Back</button>
+<button id=\"next\" title=\"Forward (right arrow, down arrow or j)\">Forward &#8594;</button>
+<button id=\"last\" title=\"Last line (End)\">Last &#8677;</button>
+<label><input type=\"checkbox\" id=\"fine\"> each step of a call (s)</label>
+</nav>
+<p id=\"where\" role=\"status\" aria-live=\"polite\"></p>
+</header>
+<main>
+<section id=\"trace\" aria-label=\"The trace\"><ol id=\"lines\"></ol></section>
+<section id=\"state\" aria-label=\"The state\">
+<svg id=\"arrows\" aria-hidden=\"true\"><defs>
+<marker id=\"tip\" viewBox=\"0 0 8 8\" refX=\"7\" refY=\"4\" markerWidth=\"7\" markerHeight=\"7\" orient=\"auto\"><path d=\"M0 0 8 4 0 8z\"/></marker>
+</defs><g></g></svg>
+<div id=\"drawn\"></div>
+<p id=\"legend\"><span class=\"item new\">new</span> <span class=\"item gone\">gone</span> <span class=\"item going\">going</span>
+<span class=\"note\">arrow: a message that asks a core to drop pages</span></p>
+<details><summary>The state as text</summary><pre id=\"text\" tabindex=\"0\"></pre></details>
+</section>
+</main>
+<noscript><p>This page draws its states by a script.</p></noscript>
+<script type=\"application/json\" id=\"data\">
+";
+
+/// What stands behind it.
+pub const BACK: &str = "\
+</script>
+<script>
+\"use strict\";
+// What the program wrote: the trace, what its replay showed, the first state, and what each step of each line changed.
+const data = JSON.parse(document.getElementById(\"data\").textContent);
+const byId = (id) => document.getElementById(id);
+const lines = data.trace.replace(/\\n$/, \"\").split(\"\\n\");
+const groups = data.steps.slice(1).map((group) => group.slice(1));
+
+// A number keeps so many letters, one below 0 drops them, and a text comes in between.
+function applied(text, change) {
+  let at = 0;
+  let out = \"\";
+  for (const part of change) {
+    if (typeof part === \"string\") {
+      out += part;
+    } else if (part < 0) {
+      at -= part;
+    } else {
+      out += text.slice(at, at + part);
+      at += part;
+    }
+  }
+  return out + text.slice(at);
+}
+
+// The state behind each line: the one before it with the line's changes.
+const states = [data.first];
+for (const group of groups) states.push(group.reduce(applied, states[states.length - 1]));
+// The states behind the steps of one line are kept, so that the next step of it is at hand.
+const kept = { line: 0, texts: [] };
+function stateAt(line, step) {
+  if (kept.line !== line) Object.assign(kept, { line, texts: [states[line - 1]] });
+  for (let at = kept.texts.length; at <= step; at += 1) kept.texts.push(applied(kept.texts[at - 1], groups[line - 1][at - 1]));
+  return kept.texts[step];
+}
+const partsOf = (text) => text.split(\"\\n\").slice(0, -1);
+
+// ---- the trace
+
+// Each line with steps has a reply; the lines of the log, behind the replies, have the numbers of their steps.
+const shown = data.shown.split(\"\\n\").slice(0, -1);
+const replies = groups.map((group) => (group.length ? shown.shift() : \"\"));
+const logs = groups.map(() => []);
+for (const entry of shown) {
+  let left = Number(entry.split(\" \")[1]);
+  const line = groups.findIndex((group) => (left -= group.length) <= 0);
+  if (line >= 0) logs[line].push(entry);
+}
+
+function element(name, kind, text) {
+  const made = document.createElement(name);
+  if (kind) made.className = kind;
+  if (text !== undefined) made.textContent = text;
+  return made;
+}
+
+const links = lines.map((line, index) => {
+  const link = element(\"a\");
+  link.href = \"#\" + (index + 1);
+  link.append(element(\"span\", \"number\", index + 1));
+  const text = element(\"span\", line.startsWith(\"#\") ? \"text comment\" : \"text\", line);
+  if (replies[index]) text.append(element(\"span\", \"reply\", \" = \" + replies[index]));
+  link.append(text);
+  for (const entry of logs[index]) link.append(element(\"span\", \"log\", entry));
+  const item = element(\"li\");
+  item.append(link);
+  byId(\"lines\").append(item);
+  return link;
+});
+
+// ---- colours: a mapping keeps that of the one before it which it overlaps
+
+const range = /^(0x[0-9a-f]+)-(0x[0-9a-f]+) (.*)$/;
+const hues = [210, 140, 30, 285, 175, 55, 330, 255];
+let colours = 0;
+function mappingsOf(text, before) {
+  return partsOf(text).flatMap((line) => {
+    const found = range.exec(line);
+    if (!found) return [];
+    const [start, end] = [Number(found[1]), Number(found[2])];
+    const old = before.find((other) => other.start < end && start < other.end);
+    return [{ line, start, end, hue: old ? old.hue : hues[colours++ % hues.length] }];
+  });
+}
+const mappings = [];
+for (const text of states) mappings.push(mappingsOf(text, mappings.length ? mappings[mappings.length - 1] : []));
+
+// ---- the state
+
+const kinds = [\"holds\", \"took\", \"inbox\", \"tlb\", \"table\", \"count\", \"queue\", \"flushed\"];
+const titles = { tlb: \"TLB\", table: \"tables\", count: \"counts\", queue: \"review queue\", flushed: \"epoch\" };
+
+// Where a line of the state belongs, and its words there.
+function placeOf(line) {
+  const core = /^core (\\d+) (\\S+)(.*)$/.exec(line);
+  if (core) {
+    const kind = kinds.includes(core[2]) ? core[2] : \"call\";
+    return { core: Number(core[1]), kind, words: kind === \"call\" || kind === \"flushed\" ? core[2] + core[3] : core[3].trim() };
+  }
+  if (range.test(line)) return { kind: \"mapping\", words: line };
+  const thing = /^(epoch|page|frame) (.*)$/.exec(line);
+  return thing ? { kind: thing[1], words: line } : null;
+}
+
+// What a line is about: a line that says something else of it takes its place.
+const about = [/^core \\d+ (tlb|table|holds|took) \\S+/, /^core \\d+ inbox from \\d+ \\S+/, /^core \\d+ (count|queue) frame \\d+/,
+  /^core \\d+ flushed/, /^core \\d+/, /^(page|frame) \\S+/, /^\\S+/];
+const keyOf = (line) => about.map((part) => part.exec(line)).find(Boolean)[0];
+
+// A line of the state as an element.
+function itemOf(line, words, state) {
+  const item = element(\"span\", \"item\", words);
+  item.dataset.line = line;
+  if (state.fresh.has(line)) item.classList.add(\"new\");
+  if (state.gone.has(line)) item.classList.add(\"gone\");
+  if (/ going: /.test(line)) item.classList.add(\"going\");
+  const address = Number((/0x[0-9a-f]+/.exec(line) || [NaN])[0]);
+  const frame = (/frame (\\d+)/.exec(line) || [])[1];
+  const place = line.startsWith(\"frame \") || / (count|queue|took) /.test(line) ? state.frames[frame] : address;
+  const mapping = state.mappings.find((other) => other.start <= place && place < other.end);
+  if (mapping) item.style.setProperty(\"--hue\", `hsl(${mapping.hue} 65% 50%)`);
+  return item;
+}
+
+function section(title, kind) {
+  const made = element(\"div\", kind);
+  made.append(element(\"h2\", \"\", title));
+  return made;
+}
+
+function cardOf(core, own, state) {
+  const card = element(\"section\", \"card\");
+  card.id = \"core\" + core;
+  card.setAttribute(\"aria-label\", \"core \" + core);
+  card.append(element(\"h3\", \"\", \"core \" + core));
+  if (own.some(({ kind }) => kind === \"call\")) card.classList.add(\"busy\");
+  if (!own.length) card.classList.add(\"idle\");
+  for (const kind of [\"call\", ...kinds]) {
+    const items = own.filter((place) => place.kind === kind);
+    if (!items.length) continue;
+    card.append(element(\"h4\", \"\", titles[kind] || kind));
+    const list = element(\"div\", \"items\");
+    for (const { line, words } of items) list.append(itemOf(line, words, state));
+    card.append(list);
+  }
+  return card;
+}
+
+// The rows of mappings, each with its pages; and the pages that are in none.
+function rowsOf(places, state) {
+  const rows = section(\"mappings and pages\", \"rows\");
+  const pages = places.filter(({ kind }) => kind === \"page\");
+  const rest = new Set(pages);
+  for (const { line, words } of places.filter(({ kind }) => kind === \"mapping\")) {
+    const [, start, end] = range.exec(line).map(Number);
+    const own = pages.filter((page) => rest.has(page) && Number(page.line.split(\" \")[1]) >= start && Number(page.line.split(\" \")[1]) < end);
+    const row = element(\"div\", \"mapping\");
+    row.append(itemOf(line, words, state));
+    const list = element(\"div\", \"items\");
+    for (const page of own) {
+      rest.delete(page);
+      list.append(itemOf(page.line, page.words, state));
+    }
+    row.append(list);
+    rows.append(row);
+  }
+  const left = element(\"div\", \"items\");
+  for (const page of rest) left.append(itemOf(page.line, page.words, state));
+  rows.append(left);
+  return rows;
+}
+
+function listOf(title, places, state) {
+  const made = section(title, \"list\");
+  const list = element(\"div\", \"items\");
+  for (const { line, words } of places) list.append(itemOf(line, words, state));
+  made.append(list);
+  return made;
+}
+
+// How many cores there are, by the first line with words.
+const said = lines.find((line) => /^\\s*vm\\s/.test(line));
+const coreCount = said ? Number(said.trim().split(/\\s+/)[1]) : 1;
+
+function draw(before, text, known) {
+  const now = partsOf(text);
+  const old = partsOf(before);
+  const fresh = new Set(now.filter((line) => !old.includes(line)));
+  const keys = new Set([...fresh].map(keyOf));
+  const gone = new Set(old.filter((line) => !now.includes(line) && !keys.has(keyOf(line))));
+  const state = { fresh, gone, mappings: known, frames: {} };
+  const all = [...now, ...state.gone];
+  for (const line of all) {
+    const page = /^page (0x[0-9a-f]+) frame (\\d+)/.exec(line) || /(0x[0-9a-f]+) frame (\\d+)/.exec(line);
+    if (page && !(page[2] in state.frames)) state.frames[page[2]] = Number(page[1]);
+  }
+  const places = all.map((line) => ({ line, ...placeOf(line) })).filter(({ kind }) => kind);
+  const drawn = byId(\"drawn\");
+  drawn.className = coreCount > 12 ? \"many\" : \"\";
+  drawn.replaceChildren(listOf(\"epoch\", places.filter(({ kind }) => kind === \"epoch\"), state));
+  const cores = section(\"cores\", \"all\");
+  const grid = element(\"div\", \"cores\");
+  for (let core = 0; core < coreCount; core += 1) grid.append(cardOf(core, places.filter((place) => place.core === core), state));
+  cores.append(grid);
+  drawn.append(cores);
+  if (places.some(({ kind }) => kind === \"mapping\" || kind === \"page\")) drawn.append(rowsOf(places, state));
+  const frames = places.filter(({ kind, core }) => kind === \"frame\" && core === undefined);
+  if (frames.length) drawn.append(listOf(\"frames\", frames, state));
+  byId(\"text\").textContent = text;
+}
+
+// An arrow from each core that told others to the message in the other's inbox.
+function drawArrows() {
+  const group = document.querySelector(\"#arrows g\");
+  group.replaceChildren();
+  const home = byId(\"state\").getBoundingClientRect();
+  const [left, top] = [byId(\"state\").scrollLeft - home.left, byId(\"state\").scrollTop - home.top];
+  for (const item of document.querySelectorAll(\"#drawn .item:not(.gone)\")) {
+    const found = /^core \\d+ inbox from (\\d+) .* (first|second) take due$/.exec(item.dataset.line);
+    const sender = found && byId(\"core\" + found[1]);
+    if (!sender) continue;
+    const [from, to] = [sender.querySelector(\"h3\").getBoundingClientRect(), item.getBoundingClientRect()];
+    const backwards = from.left > to.left;
+    const [x1, y1] = [backwards ? from.left + left - 4 : from.left + 62 + left, from.top + from.height / 2 + top];
+    const [x2, y2] = [(backwards ? to.right + 3 : to.left - 3) + left, to.top + to.height / 2 + top];
+    const bend = (x2 - x1) / 2;
+    const path = document.createElementNS(\"http://www.w3.org/2000/svg\", \"path\");
+    path.setAttribute(\"class\", (found[2] === \"first\" ? \"message\" : \"message cleared\") + (item.classList.contains(\"new\") ? \"\" : \" old\"));
+    path.setAttribute(\"d\", `M${x1} ${y1}C${x1 + bend} ${y1} ${x2 - bend} ${y2} ${x2} ${y2}`);
+    path.setAttribute(\"marker-end\", \"url(#tip)\");
+    group.append(path);
+  }
+  group.classList.toggle(\"crowd\", group.childElementCount > 12);
+}
+
+// ---- the place in the trace: a line, and in it a step, or all
+
+let line = 0;
+let step = 0;
+let naming; // the link follows once nobody steps on
+
+function show() {
+  const group = line ? groups[line - 1] : [];
+  const within = byId(\"fine\").checked && step < group.length;
+  const text = within ? stateAt(line, step) : states[line];
+  const before = !line ? text : byId(\"fine\").checked && step > 0 ? stateAt(line, step - 1) : states[line - 1];
+  draw(before, text, mappings[line].concat(line ? mappings[line - 1] : []));
+  links.forEach((link, index) => {
+    if (index === line - 1) {
+      link.setAttribute(\"aria-current\", \"step\");
+      link.scrollIntoView({ block: \"nearest\" });
+    } else {
+      link.removeAttribute(\"aria-current\");
+    }
+    const reply = link.querySelector(\".reply\");
+    if (reply) reply.classList.toggle(\"later\", index >= line || (index === line - 1 && within));
+    for (const entry of link.querySelectorAll(\".log\")) entry.classList.toggle(\"later\", index >= line);
+  });
+  const steps = byId(\"fine\").checked && group.length > 1 ? `, step ${step} of ${group.length}` : \"\";
+  byId(\"where\").textContent = line ? `Line ${line} of ${lines.length}${steps}` : `Before line 1 of ${lines.length}`;
+  byId(\"first\").disabled = byId(\"back\").disabled = line === 0;
+  byId(\"next\").disabled = byId(\"last\").disabled = line === lines.length && !within;
+  clearTimeout(naming);
+  naming = setTimeout(() => history.replaceState(null, \"\", \"#\" + line + (within ? \".\" + step : \"\")), 200);
+  const changed = document.querySelector(\"#drawn .new\") || document.querySelector(\"#drawn .gone\");
+  if (changed) changed.scrollIntoView({ block: \"nearest\" });
+  drawArrows();
+}
+
+// To this line, and in it to this step, or to its end.
+function go(toLine, toStep) {
+  line = Math.max(0, Math.min(lines.length, toLine));
+  const most = line ? groups[line - 1].length : 0;
+  step = Math.max(0, Math.min(most, toStep === undefined ? most : toStep));
+  show();
+}
+
+function forward() {
+  const most = line ? groups[line - 1].length : 0;
+  if (byId(\"fine\").checked && step < most) return go(line, step + 1);
+  return go(line + 1, byId(\"fine\").checked ? Math.min(1, line < lines.length ? groups[line].length : 0) : undefined);
+}
+
+function backward() {
+  if (byId(\"fine\").checked && step > 1) return go(line, step - 1);
+  return go(line - 1);
+}
+
+function follow() {
+  const [toLine, toStep] = location.hash.slice(1).split(\".\").map(Number);
+  if (!Number.isInteger(toLine)) return go(0);
+  if (Number.isInteger(toStep)) byId(\"fine\").checked = true;
+  return go(toLine, toStep);
+}
+
+const ends = { Home: () => go(0), End: () => go(lines.length) };
+const keys = { ArrowRight: forward, ArrowDown: forward, j: forward, ArrowLeft: backward, ArrowUp: backward, k: backward, ...ends };
+document.addEventListener(\"keydown\", (event) => {
+  if (event.ctrlKey || event.altKey || event.metaKey) return;
+  if (event.key === \"s\") {
+    byId(\"fine\").checked = !byId(\"fine\").checked;
+    go(line);
+  } else if (keys[event.key]) {
+    event.preventDefault();
+    keys[event.key]();
+  }
+});
+byId(\"first\").onclick = keys.Home;
+byId(\"back\").onclick = backward;
+byId(\"next\").onclick = forward;
+byId(\"last\").onclick = keys.End;
+byId(\"fine\").onchange = () => go(line);
+window.addEventListener(\"hashchange\", follow);
+window.addEventListener(\"resize\", drawArrows);
+follow();
+</script>
+</body>
+</html>
+";
