@@ -1,7 +1,6 @@
 mod EchoLemmas
 mod LiningLemmas
 mod LitmusLemmas
-mod PageLemmas
 mod PictureLemmas
 mod StateLemmas
 mod WitnessLemmas

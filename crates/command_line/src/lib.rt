@@ -28,7 +28,6 @@ mod paging;
 mod picturing;
 mod pointing;
 mod stating;
-mod stepping;
 mod summing;
 mod telling;
 pub mod terminals;
