@@ -1,6 +1,7 @@
 mod EchoLemmas
 mod LiningLemmas
 mod LitmusLemmas
+mod PageLemmas
 mod PictureLemmas
 mod StateLemmas
 mod WitnessLemmas

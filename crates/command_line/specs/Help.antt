@@ -4,7 +4,7 @@ use Rattle.command_line.specs.declared.help.TheConstants as Text
 use Rattle.command_line.specs.declared.help.traces.TheConstants as OfTraces
 use Rattle.command_line.specs.declared.help.texts.TheConstants as OfTexts
 use Rattle.command_line.specs.declared.help.Topic.{Topic}
-use Rattle.command_line.specs.declared.help.Topic.TheVariants.{Overview, Run, Trace, Outcomes, Log, Maps, Faults, Cores, Notes, Threads, Import, Audit, Picture, State, Litmus}
+use Rattle.command_line.specs.declared.help.Topic.TheVariants.{Overview, Run, Trace, Outcomes, Log, Maps, Faults, Cores, Notes, Threads, Import, Audit, Picture, State, Page, Litmus}
 
 abbrev pub page_of : Topic → List ℕ
 page_of Overview = Text.OVERVIEW.now
@@ -21,4 +21,5 @@ page_of Import = OfTexts.IMPORT.now
 page_of Audit = OfTexts.AUDIT.now
 page_of Picture = OfTexts.PICTURE.now
 page_of State = OfTraces.STATE.now
+page_of Page = OfTraces.PAGE.now
 page_of Litmus = OfTexts.LITMUS.now

@@ -8,5 +8,6 @@ pub mod Listing
 pub mod Picture
 pub mod State
 pub mod Status
+pub mod Stepping
 pub mod Witness
 pub mod Words

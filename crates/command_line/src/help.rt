@@ -7,7 +7,7 @@ mod texts;
 mod traces;
 
 use crate::help::texts::{AUDIT, IMPORT, LITMUS, NOTES, PICTURE, THREADS};
-use crate::help::traces::{CORES, FAULTS, LOG, MAPS, OUTCOMES, RUN, STATE, TRACE};
+use crate::help::traces::{CORES, FAULTS, LOG, MAPS, OUTCOMES, PAGE, RUN, STATE, TRACE};
 
 /// What `--version` says after the program's name.
 pub const VERSION: &str = "0.1.0";
@@ -17,6 +17,7 @@ pub const USAGE: &str = "\
 radixvm run [--summary | [--echo] [--log]] [--long] [--explain] [FILE]
        radixvm maps [--names] [--long] [--explain] [FILE]
        radixvm state [--at N] [--explain] [FILE]
+       radixvm page [--explain] [FILE]
        radixvm certify [--explain] [FILE]
        radixvm live [[--certify | --history] [--summary] | --shared]
                     [--explain] [FILE]
@@ -41,6 +42,7 @@ modelled cores, and replayed from a text, a trace, step by step.
 Usage: radixvm run [--summary | [--echo] [--log]] [--long] [--explain] [FILE]
        radixvm maps [--names] [--long] [--explain] [FILE]
        radixvm state [--at N] [--explain] [FILE]
+       radixvm page [--explain] [FILE]
        radixvm certify [--explain] [FILE]
        radixvm live [[--certify | --history] [--summary] | --shared]
                     [--explain] [FILE]
@@ -69,6 +71,8 @@ Words:
   maps           writes the mappings at the trace's end, and nothing else
   state          writes the state at the trace's end, or behind line N: each
                  core's call, TLB, tables and inbox
+  page           writes a page of HTML that steps through the trace, and shows
+                 the state behind each line
   certify        reads notes, steps with what each came to, and certifies that
                  they are a run of the machine, or refuses them
   live           runs a script, each core on a thread, and writes their notes
@@ -142,14 +146,16 @@ pub enum Topic {
     Picture,
     /// What `state` writes.
     State,
+    /// What `page` writes.
+    Page,
     /// What `litmus` reads and writes.
     Litmus,
 }
 
 /// The names of the topics, as the program's words have them: first those of words.
 pub const TOPICS: &[&str] = &[
-    "run", "maps", "state", "certify", "live", "import", "audit", "picture", "litmus", "trace",
-    "outcomes", "log", "faults", "cores", "notes", "threads", "help",
+    "run", "maps", "state", "page", "certify", "live", "import", "audit", "picture", "litmus",
+    "trace", "outcomes", "log", "faults", "cores", "notes", "threads", "help",
 ];
 
 /// The topic of this name. A word's name and that of what it reads are one topic's.
@@ -168,6 +174,7 @@ pub(crate) fn topic_named(name: &str) -> Topic {
         "audit" => Topic::Audit,
         "picture" => Topic::Picture,
         "state" => Topic::State,
+        "page" => Topic::Page,
         "litmus" => Topic::Litmus,
         _ => Topic::Overview,
     }
@@ -192,6 +199,7 @@ pub fn page(topic: Topic) -> &'static str
         Topic::Audit => AUDIT,
         Topic::Picture => PICTURE,
         Topic::State => STATE,
+        Topic::Page => PAGE,
         Topic::Litmus => LITMUS,
     }
 }

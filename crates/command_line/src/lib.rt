@@ -28,6 +28,7 @@ mod paging;
 mod picturing;
 mod pointing;
 mod stating;
+mod stepping;
 mod summing;
 mod telling;
 pub mod terminals;

@@ -19,6 +19,7 @@ use crate::ended::{Ended, Trouble};
 use crate::lining::{Lines, draw_front, draw_lines};
 use crate::listing::list_named;
 use crate::stating::draw_state;
+use crate::stepping::draw_page;
 use core_steps::CallLimit;
 use lives::drawing::draw_lives;
 use picture::canvas::draw;
@@ -54,6 +55,8 @@ pub enum Drawing {
     Lives,
     /// No picture, but the text of the state behind this line, or at the trace's end.
     State(Option<u64>),
+    /// No picture, but a page that steps through the trace.
+    Page,
     /// No picture, but the list of the mappings at the end, with the names of files, within this limit.
     Listing(CallLimit),
 }
@@ -277,6 +280,7 @@ pub(crate) fn draw_text<W: Sink, E: Write>(
         Drawing::Steps(steps) => draw_steps(alloc, trace, out, errors, steps),
         Drawing::Lives => draw_all_lives(alloc, trace, out),
         Drawing::State(at) => draw_state(alloc, trace, out, at),
+        Drawing::Page => draw_page(alloc, trace, out),
         Drawing::Listing(limit) => list_named(alloc, trace, out, limit),
     }
 }

@@ -172,6 +172,8 @@ const LITMUS_USAGE: &str =
 
 const STATE_USAGE: &str = "radixvm state [--at N] [--explain] [FILE]";
 
+const PAGE_USAGE: &str = "radixvm page [--explain] [FILE]";
+
 const PICTURE_USAGE: &str =
     "radixvm picture [--lives | [--steps] [--from N] [--to N]] [--explain] [FILE]";
 
@@ -294,6 +296,7 @@ fn machine_words<'a>(alloc: Global) -> Result<Command<'a>, AllocError> {
         .arg(flag(alloc, "names"))?
         .arg(flag(alloc, "long"))?;
     let state = reading(alloc, "state", STATE_USAGE)?.arg(number(alloc, "at"))?;
+    let page = reading(alloc, "page", PAGE_USAGE)?;
     let certify = reading(alloc, "certify", CERTIFY_USAGE)?;
     let live = living(alloc)?;
     let program = Command::new(alloc, "radixvm")
@@ -305,6 +308,7 @@ fn machine_words<'a>(alloc: Global) -> Result<Command<'a>, AllocError> {
         .subcommand(running(alloc)?)?
         .subcommand(maps)?
         .subcommand(state)?
+        .subcommand(page)?
         .subcommand(certify)?
         .subcommand(live)?;
     Ok(program)
@@ -592,6 +596,7 @@ fn asked<'a>(name: &str, words: &ArgMatches<'a>, coloured: bool) -> Result<Task<
         }
         "maps" => Ok(replaying(Show::Maps, false, words)),
         "state" => Ok(working(Work::Picture(Drawing::State(words.get_one("at"))), words)),
+        "page" => Ok(working(Work::Picture(Drawing::Page), words)),
         "certify" => Ok(working(Work::Certify, words)),
         "live" => Ok(working(living_asked(words), words)),
         "import" if words.get_flag("lackey") => Ok(working(Work::ImportAccesses, words)),

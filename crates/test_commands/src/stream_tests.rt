@@ -190,6 +190,7 @@ fn help_fits_into_79_columns(rt: HostRuntime) {
         Topic::Audit,
         Topic::Picture,
         Topic::State,
+        Topic::Page,
         Topic::Litmus,
     ] {
         assert!(rt; is_narrow(help::page(topic)));

@@ -360,3 +360,33 @@ error, each with its number on a line of its own:
   epochs         those that have ended
 With it the trace's steps are made one by one.
 ";
+
+/// What `page` writes.
+pub const PAGE: &str = "\
+page replays a trace, and writes one page of HTML that steps through it. It
+needs no network, and nothing beside it:
+
+  radixvm page TRACE > trace.html
+
+On the left stand the trace's lines, each with its reply once it is made, and
+below it the lines of the log that it adds (help log). On the right stands the
+state behind the line, as state writes it (help state): the cores side by side,
+each with its call, what that holds, its TLB, tables and inbox; and the
+mappings, each in a colour, with their pages. What the line changed is lit,
+what it took away is struck out, and a translation that is going is red. An
+arrow leads from a core that told another to drop pages to the message in the
+other's inbox; it is dashed once the first take is made.
+
+  right arrow, down arrow, j    the next line
+  left arrow, up arrow, k       the line before
+  Home, End                     before the first line; behind the last
+  s                             each step of a call by itself, or not
+  trace.html#12                 leads to line 12, and #12.3 to its third step
+
+A click on a line leads there as well, and so does Enter at one that Tab came
+to. The colours are light or dark as the browser has them.
+
+The page holds the first state, and of each step what it changed. A trace with
+a fault has no page. It is held in memory, and may ask for as many calls as
+with run --log.
+";

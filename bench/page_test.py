@@ -1,0 +1,175 @@
+#!/usr/bin/env python3
+"""Steps through the pages of traces in Debian's chromium, without a window, and compares what they show with the program's own words: the text and the
+drawn lines behind each line with `state --at`, each reply and each line of the log with `run --log`. It goes forward by key and back, follows a link,
+steps through calls, and finds no message on the console. Text of a trace that looks like HTML stays text. A page of 64 cores and 300 lines is below
+2 MB. Wants python3-selenium, chromium and chromium-driver. RADIXVM_PROGRAM is the program, crates/radixvm/out/radixvm where it isn't given.
+Usage: bench/page_test.py [FOLDER [TRACE..]] (screenshots go to FOLDER, if one is given; the traces are examples/*.trace, where none is)
+"""
+import os
+import pathlib
+import subprocess
+import sys
+import tempfile
+
+from selenium import webdriver
+from selenium.webdriver.common.by import By
+from selenium.webdriver.common.keys import Keys
+
+TOP = pathlib.Path(__file__).resolve().parent.parent
+PROGRAM = os.environ.get("RADIXVM_PROGRAM", str(TOP / "crates/radixvm/out/radixvm"))
+
+HTML = """# </script><script>console.error(1)</script> & <b>"quotes" \\ and \\u0041</b> <!--
+vm 1 4
+c0! mmap 0x10000 4096 rw- pfa
+c0! store 0x10000 65
+"""
+
+# What the page shows: its text, the lines that are drawn, and the replies and lines of the log that can be seen.
+SHOWN = """
+const shown = (kind) => [...document.querySelectorAll("#lines " + kind)].filter((e) => getComputedStyle(e).display !== "none").map((e) => e.textContent);
+return [document.getElementById("text").textContent,
+  [...document.querySelectorAll("#drawn .item:not(.gone)")].map((e) => e.dataset.line), shown(".reply"), shown(".log"),
+  [...document.querySelectorAll("#lines .text")].map((e) => e.firstChild ? e.firstChild.textContent : ""), document.querySelectorAll("#arrows g path").length];
+"""
+
+
+def run(*words, text=None):
+    """What the program writes for these words."""
+    return subprocess.run([PROGRAM, *words], input=text, capture_output=True, text=True, check=False)
+
+
+def crowd():
+    """A trace of 64 cores and 300 lines: all load a page, and one takes it from them."""
+    lines = ["vm 64 4096", "c0! mmap 0x10000 65536 rw- pfa", "c0! store 0x10000 1"]
+    lines += [f"c{core}! load 0x10000" for core in range(64)] + ["c0 call munmap 0x10000 4096", "c0 finish"]
+    lines += [f"c{core} take" for core in range(1, 64) for _ in range(2)] + ["c0 finish"]
+    lines += [f"c{at % 64}! load {hex(0x11000 + at % 8 * 4096)}" for at in range(300 - len(lines))]
+    return "\n".join(lines) + "\n"
+
+
+def browser():
+    """A browser without a window."""
+    options = webdriver.ChromeOptions()
+    for word in ("--headless=new", "--no-sandbox", "--disable-gpu", "--window-size=1600,1000", "--force-color-profile=srgb"):
+        options.add_argument(word)
+    options.set_capability("goog:loggingPrefs", {"browser": "ALL"})
+    return webdriver.Chrome(options=options)
+
+
+class Page:
+    """A page in the browser."""
+
+    def __init__(self, driver, trace, folder):
+        self.driver, self.trace = driver, trace
+        self.text = trace.read_text()
+        written = run("page", str(trace))
+        if written.returncode:
+            sys.exit(f"bench/page_test.py: {trace}: {written.stderr}")
+        self.file = folder / (trace.stem + ".html")
+        self.file.write_text(written.stdout)
+        self.driver.get(self.file.as_uri())
+
+    def press(self, key):
+        self.driver.find_element(By.TAG_NAME, "body").send_keys(key)
+
+    def steps(self):
+        """Goes from the first line to the last, each step of a call by itself, a thousand steps at the most, and the rest of the lines at once."""
+        self.press(Keys.HOME)
+        self.press("s")
+        self.press(Keys.ARROW_RIGHT)
+        steps = self.driver.execute_script("""
+let steps = 1;
+while (steps < 1000 && !byId("next").disabled) { document.dispatchEvent(new KeyboardEvent("keydown", { key: "j" })); steps += 1; }
+return steps;""")
+        self.press(Keys.END)
+        return steps
+
+    def check(self, line):
+        """Compares what is shown behind this line with the program's words."""
+        text, drawn, replies, log, lines, _ = self.driver.execute_script(SHOWN)
+        state = run("state", "--at", str(line), str(self.trace)) if line else None
+        want = state.stdout if state and state.returncode == 0 else "epoch 0\n"
+        where = f"{self.trace.name}, line {line}"
+        assert text == want, f"{where}: the text is {text!r}, and not {want!r}"
+        assert sorted(drawn) == sorted(want.split("\n")[:-1]), f"{where}: {sorted(drawn)} is drawn, and not {sorted(want.split(chr(10))[:-1])}"
+        assert lines == self.text.removesuffix("\n").split("\n"), f"{where}: other lines"
+        front = "".join(part + "\n" for part in self.text.split("\n")[:line])
+        told = run("run", "--log", text=front)
+        want = told.stdout.split("\n")[:-1] if told.returncode == 0 else []
+        assert [" = " + one for one in want if not one.startswith("log ")] == replies, f"{where}: replies {replies}, and not {want}"
+        assert [one for one in want if one.startswith("log ")] == log, f"{where}: the log {log}, and not {want}"
+
+    def walk(self):
+        """Steps to the end and back."""
+        count = len(self.text.removesuffix("\n").split("\n"))
+        self.check(0)
+        for line in range(1, count + 1):
+            self.press([Keys.ARROW_RIGHT, "j", Keys.ARROW_DOWN][line % 3])
+            self.check(line)
+        self.press("k")
+        self.check(count - 1)
+        self.press(Keys.HOME)
+        self.check(0)
+        self.driver.find_elements(By.CSS_SELECTOR, "#lines a")[count // 2].click()
+        self.check(count // 2 + 1)
+        self.driver.get(self.file.as_uri() + f"#{count}")
+        self.driver.refresh()
+        self.check(count)
+        steps = self.steps()
+        self.check(count)
+        self.press("s")
+        told = [entry for entry in self.driver.get_log("browser") if "favicon" not in entry["message"]]
+        assert not told, f"{self.trace.name}: the console has {told}"
+        return count, steps
+
+
+def take_pictures(page, folder, dark):
+    """Screenshots of the line with the most arrows."""
+    page.driver.execute_cdp_cmd("Emulation.setEmulatedMedia", {"features": [{"name": "prefers-color-scheme", "value": "dark" if dark else "light"}]})
+    count = len(page.driver.find_elements(By.CSS_SELECTOR, "#lines li"))
+    best, most = 1, -1
+    for line in range(1, count + 1):
+        page.driver.execute_script(f"go({line})")
+        text, *_, arrows = page.driver.execute_script(SHOWN)
+        if (arrows, len(text)) > (most, 0) and arrows * 1000 + len(text) > most * 1000:
+            best, most = line, max(most, arrows)
+    page.driver.execute_script(f"go({best})")
+    page.driver.save_screenshot(str(folder / f"{page.trace.stem}-{best}{'-dark' if dark else ''}.png"))
+
+
+def main():
+    out = pathlib.Path(sys.argv[1]) if len(sys.argv) > 1 else None
+    traces = [pathlib.Path(word) for word in sys.argv[2:]] or sorted((TOP / "examples").glob("*.trace"))
+    if out:
+        out.mkdir(parents=True, exist_ok=True)
+    with tempfile.TemporaryDirectory() as name:
+        folder = pathlib.Path(name)
+        (folder / "html.trace").write_text(HTML)
+        (folder / "crowd.trace").write_text(crowd())
+        driver = browser()
+        try:
+            for trace in [*traces, folder / "html.trace"]:
+                page = Page(driver, trace, folder)
+                lines, steps = page.walk()
+                print(f"{trace.name}: {lines} lines, {steps} steps, {page.file.stat().st_size} bytes")
+                if out:
+                    take_pictures(page, out, False)
+            page = Page(driver, folder / "crowd.trace", folder)
+            size = page.file.stat().st_size
+            assert size < 2_000_000, f"crowd.trace: {size} bytes"
+            page.press(Keys.END)
+            page.check(300)
+            print(f"crowd.trace: 300 lines of 64 cores, {size} bytes")
+            if out:
+                take_pictures(page, out, True)
+        finally:
+            driver.quit()
+        bad = folder / "bad.trace"
+        bad.write_text(HTML + "c0! nonsense\n")
+        told = run("page", str(bad))
+        assert (told.stdout, told.returncode) == ("", 2) and "line 5" in told.stderr, told
+    print("all pages show the states")
+
+
+if __name__ == "__main__":
+    main()
