@@ -19,7 +19,7 @@ import time
 TOP = pathlib.Path(__file__).resolve().parent.parent
 PROGRAM = os.environ.get("RADIXVM_PROGRAM", str(TOP / "radixvm"))
 BUSY = """
-import threading, mmap, random
+import threading, mmap, random, time
 def f(k):
     a = []
     while True:
@@ -37,6 +37,13 @@ for name in sorted(sys.stdlib_module_names):
     time.sleep(.01)
 time.sleep(60)
 """
+FORKING = """
+import os
+time.sleep(2)
+kept = [bytearray(random.randrange(1, 400000)) for _ in range(30)]
+if os.fork() == 0: f(0)
+f(1)
+"""
 NODE = """
 let a = [];
 setInterval(() => {
@@ -48,6 +55,11 @@ PROGRAMS = {
     "python": ["python3", "-c", BUSY + "f(0)"],
     "python with nine threads": ["python3", "-c", BUSY + "for k in range(8): threading.Thread(target=f,args=(k,)).start()\nf(8)"],
     "python that opens libraries": ["python3", "-c", IMPORTING],
+    "a child that python forks": ["python3", "-c", BUSY + FORKING],
+    "ls": ["ls", "-lR", "/usr", "/proc", "/sys", "/opt", "/var"],
+    "git": ["git", "-C", str(TOP), "log", "-p", "--stat", "-M", "-C"],
+    "the C compiler": ["bash", "-c", "exec $(cc -print-prog-name=cc1) -quiet -O2 -o /dev/null @large.c"],
+    "a pipeline": ["bash", "-c", "exec sort -S 30M <(find / -type f 2> /dev/null | while read name; do echo $name; done)"],
     "node": ["node", "-e", NODE],
     "bash": ["bash", "-c", "x=; while :; do x=$x$(printf %2000s a); [ ${#x} -gt 900000 ] && x=; done"],
     "perl": ["perl", "-e", "while(1){my @a=map{'x' x int(rand(200000))}1..50; select undef,undef,undef,.01}"],
@@ -70,6 +82,10 @@ int main(void) {
     }
 }
 """
+
+
+# Of these the process is looked at that they made last.
+OF_A_CHILD = {"a child that python forks"}
 
 
 def pages_of(path, with_name):
@@ -147,7 +163,7 @@ def stopped(pid):
 
 def try_program(name, words, folder):
     """Records one program, and tells what differs."""
-    words = [str(folder / "heap") if word == "@heap" else word for word in words]
+    words = [str(folder / "heap") if word == "@heap" else word.replace("@large.c", str(folder / "large.c")) for word in words]
     if not shutil.which(words[0]):
         print(f"{name}: there is no {words[0]}")
         return True
@@ -163,10 +179,11 @@ def try_program(name, words, folder):
         time.sleep(1)
         os.kill(child.pid, signal.SIGCONT)
         time.sleep(float(os.environ.get("SECONDS_EACH", "3")))
-        os.kill(child.pid, signal.SIGSTOP)
+        pid = int(pathlib.Path(f"/proc/{child.pid}/task/{child.pid}/children").read_text().split()[-1]) if name in OF_A_CHILD else child.pid
+        os.kill(pid, signal.SIGSTOP)
         time.sleep(0.5)
-        stopped(child.pid)
-        end.write_bytes(open(f"/proc/{child.pid}/maps", "rb").read())
+        stopped(pid)
+        end.write_bytes(open(f"/proc/{pid}/maps", "rb").read())
         text = log.read_bytes()
         tracer.terminate()
         tracer.wait()
@@ -174,7 +191,7 @@ def try_program(name, words, folder):
         os.killpg(child.pid, signal.SIGKILL)
         child.wait()
     log.write_bytes(text)
-    made = subprocess.run([PROGRAM, "import", "--one-process", "--pid", str(child.pid), "--maps", str(start), str(log)], capture_output=True)
+    made = subprocess.run([PROGRAM, "import", "--one-process", "--pid", str(pid), "--maps", str(start), str(log)], capture_output=True)
     shown = subprocess.run([PROGRAM, "maps", "--long"], input=made.stdout, capture_output=True)
     (folder / "shown").write_bytes(shown.stdout)
     mine, theirs = pages_of(folder / "shown", False), pages_of(end, True)
@@ -203,6 +220,8 @@ def main():
     with tempfile.TemporaryDirectory() as name:
         folder = pathlib.Path(name)
         (folder / "heap.c").write_text(HEAP)
+        (folder / "large.c").write_text("".join(f"int f{i}(int a, int b) {{ for (int i = 0; i < b; i++) a = a * {i} + b / (i + 1); return a; }}\n"
+                                                for i in range(60000)))
         subprocess.run(["cc", "-O1", "-w", "-o", str(folder / "heap"), str(folder / "heap.c")], check=True)
         right = [try_program(name, words, folder) for name, words in PROGRAMS.items() if not sys.argv[1:] or name in sys.argv[1:]]
     sys.exit(0 if all(right) else 1)

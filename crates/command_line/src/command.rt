@@ -53,7 +53,7 @@ fn refuse_file<E: Write>(asks: Asks<'_>, name: &str, cause: io::ErrorKind, error
     status_of_fault(fault)
 }
 
-// Does what the parsed words ask for, and answers its status, and what more can be told of.
+// Does what the parsed words ask for, and answers its status, and what more can be told of. Long work may show how far it has come.
 fn act<T: Threads + Wait + Sync, R: Runner<Global>, L: Source, S: Source, W: Sink, E: Write>(
     rt: &T,
     runner: &R,
@@ -65,6 +65,7 @@ fn act<T: Threads + Wait + Sync, R: Runner<Global>, L: Source, S: Source, W: Sin
     errors: &mut E,
     order: &mut Vec<u8>,
     parts: &mut Vec<Part>,
+    shows: bool,
 ) -> Ended
     ensures does { IfOk parsed.entry (λ task. DoesWork Global
         ⟦<RadixMap<Global> as SlotMap>⟧.parts ⟦<RadixMap<Global> as SlotMap>⟧.can_fold
@@ -90,8 +91,8 @@ fn act<T: Threads + Wait + Sync, R: Runner<Global>, L: Source, S: Source, W: Sin
                 live_history(rt, runner, alloc, reader, out, errors, sums)
             }
             Work::ShareLive => share_live(rt, alloc, reader, out, errors),
-            Work::Import(choice) => import(alloc, list, reader, out, errors, choice),
-            Work::ImportEach => import_each(alloc, reader, errors, parts),
+            Work::Import(choice) => import(alloc, list, reader, out, errors, choice, shows),
+            Work::ImportEach => import_each(alloc, reader, errors, parts, shows),
             Work::ImportAccesses => import_accesses(alloc, reader, out, errors),
             Work::Audit(terms) => audit(alloc, reader, out, errors, terms),
             Work::AuditAll(terms) => audit_each(alloc, reader, out, errors, terms),
@@ -462,6 +463,7 @@ fn command_on<
         errors,
         &mut order,
         &mut parts,
+        terminals.errors,
     );
     tell_more(asks, ended.trouble, &list.reader, &reader.reader, errors);
     let status = save_order(files, asks, order.as_slice(), ended.status, errors);

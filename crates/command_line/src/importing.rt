@@ -11,6 +11,7 @@ ghost use Rattle.trace_io.specs.Source.{Reads};
 
 use crate::ended::{Ended, Trouble};
 use crate::pointing::{expect, show_line};
+use crate::progress::Progress;
 use import_forms::looks::{Looks, looks_of};
 use import_lackey::traced::{Told, trace_log};
 use import_maps::entries::Entries;
@@ -19,7 +20,6 @@ use import_text::counts::Counts;
 use import_text::each::{Part, import_log_each};
 use import_text::import::{Ending, Report};
 use import_text::losses::Losses;
-use import_text::meter::Unmetered;
 use import_text::processes::{Choice, Process};
 use import_text::programs::Program;
 use std::alloc::Global;
@@ -338,7 +338,8 @@ fn tell_fault<E: Write>(fault: IoFault, errors: &mut E) -> Ended
 
 /// Makes a trace of a list of mappings and of a log of strace, of the process that is chosen, prints what became of the lines of
 /// both on `errors`, or a fault as `radixvm: ` and its text, and answers the status: 0; 2 where there is no trace, since no request
-/// would be in it, or no line is about the thread that was named; or 3 for a fault.
+/// would be in it, or no line is about the thread that was named; or 3 for a fault. Where that is wanted, `errors` shows how far a
+/// long import has come.
 pub fn import<L: Source, S: Source, W: Sink, E: Write>(
     alloc: Global,
     list: &mut L,
@@ -346,12 +347,16 @@ pub fn import<L: Source, S: Source, W: Sink, E: Write>(
     out: &mut W,
     errors: &mut E,
     choice: Choice,
+    shows: bool,
 ) -> Ended
     ensures ends { ImportsLog choice (read_from L.Source list.old list.new)
         (read_from S.Source reader.old reader.new) (written_to W.Sink out.old out.new) result.status }
     ensures within { result.status ≤ 3 }
 {
-    match import_mapped(alloc, list, reader, out, choice, &mut Unmetered) {
+    let mut progress = Progress::new(errors, shows);
+    let told = import_mapped(alloc, list, reader, out, choice, &mut progress);
+    progress.clear();
+    match told {
         Ok(told) => {
             tell_entries(&told.entries, errors);
             tell_report(&told.report, choice, errors);
@@ -366,12 +371,13 @@ pub fn import<L: Source, S: Source, W: Sink, E: Write>(
 
 /// Makes a trace of each process of a log of strace, prints what became of the log's lines for each on `errors`, or a fault as
 /// `radixvm: ` and its text, and answers the status: 0; 2 where no process has a trace; or 3 for a fault, at which there are no
-/// traces.
+/// traces. Where that is wanted, `errors` shows how far a long import has come.
 pub fn import_each<S: Source, E: Write>(
     alloc: Global,
     reader: &mut S,
     errors: &mut E,
     parts: &mut Vec<Part>,
+    shows: bool,
 ) -> Ended
     ensures ends { ImportsEach (read_from S.Source reader.old reader.new) result.status }
     ensures parts { result.status ≢ 3 → Reads (S.stream reader.old) (S.stream reader.new) (λ input unread.
@@ -379,7 +385,10 @@ pub fn import_each<S: Source, E: Write>(
     ensures none { result.status ≡ 3 → parts.new ≡ parts.old }
     ensures within { result.status ≤ 3 }
 {
-    match import_log_each(alloc, reader, &mut Unmetered) {
+    let mut progress = Progress::new(errors, shows);
+    let told = import_log_each(alloc, reader, &mut progress);
+    progress.clear();
+    match told {
         Ok(found) => {
             tell_parts(found.as_slice(), errors);
             let status = status_of_parts(found.as_slice());

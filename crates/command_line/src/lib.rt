@@ -27,6 +27,7 @@ mod noting;
 mod paging;
 mod picturing;
 mod pointing;
+mod progress;
 mod stating;
 mod stepping;
 mod summing;

@@ -208,8 +208,9 @@ since an access names neither thread nor process, and there are 65536 frames.
 
 Status: 0; 2 for bad words, and where nothing was kept: of a log of strace the
 first line is then shown that isn't read; 3 where reading, writing or memory
-failed. The log, what is taken of it and the trace are held in memory. With
---explain it is told which of the two files couldn't be read, and why.
+failed. The log, what is taken of it and the trace are held in memory. At a
+terminal, standard error shows how far a log of 400000 lines or more has come.
+With --explain it is told which of the two files couldn't be read, and why.
 ";
 
 /// What `audit` reads and writes.
