@@ -15,7 +15,7 @@ use trace_io::sink::Sink;
 use trace_io::source::Source;
 
 /// Judges a history of calls that overlap by the loose rule, prints a fault as `radixvm: ` and its text, and answers the status: 0 where they
-/// have an order by it, 3 where none was found, or that of the fault.
+/// have an order by it, 1 where they have none, 3 where that is undecided, or that of the fault.
 pub fn audit_loosely<S: Source, W: Sink, E: Write>(
     alloc: Global,
     reader: &mut S,

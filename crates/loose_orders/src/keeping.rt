@@ -58,7 +58,7 @@ pub(crate) fn call_at(history: &[Timed], call: u32) -> Option<Timed>
 }
 
 /// Tells whether a call that is answered so replaces the entry of a page.
-fn replaces(request: Request, reply: Reply, page: u64) -> bool
+pub fn replaces(request: Request, reply: Reply, page: u64) -> bool
     ensures { result ≡ replaces request reply page }
 {
     match (request, reply) {

@@ -9,5 +9,5 @@ mod leading;
 pub mod steps;
 
 pub use following::follow;
-pub use keeping::Use;
+pub use keeping::{Use, replaces};
 pub use steps::Step;

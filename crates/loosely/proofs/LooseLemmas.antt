@@ -6,7 +6,6 @@ use Rattle.backing.specs.declared.file_spec.FileSpec.{FileSpec}
 use Rattle.backing.specs.Given.{given_files}
 use Rattle.audit.specs.Placing.{rule_of}
 use Rattle.audit_text.specs.Legal.{first_map}
-use Rattle.audit_text.proofs.FileLemmas.{same_files}
 use Rattle.orders.specs.declared.history.Timed.{Timed}
 use Rattle.orders_text.specs.History.{IsHistory, completed, replies_in}
 use Rattle.orders_text.specs.Steps.{read_of}
@@ -15,7 +14,10 @@ use Rattle.loose_orders.specs.declared.steps.Step.{Step}
 use Rattle.loose_orders.specs.Loose.{HasLooseOrder, IsLooseOrder}
 use Rattle.by_pages.specs.Pages.{AreChosen, parts_from}
 use Rattle.by_pages.specs.declared.splitting.Part.{Part}
-use Rattle.page_orders.specs.Rulings.{IsLegal}
+use Rattle.overlapping.specs.Waiting.{NoneWaits}
+use Rattle.page_orders.specs.Rulings.{HasNone, IsLegal}
+use Rattle.page_orders.proofs.RuleLemmas.{all_answered, first_of}
+use Rattle.no_loose_order.specs.Lagging.{HasNoneLoosely}
 use Rattle.loosely.specs.Loosely.{HasLooseOrderAmong, HasLooseOrderByPages}
 
 pub order_among : (any_place rule : Bool) (t u : Plain) (parts : List Part) (calls made : List Timed) (steps : List Step) → rule ≡ any_place
@@ -30,12 +32,6 @@ order_among any_place rule t u parts calls made steps e f same c o = record {
   };
 }
 
--- the first map of a history
-first_of : {A : Type 0} (history : History A) (files : List (FileSpec A)) → files ≡ history.declaration.files.items
-    → nothing_mapped (given_files files) ≡ first_map (read_of history).declared
-first_of {A} history files e =
-    ap (λ (fs : List (FileSpec A)). nothing_mapped (given_files fs)) e ∙ ap nothing_mapped (same_files history.declaration.files.items)
-
 pub legal_there : {A : Type 0} (any_place : Bool) (lines : List (List ℕ)) (history : History A) (replies : List Reply) (parts all : List Part)
     (files : List (FileSpec A)) (n : ℕ) → n ≡ length history.calls.items → files ≡ history.declaration.files.items → parts ≡ all
     → all ≡ parts_from 0 (completed (replies_in replies) (read_of history))
@@ -49,3 +45,16 @@ legal_there any_place lines history replies parts all files n count f same is o 
   order = subst (λ (ps : List Part). HasLooseOrderAmong (rule_of any_place) (first_map (read_of history).declared) ps) (same ∙ is)
       (subst (λ (t : Plain). HasLooseOrderAmong (rule_of any_place) t parts) (first_of history files f) o);
 }
+
+-- where none waits, and the parts have no order by the loose rule
+pub none_there : {A : Type 0} (history : History A) (any_place : Bool) (files : List (FileSpec A)) (replies : List Reply) (parts all : List Part)
+    → NoneWaits history.waiting.items → files ≡ history.declaration.files.items → parts ≡ all
+    → all ≡ parts_from 0 (completed (replies_in replies) (read_of history))
+    → HasNoneLoosely (rule_of any_place) (nothing_mapped (given_files files)) parts
+    → HasNone (HasLooseOrderByPages (rule_of any_place)) (read_of history)
+none_there history any_place files replies parts all none f same is amiss others o =
+    let those : parts_from 0 (completed others (read_of history)) ≡ parts =
+    ap (λ (cs : List Timed). parts_from 0 cs) (all_answered history others none ∙ sym (all_answered history (replies_in replies) none))
+    ∙ sym (same ∙ is) in
+    amiss o.calls (subst (λ (ps : List Part). AreChosen ps o.calls) those o.chosen)
+    (subst (λ (t : Plain). HasLooseOrder (rule_of any_place) t o.calls) (sym (first_of history files f)) o.order)

@@ -1,5 +1,5 @@
 //! Judging a text of calls that overlap by the loose rule.
-ghost use Rattle.std.specs.Prelude.{◌≡◌, ◌≤◌, ℕ, List, IfErr, IfOk, Ok, length, true};
+ghost use Rattle.std.specs.Prelude.{◌≡◌, ◌≤◌, ℕ, List, IfErr, IfOk, Ok, length, slice_get, true};
 ghost use Rattle.trace_io.specs.Lines.{lines_of};
 ghost use Rattle.slot_lock.specs.Slots.{IsNew};
 ghost use Rattle.vm_base.specs.Plain.{nothing_mapped};
@@ -9,7 +9,7 @@ ghost use Rattle.orders_text.specs.Faults.{IsAtFault};
 ghost use Rattle.orders_text.specs.History.{IsHistory, completed, replies_in};
 ghost use Rattle.orders_text.specs.Steps.{HasPlaces, read_of};
 ghost use Rattle.by_pages.specs.Pages.{parts_from};
-ghost use Rattle.page_orders.specs.Rulings.{IsRuling};
+ghost use Rattle.page_orders.specs.Rulings.{HasNone, IsRuling};
 ghost use Rattle.loosely.specs.Loosely.{HasLooseOrderAmong, HasLooseOrderByPages};
 
 use crate::searching::{Order, find};
@@ -17,7 +17,9 @@ use audit::Auditor;
 use backing::FileSpec;
 use by_pages::{Part, chosen};
 use loose_orders::{Step, Use, follow};
+use no_loose_order::none_loosely;
 use no_order::files_again;
+use orders::Timed;
 use orders_text::{History, HistoryFault, read_history};
 use overlapping::{Ruled, Ruling};
 use page_orders::{effects, none_waits, split_history};
@@ -98,11 +100,70 @@ fn is_order<M: SlotMap + Drop, A: Allocator + Clone + Drop>(
     follow(alloc.clone()?, &mut auditor, calls, uses, steps)
 }
 
-// The line of the call at this place of a history.
-fn line_at(lines: &[u64], place: usize) -> u64 {
-    match lines.get(place) {
-        Some(line) => *line,
-        None => 0,
+// The line of the call at this place of a history, if there is one.
+fn line_at(lines: &[u64], place: usize) -> Option<u64>
+    ensures { result ≡ slice_get lines.now place }
+{
+    lines.get(place).copied()
+}
+
+// The call at this place, if there is one.
+fn call_at(calls: &[Timed], place: usize) -> Option<Timed>
+    ensures { result ≡ slice_get calls.now place }
+{
+    calls.get(place).copied()
+}
+
+// Tells whether it was shown that the parts of a history's calls have no order by the loose rule, with whatever replies of those that wait at
+// its end. None was found until the end of this part.
+fn is_disorder<A: Allocator + Clone + Drop>(
+    alloc: &A,
+    history: &History<A>,
+    any_place: bool,
+    tried: &Tried<A>,
+    stuck: usize,
+) -> Result<bool, NoMemory>
+    requires few { length history.now.declaration.files.items ≤ 16 }
+    requires parts { tried.now.parts.items ≡ parts_from 0 (completed (replies_in tried.now.replies.items) (read_of history.now)) }
+    ensures { result ≡ Ok true → HasNone (HasLooseOrderByPages (rule_of any_place)) (read_of history.now) }
+{
+    let waiting = history.waiting.as_slice();
+    let none = none_waits(waiting);
+    if !none {
+        return Ok(false);
+    }
+    let files = history.declaration.files.as_slice();
+    let parts = tried.parts.as_slice();
+    none_loosely(alloc, files, any_place, parts, stuck)
+}
+
+// The ruling where no order was found by the end of this part, which is of the call at this place.
+#[tactic(auto, using(page_orders::proofs::RuleLemmas::unordered_there))]
+fn rule_without<A: Allocator + Clone + Drop>(
+    alloc: &A,
+    history: &History<A>,
+    any_place: bool,
+    tried: &Tried<A>,
+    stuck: usize,
+    place: usize,
+) -> Result<Ruling, NoMemory>
+    requires few { length history.now.declaration.files.items ≤ 16 }
+    requires parts { tried.now.parts.items ≡ parts_from 0 (completed (replies_in tried.now.replies.items) (read_of history.now)) }
+    ensures { IfOk result (λ ruling. (lines : List (List ℕ)) → IsHistory lines (read_of history.now)
+        → IsRuling (HasLooseOrderByPages (rule_of any_place)) lines ruling) }
+{
+    let Some(line) = line_at(history.lines.as_slice(), place) else {
+        return Ok(Ruling::Undecided(0));
+    };
+    let Some(timed) = call_at(history.calls.as_slice(), place) else {
+        return Ok(Ruling::Undecided(line));
+    };
+    let shown = is_disorder(alloc, history, any_place, tried, stuck)?;
+    if shown {
+        let reply = timed.call.reply;
+        Ok(Ruling::NoOrder { line, reply })
+    } else {
+        Ok(Ruling::Undecided(line))
     }
 }
 
@@ -130,7 +191,6 @@ fn rule_by<M: SlotMap + Drop, A: Allocator + Clone + Drop>(
         → IsRuling (HasLooseOrderByPages (rule_of any_place)) lines ruling) }
 {
     let parts = tried.parts.as_slice();
-    let lines = history.lines.as_slice();
     match &tried.order {
         Order::Of {
             steps,
@@ -146,10 +206,13 @@ fn rule_by<M: SlotMap + Drop, A: Allocator + Clone + Drop>(
                 Ok(Ruling::Legal(history.calls.len() as u64))
             } else {
                 let last = history.calls.len().saturating_sub(1);
-                Ok(Ruling::Undecided(line_at(lines, last)))
+                Ok(Ruling::Undecided(line_at(history.lines.as_slice(), last).unwrap_or(0)))
             }
         }
-        Order::None(part) => Ok(Ruling::Undecided(line_at(lines, call_of(parts, *part)))),
+        Order::None(part) => {
+            let place = call_of(parts, *part);
+            rule_without(alloc, history, any_place, tried, *part, place)
+        }
     }
 }
 
@@ -178,8 +241,8 @@ fn rule<M: SlotMap + Drop, A: Allocator + Clone + Drop>(
     })
 }
 
-/// Judges a text by the loose rule: it is that of a history, whose calls have an order by it, or of which none was found; or it isn't, and
-/// why.
+/// Judges a text by the loose rule: it is that of a history, whose calls have an order by it, or have none, or of which none was
+/// found; or it isn't, and why.
 pub fn judge_text<M: SlotMap + Drop, A: Allocator + Clone + Drop>(
     alloc: &A,
     map: M,

@@ -46,7 +46,8 @@ fn judge_out<M: SlotMap + Drop, A: Allocator + Clone + Drop, W: Sink>(
 }
 
 /// Reads a text to its end, and writes whether its calls, which may overlap, have an order by the loose rule that begins with nothing mapped:
-/// `legal CALLS`, which is told only where the order was checked, or `undecided LINE` where none was found. The map has nothing mapped.
+/// `legal CALLS`, which is told only where the order was checked, `no order LINE: replied REPLY`, which is told only where there is none, or
+/// else `undecided LINE`. The map has nothing mapped.
 pub fn judge_loosely<M: SlotMap + Drop, A: Allocator + Clone + Drop, S: Source, W: Sink>(
     alloc: A,
     map: M,

@@ -21,7 +21,7 @@ use Rattle.by_pages.specs.declared.splitting.Part.{Part}
 use Rattle.page_orders.specs.Rulings.{HasNone, IsLegal, IsUnordered, OrderRule}
 
 -- where none waits, the calls that have a reply are all
-all_answered : {A : Type 0} (history : History A) (replies : ℕ → Reply) → NoneWaits history.waiting.items
+pub all_answered : {A : Type 0} (history : History A) (replies : ℕ → Reply) → NoneWaits history.waiting.items
     → completed replies (read_of history) ≡ history.calls.items
 all_answered history replies none =
     ap (λ (cs : List Timed). history.calls.items ++ cs) (none_open replies 0 history.waiting.items none) ∙ append-nil history.calls.items
@@ -41,7 +41,7 @@ pub with_replies : (r : Read) (parts : List Part) (told replies : List Reply) �
 with_replies r parts told replies e so = so ∙ ap (λ (rs : List Reply). parts_from 0 (completed (replies_in rs) r)) e
 
 -- the first map of a history
-first_of : {A : Type 0} (history : History A) (files : List (FileSpec A)) → files ≡ history.declaration.files.items
+pub first_of : {A : Type 0} (history : History A) (files : List (FileSpec A)) → files ≡ history.declaration.files.items
     → nothing_mapped (given_files files) ≡ first_map (read_of history).declared
 first_of {A} history files e =
     ap (λ (fs : List (FileSpec A)). nothing_mapped (given_files fs)) e ∙ ap nothing_mapped (same_files history.declaration.files.items)

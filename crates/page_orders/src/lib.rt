@@ -8,6 +8,7 @@ pub mod judging;
 mod order_text;
 pub mod paging;
 
+pub use choices::none_chosen;
 pub use joining::Joins;
 pub use judging::{effects, judge_pages, none_waits, split_history};
 pub use paging::judge_by_pages;

@@ -321,8 +321,9 @@ call that was done keeps what it replaced on its page until it has ended, and
 an access may go as before it: it has its reply with the old entry, and stores
 to that, so that the page itself stays as it is. So munmap may still run when
 a load of the page gets segv maperr, and another one, after it, the old byte.
-The answer is legal, which was checked, or undecided: an access of a page of a
-file is not looked at as before a call.
+Here undecided is more frequent. An access of a page of a file is not looked at
+as before a call; and that there is no order must show without those accesses
+that may go as before one.
 
 Example:
   printf '%s\\n' 'vm 1 4' 'c0! mmap 0x10000 4096 rw- pfa = 0x10000' \\
