@@ -1,3 +1,4 @@
+mod ChangingLemmas
 mod EchoLemmas
 mod LiningLemmas
 mod LitmusLemmas

@@ -15,11 +15,11 @@ use Rattle.command_line.specs.Stepping.{Logged, PageEnds, PageOf, Paged, is_whol
 use Rattle.command_line.specs.Picture.{Fails, ShowsText, TextEnds, Watched}
 use Rattle.command_line.proofs.PictureLemmas.{known_read}
 
-first_of : (a b : Bool) → (a && b) ≡ true → a ≡ true
+pub first_of : (a b : Bool) → (a && b) ≡ true → a ≡ true
 first_of true b e = refl
 first_of false b e = e
 
-second_of : (a b : Bool) → (a && b) ≡ true → b ≡ true
+pub second_of : (a b : Bool) → (a && b) ≡ true → b ≡ true
 second_of true b e = e
 second_of false b e = absurd (cc)
 

@@ -1,5 +1,5 @@
 -- A replay that shows each line beside what it gives, and how it ends
-use Rattle.std.specs.Prelude.{◌≡◌, ℕ, ◌+◌, ◌<◌, ◌≤◌, List, [], ◌∷◌, ◌++◌, false, Option, None, Some, Result, Ok, Err, codes, length, Bool, true, drop}
+use Rattle.std.specs.Prelude.{◌≡◌, ℕ, ◌+◌, ◌-◌, ◌<◌, ◌≤◌, List, [], ◌∷◌, ◌++◌, false, Option, None, Some, Result, Ok, Err, codes, length, Bool, true, drop, take}
 use Rattle.std.specs.Io.KnownBytes.{Appends}
 use Rattle.std.specs.List.{flat_map}
 use Rattle.vm_base.specs.declared.log.Entry.{Entry}
@@ -9,6 +9,9 @@ use Rattle.trace_text.specs.Line.{line_of}
 use Rattle.trace_text.specs.Lists.{entry_text}
 use Rattle.trace_text.specs.declared.line.Line.{Line}
 use Rattle.trace_text.specs.declared.line.Line.TheVariants.{Blank, Space, File, Act, Fold, Finish, Now}
+use Rattle.state_changes.specs.Behind.{text_at}
+use Rattle.command_line.specs.Asking.{asks_after, at_next, nothing_asked, whose_text}
+use Rattle.command_line.specs.declared.asking.Asks.{Asks}
 use Rattle.core_steps.specs.declared.setup.CallLimit.{CallLimit}
 use Rattle.core_steps.specs.declared.setup.CallLimit.TheVariants.{Usual}
 use Rattle.trace.specs.declared.fault.TraceFault.{TraceFault}
@@ -39,20 +42,44 @@ shaded false line = line
 abbrev pub echo : Bool → List ℕ → List ℕ → List ℕ
 echo coloured line text = echo_of (line_of line) (shaded coloured line) text
 
+-- a line without its newline
+abbrev pub unended : List ℕ → List ℕ
+unended line = take (length line - 1) line
+
+-- the line of an entry, and behind it the call that it is of
+abbrev pub entry_line : List ℕ → Entry → List ℕ
+entry_line whose entry = unended (entry_text entry) ++ whose ++ codes "\n"
+
 -- where logs are shown, a line of each entry that a log has behind its first ones
-abbrev pub added_text : Bool → ℕ → List Entry → List ℕ
-added_text true count log = flat_map entry_text (drop count log)
-added_text false count log = []
+abbrev pub added_text : Bool → List ℕ → ℕ → List Entry → List ℕ
+added_text true whose count log = flat_map (entry_line whose) (drop count log)
+added_text false whose count log = []
 
--- what stands below a line that leads from the one stage to the other: the entries that it adds to the log
-abbrev pub below : Bool → Stage → Stage → List ℕ
-below logs old new = added_text logs (length (log_at old)) (log_at new)
+-- how far lines have come: what is known of the calls that cores began last, and the stage
+pub record Standing : Type 0 where
+  pub asks : Asks
+  pub stage : Stage
 
--- The lines, none of them too long, are acted on in order, and this is shown of them: each, and below it the entries that it adds.
-abbrev pub Echoes : Bool → Bool → Stage → List (List ℕ) → Stage → List ℕ → Type 0
-Echoes coloured logs old [] new shown = (new ≡ old) × (shown ≡ [])
-Echoes coloured logs old (l ∷ ls) new shown = (mid : Stage) × (text : List ℕ) × (rest : List ℕ) × (length l ≤ 256)
-    × Acts old l mid text × Echoes coloured logs mid ls new rest × (shown ≡ echo coloured l text ++ below logs old mid ++ rest)
+-- before the first line, where logs are shown or not
+abbrev pub begun_at : Bool → CallLimit → Standing
+begun_at logs limit = record { asks = nothing_asked logs; stage = Start limit }
+
+-- behind one more, which gave this text and led to this stage
+abbrev pub behind_line : Standing → List ℕ → List ℕ → Stage → Standing
+behind_line old line text stage = record { asks = asks_after (at_next old.asks) line text; stage = stage }
+
+-- what stands below a line that leads from the one to the other: the entries that it adds to the log, and the text that is shown of
+-- its number
+abbrev pub below : List (List ℕ) → Standing → Standing → List ℕ
+below texts old new = added_text old.asks.is_wanted (whose_text new.asks) (length (log_at old.stage)) (log_at new.stage)
+    ++ text_at old.asks.line texts
+
+-- The lines, none of them too long, are acted on in order, and this is shown of them: each, and what stands below it.
+abbrev pub Echoes : Bool → List (List ℕ) → Standing → List (List ℕ) → Standing → List ℕ → Type 0
+Echoes coloured texts old [] new shown = (new ≡ old) × (shown ≡ [])
+Echoes coloured texts old (l ∷ ls) new shown = (mid : Stage) × (text : List ℕ) × (rest : List ℕ) × (length l ≤ 256)
+    × Acts old.stage l mid text × Echoes coloured texts (behind_line old l text mid) ls new rest
+    × (shown ≡ echo coloured l text ++ below texts old (behind_line old l text mid) ++ rest)
 
 -- which limit of calls holds of the one that is asked for: where the log is kept, the usual one
 abbrev pub echo_limit : Bool → CallLimit → CallLimit
@@ -62,42 +89,42 @@ echo_limit false limit = limit
 -- ---- the end
 
 -- all lines were acted on, a machine could be made, and all that they show was written
-pub record EchoesAll (coloured logs : Bool) (limit : CallLimit) (input : List ℕ) (old new : Option (List ℕ)) : Type 0 where
-  pub stage : Stage
+pub record EchoesAll (coloured logs : Bool) (texts : List (List ℕ)) (limit : CallLimit) (input : List ℕ) (old new : Option (List ℕ)) : Type 0 where
+  pub last : Standing
   pub shown : List ℕ
-  pub echoes : Echoes coloured logs (Start limit) (lines_of input) stage shown
-  pub opens : CanOpen stage
+  pub echoes : Echoes coloured texts (begun_at logs limit) (lines_of input) last shown
+  pub opens : CanOpen last.stage
   pub appends : Appends old new shown
 
 -- the first lines, and what they show
-pub record EchoFront (coloured logs : Bool) (limit : CallLimit) (input : List ℕ) : Type 0 where
+pub record EchoFront (coloured logs : Bool) (texts : List (List ℕ)) (limit : CallLimit) (input : List ℕ) : Type 0 where
   pub done : List (List ℕ)
   pub more : List (List ℕ)
-  pub stage : Stage
+  pub last : Standing
   pub shown : List ℕ
   pub lines : lines_of input ≡ done ++ more
-  pub echoes : Echoes coloured logs (Start limit) done stage shown
+  pub echoes : Echoes coloured texts (begun_at logs limit) done last shown
 
 -- After a fault just what the lines before it show has gone out; after a failed write a front of it.
-pub data EchoStops (coloured logs : Bool) (limit : CallLimit) (input : List ℕ) (old new : Option (List ℕ)) (f : TraceFault) : Type 0 where
-  reading : f ≡ ReadFailed → (p : EchoFront coloured logs limit input) → Appends old new p.shown → EchoStops coloured logs limit input old new f
-  unmade : f ≡ NoMemory → Appends old new [] → EchoStops coloured logs limit input old new f
-  wanting : f ≡ NoMemory → (p : EchoFront coloured logs limit input) (line : List ℕ) (others : List (List ℕ))
-      → p.more ≡ line ∷ others → LineWants logs p.stage line → Appends old new p.shown
-      → EchoStops coloured logs limit input old new f
-  overlong : (p : EchoFront coloured logs limit input) (line : List ℕ) (others : List (List ℕ)) → p.more ≡ line ∷ others
+pub data EchoStops (coloured logs : Bool) (texts : List (List ℕ)) (limit : CallLimit) (input : List ℕ) (old new : Option (List ℕ)) (f : TraceFault) : Type 0 where
+  reading : f ≡ ReadFailed → (p : EchoFront coloured logs texts limit input) → Appends old new p.shown → EchoStops coloured logs texts limit input old new f
+  unmade : f ≡ NoMemory → Appends old new [] → EchoStops coloured logs texts limit input old new f
+  wanting : f ≡ NoMemory → (p : EchoFront coloured logs texts limit input) (line : List ℕ) (others : List (List ℕ))
+      → p.more ≡ line ∷ others → LineWants logs p.last.stage line → Appends old new p.shown
+      → EchoStops coloured logs texts limit input old new f
+  overlong : (p : EchoFront coloured logs texts limit input) (line : List ℕ) (others : List (List ℕ)) → p.more ≡ line ∷ others
       → 256 < length line → f ≡ TooLong (length p.done + 1) → Appends old new p.shown
-      → EchoStops coloured logs limit input old new f
-  refusing : (p : EchoFront coloured logs limit input) (line : List ℕ) (others : List (List ℕ)) → p.more ≡ line ∷ others
-      → LineFails p.stage (length p.done + 1) line f → Appends old new p.shown
-      → EchoStops coloured logs limit input old new f
-  unopened : (p : EchoFront coloured logs limit input) → p.more ≡ [] → OpenFails p.stage f → Appends old new p.shown
-      → EchoStops coloured logs limit input old new f
-  writing : f ≡ WriteFailed → (p : EchoFront coloured logs limit input) → AppendsFront old new p.shown
-      → EchoStops coloured logs limit input old new f
+      → EchoStops coloured logs texts limit input old new f
+  refusing : (p : EchoFront coloured logs texts limit input) (line : List ℕ) (others : List (List ℕ)) → p.more ≡ line ∷ others
+      → LineFails p.last.stage (length p.done + 1) line f → Appends old new p.shown
+      → EchoStops coloured logs texts limit input old new f
+  unopened : (p : EchoFront coloured logs texts limit input) → p.more ≡ [] → OpenFails p.last.stage f → Appends old new p.shown
+      → EchoStops coloured logs texts limit input old new f
+  writing : f ≡ WriteFailed → (p : EchoFront coloured logs texts limit input) → AppendsFront old new p.shown
+      → EchoStops coloured logs texts limit input old new f
 
 -- how an echoing replay ends
-abbrev pub EchoEnds : {T : Type 0} → Bool → Bool → CallLimit → List ℕ → Option (List ℕ) → Option (List ℕ) → Result T TraceFault
+abbrev pub EchoEnds : {T : Type 0} → Bool → Bool → List (List ℕ) → CallLimit → List ℕ → Option (List ℕ) → Option (List ℕ) → Result T TraceFault
     → Type 0
-EchoEnds coloured logs limit input old new (Ok x) = EchoesAll coloured logs limit input old new
-EchoEnds coloured logs limit input old new (Err f) = EchoStops coloured logs limit input old new f
+EchoEnds coloured logs texts limit input old new (Ok x) = EchoesAll coloured logs texts limit input old new
+EchoEnds coloured logs texts limit input old new (Err f) = EchoStops coloured logs texts limit input old new f

@@ -1,3 +1,5 @@
+pub mod Asking
+pub mod Changing
 pub mod Echo
 pub mod Help
 pub mod Input

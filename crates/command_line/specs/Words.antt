@@ -1,5 +1,5 @@
 -- What each word of the command line does: how it ends, what is read and written by then, and the status.
-use Rattle.std.specs.Prelude.{◌≡◌, ◌⊎◌, ℕ, Bool, List, Option, Result, Err, Vec}
+use Rattle.std.specs.Prelude.{◌≡◌, ◌⊎◌, ℕ, Bool, List, [], Option, Result, Err, Vec}
 use Rattle.std.specs.Io.KnownBytes.{Keeps}
 use Rattle.overlapping.specs.Ends.{JudgementEnds, TellsJudgement}
 use Rattle.overlapping.specs.Replies.{AuditEnds}
@@ -57,7 +57,7 @@ ReplaysTrace shows text out n = EndsInOneWay status_of (Ends {T = Unit} (limit_f
 -- a replay that shows each line beside its outcome, in colours or without, and below it what it adds to the log, or not
 abbrev pub EchoesTrace : Bool → Bool → CallLimit → ReadFrom → WrittenTo → ℕ → Type 0
 EchoesTrace coloured logs limit text out n =
-    EndsInOneWay status_of (λ input unread. EchoEnds {T = Unit} coloured logs (echo_limit logs limit) input) TellsFaults text out n
+    EndsInOneWay status_of (λ input unread. EchoEnds {T = Unit} coloured logs [] (echo_limit logs limit) input) TellsFaults text out n
 
 -- the certificate of notes
 abbrev pub CertifiesNotes : Type 0 → (PageRange → ℕ → ℕ → Bool) → (Slots → ℕ → Type 0) → (Slots → Slots → ℕ → Type 0)

@@ -1,19 +1,22 @@
 //! A replay that shows each line beside what it gives.
-ghost use Rattle.std.specs.Prelude.{◌≡◌, ◌+◌, ◌≤◌, ◌++◌, IfOk, length, true};
+ghost use Rattle.std.specs.Prelude.{◌≡◌, ◌+◌, ◌≤◌, ◌++◌, IfOk, codes, length, true};
 ghost use Rattle.std.specs.List.{flat_map};
 ghost use Rattle.trace_io.specs.Io.{IsWritten, TellsIo, read_from, written_to};
 ghost use Rattle.trace_io.specs.Source.{Reads};
 ghost use Rattle.trace_io.specs.Window.{opening};
 ghost use Rattle.core_steps.specs.Setups.{Fits};
 ghost use Rattle.core_steps.specs.declared.setup.CallLimit.{CallLimit};
-ghost use Rattle.trace_text.specs.Lists.{entry_text};
 ghost use Rattle.trace.specs.Ends.{TellsFaults, fault_named};
 ghost use Rattle.trace.specs.Shown.{log_at};
 ghost use Rattle.trace.specs.Stage.{Start};
-ghost use Rattle.command_line.specs.Echo.{EchoEnds, added_text, echo, echo_limit, shaded};
+ghost use Rattle.state_changes.specs.Behind.{texts_of};
+ghost use Rattle.command_line.specs.Asking.{nothing_asked, whose_text};
+ghost use Rattle.command_line.specs.Echo.{EchoEnds, added_text, echo, echo_limit, entry_line, shaded, unended};
 
+use crate::asking::{Asking, Asks};
 use arrayvec::ArrayVec;
 use core_steps::{CallLimit, Forgotten, Logged, Opening};
+use state_changes::text_at;
 use std::alloc::Allocator;
 use trace::fault::TraceFault;
 use trace::replay::{Replayed, turn};
@@ -89,21 +92,50 @@ impl Showing for Echoing {
     }
 }
 
-// Writes a line for each of these entries. The lines and the text are where they are made.
+// A line without its newline.
+fn unended(line: &[u8]) -> &[u8]
+    ensures { result.now ≡ unended line.now }
+{
+    let (front, _) = line.split_at(line.len().saturating_sub(1));
+    front
+}
+
+// Writes one text after another.
+fn write_two<W: Sink>(writer: &mut W, first: &[u8], second: &[u8]) -> Result<(), WriteFailed>
+    ensures { IsWritten result (written_to W.Sink writer.old writer.new) (first.now ++ second.now) }
+{
+    if let Err(failed) = write_all(writer, first) {
+        return Err(failed);
+    }
+    write_all(writer, second)
+}
+
+// Writes the line of an entry, and behind it whose it is.
+fn write_entry<W: Sink>(writer: &mut W, line: &[u8], whose: &[u8]) -> Result<(), WriteFailed>
+    ensures { IsWritten result (written_to W.Sink writer.old writer.new) (unended line.now ++ whose.now ++ codes "\n") }
+{
+    if let Err(failed) = write_two(writer, unended(line), whose) {
+        return Err(failed);
+    }
+    write_all(writer, b"\n")
+}
+
+// Writes a line for each of these entries, and behind each whose it is. The lines and the text are where they are made.
 fn write_entries<W: Sink>(
     writer: &mut W,
     entries: &[Entry],
+    whose: &[u8],
     lines: &mut LogLines,
     text: &mut LineText,
 ) -> Result<(), WriteFailed>
-    ensures { IsWritten result (written_to W.Sink writer.old writer.new) (flat_map entry_text entries.now) }
+    ensures { IsWritten result (written_to W.Sink writer.old writer.new) (flat_map (entry_line whose.now) entries.now) }
 {
     let mut at = 0;
     'entries: while at < entries.len() {
         let entry = entries[at];
         lines.clear();
         lines.push(entry, text);
-        if let Err(failed) = write_all(writer, lines.as_bytes()) {
+        if let Err(failed) = write_entry(writer, lines.as_bytes(), whose) {
             return Err(failed);
         }
         at += 1;
@@ -114,29 +146,59 @@ fn write_entries<W: Sink>(
 // Writes the lines of the entries that the log has behind the first ones, where the log is shown, and answers how many it has.
 fn write_added<W: Sink, R: Staged>(
     writer: &mut W,
-    replayer: &R,
-    logs: bool,
+    replay: &Asking<R>,
     first: usize,
     lines: &mut LogLines,
     text: &mut LineText,
 ) -> Result<usize, WriteFailed>
-    requires { R.keeps ≡ logs }
+    requires { R.keeps ≡ replay.now.asks.is_wanted }
     ensures wrote { IsWritten result (written_to W.Sink writer.old writer.new)
-        (added_text logs first (log_at (R.stage replayer.now))) }
-    ensures count { IfOk result (λ n. logs ≡ true → n ≡ length (log_at (R.stage replayer.now))) }
+        (added_text replay.now.asks.is_wanted (whose_text replay.now.asks) first (log_at (R.stage replay.now.replayer))) }
+    ensures count { IfOk result (λ n. replay.now.asks.is_wanted ≡ true → n ≡ length (log_at (R.stage replay.now.replayer))) }
 {
-    if !logs {
+    if !replay.asks.is_wanted {
         return Ok(first);
     }
-    let Some(log) = replayer.log() else {
+    let Some(log) = replay.log() else {
         // (this never comes, since the log is kept)
         return Ok(first);
     };
     let from = first.min(log.len());
-    if let Err(failed) = write_entries(writer, &log[from..], lines, text) {
+    let whose = replay.asks.whose();
+    if let Err(failed) = write_entries(
+        writer,
+        &log[from..],
+        whose.as_str().as_bytes(),
+        lines,
+        text,
+    ) {
         return Err(failed);
     }
     Ok(log.len())
+}
+
+// Writes what stands below a line: these entries, and a text.
+fn write_below<W: Sink, R: Staged>(
+    writer: &mut W,
+    replay: &Asking<R>,
+    first: usize,
+    change: &[u8],
+    lines: &mut LogLines,
+    text: &mut LineText,
+) -> Result<usize, WriteFailed>
+    requires { R.keeps ≡ replay.now.asks.is_wanted }
+    ensures wrote { IsWritten result (written_to W.Sink writer.old writer.new)
+        (added_text replay.now.asks.is_wanted (whose_text replay.now.asks) first (log_at (R.stage replay.now.replayer)) ++ change.now) }
+    ensures count { IfOk result (λ n. replay.now.asks.is_wanted ≡ true → n ≡ length (log_at (R.stage replay.now.replayer))) }
+{
+    let count = match write_added(writer, replay, first, lines, text) {
+        Ok(count) => count,
+        Err(failed) => return Err(failed),
+    };
+    if let Err(failed) = write_all(writer, change) {
+        return Err(failed);
+    }
+    Ok(count)
 }
 
 // Acts on the lines until the text ends, and then makes a machine where no line has.
@@ -144,16 +206,17 @@ fn echo_lines<A: Allocator, S: Source, W: Sink, R: Staged>(
     lines: &mut LineReader<A>,
     reader: &mut S,
     writer: &mut W,
-    replayer: &mut R,
+    replay: &mut Asking<R>,
     text: &mut LineText,
     coloured: bool,
-    logs: bool,
+    texts: &[Vec<u8>],
 ) -> Result<(), TraceFault>
     requires fresh { lines.old ≡ opening }
-    requires keeps { R.keeps ≡ logs }
-    ensures ends { (limit : CallLimit) → R.stage replayer.old ≡ Start limit
+    requires keeps { R.keeps ≡ replay.old.asks.is_wanted }
+    requires none { replay.old.asks ≡ nothing_asked replay.old.asks.is_wanted }
+    ensures ends { (limit : CallLimit) → R.stage replay.old.replayer ≡ Start limit
         → Reads (S.stream reader.old) (S.stream reader.new) (λ input unread.
-        EchoEnds coloured logs limit input (W.contents writer.old) (W.contents writer.new) result) }
+        EchoEnds coloured replay.old.asks.is_wanted (texts_of texts.now) limit input (W.contents writer.old) (W.contents writer.new) result) }
     ensures told { TellsIo fault_named result (read_from S.Source reader.old reader.new) (written_to W.Sink writer.old writer.new) }
 {
     let show = Echoing { coloured };
@@ -161,15 +224,23 @@ fn echo_lines<A: Allocator, S: Source, W: Sink, R: Staged>(
     let mut shown = 0usize;
     let mut number = 0u64;
     'lines: loop {
-        match turn(lines, reader, writer, replayer, number, &show, text) {
-            Ok(true) => match write_added(writer, replayer, logs, shown, &mut entries, text) {
+        replay.asks.line = number + 1;
+        match turn(lines, reader, writer, replay, number, &show, text) {
+            Ok(true) => match write_below(
+                writer,
+                replay,
+                shown,
+                text_at(texts, number),
+                &mut entries,
+                text,
+            ) {
                 Ok(count) => {
                     shown = count;
                     number += 1;
                 }
                 Err(_) => return Err(TraceFault::WriteFailed),
             },
-            Ok(false) => return replayer.finish(),
+            Ok(false) => return replay.finish(),
             Err(fault) => return Err(fault),
         }
     }
@@ -184,24 +255,27 @@ fn echo_over<L: Opening<A> + Drop, A: Allocator + Clone + Drop, S: Source, W: Si
     limit: CallLimit,
     coloured: bool,
     logs: bool,
+    texts: &[Vec<u8>],
 ) -> Result<(), TraceFault>
     requires fresh { lines.old ≡ opening }
     requires keeps { L.keeps ≡ logs }
     requires fits { Fits L.keeps limit }
     ensures ends { Reads (S.stream reader.old) (S.stream reader.new) (λ input unread.
-        EchoEnds coloured logs limit input (W.contents writer.old) (W.contents writer.new) result) }
+        EchoEnds coloured logs (texts_of texts.now) limit input (W.contents writer.old) (W.contents writer.new) result) }
     ensures told { TellsIo fault_named result (read_from S.Source reader.old reader.new) (written_to W.Sink writer.old writer.new) }
 {
-    let mut replayer = Replayer::<A, L, Unwatched>::within(limit, alloc, Unwatched);
+    let replayer = Replayer::<A, L, Unwatched>::within(limit, alloc, Unwatched);
+    let asks = Asks::new(logs);
+    let mut replay = Asking { replayer, asks };
     let mut text = LineText::new();
     echo_lines(
         lines,
         reader,
         writer,
-        &mut replayer,
+        &mut replay,
         &mut text,
         coloured,
-        logs,
+        texts,
     )
 }
 
@@ -214,10 +288,11 @@ fn echo_text<A: Allocator + Clone + Drop, S: Source, W: Sink>(
     limit: CallLimit,
     coloured: bool,
     logs: bool,
+    texts: &[Vec<u8>],
 ) -> Result<(), TraceFault>
     requires fresh { lines.old ≡ opening }
     ensures ends { Reads (S.stream reader.old) (S.stream reader.new) (λ input unread.
-        EchoEnds coloured logs (echo_limit logs limit) input (W.contents writer.old) (W.contents writer.new) result) }
+        EchoEnds coloured logs (texts_of texts.now) (echo_limit logs limit) input (W.contents writer.old) (W.contents writer.new) result) }
     ensures told { TellsIo fault_named result (read_from S.Source reader.old reader.new) (written_to W.Sink writer.old writer.new) }
 {
     if logs {
@@ -229,9 +304,10 @@ fn echo_text<A: Allocator + Clone + Drop, S: Source, W: Sink>(
             CallLimit::Usual,
             coloured,
             true,
+            texts,
         )
     } else {
-        echo_over::<Forgotten, A, S, W>(alloc, lines, reader, writer, limit, coloured, false)
+        echo_over::<Forgotten, A, S, W>(alloc, lines, reader, writer, limit, coloured, false, texts)
     }
 }
 
@@ -243,9 +319,10 @@ fn echo_read<A: Allocator + Clone + Drop, S: Source, W: Sink>(
     limit: CallLimit,
     coloured: bool,
     logs: bool,
+    texts: &[Vec<u8>],
 ) -> Replayed<A>
     ensures ends { Reads (S.stream reader.old) (S.stream reader.new) (λ input unread.
-        EchoEnds coloured logs (echo_limit logs limit) input (W.contents writer.old) (W.contents writer.new) result.ended) }
+        EchoEnds coloured logs (texts_of texts.now) (echo_limit logs limit) input (W.contents writer.old) (W.contents writer.new) result.ended) }
     ensures told { TellsIo fault_named result.ended (read_from S.Source reader.old reader.new) (written_to W.Sink writer.old writer.new) }
 {
     let Some(mut lines) = line_reader(&alloc) else {
@@ -254,7 +331,9 @@ fn echo_read<A: Allocator + Clone + Drop, S: Source, W: Sink>(
             lines: None,
         };
     };
-    let ended = echo_text(alloc, &mut lines, reader, writer, limit, coloured, logs);
+    let ended = echo_text(
+        alloc, &mut lines, reader, writer, limit, coloured, logs, texts,
+    );
     Replayed {
         ended,
         lines: Some(lines),
@@ -264,7 +343,8 @@ fn echo_read<A: Allocator + Clone + Drop, S: Source, W: Sink>(
 /// Replays a trace that may ask for as many calls as this limit says, as `trace::replay` does, and
 /// writes each line of an event with its outcome after ` = `, and each `vm` or `file` line as it
 /// is, the lines faint where colours are asked for. Where the log is asked for, a line of each of its entries stands below the line
-/// that added it, and the usual limit holds. Hands out the lines that were read, of which the last tells more of a fault.
+/// that added it, with the core, the request and the line of its call, and the usual limit holds. Below that stands the text of the
+/// line's number, if it has one. Hands out the lines that were read, of which the last tells more of a fault.
 pub fn replay_echoing<A: Allocator + Clone + Drop, S: Source, W: Sink>(
     alloc: A,
     reader: &mut S,
@@ -272,12 +352,13 @@ pub fn replay_echoing<A: Allocator + Clone + Drop, S: Source, W: Sink>(
     limit: CallLimit,
     coloured: bool,
     logs: bool,
+    texts: &[Vec<u8>],
 ) -> Replayed<A>
     ensures ends { Reads (S.stream reader.old) (S.stream reader.new) (λ input unread.
-        EchoEnds coloured logs (echo_limit logs limit) input (W.contents writer.old) (W.contents writer.new) result.ended) }
+        EchoEnds coloured logs (texts_of texts.now) (echo_limit logs limit) input (W.contents writer.old) (W.contents writer.new) result.ended) }
     ensures told { TellsFaults result.ended (read_from S.Source reader.old reader.new) (written_to W.Sink writer.old writer.new) }
 {
-    let replayed = echo_read(alloc, reader, writer, limit, coloured, logs);
+    let replayed = echo_read(alloc, reader, writer, limit, coloured, logs, texts);
     match writer.flush() {
         Ok(()) => replayed,
         Err(_) => Replayed {

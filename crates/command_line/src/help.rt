@@ -14,7 +14,8 @@ pub const VERSION: &str = "0.1.0";
 
 /// How the words go together.
 pub const USAGE: &str = "\
-radixvm run [--summary | [--echo] [--log]] [--long] [--explain] [FILE]
+radixvm run [--summary | [--echo] [--state] [--log]] [--long]
+                   [--explain] [FILE]
        radixvm maps [--names] [--long] [--explain] [FILE]
        radixvm state [--at N] [--explain] [FILE]
        radixvm page [--explain] [FILE]
@@ -39,7 +40,8 @@ pub const OVERVIEW: &str = "\
 One virtual address space with mmap, munmap and mprotect, shared by 1 to 64
 modelled cores, and replayed from a text, a trace, step by step.
 
-Usage: radixvm run [--summary | [--echo] [--log]] [--long] [--explain] [FILE]
+Usage: radixvm run [--summary | [--echo] [--state] [--log]] [--long]
+                   [--explain] [FILE]
        radixvm maps [--names] [--long] [--explain] [FILE]
        radixvm state [--at N] [--explain] [FILE]
        radixvm page [--explain] [FILE]
@@ -65,7 +67,10 @@ Words:
   run --log      writes the log behind these lines: when each call had its
                  reply
   run --echo     writes LINE = OUTCOME for a line of an event, and copies vm
-                 and file lines; with --log the log stands below the lines
+                 and file lines; with --log the log stands below the lines,
+                 each entry with the core, request and line of its call
+  run --state    does so, and writes below each line what it changes in the
+                 state: - and + before lines that go and that come
   run --summary  counts calls, faults, fills, shootdowns, frames and epochs,
                  and writes the numbers on standard error (help cores)
   maps           writes the mappings at the trace's end, and nothing else

@@ -97,6 +97,6 @@ pub fn run_echoing<A: Allocator + Clone + Drop, S: Source, W: Sink, E: Write>(
         (read_from S.Source reader.old reader.new) (written_to W.Sink out.old out.new) result.status }
     ensures within { result.status ≤ 3 }
 {
-    let replayed = replay_echoing(alloc, reader, out, limit, coloured, logs);
+    let replayed = replay_echoing(alloc, reader, out, limit, coloured, logs, &[]);
     tell_end(&replayed, errors)
 }

@@ -2,8 +2,10 @@
 //! replies (`command`), and what that gives goes to standard output. The program itself is `radixvm`.
 #![tactic(auto)]
 
+mod asking;
 mod auditing;
 pub mod certifying;
+mod changing;
 pub mod command;
 mod echo;
 pub mod ended;

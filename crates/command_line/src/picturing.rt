@@ -15,6 +15,7 @@ ghost use Rattle.trace_io.specs.Sink.{AppendsFront};
 ghost use Rattle.trace_io.specs.Source.{Reads};
 ghost use Rattle.watched.specs.Watching.{makes};
 
+use crate::changing::draw_changes;
 use crate::ended::{Ended, Trouble};
 use crate::lining::{Lines, draw_front, draw_lines};
 use crate::listing::list_named;
@@ -44,6 +45,15 @@ pub struct Steps {
     pub last: u64,
 }
 
+/// How the lines of a trace are shown beside what they gave.
+#[derive(Clone, Copy, Debug, PartialEq, Eq)]
+pub struct Echoed {
+    /// Whether they are faint.
+    pub coloured: bool,
+    /// Whether the entries that they add to the log stand below them.
+    pub logs: bool,
+}
+
 /// What is shown of a trace.
 #[derive(Clone, Copy, Debug, PartialEq, Eq)]
 pub enum Drawing {
@@ -57,6 +67,8 @@ pub enum Drawing {
     State(Option<u64>),
     /// No picture, but a page that steps through the trace.
     Page,
+    /// No picture, but each line with what it changes in the state.
+    Changes(Echoed),
     /// No picture, but the list of the mappings at the end, with the names of files, within this limit.
     Listing(CallLimit),
 }
@@ -281,6 +293,7 @@ pub(crate) fn draw_text<W: Sink, E: Write>(
         Drawing::Lives => draw_all_lives(alloc, trace, out),
         Drawing::State(at) => draw_state(alloc, trace, out, at),
         Drawing::Page => draw_page(alloc, trace, out),
+        Drawing::Changes(shows) => draw_changes(alloc, trace, out, shows),
         Drawing::Listing(limit) => list_named(alloc, trace, out, limit),
     }
 }
@@ -373,7 +386,7 @@ pub(crate) fn tell_end<E: Write>(
 
 /// Reads the trace into memory, replays it, and writes a picture of it, with the names of files that its comments tell: of what happened in these steps, or in the first
 /// 2,000 of them, which is then said on `errors`; or of the lives of mappings over all steps; or, in
-/// place of a picture, the state behind a line or at the end, or the list of the mappings at the end. Prints
+/// place of a picture, the state behind a line or at the end, each line with what it changes in it, or the list of the mappings at the end. Prints
 /// a fault, of which there is no picture, as `radixvm: ` and its text, and answers the status: 0, or
 /// that of the fault. A trace that ends before the first of the steps, or before the line, has no picture either: that is reported,
 /// and the status is 2.

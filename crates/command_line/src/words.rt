@@ -11,7 +11,7 @@ use crate::help::{Topic, page, topic_named};
 use crate::job::Shows;
 use crate::lining::Lines;
 use crate::litmus_tests::{POINTS, Test};
-use crate::picturing::{Drawing, Steps};
+use crate::picturing::{Drawing, Echoed, Steps};
 use crate::witnessing::WitnessPicture;
 use audit_text::Terms;
 use clap::{Arg, ArgAction, ArgMatches, Command, Error, value_parser};
@@ -65,7 +65,7 @@ pub(crate) enum Work {
     ByPages(Overlaps),
     /// The same, where an access may go as before a call that hasn't ended; whether a mapping may have any place.
     Loosely(bool),
-    /// A picture of a trace, of its steps or of lives, or the state at its end or behind a line.
+    /// A picture of a trace, of its steps or of lives, the state at its end or behind a line, or each line with what it changes in it.
     Picture(Drawing),
     /// The outcomes of a litmus test.
     Litmus(Test),
@@ -152,7 +152,8 @@ fn reading_from<'a>(
         .arg(file)
 }
 
-const RUN_USAGE: &str = "radixvm run [--summary | [--echo] [--log]] [--long] [--explain] [FILE]";
+const RUN_USAGE: &str =
+    "radixvm run [--summary | [--echo] [--state] [--log]] [--long] [--explain] [FILE]";
 
 const MAPS_USAGE: &str = "radixvm maps [--names] [--long] [--explain] [FILE]";
 
@@ -182,10 +183,13 @@ fn running<'a>(alloc: Global) -> Result<Command<'a>, AllocError> {
     let long = flag(alloc, "long").conflicts_with("log")?;
     let summary = flag(alloc, "summary")
         .conflicts_with("log")?
-        .conflicts_with("echo")?;
+        .conflicts_with("echo")?
+        .conflicts_with("state")?;
+    let state = flag(alloc, "state").conflicts_with("long")?;
     let command = reading(alloc, "run", RUN_USAGE)?
         .arg(flag(alloc, "log"))?
         .arg(flag(alloc, "echo"))?
+        .arg(state)?
         .arg(summary)?
         .arg(long)?;
     Ok(command)
@@ -515,6 +519,10 @@ fn importing_each<'a>(words: &ArgMatches<'a>) -> Task<'a>
 // What the words after `run` ask for, in colours or without.
 fn running_asked<'a>(words: &ArgMatches<'a>, coloured: bool) -> Task<'a> {
     let logs = words.get_flag("log");
+    if words.get_flag("state") {
+        let shows = Echoed { coloured, logs };
+        return working(Work::Picture(Drawing::Changes(shows)), words);
+    }
     if words.get_flag("echo") {
         let limit = limit_of(words);
         return working(

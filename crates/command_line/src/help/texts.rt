@@ -465,6 +465,10 @@ file's line, as import writes it.
             pages on, and the picture says so. Not beside --steps, --from or
             --to
 
+What live writes is a trace once its tickets and outcomes are gone:
+
+  radixvm live SCRIPT | sed 's/^[0-9]* //; s/ = .*//' | radixvm picture
+
 The trace is held in memory.
 
 Status: as for run. After a fault there is no picture.

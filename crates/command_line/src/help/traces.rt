@@ -5,12 +5,20 @@ pub const RUN: &str = "\
 run reads a trace, acts on each line as it is read, and writes a line for each
 event: the reply of a call, or what became of a step.
 
-  radixvm run [--summary | [--echo] [--log]] [--long] [--explain] [FILE]
+  radixvm run [--summary | [--echo] [--state] [--log]] [--long] [--explain]
+              [FILE]
 
   FILE       the trace (help trace); without it, or for -, standard input
   --log      also writes the log: when each call had its reply (help log)
   --echo     writes LINE = OUTCOME for each event, and copies vm and file
-             lines; with --log each entry stands below the line that made it
+             lines; with --log each entry stands below the line that made it,
+             with the core, the request and the line of its call
+  --state    does so, and writes below each line what it changes in the state:
+             - LINE for a line of state's text that goes, + LINE for one that
+             comes. From the text before the first event, which is epoch 0
+             alone, these lead to what state --at N writes behind line N. The
+             trace is held in memory, and after a fault nothing is written;
+             not together with --long
   --summary  counts calls, faults, fills, shootdowns, frames and epochs, and
              writes the numbers to standard error (help cores)
   --long     lets the trace ask for up to 2^40 calls; not together with --log
@@ -189,7 +197,12 @@ The log tells the order in which calls took effect: a plain page map that makes
 them in this order, one after another, can give these replies. After a fault
 there is no log.
 
-run --log --echo writes each entry below the line of the trace that made it.
+run --log --echo writes each entry below the line of the trace that made it,
+and behind it the call that it is of: the line that asked for the call, counted
+from 1, its core and the request, as certify reads requests (help notes).
+
+  log 9 call 1 0x10000 (line 2: c0 mmap 0x10000 0x1000 rw- pfa 0 0x0)
+
 After a fault the entries of the lines before it are there.
 ";
 
