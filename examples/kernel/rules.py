@@ -1,6 +1,6 @@
 #!/usr/bin/env python3
 """Prints by which rule of `radixvm audit --overlapping` the kernel that it runs on answers calls of 4 threads that overlap: a table of how many recorded
-histories are legal by each, and of each kind that isn't the shortest answer of the program.
+histories are legal by each, and of each kind that isn't the shortest answer of the program that shows calls without an order, if there is one.
 Usage: examples/kernel/rules.py [RUNS [CALLS]], 20 and 2000 (of each thread) where left out; RADIXVM_PROGRAM names the program."""
 import os
 import pathlib
@@ -42,8 +42,8 @@ def main():
                 for rule, flags in rules:
                     told = judged(history, flags)
                     legal[mix, rule] = legal.get((mix, rule), 0) + told.startswith("legal")
-                    if not told.startswith("legal") and len(told) < len(shortest.get((mix, rule), told + " ")):
-                        shortest[mix, rule] = told
+                    if not told.startswith("legal"):
+                        shortest[mix, rule] = min(shortest.get((mix, rule), told), told, key=lambda told: (told.count("\n") < 2, len(told)))
     width = max(len(mix) for mix, _ in MIXES)
     print(" " * width, *(f"{rule:>16}" for rule, _ in rules))
     for mix, _ in MIXES:

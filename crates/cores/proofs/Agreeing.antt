@@ -1,5 +1,6 @@
 -- Maps that agree on some pages, which are anonymous, go on so
-use Rattle.std.proofs.Common.{◌≡◌, ◌≢◌, ◌∙◌, ℕ, ◌-◌, ◌*◌, ◌&&◌, ◌||◌, ◌==◌, not, nat_le, nat_lt, cond, if◌then◌else◌, Bool, true, false, Option, None, Some, ap, arith, refl, subst, sym}
+use Rattle.std.proofs.Common.{◌≡◌, ◌≢◌, ◌∙◌, ℕ, ◌-◌, ◌*◌, ◌⊎◌, inl, inr, ◌&&◌, ◌||◌, ◌==◌, not, nat_le, nat_lt, cond}
+use Rattle.std.proofs.Common.{if◌then◌else◌, Bool, true, false, Option, None, Some, ap, arith, refl, subst, sym}
 use Rattle.std.specs.Prelude.{is_some}
 use Rattle.std.proofs.lemmas.Bool.Decides.{nat_tests}
 use Rattle.vm_base.specs.declared.info.Back.{Back}
@@ -19,7 +20,8 @@ use Rattle.vm_base.specs.declared.rights.Prot.{Prot}
 use Rattle.vm_base.specs.Answers.{Answers}
 use Rattle.vm_base.specs.Apply.{Accesses, Applies, AppliesAfter, HasPage, Maps, MapsAt, NewMapping, Performs, Protects, access_reply, accessed}
 use Rattle.vm_base.specs.Apply.{after_mapping, after_protecting, after_unmapping, back_at, bytes_reply, copied, detached, detached_entry, entry_reply}
-use Rattle.vm_base.specs.Apply.{is_absent, is_read_only, is_read_only_back, is_uncopied, stored_back, meta_of, needs_copy, new_entry, range_at, stored_entry, stored_own, with_prot}
+use Rattle.vm_base.specs.Apply.{is_absent, is_read_only, is_read_only_back, is_uncopied, stored_back, meta_of, needs_copy, new_entry, range_at}
+use Rattle.vm_base.specs.Apply.{stored_entry, stored_own, with_prot}
 use Rattle.vm_base.specs.Copies.{if_copied, or_else, page_copied, page_due, with_copy}
 use Rattle.vm_base.specs.Functions.{across, has, over, put}
 use Rattle.vm_base.specs.Info.{advance_back}
@@ -34,7 +36,8 @@ use Rattle.audit.specs.Copying.{Copies}
 use Rattle.audit.specs.declared.auditor.Call.{Call}
 use Rattle.orders.specs.Orders.{CopiesFor}
 use Rattle.orders.proofs.LeadLemmas.{answers_reply, reply_answers}
-use Rattle.cores.specs.Parts.{Has, IsAccess, IsMeet, IsPart, IsPartOf, IsPassed, IsReset, are_apart, is_aside, is_quiet, is_told, misses, pages_put}
+use Rattle.cores.specs.Parts.{Has, IsAccess, IsMappedPart, IsMeet, IsPart, IsPartOf, IsPassed, IsReset, IsResetAt, Sets}
+use Rattle.cores.specs.Parts.{are_apart, is_aside, is_quiet, is_told, misses, pages_put}
 
 -- ---- pages that agree
 
@@ -263,37 +266,44 @@ access_goes rule p t s u core addr r y a byte c d to from is same h =
 
 -- ---- ranges
 
--- the pages that a range call hands on
-abbrev AgreesBut : PageRange → PageRange → Plain → Plain → Type 0
-AgreesBut p r t s = (x : ℕ) → has p x ≡ true → has r x ≡ false → Same (t.entry x) (s.entry x)
-
-changed_same : (p r m : PageRange) (t s : Plain) (f : ℕ → Option Entry) (g : ℕ → Option Entry) → IsMeet m r p
-    → ((x : ℕ) → has p x ≡ true → has r x ≡ true → Same (f x) (g x)) → AgreesBut p r t s
-    → (x : ℕ) → has p x ≡ true → Same (across t.entry (has r) f x) (across s.entry (has m) g x)
-changed_same p r m t s f g meet new old x in_p =
+changed_at : (p r m : PageRange) (t s : Plain) (f g : ℕ → Option Entry) (x : ℕ) → IsMeet m r p → has p x ≡ true
+    → (has r x ≡ true → Same (f x) (g x)) → Same (t.entry x) (s.entry x) ⊎ (has m x ≡ true)
+    → Same (across t.entry (has r) f x) (across s.entry (has m) g x)
+changed_at p r m t s f g x meet in_p new old =
     subst (λ (b : Bool). Same (cond (has r x) (f x) (t.entry x)) (cond b (g x) (s.entry x))) (sym (meet.same x in_p)) (go (has r x) refl)
   where
+    outside : Same (t.entry x) (s.entry x) ⊎ (has m x ≡ true) → has r x ≡ false → Same (t.entry x) (s.entry x)
+    outside (inl same) e = same
+    outside (inr here) e = let wrong : true ≡ false = sym here ∙ (meet.same x in_p ∙ e) in absurd cc
+
     go : (b : Bool) → has r x ≡ b → Same (cond b (f x) (t.entry x)) (cond b (g x) (s.entry x))
-    go true e = new x in_p e
-    go false e = old x in_p e
+    go true e = new e
+    go false e = outside old e
 
-agrees_but : (p r : PageRange) (t s : Plain) → Agrees p t s → AgreesBut p r t s
-agrees_but p r t s same x in_p out = same x in_p
+-- What goes on agrees on each page on which the maps agreed, or that the call reaches.
+abbrev Reaches : PageRange → (ℕ → Type 0) → (t s u v : Plain) → Type 0
+Reaches p At t s u v = (x : ℕ) → has p x ≡ true → Same (t.entry x) (s.entry x) ⊎ At x → Same (u.entry x) (v.entry x)
 
-covered_but : (p r : PageRange) (t s : Plain) → Has r p → AgreesBut p r t s
-covered_but p r t s covers x in_p out = let wrong : true ≡ false = sym (covers x in_p) ∙ out in absurd cc
+abbrev GoesAt : PageRange → (ℕ → Type 0) → (t s u : Plain) → (Plain → Type 0) → Type 0
+GoesAt p At t s u To = (v : Plain) × To v × Reaches p At t s u v
+
+goes_all : (p : PageRange) (At : ℕ → Type 0) (t s u : Plain) (To : Plain → Type 0) → Agrees p t s → GoesAt p At t s u To → Goes p s u To
+goes_all p At t s u To same g = (g.0, g.1, λ x in_p. g.2 x in_p (inl (same x in_p)))
+
+abbrev In : PageRange → ℕ → Type 0
+In r x = has r x ≡ true
 
 munmap_goes : (rule : PlaceRule) (p : PageRange) (t s u : Plain) (core addr len a l : ℕ) → IsPassed (Munmap addr len) → IsPassed (Munmap a l)
-    → IsMeet (pages_of a l) (pages_of addr len) p → AgreesBut p (pages_of addr len) t s → RepliesBy rule t core (Munmap addr len) Done u
-    → Goes p s u (λ (v : Plain). RepliesBy rule s core (Munmap a l) Done v)
-munmap_goes rule p t s u core addr len a l whole part meet same h =
+    → IsMeet (pages_of a l) (pages_of addr len) p → RepliesBy rule t core (Munmap addr len) Done u
+    → GoesAt p (In (pages_of a l)) t s u (λ (v : Plain). RepliesBy rule s core (Munmap a l) Done v)
+munmap_goes rule p t s u core addr len a l whole part meet h =
     let done : AppliesAfter rule None t core (Munmap addr len) Done u =
     subst (λ (o : Option Reply). AppliesAfter rule o t core (Munmap addr len) Done u) whole h in
     let v : Plain = after_unmapping s (pages_of a l) in (
       v,
       subst (λ (o : Option Reply). AppliesAfter rule o s core (Munmap a l) Done v) (sym part) (refl, refl),
-      subst (λ (m : Plain). Agrees p m v) (sym done.1)
-          (changed_same p (pages_of addr len) (pages_of a l) t s (λ (x : ℕ). None) (λ (x : ℕ). None) meet (λ x i j. (refl, tt)) same),
+      subst (λ (m : Plain). Reaches p (In (pages_of a l)) t s m v) (sym done.1)
+          (λ x i old. changed_at p (pages_of addr len) (pages_of a l) t s (λ (x : ℕ). None) (λ (x : ℕ). None) x meet i (λ j. (refl, tt)) old),
     )
 
 read_only_anon : (files : ℕ → Option File) (o : Option Entry) → IsAnon o → is_read_only files o ≡ false
@@ -320,8 +330,8 @@ protects_same p r m t s u prot meet same (Protects.done all ro y e) = (
   after_protecting s m prot,
   Protects.done none (λ w found. writable found) refl refl,
   subst (λ (x : Plain). Agrees p x (after_protecting s m prot)) (sym e)
-      (changed_same p r m t s (λ x. with_prot prot (t.entry x)) (λ x. with_prot prot (s.entry x)) meet
-      (λ x i j. prot_same prot (t.entry x) (s.entry x) (same x i)) (agrees_but p r t s same)),
+      (λ x i. changed_at p r m t s (λ x. with_prot prot (t.entry x)) (λ x. with_prot prot (s.entry x)) x meet i
+      (λ j. prot_same prot (t.entry x) (s.entry x) (same x i)) (inl (same x i))),
 )
   where
     none : HasPage is_absent s.entry m → ⊥
@@ -396,9 +406,10 @@ maps_fixed rule b s v asked y e h = subst (λ (x : Bool). MapsAt rule x s asked 
 mmap_goes : (rule : PlaceRule) (p : PageRange) (t s u : Plain) (core addr len a l at file off file2 off2 : ℕ) (prot : Prot) (flags flags2 : Flags)
     → flags.anon ≡ true → flags2.anon ≡ true → flags2.fixed ≡ true → IsPassed (Mmap addr len prot flags file off)
     → IsPassed (Mmap a l prot flags2 file2 off2) → IsMeet (pages_of a l) (pages_put flags.fixed addr len at) p
-    → AgreesBut p (pages_put flags.fixed addr len at) t s → RepliesBy rule t core (Mmap addr len prot flags file off) (Mapped at) u
-    → Goes p s u (λ (v : Plain). RepliesBy rule s core (Mmap a l prot flags2 file2 off2) (Mapped ((pages_of a l).first * 4096)) v)
-mmap_goes rule p t s u core addr len a l at file off file2 off2 prot flags flags2 anon anon2 fixed whole part meet same h =
+    → RepliesBy rule t core (Mmap addr len prot flags file off) (Mapped at) u
+    → GoesAt p (In (pages_of a l)) t s u
+    (λ (v : Plain). RepliesBy rule s core (Mmap a l prot flags2 file2 off2) (Mapped ((pages_of a l).first * 4096)) v)
+mmap_goes rule p t s u core addr len a l at file off file2 off2 prot flags flags2 anon anon2 fixed whole part meet h =
     let whole_here = refusal_same (λ k. mode_of (t.file k)) (λ k. None) addr len prot flags file off anon ∙ whole in
     let part_here = refusal_same (λ k. mode_of (s.file k)) (λ k. None) a l prot flags2 file2 off2 anon2 ∙ part in
     let r = pages_put flags.fixed addr len at in
@@ -414,10 +425,10 @@ mmap_goes rule p t s u core addr len a l at file off file2 off2 prot flags flags
       v,
       subst (λ (o : Option Reply). AppliesAfter rule o s core (Mmap a l prot flags2 file2 off2) y2 v) (sym part_here)
           (maps_fixed rule flags2.fixed s v (record { core = core; addr = a; len = l; meta = meta_of prot flags2 file2 off2 }) y2 fixed (refl, refl)),
-      subst (λ (m : Plain). Agrees p m v) (sym to)
-          (changed_same p r (pages_of a l) t s (λ x. Some (new_entry (advance_back back (x - r.first)) prot))
-          (λ x. Some (new_entry (advance_back back2 (x - (pages_of a l).first)) prot)) meet
-          (λ x i j. fresh back back2 (x - r.first) (x - (pages_of a l).first) backs backs2) same),
+      subst (λ (m : Plain). Reaches p (In (pages_of a l)) t s m v) (sym to)
+          (λ x i old. changed_at p r (pages_of a l) t s (λ x. Some (new_entry (advance_back back (x - r.first)) prot))
+          (λ x. Some (new_entry (advance_back back2 (x - (pages_of a l).first)) prot)) x meet i
+          (λ j. fresh back back2 (x - r.first) (x - (pages_of a l).first) backs backs2) old),
     )
   where
     fresh : (b c : Back) (m n : ℕ) → b ≡ Anon → c ≡ Anon → Same (Some (new_entry (advance_back b m) prot)) (Some (new_entry (advance_back c n) prot))
@@ -576,6 +587,21 @@ agree_on p t s u kept same x in_p =
     let e = kept x in_p in
     (e ∙ here.0, subst (λ (o : Option Entry). IsAnon o) (sym e) here.1)
 
+-- a mapping of no file, and the one for the pages that it has of these
+mapped_goes : (rule : PlaceRule) (p : PageRange) (t s u : Plain) (core addr len : ℕ) (prot : Prot) (flags : Flags) (file off : ℕ) (y : Reply)
+    (a l : ℕ) (prot2 : Prot) (flags2 : Flags) (file2 off2 : ℕ) (z : Reply)
+    → IsMappedPart p addr len prot flags file off y a l prot2 flags2 file2 off2 z → RepliesBy rule t core (Mmap addr len prot flags file off) y u
+    → GoesAt p (In (pages_of a l)) t s u
+    (λ (v : Plain). RepliesBy rule s core (Mmap a l prot2 flags2 file2 off2) (Mapped ((pages_of a l).first * 4096)) v)
+mapped_goes rule p t s u core addr len prot flags file off y a l prot2 flags2 file2 off2 z is h =
+    let y2 = Mapped ((pages_of a l).first * 4096) in
+    let passed = subst (λ (w : Prot). IsPassed (Mmap a l w flags2 file2 off2)) is.prot is.passed in
+    let replied = subst (λ (w : Reply). RepliesBy rule t core (Mmap addr len prot flags file off) w u) is.mapped h in
+    subst (λ (w : Prot). GoesAt p (In (pages_of a l)) t s u (λ (v : Plain). RepliesBy rule s core (Mmap a l w flags2 file2 off2) y2 v))
+    (sym is.prot)
+    (mmap_goes rule p t s u core addr len a l is.at file off file2 off2 prot flags flags2 is.anon is.is_anon is.is_fixed is.whole passed is.meet
+    replied)
+
 -- what a call does within them is done
 requests_go : (rule : PlaceRule) (p : PageRange) (t s u : Plain) (core : ℕ) (r q : Request) (y z : Reply) → IsPartOf p r y q z → Agrees p t s
     → RepliesBy rule t core r y u → Goes p s u (λ (v : Plain). RepliesBy rule s core q z v)
@@ -603,8 +629,8 @@ requests_go rule p t s u core (Store addr byte) q y z is same h =
     named g = subst (λ (r : Request). Goes p s u (λ (v : Plain). RepliesBy rule s core r z v)) (sym is.1) g
 requests_go rule p t s u core (Munmap addr len) (Munmap a l) y z is same h =
     subst (λ (w : Reply). Goes p s u (λ (v : Plain). RepliesBy rule s core (Munmap a l) w v)) (sym is.1)
-    (munmap_goes rule p t s u core addr len a l is.2 is.3 is.4 (agrees_but p (pages_of addr len) t s same)
-    (subst (λ (w : Reply). RepliesBy rule t core (Munmap addr len) w u) is.0 h))
+    (goes_all p (In (pages_of a l)) t s u (λ (v : Plain). RepliesBy rule s core (Munmap a l) Done v) same
+    (munmap_goes rule p t s u core addr len a l is.2 is.3 is.4 (subst (λ (w : Reply). RepliesBy rule t core (Munmap addr len) w u) is.0 h)))
 requests_go rule p t s u core (Munmap addr len) (Load a) y z is same h = absurd is
 requests_go rule p t s u core (Munmap addr len) (Fetch a) y z is same h = absurd is
 requests_go rule p t s u core (Munmap addr len) (Store a b) y z is same h = absurd is
@@ -621,11 +647,10 @@ requests_go rule p t s u core (Mprotect addr len prot) (Store a b) y z is same h
 requests_go rule p t s u core (Mprotect addr len prot) (Munmap a l) y z is same h = absurd is
 requests_go rule p t s u core (Mprotect addr len prot) (Mmap a l prot2 flags file off) y z is same h = absurd is
 requests_go rule p t s u core (Mmap addr len prot flags file off) (Mmap a l prot2 flags2 file2 off2) y z is same h =
+    let y2 = Mapped ((pages_of a l).first * 4096) in
     subst (λ (w : Reply). Goes p s u (λ (v : Plain). RepliesBy rule s core (Mmap a l prot2 flags2 file2 off2) w v)) (sym is.replied)
-    (subst (λ (w : Prot). Goes p s u (λ (v : Plain). RepliesBy rule s core (Mmap a l w flags2 file2 off2) (Mapped ((pages_of a l).first * 4096)) v)) (sym is.prot)
-    (mmap_goes rule p t s u core addr len a l is.at file off file2 off2 prot flags flags2 is.anon is.is_anon is.is_fixed is.whole (subst (λ (w : Prot). IsPassed (Mmap a l w flags2 file2 off2)) is.prot is.passed) is.meet
-    (agrees_but p (pages_put flags.fixed addr len is.at) t s same)
-    (subst (λ (w : Reply). RepliesBy rule t core (Mmap addr len prot flags file off) w u) is.mapped h)))
+    (goes_all p (In (pages_of a l)) t s u (λ (v : Plain). RepliesBy rule s core (Mmap a l prot2 flags2 file2 off2) y2 v) same
+    (mapped_goes rule p t s u core addr len prot flags file off y a l prot2 flags2 file2 off2 z is h))
 requests_go rule p t s u core (Mmap addr len prot flags file off) (Load a) y z is same h = absurd is
 requests_go rule p t s u core (Mmap addr len prot flags file off) (Fetch a) y z is same h = absurd is
 requests_go rule p t s u core (Mmap addr len prot flags file off) (Store a b) y z is same h = absurd is
@@ -638,36 +663,89 @@ part_goes rule p t s u c d is same h =
     subst (λ (n : ℕ). Goes p s u (λ (v : Plain). RepliesBy rule s n d.request d.reply v)) (sym is.core)
     (requests_go rule p t s u c.core c.request d.request c.reply d.reply is.part same h)
 
--- after one that maps or unmaps them all, whatever the maps were
-resets_go : (rule : PlaceRule) (p : PageRange) (t s u : Plain) (core : ℕ) (r q : Request) (y z : Reply) → IsPartOf p r y q z → IsReset p r y
-    → RepliesBy rule t core r y u → Goes p s u (λ (v : Plain). RepliesBy rule s core q z v)
-resets_go rule p t s u core (Munmap addr len) (Munmap a l) y z is all h =
-    subst (λ (w : Reply). Goes p s u (λ (v : Plain). RepliesBy rule s core (Munmap a l) w v)) (sym is.1)
-    (munmap_goes rule p t s u core addr len a l is.2 is.3 is.4 (covered_but p (pages_of addr len) t s all)
-    (subst (λ (w : Reply). RepliesBy rule t core (Munmap addr len) w u) is.0 h))
-resets_go rule p t s u core (Munmap addr len) (Load a) y z is all h = absurd is
-resets_go rule p t s u core (Munmap addr len) (Fetch a) y z is all h = absurd is
-resets_go rule p t s u core (Munmap addr len) (Store a b) y z is all h = absurd is
-resets_go rule p t s u core (Munmap addr len) (Mprotect a l prot) y z is all h = absurd is
-resets_go rule p t s u core (Munmap addr len) (Mmap a l prot flags file off) y z is all h = absurd is
-resets_go rule p t s u core (Mmap addr len prot flags file off) (Mmap a l prot2 flags2 file2 off2) y z is all h =
-    subst (λ (w : Reply). Goes p s u (λ (v : Plain). RepliesBy rule s core (Mmap a l prot2 flags2 file2 off2) w v)) (sym is.replied)
-    (subst (λ (w : Prot). Goes p s u (λ (v : Plain). RepliesBy rule s core (Mmap a l w flags2 file2 off2) (Mapped ((pages_of a l).first * 4096)) v)) (sym is.prot)
-    (mmap_goes rule p t s u core addr len a l is.at file off file2 off2 prot flags flags2 is.anon is.is_anon is.is_fixed is.whole (subst (λ (w : Prot). IsPassed (Mmap a l w flags2 file2 off2)) is.prot is.passed) is.meet
-    (covered_but p (pages_put flags.fixed addr len is.at) t s (subst (λ (w : Reply). IsReset p (Mmap addr len prot flags file off) w) is.mapped all))
-    (subst (λ (w : Reply). RepliesBy rule t core (Mmap addr len prot flags file off) w u) is.mapped h)))
-resets_go rule p t s u core (Mmap addr len prot flags file off) (Load a) y z is all h = absurd is
-resets_go rule p t s u core (Mmap addr len prot flags file off) (Fetch a) y z is all h = absurd is
-resets_go rule p t s u core (Mmap addr len prot flags file off) (Store a b) y z is all h = absurd is
-resets_go rule p t s u core (Mmap addr len prot flags file off) (Munmap a l) y z is all h = absurd is
-resets_go rule p t s u core (Mmap addr len prot flags file off) (Mprotect a l prot2) y z is all h = absurd is
-resets_go rule p t s u core (Load addr) q y z is all h = absurd all
-resets_go rule p t s u core (Fetch addr) q y z is all h = absurd all
-resets_go rule p t s u core (Store addr byte) q y z is all h = absurd all
-resets_go rule p t s u core (Mprotect addr len prot) q y z is all h = absurd all
+-- ---- calls that map or unmap pages, whatever the maps were there
 
-pub reset_goes : (rule : PlaceRule) (p : PageRange) (t s u : Plain) (c d : Call) → IsPart p c d → IsReset p c.request c.reply
+abbrev ResetsTo : PlaceRule → PageRange → (t s u : Plain) → ℕ → Request → Reply → Type 0
+ResetsTo rule p t s u core q z = GoesAt p (λ (x : ℕ). IsResetAt x q z) t s u (λ (v : Plain). RepliesBy rule s core q z v)
+
+put_at : (a l at x : ℕ) (b : Bool) → b ≡ true → has (pages_put b a l at) x ≡ true → has (pages_of a l) x ≡ true
+put_at a l at x true e h = h
+put_at a l at x false e h = absurd cc
+
+sets_go : (rule : PlaceRule) (p : PageRange) (t s u : Plain) (core : ℕ) (r q : Request) (y z : Reply) → IsPartOf p r y q z → Sets q z
+    → RepliesBy rule t core r y u → ResetsTo rule p t s u core q z
+sets_go rule p t s u core (Munmap addr len) (Munmap a l) y z is sets h =
+    subst (λ (w : Reply). ResetsTo rule p t s u core (Munmap a l) w) (sym is.1)
+    (munmap_goes rule p t s u core addr len a l is.2 is.3 is.4 (subst (λ (w : Reply). RepliesBy rule t core (Munmap addr len) w u) is.0 h))
+sets_go rule p t s u core (Munmap addr len) (Load a) y z is sets h = absurd is
+sets_go rule p t s u core (Munmap addr len) (Fetch a) y z is sets h = absurd is
+sets_go rule p t s u core (Munmap addr len) (Store a b) y z is sets h = absurd is
+sets_go rule p t s u core (Munmap addr len) (Mprotect a l prot) y z is sets h = absurd is
+sets_go rule p t s u core (Munmap addr len) (Mmap a l prot flags file off) y z is sets h = absurd is
+sets_go rule p t s u core (Mmap addr len prot flags file off) (Mmap a l prot2 flags2 file2 off2) y z is sets h =
+    let y2 = Mapped ((pages_of a l).first * 4096) in
+    let g = mapped_goes rule p t s u core addr len prot flags file off y a l prot2 flags2 file2 off2 z is h in
+    subst (λ (w : Reply). ResetsTo rule p t s u core (Mmap a l prot2 flags2 file2 off2) w) (sym is.replied)
+    (g.0, g.1, λ x in_p old. g.2 x in_p (by x old))
+  where
+    by : (x : ℕ) → Same (t.entry x) (s.entry x) ⊎ IsResetAt x (Mmap a l prot2 flags2 file2 off2) (Mapped ((pages_of a l).first * 4096))
+        → Same (t.entry x) (s.entry x) ⊎ In (pages_of a l) x
+    by x (inl same) = inl same
+    by x (inr here) = inr (put_at a l ((pages_of a l).first * 4096) x flags2.fixed is.is_fixed here)
+sets_go rule p t s u core (Mmap addr len prot flags file off) (Load a) y z is sets h = absurd is
+sets_go rule p t s u core (Mmap addr len prot flags file off) (Fetch a) y z is sets h = absurd is
+sets_go rule p t s u core (Mmap addr len prot flags file off) (Store a b) y z is sets h = absurd is
+sets_go rule p t s u core (Mmap addr len prot flags file off) (Munmap a l) y z is sets h = absurd is
+sets_go rule p t s u core (Mmap addr len prot flags file off) (Mprotect a l prot2) y z is sets h = absurd is
+sets_go rule p t s u core (Load addr) q y z is sets h = absurd (subst (λ (w : Request). Sets w z) is.1 sets)
+sets_go rule p t s u core (Fetch addr) q y z is sets h = absurd (subst (λ (w : Request). Sets w z) is.1 sets)
+sets_go rule p t s u core (Store addr byte) q y z is sets h = absurd (subst (λ (w : Request). Sets w z) is.1 sets)
+sets_go rule p t s u core (Mprotect addr len prot) (Mprotect a l prot2) y z is sets h = absurd sets
+sets_go rule p t s u core (Mprotect addr len prot) (Load a) y z is sets h = absurd is
+sets_go rule p t s u core (Mprotect addr len prot) (Fetch a) y z is sets h = absurd is
+sets_go rule p t s u core (Mprotect addr len prot) (Store a b) y z is sets h = absurd is
+sets_go rule p t s u core (Mprotect addr len prot) (Munmap a l) y z is sets h = absurd is
+sets_go rule p t s u core (Mprotect addr len prot) (Mmap a l prot2 flags file off) y z is sets h = absurd is
+
+pub set_goes : (rule : PlaceRule) (p : PageRange) (t s u : Plain) (c d : Call) → IsPart p c d → Sets d.request d.reply
+    → RepliesBy rule t c.core c.request c.reply u → ResetsTo rule p t s u d.core d.request d.reply
+set_goes rule p t s u c d is sets h =
+    subst (λ (n : ℕ). ResetsTo rule p t s u n d.request d.reply) (sym is.core)
+    (sets_go rule p t s u c.core c.request d.request c.reply d.reply is.part sets h)
+
+-- one that does so with all of these pages
+pub reset_sets : (p : PageRange) (q : Request) (z : Reply) → IsReset p q z → Sets q z
+reset_sets p (Munmap addr len) z is = tt
+reset_sets p (Mmap addr len prot flags file off) (Mapped at) is = tt
+reset_sets p (Mmap addr len prot flags file off) Done is = absurd is
+reset_sets p (Mmap addr len prot flags file off) (Byte b) is = absurd is
+reset_sets p (Mmap addr len prot flags file off) (Refused e) is = absurd is
+reset_sets p (Mmap addr len prot flags file off) (Segv code) is = absurd is
+reset_sets p (Mmap addr len prot flags file off) Bus is = absurd is
+reset_sets p (Mmap addr len prot flags file off) NoFrame is = absurd is
+reset_sets p (Mmap addr len prot flags file off) NoMemory is = absurd is
+reset_sets p (Load addr) z is = absurd is
+reset_sets p (Fetch addr) z is = absurd is
+reset_sets p (Store addr byte) z is = absurd is
+reset_sets p (Mprotect addr len prot) z is = absurd is
+
+reset_at : (p : PageRange) (q : Request) (z : Reply) (x : ℕ) → IsReset p q z → has p x ≡ true → IsResetAt x q z
+reset_at p (Munmap addr len) z x is i = is x i
+reset_at p (Mmap addr len prot flags file off) (Mapped at) x is i = is x i
+reset_at p (Mmap addr len prot flags file off) Done x is i = absurd is
+reset_at p (Mmap addr len prot flags file off) (Byte b) x is i = absurd is
+reset_at p (Mmap addr len prot flags file off) (Refused e) x is i = absurd is
+reset_at p (Mmap addr len prot flags file off) (Segv code) x is i = absurd is
+reset_at p (Mmap addr len prot flags file off) Bus x is i = absurd is
+reset_at p (Mmap addr len prot flags file off) NoFrame x is i = absurd is
+reset_at p (Mmap addr len prot flags file off) NoMemory x is i = absurd is
+reset_at p (Load addr) z x is i = absurd is
+reset_at p (Fetch addr) z x is i = absurd is
+reset_at p (Store addr byte) z x is i = absurd is
+reset_at p (Mprotect addr len prot) z x is i = absurd is
+
+pub reset_goes : (rule : PlaceRule) (p : PageRange) (t s u : Plain) (c d : Call) → IsPart p c d → IsReset p d.request d.reply
     → RepliesBy rule t c.core c.request c.reply u → Goes p s u (λ (v : Plain). RepliesBy rule s d.core d.request d.reply v)
 reset_goes rule p t s u c d is all h =
-    subst (λ (n : ℕ). Goes p s u (λ (v : Plain). RepliesBy rule s n d.request d.reply v)) (sym is.core)
-    (resets_go rule p t s u c.core c.request d.request c.reply d.reply is.part all h)
+    let g = set_goes rule p t s u c d is (reset_sets p d.request d.reply all) h in
+    (g.0, g.1, λ x in_p. g.2 x in_p (inr (reset_at p d.request d.reply x all in_p)))

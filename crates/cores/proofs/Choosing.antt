@@ -1,5 +1,6 @@
 -- Which calls of a core have taken effect in an order
-use Rattle.std.proofs.Common.{◌≡◌, ◌≢◌, ◌∙◌, ℕ, zero, suc, ◌+◌, ◌<◌, ◌≤◌, ◌⊎◌, inl, inr, ◌==◌, ◌||◌, cond, Bool, true, false, List, [], ◌∷◌, ◌++◌, Option, None, Some, ap, arith, length, map, refl, slice_get, subst, sym}
+use Rattle.std.proofs.Common.{◌≡◌, ◌≢◌, ◌∙◌, ℕ, zero, suc, ◌+◌, ◌<◌, ◌≤◌, ◌⊎◌, inl, inr, ◌==◌, ◌||◌, cond, Bool, true, false, List, [], ◌∷◌, ◌++◌, Option}
+use Rattle.std.proofs.Common.{None, Some, ap, arith, length, map, refl, slice_get, subst, sym}
 use Rattle.std.specs.Prelude.{option_map}
 use Rattle.std.proofs.lemmas.Bool.Decides.{nat_tests}
 use Rattle.std.proofs.lemmas.Option.{slice_get-map}
@@ -22,7 +23,8 @@ stands_at [] n e = absurd cc
 stands_at (Copy i ∷ xs) n e = let r = stands_at xs n e in (suc r.0, r.1)
 stands_at (Reply i ∷ xs) n e = go (stands_at xs n) (i == n) refl e
   where
-    go : (stands xs n ≡ true → (k : ℕ) × (slice_get xs k ≡ Some (Reply n))) → (b : Bool) → (i == n) ≡ b → (b || stands xs n) ≡ true → (k : ℕ) × (slice_get (Reply i ∷ xs) k ≡ Some (Reply n))
+    go : (stands xs n ≡ true → (k : ℕ) × (slice_get xs k ≡ Some (Reply n))) → (b : Bool) → (i == n) ≡ b → (b || stands xs n) ≡ true
+        → (k : ℕ) × (slice_get (Reply i ∷ xs) k ≡ Some (Reply n))
     go more true f h = (0, ap (λ (x : ℕ). Some (Reply x)) (eq_true i n f))
     go more false f h = let r = more h in (suc r.0, r.1)
 
@@ -82,7 +84,8 @@ pub choose_of : (xs : List Item) (ks : List Kept) (m : ℕ) (k : Kept) → slice
 choose_of xs [] m k e = absurd cc
 choose_of xs (d ∷ ds) m k e = go (λ n h. choose_of xs ds n k h) (stands xs d.number) refl m e
   where
-    go : ((n : ℕ) → slice_get (choose xs ds) n ≡ Some k → WasThere xs ds k) → (b : Bool) → stands xs d.number ≡ b → (n : ℕ) → slice_get (put_if b d (choose xs ds)) n ≡ Some k → WasThere xs (d ∷ ds) k
+    go : ((n : ℕ) → slice_get (choose xs ds) n ≡ Some k → WasThere xs ds k) → (b : Bool) → stands xs d.number ≡ b → (n : ℕ)
+        → slice_get (put_if b d (choose xs ds)) n ≡ Some k → WasThere xs (d ∷ ds) k
     go more false f n h = there_later xs d k ds (more n h)
     go more true f zero h =
         let both : Some d ≡ Some k = h in

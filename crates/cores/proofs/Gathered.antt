@@ -1,5 +1,6 @@
 -- The calls that are gathered so far
-use Rattle.std.proofs.Common.{◌≡◌, ◌∙◌, ℕ, zero, suc, ◌+◌, ◌<◌, ◌≤◌, ◌⊎◌, inl, inr, Bool, true, false, List, [], ◌∷◌, ◌++◌, Option, None, Some, ap, arith, get_or, length, refl, slice_get, subst, sym}
+use Rattle.std.proofs.Common.{◌≡◌, ◌∙◌, ℕ, zero, suc, ◌+◌, ◌<◌, ◌≤◌, ◌⊎◌, inl, inr, Bool, true, false, List, [], ◌∷◌, ◌++◌, Option, None, Some, ap, arith}
+use Rattle.std.proofs.Common.{get_or, length, refl, slice_get, subst, sym}
 use Rattle.vm_base.specs.declared.page.PageRange.{PageRange}
 use Rattle.orders.specs.declared.history.Timed.{Timed}
 use Rattle.orders.proofs.Lists.{below, get_here, get_within}

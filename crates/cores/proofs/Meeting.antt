@@ -10,9 +10,17 @@ pub meets : (m r p : PageRange) → (r.first ≤ m.first) × (p.first ≤ m.firs
     → (m.end ≤ r.end) × (m.end ≤ p.end) × ((m.end ≡ r.end) ⊎ (m.end ≡ p.end)) → IsMeet m r p
 meets m r p f e = record {
   same = λ x in_p. same x (has_in p x in_p);
-  within = λ x in_m. let here = has_in m x in_m in let a = here.0 in let b = here.1 in let c = f.1 in let d = e.1 in in_has p x (omega (arith, a, c)) (omega (arith, b, d));
+  within = λ x in_m. within x (has_in m x in_m);
 }
   where
+    within : (x : ℕ) → (m.first ≤ x) × (x < m.end) → has p x ≡ true
+    within x here =
+        let a = here.0 in
+        let b = here.1 in
+        let c = f.1 in
+        let d = e.1 in
+        in_has p x (omega (arith, a, c)) (omega (arith, b, d))
+
     same : (x : ℕ) → (p.first ≤ x) × (x < p.end) → has m x ≡ has r x
     same x here =
         let low = here.0 in

@@ -1,5 +1,6 @@
 -- Some calls of an order, by new numbers
-use Rattle.std.proofs.Common.{◌≡◌, ◌≢◌, ◌∙◌, ℕ, zero, suc, ◌+◌, ◌<◌, ◌≤◌, ◌⊎◌, inl, inr, ◌==◌, cond, Bool, true, false, List, [], ◌∷◌, Option, None, Some, ap, arith, length, refl, slice_get, subst, sym}
+use Rattle.std.proofs.Common.{◌≡◌, ◌≢◌, ◌∙◌, ℕ, zero, suc, ◌+◌, ◌<◌, ◌≤◌, ◌⊎◌, inl, inr, ◌==◌, cond, Bool, true, false, List, [], ◌∷◌, Option, None, Some}
+use Rattle.std.proofs.Common.{ap, arith, length, refl, slice_get, subst, sym}
 use Rattle.std.specs.Prelude.{option_map}
 use Rattle.vm_base.proofs.Functions.{eq_false, eq_true}
 use Rattle.orders.specs.declared.history.Item.{Item}
@@ -45,7 +46,8 @@ picked_at g [] k y e = absurd cc
 picked_at g (Copy i ∷ xs) k y e = later g (Copy i) xs (place g xs k) y (picked_at g xs k y e)
 picked_at g (Reply i ∷ xs) k y e = go (λ n h. picked_at g xs n y h) (g i) refl k e
   where
-    go : ((n : ℕ) → slice_get (pick g xs) n ≡ Some y → IsPicked g xs (place g xs n) y) → (o : Option ℕ) → g i ≡ o → (n : ℕ) → slice_get (add o (pick g xs)) n ≡ Some y → IsPicked g (Reply i ∷ xs) (skip o (place g xs) n) y
+    go : ((n : ℕ) → slice_get (pick g xs) n ≡ Some y → IsPicked g xs (place g xs n) y) → (o : Option ℕ) → g i ≡ o → (n : ℕ)
+        → slice_get (add o (pick g xs)) n ≡ Some y → IsPicked g (Reply i ∷ xs) (skip o (place g xs) n) y
     go more None f n h = later g (Reply i) xs (place g xs n) y (more n h)
     go more (Some j) f zero h =
         let both : Some (Reply j) ≡ Some y = h in
@@ -58,7 +60,8 @@ rises g [] j k l m = l
 rises g (Copy i ∷ xs) j k l m = let more = rises g xs j k l m in omega (arith, more)
 rises g (Reply i ∷ xs) j k l m = go (rises g xs) (g i) j k l m
   where
-    go : ((a b : ℕ) → a < b → b < length (pick g xs) → place g xs a < place g xs b) → (o : Option ℕ) (a b : ℕ) → a < b → b < length (add o (pick g xs)) → skip o (place g xs) a < skip o (place g xs) b
+    go : ((a b : ℕ) → a < b → b < length (pick g xs) → place g xs a < place g xs b) → (o : Option ℕ) (a b : ℕ) → a < b → b < length (add o (pick g xs))
+        → skip o (place g xs) a < skip o (place g xs) b
     go up None a b c d = let more = up a b c d in omega (arith, more)
     go up (Some n) zero zero c d = absurd (omega (arith, c))
     go up (Some n) zero (suc b) c d = omega arith
@@ -182,7 +185,8 @@ pub number_got : (xs : List ℕ) (i j : ℕ) → number_in xs i ≡ Some j → s
 number_got [] i j e = absurd cc
 number_got (x ∷ xs) i j e = go (number_got xs i) (x == i) refl e
   where
-    after : ((m : ℕ) → number_in xs i ≡ Some m → slice_get xs m ≡ Some i) → (o : Option ℕ) → number_in xs i ≡ o → option_map suc o ≡ Some j → slice_get (x ∷ xs) j ≡ Some i
+    after : ((m : ℕ) → number_in xs i ≡ Some m → slice_get xs m ≡ Some i) → (o : Option ℕ) → number_in xs i ≡ o → option_map suc o ≡ Some j
+        → slice_get (x ∷ xs) j ≡ Some i
     after more None f h = absurd cc
     after more (Some m) f h =
         let both : Some (suc m) ≡ Some j = h in
@@ -201,7 +205,8 @@ pub number_there : (xs : List ℕ) (i n : ℕ) → slice_get xs n ≡ Some i →
 number_there [] i n e = absurd cc
 number_there (x ∷ xs) i n e = go (number_there xs i) (x == i) refl n e
   where
-    go : ((m : ℕ) → slice_get xs m ≡ Some i → (j : ℕ) × (number_in xs i ≡ Some j)) → (b : Bool) → (x == i) ≡ b → (m : ℕ) → slice_get (x ∷ xs) m ≡ Some i → (j : ℕ) × (cond b (Some 0) (option_map suc (number_in xs i)) ≡ Some j)
+    go : ((m : ℕ) → slice_get xs m ≡ Some i → (j : ℕ) × (number_in xs i ≡ Some j)) → (b : Bool) → (x == i) ≡ b → (m : ℕ) → slice_get (x ∷ xs) m ≡ Some i
+        → (j : ℕ) × (cond b (Some 0) (option_map suc (number_in xs i)) ≡ Some j)
     go more true f m h = (0, refl)
     go more false f zero h = let both : Some x ≡ Some i = h in let same : x ≡ i = cc in absurd (eq_false x i f same)
     go more false f (suc m) h = let r = more m h in (suc r.0, ap (option_map suc) r.1)

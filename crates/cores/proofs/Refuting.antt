@@ -1,10 +1,10 @@
 -- A core without an order shows that its history has none
-use Rattle.std.proofs.Common.{◌≡◌, ◌≢◌, ◌∙◌, ℕ, zero, suc, ◌+◌, ◌<◌, ◌≤◌, ◌⊎◌, inl, inr, ◌||◌, cond, nat_lt, Bool, true, false, List, [], ◌∷◌, ◌++◌, Option, None, Some, ap, arith, length, map, refl, slice_get, subst, sym}
+use Rattle.std.proofs.Common.{◌≡◌, ◌≢◌, ◌∙◌, ℕ, zero, suc, ◌+◌, ◌<◌, ◌≤◌, ◌⊎◌, inl, inr, ◌||◌, cond, nat_le, nat_lt, Bool, true, false}
+use Rattle.std.proofs.Common.{List, [], ◌∷◌, ◌++◌, Option, None, Some, ap, arith, length, map, refl, slice_get, subst, sym}
 use Rattle.std.specs.Prelude.{option_map}
 use Rattle.std.proofs.lemmas.Bool.Decides.{nat_tests}
 use Rattle.std.proofs.lemmas.Option.{slice_get-map}
 use Rattle.vm_base.specs.declared.page.PageRange.{PageRange}
-use Rattle.vm_base.specs.Functions.{has}
 use Rattle.vm_base.specs.Log.{RepliesBy}
 use Rattle.vm_base.specs.Places.{PlaceRule}
 use Rattle.vm_base.specs.Plain.{Entry, Plain}
@@ -19,9 +19,11 @@ use Rattle.vm_base.specs.Plain.{File, nothing_mapped}
 use Rattle.cores.specs.declared.kept.Kept.{Kept}
 use Rattle.cores.specs.declared.finding.Core.{Core}
 use Rattle.cores.specs.Shown.{IsShown}
-use Rattle.cores.specs.Cores.{AreAll, HasNone, IsAmong, IsChoice, IsCore, IsKept, IsStart, Rises, is_left_out, timed_of}
-use Rattle.cores.specs.Parts.{IsPart, is_aside}
-use Rattle.cores.proofs.Agreeing.{Agrees, IsAnon, agree_on, copies_aside, part_goes, replies_aside, reset_goes}
+use Rattle.cores.specs.Cores.{AreAll, AreTimely, HasNone, IsAmong, IsBase, IsBuilt, IsBuiltBy, IsChoice, IsCore, IsKept, IsStart, IsTimely}
+use Rattle.cores.specs.Cores.{Rises, is_left_out, timed_of}
+use Rattle.cores.specs.Parts.{IsPart, IsResetAt, is_aside}
+use Rattle.cores.proofs.Agreeing.{reset_goes}
+use Rattle.cores.proofs.Leading.{AgreesOn, Follows, Grows, IsTimelyCall, WillReset, lead_grow, lead_on}
 use Rattle.cores.proofs.Choosing.{WasThere, at_stands, choose, choose_in, choose_of, choose_rises, is_choice, rises_distinct, stands, stands_at}
 use Rattle.cores.proofs.Picking.{AreDistinct, Stay, number_at, number_got, number_in, number_there, pick, add, stay_once, stay_time}
 
@@ -55,7 +57,8 @@ until_early : (cut : ℕ) (h : List Timed) (xs : List Item) (n : ℕ) (y : Item)
 until_early cut h [] n y d e f = absurd cc
 until_early cut h (x ∷ xs) n y d e f = go (λ m g. until_early cut h xs m y d g f) (slice_get h (call_of x)) refl e
   where
-    late : ((m : ℕ) → slice_get (until cut h xs) m ≡ Some y → nat_lt cut d.begin ≡ false) → (c : Timed) (b : Bool) → nat_lt cut c.begin ≡ b → slice_get h (call_of x) ≡ Some c → (m : ℕ)
+    late : ((m : ℕ) → slice_get (until cut h xs) m ≡ Some y → nat_lt cut d.begin ≡ false) → (c : Timed) (b : Bool) → nat_lt cut c.begin ≡ b
+        → slice_get h (call_of x) ≡ Some c → (m : ℕ)
         → slice_get (cond b [] (x ∷ until cut h xs)) m ≡ Some y → nat_lt cut d.begin ≡ false
     late more c true is got m g = absurd cc
     late more c false is got zero g =
@@ -135,45 +138,6 @@ split_at (y ∷ ys) zero x e =
     earlier (suc n) z l f = (n, omega arith, f)
 split_at (y ∷ ys) (suc at) x e = split_later y ys at x (split_at ys at x e)
 
--- ---- where the items that stay lead
-
--- what is known of each item: a call that stays does its part, and one that doesn't changes nothing
-record Follows (p : PageRange) (h k : List Timed) (g : ℕ → Option ℕ) (xs : List Item) : Type 0 where
-  stays : (i j : ℕ) (c : Timed) → g i ≡ Some j → slice_get h i ≡ Some c → (d : Timed) × (slice_get k j ≡ Some d) × IsPart p c.call d.call
-  goes : (n i : ℕ) (c : Timed) → slice_get xs n ≡ Some (Reply i) → g i ≡ None → slice_get h i ≡ Some c → is_aside p c.call ≡ true
-
-follows_later : (p : PageRange) (h k : List Timed) (g : ℕ → Option ℕ) (x : Item) (xs : List Item) → Follows p h k g (x ∷ xs) → Follows p h k g xs
-follows_later p h k g x xs f = record { stays = f.stays; goes = λ n i c e. f.goes (suc n) i c e }
-
-anon_at : (p : PageRange) (t s : Plain) (x : ℕ) → Agrees p t s → has p x ≡ true → IsAnon (t.entry x)
-anon_at p t s x same in_p = (same x in_p).1
-
-lead_on : (rule : PlaceRule) (p : PageRange) (h k : List Timed) (g : ℕ → Option ℕ) (xs : List Item) (t s u : Plain) → Follows p h k g xs → Agrees p t s
-    → LeadAll rule h t xs u → (v : Plain) × LeadAll rule k s (pick g xs) v
-lead_on rule p h k g [] t s u f same a = (s, refl)
-lead_on rule p h k g (Copy i ∷ xs) t s u f same a =
-    let copy = a.1 in
-    let kept = agree_on p t s a.0 (λ x in_p. copies_aside t a.0 copy.0.call.request x (anon_at p t s x same in_p) copy.2) same in
-    lead_on rule p h k g xs a.0 s u (follows_later p h k g (Copy i) xs f) kept a.2
-lead_on rule p h k g (Reply i ∷ xs) t s u f same a = go (λ m n e b. lead_on rule p h k g xs m n u after e b) (g i) refl
-  where
-    after : Follows p h k g xs
-    after = follows_later p h k g (Reply i) xs f
-
-    go : ((m n : Plain) → Agrees p m n → LeadAll rule h m xs u → (v : Plain) × LeadAll rule k n (pick g xs) v) → (o : Option ℕ) → g i ≡ o
-        → (v : Plain) × LeadAll rule k s (add o (pick g xs)) v
-    go on None e =
-        let reply = a.1 in
-        let aside = f.goes 0 i reply.0 refl e reply.1 in
-        let kept = agree_on p t s a.0 (λ x in_p. replies_aside rule p t a.0 reply.0.call x aside in_p (anon_at p t s x same in_p) reply.2) same in
-        on a.0 s kept a.2
-    go on (Some j) e =
-        let reply = a.1 in
-        let part = f.stays i j reply.0 e reply.1 in
-        let next = part_goes rule p t s a.0 reply.0.call part.0.call part.2 same reply.2 in
-        let rest = on a.0 next.0 next.2 a.2 in
-        (rest.0, (next.0, (part.0, part.1, next.1), rest.1))
-
 -- ---- the core of an order
 
 either_way : (a b c : Bool) → (a || b || c) ≡ true → a ≡ false → b ≡ false → c ≡ true
@@ -187,9 +151,49 @@ not_less m n l = go (nat_lt m n) refl
     go true e = let less : m < n = grind (arith, nat_tests) in absurd (l less)
     go false e = refl
 
-pub core_order : (rule : PlaceRule) (t z : Plain) (h : List Timed) (p : PageRange) (number : ℕ) (first start : Timed) (cut : ℕ)
-    (ks : List Kept) → IsCore h p number first start cut ks → HasOrder rule t h → (chosen : List Kept) × IsChoice ks chosen × HasOrder rule z (start ∷ map timed_of chosen)
-core_order rule t z h p number first start cut ks core has_order = (chosen, is_choice mid ks sure_stands, record { items = pick g seg; is_order = order })
+-- two names of one call
+timed_same : (a b : Timed) → Some a ≡ Some b → a ≡ b
+timed_same a b e = cc
+
+-- a call that builds the map
+record Builds (x built : ℕ) (ks : List Kept) : Type 0 where
+  at : ℕ
+  call : Kept
+  is : slice_get ks at ≡ Some call
+  early : nat_le call.timed.end built ≡ true
+  closed : call.is_open ≡ false
+  resets : IsResetAt x call.timed.call.request call.timed.call.reply
+
+closed_if : (built : ℕ) (k : Kept) → IsTimely built k → nat_le k.timed.end built ≡ true → k.is_open ≡ false
+closed_if built k (inl early) e = early.1
+closed_if built k (inr late) e = let wrong : true ≡ false = sym e ∙ late.0 in absurd cc
+
+builds_later : (x built : ℕ) (k : Kept) (ks : List Kept) → Builds x built ks → Builds x built (k ∷ ks)
+builds_later x built k ks b =
+    record { at = suc b.at; call = b.call; is = b.is; early = b.early; closed = b.closed; resets = b.resets }
+
+built_by : (x built : ℕ) (ks : List Kept) → AreTimely built ks → IsBuiltBy x built ks → Builds x built ks
+built_by x built [] timely none = absurd none
+built_by x built (k ∷ ks) timely (inl here) =
+    record { at = 0; call = k; is = refl; early = here.0; closed = closed_if built k timely.0 here.0; resets = here.1 }
+built_by x built (k ∷ ks) timely (inr more) = builds_later x built k ks (built_by x built ks timely.1 more)
+
+timely_call : (built : ℕ) (k : Kept) → IsTimely built k → IsTimelyCall built k.timed
+timely_call built k (inl early) = inl (early.0, early.2)
+timely_call built k (inr late) = inr late
+
+timely_at : (built : ℕ) (ks : List Kept) (n : ℕ) (k : Kept) → AreTimely built ks → slice_get ks n ≡ Some k → IsTimelyCall built k.timed
+timely_at built [] n k timely e = absurd cc
+timely_at built (d ∷ ds) zero k timely e =
+    let both : Some d ≡ Some k = e in
+    let same : d ≡ k = cc in
+    timely_call built k (subst (λ (x : Kept). IsTimely built x) same timely.0)
+timely_at built (d ∷ ds) (suc n) k timely e = timely_at built ds n k timely.1 e
+
+pub core_order : (rule : PlaceRule) (t z : Plain) (h : List Timed) (p : PageRange) (number : ℕ) (first start : Timed) (built cut : ℕ)
+    (ks : List Kept) → IsCore h p number first start built cut ks → HasOrder rule t h
+    → (chosen : List Kept) × IsChoice ks chosen × HasOrder rule z (start ∷ map timed_of chosen)
+core_order rule t z h p number first start built cut ks core has_order = (chosen, is_choice mid ks sure_stands, record { items = pick g seg; is_order = order })
   where
     items : List Item
     items = has_order.items
@@ -425,23 +429,110 @@ core_order rule t z h p number first start cut ks core has_order = (chosen, is_c
                 let r = choose_in mid ks among.0 among.1 among.2 stood in
                 absurd (never (suc r.0) (slice_get-map (λ (k : Kept). k.number) chosen r.0 ∙ (ap (option_map (λ (k : Kept). k.number)) r.1 ∙ ap Some among.3)))
 
+    new_first : g number ≡ Some 0
+    new_first = number_at names number 0 distinct refl
+
+    -- the calls that build the map
+    follows_first : Follows p h core_calls g seg
+    follows_first = record { stays = follows.stays; goes = goes }
+      where
+        goes : (n i : ℕ) (c : Timed) → slice_get seg n ≡ Some (Reply i) → g i ≡ None → slice_get h i ≡ Some c → is_aside p c.call ≡ true
+        goes zero i c e none got =
+            let both : Some (Reply number) ≡ Some (Reply i) = e in
+            let same : number ≡ i = cc in
+            let there : g i ≡ Some 0 = ap g (sym same) ∙ new_first in
+            let gone : g i ≡ None = none in absurd cc
+        goes (suc n) i c e none got = follows.goes n i c e none got
+
+    grows : IsBuilt p start built ks → Grows p built h core_calls g (λ x. ⊥) seg
+    grows b = record { covers = λ x in_p. inr (by x (b.pages x in_p)); kinds = kinds; time = time; times = times }
+      where
+        by : (x : ℕ) → IsResetAt x start.call.request start.call.reply ⊎ IsBuiltBy x built ks → WillReset built h core_calls g seg x
+        by x (inl resets) = record {
+          at = 0;
+          call = number;
+          number = 0;
+          whole = first;
+          part = start;
+          stands = refl;
+          got = core.at;
+          new = new_first;
+          is = refl;
+          ends = sym core.starts.ends;
+          early = b.first;
+          resets = resets;
+        }
+        by x (inr more) =
+            let k = built_by x built ks b.timely more in
+            let kept = core.all.kept k.at k.call k.is in
+            let there = sure_stands k.at k.call k.is k.closed in
+            let place = stands_at mid k.call.number there in
+            let c = choose_in mid ks k.at k.call k.is there in
+            let named_so = slice_get-map (λ (k : Kept). k.number) chosen c.0 ∙ ap (option_map (λ (k : Kept). k.number)) c.1 in
+            record {
+              at = suc place.0;
+              call = k.call.number;
+              number = suc c.0;
+              whole = kept.whole;
+              part = k.call.timed;
+              stands = place.1;
+              got = kept.at;
+              new = number_at names k.call.number (suc c.0) distinct named_so;
+              is = timed_at c.0 k.call c.1;
+              ends = sym kept.ends;
+              early = k.early;
+              resets = k.resets;
+            }
+
+        kinds : (i j : ℕ) (d : Timed) → g i ≡ Some j → slice_get core_calls j ≡ Some d → IsTimelyCall built d
+        kinds i zero d e f =
+            subst (λ (x : Timed). IsTimelyCall built x) (timed_same start d f) (inl (b.first, b.sets))
+        kinds i (suc m) d e f =
+            let k = named m i (number_got names i (suc m) e) in
+            let w = choose_of mid ks m k.0 k.1 in
+            subst (λ (x : Timed). IsTimelyCall built x) (timed_same k.0.timed d (sym (timed_at m k.0 k.1) ∙ f))
+            (timely_at built ks w.at k.0 b.timely w.is)
+
+        time : (m n i j : ℕ) (c d : Timed) → m < n → slice_get seg m ≡ Some (Reply i) → slice_get seg n ≡ Some (Reply j) → slice_get h i ≡ Some c
+            → slice_get h j ≡ Some d → ¬ (d.end < c.begin)
+        time m n i j c d l e f got_c got_d =
+            o.keeps_time (a + m) (a + n) c d (omega (arith, l)) (record { item = Reply i; at = stay.there m (Reply i) e; call = got_c })
+            (record { item = Reply j; at = stay.there n (Reply j) f; call = got_d })
+
+        times : (i j : ℕ) (c d : Timed) → g i ≡ Some j → slice_get h i ≡ Some c → slice_get core_calls j ≡ Some d → c.begin ≡ d.begin
+        times i j c d e got f =
+            let r = stay.times i j d e f in
+            ap (λ (x : Timed). x.begin) (sym (timed_same r.0 c (sym r.1 ∙ got))) ∙ r.2
+
     led : (v : Plain) × LeadAll rule core_calls z (pick g seg) v
-    led =
-        let here = front_leads rule h t o.last s.pre (Reply number ∷ s.rest)
-        (subst (λ (xs : List Item). LeadAll rule h t xs o.last) (sym s.whole) o.lead) in
-        let next = here.2 in
-        let rest = front_leads rule h next.0 o.last mid post.0 (subst (λ (xs : List Item). LeadAll rule h next.0 xs o.last) (sym post.1) next.2) in
-        let reply = next.1 in
-        let both : Some reply.0 ≡ Some first = sym reply.1 ∙ core.at in
-        let same : reply.0 ≡ first = cc in
-        let replied : RepliesBy rule here.0 first.call.core first.call.request first.call.reply next.0 =
-        subst (λ (x : Timed). RepliesBy rule here.0 x.call.core x.call.request x.call.reply next.0) same reply.2 in
-        let reset = reset_goes rule p here.0 z next.0 first.call start.call core.starts.part core.starts.reset replied in
-        let on = lead_on rule p h core_calls g mid next.0 reset.0 rest.0 follows reset.2 rest.1 in (
-          on.0,
-          subst (λ (q : Option ℕ). LeadAll rule core_calls z (add q (pick g mid)) on.0) (sym (number_at names number 0 distinct refl))
-              (reset.0, (start, refl, reset.1), on.1),
-        )
+    led = by core.base
+      where
+        here : (m : Plain) × LeadAll rule h t s.pre m × LeadAll rule h m (Reply number ∷ s.rest) o.last
+        here = front_leads rule h t o.last s.pre (Reply number ∷ s.rest)
+            (subst (λ (xs : List Item). LeadAll rule h t xs o.last) (sym s.whole) o.lead)
+
+        next : (m : Plain) × Leads rule h here.0 (Reply number) m × LeadAll rule h m s.rest o.last
+        next = here.2
+
+        rest : (m : Plain) × LeadAll rule h next.0 mid m × LeadAll rule h m post.0 o.last
+        rest = front_leads rule h next.0 o.last mid post.0 (subst (λ (xs : List Item). LeadAll rule h next.0 xs o.last) (sym post.1) next.2)
+
+        replied : RepliesBy rule here.0 first.call.core first.call.request first.call.reply next.0
+        replied =
+            let reply = next.1 in
+            subst (λ (x : Timed). RepliesBy rule here.0 x.call.core x.call.request x.call.reply next.0)
+            (timed_same reply.0 first (sym reply.1 ∙ core.at)) reply.2
+
+        by : IsBase p start built ks → (v : Plain) × LeadAll rule core_calls z (pick g seg) v
+        by (inl reset) =
+            let gone = reset_goes rule p here.0 z next.0 first.call start.call core.starts.part reset replied in
+            let on = lead_on rule p h core_calls g mid next.0 gone.0 rest.0 follows gone.2 rest.1 in (
+              on.0,
+              subst (λ (q : Option ℕ). LeadAll rule core_calls z (add q (pick g mid)) on.0) (sym new_first) (gone.0, (start, refl, gone.1), on.1),
+            )
+        by (inr b) =
+            lead_grow rule p built h core_calls g (λ x. ⊥) seg here.0 z rest.0 follows_first (grows b) (λ x in_p none. absurd none)
+            (next.0, next.1, rest.1)
 
     order : IsOrder rule z core_calls (pick g seg)
     order = record {
@@ -452,23 +543,26 @@ core_order rule t z h p number first start cut ks core has_order = (chosen, is_c
     }
 
 -- so without an order of the core there is none
-pub core_refutes : (rule : PlaceRule) (t z : Plain) (h : List Timed) (p : PageRange) (number : ℕ) (first start : Timed) (cut : ℕ)
-    (ks : List Kept) → IsCore h p number first start cut ks → HasNone rule z (start ∷ []) ks → ¬ HasOrder rule t h
-core_refutes rule t z h p number first start cut ks core none order =
-    let c = core_order rule t z h p number first start cut ks core order in none c.0 c.1 c.2
+pub core_refutes : (rule : PlaceRule) (t z : Plain) (h : List Timed) (p : PageRange) (number : ℕ) (first start : Timed) (built cut : ℕ)
+    (ks : List Kept) → IsCore h p number first start built cut ks → HasNone rule z (start ∷ []) ks → ¬ HasOrder rule t h
+core_refutes rule t z h p number first start built cut ks core none order =
+    let c = core_order rule t z h p number first start built cut ks core order in none c.0 c.1 c.2
 
 pub core_shown : {A : Type 0} (any_place : Bool) (files : ℕ → Option File) (h : List Timed) (core : Core A) (front : List Timed)
     → Some core.first ≡ slice_get h core.number → IsStart core.pages core.first core.start
+    → IsBase core.pages core.start core.built core.kept.items
     → AreAll h core.pages core.number core.first core.cut core.kept.items → front ≡ core.start ∷ []
     → HasNone (rule_of any_place) (nothing_mapped files) front core.kept.items → IsShown any_place h core
-core_shown any_place files h core front at start all is none =
-    let i : IsCore h core.pages core.number core.first core.start core.cut core.kept.items = record { at = sym at; starts = start; all = all } in
+core_shown any_place files h core front at start base all is none =
+    let i : IsCore h core.pages core.number core.first core.start core.built core.cut core.kept.items =
+    record { at = sym at; starts = start; base = base; all = all } in
     let alone = subst (λ (f : List Timed). HasNone (rule_of any_place) (nothing_mapped files) f core.kept.items) is none in
     record {
       is = i;
       files = files;
       alone = alone;
-      none = λ t. core_refutes (rule_of any_place) t (nothing_mapped files) h core.pages core.number core.first core.start core.cut core.kept.items i alone;
+      none = λ t. core_refutes (rule_of any_place) t (nothing_mapped files) h core.pages core.number core.first core.start core.built core.cut
+          core.kept.items i alone;
     }
 
 pub shown_none : {A : Type 0} (any_place : Bool) (files : ℕ → Option File) (h : List Timed) (core : Core A) → IsShown any_place h core

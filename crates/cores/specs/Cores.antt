@@ -1,6 +1,8 @@
 -- Small cores of histories
-use Rattle.std.specs.Prelude.{◌≡◌, ◌≢◌, ℕ, suc, ◌<◌, ◌≤◌, ◌⊎◌, ◌||◌, nat_lt, Bool, true, false, List, [], ◌∷◌, ◌++◌, map, slice_get, not, Option, None, Some}
+use Rattle.std.specs.Prelude.{◌≡◌, ◌≢◌, ℕ, suc, ◌<◌, ◌≤◌, ◌⊎◌, ◌||◌, nat_le, nat_lt, Bool, true, false, not}
+use Rattle.std.specs.Prelude.{List, [], ◌∷◌, ◌++◌, map, slice_get, Option, None, Some}
 use Rattle.vm_base.specs.declared.page.PageRange.{PageRange}
+use Rattle.vm_base.specs.Functions.{has}
 use Rattle.vm_base.specs.Places.{PlaceRule}
 use Rattle.vm_base.specs.Plain.{Plain}
 use Rattle.orders.specs.declared.history.Timed.{Timed}
@@ -8,7 +10,7 @@ use Rattle.orders.specs.Orders.{HasOrder}
 use Rattle.cores.specs.declared.kept.Kept.{Kept}
 use Rattle.cores.specs.declared.gathering.Role.{Role}
 use Rattle.cores.specs.declared.gathering.Role.TheVariants.{Out, In, Unfit}
-use Rattle.cores.specs.Parts.{IsPart, IsReset, is_aside}
+use Rattle.cores.specs.Parts.{IsPart, IsReset, IsResetAt, Sets, is_aside}
 
 -- ---- which calls a core has
 
@@ -36,12 +38,11 @@ Rises low (k ∷ ks) = (low ≤ k.number) × Rises (suc k.number) ks
 abbrev pub IsAmong : ℕ → List Kept → Type 0
 IsAmong i ks = (n : ℕ) × (k : Kept) × (slice_get ks n ≡ Some k) × (k.number ≡ i)
 
--- The first call maps or unmaps all of these pages. At its times this is what it does there.
+-- At the times of the first call this is what it does in these pages.
 pub record IsStart (p : PageRange) (first start : Timed) : Type 0 where
   pub begins : start.begin ≡ first.begin
   pub ends : start.end ≡ first.end
   pub part : IsPart p first.call start.call
-  pub reset : IsReset p first.call.request first.call.reply
 
 -- They are those calls that may change these pages from the first one on until the cut, and some others.
 pub record AreAll (h : List Timed) (p : PageRange) (number : ℕ) (first : Timed) (cut : ℕ) (ks : List Kept) : Type 0 where
@@ -49,9 +50,39 @@ pub record AreAll (h : List Timed) (p : PageRange) (number : ℕ) (first : Timed
   pub rises : Rises 0 ks
   pub all : (i : ℕ) (c : Timed) → slice_get h i ≡ Some c → (i ≡ number) ⊎ (is_left_out p first cut c ≡ true) ⊎ IsAmong i ks
 
-pub record IsCore (h : List Timed) (p : PageRange) (number : ℕ) (first start : Timed) (cut : ℕ) (ks : List Kept) : Type 0 where
+-- ---- what is known of these pages, whatever was there before
+
+-- A call of the core that ended by this time maps or unmaps pages, and surely took effect. Others began later.
+abbrev pub IsTimely : ℕ → Kept → Type 0
+IsTimely built k =
+    ((nat_le k.timed.end built ≡ true) × (k.is_open ≡ false) × Sets k.timed.call.request k.timed.call.reply)
+    ⊎ ((nat_le k.timed.end built ≡ false) × (built < k.timed.begin))
+
+abbrev pub AreTimely : ℕ → List Kept → Type 0
+AreTimely built [] = Unit {0}
+AreTimely built (k ∷ ks) = IsTimely built k × AreTimely built ks
+
+-- one of those that ended by then maps or unmaps this page
+abbrev pub IsBuiltBy : ℕ → ℕ → List Kept → Type 0
+IsBuiltBy x built [] = ⊥
+IsBuiltBy x built (k ∷ ks) =
+    ((nat_le k.timed.end built ≡ true) × IsResetAt x k.timed.call.request k.timed.call.reply) ⊎ IsBuiltBy x built ks
+
+-- Calls that ended by this time, the first call among them, map or unmap each of these pages. No other call of the core began by then.
+pub record IsBuilt (p : PageRange) (start : Timed) (built : ℕ) (ks : List Kept) : Type 0 where
+  pub first : nat_le start.end built ≡ true
+  pub sets : Sets start.call.request start.call.reply
+  pub timely : AreTimely built ks
+  pub pages : (x : ℕ) → has p x ≡ true → IsResetAt x start.call.request start.call.reply ⊎ IsBuiltBy x built ks
+
+-- The first call does so with all of these pages; or that and others do, before the rest begins.
+abbrev pub IsBase : PageRange → Timed → ℕ → List Kept → Type 0
+IsBase p start built ks = IsReset p start.call.request start.call.reply ⊎ IsBuilt p start built ks
+
+pub record IsCore (h : List Timed) (p : PageRange) (number : ℕ) (first start : Timed) (built cut : ℕ) (ks : List Kept) : Type 0 where
   pub at : slice_get h number ≡ Some first
   pub starts : IsStart p first start
+  pub base : IsBase p start built ks
   pub all : AreAll h p number first cut ks
 
 -- ---- what becomes of a call of a history

@@ -102,3 +102,15 @@ abbrev pub IsReset : PageRange → Request → Reply → Type 0
 IsReset p (Munmap addr len) y = Has (pages_of addr len) p
 IsReset p (Mmap addr len prot flags file off) (Mapped at) = Has (pages_put flags.fixed addr len at) p
 IsReset p request y = ⊥
+
+-- the call maps or unmaps pages
+abbrev pub Sets : Request → Reply → Type 0
+Sets (Munmap addr len) y = Unit {0}
+Sets (Mmap addr len prot flags file off) (Mapped at) = Unit {0}
+Sets request y = ⊥
+
+-- this one among them
+abbrev pub IsResetAt : ℕ → Request → Reply → Type 0
+IsResetAt x (Munmap addr len) y = has (pages_of addr len) x ≡ true
+IsResetAt x (Mmap addr len prot flags file off) (Mapped at) = has (pages_put flags.fixed addr len at) x ≡ true
+IsResetAt x request y = ⊥

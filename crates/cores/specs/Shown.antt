@@ -9,7 +9,7 @@ use Rattle.cores.specs.Cores.{HasNone, IsCore}
 
 -- It is a core of the history; alone it has no order that begins with nothing mapped; and so the history has none, whatever it begins with.
 pub record IsShown {A : Type 0} (any_place : Bool) (h : List Timed) (core : Core A) : Type 0 where
-  pub is : IsCore h core.pages core.number core.first core.start core.cut core.kept.items
+  pub is : IsCore h core.pages core.number core.first core.start core.built core.cut core.kept.items
   pub files : ℕ → Option File
   pub alone : HasNone (rule_of any_place) (nothing_mapped files) (core.start ∷ []) core.kept.items
   pub none : (t : Plain) → ¬ HasOrder (rule_of any_place) t h

@@ -2,9 +2,10 @@
 ghost use Rattle.std.specs.Prelude.{◌≡◌, ◌≤◌, IfOk, IfSome, Some, length, slice_get};
 ghost use Rattle.cores.specs.Shown.{IsShown};
 
+use crate::building::is_base;
 use crate::gathering::{gather, start_of};
 use crate::kept::Kept;
-use crate::parts::{is_aside, is_reset, part_of};
+use crate::parts::{is_aside, is_reset, part_of, sets};
 use crate::trying::{followed_by, none_of};
 use audit::Call;
 use backing::FileSpec;
@@ -18,11 +19,17 @@ const FIRSTS: usize = 6;
 /// How many ranges of pages are tried.
 const RANGES: usize = 6;
 
+/// How many ranges are tried that calls changed which ended before.
+const RECENT: usize = 3;
+
 /// How many calls that change nothing are tried beside those that do.
 const READS: usize = 16;
 
 /// A range of more pages isn't tried.
 const WIDEST: u64 = 64;
+
+/// So many first calls build a map of some pages at most.
+const BUILDERS: u8 = 8;
 
 /// A core that has no order: what its first call does within some pages, and its other calls until the cut.
 #[derive(Debug, Drop)]
@@ -35,6 +42,8 @@ pub struct Core<A: Allocator> {
     pub first: Timed,
     /// What it does within these pages.
     pub start: Timed,
+    /// Where that leaves something of what was there, the calls until this time build the map.
+    pub built: u64,
     /// The time until which calls are looked at.
     pub cut: u64,
     /// The other calls.
@@ -48,6 +57,13 @@ fn call_at(history: &[Timed], number: usize) -> Option<Timed>
     history.get(number).copied()
 }
 
+/// The number of the call that a core begins with, and until when it and others build the map.
+#[derive(Clone, Copy, Debug)]
+struct Base {
+    number: usize,
+    built: u64,
+}
+
 /// Shows that a core has no order, if that can be shown.
 #[tactic(auto, using(crate::proofs::Refuting::core_shown))]
 fn attempt<A: Allocator + Clone + Drop>(
@@ -56,13 +72,14 @@ fn attempt<A: Allocator + Clone + Drop>(
     any_place: bool,
     history: &[Timed],
     pages: PageRange,
-    number: usize,
+    base: Base,
     cut: u64,
     wanted: &[usize],
 ) -> Result<Option<Core<A>>, NoMemory>
     requires { length files.now ≤ 16 }
     ensures { IfOk result (λ found. IfSome found (λ core. IsShown any_place history.now core)) }
 {
+    let (number, built) = (base.number, base.built);
     let Some(first) = call_at(history, number) else {
         return Ok(None);
     };
@@ -72,6 +89,9 @@ fn attempt<A: Allocator + Clone + Drop>(
     let Some(kept) = gather(alloc, history, pages, number, &first, cut, wanted)? else {
         return Ok(None);
     };
+    if !is_base(pages, &start, built, kept.as_slice()) {
+        return Ok(None);
+    }
     let nothing = Vec::new(alloc.clone()?);
     let front = followed_by(alloc, nothing.as_slice(), start)?;
     let none = none_of(alloc, files, any_place, front.as_slice(), kept.as_slice())?;
@@ -83,6 +103,7 @@ fn attempt<A: Allocator + Clone + Drop>(
         number,
         first,
         start,
+        built,
         cut,
         kept,
     }))
@@ -132,7 +153,11 @@ fn shrink<A: Allocator + Clone + Drop>(
     ensures { IfOk result (λ core. IsShown any_place history.now core) }
 {
     let mut core = found;
-    let (pages, number, cut) = (core.pages, core.number, core.cut);
+    let (pages, cut) = (core.pages, core.cut);
+    let base = Base {
+        number: core.number,
+        built: core.built,
+    };
     let mut wanted = without(alloc, wanted, wanted.len())?;
     let mut place = 0usize;
     'wanted: for _ in 0..READS {
@@ -143,7 +168,7 @@ fn shrink<A: Allocator + Clone + Drop>(
             any_place,
             history,
             pages,
-            number,
+            base,
             cut,
             fewer.as_slice(),
         )?;
@@ -186,44 +211,6 @@ fn accessed(request: Request) -> Option<u64> {
     }
 }
 
-// The pages that may have a core: that of the access that has no reply, and those of calls that were under way with it; or those of the
-// range call, one by one, and all.
-fn candidates<A: Allocator + Clone + Drop>(
-    alloc: &A,
-    history: &[Timed],
-    stuck: Timed,
-) -> Result<Vec<PageRange, A>, NoMemory> {
-    let mut ranges = Vec::new(alloc.clone()?);
-    if let Some(page) = accessed(stuck.call.request) {
-        ranges.push(PageRange {
-            first: page,
-            end: page.saturating_add(1),
-        })?;
-        for at in 0..history.len() {
-            let timed = history[at];
-            if let Some(range) = pages_of(timed.call) {
-                let is_under = timed.begin <= stuck.end && stuck.begin <= timed.end;
-                let is_wide = range.end > range.first.saturating_add(1);
-                if is_under && is_wide && range.contains(page) && ranges.len() < RANGES {
-                    ranges.push(range)?;
-                }
-            }
-        }
-    } else if let Some(range) = pages_of(stuck.call) {
-        for step in 0..4u64 {
-            let page = range.first.saturating_add(step);
-            if page < range.end {
-                ranges.push(PageRange {
-                    first: page,
-                    end: page.saturating_add(1),
-                })?;
-            }
-        }
-        ranges.push(range)?;
-    }
-    Ok(ranges)
-}
-
 // Adds a call to the latest ones by their ends.
 fn keep_latest<A: Allocator>(
     latest: &mut Vec<(u64, usize), A>,
@@ -242,6 +229,69 @@ fn keep_latest<A: Allocator>(
     latest.push((end, number))?;
     latest.sort_unstable();
     Ok(())
+}
+
+// The page alone.
+fn page_alone(page: u64) -> PageRange {
+    PageRange {
+        first: page,
+        end: page.saturating_add(1),
+    }
+}
+
+// The ranges of several pages, this one among them, that calls changed which were under way with an access; and of those that ended before it
+// the latest ones.
+fn around<A: Allocator + Clone + Drop>(
+    alloc: &A,
+    history: &[Timed],
+    stuck: Timed,
+    page: u64,
+) -> Result<Vec<PageRange, A>, NoMemory> {
+    let mut ranges = Vec::new(alloc.clone()?);
+    ranges.push(page_alone(page))?;
+    let mut latest = Vec::new(alloc.clone()?);
+    for at in 0..history.len() {
+        let timed = history[at];
+        if let Some(range) = pages_of(timed.call) {
+            let is_wide = range.end > range.first.saturating_add(1) && range.contains(page);
+            if is_wide && timed.end < stuck.begin {
+                keep_latest(&mut latest, RECENT, timed.end, at)?;
+            } else if is_wide && timed.begin <= stuck.end && ranges.len() < RANGES {
+                ranges.push(range)?;
+            }
+        }
+    }
+    for (_, number) in latest.as_slice() {
+        if let Some(timed) = call_at(history, *number) {
+            if let Some(range) = pages_of(timed.call) {
+                ranges.push(range)?;
+            }
+        }
+    }
+    Ok(ranges)
+}
+
+// The pages that may have a core: that of the access that has no reply, and those around it; or those of the range call, one by one, and
+// all.
+fn candidates<A: Allocator + Clone + Drop>(
+    alloc: &A,
+    history: &[Timed],
+    stuck: Timed,
+) -> Result<Vec<PageRange, A>, NoMemory> {
+    if let Some(page) = accessed(stuck.call.request) {
+        return around(alloc, history, stuck, page);
+    }
+    let mut ranges = Vec::new(alloc.clone()?);
+    if let Some(range) = pages_of(stuck.call) {
+        for step in 0..4u64 {
+            let page = range.first.saturating_add(step);
+            if page < range.end {
+                ranges.push(page_alone(page))?;
+            }
+        }
+        ranges.push(range)?;
+    }
+    Ok(ranges)
 }
 
 // The latest calls until the cut that map or unmap all of these pages.
@@ -287,6 +337,42 @@ fn reads<A: Allocator + Clone + Drop>(
     Ok(numbers)
 }
 
+// These pages without those of a range that has the first or the last of them.
+fn without_pages(left: PageRange, range: PageRange) -> PageRange {
+    if range.first <= left.first {
+        return PageRange {
+            first: left.first.max(range.end),
+            end: left.end,
+        };
+    }
+    if left.end <= range.end {
+        return PageRange {
+            first: left.first,
+            end: left.end.min(range.first),
+        };
+    }
+    left
+}
+
+// The latest call until a time that maps or unmaps pages at either end of these, and those that it leaves.
+fn builder(history: &[Timed], left: PageRange, until: u64) -> Option<(usize, PageRange)> {
+    let mut found = None;
+    let mut latest = 0u64;
+    for at in 0..history.len() {
+        let timed = history[at];
+        if timed.end <= until && latest <= timed.end && sets(timed.call) {
+            if let Some(range) = pages_of(timed.call) {
+                let rest = without_pages(left, range);
+                if rest != left {
+                    found = Some((at, rest));
+                    latest = timed.end;
+                }
+            }
+        }
+    }
+    found
+}
+
 // A core of these pages with this first call.
 fn find_behind<A: Allocator + Clone + Drop>(
     alloc: &A,
@@ -294,21 +380,21 @@ fn find_behind<A: Allocator + Clone + Drop>(
     any_place: bool,
     history: &[Timed],
     pages: PageRange,
-    number: usize,
+    base: Base,
     cut: u64,
 ) -> Result<Option<Core<A>>, NoMemory>
     requires { length files.now ≤ 16 }
     ensures { IfOk result (λ found. IfSome found (λ core. IsShown any_place history.now core)) }
 {
-    let Some(first) = call_at(history, number) else {
+    let Some(first) = call_at(history, base.number) else {
         return Ok(None);
     };
-    let latest = reads(alloc, history, pages, first.end, cut)?;
+    let latest = reads(alloc, history, pages, first.end.max(base.built), cut)?;
     let mut count = 1usize;
     for _ in 0..5u8 {
         let wanted = last_of(alloc, latest.as_slice(), count)?;
         let wanted = wanted.as_slice();
-        let found = attempt(alloc, files, any_place, history, pages, number, cut, wanted)?;
+        let found = attempt(alloc, files, any_place, history, pages, base, cut, wanted)?;
         if let Some(core) = found {
             let core = shrink(alloc, files, any_place, history, core, wanted)?;
             return Ok(Some(core));
@@ -318,6 +404,51 @@ fn find_behind<A: Allocator + Clone + Drop>(
         }
         // (each overlaps some others, and so makes many orders more)
         count = count.saturating_mul(2);
+    }
+    Ok(None)
+}
+
+// The latest calls until a time, one behind another, that map or unmap all of these pages; and when the first of the last ones began.
+fn base_until(history: &[Timed], pages: PageRange, until: u64) -> Option<(Base, u64)> {
+    let mut left = pages;
+    let mut until = until;
+    let mut last = None;
+    for _ in 0..BUILDERS {
+        let (number, rest) = builder(history, left, until)?;
+        let timed = call_at(history, number)?;
+        let (built, begin) = last.unwrap_or((timed.end, timed.begin));
+        last = Some((built, begin));
+        if rest.end <= rest.first {
+            return Some((Base { number, built }, begin));
+        }
+        left = rest;
+        until = timed.begin.saturating_sub(1);
+    }
+    None
+}
+
+// A core of these pages, whose map is built before the rest begins, by one call or several.
+fn find_built<A: Allocator + Clone + Drop>(
+    alloc: &A,
+    files: &[FileSpec<A>],
+    any_place: bool,
+    history: &[Timed],
+    pages: PageRange,
+    cut: u64,
+) -> Result<Option<Core<A>>, NoMemory>
+    requires { length files.now ≤ 16 }
+    ensures { IfOk result (λ found. IfSome found (λ core. IsShown any_place history.now core)) }
+{
+    let mut until = cut;
+    for _ in 0..FIRSTS {
+        let Some((base, begin)) = base_until(history, pages, until) else {
+            return Ok(None);
+        };
+        let found = find_behind(alloc, files, any_place, history, pages, base, cut)?;
+        if let Some(core) = found {
+            return Ok(Some(core));
+        }
+        until = begin.saturating_sub(1);
     }
     Ok(None)
 }
@@ -334,11 +465,18 @@ fn find_in<A: Allocator + Clone + Drop>(
     requires { length files.now ≤ 16 }
     ensures { IfOk result (λ found. IfSome found (λ core. IsShown any_place history.now core)) }
 {
+    if pages.end > pages.first.saturating_add(1) {
+        let built = find_built(alloc, files, any_place, history, pages, cut)?;
+        if let Some(core) = built {
+            return Ok(Some(core));
+        }
+    }
     let latest = firsts(alloc, history, pages, cut)?;
     let count = latest.len();
     for back in 0..count {
         if let Some((_, number)) = latest.get(count - 1 - back).copied() {
-            let found = find_behind(alloc, files, any_place, history, pages, number, cut)?;
+            let base = Base { number, built: 0 };
+            let found = find_behind(alloc, files, any_place, history, pages, base, cut)?;
             if let Some(core) = found {
                 return Ok(Some(core));
             }

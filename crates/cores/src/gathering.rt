@@ -4,7 +4,7 @@ ghost use Rattle.cores.specs.Cores.{AreAll, IsKeptAs, IsRole, IsStart, is_left_o
 ghost use Rattle.cores.specs.Parts.{IsPart};
 
 use crate::kept::Kept;
-use crate::parts::{is_aside, is_reset, part_of};
+use crate::parts::{is_aside, part_of};
 use orders::Timed;
 use std::alloc::Allocator;
 use vm_base::{NoMemory, PageRange, Request, page_of};
@@ -30,9 +30,6 @@ pub(crate) enum Role {
 pub(crate) fn start_of(pages: PageRange, first: &Timed) -> Option<Timed>
     ensures { IfSome result (λ start. IsStart pages first.now start) }
 {
-    if !is_reset(pages, first.call) {
-        return None;
-    }
     let call = part_of(pages, first.call)?;
     Some(Timed {
         begin: first.begin,
@@ -110,7 +107,7 @@ fn become_of(
 
 /// The calls of a core: those that have to do with these pages, from the first one on until the cut, and of the others the wanted ones; if
 /// there is such a core.
-#[tactic(auto, using(crate::proofs::Gathered::none_so_far, crate::proofs::Gathered::one_out, crate::proofs::Gathered::one_in, crate::proofs::Gathered::all_gathered))]
+#[tactic(auto, using(crate::proofs::Gathered::none_so_far))]
 pub(crate) fn gather<A: Allocator + Clone + Drop>(
     alloc: &A,
     history: &[Timed],

@@ -1,6 +1,7 @@
 //! Small cores of histories: a few calls that have no order, and so show that all have none.
 #![tactic(auto)]
 
+mod building;
 mod finding;
 mod gathering;
 mod kept;

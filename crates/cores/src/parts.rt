@@ -1,7 +1,8 @@
 //! What a call does within some pages.
 ghost use Rattle.std.specs.Prelude.{◌≡◌, ◌≤◌, ◌⊎◌, IfSome, true};
 ghost use Rattle.vm_base.specs.Pages.{pages_of};
-ghost use Rattle.cores.specs.Parts.{Has, IsAccess, IsMeet, IsPart, IsPartOf, IsPassed, IsReset, are_apart, is_aside, is_quiet, is_told, misses, pages_put};
+ghost use Rattle.cores.specs.Parts.{Has, IsAccess, IsMeet, IsPart, IsPartOf, IsPassed, IsReset, IsResetAt, Sets};
+ghost use Rattle.cores.specs.Parts.{are_apart, is_aside, is_quiet, is_told, misses, pages_put};
 
 use audit::Call;
 use vm_base::page::{PAGE_LIMIT, PAGE_SIZE};
@@ -293,6 +294,36 @@ pub(crate) fn is_reset(of: PageRange, call: Call) -> bool
             ..
         } => match call.reply {
             Reply::Mapped(at) => has_all(pages_put(flags.fixed, addr, len, at), of),
+            _ => false,
+        },
+        _ => false,
+    }
+}
+
+/// Tells whether a call maps or unmaps pages.
+pub(crate) fn sets(call: Call) -> bool
+    ensures { result ≡ true → Sets call.request call.reply }
+{
+    match call.request {
+        Request::Munmap { .. } => true,
+        Request::Mmap { .. } => matches!(call.reply, Reply::Mapped(_)),
+        _ => false,
+    }
+}
+
+/// Tells whether it maps or unmaps this page.
+pub(crate) fn resets(page: u64, call: Call) -> bool
+    ensures { result ≡ true → IsResetAt page call.request call.reply }
+{
+    match call.request {
+        Request::Munmap { addr, len } => pages(addr, len).contains(page),
+        Request::Mmap {
+            addr,
+            len,
+            flags,
+            ..
+        } => match call.reply {
+            Reply::Mapped(at) => pages_put(flags.fixed, addr, len, at).contains(page),
             _ => false,
         },
         _ => false,

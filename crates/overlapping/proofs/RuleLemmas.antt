@@ -117,6 +117,7 @@ unordered_by any_place lines r told number line c core e text shown at is = reco
     number = core.number;
     first = core.first;
     start = core.start;
+    built = core.built;
     cut = core.cut;
     kept = core.kept.items;
     is = shown.1.is;

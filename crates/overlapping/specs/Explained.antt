@@ -15,15 +15,16 @@ use Rattle.overlapping.specs.declared.judging.Shown.{Shown}
 use Rattle.overlapping.specs.declared.judging.Shown.TheVariants as By
 use Rattle.overlapping.specs.declared.judging.Told.{Told}
 
--- The lines are those of a core of the history, which has no order by itself: in its pages its first call leaves nothing of what was there.
+-- The lines are those of a core of the history, which has no order by itself: in its pages its first calls leave nothing of what was there.
 pub record IsExplanation (any_place : Bool) (lines : List (List ℕ)) (r : Read) (explanation : List ℕ) : Type 0 where
   pub pages : PageRange
   pub number : ℕ
   pub first : Timed
   pub start : Timed
+  pub built : ℕ
   pub cut : ℕ
   pub kept : List Kept
-  pub is : IsCore r.calls pages number first start cut kept
+  pub is : IsCore r.calls pages number first start built cut kept
   pub files : ℕ → Option File
   pub alone : HasNoneOf (rule_of any_place) (nothing_mapped files) (start ∷ []) kept
   pub text : explanation ≡ core_text lines r.lines number kept

@@ -1,5 +1,6 @@
 -- What an order by pages says of a history
-use Rattle.std.proofs.Common.{◌≡◌, ◌∙◌, ℕ, zero, suc, ◌+◌, Bool, true, false, List, [], ◌∷◌, ◌++◌, append-nil, ap, length, refl, slice_get, Some, subst, sym}
+use Rattle.std.proofs.Common.{◌≡◌, ◌∙◌, ℕ, zero, suc, ◌+◌, Bool, true, false, List, [], ◌∷◌, ◌++◌, append-nil, append_assoc, ap, length, map}
+use Rattle.std.proofs.Common.{Option, Some, refl, slice_get, subst, sym}
 use Rattle.vm_base.specs.declared.replies.Reply.{Reply}
 use Rattle.vm_base.specs.Plain.{Plain, nothing_mapped}
 use Rattle.backing.specs.declared.file_spec.FileSpec.{FileSpec}
@@ -12,12 +13,14 @@ use Rattle.orders.specs.declared.history.Timed.{Timed}
 use Rattle.orders.specs.Orders.{HasOrder, IsOrder}
 use Rattle.orders_text.specs.History.{IsHistory, Read, all_open, completed, replies_in}
 use Rattle.orders_text.specs.Steps.{read_of}
+use Rattle.orders_text.specs.declared.clock.Begun.{Begun}
 use Rattle.orders_text.specs.declared.reading.History.{History}
 use Rattle.overlapping.specs.Waiting.{NoneWaits}
 use Rattle.overlapping.proofs.RuleLemmas.{none_open}
 use Rattle.by_pages.specs.ByPages.{HasOrderAmong, HasOrderByPages}
 use Rattle.by_pages.specs.Pages.{AreChosen, parts_from}
 use Rattle.by_pages.specs.declared.splitting.Part.{Part}
+use Rattle.page_orders.specs.Effects.{waiting_reply}
 use Rattle.page_orders.specs.Rulings.{HasNone, IsLegal, IsUnordered, OrderRule}
 
 -- where none waits, the calls that have a reply are all
@@ -90,3 +93,17 @@ pub unordered_there : (has : OrderRule) (lines : List (List ℕ)) (r : Read) (nu
     → IsUnordered has lines line c.call.reply
 unordered_there has lines r number line c none at is h =
     record { read = r; history = h; none = none; number = number; call = c; is_call = is; is_line = at; replied = refl }
+
+-- ---- replies of calls that wait
+
+pub pushed_effects : (a b c : List Reply) (take_effect : Bool) (waiting rest : List (Option Begun)) (w : Option Begun) → waiting ≡ w ∷ rest
+    → b ≡ a ++ waiting_reply take_effect w ∷ [] → c ≡ b ++ map (waiting_reply take_effect) rest → c ≡ a ++ map (waiting_reply take_effect) waiting
+pushed_effects a b c take_effect waiting rest w e f g =
+    g ∙ (ap (λ (x : List Reply). x ++ map (waiting_reply take_effect) rest) f
+    ∙ (append_assoc a (waiting_reply take_effect w ∷ []) (map (waiting_reply take_effect) rest)
+    ∙ ap (λ (xs : List (Option Begun)). a ++ map (waiting_reply take_effect) xs) (sym e)))
+
+pub pushed_none : (a : List Reply) (take_effect : Bool) (waiting : List (Option Begun)) → waiting ≡ []
+    → a ≡ a ++ map (waiting_reply take_effect) waiting
+pushed_none a take_effect waiting e =
+    sym (ap (λ (xs : List (Option Begun)). a ++ map (waiting_reply take_effect) xs) e ∙ append-nil a)

@@ -1,6 +1,8 @@
 //! Which pages are joined: by a file that they show, or by a call that takes effect on several at one moment. What isn't joined to others
 //! has orders of its own.
 
+ghost use Rattle.std.specs.Prelude.{◌≡◌, length};
+
 use audit::Call;
 use by_pages::{Part, stretch_of};
 use std::alloc::Allocator;
@@ -153,9 +155,11 @@ impl<A: Allocator + Clone + Drop> Joins<A> {
     }
 
     // The place of the key that stands for all that are joined to the one at this place.
-    fn root(&mut self, at: usize) -> usize {
+    fn root(&mut self, at: usize) -> usize
+        ensures { self.new.keys ≡ self.old.keys }
+    {
         let mut here = at;
-        for _ in 0..self.to.len() {
+        'steps: for _ in 0..self.to.len() {
             let next = self.next(here);
             if next == here {
                 return here;
@@ -210,12 +214,17 @@ impl<A: Allocator + Clone + Drop> Joins<A> {
     }
 
     /// How many keys there are.
-    pub fn count(&self) -> usize {
+    pub fn count(&self) -> usize
+        ensures { result ≡ length self.now.keys.items }
+    {
         self.keys.len()
     }
 
-    /// The place of the key that stands for the pages that a call takes effect on.
-    pub fn place(&mut self, call: Call) -> usize {
+    /// The place of the key that stands for the pages that a call takes effect on. The keys stay. Which are joined isn't claimed: what is
+    /// searched by them is checked whole.
+    pub fn place(&mut self, call: Call) -> usize
+        ensures { self.new.keys ≡ self.old.keys }
+    {
         let first = self.place_of(call_reach(call).pages.first);
         self.root(first)
     }

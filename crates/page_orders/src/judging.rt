@@ -1,5 +1,5 @@
 //! Judging a text of calls that overlap, whose ranges change page by page.
-ghost use Rattle.std.specs.Prelude.{◌≡◌, ◌≤◌, ℕ, List, IfErr, IfOk, Ok, length, slice_get, true};
+ghost use Rattle.std.specs.Prelude.{◌≡◌, ◌≤◌, ℕ, ◌++◌, List, IfErr, IfOk, OnOk, Ok, length, map, slice_get, true};
 ghost use Rattle.trace_io.specs.Lines.{lines_of};
 ghost use Rattle.slot_lock.specs.Slots.{IsNew};
 ghost use Rattle.vm_base.specs.Plain.{nothing_mapped};
@@ -11,6 +11,7 @@ ghost use Rattle.orders_text.specs.Steps.{HasPlaces, read_of};
 ghost use Rattle.overlapping.specs.Waiting.{NoneWaits};
 ghost use Rattle.by_pages.specs.ByPages.{HasOrderAmong, HasOrderByPages};
 ghost use Rattle.by_pages.specs.Pages.{parts_from};
+ghost use Rattle.page_orders.specs.Effects.{effect_of, waiting_reply};
 ghost use Rattle.page_orders.specs.Rulings.{HasNone, IsRuling};
 
 use crate::choices::none_chosen;
@@ -28,9 +29,6 @@ use slot_lock::SlotMap;
 use std::alloc::Allocator;
 use trace_io::IoFault;
 use vm_base::{NoMemory, Reply, Request};
-
-/// How many cores a space may have.
-const CORES: usize = 64;
 
 // The replies of the calls that wait at a history's end, its parts, and what a search finds of them.
 #[derive(Drop)]
@@ -53,7 +51,9 @@ pub fn none_waits(waiting: &[Option<Begun>]) -> bool
 }
 
 // The reply of a call that takes effect, as far as its request tells it.
-fn effect_of(request: Request) -> Reply {
+fn effect_of(request: Request) -> Reply
+    ensures { result ≡ effect_of request }
+{
     match request {
         Request::Mmap { addr, .. } => Reply::Mapped(addr),
         Request::Munmap { .. } | Request::Mprotect { .. } | Request::Store { .. } => Reply::Done,
@@ -61,20 +61,42 @@ fn effect_of(request: Request) -> Reply {
     }
 }
 
-/// The replies of the calls that wait, if they take effect, and else that they found no memory.
+// The reply of a core's call, if it waits.
+fn waiting_reply(take_effect: bool, waits: Option<Begun>) -> Reply
+    ensures { result ≡ waiting_reply take_effect waits }
+{
+    match waits {
+        Some(begun) if take_effect => effect_of(begun.request),
+        _ => Reply::NoMemory,
+    }
+}
+
+// Adds those of these cores.
+#[tactic(auto, using(crate::proofs::RuleLemmas::pushed_effects, crate::proofs::RuleLemmas::pushed_none))]
+fn push_effects<A: Allocator>(
+    replies: &mut Vec<Reply, A>,
+    waiting: &[Option<Begun>],
+    take_effect: bool,
+) -> Result<(), NoMemory>
+    ensures { OnOk result (replies.new.items ≡ replies.old.items ++ map (waiting_reply take_effect) waiting.now) }
+{
+    let [first, rest @ ..] = waiting else {
+        return Ok(());
+    };
+    replies.push(waiting_reply(take_effect, *first))?;
+    push_effects(replies, rest, take_effect)
+}
+
+/// The replies of the cores' calls that wait, if they take effect, and else that they found no memory.
 pub fn effects<A: Allocator + Clone + Drop>(
     alloc: &A,
     waiting: &[Option<Begun>],
     take_effect: bool,
-) -> Result<Vec<Reply, A>, NoMemory> {
-    let mut replies = vec![in alloc.clone()?; Reply::NoMemory; CORES]?;
-    for core in 0..CORES {
-        if let Some(Some(begun)) = waiting.get(core).copied() {
-            if take_effect && core < replies.len() {
-                replies[core] = effect_of(begun.request);
-            }
-        }
-    }
+) -> Result<Vec<Reply, A>, NoMemory>
+    ensures { IfOk result (λ replies. replies.items ≡ map (waiting_reply take_effect) waiting.now) }
+{
+    let mut replies = Vec::new(alloc.clone()?);
+    push_effects(&mut replies, waiting, take_effect)?;
     Ok(replies)
 }
 

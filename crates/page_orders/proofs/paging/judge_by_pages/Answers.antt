@@ -14,7 +14,8 @@ returns-in-Ok-read_all-clause-ends g c =
     let old = g.W.Sink.contents c.args.writer.now in
     let new = g.W.Sink.contents c.judge_out.new.writer in
     reads_map _ _ _ _ c.in-Ok-read_all.ensures.text
-    (λ xs ys k e. subst (λ i. JudgementEnds (HasOrderByPages (rule_of c.args.any_place)) i old new c.judge_out.result) (c.as_slice.ensures.value ∙ sym e) c.judge_out.ensures.ends)
+    (λ xs ys k e. subst (λ i. JudgementEnds (HasOrderByPages (rule_of c.args.any_place)) i old new c.judge_out.result)
+    (c.as_slice.ensures.value ∙ sym e) c.judge_out.ensures.ends)
 
 pub returns-in-Err-clause-ends : goal.returns-in-Err-clause-ends
 returns-in-Err-clause-ends g c = stopped _ _ (HasOrderByPages (rule_of c.args.any_place)) (g.W.Sink.contents c.args.writer.now) c.in-Err.fault
