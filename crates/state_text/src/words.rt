@@ -67,7 +67,7 @@ fn request_word(request: &Request) -> &'static str
 }
 
 /// The word of a call that stands so; one that has its reply is a call.
-pub(crate) fn call_word(phase: &Phase) -> &'static str
+pub fn call_word(phase: &Phase) -> &'static str
     ensures { result.now ≡ call_word phase.now }
 {
     match phase {
@@ -88,7 +88,7 @@ pub(crate) fn call_word(phase: &Phase) -> &'static str
 }
 
 /// What the call does next, in words.
-pub(crate) fn doing_word(phase: &Phase) -> &'static str
+pub fn doing_word(phase: &Phase) -> &'static str
     ensures { result.now ≡ doing_word phase.now }
 {
     match phase {
@@ -127,7 +127,7 @@ fn goal_spot(goal: &Goal) -> Spot
 }
 
 /// Where the call is at work.
-pub(crate) fn spot_of(phase: &Phase) -> Spot
+pub fn spot_of(phase: &Phase) -> Spot
     ensures { result ≡ spot_of phase.now }
 {
     match phase {
@@ -174,7 +174,7 @@ fn pages_if(range: PageRange) -> Spot
 }
 
 /// The pages that the call holds.
-pub(crate) fn held_spot(phase: &Phase) -> Spot
+pub fn held_spot(phase: &Phase) -> Spot
     ensures { result ≡ held_spot phase.now }
 {
     match phase {
@@ -203,7 +203,7 @@ pub(crate) fn held_spot(phase: &Phase) -> Spot
 }
 
 /// The frame that the call has taken, and that no page has yet.
-pub(crate) fn taken_in(phase: &Phase) -> Option<u32>
+pub fn taken_in(phase: &Phase) -> Option<u32>
     ensures { result ≡ taken_in phase.now }
 {
     match phase {

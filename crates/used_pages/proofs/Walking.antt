@@ -72,6 +72,19 @@ gathered_all r f old now p high all q = all q ∙ go (has r q) refl (nat_lt q p)
     go false j false k = ap (λ b. cond (b && nat_lt q p) (f q) (old q)) j ∙ sym (ap (λ b. cond b (f q) (old q)) j)
     go true j false k = absurd (let lt = end_of r q j in let out : p ≤ q = grind (arith, nat_tests, k) in omega (arith, lt, out, high))
 
+-- a range of one page
+pub one_across : {V : Type 0} (r : PageRange) (f old now : ℕ → Option V) → r.end ≡ r.first + 1 → ((q : ℕ) → now q ≡ put old r.first (f r.first) q)
+    → (q : ℕ) → now q ≡ across old (has r) f q
+one_across r f old now one same q = same q ∙ go (q == r.first) refl (has r q) refl
+  where
+    go : (b : Bool) → (q == r.first) ≡ b → (h : Bool) → has r q ≡ h → cond b (f r.first) (old q) ≡ cond h (f q) (old q)
+    go true i true j = let is : q ≡ r.first = grind (arith, nat_tests, i) in ap f (sym is)
+    go true i false j = absurd (let is : q ≡ r.first = grind (arith, nat_tests, i) in
+        let yes = ap (has r) is ∙ inside r r.first (omega arith) (omega (arith, one)) in let no : true ≡ false = sym yes ∙ j in cc)
+    go false i true j = absurd (let ne : q ≢ r.first = grind (arith, nat_tests, i) in let low = first_of r q j in let high = end_of r q j in
+        omega (arith, ne, low, high, one))
+    go false i false j = refl
+
 -- a range that is cleared first
 pub cleared_across : {V : Type 0} (r : PageRange) (f old mid now : ℕ → Option V) → ((q : ℕ) → mid q ≡ over old (has r) None q)
     → ((q : ℕ) → now q ≡ across mid (has r) f q) → (q : ℕ) → now q ≡ across old (has r) f q

@@ -1,6 +1,6 @@
 //! What the pages of a machine have that were used, read from the machine behind each step.
 ghost use Rattle.std.specs.Prelude.{◌≡◌, ℕ, ◌+◌, ◌<◌, ◌^◌, None, Some, true};
-ghost use Rattle.vm_base.specs.Functions.{across, has};
+ghost use Rattle.vm_base.specs.Functions.{across, has, put};
 ghost use Rattle.core_steps.specs.Machine.{state};
 ghost use Rattle.machine_model.specs.Holding.{some_has};
 ghost use Rattle.page_list.specs.Lists.{at_page};
@@ -98,7 +98,26 @@ fn gather<M: SlotMap, A: Allocator + Clone, L: Ledger, B: Allocator>(
     true
 }
 
-// The list has of the range what the machine has now, and of all other pages what it had; false where there was no room.
+// The page gets what the machine's has; false where there was no room.
+fn renew<M: SlotMap, A: Allocator + Clone, L: Ledger, B: Allocator>(
+    machine: &Machine<M, A, L>,
+    list: &mut PageList<Used, B>,
+    page: u64,
+) -> bool
+    ensures { result ≡ true → (q : ℕ) → at_page list.new q ≡ put (at_page list.old) page (used_in (state machine.now) page) q }
+{
+    list.set(page, used_at(machine, page))
+}
+
+// Whether the range has just one page.
+fn is_one(range: PageRange) -> bool
+    ensures { result ≡ true → range.end ≡ range.first + 1 }
+{
+    range.end > 0 && range.end - 1 == range.first
+}
+
+// The list has of the range what the machine has now, and of all other pages what it had; false where there was no room. One page is
+// found in the list by halves, and no other entry is looked at.
 fn refresh<M: SlotMap, A: Allocator + Clone, L: Ledger, B: Allocator>(
     machine: &Machine<M, A, L>,
     list: &mut PageList<Used, B>,
@@ -107,6 +126,9 @@ fn refresh<M: SlotMap, A: Allocator + Clone, L: Ledger, B: Allocator>(
     ensures { result ≡ true → (q : ℕ) → at_page list.new q
         ≡ across (at_page list.old) (has range) (used_in (state machine.now)) q }
 {
+    if is_one(range) {
+        return renew(machine, list, range.first);
+    }
     list.clear(range);
     gather(machine, list, range)
 }
