@@ -5,6 +5,8 @@ import bisect
 import pathlib
 import subprocess
 
+from state_objects import text_of
+
 LESSONS = pathlib.Path(__file__).resolve().parent.parent / "examples/lessons"
 SIZES = [1 << 27, 1 << 18, 1 << 9, 1]  # pages of a slot, level by level
 
@@ -312,9 +314,12 @@ def read_lesson(program, path, full):
         if reader is None:
             continue
         done = subprocess.run([program, "state", "--at", str(number), str(path)], capture_output=True, text=True, check=False)
+        objects = subprocess.run([program, "state", "--json", "--at", str(number), str(path)], capture_output=True, text=True, check=False)
         due = "".join(f"{text}\n" for text in reader.text(full))
         if done.stdout != due or done.returncode != 0:
             raise SystemExit(f"{path.name} behind line {number}, {said}, comes to\n{done.stdout}{done.stderr}and not to\n{due}")
+        if full and (text_of(objects.stdout) != due or objects.returncode != 0):
+            raise SystemExit(f"{path.name} behind line {number}, {said}, comes to\n{objects.stdout}{objects.stderr}and not to the objects of\n{due}")
         count += due.count("\n")
     return count
 

@@ -1,6 +1,6 @@
 #!/usr/bin/env python3
 """Reads random traces with a machine of its own, and compares the state that it comes to with that of `radixvm state`, line by line,
-at the end of each trace and behind one of its lines. The machine is made of dictionaries, works call by call, and knows fixed anonymous mappings, accesses, shootdowns, takes, walks and evictions.
+at the end of each trace and behind one of its lines, as text and, read back by Python, as JSON. The machine is made of dictionaries, works call by call, and knows fixed anonymous mappings, accesses, shootdowns, takes, walks and evictions.
 It shares nothing with the program but what the documents say.
 Then it reads the traces of examples/lessons behind each of their lines, with the machine of bench/lesson_reading.py. Usage: bench/state_reading.py [TRACES [SEED]]; RADIXVM_PROGRAM names the program."""
 import os
@@ -10,6 +10,7 @@ import subprocess
 import sys
 
 from lesson_reading import read_lessons
+from state_objects import text_of
 
 TOP = pathlib.Path(__file__).resolve().parent.parent
 PROGRAM = os.environ.get("RADIXVM_PROGRAM", str(TOP / "radixvm"))
@@ -171,6 +172,9 @@ def compare(words, text, due):
     wrote = subprocess.run([PROGRAM, "state", *words], input=text, capture_output=True, text=True, check=False)
     if wrote.stdout != due or wrote.returncode != 0:
         sys.exit(f"{' '.join(['state', *words])} of\n{text}comes to\n{wrote.stdout}{wrote.stderr}and not to\n{due}")
+    objects = subprocess.run([PROGRAM, "state", "--json", *words], input=text, capture_output=True, text=True, check=False)
+    if text_of(objects.stdout) != due or objects.returncode != 0:
+        sys.exit(f"{' '.join(['state --json', *words])} of\n{text}comes to\n{objects.stdout}{objects.stderr}and not to\n{due}")
     return wrote.stdout
 
 

@@ -18,7 +18,7 @@ use Rattle.trace.specs.declared.shown.Show.TheVariants.{Maps, Outcomes}
 use Rattle.trace.specs.Ends.{Ends, Stops, TellsFaults, fault_named}
 use Rattle.trace.specs.Seen.{IsSeen}
 use Rattle.command_line.specs.declared.picturing.Drawing.{Drawing}
-use Rattle.command_line.specs.declared.picturing.Drawing.TheVariants.{Lines, Steps, Lives, State, Page, Changes, Listing}
+use Rattle.command_line.specs.declared.picturing.Drawing.TheVariants.{Lines, Steps, Lives, State, Objects, Page, Changes, Listing}
 use Rattle.command_line.specs.Listing.{FailsToList, Listed}
 use Rattle.core_steps.specs.declared.setup.CallLimit.{CallLimit}
 use Rattle.command_line.specs.Picture.{Fails, PictureEnds, Records, ShowsText, TextEnds, Watched, in_memory}
@@ -95,6 +95,7 @@ pub picture_unread : (s t : Stream) (drawing : Drawing) (old : Option (List ℕ)
 picture_unread s t (Lines lines) old f why r = reads_map s t _ _ r (λ xs ys k is. inl (inr why, Keeps-refl old))
 picture_unread s t (Steps steps) old f why r = reads_map s t _ _ r (λ xs ys k is. inl (inr why, Keeps-refl old))
 picture_unread s t (State at) old f why r = reads_map s t _ _ r (λ xs ys k is. inl (inr why, Keeps-refl old))
+picture_unread s t (Objects at) old f why r = reads_map s t _ _ r (λ xs ys k is. inl (inr why, Keeps-refl old))
 picture_unread s t Page old f why r = reads_map s t _ _ r (λ xs ys k is. inl (inr why, Keeps-refl old))
 picture_unread s t (Changes shows) old f why r = reads_map s t _ _ r (λ xs ys k is. inl (inr why, Keeps-refl old))
 picture_unread s t Lives old f why r = reads_map s t _ _ r (λ xs ys k is. inl (inr why, Keeps-refl old))
@@ -117,6 +118,7 @@ pub picture_kept : (drawing : Drawing) (input : List ℕ) (a b c : Option (List 
 picture_kept (Lines lines) input a b c ended h k = text_kept _ _ _ _ a b c ended h k
 picture_kept (Steps steps) input a b c ended h k = text_kept _ _ _ _ a b c ended h k
 picture_kept (State at) input a b c ended h k = text_kept _ _ _ _ a b c ended h k
+picture_kept (Objects at) input a b c ended h k = text_kept _ _ _ _ a b c ended h k
 picture_kept Page input a b c ended h k = text_kept _ _ _ _ a b c ended h k
 picture_kept (Changes shows) input a b c ended h k = text_kept _ _ _ _ a b c ended h k
 picture_kept Lives input a b c ended h k = text_kept _ _ _ _ a b c ended h k
@@ -136,6 +138,7 @@ pub picture_lost : (drawing : Drawing) (input : List ℕ) (a b c : Option (List 
 picture_lost (Lines lines) input a b c ended h k = text_lost _ _ _ _ a b c ended h k
 picture_lost (Steps steps) input a b c ended h k = text_lost _ _ _ _ a b c ended h k
 picture_lost (State at) input a b c ended h k = text_lost _ _ _ _ a b c ended h k
+picture_lost (Objects at) input a b c ended h k = text_lost _ _ _ _ a b c ended h k
 picture_lost Page input a b c ended h k = text_lost _ _ _ _ a b c ended h k
 picture_lost (Changes shows) input a b c ended h k = text_lost _ _ _ _ a b c ended h k
 picture_lost Lives input a b c ended h k = text_lost _ _ _ _ a b c ended h k

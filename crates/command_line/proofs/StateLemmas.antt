@@ -9,15 +9,18 @@ use Rattle.trace.specs.declared.shown.Show.TheVariants.{Maps}
 use Rattle.core_steps.specs.declared.setup.CallLimit.TheVariants.{Usual}
 use Rattle.state_text.specs.Fronts.{IsFront, lacking_line, lines_to}
 use Rattle.state_text.specs.Shown.{Follows, IsNothing, Seen}
-use Rattle.state_text.specs.Texts.{seen_text}
-use Rattle.state_text.specs.Traces.{IsTold, told_text}
-use Rattle.state_text.proofs.Traces.{seen_state}
+use Rattle.state_text.specs.Traces.{IsTold, Told}
+use Rattle.state_text.proofs.Traces.{seen_as, seen_state}
+use Rattle.state_json.specs.Objects.{seen_json, state_json}
+use Rattle.state_json.proofs.Shown.{objects_shown}
+use Rattle.command_line.specs.declared.stating.Form.{Form}
+use Rattle.command_line.specs.declared.stating.Form.TheVariants.{Text, Objects}
 use Rattle.trace.specs.Seen.{IsSeen}
 use Rattle.trace_io.specs.Source.{Stream, Reads}
 use Rattle.command_line.specs.Listing.{FailsToList}
 use Rattle.command_line.specs.Picture.{ShowsText, TextEnds}
 use Rattle.command_line.proofs.PictureLemmas.{known_read}
-use Rattle.command_line.specs.State.{FailsTo, lacking_state}
+use Rattle.command_line.specs.State.{FailsTo, lacking_state, seen_in, told_in}
 
 front_lines : (at : Option ℕ) (input front : List ℕ) → IsFront at input front → lines_of front ≡ lines_to at (lines_of input)
 front_lines None input front is = ap lines_of is
@@ -37,20 +40,26 @@ was_seen s t one r text list old new (Ok y) x known a b is h =
     (known_read s t (λ input unread. IsSeen Follows one r Maps input old new) text known h).1)
 was_seen s t one r text list old new (Err f) x known a b is h = absurd (cc)
 
-pub state_drawn : (at : Option ℕ) (input front list : List ℕ) (old new : Option (List ℕ)) (one r : Seen) (lacks : Option ℕ)
+-- what was seen of all is the state to which the lines lead, in either form
+told_as : (form : Form) (one r : Seen) (input list : List ℕ) → IsNothing one → IsSeen Follows one r Maps input (Some []) (Some list)
+    → r.whole ≡ true → (t : Told) × IsTold (lines_of input) t × (seen_in form list r ≡ told_in form t)
+told_as Text = seen_state
+told_as Objects = seen_as seen_json state_json objects_shown
+
+pub state_drawn : (form : Form) (at : Option ℕ) (input front list : List ℕ) (old new : Option (List ℕ)) (one r : Seen) (lacks : Option ℕ)
     (ended : Result (Option ℕ) TraceFault) → IsFront at input front → lacks ≡ lacking_line at (lines_of input) → IsNothing one
     → IsSeen Follows one r Maps front (Some []) (Some list)
-    → IfOk ended (λ x. (r.whole ≡ true) × (x ≡ lacks) × ShowsText x (seen_text list r) old new)
-    → IfErr ended (λ f. ((f ≡ NoMemory) × Keeps old new) ⊎ ((f ≡ WriteFailed) × (r.whole ≡ true) × AppendsFront old new (seen_text list r)))
-    → TextEnds (IsTold (lines_to at (lines_of input))) (FailsTo at input) (lacking_state at (lines_of input)) told_text old new ended
-state_drawn at input front list old new one r lacks (Ok x) is lacking n w (whole, none, shows) err =
-    let to = seen_state one r front list n w whole in (
+    → IfOk ended (λ x. (r.whole ≡ true) × (x ≡ lacks) × ShowsText x (seen_in form list r) old new)
+    → IfErr ended (λ f. ((f ≡ NoMemory) × Keeps old new) ⊎ ((f ≡ WriteFailed) × (r.whole ≡ true) × AppendsFront old new (seen_in form list r)))
+    → TextEnds (IsTold (lines_to at (lines_of input))) (FailsTo at input) (lacking_state at (lines_of input)) (told_in form) old new ended
+state_drawn form at input front list old new one r lacks (Ok x) is lacking n w (whole, none, shows) err =
+    let to = told_as form one r front list n w whole in (
       to.0,
       subst (λ ls. IsTold ls to.0) (front_lines at input front is) to.1,
       none ∙ lacking,
       subst (λ t. ShowsText x t old new) to.2 shows,
     )
-state_drawn at input front list old new one r lacks (Err f) is lacking n w ok (inl (none, kept)) = inl (inr (inl none), kept)
-state_drawn at input front list old new one r lacks (Err f) is lacking n w ok (inr (failed, whole, part)) =
-    let to = seen_state one r front list n w whole in
+state_drawn form at input front list old new one r lacks (Err f) is lacking n w ok (inl (none, kept)) = inl (inr (inl none), kept)
+state_drawn form at input front list old new one r lacks (Err f) is lacking n w ok (inr (failed, whole, part)) =
+    let to = told_as form one r front list n w whole in
     inr (failed, inr (to.0, subst (λ ls. IsTold ls to.0) (front_lines at input front is) to.1, subst (AppendsFront old new) to.2 part))

@@ -10,7 +10,7 @@ use Rattle.machine_model.specs.declared.event.Outcome.{Outcome}
 use Rattle.picture.specs.Canvas.{picture_text}
 use Rattle.picture.specs.Places.{view_of}
 use Rattle.command_line.specs.declared.picturing.Drawing.{Drawing}
-use Rattle.command_line.specs.declared.picturing.Drawing.TheVariants.{Lines, Steps, Lives, State, Page, Changes as Changed, Listing}
+use Rattle.command_line.specs.declared.picturing.Drawing.TheVariants.{Lines, Steps, Lives, State, Objects, Page, Changes as Changed, Listing}
 use Rattle.command_line.specs.Changing.{SaysStates, as_it_is, lacking_change}
 use Rattle.command_line.specs.Lining.{FailsUpTo, Lined, lacking_of, picture_drawn}
 use Rattle.command_line.specs.Listing.{FailsToList, Listed, lacking_nothing}
@@ -24,6 +24,7 @@ use Rattle.trace.specs.declared.shown.Show.TheVariants.{Outcomes}
 use Rattle.trace.specs.Ends.{Stops}
 use Rattle.trace.specs.Seen.{IsSeen}
 use Rattle.state_text.specs.Traces.{IsTold, told_text}
+use Rattle.state_json.specs.Objects.{told_json}
 use Rattle.state_text.specs.Fronts.{lines_to}
 use Rattle.command_line.specs.Stepping.{Paged, lacking_page, page_written}
 use Rattle.command_line.specs.State.{FailsTo, lacking_state}
@@ -71,7 +72,8 @@ Watched after one input r = IsSeen after one r Outcomes input None None
 
 -- beside a recorder of columns it is the picture of the lines up to the last, from the first on; beside one of some steps that of what
 -- happened in them, beside one of changes that of lives; in place of a picture
--- there may be the text of the state to which the lines, or the first of them, lead, the page that steps through them, each of them with what it changes, or a list of the mappings at the end
+-- there may be the text of the state to which the lines, or the first of them, lead, or the same as JSON, the page that steps through them,
+-- each of them with what it changes, or a list of the mappings at the end
 -- with the names of files
 abbrev pub PictureEnds : Drawing → List ℕ → Option (List ℕ) → Option (List ℕ) → Result (Option ℕ) TraceFault → Type 0
 PictureEnds (Lines lines) input old new r = TextEnds (Lined lines input) (FailsUpTo (Some lines.last) input) (lacking_of lines) picture_drawn old new r
@@ -79,6 +81,8 @@ PictureEnds (Steps steps) input old new r = TextEnds (Watched (makes recorded) (
     (lacking steps.first) (picture_of steps.first steps.last input) old new r
 PictureEnds (State at) input old new r = TextEnds (IsTold (lines_to at (lines_of input))) (FailsTo at input)
     (lacking_state at (lines_of input)) told_text old new r
+PictureEnds (Objects at) input old new r = TextEnds (IsTold (lines_to at (lines_of input))) (FailsTo at input)
+    (lacking_state at (lines_of input)) told_json old new r
 PictureEnds Page input old new r = TextEnds (Paged input) (Fails Usual input) lacking_page (page_written input) old new r
 PictureEnds (Changed shows) input old new r = TextEnds (SaysStates shows input) (Fails Usual input) lacking_change as_it_is old new r
 PictureEnds Lives input old new r = TextEnds (Watched ChangesRecorded nothing_changed input) (Fails Long input) lacking_none (lives_of input) old new r

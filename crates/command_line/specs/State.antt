@@ -5,7 +5,11 @@ use Rattle.command_line.specs.Listing.{FailsToList}
 use Rattle.std.specs.declared.alloc.Global.{Global}
 use Rattle.state_text.specs.Fronts.{IsFront, lacking_line}
 use Rattle.state_text.specs.Shown.{Follows, Seen}
-use Rattle.state_text.specs.Traces.{Told}
+use Rattle.state_text.specs.Texts.{seen_text}
+use Rattle.state_text.specs.Traces.{Told, told_text}
+use Rattle.state_json.specs.Objects.{seen_json, told_json}
+use Rattle.command_line.specs.declared.stating.Form.{Form}
+use Rattle.command_line.specs.declared.stating.Form.TheVariants.{Text, Objects}
 use Rattle.trace.specs.declared.fault.TraceFault.{TraceFault}
 use Rattle.trace.specs.declared.fault.TraceFault.TheVariants.{NoMemory, ReadFailed}
 use Rattle.trace.specs.declared.shown.Show.TheVariants.{Maps}
@@ -26,3 +30,13 @@ FailsTo at input f = ((front : List ℕ) × IsFront at input front
 abbrev pub SeesState : Seen → List ℕ → Result (Seen × Vec ℕ Global) TraceFault → Type 0
 SeesState one input (Ok (r, list)) = IsSeen Follows one r Maps input (Some []) (Some list.items)
 SeesState one input (Err f) = FailsToList Usual input f
+
+-- in which form a state is written
+abbrev pub told_in : Form → Told → List ℕ
+told_in Text = told_text
+told_in Objects = told_json
+
+-- and what was seen of one
+abbrev pub seen_in : Form → List ℕ → Seen → List ℕ
+seen_in Text = seen_text
+seen_in Objects = seen_json

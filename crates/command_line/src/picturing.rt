@@ -19,7 +19,7 @@ use crate::changing::draw_changes;
 use crate::ended::{Ended, Trouble};
 use crate::lining::{Lines, draw_front, draw_lines};
 use crate::listing::list_named;
-use crate::stating::draw_state;
+use crate::stating::{Form, draw_state};
 use crate::stepping::draw_page;
 use core_steps::CallLimit;
 use lives::drawing::draw_lives;
@@ -65,6 +65,8 @@ pub enum Drawing {
     Lives,
     /// No picture, but the text of the state behind this line, or at the trace's end.
     State(Option<u64>),
+    /// The same as JSON.
+    Objects(Option<u64>),
     /// No picture, but a page that steps through the trace.
     Page,
     /// No picture, but each line with what it changes in the state.
@@ -291,7 +293,8 @@ pub(crate) fn draw_text<W: Sink, E: Write>(
         Drawing::Lines(lines) => draw_lines(alloc, trace, out, errors, lines),
         Drawing::Steps(steps) => draw_steps(alloc, trace, out, errors, steps),
         Drawing::Lives => draw_all_lives(alloc, trace, out),
-        Drawing::State(at) => draw_state(alloc, trace, out, at),
+        Drawing::State(at) => draw_state(alloc, trace, out, at, Form::Text),
+        Drawing::Objects(at) => draw_state(alloc, trace, out, at, Form::Objects),
         Drawing::Page => draw_page(alloc, trace, out),
         Drawing::Changes(shows) => draw_changes(alloc, trace, out, shows),
         Drawing::Listing(limit) => list_named(alloc, trace, out, limit),
@@ -342,7 +345,7 @@ fn tell_lacking<E: Write>(all: u64, drawing: Drawing, errors: &mut E) {
             errors,
             "radixvm: the trace has {all} lines: --from is behind them"
         ),
-        Drawing::State(_) => writeln!(
+        Drawing::State(_) | Drawing::Objects(_) => writeln!(
             errors,
             "radixvm: the trace has {all} lines: --at is behind them"
         ),

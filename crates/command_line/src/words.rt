@@ -171,7 +171,7 @@ const AUDIT_USAGE: &str =
 const LITMUS_USAGE: &str =
     "radixvm litmus [--to-c | [--limit N] [--list | --witness N | --picture N | --observed COUNTS | --live N]] [--explain] [FILE]";
 
-const STATE_USAGE: &str = "radixvm state [--at N] [--explain] [FILE]";
+const STATE_USAGE: &str = "radixvm state [--at N] [--json] [--explain] [FILE]";
 
 const PAGE_USAGE: &str = "radixvm page [--explain] [FILE]";
 
@@ -299,7 +299,9 @@ fn machine_words<'a>(alloc: Global) -> Result<Command<'a>, AllocError> {
     let maps = reading(alloc, "maps", MAPS_USAGE)?
         .arg(flag(alloc, "names"))?
         .arg(flag(alloc, "long"))?;
-    let state = reading(alloc, "state", STATE_USAGE)?.arg(number(alloc, "at"))?;
+    let state = reading(alloc, "state", STATE_USAGE)?
+        .arg(number(alloc, "at"))?
+        .arg(flag(alloc, "json"))?;
     let page = reading(alloc, "page", PAGE_USAGE)?;
     let certify = reading(alloc, "certify", CERTIFY_USAGE)?;
     let live = living(alloc)?;
@@ -603,6 +605,9 @@ fn asked<'a>(name: &str, words: &ArgMatches<'a>, coloured: bool) -> Result<Task<
             Ok(working(Work::Picture(Drawing::Listing(limit_of(words))), words))
         }
         "maps" => Ok(replaying(Show::Maps, false, words)),
+        "state" if words.get_flag("json") => {
+            Ok(working(Work::Picture(Drawing::Objects(words.get_one("at"))), words))
+        }
         "state" => Ok(working(Work::Picture(Drawing::State(words.get_one("at"))), words)),
         "page" => Ok(working(Work::Picture(Drawing::Page), words)),
         "certify" => Ok(working(Work::Certify, words)),
@@ -666,7 +671,7 @@ fn checked<'a>(task: Task<'a>, files: usize) -> Result<Task<'a>, Told> {
                 last: lines.last,
             },
         )),
-        Work::Picture(Drawing::State(Some(0))) => Err(Told::NoLine),
+        Work::Picture(Drawing::State(Some(0)) | Drawing::Objects(Some(0))) => Err(Told::NoLine),
         _ => Ok(task),
     }
 }

@@ -238,6 +238,7 @@ for each thing, and none for what is empty.
 
   radixvm state TRACE
   radixvm state --at 12 TRACE    the state behind line 12
+  radixvm state --json TRACE     the same as JSON, an object a line
 
 Lines count from 1. A vm, file or comment line changes nothing, and what stands
 behind line N isn't looked at.
@@ -278,6 +279,22 @@ behind line N isn't looked at.
 
 Cores, and the things of each, are in this order, and pages the lowest first.
 How many frames are in use: run --summary. The trace is held in memory.
+
+With --json each line is an object with these members, in the same order:
+
+  epoch
+  core, call [, page | first, end]
+  core, holds [, page | first, end]
+  core, took
+  core, tlb or table, frame, rights [, going]
+  core, inbox, from, first, end
+  mapping
+  page [, frame] [, cores]
+
+Cores, frames and the epoch are numbers, took a frame's, and cores a list of
+numbers; holds is true. All else are strings: tlb, table, page, first and end
+addresses; call, rights and going the words above; inbox says which take is
+due, and mapping is the line of a mapping.
 
 Status: as for run; 2 where the trace has fewer than N lines. After a fault no
 state is written.

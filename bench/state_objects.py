@@ -1,0 +1,45 @@
+"""What `radixvm state --json` writes, read back by Python's own reader of JSON: the line of `radixvm state` that each object stands for."""
+import json
+
+
+def line_of(members):
+    """The line. Each member is taken once, and none may be left."""
+    left = dict(members)
+
+    def where():
+        if "page" in left:
+            return " " + left.pop("page")
+        return f" {left.pop('first')}-{left.pop('end')}" if "first" in left else ""
+
+    if "core" not in left:
+        if "epoch" in left:
+            line = f"epoch {left.pop('epoch'):d}"
+        elif "mapping" in left:
+            line = left.pop("mapping")
+        else:
+            line = f"page {left.pop('page')}"
+            line += f" frame {left.pop('frame'):d}" if "frame" in left else ""
+            line += " cores " + " ".join(f"{core:d}" for core in left.pop("cores")) if "cores" in left else ""
+    else:
+        line = f"core {left.pop('core'):d}"
+        if "call" in left:
+            line += f" {left.pop('call')}{where()}"
+        elif "holds" in left:
+            line += " holds" + where() if left.pop("holds") is True else ""
+        elif "took" in left:
+            line += f" took frame {left.pop('took'):d}"
+        elif "inbox" in left:
+            due = left.pop("inbox")
+            line += f" inbox from {left.pop('from'):d}{where()} {due}"
+        else:
+            place = "tlb" if "tlb" in left else "table"
+            line += f" {place} {left.pop(place)} frame {left.pop('frame'):d} {left.pop('rights')}"
+            line += f" going: {left.pop('going')}" if "going" in left else ""
+    if left:
+        raise SystemExit(f"{members} has {left} that no line shows")
+    return line
+
+
+def text_of(written):
+    """The text of the state of which these are the objects."""
+    return "".join(line_of(json.loads(line)) + "\n" for line in written.splitlines())
