@@ -1,9 +1,9 @@
 #!/usr/bin/env python3
 """Runs litmus tests through `radixvm litmus`, and compares their sets of outcomes and what their clauses come to with those that another
-simulator gave. Lines `final maps` are left out, and the last column of such a test. Tests whose lists have an mmap without f, or whose sets have `noframe`,
-are passed over. A file NAME.out has an outcome in a line, core by core and then what loads of the final addresses show, divided by `, `; and then each
-clause behind `ok` or `not`, with `(N of M)` for how many of the outcomes its condition holds. Each witness is run, too: its last replies
-have to be those of its outcome, and core 0's loads of the final addresses behind them.
+simulator gave. Tests whose lists have an mmap without f, or whose sets have `noframe`, are passed over. A file NAME.out has an outcome in a line, core by
+core, then what loads of the final addresses show, and then the mappings for a line `final maps`, divided by `, `; and then each clause behind `ok` or
+`not`, with `(N of M)` for how many of the outcomes its condition holds. Each witness is run, too: its last replies have to be those of its outcome, with
+core 0's loads of the final addresses behind them, and `maps` has to show its mappings.
 Usage: bench/litmus.py TESTS EXPECTED; RADIXVM_PROGRAM names the program."""
 import os
 import pathlib
@@ -68,14 +68,17 @@ def replies_of(trace):
     return answers
 
 
+def mappings_of(trace):
+    """The mappings at the end of the trace, as a column has them."""
+    return " | ".join(run(["maps"], trace)[0].splitlines()) or "nothing"
+
+
 def check(test, expected):
     """What is wrong with a test."""
     wrong = []
     script = test.read_text()
     outcomes, clauses = wanted(expected)
-    if "final maps\n" in script:
-        script = script.replace("final maps\n", "")
-        outcomes = {outcome[:-1] for outcome in outcomes}
+    maps = "final maps\n" in script
     listed = script.split("together\n", 1)[-1]
     if any("noframe" in outcome for outcome in outcomes) or re.search(r"^c\d+! mmap \S+ \S+ \S+ [^f\s]+(\s|$)", listed, re.M):
         return None, 0
@@ -97,10 +100,10 @@ def check(test, expected):
     for number, values in enumerate(lines, 1):
         trace, status = run(["litmus", "--witness", str(number)], script)
         answers = replies_of(trace) or {}
-        finals = len(values) - sum(many.values())
+        finals = len(values) - sum(many.values()) - maps
         first = answers.get(0, [])
         answers[0], shown = first[: len(first) - finals], first[len(first) - finals :]
-        got = [r for c in cores for r in answers.get(c, [])[-many[c] :]] + shown
+        got = [r for c in cores for r in answers.get(c, [])[-many[c] :]] + shown + [mappings_of(trace)] * maps
         if status or got != values:
             wrong.append(f"witness {number}: due {values}, got {got}, status {status}")
     return wrong, len(lines)

@@ -187,11 +187,13 @@ class Map:
         """The last mapping that ends at the page or before, and those behind it, in lines."""
         found = self.mappings()
         before = sum(end <= number for _, end, _ in found)
-        lines = []
-        for first, end, start in found[max(before - 1, 0) :][:SHOWN]:
-            back = "anon" if start.back is None else f"{start.back[0]} {start.back[1]} {start.back[2] * PAGE:#x}"
-            lines.append(f"{first * PAGE:#x}-{end * PAGE:#x} {start.prot} {back}")
-        return lines
+        return [line_of(*mapping) for mapping in found[max(before - 1, 0) :][:SHOWN]]
+
+
+def line_of(first, end, start):
+    """A mapping as `radixvm maps` writes it."""
+    back = "anon" if start.back is None else f"{start.back[0]} {start.back[1]} {start.back[2] * PAGE:#x}"
+    return f"{first * PAGE:#x}-{end * PAGE:#x} {start.prot} {back}"
 
 
 def number_of(word):

@@ -180,7 +180,7 @@ fn explain_text<E: Write>(fault: LitmusFault, kept: &Kept, errors: &mut E) {
         LitmusFault::BadLine(number) => {
             show_number(number, kept, errors);
             expect(
-                "an event in the opening; behind together cC! REQ, final ADDR or a clause",
+                "an event in the opening; behind together cC! REQ, final ADDR, final maps or a clause",
                 errors,
             );
             tell("for example never c1.1 = segv maperr and c1.2 = 2", errors);
@@ -227,6 +227,7 @@ pub(crate) fn explain_litmus<E: Write>(fault: RunFault, kept: &Kept, errors: &mu
             "whole calls cC! REQ, flushes and reviews in the opening",
             errors,
         ),
+        RunFault::NoMaps => expect("a test without final maps", errors),
         RunFault::NoTask => expect(
             "whole calls cC! REQ, flushes and reviews in the opening",
             errors,

@@ -1,5 +1,6 @@
 -- Litmus tests that are run on threads
-use Rattle.std.proofs.Common.{◌≡◌, ℕ, List, inl, inr, Ok, subst}
+use Rattle.std.proofs.Common.{◌≡◌, ℕ, Bool, true, false, not, refl, List, inl, inr, Ok, subst}
+use Rattle.std.specs.Prelude.{◌&&◌}
 use Rattle.std.specs.declared.alloc.Global.{Global}
 use Rattle.trace_io.specs.Lines.{lines_of}
 use Rattle.litmus_text.specs.Scripts.{Read, litmus_of}
@@ -15,9 +16,14 @@ unrun lines r fault is (inl want) = inl (inl want)
 unrun lines r fault is (inr (inl untold)) = inr (inr (inl (r, is, untold)))
 unrun lines r fault is (inr (inr none)) = inr (inr (inr none))
 
+-- what is told with all that is asked for leaves nothing out
+pub told_whole : (maps : Bool) → (maps && not maps) ≡ false
+told_whole true = refl
+told_whole false = refl
+
 -- these counts were judged
 pub told : (limit runs : ℕ) (lines : List (List ℕ)) (r : Read) (found : Outcomes Global) (counts bytes text : List ℕ) (status : ℕ)
-    → litmus_of lines ≡ Ok r → Lists r found → CountsLive r runs counts → bytes ≡ counts → Judges r found limit (lines_of bytes) text status
+    → litmus_of lines ≡ Ok r → Lists r found → CountsLive r runs counts → bytes ≡ counts → Judges r false found limit (lines_of bytes) text status
     → TellsLive limit runs lines text status
 told limit runs lines r found counts bytes text status is lists counted same judges = record {
   test = r;
@@ -26,5 +32,5 @@ told limit runs lines r found counts bytes text status is lists counted same jud
   counted = counted;
   found = found;
   lists = lists;
-  judges = subst (λ b. Judges r found limit (lines_of b) text status) same judges;
+  judges = subst (λ b. Judges r false found limit (lines_of b) text status) same judges;
 }

@@ -1,5 +1,5 @@
 -- A litmus test beside what another system does.
-use Rattle.std.specs.Prelude.{◌≡◌, ◌⊎◌, ℕ, true, false, List, Some, Ok, Err}
+use Rattle.std.specs.Prelude.{◌≡◌, ◌⊎◌, ◌&&◌, ℕ, Bool, true, false, not, List, Some, Ok, Err}
 use Rattle.std.specs.List.{flat_map, list_all}
 use Rattle.trace.specs.Declarations.{Asked}
 use Rattle.trace_io.specs.declared.fault.IoFault.TheVariants as IoOf
@@ -11,16 +11,17 @@ use Rattle.litmus_report.specs.Program.{program_text}
 use Rattle.litmus_report.specs.declared.reporting.Searched.{Searched}
 use Rattle.outcomes.specs.declared.outcome.Outcomes.{Outcomes}
 use Rattle.litmus.specs.Opening.{calls_of, is_called}
-use Rattle.litmus.specs.Tells.{IsLate, Lists, known_of}
+use Rattle.litmus.specs.Tells.{IsLate, Lists, known_with}
 use Rattle.litmus.specs.declared.faults.RunFault.{RunFault}
 use Rattle.litmus.specs.declared.faults.RunFault.TheVariants as Why
 
 -- ---- a program that makes its calls
 
--- The text is the program of the test's files, of its opening's calls, of its lists, and of its final addresses.
+-- Mappings aren't asked for, and the text is the program of the test's files, of its opening's calls, of its lists, and of its final addresses.
 pub record MakesCalls (r : Read) (text : List ℕ) : Type 0 where
   pub asked : Asked
   pub is : r.asked ≡ Some asked
+  pub unmapped : r.maps ≡ false
   pub called : list_all is_called r.opening ≡ true
   pub text_is : text ≡ program_text asked.files (flat_map calls_of r.opening) r.calls r.finals
 
@@ -28,9 +29,14 @@ pub record MakesCalls (r : Read) (text : List ℕ) : Type 0 where
 abbrev pub IsWant : RunFault → Type 0
 IsWant fault = fault ≡ Why.Text (TextOf.Io IoOf.NoMemory)
 
--- want of memory, or an opening with a step that no call makes
+-- mappings are asked for, or the opening has a step that no call makes
+abbrev pub IsNoProgram : Read → RunFault → Type 0
+IsNoProgram r fault =
+    ((r.maps ≡ true) × (fault ≡ Why.NoMaps)) ⊎ ((list_all is_called r.opening ≡ false) × (fault ≡ Why.NoCall))
+
+-- so it is, or memory is wanted
 abbrev pub IsUncalled : Read → RunFault → Type 0
-IsUncalled r fault = IsWant fault ⊎ ((list_all is_called r.opening ≡ false) × (fault ≡ Why.NoCall))
+IsUncalled r fault = IsWant fault ⊎ IsNoProgram r fault
 
 -- the lines are no test
 abbrev pub IsUnread : List (List ℕ) → RunFault → Type 0
@@ -44,18 +50,19 @@ pub record TellsProgram (lines : List (List ℕ)) (text : List ℕ) (status : �
 
 abbrev pub FailsProgram : List (List ℕ) → RunFault → Type 0
 FailsProgram lines fault = IsWant fault ⊎ IsUnread lines fault
-    ⊎ ((test : Read) × (litmus_of lines ≡ Ok test) × (list_all is_called test.opening ≡ false) × (fault ≡ Why.NoCall))
+    ⊎ ((test : Read) × (litmus_of lines ≡ Ok test) × IsNoProgram test fault)
 
 -- ---- counts that another system gave
 
--- The counts are judged by the test's outcomes.
-pub record Judges {A : Type 0} (r : Read) (found : Outcomes A) (limit : ℕ) (counts : List (List ℕ)) (text : List ℕ) (status : ℕ) : Type 0
-  where
-    pub searched : Searched
-    pub whole : searched.whole ≡ found.whole
-    pub limit_is : searched.limit ≡ limit
-    pub text_is : text ≡ counts_text (known_of r found) searched counts
-    pub status_is : status ≡ counts_status (known_of r found) found.whole counts
+-- The counts are judged by the test's outcomes, with the mappings or without; it is told where these are asked for and left out.
+pub record Judges {A : Type 0} (r : Read) (maps : Bool) (found : Outcomes A) (limit : ℕ) (counts : List (List ℕ)) (text : List ℕ)
+    (status : ℕ) : Type 0 where
+  pub searched : Searched
+  pub whole : searched.whole ≡ found.whole
+  pub lacks : searched.lacks_maps ≡ (r.maps && not maps)
+  pub limit_is : searched.limit ≡ limit
+  pub text_is : text ≡ counts_text (known_with maps r found) searched counts
+  pub status_is : status ≡ counts_status (known_with maps r found) found.whole counts
 
 -- want of memory, or a line that is no count
 abbrev pub IsUncounted : List (List ℕ) → RunFault → Type 0
@@ -66,7 +73,7 @@ pub record TellsObserved (A : Type 0) (limit : ℕ) (counts lines : List (List �
   pub is : litmus_of lines ≡ Ok test
   pub found : Outcomes A
   pub lists : Lists test found
-  pub judges : Judges test found limit counts text status
+  pub judges : Judges test test.maps found limit counts text status
 
 abbrev pub FailsObserved : List (List ℕ) → List (List ℕ) → RunFault → Type 0
 FailsObserved counts lines fault = IsLate fault ⊎ IsUnread lines fault

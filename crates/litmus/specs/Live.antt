@@ -33,7 +33,7 @@ IsNoRun fault = (f : LiveTestFault) × (fault ≡ Why.Live f)
 abbrev pub IsUnrun : Read → RunFault → Type 0
 IsUnrun r fault = IsWant fault ⊎ (IsUntold r fault ⊎ IsNoRun fault)
 
--- These counts are judged by the test's outcomes.
+-- These counts, which have no mappings, are judged by the test's outcomes.
 pub record TellsLive (limit runs : ℕ) (lines : List (List ℕ)) (text : List ℕ) (status : ℕ) : Type 0 where
   pub test : Read
   pub is : litmus_of lines ≡ Ok test
@@ -41,7 +41,7 @@ pub record TellsLive (limit runs : ℕ) (lines : List (List ℕ)) (text : List �
   pub counted : CountsLive test runs counts
   pub found : Outcomes Global
   pub lists : Lists test found
-  pub judges : Judges test found limit (lines_of counts) text status
+  pub judges : Judges test false found limit (lines_of counts) text status
 
 abbrev pub FailsLive : List (List ℕ) → RunFault → Type 0
 FailsLive lines fault = IsLate fault

@@ -1,5 +1,5 @@
 -- What is told of a litmus test.
-use Rattle.std.specs.Prelude.{◌≡◌, ◌⊎◌, ℕ, ◌+◌, List, map, slice_get, is_some, Some, Vec, Ok, Err}
+use Rattle.std.specs.Prelude.{◌≡◌, ◌⊎◌, ℕ, ◌+◌, Bool, false, List, map, slice_get, is_some, Some, Vec, Ok, Err}
 use Rattle.std.specs.List.{flat_map}
 use Rattle.machine_model.specs.declared.event.Event.{Event}
 use Rattle.trace.specs.Declarations.{Asked, made_by}
@@ -23,17 +23,21 @@ use Rattle.litmus.specs.declared.telling.View.TheVariants as Shown
 
 -- an outcome as it is told
 abbrev pub ended : {A : Type 0} → Outcome A → Ended
-ended o = record { replies = o.replies.items; finals = o.finals.items; reached = is_some o.witness }
+ended o = record { replies = o.replies.items; finals = o.finals.items; maps = o.maps.items; reached = is_some o.witness }
 
 -- The outcomes are those of the test's calls behind its opening, on the machine that it declares.
 pub record Lists {A : Type 0} (r : Read) (found : Outcomes A) : Type 0 where
   pub asked : Asked
   pub is : r.asked ≡ Some asked
   pub opening : AreLines (flat_map opened_of r.opening) found.opening.items
-  pub outcomes : AreOutcomes (made_by asked) r.calls r.finals found
+  pub outcomes : AreOutcomes (made_by asked) r.calls r.finals r.maps found
+
+-- what is known of them, with the mappings or without
+abbrev pub known_with : {A : Type 0} → Bool → Read → Outcomes A → Known
+known_with maps r found = record { calls = r.calls; addrs = r.finals; maps = maps; outcomes = map ended found.list.items }
 
 abbrev pub known_of : {A : Type 0} → Read → Outcomes A → Known
-known_of r found = record { calls = r.calls; addrs = r.finals; outcomes = map ended found.list.items }
+known_of r found = known_with r.maps r found
 
 -- The text is the report of the test's outcomes in the order of their texts.
 pub record Reports {A : Type 0} (name : List ℕ) (r : Read) (found : Outcomes A) (limit : ℕ) (text : List ℕ) : Type 0 where
@@ -41,6 +45,7 @@ pub record Reports {A : Type 0} (name : List ℕ) (r : Read) (found : Outcomes A
   pub order : AreSorted (texts_of (known_of r found)) rows
   pub searched : Searched
   pub whole : searched.whole ≡ found.whole
+  pub lacks : searched.lacks_maps ≡ false
   pub limit_is : searched.limit ≡ limit
   pub is : text ≡ report_text name (known_of r found) searched r.clauses (map row_text rows)
 
@@ -48,7 +53,7 @@ pub record Reports {A : Type 0} (name : List ℕ) (r : Read) (found : Outcomes A
 pub record ListsAll {A : Type 0} (r : Read) (found : Outcomes A) (text : List ℕ) : Type 0 where
   pub rows : List (Vec ℕ A × ℕ)
   pub order : AreSorted (texts_of (known_of r found)) rows
-  pub is : text ≡ flat_map (λ row. row_line (map ended found.list.items) row.1) rows
+  pub is : text ≡ flat_map (λ row. row_line r.maps (map ended found.list.items) row.1) rows
 
 -- The text is a trace of a witness of the outcome with this number in that order.
 pub record Witnesses {A : Type 0} (r : Read) (found : Outcomes A) (number : ℕ) (text : List ℕ) : Type 0 where

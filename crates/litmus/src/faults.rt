@@ -25,6 +25,9 @@ pub enum RunFault {
     /// The opening has a step that no call to a kernel makes.
     #[error("the opening has a step that no call to a kernel makes")]
     NoCall,
+    /// The mappings are asked for, which a program in C can't tell.
+    #[error("a program in C can't tell the mappings")]
+    NoMaps,
     /// The opening has a step that no thread can be told to take.
     #[error("the opening has a step that no thread can be told to take")]
     NoTask,

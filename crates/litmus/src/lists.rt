@@ -1,9 +1,10 @@
 //! Outcomes for other programs: one in a line, divided by tabs.
 ghost use Rattle.std.specs.Prelude.{◌≡◌, ◌++◌, IfOk, OnOk, map};
 ghost use Rattle.std.specs.List.{flat_map};
-ghost use Rattle.litmus.specs.Lists.{cell_text, cells_text, list_line, row_line};
+ghost use Rattle.litmus.specs.Lists.{cell_text, cells_text, list_line, maps_cell, row_line};
 
-use litmus_report::{Ended, Row};
+use litmus_report::{Ended, Row, add_mappings};
+use slot_lock::MapLine;
 use std::alloc::Allocator;
 use trace_text::{LineText, push_reply};
 use vm_base::{NoMemory, Reply};
@@ -41,12 +42,32 @@ fn add_cells<A: Allocator>(
     Ok(())
 }
 
+// Appends the mappings, where they are asked for, with a tab in front.
+fn add_maps<A: Allocator>(
+    out: &mut Vec<u8, A>,
+    maps: bool,
+    lines: &[MapLine],
+) -> Result<(), NoMemory>
+    ensures { OnOk result (out.new.items ≡ out.old.items ++ maps_cell maps lines.now) }
+{
+    if !maps {
+        return Ok(());
+    }
+    out.extend_from_slice("\t".as_bytes())?;
+    add_mappings(out, lines)
+}
+
 // Appends the line of an outcome.
-fn add_line<T: Ended, A: Allocator>(out: &mut Vec<u8, A>, outcome: &T) -> Result<(), NoMemory>
-    ensures { OnOk result (out.new.items ≡ out.old.items ++ list_line (T.outcome outcome.now)) }
+fn add_line<T: Ended, A: Allocator>(
+    out: &mut Vec<u8, A>,
+    maps: bool,
+    outcome: &T,
+) -> Result<(), NoMemory>
+    ensures { OnOk result (out.new.items ≡ out.old.items ++ list_line maps (T.outcome outcome.now)) }
 {
     add_cells(out, outcome.replies(), true)?;
     add_cells(out, outcome.finals(), false)?;
+    add_maps(out, maps, outcome.maps())?;
     if !outcome.is_reached() {
         out.extend_from_slice("\topen".as_bytes())?;
     }
@@ -57,29 +78,31 @@ fn add_line<T: Ended, A: Allocator>(out: &mut Vec<u8, A>, outcome: &T) -> Result
 // Appends the line of a row's outcome.
 fn add_row<T: Ended, A: Allocator>(
     out: &mut Vec<u8, A>,
+    maps: bool,
     outcomes: &[T],
     place: usize,
 ) -> Result<(), NoMemory>
-    ensures { OnOk result (out.new.items ≡ out.old.items ++ row_line (map T.outcome outcomes.now) place) }
+    ensures { OnOk result (out.new.items ≡ out.old.items ++ row_line maps (map T.outcome outcomes.now) place) }
 {
     match outcomes.get(place) {
-        Some(outcome) => add_line(out, outcome),
+        Some(outcome) => add_line(out, maps, outcome),
         None => Ok(()),
     }
 }
 
-/// The outcomes in the order of these rows: in a line the replies, what loads of the final addresses show, and `open` where it isn't
-/// known to come about, divided by tabs.
+/// The outcomes in the order of these rows: in a line the replies, what loads of the final addresses show, the mappings where they are
+/// asked for, and `open` where it isn't known to come about, divided by tabs.
 pub(crate) fn list_text<T: Ended, A: Allocator + Clone>(
     alloc: &A,
+    maps: bool,
     outcomes: &[T],
     rows: &[Row<A>],
 ) -> Result<Vec<u8, A>, NoMemory>
-    ensures { IfOk result (λ text. text.items ≡ flat_map (λ row. row_line (map T.outcome outcomes.now) row.1) rows.now) }
+    ensures { IfOk result (λ text. text.items ≡ flat_map (λ row. row_line maps (map T.outcome outcomes.now) row.1) rows.now) }
 {
     let mut out: Vec<u8, A> = Vec::new(alloc.clone()?);
     for row in rows {
-        add_row(&mut out, outcomes, row.1)?;
+        add_row(&mut out, maps, outcomes, row.1)?;
     }
     Ok(out)
 }

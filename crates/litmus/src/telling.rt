@@ -1,5 +1,5 @@
 //! What is told of a litmus test.
-ghost use Rattle.std.specs.Prelude.{◌≡◌, IfErr, IfOk};
+ghost use Rattle.std.specs.Prelude.{◌≡◌, ◌&&◌, IfErr, IfOk, not};
 ghost use Rattle.trace_io.specs.Lines.{lines_of};
 ghost use Rattle.litmus_text.specs.Scripts.{read_of};
 ghost use Rattle.litmus_report.specs.Reports.{AreSorted, texts_of};
@@ -85,6 +85,7 @@ fn outcomes_of<A: Allocator + Clone + Drop>(
         opening.as_slice(),
         script.calls.as_slice(),
         script.finals.as_slice(),
+        script.maps,
         limit,
     ) {
         Ok(found) => Ok(found),
@@ -135,9 +136,15 @@ fn witness_text<A: Allocator + Clone>(
     }
 }
 
-// How the search for outcomes ended.
-fn searched_of<A: Allocator>(script: &Script<A>, found: &Outcomes<A>, limit: usize) -> Searched
+// How the search for outcomes ended, which are told with the mappings or without.
+fn searched_of<A: Allocator>(
+    script: &Script<A>,
+    found: &Outcomes<A>,
+    maps: bool,
+    limit: usize,
+) -> Searched
     ensures whole { result.whole ≡ found.now.whole }
+    ensures lacks { result.lacks_maps ≡ ((read_of script.now).maps && not maps) }
     ensures limit { result.limit ≡ limit }
 {
     let lacks_frames = may_lack(
@@ -148,6 +155,7 @@ fn searched_of<A: Allocator>(script: &Script<A>, found: &Outcomes<A>, limit: usi
     Searched {
         whole: found.whole,
         lacks_frames,
+        lacks_maps: script.maps && !maps,
         limit: limit as u64,
     }
 }
@@ -167,8 +175,9 @@ fn report_text<A: Allocator + Clone>(
     let named = Named {
         calls: script.calls.as_slice(),
         addrs: script.finals.as_slice(),
+        maps: script.maps,
     };
-    let searched = searched_of(script, found, limit);
+    let searched = searched_of(script, found, script.maps, limit);
     let text = report(
         alloc,
         name,
@@ -190,6 +199,9 @@ fn program_text<A: Allocator + Clone>(alloc: &A, script: &Script<A>) -> Result<V
     let Some(declaration) = &script.declaration else {
         return Err(NO_MEMORY);
     };
+    if script.maps {
+        return Err(RunFault::NoMaps);
+    }
     if !are_called(script.opening.as_slice()) {
         return Err(RunFault::NoCall);
     }
@@ -214,22 +226,25 @@ fn program_text<A: Allocator + Clone>(alloc: &A, script: &Script<A>) -> Result<V
     }
 }
 
-// What counts come to beside the outcomes of a test.
+// What counts come to beside the outcomes of a test, with the mappings or without.
 fn judged<A: Allocator + Clone>(
     alloc: &A,
     script: &Script<A>,
     found: &Outcomes<A>,
     counts: &[u8],
+    maps: bool,
     limit: usize,
 ) -> Result<Told<A>, RunFault>
-    ensures ok { IfOk result (λ told. Judges (read_of script.now) found.now limit (lines_of counts.now) told.text.items told.status) }
+    ensures ok { IfOk result (λ told. Judges (read_of script.now) maps found.now limit (lines_of counts.now) told.text.items
+        told.status) }
     ensures err { IfErr result IsWant }
 {
     let named = Named {
         calls: script.calls.as_slice(),
         addrs: script.finals.as_slice(),
+        maps,
     };
-    let searched = searched_of(script, found, limit);
+    let searched = searched_of(script, found, maps, limit);
     match judge_counts(alloc, &named, found.list.as_slice(), searched, counts) {
         Ok(judged) => Ok(Told {
             text: judged.text,
@@ -247,13 +262,14 @@ fn counts_told<A: Allocator + Clone>(
     counts: &[u8],
     limit: usize,
 ) -> Result<Told<A>, RunFault>
-    ensures ok { IfOk result (λ told. Judges (read_of script.now) found.now limit (lines_of counts.now) told.text.items told.status) }
+    ensures ok { IfOk result (λ told. Judges (read_of script.now) (read_of script.now).maps found.now limit (lines_of counts.now)
+        told.text.items told.status) }
     ensures err { IfErr result (IsUncounted (lines_of counts.now)) }
 {
     if let Some(number) = bad_count(counts) {
         return Err(RunFault::BadCount(number));
     }
-    match judged(alloc, script, found, counts, limit) {
+    match judged(alloc, script, found, counts, script.maps, limit) {
         Ok(told) => Ok(told),
         Err(fault) => Err(fault),
     }
@@ -314,6 +330,7 @@ fn show_test<A: Allocator + Clone + Drop>(
     let named = Named {
         calls: script.calls.as_slice(),
         addrs: script.finals.as_slice(),
+        maps: script.maps,
     };
     let outcomes = found.list.as_slice();
     let Ok(rows) = in_order(alloc, &named, outcomes) else {
@@ -324,7 +341,7 @@ fn show_test<A: Allocator + Clone + Drop>(
             Ok(text) => Ok(text),
             Err(_) => Err(NO_MEMORY),
         },
-        View::List => match list_text(alloc, outcomes, rows.as_slice()) {
+        View::List => match list_text(alloc, script.maps, outcomes, rows.as_slice()) {
             Ok(text) => Ok(text),
             Err(_) => Err(NO_MEMORY),
         },
@@ -339,6 +356,7 @@ fn status_at<A: Allocator>(script: &Script<A>, found: &Outcomes<A>, view: View) 
     let named = Named {
         calls: script.calls.as_slice(),
         addrs: script.finals.as_slice(),
+        maps: script.maps,
     };
     match view {
         View::Report | View::List => status_of(
@@ -381,7 +399,7 @@ pub fn tell_litmus<A: Allocator + Clone + Drop>(
 }
 
 /// Reads the text of a litmus test, and answers a program that makes its calls to a kernel, as C; the status is 0. `Err` tells the text's
-/// first fault, an opening with a step that no call to a kernel makes, or want of memory.
+/// first fault, that it asks for the mappings, an opening with a step that no call to a kernel makes, or want of memory.
 pub fn tell_program<A: Allocator + Clone + Drop>(
     alloc: &A,
     text: &[u8],
@@ -400,8 +418,8 @@ pub fn tell_program<A: Allocator + Clone + Drop>(
 }
 
 /// Reads the text of a litmus test, lists its outcomes, of at most `limit` points of merges, and answers the counts again that another
-/// system gave, each marked where its outcome isn't listed; the status is 1 where one isn't, but 3 where not all outcomes are known.
-/// `Err` tells the first line of the counts that is bad, or a fault as `tell_litmus` does.
+/// system gave, each marked where its outcome, with its mappings where they are asked for, isn't listed; the status is 1 where one
+/// isn't, but 3 where not all outcomes are known. `Err` tells the first line of the counts that is bad, or a fault as `tell_litmus` does.
 pub fn tell_observed<A: Allocator + Clone + Drop>(
     alloc: &A,
     text: &[u8],
@@ -426,7 +444,7 @@ pub fn tell_observed<A: Allocator + Clone + Drop>(
 }
 
 /// Reads the text of a litmus test, lists its outcomes, of at most `limit` points of merges, runs it so often on threads, certifies each
-/// run, and answers how often each outcome came, marked where it isn't listed; the status is 1 where one isn't, but 3 where not all
+/// run, and answers how often each outcome came, without the mappings, marked where none such is listed; the status is 1 where one isn't, but 3 where not all
 /// outcomes are known. `Err` tells the text's first fault, an opening with a step that no thread can be told to take or that leaves a
 /// call open, why a run came to no outcome, or want of memory.
 pub fn tell_live<R: Threads + Wait + Sync>(
@@ -451,7 +469,7 @@ pub fn tell_live<R: Threads + Wait + Sync>(
         Ok(counts) => counts,
         Err(fault) => return Err(fault),
     };
-    match judged(alloc, &script, &found, counts.as_slice(), limit) {
+    match judged(alloc, &script, &found, counts.as_slice(), false, limit) {
         Ok(told) => Ok(told),
         Err(fault) => Err(fault),
     }

@@ -1,5 +1,5 @@
 -- What comes out of runs of a litmus test on threads
-use Rattle.std.specs.Prelude.{◌≡◌, ℕ, List, [], ◌∷◌, ◌++◌, All, length, map, true}
+use Rattle.std.specs.Prelude.{◌≡◌, ℕ, List, [], ◌∷◌, ◌++◌, All, false, length, map, true}
 use Rattle.vm_base.specs.declared.replies.Reply.{Reply}
 use Rattle.slot_lock.specs.Slots.{Slots}
 use Rattle.machine_model.specs.declared.event.Event.{Event}
@@ -57,9 +57,9 @@ pub record Shown : Type 0 where
   pub replies : List Reply
   pub finals : List Reply
 
--- its text
+-- its text, without mappings
 abbrev pub text_of : List Asked → List ℕ → Shown → List ℕ
-text_of calls addrs s = outcome_text calls addrs (record { replies = s.replies; finals = s.finals; reached = true })
+text_of calls addrs s = outcome_text calls addrs false (record { replies = s.replies; finals = s.finals; maps = []; reached = true })
 
 -- so many runs came to these texts, one after another
 pub record ComeTo (declared : Declared) (before calls loads : List Asked) (addrs : List ℕ) (runs : ℕ) (texts : List (List ℕ)) : Type 0 where

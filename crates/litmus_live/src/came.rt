@@ -4,6 +4,7 @@ ghost use Rattle.std.specs.Prelude.{true};
 use combinations::Asked;
 use litmus_report::Ended;
 use notes_text::ScriptLine;
+use slot_lock::MapLine;
 use trace::declaration::Declaration;
 use vm_base::Reply;
 
@@ -32,9 +33,9 @@ pub struct Came {
 }
 
 impl Ended for Came {
-    ghost use Rattle.std.specs.Prelude.{true};
+    ghost use Rattle.std.specs.Prelude.{[], true};
 
-    ghost outcome = { λ o. record { replies = o.replies.items; finals = o.finals.items; reached = true } };
+    ghost outcome = { λ o. record { replies = o.replies.items; finals = o.finals.items; maps = []; reached = true } };
 
     fn replies(&self) -> &[Reply] {
         self.replies.as_slice()
@@ -42,6 +43,11 @@ impl Ended for Came {
 
     fn finals(&self) -> &[Reply] {
         self.finals.as_slice()
+    }
+
+    fn maps(&self) -> &[MapLine] {
+        // (threads tell of no mappings)
+        &[]
     }
 
     fn is_reached(&self) -> bool {

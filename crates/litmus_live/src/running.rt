@@ -226,12 +226,13 @@ fn run_often<R: Threads + Wait + Sync>(
     addrs: &[u64],
     runs: u64,
 ) -> Result<Vec<Vec<u8>>, LiveTestFault>
-    ensures { IfOk result (λ texts. ComeTo test.now.declared.now test.now.before.now test.now.calls.now test.now.loads.now addrs.now runs
-        (map bytes_of texts.items)) }
+    ensures { IfOk result (λ texts. ComeTo test.now.declared.now test.now.before.now test.now.calls.now test.now.loads.now
+        addrs.now runs (map bytes_of texts.items)) }
 {
     let named = Named {
         calls: test.calls,
         addrs,
+        maps: false,
     };
     let mut texts = Vec::new(alloc);
     'runs: for _run in 0..runs {
@@ -246,7 +247,7 @@ fn run_often<R: Threads + Wait + Sync>(
 
 /// Runs the test so often, each time in a new space: its opening in order, then each core's list on a thread of the core's own, or
 /// one core after another where no thread can be made, and then loads of these addresses by core 0. Each run is certified, and read
-/// again in the order of its tickets. Answers lines `COUNT: OUTCOME`, each outcome once, in the order in which they came. `Err` says
+/// again in the order of its tickets. Mappings aren't looked at. Answers lines `COUNT: OUTCOME`, each outcome once, in the order in which they came. `Err` says
 /// why a run came to none.
 pub fn count_runs<R: Threads + Wait + Sync>(
     rt: &R,

@@ -5,7 +5,7 @@ use Rattle.std.specs.List.{flat_map, list_any}
 use Rattle.std.specs.Str.{bytes_eq}
 use Rattle.combinations.specs.declared.asked.Asked.{Asked}
 use Rattle.litmus_report.specs.Reports.{Known, are_reached, end_text}
-use Rattle.litmus_report.specs.Texts.{finals_text, replies_text}
+use Rattle.litmus_report.specs.Texts.{finals_text, if_mapped, replies_text}
 use Rattle.litmus_report.specs.Verdicts.{Outcome}
 use Rattle.litmus_report.specs.declared.counting.Mark.{Mark}
 use Rattle.litmus_report.specs.declared.counting.Mark.TheVariants.{Passed, Bad, Listed, Outside}
@@ -49,11 +49,11 @@ bad_line number (line ∷ lines) = if is_bad line then Some number else bad_line
 -- ---- beside the outcomes that are listed
 
 -- an outcome, as a count has it: nothing is said of whether it is known to come about
-abbrev pub plain_text : List Asked → List ℕ → Outcome → List ℕ
-plain_text calls addrs o = replies_text 64 calls o.replies ++ finals_text addrs o.finals
+abbrev pub plain_text : List Asked → List ℕ → Bool → Outcome → List ℕ
+plain_text calls addrs maps o = replies_text 64 calls o.replies ++ finals_text addrs o.finals ++ if_mapped maps o.maps
 
 abbrev pub plain_texts : Known → List (List ℕ)
-plain_texts k = map (plain_text k.calls k.addrs) k.outcomes
+plain_texts k = map (plain_text k.calls k.addrs k.maps) k.outcomes
 
 -- the bytes of a text
 abbrev pub bytes_of : {A : Type 0} → Vec ℕ A → List ℕ

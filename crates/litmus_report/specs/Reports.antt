@@ -45,21 +45,23 @@ numbered n (text ∷ texts) = decimal n ++ codes ": " ++ text ++ codes "\n" ++ n
 -- whether the outcomes are all, and each is known to come about
 abbrev pub end_text : Searched → Bool → List ℕ
 end_text s exact = if not s.whole then codes "stopped at the limit of " ++ decimal s.limit ++ codes " points\n"
-    else (if s.lacks_frames then codes "noframe is left out\n" else []) ++ (if exact then codes "exact\n" else codes "open\n")
+    else (if s.lacks_frames then codes "noframe is left out\n" else []) ++ (if s.lacks_maps then codes "maps are left out\n" else [])
+    ++ (if exact then codes "exact\n" else codes "open\n")
 
--- what is known of the outcomes of which a clause speaks
+-- what is known of the outcomes of which a clause speaks, and whether mappings belong to them
 pub record Known : Type 0 where
   pub calls : List Asked
   pub addrs : List ℕ
+  pub maps : Bool
   pub outcomes : List Outcome
 
 -- by what the facts of clauses are about
 abbrev pub known : Named → List Outcome → Known
-known named outcomes = record { calls = named.calls.now; addrs = named.addrs.now; outcomes = outcomes }
+known named outcomes = record { calls = named.calls.now; addrs = named.addrs.now; maps = named.maps; outcomes = outcomes }
 
 -- the texts of the outcomes
 abbrev pub texts_of : Known → List (List ℕ)
-texts_of k = map (outcome_text k.calls k.addrs) k.outcomes
+texts_of k = map (outcome_text k.calls k.addrs k.maps) k.outcomes
 
 abbrev pub verdict_on : Known → Bool → Claim → Verdict
 verdict_on k whole c = judged c.quantifier (condition_holds k.calls k.addrs c.terms) k.outcomes whole

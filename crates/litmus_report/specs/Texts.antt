@@ -1,8 +1,10 @@
 -- What is written of the outcomes of a litmus test.
-use Rattle.std.specs.Prelude.{◌≡◌, ℕ, suc, ◌+◌, Bool, true, false, not, ◌&&◌, List, [], ◌∷◌, ◌++◌, codes, decimal, length, map}
+use Rattle.std.specs.Prelude.{◌≡◌, ℕ, suc, ◌+◌, ◌-◌, take, Bool, true, false, not, ◌&&◌, List, [], ◌∷◌, ◌++◌, codes, decimal, length, map}
 use Rattle.std.specs.Prelude.{if◌then◌else◌, ◌==◌, IsPermutation}
 use Rattle.std.specs.List.{list_all}
 use Rattle.vm_base.specs.declared.replies.Reply.{Reply}
+use Rattle.slot_lock.specs.declared.map_list.MapLine.{MapLine}
+use Rattle.trace.specs.Listing.{mapping_text}
 use Rattle.combinations.specs.declared.asked.Asked.{Asked}
 use Rattle.trace_text.specs.Printing.{address_of, text_of}
 use Rattle.notes_text.specs.Written.{core_word}
@@ -40,12 +42,32 @@ finals_text [] finals = []
 finals_text (addr ∷ addrs) [] = []
 finals_text (addr ∷ addrs) (reply ∷ finals) = final_text addr reply ++ finals_text addrs finals
 
+-- a mapping, as the list of mappings has it, but for the newline
+abbrev pub mapped_text : MapLine → List ℕ
+mapped_text line = take (length (mapping_text line) - 1) (mapping_text line)
+
+-- mappings behind the first
+abbrev pub more_mapped : List MapLine → List ℕ
+more_mapped [] = []
+more_mapped (line ∷ lines) = codes " | " ++ mapped_text line ++ more_mapped lines
+
+-- `0x10000-0x11000 rw- anon | 0x12000-0x13000 r-- anon`
+abbrev pub all_mapped : List MapLine → List ℕ
+all_mapped [] = codes "nothing"
+all_mapped (line ∷ lines) = mapped_text line ++ more_mapped lines
+
+-- `; maps ` and the mappings, where they are asked for
+abbrev pub if_mapped : Bool → List MapLine → List ℕ
+if_mapped true lines = codes "; maps " ++ all_mapped lines
+if_mapped false lines = []
+
 abbrev pub reached_text : Bool → List ℕ
 reached_text true = []
 reached_text false = codes " (open)"
 
-abbrev pub outcome_text : List Asked → List ℕ → Outcome → List ℕ
-outcome_text calls addrs o = replies_text 64 calls o.replies ++ finals_text addrs o.finals ++ reached_text o.reached
+abbrev pub outcome_text : List Asked → List ℕ → Bool → Outcome → List ℕ
+outcome_text calls addrs maps o =
+    replies_text 64 calls o.replies ++ finals_text addrs o.finals ++ if_mapped maps o.maps ++ reached_text o.reached
 
 -- ---- a clause
 

@@ -7,6 +7,7 @@ use Rattle.vm_base.specs.declared.replies.Errno.TheVariants.{EINVAL, ENOMEM, EAC
 use Rattle.vm_base.specs.declared.replies.SegvCode.{SegvCode}
 use Rattle.vm_base.specs.declared.replies.SegvCode.TheVariants.{MapErr, AccErr}
 use Rattle.vm_base.specs.declared.replies.Reply.{Reply}
+use Rattle.slot_lock.specs.declared.map_list.MapLine.{MapLine}
 use Rattle.vm_base.specs.declared.replies.Reply.TheVariants.{Mapped, Done, Byte, Refused, Segv, Bus, NoFrame, NoMemory}
 use Rattle.combinations.specs.declared.asked.Asked.{Asked}
 use Rattle.litmus_text.specs.Places.{call_at}
@@ -53,10 +54,12 @@ is_given (Some given) reply = is_reply given reply
 
 -- ---- an outcome
 
--- the replies to the calls, in their order, what loads of the final addresses show, and whether it is known to come about
+-- the replies to the calls, in their order, what loads of the final addresses show, the mappings in the end, where they are asked for,
+-- and whether it is known to come about
 pub record Outcome : Type 0 where
   pub replies : List Reply
   pub finals : List Reply
+  pub maps : List MapLine
   pub reached : Bool
 
 -- the place of an address among others, the first that it has

@@ -2,6 +2,7 @@
 #![tactic(auto)]
 
 pub mod counting;
+mod mappings;
 mod outcome;
 pub mod program;
 mod program_text;
@@ -11,6 +12,7 @@ pub mod verdict;
 pub mod witness;
 
 pub use counting::{Judged, bad_count, judge_counts};
+pub use mappings::add_mappings;
 pub use program::{Program, program_of};
 pub use reporting::{Row, Searched, in_order, report, status_of};
 pub use texts::outcome_text;

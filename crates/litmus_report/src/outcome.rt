@@ -3,13 +3,14 @@ ghost use Rattle.std.specs.Prelude.{is_some};
 
 use crate::verdict::Ended;
 use outcomes::Outcome;
+use slot_lock::MapLine;
 use std::alloc::Allocator;
 use vm_base::Reply;
 
 impl<A: Allocator> Ended for Outcome<A> {
     ghost use Rattle.std.specs.Prelude.{is_some};
 
-    ghost outcome = { λ o. record { replies = o.replies.items; finals = o.finals.items; reached = is_some o.witness } };
+    ghost outcome = { λ o. record { replies = o.replies.items; finals = o.finals.items; maps = o.maps.items; reached = is_some o.witness } };
 
     fn replies(&self) -> &[Reply] {
         self.replies.as_slice()
@@ -17,6 +18,10 @@ impl<A: Allocator> Ended for Outcome<A> {
 
     fn finals(&self) -> &[Reply] {
         self.finals.as_slice()
+    }
+
+    fn maps(&self) -> &[MapLine] {
+        self.maps.as_slice()
     }
 
     fn is_reached(&self) -> bool {

@@ -8,6 +8,7 @@ ghost use Rattle.litmus_report.specs.Texts.{often_text};
 ghost use Rattle.litmus_report.specs.Counts.{plain_text};
 ghost use Rattle.litmus_report.specs.Texts.{observation_text, outcome_text, quantifier_text, reached_text, replies_text, terms_text, verdict_text};
 
+use crate::mappings::add_if_mapped;
 use crate::verdict::{Ended, Named, Verdict};
 use combinations::Asked;
 use litmus_text::facts::{Fact, Joint, Term};
@@ -132,18 +133,19 @@ fn reached_word(is_reached: bool) -> &'static str
     if is_reached { "" } else { " (open)" }
 }
 
-/// The text of an outcome: `c0 done; c1 1, 2`, behind it `; ADDR BYTE` for each final address, and ` (open)` where it isn't known to
-/// come about.
+/// The text of an outcome: `c0 done; c1 1, 2`, behind it `; ADDR BYTE` for each final address, `; maps ` and the mappings where they
+/// are asked for, and ` (open)` where it isn't known to come about.
 pub fn outcome_text<T: Ended, A: Allocator>(
     alloc: A,
     named: &Named<'_>,
     outcome: &T,
 ) -> Result<Vec<u8, A>, NoMemory>
-    ensures { IfOk result (λ text. text.items ≡ outcome_text named.now.calls.now named.now.addrs.now (T.outcome outcome.now)) }
+    ensures { IfOk result (λ text. text.items ≡ outcome_text named.now.calls.now named.now.addrs.now named.now.maps (T.outcome outcome.now)) }
 {
     let mut out: Vec<u8, A> = Vec::new(alloc);
     add_replies(&mut out, named.calls, outcome.replies())?;
     add_finals(&mut out, named.addrs, outcome.finals())?;
+    add_if_mapped(&mut out, named.maps, outcome.maps())?;
     add_text(&mut out, reached_word(outcome.is_reached()))?;
     Ok(out)
 }
@@ -154,11 +156,12 @@ pub(crate) fn plain_text<T: Ended, A: Allocator>(
     named: &Named<'_>,
     outcome: &T,
 ) -> Result<Vec<u8, A>, NoMemory>
-    ensures { IfOk result (λ text. text.items ≡ plain_text named.now.calls.now named.now.addrs.now (T.outcome outcome.now)) }
+    ensures { IfOk result (λ text. text.items ≡ plain_text named.now.calls.now named.now.addrs.now named.now.maps (T.outcome outcome.now)) }
 {
     let mut out: Vec<u8, A> = Vec::new(alloc);
     add_replies(&mut out, named.calls, outcome.replies())?;
     add_finals(&mut out, named.addrs, outcome.finals())?;
+    add_if_mapped(&mut out, named.maps, outcome.maps())?;
     Ok(out)
 }
 

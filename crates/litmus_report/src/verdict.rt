@@ -10,6 +10,7 @@ use combinations::Asked;
 use litmus_text::facts::{Fact, Joint, Term};
 use litmus_text::kinds::Quantifier;
 use litmus_text::places::call_at;
+use slot_lock::MapLine;
 use vm_base::{CoreId, Errno, Reply, SegvCode};
 
 /// What a clause comes to.
@@ -39,16 +40,22 @@ pub trait Ended {
     fn finals(&self) -> &[Reply]
         ensures { result.now ≡ (outcome self.now).finals };
 
+    /// All mappings in the end, in order, where they were asked for.
+    fn maps(&self) -> &[MapLine]
+        ensures { result.now ≡ (outcome self.now).maps };
+
     /// Tells whether it is known to come about.
     fn is_reached(&self) -> bool
         ensures { result ≡ (outcome self.now).reached };
 }
 
-/// What the facts of a clause are about: the calls of the lists, and the final addresses.
+/// What an outcome tells of, and what the facts of a clause are about: the calls of the lists, and the final addresses; and whether
+/// the mappings in the end belong to an outcome.
 #[derive(Clone, Copy, Debug)]
 pub struct Named<'a> {
     pub calls: &'a [Asked],
     pub addrs: &'a [u64],
+    pub maps: bool,
 }
 
 fn is_errno(one: Errno, other: Errno) -> bool

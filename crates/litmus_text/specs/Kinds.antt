@@ -30,6 +30,11 @@ abbrev pub has_none : List Word → Bool
 has_none [] = true
 has_none (w ∷ ws) = false
 
+-- the word `maps`, and no other
+abbrev pub is_maps : List Word → Bool
+is_maps [] = false
+is_maps (name ∷ args) = if bytes_eq name (codes "maps") then has_none args else false
+
 -- the line `together`
 abbrev pub is_together : List Word → Bool
 is_together [] = false

@@ -14,7 +14,7 @@ use Rattle.trace_text.specs.declared.line.Line.{Line}
 use Rattle.trace_text.specs.declared.line.Line.TheVariants as Of
 use Rattle.trace.specs.Declarations.{Asked, asks_for, is_next, with_file, asked_fault}
 use Rattle.litmus_text.specs.Facts.{terms_of}
-use Rattle.litmus_text.specs.Kinds.{args_of, has_none, has_together, kind_of}
+use Rattle.litmus_text.specs.Kinds.{args_of, has_none, has_together, is_maps, kind_of}
 use Rattle.litmus_text.specs.Places.{call_at}
 use Rattle.litmus_text.specs.declared.facts.Fact.{Fact}
 use Rattle.litmus_text.specs.declared.facts.Fact.TheVariants.{Has, Lacks, Shows}
@@ -35,7 +35,7 @@ pub record Claim : Type 0 where
 
 -- What the lines so far say: what they declare; whether a line stands behind the declaration; whether the lists have begun, or the text has
 -- no opening; the lines of the declaration and of the opening as they stand; the opening; the calls of the lists; the
--- addresses of `final` lines; and the clauses.
+-- addresses of `final` lines, and whether one asks for the mappings; and the clauses.
 pub record Read : Type 0 where
   pub asked : Option Asked
   pub begun : Bool
@@ -44,6 +44,7 @@ pub record Read : Type 0 where
   pub opening : List Line
   pub calls : List Call
   pub finals : List ℕ
+  pub maps : Bool
   pub clauses : List Claim
 
 -- nothing yet, and whether the text has no opening
@@ -56,6 +57,7 @@ unread together = record {
   opening = [];
   calls = [];
   finals = [];
+  maps = false;
   clauses = [];
 }
 
@@ -89,6 +91,7 @@ declares r asked line = record {
   opening = r.opening;
   calls = r.calls;
   finals = r.finals;
+  maps = r.maps;
   clauses = r.clauses;
 }
 
@@ -102,6 +105,7 @@ opens r said line = record {
   opening = r.opening ++ said ∷ [];
   calls = r.calls;
   finals = r.finals;
+  maps = r.maps;
   clauses = r.clauses;
 }
 
@@ -115,7 +119,22 @@ goes_on r calls finals clauses = record {
   opening = r.opening;
   calls = r.calls ++ calls;
   finals = r.finals ++ finals;
+  maps = r.maps;
   clauses = r.clauses ++ clauses;
+}
+
+-- with that the mappings are asked for
+abbrev pub asks_maps : Read → Read
+asks_maps r = record {
+  asked = r.asked;
+  begun = true;
+  together = true;
+  front = r.front;
+  opening = r.opening;
+  calls = r.calls;
+  finals = r.finals;
+  maps = true;
+  clauses = r.clauses;
 }
 
 -- the `vm` line is the first, and else there may be a fault of what is declared
@@ -139,6 +158,13 @@ together_after number r args = if r.together then Err (BadLine number)
 abbrev pub final_after : ℕ → Read → Option ℕ → Result Read LitmusFault
 final_after number r None = Err (BadLine number)
 final_after number r (Some addr) = if r.together then Ok (goes_on r [] (addr ∷ []) []) else Err (BadLine number)
+
+-- that the mappings are asked for, perhaps once more
+abbrev pub maps_after : ℕ → Read → Result Read LitmusFault
+maps_after number r = if r.together then Ok (asks_maps r) else Err (BadLine number)
+
+abbrev pub ends_after : ℕ → Read → List Word → Result Read LitmusFault
+ends_after number r args = if is_maps args then maps_after number r else final_after number r (number_alone args)
 
 abbrev pub clause_after : ℕ → Read → Quantifier → Option (List Term) → Result Read LitmusFault
 clause_after number r quantifier None = Err (BadLine number)
@@ -173,7 +199,7 @@ abbrev pub kind_after : ℕ → Read → List ℕ → Kind → Result Read Litmu
 kind_after number r line Space = space_after number r line r.asked (line_of line)
 kind_after number r line File = file_after number r line r.asked (line_of line)
 kind_after number r line Together = unless (unmade r.asked) (together_after number r (args_of (words_of line)))
-kind_after number r line Final = unless (unmade r.asked) (final_after number r (number_alone (args_of (words_of line))))
+kind_after number r line Final = unless (unmade r.asked) (ends_after number r (args_of (words_of line)))
 kind_after number r line (Clause quantifier) =
     unless (unmade r.asked) (clause_after number r quantifier (terms_of (args_of (words_of line))))
 kind_after number r line Event = unless (unmade r.asked) (event_after number r line (line_of line))
@@ -218,6 +244,7 @@ with_calls r calls = record {
   opening = r.opening;
   calls = calls;
   finals = r.finals;
+  maps = r.maps;
   clauses = r.clauses;
 }
 
@@ -269,6 +296,7 @@ read_of s = record {
   opening = s.opening.items;
   calls = s.calls.items;
   finals = s.finals.items;
+  maps = s.maps;
   clauses = map claim_of s.clauses.items;
 }
 

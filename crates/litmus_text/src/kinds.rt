@@ -2,7 +2,7 @@
 ghost use Rattle.std.specs.Prelude.{◌≡◌};
 ghost use Rattle.trace_io.specs.Lines.{lines_of};
 ghost use Rattle.trace_text.specs.Words.{words_of};
-ghost use Rattle.litmus_text.specs.Kinds.{args_of, has_none, has_together, is_together, kind_named, kind_of};
+ghost use Rattle.litmus_text.specs.Kinds.{args_of, has_none, has_together, is_maps, is_together, kind_named, kind_of};
 
 use trace_io::lines::front_line;
 use trace_text::words::next_word;
@@ -27,7 +27,7 @@ pub enum Kind {
     File,
     /// `together`: the lists come behind it.
     Together,
-    /// `final ADDR`: what a load of the address would show in the end belongs to an outcome.
+    /// `final ADDR`: what a load of the address would show in the end belongs to an outcome. `final maps`: so do the mappings.
     Final,
     /// `exists C`, `never C` or `forall C`.
     Clause(Quantifier),
@@ -83,6 +83,16 @@ pub(crate) fn has_none(words: &[u8]) -> bool
     ensures { result ≡ has_none (words_of words.now) }
 {
     next_word(words).is_none()
+}
+
+/// Tells whether the word `maps` stands there alone.
+pub(crate) fn is_maps(words: &[u8]) -> bool
+    ensures { result ≡ is_maps (words_of words.now) }
+{
+    match next_word(words) {
+        Some((name, args)) => name == b"maps".as_slice() && has_none(args),
+        None => false,
+    }
 }
 
 // Tells whether this is the line `together`.

@@ -12,7 +12,7 @@ ghost use Rattle.litmus_text.specs.Scripts.{read_of, terms_fault, unmade, unread
 
 use crate::facts::{Fact, Term, read_terms};
 use crate::faults::LitmusFault;
-use crate::kinds::{Kind, Quantifier, args_of, has_none, has_together, kind_of};
+use crate::kinds::{Kind, Quantifier, args_of, has_none, has_together, is_maps, kind_of};
 use crate::places::{by_core, call_at};
 use combinations::Asked;
 use std::alloc::Allocator;
@@ -52,6 +52,8 @@ pub struct Script<A: Allocator> {
     pub calls: Vec<Asked, A>,
     /// The addresses of the `final` lines, in the order of these.
     pub finals: Vec<u64, A>,
+    /// Whether a line `final maps` asks for the mappings.
+    pub maps: bool,
     /// The clauses, in the order of their lines.
     pub clauses: Vec<Clause<A>, A>,
 }
@@ -131,7 +133,7 @@ impl<A: Allocator + Clone> Script<A> {
     ghost use Rattle.trace.specs.Declarations.{Asked as Declared};
     ghost use Rattle.litmus_text.specs.Facts.{terms_of};
     ghost use Rattle.litmus_text.specs.Kinds.{args_of, kind_of};
-    ghost use Rattle.litmus_text.specs.Scripts.{Comes, call_after, clause_after, declares, event_after, file_after, final_after, goes_on, kind_after};
+    ghost use Rattle.litmus_text.specs.Scripts.{Comes, call_after, clause_after, declares, ends_after, event_after, file_after, final_after, goes_on, kind_after, maps_after};
     ghost use Rattle.litmus_text.specs.Scripts.{line_after, listed_after, opened_after, opens, read_of, space_after, together_after, unless, unmade, unread, with_line};
 
     // Nothing is read yet.
@@ -146,6 +148,7 @@ impl<A: Allocator + Clone> Script<A> {
             opening: Vec::new(alloc.clone()?),
             calls: Vec::new(alloc.clone()?),
             finals: Vec::new(alloc.clone()?),
+            maps: false,
             clauses: Vec::new(alloc.clone()?),
         })
     }
@@ -232,6 +235,28 @@ impl<A: Allocator + Clone> Script<A> {
         };
         self.begun = true;
         Ok(())
+    }
+
+    // Takes in that the mappings are asked for.
+    fn take_maps(&mut self, number: u64) -> Result<(), LitmusFault>
+        ensures { Comes result (read_of self.new) (maps_after number (read_of self.old)) }
+    {
+        if !self.together {
+            return Err(LitmusFault::BadLine(number));
+        }
+        self.begun = true;
+        self.maps = true;
+        Ok(())
+    }
+
+    // Takes in what the end is asked for.
+    fn take_end(&mut self, number: u64, args: &[u8]) -> Result<(), LitmusFault>
+        ensures { Comes result (read_of self.new) (ends_after number (read_of self.old) (words_of args.now)) }
+    {
+        if is_maps(args) {
+            return self.take_maps(number);
+        }
+        self.take_final(number, args)
     }
 
     // Takes in a clause.
@@ -359,7 +384,7 @@ impl<A: Allocator + Clone> Script<A> {
     {
         match kind {
             Kind::Together => self.take_together(number, args_of(line)),
-            Kind::Final => self.take_final(number, args_of(line)),
+            Kind::Final => self.take_end(number, args_of(line)),
             Kind::Clause(quantifier) => self.take_clause(alloc, number, quantifier, args_of(line)),
             // (a line of a declaration never comes here)
             Kind::Event | Kind::Space | Kind::File => self.take_event(number, line),
@@ -533,7 +558,8 @@ fn make_whole<A: Allocator + Clone + Drop>(
 }
 
 /// Reads a litmus test: the `vm` and `file` lines; lines of events up to the line `together`, which are the opening; and behind it calls
-/// `cC! REQ`, addresses `final ADDR` and clauses, in any order. A text without `together` has no opening. The calls are one core's after
+/// `cC! REQ`, addresses `final ADDR`, `final maps` and clauses, in any order; a second
+/// `final maps` changes nothing. A text without `together` has no opening. The calls are one core's after
 /// another's. A fault is the first of a line; or else of what all lines come to: of the declaration, that there is no call, or of
 /// the first clause that names a call or an address that isn't there. Or it is want of memory.
 #[tactic(auto, using(crate::proofs::LineLemmas::litmus_whole, crate::proofs::LineLemmas::litmus_stops))]

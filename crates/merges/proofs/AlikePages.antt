@@ -23,7 +23,7 @@ use Rattle.merges.proofs.Pages.{NoneBefore}
 
 -- ---- the run of a step, and of some
 
-split : (a b : ℕ) → (a < b) ⊎ (b ≤ a)
+pub split : (a b : ℕ) → (a < b) ⊎ (b ≤ a)
 split zero zero = inr (omega arith)
 split zero (suc b) = inl (omega arith)
 split (suc a) zero = inr (omega arith)

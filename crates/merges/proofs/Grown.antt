@@ -1,5 +1,5 @@
 -- What more nodes keep
-use Rattle.std.proofs.Common.{◌≡◌, ℕ, zero, suc, ◌+◌, ◌<◌, ◌≤◌, ◌⊎◌, inl, inr, List, [], ◌∷◌, ◌++◌, Option, Some, None, arith, ap, length, map, refl, replicate, set, slice_get, sym, subst, ◌∙◌}
+use Rattle.std.proofs.Common.{◌≡◌, ℕ, Bool, zero, suc, ◌+◌, ◌<◌, ◌≤◌, ◌⊎◌, inl, inr, List, [], ◌∷◌, ◌++◌, Option, Some, None, arith, ap, length, map, refl, replicate, set, slice_get, sym, subst, ◌∙◌}
 use Rattle.std.proofs.lemmas.List.{length-replicate, length-set}
 use Rattle.std.specs.Prelude.{option_map}
 use Rattle.std.proofs.lemmas.Option.{slice_get-map}
@@ -206,10 +206,10 @@ start_is : {A : Type 0} (o : List FileParts) (calls : List Asked) (opening : Lis
 start_is o calls opening first told steps = ap (λ (x : List (Option Reply)). as_point x (map_of o first.steps.items)) told
     ∙ ap (λ (x : List Step). as_point (replicate (length calls) None) (map_of o x)) steps
 
-pub reached : {A : Type 0} (o : List FileParts) (calls : List Asked) (addrs : List ℕ) (opening : List Step) (nodes : List (Node A)) (ends : List (End A)) (n : ℕ)
+pub reached : {A : Type 0} (o : List FileParts) (calls : List Asked) (addrs : List ℕ) (maps : Bool) (opening : List Step) (nodes : List (Node A)) (ends : List (End A)) (n : ℕ)
     (first : Node A) → first.told.items ≡ replicate (length calls) None → first.steps.items ≡ opening → slice_get nodes zero ≡ Some first
-    → IsExplored o calls nodes n → AreEnds o addrs nodes ends → AreReached calls addrs (map_of o opening) ends
-reached o calls addrs opening nodes ends n first told steps is h all k end e =
+    → IsExplored o calls nodes n → AreEnds o addrs maps nodes ends → AreReached calls addrs maps (map_of o opening) ends
+reached o calls addrs maps opening nodes ends n first told steps is h all k end e =
     let z = all k end e in
     let node = z.1 in
     let node_j = z.2 in
@@ -244,13 +244,13 @@ closed_list {A} o calls opening nodes first told steps is h = record {
     next : (p q : Point) (at : ℕ) → HasPoint o nodes p → TurnAt calls p at q → HasPoint o nodes q
     next p q at x turn = h.closed x.0 x.1 at q (get_within nodes x.0 x.1 x.2) x.2 (subst (λ (y : Point). TurnAt calls y at q) (sym x.3) turn)
 
-pub all_found : {A : Type 0} (o : List FileParts) (calls : List Asked) (addrs : List ℕ) (opening : List Step) (nodes : List (Node A)) (ends : List (End A))
+pub all_found : {A : Type 0} (o : List FileParts) (calls : List Asked) (addrs : List ℕ) (maps : Bool) (opening : List Step) (nodes : List (Node A)) (ends : List (End A))
     (first : Node A) → first.told.items ≡ replicate (length calls) None → first.steps.items ≡ opening → slice_get nodes zero ≡ Some first
-    → IsExplored o calls nodes (length nodes) → HaveEnds o addrs nodes (length nodes) ends → AreAll calls addrs (map_of o opening) ends
-all_found o calls addrs opening nodes ends first told steps is h have replies u end =
+    → IsExplored o calls nodes (length nodes) → HaveEnds o addrs maps nodes (length nodes) ends → AreAll calls addrs maps (map_of o opening) ends
+all_found o calls addrs maps opening nodes ends first told steps is h have replies u end =
     let has = has_point o nodes (as_point (map Some replies) u)
     (all_ends calls (map_of o opening) u (map (point_of o) nodes) replies (closed_list o calls opening nodes first told steps is h) end) in
-    subst (HasEndOf ends replies addrs) (ap (λ (p : Point). p.map) has.3)
+    subst (HasEndOf ends replies addrs maps) (ap (λ (p : Point). p.map) has.3)
     (have has.0 has.1 replies (get_within nodes has.0 has.1 has.2) has.2 (ap (λ (p : Point). p.told) has.3))
 
 -- ---- one call's turn

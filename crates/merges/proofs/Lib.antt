@@ -11,3 +11,4 @@ pub mod Passed
 pub mod AlikePages
 pub mod Putting
 pub mod Numbered
+pub mod Mapped

@@ -2,6 +2,7 @@
 use Rattle.std.proofs.Common.{◌≡◌, ◌≢◌, ℕ, zero, suc, ◌+◌, ◌<◌, ◌≤◌, ◌⊎◌, inl, inr, List, [], ◌∷◌, ◌++◌, Option, Some, ap, arith, get_or, length, refl, slice_get, subst, sym, take, ◌∙◌}
 use Rattle.std.proofs.lemmas.List.{take_all, take_more}
 use Rattle.vm_base.specs.declared.replies.Reply.{Reply}
+use Rattle.slot_lock.specs.declared.map_list.MapLine.{MapLine}
 use Rattle.merges.specs.declared.ending.End.{End}
 use Rattle.merges.specs.Numbers.{AreNumbered, mixed, mixed_all, number_of}
 use Rattle.merges.proofs.Ended.{IsThis}
@@ -23,10 +24,10 @@ mixed_next n all r xs k d l e f = e ∙ (ap (λ (m : ℕ). mixed m (get_or xs k 
 pub mixed_end : (n : ℕ) (xs : List Reply) (k : ℕ) → length xs ≤ k → mixed_all n (take k xs) ≡ mixed_all n xs
 mixed_end n xs k l = ap (mixed_all n) (take_all k xs l)
 
--- an end with another number isn't the one with these replies and finals
-pub other_number : {A : Type 0} (end : End A) (n m : ℕ) (replies finals : List Reply) → n ≡ number_of end.replies.items end.finals.items
-    → m ≡ number_of replies finals → n ≢ m → ¬ IsThis end replies finals
-other_number {A} end n m replies finals its number ne same =
+-- an end with another number isn't the one with these replies, finals and mappings
+pub other_number : {A : Type 0} (end : End A) (n m : ℕ) (replies finals : List Reply) (lines : List MapLine) → n ≡ number_of end.replies.items end.finals.items
+    → m ≡ number_of replies finals → n ≢ m → ¬ IsThis end replies finals lines
+other_number {A} end n m replies finals lines its number ne same =
     ne (its ∙ (ap (λ (xs : List Reply). number_of xs end.finals.items) same.0 ∙ (ap (number_of replies) same.1 ∙ sym number)))
 
 got : (xs : List ℕ) (k n d : ℕ) → slice_get xs k ≡ Some n → get_or xs k d ≡ n

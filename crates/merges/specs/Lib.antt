@@ -5,3 +5,4 @@ pub mod Nodes
 pub mod Passing
 pub mod Numbers
 pub mod Runs
+pub mod Mappings

@@ -1,14 +1,15 @@
 -- Nodes: points that merges come to, with the way to each
-use Rattle.std.specs.Prelude.{◌≡◌, ℕ, zero, ◌<◌, List, Option, None, Some, length, map, slice_get}
+use Rattle.std.specs.Prelude.{◌≡◌, ℕ, zero, ◌<◌, Bool, List, Option, None, Some, length, map, slice_get}
 use Rattle.vm_base.specs.declared.replies.Reply.{Reply}
 use Rattle.vm_base.specs.Plain.{Plain}
 use Rattle.backing.specs.Files.{FileParts}
+use Rattle.slot_lock.specs.declared.map_list.MapLine.{MapLine}
 use Rattle.combinations.specs.declared.asked.Asked.{Asked}
-use Rattle.combinations.specs.Finals.{AreShown}
 use Rattle.combinations.specs.Merging.{IsEnd, Point, TurnAt, start}
 use Rattle.combinations.specs.Laws.{Follows}
 use Rattle.merges.specs.declared.nodes.Node.{Node}
 use Rattle.merges.specs.declared.ending.End.{End}
+use Rattle.merges.specs.Mappings.{IsSight}
 use Rattle.merges.specs.Steps.{AreSound, map_of}
 
 -- the point of a node
@@ -85,44 +86,46 @@ IsOrderTo {A} nodes last order = (objects : List FileParts) (calls : List Asked)
     → IsExplored objects calls nodes n → slice_get nodes zero ≡ Some first → slice_get nodes last ≡ Some end
     → Follows calls (point_of objects first) order (point_of objects end)
 
--- each end's replies are those of some node, to which its order leads, and its finals what loads show there
-abbrev pub AreEnds : {A : Type 0} → List FileParts → List ℕ → List (Node A) → List (End A) → Type 0
-AreEnds {A} objects addrs nodes ends = (k : ℕ) (end : End A) → slice_get ends k ≡ Some end
+-- each end's replies are those of some node, to which its order leads, and its finals and mappings what is seen there
+abbrev pub AreEnds : {A : Type 0} → List FileParts → List ℕ → Bool → List (Node A) → List (End A) → Type 0
+AreEnds {A} objects addrs maps nodes ends = (k : ℕ) (end : End A) → slice_get ends k ≡ Some end
     → (j : ℕ) × (node : Node A) × (slice_get nodes j ≡ Some node) × (node.told.items ≡ map Some end.replies.items)
-    × AreShown (map_of objects node.steps.items) addrs end.finals.items × IsOrderTo nodes j end.order.items
+    × IsSight (map_of objects node.steps.items) addrs maps end.finals.items end.maps.items × IsOrderTo nodes j end.order.items
 
--- some end has these replies and finals
-abbrev pub HasEnd : {A : Type 0} → List (End A) → List Reply → List Reply → Type 0
-HasEnd {A} ends replies finals = (k : ℕ) × (end : End A) × (slice_get ends k ≡ Some end)
-    × (end.replies.items ≡ replies) × (end.finals.items ≡ finals)
+-- some end has these replies, finals and mappings
+abbrev pub HasEnd : {A : Type 0} → List (End A) → List Reply → List Reply → List MapLine → Type 0
+HasEnd {A} ends replies finals lines = (k : ℕ) × (end : End A) × (slice_get ends k ≡ Some end)
+    × (end.replies.items ≡ replies) × (end.finals.items ≡ finals) × (end.maps.items ≡ lines)
 
--- some end has these replies, and what loads of the addresses show on this map
-abbrev pub HasEndOf : {A : Type 0} → List (End A) → List Reply → List ℕ → Plain → Type 0
-HasEndOf ends replies addrs u = (finals : List Reply) × AreShown u addrs finals × HasEnd ends replies finals
+-- some end has these replies, and what is seen of this map
+abbrev pub HasEndOf : {A : Type 0} → List (End A) → List Reply → List ℕ → Bool → Plain → Type 0
+HasEndOf ends replies addrs maps u =
+    (finals : List Reply) × (lines : List MapLine) × IsSight u addrs maps finals lines × HasEnd ends replies finals lines
 
 -- the first so many nodes at which all calls are answered have their ends
-abbrev pub HaveEnds : {A : Type 0} → List FileParts → List ℕ → List (Node A) → ℕ → List (End A) → Type 0
-HaveEnds {A} objects addrs nodes n ends = (j : ℕ) (node : Node A) (replies : List Reply) → j < n
+abbrev pub HaveEnds : {A : Type 0} → List FileParts → List ℕ → Bool → List (Node A) → ℕ → List (End A) → Type 0
+HaveEnds {A} objects addrs maps nodes n ends = (j : ℕ) (node : Node A) (replies : List Reply) → j < n
     → slice_get nodes j ≡ Some node → node.told.items ≡ map Some replies
-    → HasEndOf ends replies addrs (map_of objects node.steps.items)
+    → HasEndOf ends replies addrs maps (map_of objects node.steps.items)
 
 -- ---- what is explored
 
--- turns of the calls in the end's order lead to where each call has the end's reply, and loads show its finals
-abbrev pub IsReached : {A : Type 0} → List Asked → List ℕ → Plain → End A → Type 0
-IsReached calls addrs t end = (u : Plain)
+-- turns of the calls in the end's order lead to where each call has the end's reply, and its finals and mappings are seen
+abbrev pub IsReached : {A : Type 0} → List Asked → List ℕ → Bool → Plain → End A → Type 0
+IsReached calls addrs maps t end = (u : Plain)
     × Follows calls (start calls t) end.order.items (record { told = map Some end.replies.items; map = u })
-    × AreShown u addrs end.finals.items
+    × IsSight u addrs maps end.finals.items end.maps.items
 
 -- so it is with each end
-abbrev pub AreReached : {A : Type 0} → List Asked → List ℕ → Plain → List (End A) → Type 0
-AreReached {A} calls addrs t ends = (k : ℕ) (end : End A) → slice_get ends k ≡ Some end → IsReached calls addrs t end
+abbrev pub AreReached : {A : Type 0} → List Asked → List ℕ → Bool → Plain → List (End A) → Type 0
+AreReached {A} calls addrs maps t ends = (k : ℕ) (end : End A) → slice_get ends k ≡ Some end → IsReached calls addrs maps t end
 
--- and no two have the same replies and finals
+-- and no two have the same replies, finals and mappings
 abbrev pub AreOnce : {A : Type 0} → List (End A) → Type 0
 AreOnce {A} ends = (j k : ℕ) (one other : End A) → slice_get ends j ≡ Some one → slice_get ends k ≡ Some other
-    → one.replies.items ≡ other.replies.items → one.finals.items ≡ other.finals.items → j ≡ k
+    → one.replies.items ≡ other.replies.items → one.finals.items ≡ other.finals.items → one.maps.items ≡ other.maps.items → j ≡ k
 
--- each combination that the calls can have, with what loads show at its end, is that of an end
-abbrev pub AreAll : {A : Type 0} → List Asked → List ℕ → Plain → List (End A) → Type 0
-AreAll calls addrs t ends = (replies : List Reply) (u : Plain) → IsEnd calls t replies u → HasEndOf ends replies addrs u
+-- each combination that the calls can have, with what is seen at its end, is that of an end
+abbrev pub AreAll : {A : Type 0} → List Asked → List ℕ → Bool → Plain → List (End A) → Type 0
+AreAll calls addrs maps t ends =
+    (replies : List Reply) (u : Plain) → IsEnd calls t replies u → HasEndOf ends replies addrs maps u

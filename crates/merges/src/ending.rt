@@ -5,19 +5,23 @@ ghost use Rattle.merges.specs.Numbers.{AreNumbered, number_of};
 ghost use Rattle.merges.specs.Nodes.{AreAllSound, AreBackward, AreEnds, AreOnce, HasEnd, HaveEnds, IsOrderTo};
 
 use crate::finals::loads;
+use crate::mappings::{are_same_maps, mappings};
 use crate::nodes::Node;
 use crate::numbers::number_of;
 use backing::Objects;
+use slot_lock::MapLine;
 use std::alloc::Allocator;
 use vm_base::{NoMemory, Reply};
 
-/// A combination of replies, with one order of turns that gives it, and what loads show once all calls are answered.
+/// A combination of replies, with one order of turns that gives it, and what is seen once all calls are answered.
 #[derive(Drop)]
 pub struct End<A: Allocator> {
     /// The reply to each call, in the order of the calls.
     pub replies: Vec<Reply, A>,
     /// What a load of each address that was asked for is answered at the end.
     pub finals: Vec<Reply, A>,
+    /// All mappings at the end, in order, where they were asked for.
+    pub maps: Vec<MapLine, A>,
     /// Whose turn comes: the places of the calls, one turn after another. The place of a store comes twice where the page is
     /// copied first.
     pub order: Vec<usize, A>,
@@ -86,49 +90,55 @@ fn are_same(one: &[Reply], other: &[Reply]) -> bool
     true
 }
 
-/// Tells whether an end has these replies and finals, by its number and theirs.
+/// Tells whether an end has these replies, finals and mappings, by its number and theirs.
 fn is_end<A: Allocator>(
     end: &End<A>,
     its: u64,
     number: u64,
     replies: &[Reply],
     finals: &[Reply],
+    maps: &[MapLine],
 ) -> bool
     requires its { its ≡ number_of end.now.replies.items end.now.finals.items }
     requires number { number ≡ number_of replies.now finals.now }
-    ensures { IsTrue result ↔ ((end.now.replies.items ≡ replies.now) × (end.now.finals.items ≡ finals.now)) }
+    ensures { IsTrue result ↔ ((end.now.replies.items ≡ replies.now) × (end.now.finals.items ≡ finals.now)
+        × (end.now.maps.items ≡ maps.now)) }
 {
     if its != number {
         return false;
     }
-    are_same(end.replies.as_slice(), replies) && are_same(end.finals.as_slice(), finals)
+    are_same(end.replies.as_slice(), replies)
+        && are_same(end.finals.as_slice(), finals)
+        && are_same_maps(end.maps.as_slice(), maps)
 }
 
-/// Tells whether some end has these replies and finals, whose number is this one.
+/// Tells whether some end has these replies and finals, whose number is this one, and these mappings.
 fn has_end<A: Allocator>(
     ends: &[End<A>],
     numbers: &[u64],
     number: u64,
     replies: &[Reply],
     finals: &[Reply],
+    maps: &[MapLine],
 ) -> bool
     requires numbered { AreNumbered ends.now numbers.now }
     requires number { number ≡ number_of replies.now finals.now }
-    ensures { IsTrue result ↔ HasEnd ends.now replies.now finals.now }
+    ensures { IsTrue result ↔ HasEnd ends.now replies.now finals.now maps.now }
 {
     'ends: for k in 0..ends.len() {
         let its = numbers[k];
-        if is_end(&ends[k], its, number, replies, finals) {
+        if is_end(&ends[k], its, number, replies, finals, maps) {
             return true;
         }
     }
     false
 }
 
-/// Takes the end of a node in, if each call has its reply there and no other end has these replies and finals.
+/// Takes the end of a node in, if each call has its reply there and no other end has these replies, finals and mappings.
 fn add_end<A: Allocator + Clone + Drop>(
     objects: &Objects<A>,
     addrs: &[u64],
+    maps: bool,
     ends: &mut Vec<End<A>, A>,
     numbers: &mut Vec<u64, A>,
     nodes: &[Node<A>],
@@ -139,13 +149,13 @@ fn add_end<A: Allocator + Clone + Drop>(
     requires within { last < length nodes.now }
     requires backward { AreBackward nodes.now }
     requires sound { AreAllSound nodes.now }
-    requires ends { AreEnds objects.now addrs.now nodes.now ends.old.items }
+    requires ends { AreEnds objects.now addrs.now maps nodes.now ends.old.items }
     requires once { AreOnce ends.old.items }
-    requires have { HaveEnds objects.now addrs.now nodes.now last ends.old.items }
+    requires have { HaveEnds objects.now addrs.now maps nodes.now last ends.old.items }
     ensures numbered { IfOk result (λ _. AreNumbered ends.new.items numbers.new.items) }
-    ensures ends { IfOk result (λ _. AreEnds objects.now addrs.now nodes.now ends.new.items) }
+    ensures ends { IfOk result (λ _. AreEnds objects.now addrs.now maps nodes.now ends.new.items) }
     ensures once { IfOk result (λ _. AreOnce ends.new.items) }
-    ensures have { IfOk result (λ _. HaveEnds objects.now addrs.now nodes.now (last + 1) ends.new.items) }
+    ensures have { IfOk result (λ _. HaveEnds objects.now addrs.now maps nodes.now (last + 1) ends.new.items) }
 {
     let node = &nodes[last];
     let told = node.told.as_slice();
@@ -155,11 +165,13 @@ fn add_end<A: Allocator + Clone + Drop>(
     };
     let steps = node.steps.as_slice();
     let finals = loads(objects, steps, addrs, alloc)?;
+    let seen = mappings(objects, steps, maps, alloc)?;
     let listed = ends.as_slice();
     let its = replies.as_slice();
     let shown = finals.as_slice();
+    let lines = seen.as_slice();
     let number = number_of(its, shown);
-    if has_end(listed, numbers.as_slice(), number, its, shown) {
+    if has_end(listed, numbers.as_slice(), number, its, shown, lines) {
         return Ok(());
     }
     let order = order_to(nodes, last, alloc)?;
@@ -167,28 +179,39 @@ fn add_end<A: Allocator + Clone + Drop>(
     ends.push(End {
         replies,
         finals,
+        maps: seen,
         order,
     })?;
     Ok(())
 }
 
-/// The ends of all nodes at which each call has its reply: no two with the same replies and finals.
+/// The ends of all nodes at which each call has its reply: no two with the same replies, finals and mappings.
 pub(crate) fn list_ends<A: Allocator + Clone + Drop>(
     objects: &Objects<A>,
     addrs: &[u64],
+    maps: bool,
     nodes: &[Node<A>],
     alloc: &A,
 ) -> Result<Vec<End<A>, A>, NoMemory>
     requires backward { AreBackward nodes.now }
     requires sound { AreAllSound nodes.now }
-    ensures ends { IfOk result (λ ends. AreEnds objects.now addrs.now nodes.now ends.items) }
+    ensures ends { IfOk result (λ ends. AreEnds objects.now addrs.now maps nodes.now ends.items) }
     ensures once { IfOk result (λ ends. AreOnce ends.items) }
-    ensures have { IfOk result (λ ends. HaveEnds objects.now addrs.now nodes.now (length nodes.now) ends.items) }
+    ensures have { IfOk result (λ ends. HaveEnds objects.now addrs.now maps nodes.now (length nodes.now) ends.items) }
 {
     let mut ends = Vec::new(alloc.clone()?);
     let mut numbers = Vec::new(alloc.clone()?);
     'nodes: for last in 0..nodes.len() {
-        add_end(objects, addrs, &mut ends, &mut numbers, nodes, last, alloc)?;
+        add_end(
+            objects,
+            addrs,
+            maps,
+            &mut ends,
+            &mut numbers,
+            nodes,
+            last,
+            alloc,
+        )?;
     }
     Ok(ends)
 }

@@ -19,7 +19,7 @@ const FEW: usize = 64;
 /// Which combinations of replies the calls can have.
 #[derive(Drop)]
 pub struct Explored<A: Allocator> {
-    /// The combinations that were found, no two of them with the same replies and finals.
+    /// The combinations that were found, no two of them with the same replies, finals and mappings.
     pub ends: Vec<End<A>, A>,
     /// Whether these are all.
     pub whole: bool,
@@ -130,30 +130,31 @@ fn first_node<A: Allocator + Clone>(
 
 /// Which combinations of replies the calls can have, where each core makes its own in order and the cores' turns come in any
 /// order, on the plain page map that the opening makes with these files; and what loads of the addresses in `finals` are
-/// answered once all calls are. Each end's replies come by the turns in its order, and its finals are what loads show there.
-/// Where the answer says that it is whole, each combination that some merge gives is there, with what loads show at its end:
-/// so those that aren't there can't come. At most `limit` points of merges are kept; where there are more, the answer isn't
-/// whole. No call may leave its place open. `Err` says that memory was refused.
+/// answered once all calls are, and, where `maps` asks for them, all mappings then. Each end's replies come by the turns in its
+/// order, and its finals and mappings are what is seen there. Where the answer says that it is whole, each combination that some
+/// merge gives is there, with what is seen at its end: so those that aren't there can't come. At most `limit` points of merges
+/// are kept; where there are more, the answer isn't whole. No call may leave its place open. `Err` says that memory was refused.
 pub fn explore<A: Allocator + Clone + Drop>(
     objects: &Objects<A>,
     opening: &[Step],
     calls: &[Asked],
     finals: &[u64],
+    maps: bool,
     limit: usize,
     alloc: A,
 ) -> Result<Explored<A>, NoMemory>
     requires named { AreNamed calls.now }
     requires sound { AreSound opening.now }
-    ensures reached { IfOk result (λ it. AreReached calls.now finals.now (map_of objects.now opening.now) it.ends.items) }
+    ensures reached { IfOk result (λ it. AreReached calls.now finals.now maps (map_of objects.now opening.now) it.ends.items) }
     ensures once { IfOk result (λ it. AreOnce it.ends.items) }
     ensures all { IfOk result (λ it. it.whole ≡ true
-        → AreAll calls.now finals.now (map_of objects.now opening.now) it.ends.items) }
+        → AreAll calls.now finals.now maps (map_of objects.now opening.now) it.ends.items) }
 {
     let mut nodes = Vec::new(alloc.clone()?);
     let first = first_node(calls, opening, &alloc)?;
     nodes.push(first)?;
     let mut seats = Seats::new(alloc.clone()?, FEW)?;
     let whole = run(objects, calls, limit, &mut nodes, &mut seats, &alloc)?;
-    let ends = list_ends(objects, finals, nodes.as_slice(), &alloc)?;
+    let ends = list_ends(objects, finals, maps, nodes.as_slice(), &alloc)?;
     Ok(Explored { ends, whole })
 }

@@ -1,7 +1,10 @@
 -- What is known of opened machines, and how outcomes come together
 use Rattle.machine_laws.proofs.Words.{◌≡◌, ℕ, ◌<◌, ◌≤◌, Bool, true, false, List, [], ◌∷◌, length, slice_get, None, Some, refl, sym, ◌∙◌, ap, subst, arith, nat_tests}
 use Rattle.machine_laws.proofs.Words.{Event, Outcome, World, Made, Free, Run, new_world, Replays, Plain, nothing_mapped, Slots, IsNew, Reply}
-use Rattle.std.proofs.Common.{nat_lt, ◌++◌, ◌⊎◌, inl, inr, IfSome}
+use Rattle.std.proofs.Common.{nat_lt, ◌^◌, ◌++◌, ◌⊎◌, inl, inr, IfSome}
+use Rattle.slot_lock.specs.declared.map_list.MapLine.{MapLine}
+use Rattle.slot_lock.specs.MapList.{plain_metas}
+use Rattle.slot_lock.proofs.OneMapList.{one_list}
 use Rattle.machine_sound.specs.Log.{LeadsTo}
 use Rattle.machine_sound.specs.Sound.{IsReached, IsSoundState, SoundRun}
 use Rattle.machine_sound.proofs.Kept.{reached_fine}
@@ -13,11 +16,12 @@ use Rattle.backing.specs.Files.{FileParts, files_of}
 use Rattle.combinations.specs.declared.asked.Asked.{Asked}
 use Rattle.merges.specs.declared.change.Step.{Step as StepOf}
 use Rattle.merges.specs.declared.ending.End.{End}
+use Rattle.merges.specs.Mappings.{AreMaps, IsSight}
 use Rattle.merges.specs.Nodes.{AreAll, AreOnce, HasEnd, HasEndOf}
 use Rattle.merges.specs.Steps.{map_of}
 use Rattle.merges.proofs.Lists.{get_one, get_some, get_within, old_or_new, told_one}
 use Rattle.performed.specs.Performed.{ArePlain, FinalsAreShown}
-use Rattle.combinations.specs.Finals.{AreShown, loads_by}
+use Rattle.combinations.specs.Finals.{loads_by}
 use Rattle.outcomes.specs.declared.outcome.Outcome.{Outcome as Found}
 use Rattle.outcomes.specs.declared.outcome.Outcomes.{Outcomes}
 use Rattle.trace.specs.Declarations.{Asked as Declared}
@@ -27,7 +31,7 @@ use Rattle.outcomes.specs.Faults.{Faults, fault_by}
 use Rattle.outcomes.specs.Leading.{AreOfLog}
 use Rattle.outcomes.specs.Listing.{AreListed, AreSeen, IsOf, IsSeen}
 use Rattle.outcomes.specs.Opening.{AreAlike, IsCalm, IsRun}
-use Rattle.outcomes.specs.Outcomes.{AreOutcomes, Has, IsOpened, IsWitness, Performs}
+use Rattle.outcomes.specs.Outcomes.{AreOutcomes, Has, HasMaps, IsOpened, IsWitness, Performs}
 
 -- ---- runs
 
@@ -88,10 +92,11 @@ leads_alike w v t made alike h =
     (subst (λ l. Replays w.calls.requests (nothing_mapped v.made.file) l t) alike.log
     (subst (λ (m : Made). Replays w.calls.requests (nothing_mapped m.file) w.calls.log t) made h))
 
-pub witnessed : (made : Made) (es : List Event) (w v u : World) (calls loads : List Asked) (replies finals : List Reply) (first later : List Event)
-    → IsCalm made es w → IsCalm made es v → AreAlike w v → (m : World) × Performs calls replies v first m × Performs loads finals m later u
-    → (t : Plain) → LeadsTo w t → IsWitness made es t calls loads replies finals (first ++ later)
-witnessed made es w v u calls loads replies finals first later calm other alike performs t leads = record {
+pub witnessed : (made : Made) (es : List Event) (w v u : World) (calls loads : List Asked) (maps : Bool) (replies finals : List Reply)
+    (lines : List MapLine) (first later : List Event) → IsCalm made es w → IsCalm made es v → AreAlike w v
+    → (m : World) × Performs calls replies v first m × Performs loads finals m later u × HasMaps maps u lines
+    → (t : Plain) → LeadsTo w t → IsWitness made es t calls loads maps replies finals lines (first ++ later)
+witnessed made es w v u calls loads maps replies finals lines first later calm other alike performs t leads = record {
   before = v;
   mid = performs.0;
   after = u;
@@ -101,32 +106,33 @@ witnessed made es w v u calls loads replies finals first later calm other alike 
   opened = is_opened made es t v other (leads_alike w v t (calm.by.made_is ∙ sym other.by.made_is) alike leads);
   performs = performs.1;
   shows = performs.2;
+  mapped = performs.3;
 }
 
 -- ---- what is explored
 
-pub all_from : {A : Type 0} (objects : List FileParts) (steps : List StepOf) (w : World) (calls : List Asked) (addrs : List ℕ) (ends : List (End A))
-    → files_of objects ≡ w.made.file → AreOfLog objects w.calls.requests w.calls.log steps → AreAll calls addrs (map_of objects steps) ends
-    → (t : Plain) → LeadsTo w t → AreAll calls addrs t ends
-all_from objects steps w calls addrs ends files of all t leads =
+pub all_from : {A : Type 0} (objects : List FileParts) (steps : List StepOf) (w : World) (calls : List Asked) (addrs : List ℕ) (maps : Bool) (ends : List (End A))
+    → files_of objects ≡ w.made.file → AreOfLog objects w.calls.requests w.calls.log steps → AreAll calls addrs maps (map_of objects steps) ends
+    → (t : Plain) → LeadsTo w t → AreAll calls addrs maps t ends
+all_from objects steps w calls addrs maps ends files of all t leads =
     let same : t ≡ map_of objects steps = of.one t (subst (λ f. Replays w.calls.requests (nothing_mapped f) w.calls.log t) (sym files) leads) in
-    subst (λ (m : Plain). AreAll calls addrs m ends) (sym same) all
+    subst (λ (m : Plain). AreAll calls addrs maps m ends) (sym same) all
 
 -- ---- the list
 
-pub has_listed : {A : Type 0} (ends : List (End A)) (list : List (Found A)) (replies finals : List Reply) → AreListed ends list
-    → HasEnd ends replies finals → Has list replies finals
-has_listed ends list replies finals listed has =
+pub has_listed : {A : Type 0} (ends : List (End A)) (list : List (Found A)) (replies finals : List Reply) (lines : List MapLine) → AreListed ends list
+    → HasEnd ends replies finals lines → Has list replies finals lines
+has_listed ends list replies finals lines listed has =
     let within = get_within ends has.0 has.1 has.2 in
     let long = listed.0 in
     let one = get_some list has.0 (omega (arith, within, long)) in
     let of = listed.1 has.0 has.1 one.0 has.2 one.1 in
-    (has.0, one.0, one.1, of.replies ∙ has.3, of.finals ∙ has.4)
+    (has.0, one.0, one.1, of.replies ∙ has.3, of.finals ∙ has.4, of.maps ∙ has.5)
 
 pub once_listed : {A : Type 0} (ends : List (End A)) (list : List (Found A)) → AreListed ends list → AreOnce ends → (j k : ℕ) (one other : Found A)
     → slice_get list j ≡ Some one → slice_get list k ≡ Some other → one.replies.items ≡ other.replies.items
-    → one.finals.items ≡ other.finals.items → j ≡ k
-once_listed ends list listed once j k one other e f same alike =
+    → one.finals.items ≡ other.finals.items → one.maps.items ≡ other.maps.items → j ≡ k
+once_listed ends list listed once j k one other e f same alike mapped =
     let long = listed.0 in
     let in-j = get_within list j one e in
     let in-k = get_within list k other f in
@@ -135,24 +141,33 @@ once_listed ends list listed once j k one other e f same alike =
     let a = listed.1 j first.0 one first.1 e in
     let b = listed.1 k second.0 other second.1 f in
     once j k first.0 second.0 first.1 second.1 (sym a.replies ∙ (same ∙ b.replies)) (sym a.finals ∙ (alike ∙ b.finals))
+    (sym a.maps ∙ (mapped ∙ b.maps))
 
--- what loads show is one
-shown_one : {A : Type 0} (ends : List (End A)) (replies finals : List Reply) (addrs : List ℕ) (u : Plain) → AreShown u addrs finals
-    → HasEndOf ends replies addrs u → HasEnd ends replies finals
-shown_one ends replies finals addrs u shown has =
-    let same : has.0 ≡ finals = told_one has.0 finals (sym has.1 ∙ shown) in
-    subst (HasEnd ends replies) same has.2
+-- a map has one list of mappings
+maps_one : (maps : Bool) (u : Plain) (xs ys : List MapLine) → AreMaps maps u xs → AreMaps maps u ys → xs ≡ ys
+maps_one true u xs ys h k = one_list (plain_metas u) 1 (2 ^ 35) xs ys h k
+maps_one false u xs ys h k = h ∙ sym k
 
-pub are_outcomes : {A : Type 0} (made : Made) (calls loads : List Asked) (addrs : List ℕ) (it : Outcomes A) (ends : List (End A)) (w : World)
+-- what is seen of a map is one
+sight_one : {A : Type 0} (ends : List (End A)) (replies finals : List Reply) (lines : List MapLine) (addrs : List ℕ) (maps : Bool) (u : Plain)
+    → IsSight u addrs maps finals lines → HasEndOf ends replies addrs maps u → HasEnd ends replies finals lines
+sight_one ends replies finals lines addrs maps u seen has =
+    let its = has.2 in
+    let shown : has.0 ≡ finals = told_one has.0 finals (sym its.0 ∙ seen.0) in
+    let mapped : has.1 ≡ lines = maps_one maps u has.1 lines its.1 seen.1 in
+    subst (λ ys. HasEnd ends replies ys lines) shown (subst (HasEnd ends replies has.0) mapped has.3)
+
+pub are_outcomes : {A : Type 0} (made : Made) (calls loads : List Asked) (addrs : List ℕ) (maps : Bool) (it : Outcomes A) (ends : List (End A)) (w : World)
     → FinalsAreShown → loads ≡ loads_by 0 addrs → IsCalm made it.opening.items w → AreListed ends it.list.items → AreOnce ends
-    → (it.whole ≡ true → (t : Plain) → LeadsTo w t → AreAll calls addrs t ends)
-    → ((t : Plain) → LeadsTo w t → AreSeen made it.opening.items t calls loads it.list.items)
-    → AreOutcomes made calls addrs it
-are_outcomes {A} made calls loads addrs it ends w law are calm listed once all seen = record {
+    → (it.whole ≡ true → (t : Plain) → LeadsTo w t → AreAll calls addrs maps t ends)
+    → ((t : Plain) → LeadsTo w t → AreSeen made it.opening.items t calls loads maps it.list.items)
+    → AreOutcomes made calls addrs maps it
+are_outcomes {A} made calls loads addrs maps it ends w law are calm listed once all seen = record {
   map = t;
   state = w;
   opened = is_opened made it.opening.items t w calm leads;
-  reached = λ k one events is witness. subst (λ (ls : List Asked). IsWitness made it.opening.items t calls ls one.replies.items one.finals.items events.items)
+  reached = λ k one events is witness. subst (λ (ls : List Asked). IsWitness made it.opening.items t calls ls maps one.replies.items one.finals.items
+      one.maps.items events.items)
       are (seen t leads k one is events witness);
   all = every;
   once = once_listed ends it.list.items listed once;
@@ -164,15 +179,16 @@ are_outcomes {A} made calls loads addrs it ends w law are calm listed once all s
     leads : LeadsTo w t
     leads = calm.by.sound.1.log
 
-    every : it.whole ≡ true → (v m x : World) (events later : List Event) (replies finals : List Reply) (core : ℕ)
+    every : it.whole ≡ true → (v m x : World) (events later : List Event) (replies finals : List Reply) (lines : List MapLine) (core : ℕ)
         → IsOpened made it.opening.items t v → Performs calls replies v events m → ArePlain replies
-        → Performs (loads_by core addrs) finals m later x → ArePlain finals → Has it.list.items replies finals
-    every whole v m x events later replies finals core o p plain q bare =
+        → Performs (loads_by core addrs) finals m later x → ArePlain finals → HasMaps maps x lines
+        → Has it.list.items replies finals lines
+    every whole v m x events later replies finals lines core o p plain q bare mapped =
         let end = law v m x t events later p.results q.results calls replies finals core addrs
         (record { made = made; few = calm.by.few; slots = o.slots; events = it.opening.items; outcomes = o.results; new = o.new; run = o.run })
         (record { free = o.free; leads = o.log }) p.run p.says plain q.run q.says bare in
-        has_listed ends it.list.items replies finals listed
-        (shown_one ends replies finals addrs end.0 end.2 (all whole t leads replies end.0 end.1))
+        has_listed ends it.list.items replies finals lines listed
+        (sight_one ends replies finals lines addrs maps end.0 (end.2, mapped end.0 end.3.leads) (all whole t leads replies end.0 end.1))
 
 -- ---- one outcome more
 
@@ -193,28 +209,29 @@ listed_more {A} ends list new end one more each is of = subst (EachListed ends) 
         let same : end ≡ other = get_one ends (length list) end other is (subst (λ (n : ℕ). slice_get ends n ≡ Some other) here.0 e) in
         subst (λ (y : End A). IsOf y x) same (subst (IsOf end) here.1 of)
 
-pub seen_none : {A : Type 0} (made : Made) (es : List Event) (t : Plain) (calls loads : List Asked) (list : List (Found A)) → list ≡ []
-    → AreSeen made es t calls loads list
-seen_none made es t calls loads list none = subst (AreSeen made es t calls loads) (sym none) (λ k one e. absurd cc)
+pub seen_none : {A : Type 0} (made : Made) (es : List Event) (t : Plain) (calls loads : List Asked) (maps : Bool) (list : List (Found A)) → list ≡ []
+    → AreSeen made es t calls loads maps list
+seen_none made es t calls loads maps list none = subst (AreSeen made es t calls loads maps) (sym none) (λ k one e. absurd cc)
 
-pub seen_more : {A : Type 0} (made : Made) (es : List Event) (t : Plain) (calls loads : List Asked) (list new : List (Found A)) (one : Found A)
-    → new ≡ list ++ one ∷ [] → AreSeen made es t calls loads list → IsSeen made es t calls loads one → AreSeen made es t calls loads new
-seen_more {A} made es t calls loads list new one more seen h =
-    subst (AreSeen made es t calls loads) (sym more) (λ k x e. by k x (old_or_new list one x k e))
+pub seen_more : {A : Type 0} (made : Made) (es : List Event) (t : Plain) (calls loads : List Asked) (maps : Bool) (list new : List (Found A)) (one : Found A)
+    → new ≡ list ++ one ∷ [] → AreSeen made es t calls loads maps list → IsSeen made es t calls loads maps one → AreSeen made es t calls loads maps new
+seen_more {A} made es t calls loads maps list new one more seen h =
+    subst (AreSeen made es t calls loads maps) (sym more) (λ k x e. by k x (old_or_new list one x k e))
   where
-    by : (k : ℕ) (x : Found A) → (slice_get list k ≡ Some x) ⊎ ((k ≡ length list) × (one ≡ x)) → IsSeen made es t calls loads x
+    by : (k : ℕ) (x : Found A) → (slice_get list k ≡ Some x) ⊎ ((k ≡ length list) × (one ≡ x)) → IsSeen made es t calls loads maps x
     by k x (inl old) = seen k x old
-    by k x (inr here) = subst (IsSeen made es t calls loads) here.1 h
+    by k x (inr here) = subst (IsSeen made es t calls loads maps) here.1 h
 
 -- a witness, if one was found
-pub seen_by : {A : Type 0} (made : Made) (es : List Event) (w : World) (calls loads : List Asked) (end : End A) (one : Found A) → IsOf end one
-    → IfSome one.witness (λ events. (t : Plain) → LeadsTo w t → IsWitness made es t calls loads end.replies.items end.finals.items events.items)
-    → (t : Plain) → LeadsTo w t → IsSeen made es t calls loads one
-seen_by made es w calls loads end one of found t leads events is =
-    subst (λ (rs : List Reply). IsWitness made es t calls loads rs one.finals.items events.items) (sym of.replies)
-    (subst (λ (rs : List Reply). IsWitness made es t calls loads end.replies.items rs events.items) (sym of.finals)
-    (subst (λ o. IfSome o (λ events. (t : Plain) → LeadsTo w t → IsWitness made es t calls loads end.replies.items end.finals.items events.items)) is
-    found t leads))
+pub seen_by : {A : Type 0} (made : Made) (es : List Event) (w : World) (calls loads : List Asked) (maps : Bool) (end : End A) (one : Found A) → IsOf end one
+    → IfSome one.witness (λ events. (t : Plain) → LeadsTo w t → IsWitness made es t calls loads maps end.replies.items end.finals.items
+    end.maps.items events.items) → (t : Plain) → LeadsTo w t → IsSeen made es t calls loads maps one
+seen_by made es w calls loads maps end one of found t leads events is =
+    subst (λ (rs : List Reply). IsWitness made es t calls loads maps rs one.finals.items one.maps.items events.items) (sym of.replies)
+    (subst (λ (rs : List Reply). IsWitness made es t calls loads maps end.replies.items rs one.maps.items events.items) (sym of.finals)
+    (subst (λ (ls : List MapLine). IsWitness made es t calls loads maps end.replies.items end.finals.items ls events.items) (sym of.maps)
+    (subst (λ o. IfSome o (λ events. (t : Plain) → LeadsTo w t
+    → IsWitness made es t calls loads maps end.replies.items end.finals.items end.maps.items events.items)) is found t leads)))
 
 -- ---- faults
 

@@ -26,7 +26,7 @@ use machine_model::Event;
 use merges::{End, Explored, Step, are_named, explore};
 use performed::laws::finals_are_shown;
 use radix_range::RadixMap;
-use slot_lock::SlotMap;
+use slot_lock::{MapLine, SlotMap};
 use std::alloc::Allocator;
 use trace::declaration::Declaration;
 use vm_base::{NoMemory, Reply};
@@ -81,6 +81,7 @@ fn explore_from<A: Allocator + Clone + Drop>(
     machine: &Machine<RadixMap<A>, A, Kept<A>>,
     calls: &[Asked],
     finals: &[u64],
+    maps: bool,
     limit: usize,
 ) -> Result<Explored<A>, Late>
     requires fault { asked_fault declared.now ≡ None }
@@ -88,7 +89,7 @@ fn explore_from<A: Allocator + Clone + Drop>(
     requires made { (state machine.now).made ≡ made_by declared.now }
     ensures once { IfOk result (λ it. AreOnce it.ends.items) }
     ensures all { IfOk result (λ it. it.whole ≡ true → (t : Plain) → LeadsTo (state machine.now) t
-        → AreAll calls.now finals.now t it.ends.items) }
+        → AreAll calls.now finals.now maps t it.ends.items) }
 {
     let objects = match objects_of(alloc, declared) {
         Ok(objects) => objects,
@@ -101,7 +102,7 @@ fn explore_from<A: Allocator + Clone + Drop>(
     let Ok(own) = alloc.clone() else {
         return Err(Late::NoMemory);
     };
-    match explore(&objects, steps.as_slice(), calls, finals, limit, own) {
+    match explore(&objects, steps.as_slice(), calls, finals, maps, limit, own) {
         Ok(it) => Ok(it),
         Err(_) => Err(Late::NoMemory),
     }
@@ -116,6 +117,15 @@ fn copy_of<A: Allocator + Clone>(alloc: &A, replies: &[Reply]) -> Result<Vec<Rep
     Ok(copy)
 }
 
+// The mappings once more.
+fn lines_of<A: Allocator + Clone>(alloc: &A, lines: &[MapLine]) -> Result<Vec<MapLine, A>, NoMemory>
+    ensures { IfOk result (λ copy. copy.items ≡ lines.now) }
+{
+    let mut copy = Vec::new(alloc.clone()?);
+    copy.extend_from_slice(lines)?;
+    Ok(copy)
+}
+
 // The outcome of an end, with its witness, if one is found.
 fn outcome_of<A: Allocator + Clone + Drop>(
     alloc: &A,
@@ -124,15 +134,16 @@ fn outcome_of<A: Allocator + Clone + Drop>(
     opening: &[Event],
     calls: &[Asked],
     loads: &[Asked],
+    maps: bool,
     end: &End<A>,
 ) -> Result<Outcome<A>, Late>
     requires fault { asked_fault declared.now ≡ None }
     requires first { IsCalm (made_by declared.now) opening.now (state first.now) }
     ensures is { IfOk result (λ one. IsOf end.now one) }
     ensures reached { IfOk result (λ one. (t : Plain) → LeadsTo (state first.now) t
-        → IsSeen (made_by declared.now) opening.now t calls.now loads.now one) }
+        → IsSeen (made_by declared.now) opening.now t calls.now loads.now maps one) }
 {
-    let witness = match find_witness(alloc, declared, first, opening, calls, loads, end) {
+    let witness = match find_witness(alloc, declared, first, opening, calls, loads, maps, end) {
         Ok(witness) => witness,
         Err(late) => return Err(late),
     };
@@ -142,9 +153,13 @@ fn outcome_of<A: Allocator + Clone + Drop>(
     let Ok(finals) = copy_of(alloc, end.finals.as_slice()) else {
         return Err(Late::NoMemory);
     };
+    let Ok(lines) = lines_of(alloc, end.maps.as_slice()) else {
+        return Err(Late::NoMemory);
+    };
     Ok(Outcome {
         replies,
         finals,
+        maps: lines,
         witness,
     })
 }
@@ -157,20 +172,23 @@ fn outcomes_of<A: Allocator + Clone + Drop>(
     opening: &[Event],
     calls: &[Asked],
     loads: &[Asked],
+    maps: bool,
     ends: &[End<A>],
 ) -> Result<Vec<Outcome<A>, A>, Late>
     requires fault { asked_fault declared.now ≡ None }
     requires first { IsCalm (made_by declared.now) opening.now (state first.now) }
     ensures listed { IfOk result (λ list. AreListed ends.now list.items) }
     ensures reached { IfOk result (λ list. (t : Plain) → LeadsTo (state first.now) t
-        → AreSeen (made_by declared.now) opening.now t calls.now loads.now list.items) }
+        → AreSeen (made_by declared.now) opening.now t calls.now loads.now maps list.items) }
 {
     let Ok(own) = alloc.clone() else {
         return Err(Late::NoMemory);
     };
     let mut list = Vec::new(own);
     'ends: for k in 0..ends.len() {
-        let one = match outcome_of(alloc, declared, first, opening, calls, loads, &ends[k]) {
+        let one = match outcome_of(
+            alloc, declared, first, opening, calls, loads, maps, &ends[k],
+        ) {
             Ok(one) => one,
             Err(late) => return Err(late),
         };
@@ -187,15 +205,16 @@ fn list_on<A: Allocator + Clone + Drop>(
     opening: Vec<Event, A>,
     calls: &[Asked],
     finals: &[u64],
+    maps: bool,
     limit: usize,
 ) -> Result<Outcomes<A>, Late>
     requires fault { asked_fault declared.now ≡ None }
     requires named { AreNamed calls.now }
     requires first { IsCalm (made_by declared.now) opening.items (state first.now) }
-    ensures outcomes { IfOk result (λ it. AreOutcomes (made_by declared.now) calls.now finals.now it) }
+    ensures outcomes { IfOk result (λ it. AreOutcomes (made_by declared.now) calls.now finals.now maps it) }
     ensures opening { IfOk result (λ it. it.opening.items ≡ opening.items) }
 {
-    let explored = match explore_from(alloc, declared, first, calls, finals, limit) {
+    let explored = match explore_from(alloc, declared, first, calls, finals, maps, limit) {
         Ok(explored) => explored,
         Err(late) => return Err(late),
     };
@@ -208,7 +227,7 @@ fn list_on<A: Allocator + Clone + Drop>(
     let ends = explored.ends.as_slice();
     let asked = loads.as_slice();
     let events = opening.as_slice();
-    let list = match outcomes_of(alloc, declared, first, events, calls, asked, ends) {
+    let list = match outcomes_of(alloc, declared, first, events, calls, asked, maps, ends) {
         Ok(list) => list,
         Err(late) => return Err(late),
     };
@@ -228,11 +247,12 @@ fn list_behind<A: Allocator + Clone + Drop>(
     opening: Vec<Event, A>,
     calls: &[Asked],
     finals: &[u64],
+    maps: bool,
     limit: usize,
 ) -> Result<Outcomes<A>, Late>
     requires fault { asked_fault declared.now ≡ None }
     requires named { AreNamed calls.now }
-    ensures outcomes { IfOk result (λ it. AreOutcomes (made_by declared.now) calls.now finals.now it) }
+    ensures outcomes { IfOk result (λ it. AreOutcomes (made_by declared.now) calls.now finals.now maps it) }
     ensures opening { IfOk result (λ it. it.opening.items ≡ opening.items) }
 {
     let events = opening.as_slice();
@@ -247,6 +267,7 @@ fn list_behind<A: Allocator + Clone + Drop>(
         opening,
         calls,
         finals,
+        maps,
         limit,
     ) {
         Ok(it) => Ok(it),
@@ -261,37 +282,39 @@ fn list_declared<A: Allocator + Clone + Drop>(
     opening: &[Opened],
     calls: &[Asked],
     finals: &[u64],
+    maps: bool,
     limit: usize,
 ) -> Result<Outcomes<A>, Late>
     requires fault { asked_fault declared.now ≡ None }
     requires named { AreNamed calls.now }
-    ensures outcomes { IfOk result (λ it. AreOutcomes (made_by declared.now) calls.now finals.now it) }
+    ensures outcomes { IfOk result (λ it. AreOutcomes (made_by declared.now) calls.now finals.now maps it) }
     ensures opening { IfOk result (λ it. AreLines opening.now it.opening.items) }
 {
     let events = match events_of(alloc, declared, opening) {
         Ok(events) => events,
         Err(late) => return Err(late),
     };
-    match list_behind(alloc, declared, events, calls, finals, limit) {
+    match list_behind(alloc, declared, events, calls, finals, maps, limit) {
         Ok(it) => Ok(it),
         Err(late) => Err(late),
     }
 }
 
 /// What can come out of these calls, where each core makes its own in order, on the machine that is declared, behind the
-/// opening; and what core 0 is answered that loads from the addresses in `finals` then. Each outcome with a witness is reached
-/// by it on the machine. Where the answer is whole, no list of events has other replies, nor other finals with them, unless one
-/// of them is "no frame" or "no memory". At most `limit` points of merges are kept; where there are
-/// more, the answer isn't whole.
+/// opening; what core 0 is answered that loads from the addresses in `finals` then; and, where `maps` asks for them, the mappings
+/// behind these loads. Each outcome with a witness is reached by it on the machine. Where the answer is whole, no list of events
+/// has other replies, nor other finals or mappings with them, unless one of them is "no frame" or "no memory". At most `limit`
+/// points of merges are kept; where there are more, the answer isn't whole.
 pub fn list_outcomes<A: Allocator + Clone + Drop>(
     alloc: A,
     declared: &Declaration,
     opening: &[Opened],
     calls: &[Asked],
     finals: &[u64],
+    maps: bool,
     limit: usize,
 ) -> Result<Outcomes<A>, OutcomesFault>
-    ensures outcomes { IfOk result (λ it. AreOutcomes (made_by declared.now) calls.now finals.now it) }
+    ensures outcomes { IfOk result (λ it. AreOutcomes (made_by declared.now) calls.now finals.now maps it) }
     ensures opening { IfOk result (λ it. AreLines opening.now it.opening.items) }
     ensures err { IfErr result (λ fault. Faults declared.now calls.now fault) }
 {
@@ -301,7 +324,7 @@ pub fn list_outcomes<A: Allocator + Clone + Drop>(
     if let Some(fault) = declared.fault() {
         return Err(OutcomesFault::Setup(fault));
     }
-    match list_declared(&alloc, declared, opening, calls, finals, limit) {
+    match list_declared(&alloc, declared, opening, calls, finals, maps, limit) {
         Ok(it) => Ok(it),
         Err(late) => Err(fault_by(late)),
     }

@@ -1,5 +1,6 @@
 //! What comes before the calls, and what can come out of them.
 use machine_model::Event;
+use slot_lock::MapLine;
 use std::alloc::Allocator;
 use vm_base::{CoreId, Reply, Request};
 
@@ -19,7 +20,7 @@ pub enum Opened {
 pub struct Outcomes<A: Allocator> {
     /// The opening, event by event.
     pub opening: Vec<Event, A>,
-    /// What was found, no two with the same replies and finals.
+    /// What was found, no two with the same replies, finals and mappings.
     pub list: Vec<Outcome<A>, A>,
     /// Whether nothing else can come out. `false` where the limit of points was reached.
     pub whole: bool,
@@ -32,6 +33,8 @@ pub struct Outcome<A: Allocator> {
     pub replies: Vec<Reply, A>,
     /// What a load of each address that was asked for is answered once all calls are.
     pub finals: Vec<Reply, A>,
+    /// All mappings then, in order, where they were asked for.
+    pub maps: Vec<MapLine, A>,
     /// Events behind the opening's that perform the calls with these replies; with none the outcome is open.
     pub witness: Option<Vec<Event, A>>,
 }

@@ -7,7 +7,7 @@ ghost use Rattle.machine_sound.specs.Log.{LeadsTo};
 ghost use Rattle.core_steps.specs.Machine.{state};
 ghost use Rattle.trace.specs.Declarations.{asked_fault, made_by};
 ghost use Rattle.outcomes.specs.Opening.{IsCalm};
-ghost use Rattle.outcomes.specs.Outcomes.{IsWitness, Performs};
+ghost use Rattle.outcomes.specs.Outcomes.{HasMaps, IsWitness, Performs};
 
 use crate::fault::Late;
 use crate::machines::{are_alike, give_all, open};
@@ -15,10 +15,10 @@ use crate::performing::perform;
 use combinations::Asked;
 use core_steps::{Kept, Machine};
 use machine_model::Event;
-use merges::End;
+use merges::{End, are_same_maps};
 use radix_range::RadixMap;
 use scheduling::schedule;
-use slot_lock::SlotMap;
+use slot_lock::{MapLine, SlotMap};
 use std::alloc::Allocator;
 use trace::declaration::Declaration;
 use vm_base::{CoreId, NoMemory, Reply, Request};
@@ -108,18 +108,36 @@ fn does<M: SlotMap, A: Allocator + Clone>(
     Ok(yes)
 }
 
-// Whether it performs the calls with these replies, and then the loads with the finals.
+// Whether these are all mappings of the machine, where they are asked for; and else whether there are none.
+fn has_maps<M: SlotMap, A: Allocator + Clone>(
+    machine: &Machine<M, A, Kept<A>>,
+    maps: bool,
+    lines: &[MapLine],
+    alloc: &A,
+) -> Result<bool, NoMemory>
+    ensures { IfOk result (λ yes. yes ≡ true → HasMaps maps (state machine.now) lines.now) }
+{
+    if !maps {
+        return Ok(are_same_maps(lines, &[]));
+    }
+    let all = machine.plain_maps(alloc.clone()?)?;
+    Ok(are_same_maps(all.as_slice(), lines))
+}
+
+// Whether it performs the calls with the end's replies, and then the loads with its finals, and has its mappings then.
 fn does_both<M: SlotMap, A: Allocator + Clone>(
     machine: &mut Machine<M, A, Kept<A>>,
     calls: &[Asked],
     loads: &[Asked],
+    maps: bool,
     end: &End<A>,
     tried: &Tried<A>,
     alloc: &A,
 ) -> Result<bool, NoMemory>
     ensures { IfOk result (λ yes. yes ≡ true → (mid : World)
         × Performs calls.now end.now.replies.items (state machine.old) tried.now.calls.items mid
-        × Performs loads.now end.now.finals.items mid tried.now.loads.items (state machine.new)) }
+        × Performs loads.now end.now.finals.items mid tried.now.loads.items (state machine.new)
+        × HasMaps maps (state machine.new) end.now.maps.items) }
 {
     let replies = end.replies.as_slice();
     let first = tried.calls.as_slice();
@@ -130,7 +148,12 @@ fn does_both<M: SlotMap, A: Allocator + Clone>(
     let finals = end.finals.as_slice();
     let later = tried.loads.as_slice();
     let shows = does(machine, loads, finals, later, alloc)?;
-    Ok(shows)
+    if !shows {
+        return Ok(false);
+    }
+    let lines = end.maps.as_slice();
+    let mapped = has_maps(machine, maps, lines, alloc)?;
+    Ok(mapped)
 }
 
 // Whether these events do so on a machine that is opened once more.
@@ -141,14 +164,15 @@ fn is_witness<A: Allocator + Clone + Drop>(
     opening: &[Event],
     calls: &[Asked],
     loads: &[Asked],
+    maps: bool,
     end: &End<A>,
     tried: &Tried<A>,
 ) -> Result<bool, Late>
     requires fault { asked_fault declared.now ≡ None }
     requires first { IsCalm (made_by declared.now) opening.now (state first.now) }
     ensures { IfOk result (λ yes. yes ≡ true → (t : Plain) → LeadsTo (state first.now) t
-        → IsWitness (made_by declared.now) opening.now t calls.now loads.now end.now.replies.items end.now.finals.items
-        (tried.now.calls.items ++ tried.now.loads.items)) }
+        → IsWitness (made_by declared.now) opening.now t calls.now loads.now maps end.now.replies.items end.now.finals.items
+        end.now.maps.items (tried.now.calls.items ++ tried.now.loads.items)) }
 {
     let mut done = match open(alloc, declared, opening) {
         Ok(done) => done,
@@ -157,7 +181,7 @@ fn is_witness<A: Allocator + Clone + Drop>(
     if !are_alike(first, &done.machine) {
         return Ok(false);
     }
-    match does_both(&mut done.machine, calls, loads, end, tried, alloc) {
+    match does_both(&mut done.machine, calls, loads, maps, end, tried, alloc) {
         Ok(yes) => Ok(yes),
         Err(_) => Err(Late::NoMemory),
     }
@@ -173,8 +197,8 @@ fn joined<A: Allocator>(tried: Tried<A>) -> Result<Vec<Event, A>, NoMemory>
     Ok(events)
 }
 
-/// Events behind the opening's that perform the calls with the end's replies, and then the loads with its finals, if they were
-/// found.
+/// Events behind the opening's that perform the calls with the end's replies, and then the loads with its finals, and leave its
+/// mappings, if they were found.
 pub(crate) fn find_witness<A: Allocator + Clone + Drop>(
     alloc: &A,
     declared: &Declaration,
@@ -182,19 +206,22 @@ pub(crate) fn find_witness<A: Allocator + Clone + Drop>(
     opening: &[Event],
     calls: &[Asked],
     loads: &[Asked],
+    maps: bool,
     end: &End<A>,
 ) -> Result<Option<Vec<Event, A>>, Late>
     requires fault { asked_fault declared.now ≡ None }
     requires first { IsCalm (made_by declared.now) opening.now (state first.now) }
     ensures { IfOk result (λ found. IfSome found (λ events. (t : Plain) → LeadsTo (state first.now) t
-        → IsWitness (made_by declared.now) opening.now t calls.now loads.now end.now.replies.items end.now.finals.items
-        events.items)) }
+        → IsWitness (made_by declared.now) opening.now t calls.now loads.now maps end.now.replies.items end.now.finals.items
+        end.now.maps.items events.items)) }
 {
     let tried = match scheduled(alloc, declared, opening, calls, end.order.as_slice(), loads) {
         Ok(tried) => tried,
         Err(late) => return Err(late),
     };
-    let yes = match is_witness(alloc, declared, first, opening, calls, loads, end, &tried) {
+    let yes = match is_witness(
+        alloc, declared, first, opening, calls, loads, maps, end, &tried,
+    ) {
         Ok(yes) => yes,
         Err(late) => return Err(late),
     };

@@ -93,7 +93,7 @@ fn two_stores_and_a_load(rt: HostRuntime) -> Result<(), Fail> {
         },
     ];
     assert!(rt; are_named(&calls));
-    let explored = explore(&objects, opening.as_slice(), &calls, &[], 1000, alloc)?;
+    let explored = explore(&objects, opening.as_slice(), &calls, &[], false, 1000, alloc)?;
     assert!(rt; explored.whole);
     assert_eq!(rt; explored.ends.len(), 3);
     assert!(rt; has(&explored, &[Reply::Done, Reply::Done, Reply::Byte(0)]));
@@ -151,14 +151,14 @@ fn pages_go_together(rt: HostRuntime) -> Result<(), Fail> {
         },
     ];
     assert!(rt; are_named(&calls));
-    let explored = explore(&objects, opening.as_slice(), &calls, &[], 1000, alloc)?;
+    let explored = explore(&objects, opening.as_slice(), &calls, &[], false, 1000, alloc)?;
     let gone = Reply::Segv(SegvCode::MapErr);
     assert!(rt; explored.whole);
     assert_eq!(rt; explored.ends.len(), 3);
     assert!(rt; has(&explored, &[Reply::Done, Reply::Byte(1), Reply::Byte(2)]));
     assert!(rt; has(&explored, &[Reply::Done, Reply::Byte(1), gone]));
     assert!(rt; has(&explored, &[Reply::Done, gone, gone]));
-    let few = explore(&objects, opening.as_slice(), &calls, &[], 3, alloc)?;
+    let few = explore(&objects, opening.as_slice(), &calls, &[], false, 3, alloc)?;
     assert!(rt; !few.whole);
     Ok(())
 }
@@ -204,7 +204,7 @@ fn a_copy_stands_apart(rt: HostRuntime) -> Result<(), Fail> {
         },
     ];
     assert!(rt; are_named(&calls));
-    let explored = explore(&objects, opening.as_slice(), &calls, &[], 1000, alloc)?;
+    let explored = explore(&objects, opening.as_slice(), &calls, &[], false, 1000, alloc)?;
     assert!(rt; explored.whole);
     assert_eq!(rt; explored.ends.len(), 3);
     assert!(rt; has(&explored, &[Reply::Done, Reply::Done, Reply::Byte(77)]));

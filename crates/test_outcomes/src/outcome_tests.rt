@@ -94,7 +94,7 @@ fn a_load_against_a_munmap(rt: HostRuntime) -> Result<(), Fail> {
         Opened::Whole(one, load(ADDR)),
     ];
     let calls = [asked(zero, munmap(ADDR, 4096)), asked(one, load(ADDR))];
-    let Ok(found) = list_outcomes(alloc, &declared, &opening, &calls, &[], 1000) else {
+    let Ok(found) = list_outcomes(alloc, &declared, &opening, &calls, &[], false, 1000) else {
         return Err(Fail::new("nothing was listed"));
     };
     let gone = Reply::Segv(SegvCode::MapErr);
@@ -124,7 +124,7 @@ fn pages_go_together(rt: HostRuntime) -> Result<(), Fail> {
         asked(one, load(ADDR)),
         asked(one, load(ADDR + 4096)),
     ];
-    let Ok(found) = list_outcomes(alloc, &declared, &opening, &calls, &[], 1000) else {
+    let Ok(found) = list_outcomes(alloc, &declared, &opening, &calls, &[], false, 1000) else {
         return Err(Fail::new("nothing was listed"));
     };
     let gone = Reply::Segv(SegvCode::MapErr);
@@ -133,7 +133,7 @@ fn pages_go_together(rt: HostRuntime) -> Result<(), Fail> {
     assert!(rt; has(&found, &[Reply::Done, Reply::Byte(1), Reply::Byte(2)]));
     assert!(rt; has(&found, &[Reply::Done, Reply::Byte(1), gone]));
     assert!(rt; has(&found, &[Reply::Done, gone, gone]));
-    let Ok(few) = list_outcomes(alloc, &declared, &opening, &calls, &[], 3) else {
+    let Ok(few) = list_outcomes(alloc, &declared, &opening, &calls, &[], false, 3) else {
         return Err(Fail::new("nothing was listed"));
     };
     assert!(rt; !few.whole);
@@ -160,7 +160,7 @@ fn a_copy_stands_apart(rt: HostRuntime) -> Result<(), Fail> {
         asked(one, load(ADDR + 5)),
         asked(one, load(ADDR + 6)),
     ];
-    let Ok(found) = list_outcomes(alloc, &declared, &opening, &calls, &[], 1000) else {
+    let Ok(found) = list_outcomes(alloc, &declared, &opening, &calls, &[], false, 1000) else {
         return Err(Fail::new("nothing was listed"));
     };
     assert!(rt; found.whole);
@@ -197,7 +197,7 @@ fn three_unmap_at_once(rt: HostRuntime) -> Result<(), Fail> {
         asked(one, munmap(ADDR + 4096, 4096)),
         asked(two, munmap(ADDR + 8192, 4096)),
     ];
-    let Ok(found) = list_outcomes(alloc, &declared, &opening, &calls, &[], 1000) else {
+    let Ok(found) = list_outcomes(alloc, &declared, &opening, &calls, &[], false, 1000) else {
         return Err(Fail::new("nothing was listed"));
     };
     assert!(rt; found.whole);

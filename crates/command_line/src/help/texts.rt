@@ -351,6 +351,7 @@ noframe and nomemory: that is proved, for every order. A test has these lines:
                     the flag f. The lines of one core are in order, and those
                     of others may stand anywhere
   final ADDR        a load of this address at the end belongs to an outcome
+  final maps        so does the list of all mappings at the end
   exists COND       COND holds of some outcome
   never COND        it holds of none
   forall COND       it holds of each
@@ -364,8 +365,10 @@ or several, joined by the words and, or; and binds closer:
 
 It writes outcomes N, and a line for each outcome in the order of their texts:
 K: c0 done; c1 1, 2 says that core 0's call was answered done, and core 1's two
-1 and 2; behind it stands ; ADDR BYTE of each final address. (open) behind an
-outcome says that no run was found that has it. Then comes one of these:
+1 and 2; behind it stands ; ADDR BYTE of each final address, and for final maps
+; maps with the mappings, each as the word maps writes it, divided by | or
+nothing: ; maps 0x10000-0x11000 r-- anon. (open) behind an outcome says that no
+run was found that has it. Then comes one of these:
 
   exact             each outcome has a run, and no other can come, but with
                     noframe or nomemory
@@ -376,13 +379,16 @@ outcome says that no run was found that has it. Then comes one of these:
   noframe is left out
                     in front of exact or open: frames may be too few for
                     all calls, and outcomes with noframe aren't looked for
+  maps are left out
+                    the same, of --live for a test that has final maps
 
 Outcomes with nomemory aren't listed either, and only runs count in which every
 call is answered. Then each clause is written again with : holds, : fails or
 : open, and of each Observation NAME, Always, Sometimes or Never, and of how
 many outcomes that have a run COND holds and of how many it doesn't.
 
---list writes only the outcomes, one in a line, with tabs between the replies.
+--list writes only the outcomes, one in a line, with tabs between the replies,
+finals and mappings.
 --witness N writes a trace for run that has the Nth outcome, and --picture N
 the picture of that trace (help picture).
 
@@ -390,18 +396,20 @@ the picture of that trace (help picture).
 each outcome came, in the words of the list, as in 12: c0 done; c1 1, 2. Empty
 lines and lines with # in front are passed over. It writes the counts again,
 and (outside) behind an outcome that isn't listed. One with noframe or nomemory
-is never listed. Then comes exact, open or what else ends the list. The clauses
-aren't looked at.
+is never listed, nor one without mappings, where the test has final maps. Then
+comes exact, open or what else ends the list. The clauses aren't looked at.
 
 --live N runs the test N times, each time in a new space: its opening in order,
 then each core's calls on a thread of its own, and then loads of the final
 addresses. Each run is certified, as live --certify does it. It writes how
-often each outcome came, as --observed does. An outcome that isn't listed would
-be a fault of radixvm. The opening has whole calls, flushes and reviews then.
+often each outcome came, as --observed does; mappings are left out. An outcome
+that isn't listed would be a fault of radixvm. The opening has whole calls,
+flushes and reviews then.
 
 --to-c writes a C program that makes the calls to a kernel with POSIX threads,
 each core on a thread, and writes such counts. The opening has whole calls,
-flushes and reviews then; addresses are below 2 GiB, and fetch can't be made:
+flushes and reviews then; addresses are below 2 GiB, fetch can't be made, and
+final maps can't be told:
 
   radixvm litmus --to-c TEST > test.c && cc -O2 -pthread test.c
   ./a.out RUNS | radixvm litmus --observed /dev/stdin TEST

@@ -5,7 +5,7 @@ use Rattle.merges.proofs.Numbered.{its_number}
 use Rattle.merges.proofs.ending.has_end.Goals as goal
 
 pub ends-init : goal.ends-init
-ends-init g c = none_has c.args.ends.now c.args.replies.now c.args.finals.now
+ends-init g c = none_has c.args.ends.now c.args.replies.now c.args.finals.now c.args.maps.now
 
 pub is_end-requires-clause-its : goal.is_end-requires-clause-its
 is_end-requires-clause-its g c =
@@ -13,7 +13,7 @@ is_end-requires-clause-its g c =
     its_number c.args.ends.now c.args.numbers.now c.ends.k _ c.index-ends-k.result c.requires.numbered is
 
 pub ends-preserved : goal.ends-preserved
-ends-preserved g c = more_none c.args.ends.now c.ends.k _ c.args.replies.now c.args.finals.now
+ends-preserved g c = more_none c.args.ends.now c.ends.k _ c.args.replies.now c.args.finals.now c.args.maps.now
     (get_read c.args.ends.now c.ends.k c.index-ends-k.result c.ends-test.true c.index-ends-k.is)
     (λ e. let wrong : false ≡ true = sym c.if-is_end.false ∙ c.is_end.ensures.1 e in absurd cc)
     c.ends.invariant
@@ -27,6 +27,7 @@ returns-then-is_end g c =
         get_read c.args.ends.now c.ends.k c.index-ends-k.result c.ends-test.true c.index-ends-k.is,
         same.0,
         same.1,
+        same.2,
       )),
       (λ h. refl),
     )
@@ -35,5 +36,5 @@ pub returns : goal.returns
 returns g c =
     let end = c.ends-test.false in (
       (λ h. let wrong : false ≡ true = h in absurd cc),
-      (λ h. absurd (has_none c.args.ends.now c.ends.k c.args.replies.now c.args.finals.now (omega (arith, end)) c.ends.invariant h)),
+      (λ h. absurd (has_none c.args.ends.now c.ends.k c.args.replies.now c.args.finals.now c.args.maps.now (omega (arith, end)) c.ends.invariant h)),
     )

@@ -6,7 +6,7 @@ use Rattle.merges.proofs.ending.list_ends.Given as goal
 abbrev pub invariant-nodes : goal.invariant-nodes
 invariant-nodes g l = record {
   numbered : AreNumbered l.ends.items l.numbers.items;
-  are : AreEnds l.objects l.addrs l.nodes l.ends.items;
+  are : AreEnds l.objects l.addrs l.maps l.nodes l.ends.items;
   once : AreOnce l.ends.items;
-  have : HaveEnds l.objects l.addrs l.nodes l.last l.ends.items;
+  have : HaveEnds l.objects l.addrs l.maps l.nodes l.last l.ends.items;
 }

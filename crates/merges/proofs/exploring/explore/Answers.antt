@@ -17,15 +17,15 @@ list_ends-requires g c = record {
 }
 
 pub returns-clause-reached : goal.returns-clause-reached
-returns-clause-reached g c = reached c.args.objects.now c.args.calls.now c.args.finals.now c.args.opening.now c.run.new.nodes.items c.in_ok-ends.ends.items zero
+returns-clause-reached g c = reached c.args.objects.now c.args.calls.now c.args.finals.now c.args.maps c.args.opening.now c.run.new.nodes.items c.in_ok-ends.ends.items zero
     c.in_ok-first.first c.in_ok-first.ensures.told c.in_ok-first.ensures.steps
     (start_kept c.push.new.self.items c.run.new.nodes.items c.in_ok-first.first (search rules) c.run.ensures.keeps)
     c.run.ensures.explored
-    (subst (λ xs. AreEnds c.args.objects.now c.args.finals.now xs c.in_ok-ends.ends.items) c.as_slice.ensures.value c.in_ok-ends.ensures.ends)
+    (subst (λ xs. AreEnds c.args.objects.now c.args.finals.now c.args.maps xs c.in_ok-ends.ends.items) c.as_slice.ensures.value c.in_ok-ends.ensures.ends)
 
 pub returns-clause-all : goal.returns-clause-all
-returns-clause-all g c = λ e. all_found c.args.objects.now c.args.calls.now c.args.finals.now c.args.opening.now c.run.new.nodes.items c.in_ok-ends.ends.items
+returns-clause-all g c = λ e. all_found c.args.objects.now c.args.calls.now c.args.finals.now c.args.maps c.args.opening.now c.run.new.nodes.items c.in_ok-ends.ends.items
     c.in_ok-first.first c.in_ok-first.ensures.told c.in_ok-first.ensures.steps
     (start_kept c.push.new.self.items c.run.new.nodes.items c.in_ok-first.first (search rules) c.run.ensures.keeps)
     (c.in_ok-whole.ensures.whole (search (rules, e)))
-    (subst (λ xs. HaveEnds c.args.objects.now c.args.finals.now xs (length xs) c.in_ok-ends.ends.items) c.as_slice.ensures.value c.in_ok-ends.ensures.have)
+    (subst (λ xs. HaveEnds c.args.objects.now c.args.finals.now c.args.maps xs (length xs) c.in_ok-ends.ends.items) c.as_slice.ensures.value c.in_ok-ends.ensures.have)

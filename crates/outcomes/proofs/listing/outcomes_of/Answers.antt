@@ -8,7 +8,7 @@ pub ends-init : goal.ends-init
 ends-init g c = record {
   count = search rules;
   each = listed_none c.args.ends.now c.new-list.result.items (search rules);
-  seen = λ t leads. seen_none (made_by c.args.declared.now) c.args.opening.now t c.args.calls.now c.args.loads.now c.new-list.result.items (search rules);
+  seen = λ t leads. seen_none (made_by c.args.declared.now) c.args.opening.now t c.args.calls.now c.args.loads.now c.args.maps c.new-list.result.items (search rules);
 }
 
 pub ends-preserved : goal.ends-preserved
@@ -18,6 +18,6 @@ ends-preserved g c =
       count = search rules;
       each = listed_more c.args.ends.now c.ends.list.items c.push.new.self.items c.index-ends-k.result c.in-Ok-outcome_of.one c.in_ok-push.ensures.items c.ends.invariant.each
           (subst (λ k. slice_get c.args.ends.now k ≡ Some c.index-ends-k.result) (sym c.ends.invariant.count) is) c.in-Ok-outcome_of.ensures.is;
-      seen = λ t leads. seen_more (made_by c.args.declared.now) c.args.opening.now t c.args.calls.now c.args.loads.now c.ends.list.items c.push.new.self.items c.in-Ok-outcome_of.one
+      seen = λ t leads. seen_more (made_by c.args.declared.now) c.args.opening.now t c.args.calls.now c.args.loads.now c.args.maps c.ends.list.items c.push.new.self.items c.in-Ok-outcome_of.one
           c.in_ok-push.ensures.items (c.ends.invariant.seen t leads) (c.in-Ok-outcome_of.ensures.reached t leads);
     }

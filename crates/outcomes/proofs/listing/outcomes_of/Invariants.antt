@@ -12,5 +12,5 @@ abbrev pub invariant-ends : goal.invariant-ends
 invariant-ends g l = record {
   count : length l.list.items ≡ l.k;
   each : EachListed l.ends l.list.items;
-  seen : (t : Plain) → LeadsTo (state l.first) t → AreSeen (made_by l.declared) l.opening t l.calls l.loads l.list.items;
+  seen : (t : Plain) → LeadsTo (state l.first) t → AreSeen (made_by l.declared) l.opening t l.calls l.loads l.maps l.list.items;
 }
