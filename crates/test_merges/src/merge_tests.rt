@@ -93,7 +93,15 @@ fn two_stores_and_a_load(rt: HostRuntime) -> Result<(), Fail> {
         },
     ];
     assert!(rt; are_named(&calls));
-    let explored = explore(&objects, opening.as_slice(), &calls, &[], false, 1000, alloc)?;
+    let explored = explore(
+        &objects,
+        opening.as_slice(),
+        &calls,
+        &[],
+        false,
+        1000,
+        alloc,
+    )?;
     assert!(rt; explored.whole);
     assert_eq!(rt; explored.ends.len(), 3);
     assert!(rt; has(&explored, &[Reply::Done, Reply::Done, Reply::Byte(0)]));
@@ -151,7 +159,15 @@ fn pages_go_together(rt: HostRuntime) -> Result<(), Fail> {
         },
     ];
     assert!(rt; are_named(&calls));
-    let explored = explore(&objects, opening.as_slice(), &calls, &[], false, 1000, alloc)?;
+    let explored = explore(
+        &objects,
+        opening.as_slice(),
+        &calls,
+        &[],
+        false,
+        1000,
+        alloc,
+    )?;
     let gone = Reply::Segv(SegvCode::MapErr);
     assert!(rt; explored.whole);
     assert_eq!(rt; explored.ends.len(), 3);
@@ -204,7 +220,15 @@ fn a_copy_stands_apart(rt: HostRuntime) -> Result<(), Fail> {
         },
     ];
     assert!(rt; are_named(&calls));
-    let explored = explore(&objects, opening.as_slice(), &calls, &[], false, 1000, alloc)?;
+    let explored = explore(
+        &objects,
+        opening.as_slice(),
+        &calls,
+        &[],
+        false,
+        1000,
+        alloc,
+    )?;
     assert!(rt; explored.whole);
     assert_eq!(rt; explored.ends.len(), 3);
     assert!(rt; has(&explored, &[Reply::Done, Reply::Done, Reply::Byte(77)]));

@@ -112,7 +112,15 @@ fn protect_against_two_stores(rt: HostRuntime) -> Result<(), Fail> {
     ];
     assert!(rt; are_named(&calls));
     let finals = [ADDR, ADDR + 4096];
-    let explored = explore(&objects, opening.as_slice(), &calls, &finals, false, 1000, alloc)?;
+    let explored = explore(
+        &objects,
+        opening.as_slice(),
+        &calls,
+        &finals,
+        false,
+        1000,
+        alloc,
+    )?;
     let done = Reply::Done;
     let refused = Reply::Segv(SegvCode::AccErr);
     assert!(rt; explored.whole);
@@ -177,7 +185,15 @@ fn file_stays(rt: HostRuntime) -> Result<(), Fail> {
         by(1, Request::Load { addr: OTHER }),
     ];
     assert!(rt; are_named(&calls));
-    let explored = explore(&objects, opening.as_slice(), &calls, &[OTHER], false, 1000, alloc)?;
+    let explored = explore(
+        &objects,
+        opening.as_slice(),
+        &calls,
+        &[OTHER],
+        false,
+        1000,
+        alloc,
+    )?;
     assert!(rt; explored.whole);
     assert_eq!(rt; explored.ends.len(), 1);
     assert!(rt;
