@@ -33,7 +33,7 @@ pub struct Told {
 fn ending_from(traced: &Traced) -> Ending
     ensures { result ≡ ending_from (state_of traced.now) }
 {
-    if traced.taken.steps.is_empty() {
+    if traced.taken.steps.len() == 0 {
         Ending::Nothing
     } else {
         Ending::Written

@@ -10,7 +10,8 @@ ghost use Rattle.import_maps.specs.Starting.{shown_name, start_of, with_request,
 use crate::entries::{Entered, Entries};
 use crate::listed::{Kind, Listed, kind_of, read_listed};
 use import_text::names::{NO_NAME, Name, note_name};
-use import_text::taking::{ADDRESS_END, Step, Taken, reaches, use_file};
+use import_text::steps::Step;
+use import_text::taking::{ADDRESS_END, Taken, reaches, use_file};
 use std::alloc::{AllocError, Global};
 use trace_io::lines::front_line;
 use vm_base::{CoreId, Flags, Request};

@@ -5,3 +5,4 @@ mod NameLemmas
 mod ProcessLemmas
 pub mod EndLemmas
 mod TakingLemmas
+mod StepLemmas

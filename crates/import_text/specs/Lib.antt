@@ -3,6 +3,7 @@ pub mod Made
 pub mod Processes
 pub mod Names
 pub mod Shared
+pub mod Steps
 pub mod Taking
 pub mod Told
 pub mod Losses

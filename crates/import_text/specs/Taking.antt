@@ -13,7 +13,7 @@ use Rattle.import_forms.specs.declared.said.Said.TheVariants as Says
 use Rattle.import_text.specs.Shared.{len_of, memory_name}
 use Rattle.import_text.specs.declared.shared.Piece.{Piece}
 use Rattle.import_text.specs.declared.names.Name.{Name}
-use Rattle.import_text.specs.declared.taking.Step.{Step}
+use Rattle.import_text.specs.declared.steps.Step.{Step}
 use Rattle.import_text.specs.declared.taking.FileUse.{FileUse}
 use Rattle.import_text.specs.declared.taking.Taken.{Taken}
 use Rattle.import_text.specs.declared.taking.Change.TheVariants.{Heap, Move, File, Key, Shared}
@@ -46,7 +46,7 @@ so_far t = record {
   pieces = t.pieces.items;
   attached = t.attached.items;
   names = t.names.items;
-  steps = t.steps.items;
+  steps = t.steps;
 }
 
 -- before the first line

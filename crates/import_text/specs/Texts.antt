@@ -9,7 +9,7 @@ use Rattle.trace_text.specs.Spelling.{letter, rights_text}
 use Rattle.import_text.specs.Names.{bare, name_shown}
 use Rattle.import_text.specs.Taking.{SoFar}
 use Rattle.import_text.specs.declared.names.Name.{Name}
-use Rattle.import_text.specs.declared.taking.Step.{Step}
+use Rattle.import_text.specs.declared.steps.Step.{Step}
 
 -- an address and a length in bytes, each behind a space
 abbrev pub range_text : ℕ → ℕ → List ℕ

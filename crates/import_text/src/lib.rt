@@ -13,6 +13,7 @@ pub mod names;
 pub mod processes;
 pub mod programs;
 pub mod shared;
+pub mod steps;
 pub mod taking;
 pub mod told;
 pub mod writing;

@@ -1,9 +1,12 @@
 //! A log is read whole, and its trace is written.
-ghost use Rattle.std.specs.Prelude.{◌≡◌, ◌⊎◌, ◌<◌, ◌^◌, Err, IfOk, OnOk, true};
+ghost use Rattle.std.specs.Prelude.{◌≡◌, ◌⊎◌, ◌<◌, ◌^◌, Err, IfOk, OnOk, length, map, true};
 ghost use Rattle.import_text.specs.Counts.{total};
 ghost use Rattle.import_text.specs.Ends.{ImportEnds, ended_text};
+ghost use Rattle.import_text.specs.Imported.{ending_of, import_of, process_in, processes_of, unread_of};
+ghost use Rattle.import_text.specs.Programs.{program_name, programs_in};
 ghost use Rattle.import_text.specs.Taking.{so_far};
 ghost use Rattle.trace_io.specs.Io.{TellsSent, read_from, written_to};
+ghost use Rattle.trace_io.specs.Lines.{lines_of};
 ghost use Rattle.trace_io.specs.Source.{Reads};
 
 use crate::import::{Ending, Report, import_lines};
@@ -30,24 +33,45 @@ pub(crate) fn write_ended(
     }
 }
 
+// What is taken of a log, and what is said about that. The log is let go of then.
+fn import_whole<M: Meter>(
+    alloc: Global,
+    start: &Taken,
+    log: Vec<u8>,
+    choice: Choice,
+    meter: &mut M,
+) -> Result<(Taken, Report), AllocError>
+    ensures value { IfOk result (λ i. (so_far i.0, i.1.counts) ≡ import_of (so_far start.now) choice log.items) }
+    ensures ending { IfOk result (λ i. i.1.ending ≡ ending_of (so_far start.now) choice log.items) }
+    ensures processes { IfOk result (λ i. i.1.processes.items ≡ processes_of choice.joined log.items) }
+    ensures programs { IfOk result (λ i. map program_name i.1.programs.items ≡ programs_in choice.joined log.items) }
+    ensures process { IfOk result (λ i. i.1.process ≡ process_in choice log.items) }
+    ensures unread { IfOk result (λ i. i.1.unread.items ≡ unread_of (so_far start.now) choice log.items) }
+    ensures total { IfOk result (λ i. total i.1.counts ≡ length (lines_of log.items)) }
+    ensures few { IfOk result (λ i. total i.1.counts < 2 ^ 64) }
+{
+    let imported = import_lines(alloc, start, log.as_slice(), choice, meter)?;
+    Ok(imported)
+}
+
 // Writes the trace of a log, and answers what is said about it.
 #[tactic(auto, using(crate::proofs::EndLemmas::imports_all, crate::proofs::EndLemmas::imports_front, trace_io::proofs::IoLemmas::keeps_same))]
 fn write_import<W: Sink, M: Meter>(
     alloc: Global,
     start: &Taken,
-    log: &[u8],
+    log: Vec<u8>,
     writer: &mut W,
     choice: Choice,
     meter: &mut M,
 ) -> Result<Report, IoFault>
-    ensures ends { ImportEnds (so_far start.now) choice log.now (W.contents writer.old) (W.contents writer.new) result }
+    ensures ends { ImportEnds (so_far start.now) choice log.items (W.contents writer.old) (W.contents writer.new) result }
     ensures few { IfOk result (λ report. total report.counts < 2 ^ 64) }
     ensures out { OnOk result (W.is_flushed writer.new ≡ true) }
     ensures read { result ≡ Err IoFault.ReadFailed → ⊥ }
     ensures write { result ≡ Err IoFault.WriteFailed → W.failed writer.new ≡ true }
     ensures kept { (result ≡ Err IoFault.WriteFailed) ⊎ (W.failed writer.new ≡ W.failed writer.old) }
 {
-    let Ok((taken, report)) = import_lines(alloc, start, log, choice, meter) else {
+    let Ok((taken, report)) = import_whole(alloc, start, log, choice, meter) else {
         return Err(IoFault::NoMemory);
     };
     let Ok(text) = write_ended(alloc, report.ending, &taken) else {
@@ -77,7 +101,7 @@ pub fn import_log<S: Source, W: Sink, M: Meter>(
         (written_to W.Sink writer.old writer.new) }
 {
     match read_all(alloc, reader) {
-        Ok(log) => write_import(alloc, start, log.as_slice(), writer, choice, meter),
+        Ok(log) => write_import(alloc, start, log, writer, choice, meter),
         Err(fault) => Err(fault),
     }
 }

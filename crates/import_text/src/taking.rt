@@ -10,6 +10,7 @@ ghost use Rattle.import_text.specs.Taking.{keyed_with, sized_with};
 
 use crate::names::{NO_NAME, Name, note_name};
 use crate::shared::{Piece, len_of, memory_name};
+use crate::steps::{Step, Steps};
 use import_forms::said::{Lost, Said, read_file_name};
 use std::alloc::{AllocError, Global};
 use vm_base::limits::{FILE_BYTES, FILE_COUNT};
@@ -17,17 +18,6 @@ use vm_base::{CoreId, Flags, Prot, Request};
 
 /// The first address that no program has: 2^47.
 pub const ADDRESS_END: u64 = 140_737_488_355_328;
-
-/// A request of a trace, and the core whose it is.
-#[derive(Clone, Copy, Debug, PartialEq, Eq)]
-pub struct Step {
-    /// The core that makes it.
-    pub core: CoreId,
-    /// The name of the file whose pages a mapping of anonymous pages is for, where one is.
-    pub name: Name,
-    /// What it asks for.
-    pub request: Request,
-}
 
 /// A file that mappings name.
 #[derive(Debug, Drop)]
@@ -54,7 +44,7 @@ pub struct Taken {
     /// The names of files that became anonymous pages, one after another.
     pub names: Vec<u8>,
     /// The requests.
-    pub steps: Vec<Step>,
+    pub steps: Steps,
 }
 
 /// A mapping that a line asks for, where the kernel placed it.
@@ -674,7 +664,7 @@ impl Taken {
             pieces: Vec::new(alloc),
             attached: Vec::new(alloc),
             names: Vec::new(alloc),
-            steps: Vec::new(alloc),
+            steps: Steps::new(alloc),
         }
     }
 
@@ -687,7 +677,7 @@ impl Taken {
         let pieces = Vec::from_slice(alloc, self.pieces.as_slice())?;
         let attached = Vec::from_slice(alloc, self.attached.as_slice())?;
         let names = Vec::from_slice(alloc, self.names.as_slice())?;
-        let steps = Vec::from_slice(alloc, self.steps.as_slice())?;
+        let steps = self.steps.copy(alloc)?;
         Ok(Taken {
             threads,
             files,

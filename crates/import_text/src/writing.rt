@@ -9,7 +9,8 @@ ghost use Rattle.import_text.specs.Texts.{asked_text, backing_text, first_line, 
 ghost use Rattle.import_text.specs.Texts.{step_line, step_text, use_line, use_lines, use_text};
 
 use crate::names::{NAME, NAME_OF_RANGE, Name, bare, name_at, push_name};
-use crate::taking::{FileUse, Step, Taken};
+use crate::steps::{Step, Steps, front_step};
+use crate::taking::{FileUse, Taken};
 use std::alloc::{AllocError, Global};
 use trace_text::{LineText, push_address, push_count, push_letter, push_number, push_rights};
 use vm_base::{CoreId, Flags, Request};
@@ -235,14 +236,15 @@ fn push_step(all: &mut Vec<u8>, names: &[u8], step: Step) -> Result<(), AllocErr
 }
 
 // Appends the lines of the requests, by the names of their files.
-fn push_steps(all: &mut Vec<u8>, names: &[u8], steps: &[Step]) -> Result<(), AllocError>
+fn push_steps(all: &mut Vec<u8>, names: &[u8], steps: &Steps) -> Result<(), AllocError>
     ensures { OnOk result (all.new.items ≡ all.old.items ++ flat_map (step_text names.now) steps.now) }
 {
-    let mut at = 0;
-    'steps: while at < steps.len() {
-        let step = steps[at];
+    let (mut heads, mut numbers) = steps.parts();
+    'steps: while !heads.is_empty() {
+        let (step, later, behind) = front_step(heads, numbers);
         push_step(all, names, step)?;
-        at += 1;
+        heads = later;
+        numbers = behind;
     }
     Ok(())
 }
@@ -257,6 +259,6 @@ pub fn write_taken(alloc: Global, taken: &Taken, frames: u64) -> Result<Vec<u8>,
     put_first(&mut text, frames, taken.threads.len(), taken.steps.len());
     all.extend_from_slice(text.as_str().as_bytes())?;
     push_uses(&mut all, taken.files.as_slice())?;
-    push_steps(&mut all, taken.names.as_slice(), taken.steps.as_slice())?;
+    push_steps(&mut all, taken.names.as_slice(), &taken.steps)?;
     Ok(all)
 }

@@ -1,4 +1,4 @@
-use Rattle.std.proofs.Common.{Err, ap, refl, sym, subst, ◌∙◌}
+use Rattle.std.proofs.Common.{Err, ap, refl, sym, subst}
 use Rattle.trace_io.proofs.IoLemmas.{tells_unread}
 use Rattle.trace_io.proofs.LineLemmas.{reads_map}
 use Rattle.import_text.specs.Ends.{ImportEnds, made_text}
@@ -12,7 +12,7 @@ returns-in-Ok-clause-ends g c =
     let new = g.W.Sink.contents c.write_import.new.writer in
     reads_map _ _ _ _ c.in-Ok.ensures.text
     (λ xs ys k e. subst (λ i. ImportEnds (so_far c.args.start.now) c.args.choice i old new c.write_import.result)
-    (c.as_slice.ensures.value ∙ sym e) c.write_import.ensures.ends)
+    (sym e) c.write_import.ensures.ends)
 
 pub returns-in-Err-clause-ends : goal.returns-in-Err-clause-ends
 returns-in-Err-clause-ends g c =
