@@ -383,8 +383,10 @@ function backward() {
   return go(line - 1);
 }
 
-function follow() {
-  const [toLine, toStep] = location.hash.slice(1).split(\".\").map(Number);
+// The event has the link's own place: the address may have got another name since.
+function follow(event) {
+  const hash = event ? new URL(event.newURL).hash : location.hash;
+  const [toLine, toStep] = hash.slice(1).split(\".\").map(Number);
   if (!Number.isInteger(toLine)) return go(0);
   if (Number.isInteger(toStep)) byId(\"fine\").checked = true;
   return go(toLine, toStep);
