@@ -9,6 +9,7 @@ pub mod judging;
 mod order_text;
 pub mod overlapping;
 pub mod replies;
+mod story;
 
 pub use auditing::audit_text;
 pub use judging::{By, Ruled, Ruling};
