@@ -1,6 +1,6 @@
-//! Calls of a history that have no order, as text: their lines.
+//! A core of a history, as text: the lines of its calls.
 #![tactic(auto)]
 
 mod lines;
 
-pub use lines::{core_text, push_numbered};
+pub use lines::core_text;

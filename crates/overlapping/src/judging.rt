@@ -1,5 +1,5 @@
 //! Judging a text of calls that overlap.
-ghost use Rattle.std.specs.Prelude.{◌≡◌, ◌≤◌, ◌⊎◌, ℕ, List, [], IfErr, IfOk, IfSome, Ok, Some, length, slice_get, true};
+ghost use Rattle.std.specs.Prelude.{◌≡◌, ◌≤◌, ℕ, List, [], IfErr, IfOk, IfSome, Ok, Some, length, slice_get, true};
 ghost use Rattle.trace_io.specs.Lines.{lines_of};
 ghost use Rattle.slot_lock.specs.Slots.{IsNew};
 ghost use Rattle.vm_base.specs.Plain.{nothing_mapped};
@@ -11,12 +11,11 @@ ghost use Rattle.orders_text.specs.Faults.{IsAtFault};
 ghost use Rattle.orders_text.specs.History.{IsHistory, completed, replies_in};
 ghost use Rattle.orders_text.specs.Steps.{HasPlaces, read_of};
 ghost use Rattle.overlapping.specs.Rulings.{HasNone, IsRuling};
-ghost use Rattle.overlapping.specs.Explained.{IsDisorder, IsExplained, IsTold, IsWhole, ShowsNone};
+ghost use Rattle.overlapping.specs.Explained.{IsDisorder, IsExplained, IsTold, ShowsNone};
 
 use crate::found::{Order, search, waiting_core};
 use crate::given::given_order;
 use crate::order_text::order_text;
-use crate::story::story;
 use audit::Auditor;
 use backing::FileSpec;
 use core_text::core_text;
@@ -31,9 +30,6 @@ use vm_base::{NoMemory, Reply};
 
 /// So many beginnings of orders are tried at most.
 const BEGINNINGS: u32 = 10_000;
-
-/// So many lines are told at most of a history that has no order as a whole.
-const FEW: usize = 12;
 
 /// What is told of a history.
 #[derive(Clone, Copy, Debug, PartialEq, Eq)]
@@ -217,33 +213,8 @@ fn bare<A: Allocator + Clone + Drop>(alloc: &A, ruling: Ruling) -> Result<Told<A
     })
 }
 
-// A ruling on a history that has no order as a whole, which its mappings and its lines explain, if these are few.
-#[tactic(auto, using(crate::proofs::RuleLemmas::whole_there))]
-fn whole<A: Allocator + Clone + Drop>(
-    alloc: &A,
-    text: &[u8],
-    history: &History<A>,
-    any_place: bool,
-    ruling: Ruling,
-) -> Result<Told<A>, NoMemory>
-    requires { length history.now.declaration.files.items ≤ 16 }
-    ensures { IfOk result (λ told. (told.ruling ≡ ruling)
-        × ((told.explanation.items ≡ []) ⊎ IsWhole any_place (lines_of text.now) (read_of history.now) told.explanation.items)) }
-{
-    let files = history.declaration.files.as_slice();
-    let calls = history.calls.as_slice();
-    let numbers = history.lines.as_slice();
-    match story(alloc, files, any_place, text, calls, numbers, FEW)? {
-        Some(explanation) => Ok(Told {
-            ruling,
-            explanation,
-        }),
-        None => bare(alloc, ruling),
-    }
-}
-
 // The ruling where no order was found by the end of this line's call.
-#[tactic(auto, using(crate::proofs::RuleLemmas::undecided_bare, crate::proofs::RuleLemmas::unordered_whole, crate::proofs::RuleLemmas::unordered_by))]
+#[tactic(auto, using(crate::proofs::RuleLemmas::unordered_there, crate::proofs::RuleLemmas::undecided_bare, crate::proofs::RuleLemmas::unordered_bare, crate::proofs::RuleLemmas::unordered_by))]
 fn rule_without<A: Allocator + Clone + Drop>(
     alloc: &A,
     text: &[u8],
@@ -263,10 +234,7 @@ fn rule_without<A: Allocator + Clone + Drop>(
     let reply = timed.call.reply;
     match show_disorder(alloc, history, any_place, place)? {
         Shown::Nothing => bare(alloc, Ruling::Undecided(line)),
-        Shown::All => {
-            let ruling = Ruling::NoOrder { line, reply };
-            whole(alloc, text, history, any_place, ruling)
-        }
+        Shown::All => bare(alloc, Ruling::NoOrder { line, reply }),
         Shown::Few(core) => {
             let explanation = core_text(alloc, text, history.lines.as_slice(), &core)?;
             Ok(Told {

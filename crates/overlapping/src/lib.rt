@@ -9,7 +9,6 @@ pub mod judging;
 mod order_text;
 pub mod overlapping;
 pub mod replies;
-mod story;
 
 pub use auditing::audit_text;
 pub use judging::{By, Ruled, Ruling};
