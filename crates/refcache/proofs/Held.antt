@@ -221,7 +221,7 @@ counted v s w h f o = subst InRange (sym (true_counts_move v s w h o)) (go s h)
     go (Reviewing c r) h = stays (true_count v o) (f o)
 
 -- deltas of few cores add up to little, so a global count is in range
-pub sum_small : (n : ℕ) (f : ℕ → ℤ) → ((c : ℕ) → IsDelta (f c)) → (neg_ℤ (pos (n * 2 ^ 40)) ≤ℤ sum_below n f) × (sum_below n f ≤ℤ pos (n * 2 ^ 40))
+sum_small : (n : ℕ) (f : ℕ → ℤ) → ((c : ℕ) → IsDelta (f c)) → (neg_ℤ (pos (n * 2 ^ 40)) ≤ℤ sum_below n f) × (sum_below n f ≤ℤ pos (n * 2 ^ 40))
 unfolding sum_below
 sum_small zero f h = (omega (arith, ints), omega (arith, ints))
 sum_small (suc n) f h =

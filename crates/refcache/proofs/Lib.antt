@@ -14,4 +14,3 @@ pub mod Sound
 pub mod Unused
 pub mod Due
 pub mod Reached
-pub mod Read

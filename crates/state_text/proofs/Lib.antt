@@ -5,7 +5,6 @@ pub mod FrontLines
 pub mod Holding
 pub mod Joined
 pub mod Lines
-pub mod Phases
 pub mod Steps
 pub mod TableSteps
 pub mod Told
