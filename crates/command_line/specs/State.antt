@@ -1,8 +1,11 @@
 -- The state at a trace's end, or behind one of its lines
-use Rattle.std.specs.Prelude.{◌≡◌, ℕ, ◌⊎◌, List, [], Option, Some, Result, Ok, Err, Vec}
+use Rattle.std.specs.Prelude.{◌≡◌, ℕ, ◌⊎◌, ◌++◌, List, [], Option, Some, Result, Ok, Err}
 use Rattle.core_steps.specs.declared.setup.CallLimit.TheVariants.{Usual}
 use Rattle.command_line.specs.Listing.{FailsToList}
-use Rattle.std.specs.declared.alloc.Global.{Global}
+use Rattle.machine_model.specs.World.{World}
+use Rattle.frame_counts.specs.declared.texts.Form.{Form as Counts}
+use Rattle.frame_counts.specs.declared.texts.Form.TheVariants.{Text as AsText, Json as AsJson}
+use Rattle.frame_counts.specs.Texts.{counts_at}
 use Rattle.state_text.specs.Fronts.{IsFront, lacking_line}
 use Rattle.state_text.specs.Shown.{Follows, Seen}
 use Rattle.state_text.specs.Texts.{seen_text}
@@ -10,11 +13,12 @@ use Rattle.state_text.specs.Traces.{Told, told_text}
 use Rattle.state_json.specs.Objects.{seen_json, told_json}
 use Rattle.command_line.specs.declared.stating.Form.{Form}
 use Rattle.command_line.specs.declared.stating.Form.TheVariants.{Text, Objects}
+use Rattle.command_line.specs.declared.stating.Sight.{Sight}
 use Rattle.trace.specs.declared.fault.TraceFault.{TraceFault}
 use Rattle.trace.specs.declared.fault.TraceFault.TheVariants.{NoMemory, ReadFailed}
 use Rattle.trace.specs.declared.shown.Show.TheVariants.{Maps}
 use Rattle.trace.specs.Ends.{Stops}
-use Rattle.trace.specs.Seen.{IsSeen}
+use Rattle.trace.specs.Seen.{IsSeenWith}
 
 -- there is a state to show, but where that line is lacking
 abbrev pub lacking_state : Option ℕ → List (List ℕ) → Told → Option ℕ
@@ -26,10 +30,17 @@ FailsTo at input f = ((front : List ℕ) × IsFront at input front
     × ((unread : List ℕ) × (held : List ℕ) × Stops Usual Maps front unread (Some []) (Some held) f))
     ⊎ ((f ≡ NoMemory) ⊎ (f ≡ ReadFailed))
 
--- what a replay came to that is watched, and lists its mappings
-abbrev pub SeesState : Seen → List ℕ → Result (Seen × Vec ℕ Global) TraceFault → Type 0
-SeesState one input (Ok (r, list)) = IsSeen Follows one r Maps input (Some []) (Some list.items)
-SeesState one input (Err f) = FailsToList Usual input f
+-- how this form writes counts
+abbrev pub counts_form : Form → Counts
+counts_form Text = AsText
+counts_form Objects = AsJson
+
+-- what a replay came to that is watched, and lists its mappings and counts
+abbrev pub SeesState : Form → Seen → List ℕ → Result Sight TraceFault → Type 0
+SeesState form one input (Ok s) = (machine : Option World)
+    × IsSeenWith Follows one s.mirror machine Maps input (Some []) (Some s.maps.items)
+    × (s.counts.items ≡ counts_at (counts_form form) machine)
+SeesState form one input (Err f) = FailsToList Usual input f
 
 -- in which form a state is written
 abbrev pub told_in : Form → Told → List ℕ
@@ -40,3 +51,7 @@ told_in Objects = told_json
 abbrev pub seen_in : Form → List ℕ → Seen → List ℕ
 seen_in Text = seen_text
 seen_in Objects = seen_json
+
+-- with the counts of its machine behind it
+abbrev pub sight_text : Form → Sight → List ℕ
+sight_text form s = seen_in form s.maps.items s.mirror ++ s.counts.items

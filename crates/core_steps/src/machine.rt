@@ -2,6 +2,8 @@
 ghost use Rattle.machine_sound.specs.Sound.{IsReached};
 ghost use Rattle.core_steps.specs.State.{world};
 
+mod counted;
+
 use crate::at_once::starting::Started;
 use crate::engine::Engine;
 use crate::ledger::kept::Kept;

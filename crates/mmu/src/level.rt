@@ -131,20 +131,20 @@ fn erase<A: Allocator>(words: &mut Vec<u64, A>, range: PageRange)
     }
 }
 
-/// A table of a higher level: 512 tables below, each made when it is needed.
+/// A table of a higher level: 512 places for tables below, each made when it is needed.
 #[derive(Drop)]
 pub struct Inner<C: Drop, A: Allocator> {
-    tables: Vec<Option<Box<C, A>>, A>,
+    tables: Vec<Option<C>, A>,
     ghost full: { vec_len tables ≡ 512 },
 }
 
 impl<C: Level<A>, A: Allocator + Clone> Level<A> for Inner<C, A> {
     ghost pages = { 512 * C.pages };
 
-    ghost entry_at = { λ t page. option_and_then (λ b. C.entry_at b.value (page % C.pages))
+    ghost entry_at = { λ t page. option_and_then (λ b. C.entry_at b (page % C.pages))
         (slice_index_or t.tables.items (page / C.pages) None) };
 
-    ghost has_table = { λ t page. in_table (λ b. C.has_table b.value (page % C.pages))
+    ghost has_table = { λ t page. in_table (λ b. C.has_table b (page % C.pages))
         (slice_index_or t.tables.items (page / C.pages) None) };
 
     ghost some_page = { Prim.omega (arith, C.some_page) };
@@ -200,31 +200,25 @@ fn made<C: Level<A>, A: Allocator + Clone>(
     width: u64,
     page: u64,
     translation: Translation,
-) -> Result<Box<C, A>, NoMemory>
+) -> Result<C, NoMemory>
     requires width { width ≡ C.pages }
     requires page { page < C.pages }
-    ensures there { IfOk result (λ b. C.entry_at b.value page ≡ Some translation) }
-    ensures others { IfOk result (λ b. (q : ℕ) → q < C.pages → q ≢ page → C.entry_at b.value q ≡ None) }
-    ensures tables { IfOk result (λ b. (q : ℕ)
-        → C.has_table b.value q ≡ with_last_table page (λ _. C.pages == 512) q) }
+    ensures there { IfOk result (λ t. C.entry_at t page ≡ Some translation) }
+    ensures others { IfOk result (λ t. (q : ℕ) → q < C.pages → q ≢ page → C.entry_at t q ≡ None) }
+    ensures tables { IfOk result (λ t. (q : ℕ)
+        → C.has_table t q ≡ with_last_table page (λ _. C.pages == 512) q) }
 {
-    let Ok(one) = alloc.clone() else {
+    let Ok(for_table) = alloc.clone() else {
         return Err(NoMemory);
     };
-    let Ok(two) = alloc.clone() else {
-        return Err(NoMemory);
-    };
-    let mut table = C::make(one)?;
+    let mut table = C::make(for_table)?;
     table.install(alloc, width, page, translation)?;
-    match Box::new(two, table) {
-        Ok(table) => Ok(table),
-        Err(_) => Err(NoMemory),
-    }
+    Ok(table)
 }
 
 /// Drops the entries of the pages of the range, from tables that cover `below` pages each.
 fn clear_tables<C: Level<A>, A: Allocator>(
-    tables: &mut Vec<Option<Box<C, A>>, A>,
+    tables: &mut Vec<Option<C>, A>,
     below: u64,
     range: PageRange,
 )
@@ -233,13 +227,13 @@ fn clear_tables<C: Level<A>, A: Allocator>(
     requires covered { range.end ≤ 512 * C.pages }
     ensures full { vec_len tables.new ≡ 512 }
     ensures entries { (q : ℕ)
-        → option_and_then (λ b. C.entry_at b.value (q % C.pages))
+        → option_and_then (λ t. C.entry_at t (q % C.pages))
         (slice_index_or tables.new.items (q / C.pages) None)
-        ≡ over (λ p. option_and_then (λ b. C.entry_at b.value (p % C.pages))
+        ≡ over (λ p. option_and_then (λ t. C.entry_at t (p % C.pages))
         (slice_index_or tables.old.items (p / C.pages) None)) (has range) None q }
     ensures tables { (q : ℕ)
-        → in_table (λ b. C.has_table b.value (q % C.pages)) (slice_index_or tables.new.items (q / C.pages) None)
-        ≡ in_table (λ b. C.has_table b.value (q % C.pages)) (slice_index_or tables.old.items (q / C.pages) None) }
+        → in_table (λ t. C.has_table t (q % C.pages)) (slice_index_or tables.new.items (q / C.pages) None)
+        ≡ in_table (λ t. C.has_table t (q % C.pages)) (slice_index_or tables.old.items (q / C.pages) None) }
 {
     let end = range.end.div_ceil(below);
     'tables: for i in range.first / below..end {
@@ -252,18 +246,14 @@ fn clear_tables<C: Level<A>, A: Allocator>(
 }
 
 /// Drops the entries of the pages of the range, where the table is there.
-fn clear_table<C: Level<A>, A: Allocator>(
-    table: &mut Option<Box<C, A>>,
-    width: u64,
-    range: PageRange,
-)
+fn clear_table<C: Level<A>, A: Allocator>(table: &mut Option<C>, width: u64, range: PageRange)
     requires width { width ≡ C.pages }
     requires covered { range.end ≤ C.pages }
     ensures entries { (r : ℕ) → r < C.pages
-        → option_and_then (λ b. C.entry_at b.value r) table.new
-        ≡ over (λ q. option_and_then (λ b. C.entry_at b.value q) table.old) (has range) None r }
-    ensures tables { (r : ℕ) → in_table (λ b. C.has_table b.value r) table.new
-        ≡ in_table (λ b. C.has_table b.value r) table.old }
+        → option_and_then (λ t. C.entry_at t r) table.new
+        ≡ over (λ q. option_and_then (λ t. C.entry_at t q) table.old) (has range) None r }
+    ensures tables { (r : ℕ) → in_table (λ t. C.has_table t r) table.new
+        ≡ in_table (λ t. C.has_table t r) table.old }
 {
     if let Some(table) = table {
         table.clear(width, range);

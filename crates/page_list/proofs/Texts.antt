@@ -8,7 +8,7 @@ use Rattle.page_list.specs.Lists.{IsAbove, at_page, page_limit}
 use Rattle.page_list.specs.Texts.{line_if, pages_text, texts_below}
 use Rattle.page_list.proofs.Ordered.{none_below}
 
-empty_below : (f : ℕ → List ℕ) (n : ℕ) → ((k : ℕ) → k < n → f k ≡ []) → texts_below f n ≡ []
+pub empty_below : (f : ℕ → List ℕ) (n : ℕ) → ((k : ℕ) → k < n → f k ≡ []) → texts_below f n ≡ []
 unfolding texts_below
 empty_below f zero none = refl
 empty_below f (suc n) none =

@@ -14,3 +14,4 @@ pub mod Sound
 pub mod Unused
 pub mod Due
 pub mod Reached
+pub mod Read

@@ -10,7 +10,7 @@ ghost use Rattle.refcache.specs.Steps.{IsInTheWay, IsDelta};
 use crate::object_count::ObjectCount;
 use crate::place_set::PlaceSet;
 use crate::places::{
-    Entry, PLACES, count_entry, delta_of, drop_entry, has_entry, in_the_way, no_entries,
+    Entry, PLACES, count_entry, delta_of, drop_entry, entry_of, has_entry, in_the_way, no_entries,
 };
 use crate::reports::{Queued, Review};
 use crate::way_ahead::WayAhead;
@@ -80,7 +80,7 @@ impl<A: Allocator> Model for CoreCounts<A> {
 }
 
 impl<A: Allocator> CoreCounts<A> {
-    ghost use Rattle.std.specs.Prelude.{◌≡◌, ◌≢◌, true, ◌+◌, ◌<◌, ◌≤◌, ◌==◌, nat_lt, List, [], ◌∷◌, ℕ};
+    ghost use Rattle.std.specs.Prelude.{◌≡◌, ◌≢◌, true, ◌+◌, ◌<◌, ◌≤◌, ◌==◌, nat_lt, List, [], ◌∷◌, ◌++◌, ℕ};
     ghost use Rattle.std.specs.Prelude.{length, IfSome, IfNone, IfOk, None, Some, unwrap_or, pos, ◌+ℤ◌};
     ghost use Rattle.std.specs.Prelude.{◌≤ℤ◌, neg_ℤ};
     ghost use Rattle.vm_base.specs.Functions.{put};
@@ -146,6 +146,20 @@ impl<A: Allocator> CoreCounts<A> {
             → IsCount count.now.global → result ≡ true }
     {
         has_entry(&self.places, object) && self.has_room() && count.takes_any_delta()
+    }
+
+    /// The delta of an object, if the core has an entry of it.
+    pub fn delta(&self, object: u32) -> Option<i64>
+        ensures { result ≡ entries self.now.places object }
+    {
+        entry_of(&self.places, object)
+    }
+
+    /// The queue from its front on, as two slices, one behind the other.
+    pub fn queue(&self) -> (&[Queued], &[Queued])
+        ensures { result.0.now ++ result.1.now ≡ self.now.queue }
+    {
+        self.queue.as_slices()
     }
 
     /// Evicts the entry of an object: its delta goes into the object's count, and the object is

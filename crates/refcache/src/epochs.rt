@@ -62,6 +62,13 @@ impl Epochs {
         self.number
     }
 
+    /// The cores that have flushed in this epoch.
+    pub fn flushed(&self) -> CoreSet
+        ensures { result ≡ self.now.flushed }
+    {
+        self.flushed
+    }
+
     /// Marks a core without delta entries as flushed in this epoch: `Flushed`, or `EpochEnded`
     /// where it was the last one to be marked, so that the next epoch has begun, without marks.
     /// `Idle` where the core is marked, or where the last epoch, 2^64 - 1, would end; then nothing

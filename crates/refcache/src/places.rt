@@ -36,6 +36,18 @@ pub(crate) fn delta_of(places: &[Option<Entry>], object: u32) -> i64
     }
 }
 
+/// The delta of an object, if it has an entry.
+pub(crate) fn entry_of(places: &[Option<Entry>], object: u32) -> Option<i64>
+    requires { length places.now ≡ 64 }
+    ensures { result ≡ entries places.now object }
+{
+    let place = places[object as usize % PLACES];
+    match place {
+        Some(entry) if entry.object == object => Some(entry.delta),
+        _ => None,
+    }
+}
+
 /// Tells whether an object has an entry.
 pub(crate) fn has_entry(places: &[Option<Entry>], object: u32) -> bool
     requires { length places.now ≡ 64 }

@@ -16,9 +16,9 @@ use vm_base::CoreId;
 /// Reference counts of objects, of which each core keeps its own part.
 #[derive(Drop)]
 pub(crate) struct CountTable<A: Allocator> {
-    objects: Vec<ObjectCount, A>,
-    cores: Vec<CoreCounts<A>, A>,
-    epochs: Epochs,
+    pub(crate) objects: Vec<ObjectCount, A>,
+    pub(crate) cores: Vec<CoreCounts<A>, A>,
+    pub(crate) epochs: Epochs,
 }
 
 impl<A: Allocator> Model for CountTable<A> {

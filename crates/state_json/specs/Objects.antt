@@ -14,6 +14,8 @@ use Rattle.page_list.specs.Lists.{at_page}
 use Rattle.page_list.specs.Texts.{pages_text, texts_below}
 use Rattle.machine_model.specs.declared.phase.Phase.{Phase}
 use Rattle.machine_model.specs.declared.phase.Phase.TheVariants.{Free}
+use Rattle.frame_counts.specs.declared.texts.Form.TheVariants.{Json}
+use Rattle.frame_counts.specs.Texts.{counts_text}
 use Rattle.state_text.specs.declared.words.Spot.{Spot}
 use Rattle.state_text.specs.declared.words.Spot.TheVariants.{Nowhere, Page, Pages}
 use Rattle.state_text.specs.Edits.{table_at}
@@ -128,6 +130,6 @@ abbrev pub seen_json : List ℕ → Seen → List ℕ
 seen_json maps r = epoch_json r.epoch ++ texts_below (seen_object r.phases r.cores r.tables) 64
     ++ mappings_json maps ++ pages_text used_json (at_page r.pages)
 
--- the objects of what is told of the end of a trace
+-- the objects of what is told of the end of a trace, with the counts behind them
 abbrev pub told_json : Told → List ℕ
-told_json t = state_json (maps_text t.maps) t.world
+told_json t = state_json (maps_text t.maps) t.world ++ counts_text Json t.world

@@ -5,6 +5,7 @@ pub mod FrontLines
 pub mod Holding
 pub mod Joined
 pub mod Lines
+pub mod Phases
 pub mod Steps
 pub mod TableSteps
 pub mod Told

@@ -1,5 +1,5 @@
 -- Who watches each step from the first on knows the state.
-use Rattle.machine_laws.proofs.Words.{◌≡◌, ℕ, ◌<◌, ◌==◌, Bool, true, false, cond, refl, sym, ap, subst, ◌∙◌, List, [], ◌∷◌, ◌++◌, nat_lt}
+use Rattle.machine_laws.proofs.Words.{◌≡◌, ◌≢◌, arith, core_of, nat_tests, Some, ℕ, ◌<◌, ◌==◌, Bool, true, false, cond, refl, sym, ap, subst, ◌∙◌, List, [], ◌∷◌, ◌++◌, nat_lt}
 use Rattle.machine_laws.proofs.Words.{put, eq_true, has, None, Option, Translation, Message, asked, members}
 use Rattle.machine_laws.proofs.Words.{Event, Outcome, Phase, Free, PageRange, World, Made, Slots, new_world, Step, Run, Stepped, Full, Idle}
 use Rattle.machine_laws.proofs.Words.{Wait, Answered}
@@ -16,7 +16,7 @@ use Rattle.state_text.specs.declared.edit.Edit.TheVariants as to
 use Rattle.state_text.specs.Edits.{after_edit, edit_of, edited, table_at, taken_from}
 use Rattle.state_text.specs.Held.{Holds, done, held, own_part, told}
 use Rattle.state_text.specs.Laws.{Knows}
-use Rattle.state_text.specs.Shown.{Follows, IsNothing, IsShown, Seen, after_step, holds_of, inboxes, phase_at, phase_in}
+use Rattle.state_text.specs.Shown.{Follows, IsNothing, IsShown, Seen, after_step, holds_of, inboxes, is_core, phase_at, phase_in}
 use Rattle.core_steps.specs.Changing.{may_change}
 use Rattle.core_steps.proofs.Keeping.{keeps}
 use Rattle.machine_model.specs.Holding.{some_has}
@@ -29,6 +29,7 @@ use Rattle.used_pages.specs.Used.{used_in, used_of}
 use Rattle.slot_lock.specs.Slots.{IsNew}
 use Rattle.state_text.specs.Texts.{core_text, epoch_line, message_line, seen_core, seen_text, state_text, table_line, table_text}
 use Rattle.state_text.specs.Texts.{tlb_line, work_text}
+use Rattle.state_text.proofs.Phases.{step_stays}
 use Rattle.state_text.proofs.Steps.{step_kept}
 use Rattle.state_text.proofs.TableSteps.{tables_kept}
 
@@ -131,9 +132,19 @@ followed one w e o v other s f k whole =
           (λ d less. ap (λ (h : Holds). h.inbox) (before.holds d less)) before.tables c p lt
           ∙ sym (tables_kept w e o v s c p);
       pages = λ p. f.pages whole p ∙ pages_kept (at_page one.pages) w e o v s before.pages p;
-      phases = f.phases;
+      phases = λ c lt. f.phases c lt ∙ phases_kept (core_of e) refl c (before.phases c lt);
       epoch = f.epoch;
     }
+  where
+    -- the call of the event's core was looked at
+    phases_kept : (x : Option ℕ) → core_of e ≡ x → (c : ℕ) → phase_at one c ≡ phase_in w c → cond (is_core x c) (phase_in v c) (phase_at one c) ≡ phase_in v c
+    phases_kept None is c same = same ∙ sym (step_stays w e o v s c (λ h. let no = sym is ∙ h in cc))
+    phases_kept (Some d) is c same = go (c == d) refl
+      where
+        go : (b : Bool) → (c == d) ≡ b → cond b (phase_in v c) (phase_at one c) ≡ phase_in v c
+        go true i = refl
+        go false i = same ∙ sym (step_stays w e o v s c (λ h. let both : Some d ≡ Some c = sym is ∙ h in
+            let ne : c ≢ d = grind (arith, nat_tests, i) in let eq : d ≡ c = cc in absurd (ne (sym eq))))
 
 pub watched : (one : Seen) (w : World) (es : List Event) (os : List Outcome) (v : World) (other : Seen) → Watches Follows one w es os v other
     → Knows one w → Knows other v

@@ -1,9 +1,10 @@
 -- What is shown of a state, and what one who watches its steps knows of it
-use Rattle.std.specs.Prelude.{◌≡◌, ℕ, ◌<◌, Bool, true, List, None, cond, nat_lt, length, slice_index_or}
+use Rattle.std.specs.Prelude.{◌≡◌, ◌==◌, ℕ, ◌<◌, Bool, true, false, List, Option, None, Some, cond, nat_lt, length, slice_index_or}
 use Rattle.mmu.specs.declared.entry.Translation.{Translation}
 use Rattle.vm_base.specs.Functions.{across}
 use Rattle.core_steps.specs.Changing.{may_change}
 use Rattle.shootdown.specs.declared.message.Message.{Message}
+use Rattle.machine_model.specs.Events.{core_of}
 use Rattle.machine_model.specs.Holding.{some_has}
 use Rattle.machine_model.specs.World.{World}
 use Rattle.page_list.specs.declared.list.OfPage.{OfPage}
@@ -71,6 +72,14 @@ abbrev pub after_step : Outcome → Deed → (ℕ → Holds) → ℕ → Holds
 after_step Stepped deed h = done deed h
 after_step _ deed h = h
 
+-- the event is of the core
+abbrev pub is_core : Option ℕ → ℕ → Bool
+is_core None c = false
+is_core (Some d) c = c == d
+
+abbrev pub is_of : Event → ℕ → Bool
+is_of e c = is_core (core_of e) c
+
 -- what one who watches is after the step, where all was taken in
 pub record Follows (one : Seen) (w : World) (e : Event) (o : Outcome) (v : World) (other : Seen) : Type 0 where
   pub whole : other.whole ≡ true → one.whole ≡ true
@@ -80,5 +89,5 @@ pub record Follows (one : Seen) (w : World) (e : Event) (o : Outcome) (v : World
       ≡ after_edit o (edit_of w e) (inboxes one.cores) v.hardware.table (table_at one.tables) c p
   pub pages : other.whole ≡ true → (p : ℕ)
       → at_page other.pages p ≡ across (at_page one.pages) (some_has (may_change w e)) (used_in v) p
-  pub phases : (c : ℕ) → c < 64 → phase_at other c ≡ phase_in v c
+  pub phases : (c : ℕ) → c < 64 → phase_at other c ≡ cond (is_of e c) (phase_in v c) (phase_at one c)
   pub epoch : other.epoch ≡ v.memory.counts.epoch

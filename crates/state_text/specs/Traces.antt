@@ -1,5 +1,5 @@
 -- What is told of the end of a trace: the state to which it leads, and its mappings
-use Rattle.std.specs.Prelude.{ℕ, ◌^◌, List}
+use Rattle.std.specs.Prelude.{ℕ, ◌^◌, List, ◌++◌}
 use Rattle.slot_lock.specs.declared.map_list.MapLine.{MapLine}
 use Rattle.machine_model.specs.Step.{Run}
 use Rattle.machine_model.specs.World.{World}
@@ -10,6 +10,8 @@ use Rattle.trace.specs.EventRuns.{AllAsk}
 use Rattle.trace.specs.Listing.{maps_text}
 use Rattle.trace.specs.Shown.{ListsUpTo}
 use Rattle.trace.specs.Stage.{Opens, Stage, new_machine}
+use Rattle.frame_counts.specs.declared.texts.Form.TheVariants.{Text}
+use Rattle.frame_counts.specs.Texts.{counts_text}
 use Rattle.state_text.specs.Texts.{state_text}
 
 -- The lines ask for these events of a new machine, which came to these outcomes, one after another,
@@ -35,6 +37,6 @@ pub record IsTold (lines : List (List ℕ)) (t : Told) : Type 0 where
   pub is : Opens stage t.world
   pub maps : ListsUpTo stage (2 ^ 35) t.maps
 
--- and the text of both
+-- and the text of both, with the counts of the state behind it
 abbrev pub told_text : Told → List ℕ
-told_text t = state_text (maps_text t.maps) t.world
+told_text t = state_text (maps_text t.maps) t.world ++ counts_text Text t.world

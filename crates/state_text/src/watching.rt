@@ -1,10 +1,10 @@
 //! A mirror watches each step.
-ghost use Rattle.std.specs.Prelude.{◌≡◌, ℕ, ◌<◌, length, slice_index_or, true};
+ghost use Rattle.std.specs.Prelude.{◌≡◌, ℕ, ◌<◌, cond, length, slice_index_or, true};
 ghost use Rattle.vm_base.specs.Functions.{put};
 ghost use Rattle.core_steps.specs.Machine.{state};
 ghost use Rattle.machine_model.specs.declared.phase.Phase.TheVariants.{Free};
 ghost use Rattle.state_text.specs.Held.{done, held};
-ghost use Rattle.state_text.specs.Shown.{Follows, after_step, phase_at, phase_in};
+ghost use Rattle.state_text.specs.Shown.{Follows, after_step, is_of, phase_at, phase_in};
 
 use crate::deed::Deed;
 use crate::edit::Edit;
@@ -85,28 +85,42 @@ fn phase_in<M: SlotMap, A: Allocator + Clone, L: Ledger>(
     machine.phase(core)
 }
 
-// Where the calls of all cores stand.
-fn phases_of<M: SlotMap, A: Allocator + Clone, L: Ledger>(
+// The machine tells where the core's call stands.
+fn look_at<M: SlotMap, A: Allocator + Clone, L: Ledger>(
     machine: &Machine<M, A, L>,
-) -> [Phase; CORES]
-    ensures { (c : ℕ) → c < 64 → slice_index_or result c Free ≡ phase_in (state machine.now) c }
+    phases: &mut [Phase; CORES],
+    core: CoreId,
+)
+    ensures { (c : ℕ) → c < 64 → slice_index_or phases.new c Free
+        ≡ put (λ d. slice_index_or phases.old d Free) core (phase_in (state machine.now) core) c }
 {
-    let mut phases = [Phase::Free; CORES];
-    'cores: for index in 0..64u8 {
-        phases[usize::from(index)] = phase_in(machine, CoreId::new(index));
+    phases[usize::from(core.index())] = phase_in(machine, core);
+}
+
+// The machine tells where the call of the event's core stands.
+fn look_for<M: SlotMap, A: Allocator + Clone, L: Ledger>(
+    machine: &Machine<M, A, L>,
+    phases: &mut [Phase; CORES],
+    event: &Event,
+)
+    ensures { (c : ℕ) → c < 64 → slice_index_or phases.new c Free
+        ≡ cond (is_of event.now c) (phase_in (state machine.now) c) (slice_index_or phases.old c Free) }
+{
+    match event.core() {
+        Some(core) => look_at(machine, phases, core),
+        None => {}
     }
-    phases
 }
 
 impl<B: Allocator> Mirror<B> {
-    ghost use Rattle.std.specs.Prelude.{◌≡◌, ℕ, ◌<◌, true};
+    ghost use Rattle.std.specs.Prelude.{◌≡◌, ℕ, ◌<◌, cond, true};
     ghost use Rattle.vm_base.specs.Functions.{across};
     ghost use Rattle.core_steps.specs.Machine.{state};
     ghost use Rattle.machine_model.specs.Holding.{some_has};
     ghost use Rattle.page_list.specs.Lists.{at_page};
     ghost use Rattle.state_text.specs.Edits.{after_edit, table_at};
     ghost use Rattle.state_text.specs.Held.{held};
-    ghost use Rattle.state_text.specs.Shown.{after_step, inboxes, phase_at, phase_in};
+    ghost use Rattle.state_text.specs.Shown.{after_step, inboxes, is_of, phase_at, phase_in};
     ghost use Rattle.used_pages.specs.Used.{used_in};
 
     // The tables have what the step, which had this edit and led to the machine, leaves them.
@@ -117,6 +131,7 @@ impl<B: Allocator> Mirror<B> {
         outcome: &Outcome,
     )
         ensures whole { self.new.whole ≡ true → self.old.whole ≡ true }
+        ensures phases { self.new.phases ≡ self.old.phases }
         ensures cores { self.new.cores ≡ self.old.cores }
         ensures tables { self.new.whole ≡ true → (c p : ℕ) → table_at self.new.tables c p
             ≡ after_edit outcome.now edit.now (inboxes self.old.cores) (state machine.now).hardware.table
@@ -136,6 +151,7 @@ impl<B: Allocator> Mirror<B> {
     // The cores hold what the step, which had this deed, leaves them.
     fn follow(&mut self, deed: &Deed, outcome: &Outcome)
         ensures whole { self.new.whole ≡ true → self.old.whole ≡ true }
+        ensures phases { self.new.phases ≡ self.old.phases }
         ensures held { self.new.whole ≡ true → (c : ℕ) → c < 64
             → held self.new.cores c ≡ after_step outcome.now deed.now (held self.old.cores) c }
         ensures tables { self.new.tables ≡ self.old.tables }
@@ -152,6 +168,7 @@ impl<B: Allocator> Mirror<B> {
         range: Option<PageRange>,
     )
         ensures whole { self.new.whole ≡ true → self.old.whole ≡ true }
+        ensures phases { self.new.phases ≡ self.old.phases }
         ensures cores { self.new.cores ≡ self.old.cores }
         ensures tables { self.new.tables ≡ self.old.tables }
         ensures pages { self.new.whole ≡ true → (p : ℕ) → at_page self.new.pages p
@@ -161,16 +178,21 @@ impl<B: Allocator> Mirror<B> {
         self.whole = both(self.whole, room);
     }
 
-    // The machine tells where its calls stand, and its epoch.
-    fn look<M: SlotMap, A: Allocator + Clone, L: Ledger>(&mut self, machine: &Machine<M, A, L>)
+    // The machine tells where the call of the event's core stands, and its epoch.
+    fn look<M: SlotMap, A: Allocator + Clone, L: Ledger>(
+        &mut self,
+        machine: &Machine<M, A, L>,
+        event: &Event,
+    )
         ensures whole { self.new.whole ≡ self.old.whole }
         ensures cores { self.new.cores ≡ self.old.cores }
         ensures tables { self.new.tables ≡ self.old.tables }
         ensures pages { self.new.pages ≡ self.old.pages }
-        ensures phases { (c : ℕ) → c < 64 → phase_at self.new c ≡ phase_in (state machine.now) c }
+        ensures phases { (c : ℕ) → c < 64 → phase_at self.new c
+            ≡ cond (is_of event.now c) (phase_in (state machine.now) c) (phase_at self.old c) }
         ensures epoch { self.new.epoch ≡ (state machine.now).memory.counts.epoch }
     {
-        self.phases = phases_of(machine);
+        look_for(machine, &mut self.phases, event);
         self.epoch = machine.epoch();
     }
 }
@@ -193,7 +215,7 @@ impl<B: Allocator> Watch for Mirror<B> {
         self.follow_tables(machine, &edit, &outcome);
         self.follow(&deed, &outcome);
         self.follow_pages(machine, range);
-        self.look(machine);
+        self.look(machine, &event);
         Ok(outcome)
     }
 }

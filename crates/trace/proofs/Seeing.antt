@@ -17,9 +17,9 @@ use Rattle.trace.specs.Declarations.{Asked}
 use Rattle.trace.specs.EventRuns.{AllAsk, Asks, AsksCall, AsksFinish, AsksOne}
 use Rattle.trace.specs.OutcomeText.{finished_text, outcome_text}
 use Rattle.core_steps.specs.declared.setup.CallLimit.{CallLimit}
-use Rattle.trace.specs.Seen.{AdvancesSeen, Grows, IsSeen, Leads, Sees, SeesAll, SeesEvent, Writes}
+use Rattle.trace.specs.Seen.{AdvancesSeen, Grows, HasMachine, IsSeen, IsSeenWith, Leads, Sees, SeesAll, SeesEvent, Writes}
 use Rattle.trace.specs.Shown.{Closes, IsBehind, told}
-use Rattle.trace.specs.Stage.{Stage, Start, Declared, Running, Acts, CanOpen, LineActs, Opens, new_machine}
+use Rattle.trace.specs.Stage.{Stage, Start, Declared, Running, Acts, CanOpen, LineActs, Opens, new_machine, stage_of}
 use Rattle.trace.specs.Turns.{Advances, IsOver, Scene}
 use Rattle.trace.proofs.RunLemmas.{next_line}
 use Rattle.trace.proofs.ShownLemmas.{told_more, told_none}
@@ -243,3 +243,19 @@ is_seen after one first last other stage show input a b e f h = (
   subst (λ x. Writes (λ lines text. SeesAll after x stage lines text other) stage show input a b) e
       (subst (λ x. Writes (λ lines text. SeesAll after first stage lines text x) stage show input a b) (sym f) h),
 )
+
+-- the machine at a stage that is told by its parts
+has_machine : (limit : CallLimit) (asked : Option Asked) (machine : Option World) → HasMachine (stage_of limit asked machine) machine
+has_machine limit asked (Some w) = refl
+has_machine limit (Some a) None = refl
+has_machine limit None None = refl
+
+-- the same with the machine at the end
+pub seen_with : {S : Type 0} (after : S → World → Event → Outcome → World → S → Type 0) (one first last other : S) (limit : CallLimit) (asked : Option Asked)
+    (now machine : Option World) (show : Show) (input : List ℕ) (a b : Option (List ℕ)) → first ≡ one → other ≡ last → machine ≡ now
+    → Writes (λ lines text. SeesAll after first (stage_of limit asked now) lines text last) (stage_of limit asked now) show input a b
+    → IsSeenWith after one other machine show input a b
+unfolding is_seen
+seen_with after one first last other limit asked now machine show input a b e f same h =
+    let seen = is_seen after one first last other (stage_of limit asked now) show input a b e f h in
+    (stage_of limit asked now, subst (HasMachine (stage_of limit asked now)) (sym same) (has_machine limit asked now), seen.1)

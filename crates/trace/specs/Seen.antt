@@ -1,6 +1,6 @@
 -- What one who watches a replay is at its end: the lines ask for events, and each step in turn makes
 -- of them what it does
-use Rattle.std.specs.Prelude.{◌≡◌, ℕ, List, [], ◌∷◌, ◌++◌, Option}
+use Rattle.std.specs.Prelude.{◌≡◌, ℕ, List, [], ◌∷◌, ◌++◌, Option, None, Some}
 use Rattle.std.specs.Io.KnownBytes.{Appends}
 use Rattle.machine_model.specs.declared.event.Event.{Event}
 use Rattle.machine_model.specs.declared.event.Outcome.{Outcome}
@@ -70,4 +70,16 @@ pub record Writes (Holds : List (List ℕ) → List ℕ → Type 0) (stage : Sta
 abbrev pub IsSeen : {S : Type 0} → (S → World → Event → Outcome → World → S → Type 0) → S → S → Show
     → List ℕ → Option (List ℕ) → Option (List ℕ) → Type 0
 IsSeen after one other show input old new = (stage : Stage)
+    × Writes (λ lines text. SeesAll after one stage lines text other) stage show input old new
+
+-- the machine at a stage, if there is one
+abbrev pub HasMachine : Stage → Option World → Type 0
+HasMachine (Start limit) machine = machine ≡ None
+HasMachine (Declared limit a) machine = machine ≡ None
+HasMachine (Running w) machine = machine ≡ Some w
+
+-- the same, where this is the machine at the end
+abbrev pub IsSeenWith : {S : Type 0} → (S → World → Event → Outcome → World → S → Type 0) → S → S → Option World → Show
+    → List ℕ → Option (List ℕ) → Option (List ℕ) → Type 0
+IsSeenWith after one other machine show input old new = (stage : Stage) × HasMachine stage machine
     × Writes (λ lines text. SeesAll after one stage lines text other) stage show input old new

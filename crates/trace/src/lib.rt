@@ -9,6 +9,7 @@ pub mod outcome_text;
 pub mod replay;
 pub mod replayer;
 pub mod shown;
+pub mod standing;
 
 pub use fault::TraceFault;
 pub use shown::Show;

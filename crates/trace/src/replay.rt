@@ -102,8 +102,8 @@ fn close<W: Sink, R: Staged>(
     Ok(())
 }
 
-// Acts on the lines until the text ends.
-fn replay_lines<A: Allocator, S: Source, W: Sink, R: Staged>(
+/// Acts on the lines until the text ends.
+pub(crate) fn replay_lines<A: Allocator, S: Source, W: Sink, R: Staged>(
     lines: &mut LineReader<A>,
     reader: &mut S,
     writer: &mut W,

@@ -169,6 +169,14 @@ impl<A: Allocator + Clone + Drop, L: Opening<A> + Drop, X: Watch + Drop> Replaye
         self.watch
     }
 
+    /// Who watched the steps, and the machine, if a line has made one.
+    pub(crate) fn into_parts(self) -> (X, Option<Machine<RadixMap<A>, A, L>>)
+        ensures watch { result.0 ≡ self.watch }
+        ensures machine { result.1 ≡ self.machine }
+    {
+        (self.watch, self.machine)
+    }
+
     // Takes in the `vm` line.
     #[tactic(auto, using(crate::proofs::Acting::space_late, crate::proofs::Acting::space_running, crate::proofs::Acting::space_taken))]
     fn act_on_space(

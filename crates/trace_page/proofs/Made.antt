@@ -12,6 +12,8 @@ use Rattle.watched.specs.Watching.{GoesUntil, Watches}
 use Rattle.trace.specs.EventRuns.{Asks, AsksCall, AsksFinish}
 use Rattle.slot_lock.specs.declared.map_list.MapLine.{MapLine}
 use Rattle.core_steps.specs.MapLines.{ListsMaps}
+use Rattle.frame_counts.specs.declared.texts.Form.TheVariants.{Text}
+use Rattle.frame_counts.specs.Texts.{counts_text}
 use Rattle.state_text.specs.Texts.{seen_text}
 use Rattle.trace.specs.Listing.{maps_text}
 use Rattle.trace_page.specs.Recorded.{MomentOf, Recorded, Records, changed, goes_on}
@@ -25,11 +27,11 @@ Marks (o ∷ os) (m ∷ ms) = (m.goes_on ≡ goes_on o) × Marks os ms
 Marks [] (m ∷ ms) = ⊥
 Marks (o ∷ os) [] = ⊥
 
--- the text is that of what is seen now, and of the state's mappings
+-- the text is that of what is seen now, of the state's mappings and of its counts
 pub record Shows (r : Recorded) (w : World) : Type 0 where
   pub maps : List MapLine
   pub lists : ListsMaps w maps
-  pub is : r.text ≡ seen_text (maps_text maps) r.seen
+  pub is : r.text ≡ seen_text (maps_text maps) r.seen ++ counts_text Text w
 
 -- what was recorded of some steps, which led to this state
 pub record SinceOne (one : Recorded) (v : World) (other : Recorded) (os : List Outcome) : Type 0 where

@@ -7,6 +7,8 @@ use Rattle.machine_model.specs.declared.event.Outcome.TheVariants.{Stepped}
 use Rattle.changes.specs.Applied.{Differs, applied}
 use Rattle.slot_lock.specs.declared.map_list.MapLine.{MapLine}
 use Rattle.core_steps.specs.MapLines.{ListsMaps}
+use Rattle.frame_counts.specs.declared.texts.Form.TheVariants.{Text}
+use Rattle.frame_counts.specs.Texts.{counts_text}
 use Rattle.state_text.specs.Shown.{Follows, IsNothing, Seen}
 use Rattle.state_text.specs.Texts.{seen_text}
 use Rattle.trace.specs.Listing.{maps_text}
@@ -42,7 +44,8 @@ pub record IsFresh (r : Recorded) : Type 0 where
 abbrev pub changed : List ℕ → MomentOf → List ℕ
 changed text m = applied m.change.parts m.change.added text
 
--- a step more, which led to this state: its change makes of the text so far that of what is seen now, and of the state's mappings
+-- a step more, which led to this state: its change makes of the text so far that of what is seen now, of the state's mappings and of
+-- its counts
 pub record HasAdded (goes : Bool) (v : World) (one other : Recorded) : Type 0 where
   pub moment : MomentOf
   pub moments : other.moments ≡ one.moments ++ moment ∷ []
@@ -50,7 +53,7 @@ pub record HasAdded (goes : Bool) (v : World) (one other : Recorded) : Type 0 wh
   pub changes : changed one.text moment ≡ other.text
   pub maps : List MapLine
   pub lists : ListsMaps v maps
-  pub shows : other.text ≡ seen_text (maps_text maps) other.seen
+  pub shows : other.text ≡ seen_text (maps_text maps) other.seen ++ counts_text Text v
 
 -- what is recorded after the step, where there was memory
 pub record Records (one : Recorded) (w : World) (e : Event) (o : Outcome) (v : World) (other : Recorded) : Type 0 where

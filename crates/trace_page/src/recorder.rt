@@ -1,13 +1,17 @@
 //! One who watches a machine's steps, and records what each changes in the text of the state.
-ghost use Rattle.std.specs.Prelude.{◌≡◌, IfOk, true};
+ghost use Rattle.std.specs.Prelude.{◌≡◌, ◌++◌, [], IfOk, true};
 ghost use Rattle.changes.specs.Applied.{Differs};
 ghost use Rattle.core_steps.specs.Machine.{state};
+ghost use Rattle.frame_counts.specs.Texts.{counts_text};
+ghost use Rattle.frame_counts.specs.declared.texts.Form.TheVariants.{Text};
 ghost use Rattle.state_text.specs.Texts.{seen_text};
 ghost use Rattle.trace_page.specs.Recorded.{Recorded, Records, HasAdded, IsFresh, MomentOf, goes_on};
 
 use crate::listing::mappings_of;
 use changes::{Difference, difference_of};
 use core_steps::{Ledger, Machine};
+use frame_counts::Form;
+use frame_counts::texts::put_counts;
 use machine_model::{Event, Outcome};
 use slot_lock::SlotMap;
 use state_text::mirror::Mirror;
@@ -86,12 +90,27 @@ fn goes_on(outcome: &Outcome) -> bool
     }
 }
 
-// The text of what was seen, and of these mappings.
-fn text_of(alloc: Global, mirror: &Mirror<Global>, maps: &[u8]) -> Result<Vec<u8>, AllocError>
-    ensures { IfOk result (λ text. text.items ≡ seen_text maps.now mirror.now) }
+// The text of what was seen before the first step, when nothing was mapped and nothing counted.
+fn first_text(alloc: Global, mirror: &Mirror<Global>) -> Result<Vec<u8>, AllocError>
+    ensures { IfOk result (λ text. text.items ≡ seen_text [] mirror.now) }
+{
+    let mut text = Vec::new(alloc);
+    put_state(&mut text, mirror, b"")?;
+    Ok(text)
+}
+
+// The text of what was seen, of these mappings, and of the machine's counts.
+fn text_of<M: SlotMap, A: Allocator + Clone, L: Ledger>(
+    alloc: Global,
+    mirror: &Mirror<Global>,
+    maps: &[u8],
+    machine: &Machine<M, A, L>,
+) -> Result<Vec<u8>, AllocError>
+    ensures { IfOk result (λ text. text.items ≡ seen_text maps.now mirror.now ++ counts_text Text (state machine.now)) }
 {
     let mut text = Vec::new(alloc);
     put_state(&mut text, mirror, maps)?;
+    put_counts(&mut text, Form::Text, machine)?;
     Ok(text)
 }
 
@@ -106,8 +125,8 @@ impl StateRecorder {
         ensures { IfOk result IsFresh }
     {
         let mirror = Mirror::new(alloc)?;
-        let first = text_of(alloc, &mirror, b"")?;
-        let text = text_of(alloc, &mirror, b"")?;
+        let first = first_text(alloc, &mirror)?;
+        let text = first_text(alloc, &mirror)?;
         Ok(StateRecorder {
             alloc,
             whole: true,
@@ -139,7 +158,7 @@ impl StateRecorder {
         self.moments.as_slice()
     }
 
-    // Adds a step that led to what is seen now, and to the machine's mappings. At an error the text and the steps are as before.
+    // Adds a step that led to what is seen now, and to the machine's mappings and counts. At an error the text and the steps are as before.
     fn add<M: SlotMap, A: Allocator + Clone, L: Ledger>(
         &mut self,
         machine: &Machine<M, A, L>,
@@ -151,7 +170,7 @@ impl StateRecorder {
         ensures added { IfOk result (λ u. HasAdded goes_on (state machine.now) self.old self.new) }
     {
         let maps = mappings_of(self.alloc, machine)?;
-        let text = text_of(self.alloc, &self.mirror, maps.as_slice())?;
+        let text = text_of(self.alloc, &self.mirror, maps.as_slice(), machine)?;
         let change = difference_of(self.alloc, self.text.as_slice(), text.as_slice())?;
         self.moments.push(Moment { goes_on, change })?;
         self.text = text;

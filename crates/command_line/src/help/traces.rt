@@ -277,8 +277,20 @@ behind line N isn't looked at.
         the page has a frame, or these cores are recorded on it: those that a
         change of the page has to tell
 
-Cores, and the things of each, are in this order, and pages the lowest first.
-How many frames are in use: run --summary. The trace is held in memory.
+  core C count frame F +1
+        the core has yet to add this to the frame's global count
+  core C queue frame F epoch E
+        the core is to review the frame, which was queued in epoch E; the next
+        one first
+  core C flushed
+        the core has added all its counts in this epoch
+  frame F count N global G [dirty]
+        the frame is in use: N is its true count, the global one and what the
+        cores have yet to add. It is dirty where the global one left 0 and
+        came back since the frame was queued
+
+Cores, and the things of each, are in this order; pages and frames the lowest
+first. The trace is held in memory.
 
 With --json each line is an object with these members, in the same order:
 
@@ -290,11 +302,16 @@ With --json each line is an object with these members, in the same order:
   core, inbox, from, first, end
   mapping
   page [, frame] [, cores]
+  core, count, frame
+  core, queue, epoch
+  core, flushed
+  frame, count, global [, dirty]
 
-Cores, frames and the epoch are numbers, took a frame's, and cores a list of
-numbers; holds is true. All else are strings: tlb, table, page, first and end
-addresses; call, rights and going the words above; inbox says which take is
-due, and mapping is the line of a mapping.
+Cores, frames, counts and epochs are numbers, took and queue a frame's, and
+cores a list of numbers; holds, flushed and dirty are true. All else are
+strings: tlb, table, page, first and end addresses; call, rights and going the
+words above; inbox says which take is due, and mapping is the line of a
+mapping.
 
 Status: as for run; 2 where the trace has fewer than N lines. After a fault no
 state is written.
@@ -401,8 +418,9 @@ needs no network, and nothing beside it:
 On the left stand the trace's lines, each with its reply once it is made, and
 below it the lines of the log that it adds (help log). On the right stands the
 state behind the line, as state writes it (help state): the cores side by side,
-each with its call, what that holds, its TLB, tables and inbox; and the
-mappings, each in a colour, with their pages. What the line changed is lit,
+each with its call, what that holds, its TLB, tables, inbox and counts; and
+the mappings, each in a colour, with their pages, and the frames in use with
+their counts. What the line changed is lit,
 what it took away is struck out, and a translation that is going is red. An
 arrow leads from a core that told another to drop pages to the message in the
 other's inbox; it is dashed once the first take is made.

@@ -5,9 +5,9 @@ use Rattle.command_line.proofs.stating.draw_state.Goals as goal
 
 pub returns-in-Ok-see-clause-ends : goal.returns-in-Ok-see-clause-ends
 returns-in-Ok-see-clause-ends g c =
-    state_drawn c.args.form c.args.at c.args.trace.now c.front_of-front.result.now _ _ _ c.in-Ok.mirror c.in-Ok-see.mirror c.lacking_line-lacking.result
+    state_drawn c.args.form c.args.at c.args.trace.now c.front_of-front.result.now _ _ c.in-Ok.mirror c.in-Ok-see.sight c.lacking_line-lacking.result
     c.write_seen.result c.front_of-front.ensures c.lacking_line-lacking.ensures c.in-Ok.ensures c.in-Ok-see.ensures.ends
-    (rw c.as_slice.ensures.value at c.write_seen.ensures.ok) (rw c.as_slice.ensures.value at c.write_seen.ensures.err)
+    c.write_seen.ensures.ok c.write_seen.ensures.err
 
 pub returns-in-Err-clause-ends : goal.returns-in-Err-clause-ends
 returns-in-Err-clause-ends g c =

@@ -1,4 +1,4 @@
-use Rattle.std.proofs.Common.{refl, ◌≡◌, ℕ, ◌+◌, ◌*◌, ◌/◌, ◌%◌, ◌<◌, ◌≤◌, ◌&&◌, nat_lt, arith, ap, sym, ◌∙◌, Option, Box, None, cond, length, get_or}
+use Rattle.std.proofs.Common.{refl, ◌≡◌, ℕ, ◌+◌, ◌*◌, ◌/◌, ◌%◌, ◌<◌, ◌≤◌, ◌&&◌, nat_lt, arith, ap, sym, ◌∙◌, Option, None, cond, length, get_or}
 use Rattle.std.specs.Prelude.{option_and_then}
 use Rattle.std.proofs.lemmas.List.{get_or_default}
 use Rattle.std.specs.Int.{div_ceil}
@@ -14,7 +14,7 @@ tables-init g c =
     let r = c.args.range in
     record {
       full = c.requires.full;
-      entries = λ q. sym (ap (λ b. cond b None (option_and_then (λ b. g.C.Level.entry_at b.value (q % P)) (get_or c.args.tables.now.items (q / P) None)))
+      entries = λ q. sym (ap (λ b. cond b None (option_and_then (λ b. g.C.Level.entry_at b (q % P)) (get_or c.args.tables.now.items (q / P) None)))
           (ap (λ k. has r q && nat_lt (q / P) (r.first / k)) c.requires.below ∙ none_before r P q g.met.C.Level.some_page));
       tables = λ q. refl;
     }
@@ -25,7 +25,7 @@ tables-preserved g c =
     let r = c.args.range in
     let i = c.tables.i in
     let items = c.tables.tables.items in
-    let at = λ (o : Option (Box g.row.C.Denot g.row.A.Denot)) (k : ℕ). option_and_then (λ b. g.C.Level.entry_at b.value k) o in
+    let at = λ (o : Option g.row.C.Denot) (k : ℕ). option_and_then (λ b. g.C.Level.entry_at b k) o in
     let full : length items ≡ 512 = omega (arith, c.tables.invariant.full) in
     let ends : c.div_ceil-end.result ≡ div_ceil r.end P = c.div_ceil-end.ensures ∙ ap (div_ceil r.end) c.requires.below in
     let near : i < 512 = within_tables r.end P c.div_ceil-end.result i g.met.C.Level.some_page c.requires.covered ends c.tables-test.true in
@@ -37,8 +37,8 @@ tables-preserved g c =
           (λ k h. c.clear_table.ensures.entries k h ∙ ap (λ o. cond (has c.part.result k) None (at o k)) (c.index_mut.ensures.value
           ∙ get_or_default items i c.index_mut.result.now None in'))
           (λ k h. c.part.ensures.pages k (rw c.requires.below h) ∙ ap (λ b. has r (i * b + k)) c.requires.below);
-      tables = λ q. none_more (λ (b : Box g.row.C.Denot g.row.A.Denot) (k : ℕ). g.C.Level.has_table b.value k) P items i c.clear_table.new.table in'
-          (λ k. c.clear_table.ensures.tables k ∙ ap (in_table (λ (b : Box g.row.C.Denot g.row.A.Denot). g.C.Level.has_table b.value k))
+      tables = λ q. none_more (λ (b : g.row.C.Denot) (k : ℕ). g.C.Level.has_table b k) P items i c.clear_table.new.table in'
+          (λ k. c.clear_table.ensures.tables k ∙ ap (in_table (λ (b : g.row.C.Denot). g.C.Level.has_table b k))
           (c.index_mut.ensures.value ∙ get_or_default items i c.index_mut.result.now None in')) q ∙ c.tables.invariant.tables q;
     }
 
@@ -49,5 +49,5 @@ returns-clause-entries g c =
     let reached : r.end ≤ c.tables.i * P = past_end r.end P c.div_ceil-end.result c.tables.i g.met.C.Level.some_page
     (c.div_ceil-end.ensures ∙ ap (div_ceil r.end) c.requires.below) c.tables-test.false in
     λ q. c.tables.invariant.entries q
-    ∙ ap (λ b. cond b None (option_and_then (λ b. g.C.Level.entry_at b.value (q % P)) (get_or c.args.tables.now.items (q / P) None)))
+    ∙ ap (λ b. cond b None (option_and_then (λ b. g.C.Level.entry_at b (q % P)) (get_or c.args.tables.now.items (q / P) None)))
     (all_before r P q c.tables.i g.met.C.Level.some_page reached)

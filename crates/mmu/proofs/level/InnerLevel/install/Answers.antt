@@ -1,5 +1,4 @@
-use Rattle.std.proofs.Common.{◌≡◌, ℕ, ◌/◌, ◌%◌, ◌<◌, ◌==◌, ◌||◌, ap, sym, ◌∙◌, Some, None, Box, length, get_or, arith}
-use Rattle.std.specs.Box.{with_value}
+use Rattle.std.proofs.Common.{◌≡◌, ℕ, ◌/◌, ◌%◌, ◌<◌, ◌==◌, ◌||◌, ap, sym, ◌∙◌, Some, None, length, get_or, arith}
 use Rattle.std.specs.Prelude.{option_and_then}
 use Rattle.std.proofs.Math.ListN.{set, length-set}
 use Rattle.std.proofs.lemmas.List.{set-get_or}
@@ -18,9 +17,9 @@ returns-in_ok-table-in-None-clause-there g c =
     let below : c.args.width / 512 ≡ P = omega (arith, c.requires.width) in
     let len : length ys ≡ 512 = omega (arith, length-set xs (c.args.page / (c.args.width / 512)) c.index_mut.result.now, c.args.self.now.full) in
     let there = c.in_ok-table-in-None.ensures.there in
-    ap (λ x. option_and_then (λ b. g.C.Level.entry_at b.value (c.args.page % P)) x)
+    ap (λ x. option_and_then (λ b. g.C.Level.entry_at b (c.args.page % P)) x)
     (read_there ys c.args.page c.args.width P (Some c.in_ok-table-in-None.table) below pos c.requires.page len)
-    ∙ ap (λ k. g.C.Level.entry_at c.in_ok-table-in-None.table.value (c.args.page % k)) (sym below) ∙ there
+    ∙ ap (λ k. g.C.Level.entry_at c.in_ok-table-in-None.table (c.args.page % k)) (sym below) ∙ there
 
 pub returns-in_err-table-in-None-clause-err_last : goal.returns-in_err-table-in-None-clause-err_last
 returns-in_err-table-in-None-clause-err_last g c = on_any_err c.from_residual.result (λ q lt same.
@@ -30,7 +29,7 @@ returns-in_err-table-in-None-clause-err_last g c = on_any_err c.from_residual.re
     let here = read_now items c.args.page c.args.width P c.index_mut.result.now below g.met.C.Level.some_page c.requires.page
     (omega (arith, c.args.self.now.full)) c.index_mut.ensures.value in
     let there = ap (λ k. get_or items k None) (same_table P (P / 512) c.args.page q g.met.C.Level.whole same) ∙ here ∙ c.in-None.is in
-    ap (option_and_then (λ b. g.C.Level.entry_at b.value (q % P))) there)
+    ap (option_and_then (λ b. g.C.Level.entry_at b (q % P))) there)
 
 pub returns-in-Some-clause-err_last : goal.returns-in-Some-clause-err_last
 returns-in-Some-clause-err_last g c = on_err c.install.result (λ none q lt same.
@@ -43,8 +42,7 @@ returns-in-Some-clause-err_last g c = on_err c.install.result (λ none q lt same
     let pos = g.met.C.Level.some_page in
     let rest : (q % P) / 512 ≡ (c.args.page % (c.args.width / 512)) / 512 = same_rest P (P / 512) c.args.page q g.met.C.Level.whole same
     ∙ ap (λ k. (c.args.page % k) / 512) (sym below) in
-    ap (option_and_then (λ b. g.C.Level.entry_at b.value (q % P))) there
-    ∙ ap (λ v. g.C.Level.entry_at v (q % P)) (sym c.deref_mut.ensures.value)
+    ap (option_and_then (λ b. g.C.Level.entry_at b (q % P))) there
     ∙ none (q % P) (omega arith) rest) c.install.ensures.err_last
 
 pub returns-in_ok-table-in-None-clause-tables : goal.returns-in_ok-table-in-None-clause-tables
@@ -54,7 +52,7 @@ returns-in_ok-table-in-None-clause-tables g c =
     let xs = c.args.self.now.tables.items in
     let i = page / (c.args.width / 512) in
     let table = c.in_ok-table-in-None.table in
-    let has = λ (b : Box g.row.C.Denot g.row.A.Denot) (k : ℕ). g.C.Level.has_table b.value k in
+    let has = λ (b : g.row.C.Denot) (k : ℕ). g.C.Level.has_table b k in
     let pos : 0 < P = g.met.C.Level.some_page in
     let below : c.args.width / 512 ≡ P = omega (arith, c.requires.width) in
     let at : i ≡ page / P = ap (λ k. page / k) below in
@@ -76,7 +74,7 @@ returns-in-Some-clause-tables g c = on_ok c.install.result (λ more.
     let page = c.args.page in
     let xs = c.args.self.now.tables.items in
     let i = page / (c.args.width / 512) in
-    let has = λ (b : Box g.row.C.Denot g.row.A.Denot) (k : ℕ). g.C.Level.has_table b.value k in
+    let has = λ (b : g.row.C.Denot) (k : ℕ). g.C.Level.has_table b k in
     let pos : 0 < P = g.met.C.Level.some_page in
     let below : c.args.width / 512 ≡ P = omega (arith, c.requires.width) in
     let at : i ≡ page / P = ap (λ k. page / k) below in
@@ -84,10 +82,9 @@ returns-in-Some-clause-tables g c = on_ok c.install.result (λ more.
     let there = ap (λ k. get_or xs k None) at
     ∙ read_now xs page c.args.width P c.index_mut.result.now below pos c.requires.page (omega (arith, c.args.self.now.full)) c.index_mut.ensures.value
     ∙ c.in-Some.is in
-    one_more has P xs (P / 512) page i (Some (with_value c.in-Some.table c.install.new.self)) g.met.C.Level.whole pos at within
+    one_more has P xs (P / 512) page i (Some c.install.new.self) g.met.C.Level.whole pos at within
     (λ r lt. more r
-    ∙ ap (λ k. with_last_table (page % k) (g.C.Level.has_table c.deref_mut.result.now) r) below
-    ∙ ap (λ v. r / 512 == (page % P) / 512 || g.C.Level.has_table v r) c.deref_mut.ensures.value
+    ∙ ap (λ k. with_last_table (page % k) (g.C.Level.has_table c.in-Some.table) r) below
     ∙ ap (λ o. r / 512 == (page % P) / 512 || in_table (λ b. has b r) o) (sym there))) c.install.ensures.tables
 
 pub returns-in-Some-clause-err_tables : goal.returns-in-Some-clause-err_tables
@@ -96,7 +93,7 @@ returns-in-Some-clause-err_tables g c = on_err c.install.result (λ same.
     let page = c.args.page in
     let xs = c.args.self.now.tables.items in
     let i = page / (c.args.width / 512) in
-    let has = λ (b : Box g.row.C.Denot g.row.A.Denot) (k : ℕ). g.C.Level.has_table b.value k in
+    let has = λ (b : g.row.C.Denot) (k : ℕ). g.C.Level.has_table b k in
     let pos : 0 < P = g.met.C.Level.some_page in
     let below : c.args.width / 512 ≡ P = omega (arith, c.requires.width) in
     let at : i ≡ page / P = ap (λ k. page / k) below in
@@ -104,7 +101,6 @@ returns-in-Some-clause-err_tables g c = on_err c.install.result (λ same.
     let there = ap (λ k. get_or xs k None) at
     ∙ read_now xs page c.args.width P c.index_mut.result.now below pos c.requires.page (omega (arith, c.args.self.now.full)) c.index_mut.ensures.value
     ∙ c.in-Some.is in
-    none_more has P xs i (Some (with_value c.in-Some.table c.install.new.self)) within
+    none_more has P xs i (Some c.install.new.self) within
     (λ r. same r
-    ∙ ap (λ v. g.C.Level.has_table v r) c.deref_mut.ensures.value
     ∙ ap (in_table (λ b. has b r)) (sym there))) c.install.ensures.err_tables

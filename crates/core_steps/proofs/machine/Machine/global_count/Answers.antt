@@ -1,0 +1,7 @@
+use Rattle.core_steps.specs.Machine.{state}
+use Rattle.core_steps.proofs.Reached.{well}
+use Rattle.core_steps.proofs.rows.Known.{frame_counted}
+use Rattle.core_steps.proofs.machine.Machine.global_count.Goals as goal
+
+pub global-requires : goal.global-requires
+global-requires g c = frame_counted (state c.args.self.now) c.args.frame (well (state c.args.self.now) c.args.self.now.reached) c.requires
