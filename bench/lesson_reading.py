@@ -1,10 +1,10 @@
 """A simple machine that reads the traces of examples/lessons, and says what `radixvm state` has to show behind each of their lines. It takes steps of
 range calls one by one, knows slots that are cut, locked and folded, pages of files and their private copies, counts of frames and epochs, and replays
 accesses whole. It shares nothing with the program but what the help says. bench/state_reading.py runs it."""
-import bisect
 import pathlib
 import subprocess
 
+from frame_counts import FrameCounts
 from state_objects import text_of
 
 LESSONS = pathlib.Path(__file__).resolve().parent.parent / "examples/lessons"
@@ -13,42 +13,11 @@ SIZES = [1 << 27, 1 << 18, 1 << 9, 1]  # pages of a slot, level by level
 
 class Reader:
     def __init__(self, cores, frames):
-        self.cores, self.free, self.files, self.cut = cores, list(range(frames)), {}, set()
+        self.cores, self.counts, self.cut = cores, FrameCounts(cores, frames), set()
         self.pages = {}  # page: its rights, its file's page and whether that is shared, its frame, and the cores recorded there
         self.cached = {}  # the frame of a page of a file
         self.tables, self.tlbs = [{} for _ in range(cores)], [[] for _ in range(cores)]  # (frame, write, exec), and [page, entry]
         self.inboxes, self.calls = [[] for _ in range(cores)], [None] * cores  # [from, first, end, cleared]
-        self.count, self.epoch, self.ended, self.dirty = {}, 0, set(), set()
-        self.changes, self.queues = [{} for _ in range(cores)], [[] for _ in range(cores)]
-
-    # ---- counts
-
-    def counts(self, core, frame, by):
-        self.changes[core][frame] = self.changes[core].get(frame, 0) + by
-
-    def flush(self, core):
-        if self.changes[core]:
-            frame = min(self.changes[core])
-            self.count[frame] += self.changes[core].pop(frame)
-            if self.count[frame] == 0:
-                if any(frame == f for queue in self.queues for f, _ in queue):
-                    self.dirty.add(frame)
-                else:
-                    self.queues[core].append((frame, self.epoch))
-            return
-        self.ended.add(core)
-        if len(self.ended) == self.cores:
-            self.epoch, self.ended = self.epoch + 1, set()
-
-    def review(self, core):
-        if not self.queues[core] or self.epoch < self.queues[core][0][1] + 2:
-            return
-        frame, _ = self.queues[core].pop(0)
-        if self.count[frame] == 0 and frame in self.dirty:
-            self.dirty.discard(frame)
-            self.queues[core].append((frame, self.epoch))
-        elif self.count[frame] == 0:
-            bisect.insort(self.free, frame)
 
     # ---- slots
 
@@ -123,7 +92,7 @@ class Reader:
                 info.update(prot=call["new"], cores=set())
                 continue
             if info and info["frame"] is not None:
-                self.counts(core, info["frame"], -1)
+                self.counts.add(core, info["frame"], -1)
             self.pages.pop(page, None)
             if call["word"] == "mmap":
                 prot, back = call["new"]
@@ -174,8 +143,8 @@ class Reader:
 
     def copy(self, core, page, frame):
         info = self.pages[page]
-        self.counts(core, info["frame"], -1)
-        self.count[frame] = 1
+        self.counts.begin(frame, 1)
+        self.counts.add(core, info["frame"], -1)
         info.update(frame=frame, cores=set())
         self.enter(core, page)
 
@@ -187,14 +156,15 @@ class Reader:
         key = info["back"] and info["back"][:2]
         if key in self.cached:
             info["frame"] = self.cached[key]
-            self.counts(core, info["frame"], 1)
+            self.counts.add(core, info["frame"], 1)
             return True
-        if not self.free:
+        frame = self.counts.take()
+        if frame is None:
             return False
-        info["frame"] = self.free.pop(0)
-        self.count[info["frame"]] = 1
+        info["frame"] = frame
+        self.counts.begin(frame, 2 if key else 1)
         if key:
-            self.cached[key], self.count[info["frame"]] = info["frame"], 2
+            self.cached[key] = frame
         return True
 
     def access(self, core, word, page):
@@ -213,7 +183,7 @@ class Reader:
         if word == "store" and info["back"] and not info["back"][2] and info["frame"] == self.cached.get(info["back"][:2]):
             self.begin(core, "store", page, page + 1)
             self.tell(core, page, page + 1)
-            self.calls[core].update(does="awaits cores for", at=page + 1, held=[(page, page + 1)], frame=self.free.pop(0))
+            self.calls[core].update(does="awaits cores for", at=page + 1, held=[(page, page + 1)], frame=self.counts.take())
             self.finish(core)
             return
         self.enter(core, page)
@@ -244,7 +214,8 @@ class Reader:
         if words[1] == "evict":
             page = int(words[2], 0) // 4096
             return self.drop(core, page, page + 1)
-        return {"go": self.step, "finish": self.finish, "take": self.take, "flush": self.flush, "review": self.review}[words[1]](core)
+        return {"go": self.step, "finish": self.finish, "take": self.take, "flush": self.counts.flush,
+                "review": self.counts.review}[words[1]](core)
 
     def call_line(self, core, call):
         word = "call" if call["does"] in ("unlocks", "answers") else call["word"]
@@ -261,13 +232,13 @@ class Reader:
         if "frame" in call:
             yield f"core {core} took frame {call['frame']}"
 
-    def text(self, full):
-        """The lines of the state; those of what calls hold, of mappings and of pages if all are asked for."""
-        yield f"epoch {self.epoch}"
+    def text(self):
+        """The lines of the state."""
+        yield f"epoch {self.counts.epoch}"
         for core in range(self.cores):
             if self.calls[core]:
                 yield self.call_line(core, self.calls[core])
-                yield from self.held_lines(core, self.calls[core]) if full else ()
+                yield from self.held_lines(core, self.calls[core])
             entries = [("tlb", page, entry) for page, entry in self.tlbs[core]]
             for place, page, (frame, write, execute) in entries + [("table", page, entry) for page, entry in sorted(self.tables[core].items())]:
                 going = [m[3] for m in self.inboxes[core] if m[1] <= page < m[2]]
@@ -275,10 +246,9 @@ class Reader:
                 yield f"core {core} {place} {page * 4096:#x} frame {frame} r{'w' if write else '-'}{'x' if execute else '-'}{tail}"
             for sender, first, end, cleared in self.inboxes[core]:
                 yield f"core {core} inbox from {sender} {first * 4096:#x}-{end * 4096:#x} {'second' if cleared else 'first'} take due"
-
-        if full:
-            yield from self.mappings()
-            yield from self.page_lines()
+        yield from self.mappings()
+        yield from self.page_lines()
+        yield from self.counts.lines()
 
     def mappings(self):
         """Neighbouring pages of one protection are one line if they have no file, or continue in it."""
@@ -302,7 +272,7 @@ class Reader:
                 yield f"page {page * 4096:#x}{frame}{cores}"
 
 
-def read_lesson(program, path, full):
+def read_lesson(program, path):
     """Compares the state behind each line; how many lines of state there were, or what is wrong."""
     lines, reader, count = path.read_text().rstrip("\n").split("\n"), None, 0
     for number, said in enumerate(lines, 1):
@@ -315,10 +285,10 @@ def read_lesson(program, path, full):
             continue
         done = subprocess.run([program, "state", "--at", str(number), str(path)], capture_output=True, text=True, check=False)
         objects = subprocess.run([program, "state", "--json", "--at", str(number), str(path)], capture_output=True, text=True, check=False)
-        due = "".join(f"{text}\n" for text in reader.text(full))
+        due = "".join(f"{text}\n" for text in reader.text())
         if done.stdout != due or done.returncode != 0:
             raise SystemExit(f"{path.name} behind line {number}, {said}, comes to\n{done.stdout}{done.stderr}and not to\n{due}")
-        if full and (text_of(objects.stdout) != due or objects.returncode != 0):
+        if text_of(objects.stdout) != due or objects.returncode != 0:
             raise SystemExit(f"{path.name} behind line {number}, {said}, comes to\n{objects.stdout}{objects.stderr}and not to the objects of\n{due}")
         count += due.count("\n")
     return count
@@ -327,6 +297,5 @@ def read_lesson(program, path, full):
 def read_lessons(program):
     """What is told of all lessons."""
     paths = sorted(LESSONS.glob("*.trace"))
-    full = "holds" in subprocess.run([program, "help", "state"], capture_output=True, text=True, check=False).stdout
-    count = sum(read_lesson(program, path, full) for path in paths)
+    count = sum(read_lesson(program, path) for path in paths)
     return f"{len(paths)} lessons, behind each of their lines: {count} lines of state are those of the second reading"

@@ -1,9 +1,10 @@
 #!/usr/bin/env python3
 """Steps through the pages of traces in Debian's chromium, without a window, and compares what they show with the program's own words: the text and the
-drawn lines behind each line with `state --at`, each reply and each line of the log with `run --log`. It goes forward by key and back, follows a link,
-steps through calls, and finds no message on the console. Text of a trace that looks like HTML stays text. A page of 64 cores and 300 lines is below
-2 MB. Wants python3-selenium, chromium and chromium-driver. RADIXVM_PROGRAM is the program, crates/radixvm/out/radixvm where it isn't given.
-Usage: bench/page_test.py [FOLDER [TRACE..]] (screenshots go to FOLDER, if one is given; the traces are examples/*.trace, where none is)
+drawn lines behind each line with `state --at`, what is lit with what that line changed, each reply and each line of the log with `run --log`. It goes
+forward by key and back, follows a link, steps through calls, and finds no message on the console. Text of a trace that looks like HTML stays text. A page
+of 64 cores and 300 lines is below 2 MB. Wants python3-selenium, chromium and chromium-driver. RADIXVM_PROGRAM is the program,
+crates/radixvm/out/radixvm where it isn't given. Usage: bench/page_test.py [FOLDER [TRACE..]]
+(screenshots go to FOLDER, if one is given; the traces are those of examples and examples/lessons, where none is)
 """
 import os
 import pathlib
@@ -24,12 +25,17 @@ c0! mmap 0x10000 4096 rw- pfa
 c0! store 0x10000 65
 """
 
-# What the page shows: its text, the lines that are drawn, and the replies and lines of the log that can be seen.
+# What the page shows: its text, the lines that are drawn, and the replies and lines of the log that can be seen; then arrows, the lines that are lit,
+# those of a core that stand in another's card, and the words of the rows of frames.
 SHOWN = """
 const shown = (kind) => [...document.querySelectorAll("#lines " + kind)].filter((e) => getComputedStyle(e).display !== "none").map((e) => e.textContent);
 return [document.getElementById("text").textContent,
   [...document.querySelectorAll("#drawn .item:not(.gone)")].map((e) => e.dataset.line), shown(".reply"), shown(".log"),
-  [...document.querySelectorAll("#lines .text")].map((e) => e.firstChild ? e.firstChild.textContent : ""), document.querySelectorAll("#arrows g path").length];
+  [...document.querySelectorAll("#lines .text")].map((e) => e.firstChild ? e.firstChild.textContent : ""), document.querySelectorAll("#arrows g path").length,
+  [...document.querySelectorAll("#drawn .new")].map((e) => e.dataset.line),
+  [...document.querySelectorAll("#drawn .card .item")].map((e) => [e.dataset.line, e.closest(".card").id]).filter(([line, card]) =>
+    !line.startsWith("core " + card.slice(4) + " ")),
+  [...document.querySelectorAll("#drawn .frames .item:not(.gone)")].map((e) => [...e.children].map((part) => part.textContent).join(" "))];
 """
 
 
@@ -53,14 +59,16 @@ def browser():
     for word in ("--headless=new", "--no-sandbox", "--disable-gpu", "--window-size=1600,1000", "--force-color-profile=srgb"):
         options.add_argument(word)
     options.set_capability("goog:loggingPrefs", {"browser": "ALL"})
-    return webdriver.Chrome(options=options)
+    driver = webdriver.Chrome(options=options)
+    driver.set_script_timeout(300)  # a thousand steps take long where other programs run
+    return driver
 
 
 class Page:
     """A page in the browser."""
 
     def __init__(self, driver, trace, folder):
-        self.driver, self.trace = driver, trace
+        self.driver, self.trace, self.states = driver, trace, {0: ["epoch 0"]}
         self.text = trace.read_text()
         written = run("page", str(trace))
         if written.returncode:
@@ -84,14 +92,23 @@ return steps;""")
         self.press(Keys.END)
         return steps
 
-    def check(self, line):
-        """Compares what is shown behind this line with the program's words."""
-        text, drawn, replies, log, lines, _ = self.driver.execute_script(SHOWN)
-        state = run("state", "--at", str(line), str(self.trace)) if line else None
-        want = state.stdout if state and state.returncode == 0 else "epoch 0\n"
-        where = f"{self.trace.name}, line {line}"
-        assert text == want, f"{where}: the text is {text!r}, and not {want!r}"
-        assert sorted(drawn) == sorted(want.split("\n")[:-1]), f"{where}: {sorted(drawn)} is drawn, and not {sorted(want.split(chr(10))[:-1])}"
+    def state(self, line):
+        """The lines of the state behind a line, by the program."""
+        if line not in self.states:
+            state = run("state", "--at", str(line), str(self.trace))
+            self.states[line] = state.stdout.split("\n")[:-1] if state.returncode == 0 else ["epoch 0"]
+        return self.states[line]
+
+    def check(self, line, step=False):
+        """Compares what is shown behind this line, or one of its steps, with the program's words."""
+        text, drawn, replies, log, lines, _, lit, strayed, frames = self.driver.execute_script(SHOWN)
+        state, where = self.state(line), f"{self.trace.name}, line {line}"
+        assert text == "".join(one + "\n" for one in state), f"{where}: the text is {text!r}, and not {state}"
+        assert sorted(drawn) == sorted(state), f"{where}: {sorted(drawn)} is drawn, and not {sorted(state)}"
+        fresh = sorted(set(state).difference(self.state(max(0, line - 1))))
+        assert step or sorted(lit) == fresh, f"{where}: {sorted(lit)} is lit, and not {fresh}"
+        assert not strayed, f"{where}: these stand with another core: {strayed}"
+        assert frames == [one for one in state if one.startswith("frame ")], f"{where}: rows of frames are {frames}"
         assert lines == self.text.removesuffix("\n").split("\n"), f"{where}: other lines"
         front = "".join(part + "\n" for part in self.text.split("\n")[:line])
         told = run("run", "--log", text=front)
@@ -116,7 +133,7 @@ return steps;""")
         self.driver.refresh()
         self.check(count)
         steps = self.steps()
-        self.check(count)
+        self.check(count, step=True)
         self.press("s")
         told = [entry for entry in self.driver.get_log("browser") if "favicon" not in entry["message"]]
         assert not told, f"{self.trace.name}: the console has {told}"
@@ -130,7 +147,7 @@ def take_pictures(page, folder, dark):
     best, most = 1, -1
     for line in range(1, count + 1):
         page.driver.execute_script(f"go({line})")
-        text, *_, arrows = page.driver.execute_script(SHOWN)
+        text, _, _, _, _, arrows, *_ = page.driver.execute_script(SHOWN)
         if (arrows, len(text)) > (most, 0) and arrows * 1000 + len(text) > most * 1000:
             best, most = line, max(most, arrows)
     page.driver.execute_script(f"go({best})")
@@ -139,7 +156,7 @@ def take_pictures(page, folder, dark):
 
 def main():
     out = pathlib.Path(sys.argv[1]) if len(sys.argv) > 1 else None
-    traces = [pathlib.Path(word) for word in sys.argv[2:]] or sorted((TOP / "examples").glob("*.trace"))
+    traces = [pathlib.Path(word) for word in sys.argv[2:]] or [*sorted((TOP / "examples").glob("*.trace")), *sorted((TOP / "examples/lessons").glob("*.trace"))]
     if out:
         out.mkdir(parents=True, exist_ok=True)
     with tempfile.TemporaryDirectory() as name:

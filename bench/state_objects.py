@@ -16,6 +16,9 @@ def line_of(members):
             line = f"epoch {left.pop('epoch'):d}"
         elif "mapping" in left:
             line = left.pop("mapping")
+        elif "global" in left:
+            line = f"frame {left.pop('frame'):d} count {left.pop('count'):d} global {left.pop('global'):d}"
+            line += " dirty" if left.get("dirty") is True and left.pop("dirty") else ""
         else:
             line = f"page {left.pop('page')}"
             line += f" frame {left.pop('frame'):d}" if "frame" in left else ""
@@ -28,6 +31,12 @@ def line_of(members):
             line += " holds" + where() if left.pop("holds") is True else ""
         elif "took" in left:
             line += f" took frame {left.pop('took'):d}"
+        elif "count" in left:
+            line += f" count frame {left.pop('frame'):d} {left.pop('count'):+d}"
+        elif "queue" in left:
+            line += f" queue frame {left.pop('queue'):d} epoch {left.pop('epoch'):d}"
+        elif "flushed" in left:
+            line += " flushed" if left.pop("flushed") is True else ""
         elif "inbox" in left:
             due = left.pop("inbox")
             line += f" inbox from {left.pop('from'):d}{where()} {due}"

@@ -86,15 +86,16 @@ for (const text of states) mappings.push(mappingsOf(text, mappings.length ? mapp
 
 // ---- the state
 
-const kinds = ["holds", "took", "inbox", "tlb", "table", "count", "queue", "flushed"];
-const titles = { tlb: "TLB", table: "tables", count: "counts", queue: "review queue", flushed: "epoch" };
+const kinds = ["holds", "took", "inbox", "tlb", "table", "count", "queue"];
+const titles = { tlb: "TLB", table: "tables", count: "to add to counts", queue: "to review" };
 
 // Where a line of the state belongs, and its words there.
 function placeOf(line) {
   const core = /^core (\d+) (\S+)(.*)$/.exec(line);
   if (core) {
+    if (core[2] === "flushed") return { core: Number(core[1]), kind: "flushed", words: core[2] };
     const kind = kinds.includes(core[2]) ? core[2] : "call";
-    return { core: Number(core[1]), kind, words: kind === "call" || kind === "flushed" ? core[2] + core[3] : core[3].trim() };
+    return { core: Number(core[1]), kind, words: kind === "call" ? core[2] + core[3] : core[3].trim() };
   }
   if (range.test(line)) return { kind: "mapping", words: line };
   const thing = /^(epoch|page|frame) (.*)$/.exec(line);
@@ -118,6 +119,8 @@ function itemOf(line, words, state) {
   const place = line.startsWith("frame ") || / (count|queue|took) /.test(line) ? state.frames[frame] : address;
   const mapping = state.mappings.find((other) => other.start <= place && place < other.end);
   if (mapping) item.style.setProperty("--hue", `hsl(${mapping.hue} 65% 50%)`);
+  const queued = /^core \d+ queue .* epoch (\d+)$/.exec(line);
+  if (queued) item.append(" ", element("span", "note", state.epoch < Number(queued[1]) + 2 ? `due in epoch ${Number(queued[1]) + 2}` : "due"));
   return item;
 }
 
@@ -131,7 +134,9 @@ function cardOf(core, own, state) {
   const card = element("section", "card");
   card.id = "core" + core;
   card.setAttribute("aria-label", "core " + core);
-  card.append(element("h3", "", "core " + core));
+  const head = element("h3", "", "core " + core);
+  for (const { line, words } of own.filter(({ kind }) => kind === "flushed")) head.append(itemOf(line, words, state));
+  card.append(head);
   if (own.some(({ kind }) => kind === "call")) card.classList.add("busy");
   if (!own.length) card.classList.add("idle");
   for (const kind of ["call", ...kinds]) {
@@ -169,6 +174,17 @@ function rowsOf(places, state) {
   return rows;
 }
 
+// The frames in use, each a row: its number, its counts, and whether it is dirty.
+function framesOf(places, state) {
+  const made = section("frames in use: true count, global count", "frames");
+  for (const { line, words } of places) {
+    const item = itemOf(line, "", state);
+    for (const part of words.match(/[a-z]+( -?\d+)?/g)) item.append(element("span", "", part));
+    made.append(item);
+  }
+  return made;
+}
+
 function listOf(title, places, state) {
   const made = section(title, "list");
   const list = element("div", "items");
@@ -187,7 +203,7 @@ function draw(before, text, known) {
   const fresh = new Set(now.filter((line) => !old.includes(line)));
   const keys = new Set([...fresh].map(keyOf));
   const gone = new Set(old.filter((line) => !now.includes(line) && !keys.has(keyOf(line))));
-  const state = { fresh, gone, mappings: known, frames: {} };
+  const state = { fresh, gone, mappings: known, frames: {}, epoch: Number(now[0].split(" ")[1]) };
   const all = [...now, ...state.gone];
   for (const line of all) {
     const page = /^page (0x[0-9a-f]+) frame (\d+)/.exec(line) || /(0x[0-9a-f]+) frame (\d+)/.exec(line);
@@ -202,9 +218,11 @@ function draw(before, text, known) {
   for (let core = 0; core < coreCount; core += 1) grid.append(cardOf(core, places.filter((place) => place.core === core), state));
   cores.append(grid);
   drawn.append(cores);
-  if (places.some(({ kind }) => kind === "mapping" || kind === "page")) drawn.append(rowsOf(places, state));
-  const frames = places.filter(({ kind, core }) => kind === "frame" && core === undefined);
-  if (frames.length) drawn.append(listOf("frames", frames, state));
+  const below = element("div", "below");
+  if (places.some(({ kind }) => kind === "mapping" || kind === "page")) below.append(rowsOf(places, state));
+  const frames = places.filter(({ kind }) => kind === "frame");
+  if (frames.length) below.append(framesOf(frames, state));
+  drawn.append(below);
   byId("text").textContent = text;
 }
 

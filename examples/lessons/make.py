@@ -33,11 +33,11 @@ A page that is mapped anew has no recorded cores, and its munmap at the end wait
 Core 0 changes one of them, so it cuts the slot into 512, and locks the one that it needs.
 Core 1 changes the page beside it at the same time, and waits only for the page that core 0 holds.
 Once all 512 pages are alike again, and no call holds one, a fold joins them into one slot."""),
-    ("epochs", "Refcache over three epochs", 13, """\
+    ("epochs", "Refcache over three epochs", 12, """\
 A frame may be used again only if no page has it, but a count that all cores share would slow each of them down.
-So a core keeps its changes of counts to itself, and hands them on later: the munmap of the page makes no frame free.
-When the frame's count has come to 0 it lies in a queue, since another core may still keep a change of it, and here the epoch has ended once.
-It is free when two epochs have ended, in which every core handed on its changes, and the count stayed 0."""),
+So a core keeps its changes of counts to itself: behind line 7 the state has `core 0 count frame 0 -1`, and frame 0's true count is 0, its global one still 1.
+Line 11 adds this to the global count, which is 0 now, and puts the frame into core 0's queue, since another core may still keep a change of it.
+A core with nothing to add is marked, as core 0 is here, and the last mark ends the epoch: when two have ended, and the count stayed 0, a review frees it."""),
     ("copies", "Private copies", 12, """\
 A private page of a file shows the file's own frame until a core stores to it, so here both cores read what was stored through the shared mapping.
 The first store gives the page a copy, which is a frame of its own, and core 1's translation leads to the file's frame: it is going, and core 0 waits for it.

@@ -47,7 +47,7 @@ h2 { font-size: .95rem; margin: .8rem 0 .3rem; color: var(--faint); font-weight:
 .card { background: var(--card); border: 1px solid var(--edge); border-radius: .5rem; padding: .45rem .6rem; min-width: 0; }
 .card.busy { border-color: var(--mark); box-shadow: 0 0 0 1px var(--mark); }
 .card.idle { opacity: .6; padding: .1rem .6rem; }
-.card h3 { margin: 0; font-size: 1rem; }
+.card h3 { margin: 0; font-size: 1rem; display: flex; justify-content: space-between; }
 .card h4 { margin: .35rem 0 .1rem; font-size: .75rem; color: var(--faint); font-weight: 600; }
 .items { display: flex; flex-wrap: wrap; gap: .3rem; }
 .card .items { flex-direction: column; }
@@ -58,7 +58,10 @@ h2 { font-size: .95rem; margin: .8rem 0 .3rem; color: var(--faint); font-weight:
 .item.gone { opacity: .6; text-decoration: line-through; border-style: dashed; }
 .item.going { color: var(--going); border-color: var(--going); border-left-color: var(--hue, var(--going)); font-weight: 600; }
 .mapping { display: grid; grid-template-columns: minmax(16rem, max-content) 1fr; gap: .4rem; align-items: start; margin: .2rem 0; }
+.below { display: flex; flex-wrap: wrap; gap: 0 2.5rem; align-items: start; }
+.frames .item { display: grid; grid-template-columns: 12ch 10ch 11ch 5ch; width: max-content; margin: .2rem 0; }
 .note { color: var(--faint); font-size: .85rem; }
+.item .note { font-size: inherit; display: inline-block; }
 #text { font: .85rem/1.35 ui-monospace, \"DejaVu Sans Mono\", monospace; white-space: pre-wrap; }
 #legend { margin: 1rem 0 .4rem; }
 @media (max-width: 60rem) { body { height: auto; } main, .mapping { grid-template-columns: 1fr; } #trace { max-height: 40vh; border-right: 0; } }
@@ -184,15 +187,16 @@ for (const text of states) mappings.push(mappingsOf(text, mappings.length ? mapp
 
 // ---- the state
 
-const kinds = [\"holds\", \"took\", \"inbox\", \"tlb\", \"table\", \"count\", \"queue\", \"flushed\"];
-const titles = { tlb: \"TLB\", table: \"tables\", count: \"counts\", queue: \"review queue\", flushed: \"epoch\" };
+const kinds = [\"holds\", \"took\", \"inbox\", \"tlb\", \"table\", \"count\", \"queue\"];
+const titles = { tlb: \"TLB\", table: \"tables\", count: \"to add to counts\", queue: \"to review\" };
 
 // Where a line of the state belongs, and its words there.
 function placeOf(line) {
   const core = /^core (\\d+) (\\S+)(.*)$/.exec(line);
   if (core) {
+    if (core[2] === \"flushed\") return { core: Number(core[1]), kind: \"flushed\", words: core[2] };
     const kind = kinds.includes(core[2]) ? core[2] : \"call\";
-    return { core: Number(core[1]), kind, words: kind === \"call\" || kind === \"flushed\" ? core[2] + core[3] : core[3].trim() };
+    return { core: Number(core[1]), kind, words: kind === \"call\" ? core[2] + core[3] : core[3].trim() };
   }
   if (range.test(line)) return { kind: \"mapping\", words: line };
   const thing = /^(epoch|page|frame) (.*)$/.exec(line);
@@ -216,6 +220,8 @@ function itemOf(line, words, state) {
   const place = line.startsWith(\"frame \") || / (count|queue|took) /.test(line) ? state.frames[frame] : address;
   const mapping = state.mappings.find((other) => other.start <= place && place < other.end);
   if (mapping) item.style.setProperty(\"--hue\", `hsl(${mapping.hue} 65% 50%)`);
+  const queued = /^core \\d+ queue .* epoch (\\d+)$/.exec(line);
+  if (queued) item.append(\" \", element(\"span\", \"note\", state.epoch < Number(queued[1]) + 2 ? `due in epoch ${Number(queued[1]) + 2}` : \"due\"));
   return item;
 }
 
@@ -229,7 +235,9 @@ function cardOf(core, own, state) {
   const card = element(\"section\", \"card\");
   card.id = \"core\" + core;
   card.setAttribute(\"aria-label\", \"core \" + core);
-  card.append(element(\"h3\", \"\", \"core \" + core));
+  const head = element(\"h3\", \"\", \"core \" + core);
+  for (const { line, words } of own.filter(({ kind }) => kind === \"flushed\")) head.append(itemOf(line, words, state));
+  card.append(head);
   if (own.some(({ kind }) => kind === \"call\")) card.classList.add(\"busy\");
   if (!own.length) card.classList.add(\"idle\");
   for (const kind of [\"call\", ...kinds]) {
@@ -267,6 +275,17 @@ function rowsOf(places, state) {
   return rows;
 }
 
+// The frames in use, each a row: its number, its counts, and whether it is dirty.
+function framesOf(places, state) {
+  const made = section(\"frames in use: true count, global count\", \"frames\");
+  for (const { line, words } of places) {
+    const item = itemOf(line, \"\", state);
+    for (const part of words.match(/[a-z]+( -?\\d+)?/g)) item.append(element(\"span\", \"\", part));
+    made.append(item);
+  }
+  return made;
+}
+
 function listOf(title, places, state) {
   const made = section(title, \"list\");
   const list = element(\"div\", \"items\");
@@ -285,7 +304,7 @@ function draw(before, text, known) {
   const fresh = new Set(now.filter((line) => !old.includes(line)));
   const keys = new Set([...fresh].map(keyOf));
   const gone = new Set(old.filter((line) => !now.includes(line) && !keys.has(keyOf(line))));
-  const state = { fresh, gone, mappings: known, frames: {} };
+  const state = { fresh, gone, mappings: known, frames: {}, epoch: Number(now[0].split(\" \")[1]) };
   const all = [...now, ...state.gone];
   for (const line of all) {
     const page = /^page (0x[0-9a-f]+) frame (\\d+)/.exec(line) || /(0x[0-9a-f]+) frame (\\d+)/.exec(line);
@@ -300,9 +319,11 @@ function draw(before, text, known) {
   for (let core = 0; core < coreCount; core += 1) grid.append(cardOf(core, places.filter((place) => place.core === core), state));
   cores.append(grid);
   drawn.append(cores);
-  if (places.some(({ kind }) => kind === \"mapping\" || kind === \"page\")) drawn.append(rowsOf(places, state));
-  const frames = places.filter(({ kind, core }) => kind === \"frame\" && core === undefined);
-  if (frames.length) drawn.append(listOf(\"frames\", frames, state));
+  const below = element(\"div\", \"below\");
+  if (places.some(({ kind }) => kind === \"mapping\" || kind === \"page\")) below.append(rowsOf(places, state));
+  const frames = places.filter(({ kind }) => kind === \"frame\");
+  if (frames.length) below.append(framesOf(frames, state));
+  drawn.append(below);
   byId(\"text\").textContent = text;
 }
 
