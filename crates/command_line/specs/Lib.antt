@@ -1,15 +1,2 @@
-pub mod Asking
-pub mod Changing
-pub mod Echo
-pub mod Help
-pub mod Input
-pub mod Litmus
-pub mod Gathered
-pub mod Lining
-pub mod Listing
-pub mod Picture
-pub mod State
 pub mod Status
-pub mod Stepping
-pub mod Witness
 pub mod Words

@@ -1,34 +1,33 @@
 //! The words of the command line, and what each does.
 ghost use Rattle.std.specs.Prelude.{◌≡◌, ◌≤◌, IfErr, IfOk};
 ghost use Rattle.command_line.specs.Words.{DoesWork};
+ghost use Rattle.litmus_word.specs.Litmus.{TellsTest};
+ghost use Rattle.litmus_word.specs.Witness.{PicturesWitness};
 ghost use Rattle.trace_io.specs.Io.{read_from, written_to};
 
-use crate::auditing::{audit, audit_each, audit_overlapping};
-use crate::certifying::certify;
-use crate::ended::{Ended, Trouble};
-use crate::explain::{Manner, explain};
-use crate::forms::Kind;
-use crate::gathering::{Ungathered, gather, save_parts};
-use crate::histories::{explain_disorder, explain_history};
-use crate::importing::{import, import_accesses, import_each};
-use crate::input::{Files, input, list};
-use crate::job::{run, run_echoing};
-use crate::keeping::{Keeping, Keeps};
-use crate::litmus_tests::{explain_litmus, litmus, test_name};
-use crate::live::{certify_live, live, live_history, share_live};
-use crate::loosening::audit_loosely;
-use crate::noting::{show_request, tell_notes, tell_undecided};
-use crate::paging::audit_by_pages;
-use crate::picturing::{Drawing, picture};
 pub use crate::telling::{WordsFault, refuse_words};
 use crate::telling::{tell, tell_cause, tell_of_terminal};
 use crate::terminals::Terminals;
-use crate::witnessing::picture_witness;
-use crate::words::{Task, Told, Work, parse};
+use audit_word::auditing::{audit, audit_each, audit_overlapping};
+use audit_word::loosening::audit_loosely;
+use audit_word::paging::audit_by_pages;
 use core_steps::CallLimit;
+use explained::explain::{Manner, explain};
+use explained::forms::Kind;
+use explained::histories::{explain_disorder, explain_history};
+use explained::noting::{show_request, tell_notes, tell_undecided};
 use import_text::each::Part;
+use import_word::gathering::{Ungathered, gather, save_parts};
+use import_word::importing::{import, import_accesses, import_each};
+use litmus::RunFault;
+use litmus_word::litmus_tests::{Test, explain_litmus, litmus, test_name};
+use litmus_word::witnessing::picture_witness;
 use live_script::Runner;
+use picture_words::picturing::picture;
 use radix_range::RadixMap;
+use run_words::certifying::certify;
+use run_words::job::{run, run_echoing};
+use run_words::live::{certify_live, live, live_history, share_live};
 use slot_lock::SlotMap;
 use std::alloc::{Allocator, Global};
 use std::env::{Env, FillError};
@@ -40,6 +39,11 @@ use trace::fault::{TraceFault, status_of_fault};
 use trace::shown::Show;
 use trace_io::sink::Sink;
 use trace_io::source::{Counted, Source};
+use word_parts::asked::{Drawing, WitnessPicture};
+use word_parts::ended::{Ended, Trouble};
+use word_parts::input::{Files, input, list};
+use word_parts::keeping::{Keeping, Keeps};
+use words::{Task, Told, Work, parse};
 
 // Tells that a file can't be opened, and which and why where that is asked for, and answers the status.
 fn refuse_file<E: Write>(asks: Asks<'_>, name: &str, cause: io::ErrorKind, errors: &mut E) -> u8
@@ -53,6 +57,82 @@ fn refuse_file<E: Write>(asks: Asks<'_>, name: &str, cause: io::ErrorKind, error
     status_of_fault(fault)
 }
 
+// What a word gives beside what it writes.
+#[derive(Drop)]
+struct Aside {
+    // The order that an audit found.
+    order: Vec<u8>,
+    // The traces of processes.
+    parts: Vec<Part>,
+    // Why nothing is told of a litmus test.
+    fault: Option<RunFault>,
+}
+
+impl Aside {
+    // Nothing yet.
+    fn new(alloc: Global) -> Aside {
+        Aside {
+            order: Vec::new(alloc),
+            parts: Vec::new(alloc),
+            fault: None,
+        }
+    }
+}
+
+// What more can be told of where nothing is told of a litmus test, for a fault.
+fn trouble_of(fault: Option<RunFault>) -> Trouble {
+    match fault {
+        Some(_) => Trouble::Litmus,
+        None => Trouble::Nothing,
+    }
+}
+
+// Tells of the litmus test of this file.
+fn tell_test<T: Threads + Wait + Sync, L: Source, S: Source, W: Sink, E: Write>(
+    rt: &T,
+    alloc: Global,
+    file: Option<&str>,
+    list: &mut L,
+    reader: &mut S,
+    out: &mut W,
+    errors: &mut E,
+    aside: &mut Aside,
+    test: Test,
+) -> Ended
+    ensures does { TellsTest test (read_from L.Source list.old list.new) (read_from S.Source reader.old reader.new)
+        (written_to W.Sink out.old out.new) result.status }
+    ensures within { result.status ≤ 3 }
+{
+    let ended = litmus(rt, alloc, test_name(file), list, reader, out, errors, test);
+    aside.fault = ended.fault;
+    Ended {
+        status: ended.status,
+        trouble: trouble_of(ended.fault),
+    }
+}
+
+// Pictures a witness of the litmus test of this file.
+fn draw_witness<S: Source, W: Sink, E: Write>(
+    alloc: Global,
+    file: Option<&str>,
+    reader: &mut S,
+    out: &mut W,
+    errors: &mut E,
+    aside: &mut Aside,
+    asked: WitnessPicture,
+) -> Ended
+    ensures does { PicturesWitness asked
+        (read_from S.Source reader.old reader.new) (written_to W.Sink out.old out.new) result.status }
+    ensures within { result.status ≤ 3 }
+{
+    let ended = picture_witness(alloc, test_name(file), reader, out, errors, asked);
+    aside.fault = ended.fault;
+    Ended {
+        status: ended.status,
+        trouble: trouble_of(ended.fault),
+    }
+}
+
 // Does what the parsed words ask for, and answers its status, and what more can be told of. Long work may show how far it has come.
 fn act<T: Threads + Wait + Sync, R: Runner<Global>, L: Source, S: Source, W: Sink, E: Write>(
     rt: &T,
@@ -63,8 +143,7 @@ fn act<T: Threads + Wait + Sync, R: Runner<Global>, L: Source, S: Source, W: Sin
     reader: &mut S,
     out: &mut W,
     errors: &mut E,
-    order: &mut Vec<u8>,
-    parts: &mut Vec<Part>,
+    aside: &mut Aside,
     shows: bool,
 ) -> Ended
     ensures does { IfOk parsed.entry (λ task. DoesWork Global
@@ -92,30 +171,35 @@ fn act<T: Threads + Wait + Sync, R: Runner<Global>, L: Source, S: Source, W: Sin
             }
             Work::ShareLive => share_live(rt, alloc, reader, out, errors),
             Work::Import(choice) => import(alloc, list, reader, out, errors, choice, shows),
-            Work::ImportEach => import_each(alloc, reader, errors, parts, shows),
+            Work::ImportEach => import_each(alloc, reader, errors, &mut aside.parts, shows),
             Work::ImportAccesses => import_accesses(alloc, reader, out, errors),
             Work::Audit(terms) => audit(alloc, reader, out, errors, terms),
             Work::AuditAll(terms) => audit_each(alloc, reader, out, errors, terms),
             Work::Overlapping(overlaps) => audit_overlapping(
-                alloc, list, reader, out, errors, overlaps, order,
+                alloc,
+                list,
+                reader,
+                out,
+                errors,
+                overlaps,
+                &mut aside.order,
             ),
-            Work::ByPages(overlaps) => audit_by_pages(alloc, reader, out, errors, overlaps, order),
+            Work::ByPages(overlaps) => audit_by_pages(
+                alloc,
+                reader,
+                out,
+                errors,
+                overlaps,
+                &mut aside.order,
+            ),
             Work::Loosely(any_place) => audit_loosely(alloc, reader, out, errors, any_place),
             Work::Picture(drawing) => picture(alloc, reader, out, errors, drawing),
-            Work::Litmus(test) => {
-                litmus(
-                    rt,
-                    alloc,
-                    test_name(task.file),
-                    list,
-                    reader,
-                    out,
-                    errors,
-                    test,
-                )
+            Work::Litmus { wanted, limit } => {
+                let test = Test { wanted, limit };
+                tell_test(rt, alloc, task.file, list, reader, out, errors, aside, test)
             }
             Work::PictureWitness(asked) => {
-                picture_witness(alloc, test_name(task.file), reader, out, errors, asked)
+                draw_witness(alloc, task.file, reader, out, errors, aside, asked)
             }
         },
         Err(told) => Ended {
@@ -165,7 +249,7 @@ fn manner_of(work: Work, coloured: bool) -> Manner {
         Work::Picture(Drawing::Listing(limit)) => (Kind::Trace, limit, limit == CallLimit::Usual),
         Work::Picture(Drawing::Lives) => (Kind::Trace, CallLimit::Long, false),
         Work::Picture(_)
-        | Work::Litmus(_)
+        | Work::Litmus { .. }
         | Work::PictureWitness(_)
         | Work::Import(_)
         | Work::ImportEach
@@ -192,7 +276,7 @@ fn example_of(work: Work) -> &'static str {
         | Work::Replay(_)
         | Work::Echo { .. }
         | Work::Picture(_)
-        | Work::Litmus(_)
+        | Work::Litmus { .. }
         | Work::PictureWitness(_)
         | Work::Audit(_)
         | Work::AuditAll(_)
@@ -276,7 +360,7 @@ fn end_of(trouble: Trouble) -> u64 {
         Trouble::Fault(TraceFault::BadLine(number)) | Trouble::Fault(TraceFault::TooLong(number)) =>
             number,
         Trouble::Fault(_) => 0,
-        Trouble::History(_) | Trouble::Litmus(_) => 0,
+        Trouble::History(_) | Trouble::Litmus => 0,
         Trouble::Nothing | Trouble::Illegal(_) | Trouble::Undecided(_) => u64::MAX,
         Trouble::NoOrder(_) | Trouble::Unordered(_) => u64::MAX,
     }
@@ -289,10 +373,11 @@ fn tell_failed_read<R, E: Write>(name: Option<&str>, read: &Keeping<R>, errors: 
     }
 }
 
-// Tells more of how a word ended.
+// Tells more of how a word ended, and why nothing is told of a litmus test.
 fn tell_more<L, R, E: Write>(
     asks: Asks<'_>,
     trouble: Trouble,
+    untold: Option<RunFault>,
     list: &Keeping<L>,
     read: &Keeping<R>,
     errors: &mut E,
@@ -315,7 +400,7 @@ fn tell_more<L, R, E: Write>(
     if let Trouble::History(fault) = trouble {
         explain_history(fault, &read.kept, errors);
     }
-    if let Trouble::Litmus(fault) = trouble {
+    if let Some(fault) = untold {
         explain_litmus(fault, &read.kept, errors);
     }
     explain_disorder(trouble, &read.kept, errors);
@@ -450,8 +535,7 @@ fn command_on<
     greet(asks, terminals, errors);
     let mut list = Counted::new(Keeping::new(alloc, list, Keeps::Nothing));
     let mut reader = Counted::new(Keeping::new(alloc, input, asks.keeps));
-    let mut order = Vec::new(alloc);
-    let mut parts = Vec::new(alloc);
+    let mut aside = Aside::new(alloc);
     let ended = act(
         rt,
         runner,
@@ -461,13 +545,19 @@ fn command_on<
         &mut reader,
         out,
         errors,
-        &mut order,
-        &mut parts,
+        &mut aside,
         terminals.errors,
     );
-    tell_more(asks, ended.trouble, &list.reader, &reader.reader, errors);
-    let status = save_order(files, asks, order.as_slice(), ended.status, errors);
-    save_traces(files, alloc, asks, parts.as_slice(), status, errors)
+    tell_more(
+        asks,
+        ended.trouble,
+        aside.fault,
+        &list.reader,
+        &reader.reader,
+        errors,
+    );
+    let status = save_order(files, asks, aside.order.as_slice(), ended.status, errors);
+    save_traces(files, alloc, asks, aside.parts.as_slice(), status, errors)
 }
 
 /// Does what the words say, the program's name first, and answers the status: 0; 1 for notes

@@ -1,19 +1,19 @@
 //! What is said about words that can't be acted on, and of files that can't be read.
 ghost use Rattle.std.specs.Prelude.{◌≡◌, ◌≤◌};
 ghost use Rattle.std.specs.Io.KnownBytes.{Appends};
-ghost use Rattle.command_line.specs.Help.{page_of};
+ghost use Rattle.help_texts.specs.Help.{page_of};
 ghost use Rattle.command_line.specs.Status.{words_status};
-ghost use Rattle.command_line.specs.declared.help.Topic.{Topic};
+ghost use Rattle.help_texts.specs.declared.Topic.{Topic};
 
-use crate::help;
-use crate::pointing::tell as tell_line;
-use crate::words::Told;
 use clap::Error;
 use clap::error::ErrorKind;
+use help_texts::page;
 use std::alloc::Global;
 use std::io;
 use std::io::Write;
 use trace_io::sink::{Sink, write_all};
+use word_parts::pointing::tell as tell_line;
+use words::Told;
 
 // Prints a text on standard output, and answers the status.
 fn show<W: Sink, E: Write>(text: &str, out: &mut W, errors: &mut E) -> u8
@@ -28,7 +28,7 @@ fn show<W: Sink, E: Write>(text: &str, out: &mut W, errors: &mut E) -> u8
 }
 
 /// Why the program's words can't be acted on, except for what they say.
-#[derive(Clone, Copy, Debug, PartialEq, Eq)]
+#[derive(Clone, Copy)]
 pub enum WordsFault {
     /// A word isn't UTF-8.
     NotUtf8,
@@ -124,7 +124,7 @@ pub(crate) fn tell<W: Sink, E: Write>(alloc: Global, told: &Told, out: &mut W, e
 {
     match told {
         Told::Words(error) => tell_words(alloc, error, out, errors),
-        Told::Page(topic) => show(help::page(*topic), out, errors),
+        Told::Page(topic) => show(page(*topic), out, errors),
         Told::NoSteps(steps) => {
             let first = steps.first;
             let last = steps.last;

@@ -1,7 +1,7 @@
 //! What is different at a terminal.
 
 /// Which of the standard streams are terminals.
-#[derive(Clone, Copy, Debug, PartialEq, Eq)]
+#[derive(Clone, Copy)]
 pub struct Terminals {
     /// Standard input.
     pub input: bool,

@@ -2,12 +2,12 @@
 use crate::streams::{
     AMPLE, Dripping, Filling, Ran, dripping_of, ran_of, run_words, sink_of, text_of,
 };
-use command_line::certifying::certify;
-use command_line::job::{Shows, run, run_echoing};
-use command_line::live::{certify_live, live};
 use core_steps::CallLimit;
 use linked_list_allocator::LocalHeap;
 use live_script::InTurn;
+use run_words::certifying::certify;
+use run_words::job::{run, run_echoing};
+use run_words::live::{certify_live, live};
 use std::alloc::Global;
 use std::sync::Wait;
 use std::test::Fail;
@@ -15,6 +15,7 @@ use std::thread::Threads;
 use trace::shown::Show;
 use trace_io::sink::Noted;
 use trace_io::source::Counted;
+use word_parts::asked::Shows;
 
 // Words, and below each what it reads, with `; ` between its lines, and what goes out.
 const TEXTS: &str = "\

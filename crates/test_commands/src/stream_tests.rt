@@ -1,12 +1,11 @@
 //! Each read that fails is told, and each write that fails, takes no byte, or isn't handed on; what went out before is a front of
 //! what goes out where none fails.
 use crate::streams::{AMPLE, Limits, Ran, run_words, text_of};
-use command_line::help;
-use command_line::help::Topic;
-use command_line::input::Files;
+use help_texts::{Topic, page};
 use std::alloc::Global;
 use std::sync::Wait;
 use std::thread::Threads;
+use word_parts::input::Files;
 
 // Words, and below them what they read, with `; ` between its lines.
 const TEXTS: &str = "\
@@ -193,6 +192,6 @@ fn help_fits_into_79_columns(rt: HostRuntime) {
         Topic::Page,
         Topic::Litmus,
     ] {
-        assert!(rt; is_narrow(help::page(topic)));
+        assert!(rt; is_narrow(page(topic)));
     }
 }

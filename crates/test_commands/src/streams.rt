@@ -1,6 +1,5 @@
 //! Streams that fail, and the program over them.
 use command_line::command::program;
-use command_line::input::Files;
 use command_line::terminals::NO_TERMINALS;
 use live_script::InTurn;
 use std::alloc::{Allocator, Global};
@@ -10,6 +9,7 @@ use std::io::{ErrorKind, Read, Write};
 use std::sync::Wait;
 use std::thread::Threads;
 use trace_io::sink::Noted;
+use word_parts::input::Files;
 
 /// At which read and write the streams fail.
 #[derive(Clone, Copy)]

@@ -19,7 +19,6 @@ mod row;
 mod text;
 
 use crate::row::run_row;
-use command_line::input::Files;
 use std::alloc::Global;
 use std::env;
 use std::io::Write;
@@ -27,6 +26,7 @@ use std::process::ExitCode;
 use std::sync::Wait;
 use std::thread::Threads;
 use trace_io::source::{Counted, read_all};
+use word_parts::input::Files;
 
 // The text of the file of this name, if it can be read.
 fn bytes_of<F: Files>(files: &F, alloc: Global, name: &str) -> Option<Vec<u8>> {

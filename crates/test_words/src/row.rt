@@ -1,7 +1,6 @@
 //! A row, which is run and compared with what it says.
 use crate::text::{push_lines, push_text, push_words};
 use command_line::command::program;
-use command_line::input::Files;
 use command_line::terminals::Terminals;
 use live_script::OnThreads;
 use std::alloc::Global;
@@ -10,6 +9,7 @@ use std::io::Write;
 use std::sync::Wait;
 use std::thread::Threads;
 use trace_io::sink::Noted;
+use word_parts::input::Files;
 
 // The words of a command line, with a zero byte between them, and whether `NO_COLOR` is set.
 #[derive(Drop)]

@@ -1,0 +1,218 @@
+//! What is said beside a text that was read: of lines that may be mistakes, and of the reply that is illegal.
+
+use crate::explain::Manner;
+use crate::forms::Kind;
+use std::io::Write;
+use trace_text::{Action, Line, read_line};
+use vm_base::{CoreId, Flags, Request};
+use word_parts::keeping::Kept;
+use word_parts::pointing::{behind, point, show_line, tell, word_at, word_start};
+
+// ---- lines that are taken, and may be mistakes
+
+// How many cores there are, where a line gives that, or else this many as before.
+fn cores_given(before: u64, said: Line) -> u64 {
+    match said {
+        Line::Space { cores, .. } => cores,
+        _ => before,
+    }
+}
+
+// The same of a line as it stands.
+fn cores_after(before: u64, line: &[u8]) -> u64 {
+    match read_line(line) {
+        Some(said) => cores_given(before, said),
+        None => before,
+    }
+}
+
+// The core of a line.
+fn core_said(said: Line) -> Option<CoreId> {
+    match said {
+        Line::Act(core, _) | Line::Finish(core) | Line::Now(core, _) => Some(core),
+        Line::Blank | Line::Space { .. } | Line::File { .. } | Line::Fold(_) => None,
+    }
+}
+
+// The same of a line as it stands.
+fn core_of(line: &[u8]) -> Option<CoreId> {
+    let said = read_line(line)?;
+    core_said(said)
+}
+
+// The call that a line asks for.
+fn request_of(said: Line) -> Option<Request> {
+    match said {
+        Line::Act(_, Action::Call(request)) | Line::Now(_, request) => Some(request),
+        _ => None,
+    }
+}
+
+// The flags of the mapping that a line asks for.
+fn flags_of(said: Line) -> Option<Flags> {
+    match request_of(said)? {
+        Request::Mmap { flags, .. } => Some(flags),
+        _ => None,
+    }
+}
+
+// What is told of the flags of a mapping.
+fn flags_rule(flags: Flags) -> Option<&'static str> {
+    match (flags.private, flags.shared) {
+        (false, false) => Some(
+            "FLAGS has neither p nor s, of which mmap needs one: this reads einval",
+        ),
+        (true, true) => Some("FLAGS has p and s, of which mmap needs just one: this reads einval"),
+        _ => None,
+    }
+}
+
+// What is told of a line that asks for a mapping.
+fn rule_of(line: &[u8]) -> Option<&'static str> {
+    let said = read_line(line)?;
+    let flags = flags_of(said)?;
+    flags_rule(flags)
+}
+
+// Writes a note of the line with this number.
+fn tell_note<E: Write>(number: u64, what: &str, errors: &mut E) {
+    let _ = writeln!(errors, "note: line {number}: {what}");
+}
+
+// Tells of a core that the vm line doesn't give, if none was told of, and answers whether one was by then.
+fn notice_core<E: Write>(
+    is_told: bool,
+    cores: u64,
+    number: u64,
+    line: &[u8],
+    coloured: bool,
+    errors: &mut E,
+) -> bool {
+    let Some(core) = core_of(line) else {
+        return is_told;
+    };
+    if is_told || u64::from(core.index()) < cores {
+        return is_told;
+    }
+    tell_note(
+        number,
+        "the vm line gives no such core: its lines read idle",
+        errors,
+    );
+    point(line, word_start(line, 0), coloured, errors);
+    true
+}
+
+// Tells of flags that no mapping may have, if none were told of, and answers whether some were by then.
+fn notice_flags<E: Write>(
+    is_told: bool,
+    number: u64,
+    line: &[u8],
+    coloured: bool,
+    errors: &mut E,
+) -> bool {
+    let Some(rule) = rule_of(line) else {
+        return is_told;
+    };
+    if is_told {
+        return true;
+    }
+    tell_note(number, rule, errors);
+    let index = if word_at(line, 1) == b"call".as_slice() {
+        6
+    } else {
+        5
+    };
+    point(line, word_start(line, index), coloured, errors);
+    true
+}
+
+/// Tells of the first line of a core that the vm line doesn't give, and of the first mapping whose flags have neither `p` nor `s`, or
+/// both, before the line with this number.
+pub fn tell_notes<E: Write>(manner: Manner, kept: &Kept, end: u64, errors: &mut E) {
+    if manner.kind != Kind::Trace {
+        return;
+    }
+    let mut cores = u64::MAX;
+    let mut tells_core = false;
+    let mut tells_flags = false;
+    let mut number = kept.before();
+    for line in kept.text().split(|byte| *byte == b'\n') {
+        number = number.saturating_add(1);
+        if number >= end {
+            return;
+        }
+        cores = cores_after(cores, line);
+        tells_core = notice_core(tells_core, cores, number, line, manner.coloured, errors);
+        tells_flags = notice_flags(tells_flags, number, line, manner.coloured, errors);
+    }
+}
+
+// ---- the reply that is illegal
+
+// Whether a line begins a call of the core.
+fn begins_call(line: &[u8], core: &[u8]) -> bool {
+    word_at(line, 0).strip_suffix(b"!") == Some(core)
+        || (word_at(line, 0) == core && word_at(line, 1) == b"call".as_slice())
+}
+
+// The last line before this one at which the core's call begins that is answered here.
+fn line_that_waits<'a>(kept: &'a Kept, core: &[u8], end: u64) -> Option<&'a [u8]> {
+    let mut found = None;
+    let mut number = kept.before();
+    for line in kept.text().split(|byte| *byte == b'\n') {
+        number = number.saturating_add(1);
+        if number < end && begins_call(line, core) {
+            found = Some(line);
+        }
+    }
+    found
+}
+
+// Where the reply of a line begins.
+fn reply_at(line: &[u8]) -> usize {
+    let mut place = 0usize;
+    for (at, byte) in line.iter().enumerate() {
+        if *byte == b'=' {
+            place = at.saturating_add(1);
+        }
+    }
+    place.saturating_add(word_start(behind(line, place), 0))
+}
+
+// Writes the number of a line whose reply is illegal.
+fn tell_line<E: Write>(number: u64, errors: &mut E) {
+    let _ = writeln!(errors, "audit: line {number}");
+}
+
+// Shows the line that asked first for what is answered here, where that is another one.
+fn show_asked<E: Write>(number: u64, line: &[u8], kept: &Kept, errors: &mut E) {
+    if matches!(word_at(line, 1), b"finish" | b"go" | b"giveup")
+        && let Some(asked) = line_that_waits(kept, word_at(line, 0), number)
+    {
+        show_line(asked, errors);
+    }
+}
+
+/// Shows the request whose reply is illegal, which stands at the line with this number: that line, or where it finishes a call that
+/// waited, the line that asked for it first.
+pub fn show_request<E: Write>(number: u64, kept: &Kept, coloured: bool, errors: &mut E) {
+    let Some(line) = kept.line(number) else {
+        return;
+    };
+    tell_line(number, errors);
+    show_asked(number, line, kept, errors);
+    point(line, reply_at(line), coloured, errors);
+}
+
+/// Tells why a reply isn't told to be illegal, which isn't right in the order of the replies.
+pub fn tell_undecided<E: Write>(errors: &mut E) {
+    tell(
+        "calls overlapped before it, or a store had nomemory: in another order of the",
+        errors,
+    );
+    tell(
+        "calls, or with a copy that the store left, the reply may be right",
+        errors,
+    );
+}

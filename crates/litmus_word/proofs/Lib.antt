@@ -1,0 +1,2 @@
+mod LitmusLemmas
+mod WitnessLemmas

@@ -1,0 +1,2 @@
+pub mod Litmus
+pub mod Witness

@@ -1,0 +1,5 @@
+mod ChangingLemmas
+mod LiningLemmas
+mod PageLemmas
+mod PictureLemmas
+mod StateLemmas

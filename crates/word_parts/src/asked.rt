@@ -1,0 +1,85 @@
+//! What the words of the command line ask for.
+
+use core_steps::CallLimit;
+use trace::shown::Show;
+
+/// What a run shows of its trace, and how many calls it lets the trace ask for.
+#[derive(Clone, Copy)]
+pub struct Shows {
+    /// What goes to standard output.
+    pub show: Show,
+    /// How many calls the trace may ask for, where its log isn't shown.
+    pub limit: CallLimit,
+    /// Whether the numbers of the run are told, where no fault ended it.
+    pub sums: bool,
+}
+
+/// Which lines a picture shows, by their numbers.
+#[derive(Clone, Copy)]
+pub struct Lines {
+    /// The first.
+    pub first: u64,
+    /// The last one at the most, behind which nothing is looked at.
+    pub last: u64,
+}
+
+/// Which steps a picture shows, by their numbers.
+#[derive(Clone, Copy)]
+pub struct Steps {
+    /// The first.
+    pub first: u64,
+    /// The last one at the most.
+    pub last: u64,
+}
+
+/// How the lines of a trace are shown beside what they gave.
+#[derive(Clone, Copy)]
+pub struct Echoed {
+    /// Whether they are faint.
+    pub coloured: bool,
+    /// Whether the entries that they add to the log stand below them.
+    pub logs: bool,
+}
+
+/// What is shown of a trace.
+#[derive(Clone, Copy)]
+pub enum Drawing {
+    /// What happened in the columns of these lines.
+    Lines(Lines),
+    /// What happened in these steps.
+    Steps(Steps),
+    /// The lives of mappings over all steps, however many there are.
+    Lives,
+    /// No picture, but the text of the state behind this line, or at the trace's end.
+    State(Option<u64>),
+    /// The same as JSON.
+    Objects(Option<u64>),
+    /// No picture, but a page that steps through the trace.
+    Page,
+    /// No picture, but each line with what it changes in the state.
+    Changes(Echoed),
+    /// No picture, but the list of the mappings at the end, with the names of files, within this limit.
+    Listing(CallLimit),
+}
+
+/// Which witness is pictured.
+#[derive(Clone, Copy)]
+pub struct WitnessPicture {
+    /// The number of its outcome, from 1.
+    pub number: u64,
+    /// How many points of orders are looked at, at most.
+    pub limit: u64,
+    /// What is shown of it.
+    pub drawing: Drawing,
+}
+
+/// How calls that overlap are judged.
+#[derive(Clone, Copy)]
+pub struct Overlaps {
+    /// A mapping without `MAP_FIXED` may have any place, and not just the first one.
+    pub any_place: bool,
+    /// Whether their order is given.
+    pub is_given: bool,
+    /// Whether it is wanted as text.
+    pub is_wanted: bool,
+}
