@@ -4,7 +4,7 @@ use Rattle.std.proofs.lemmas.Bool.Decides.{nat_tests}
 use Rattle.trace_io.specs.Lines.{lines_of}
 use Rattle.std.specs.Prelude.{codes, decimal}
 use Rattle.cores.specs.declared.kept.Kept.{Kept}
-use Rattle.core_text.specs.Told.{kept_text, told_line}
+use Rattle.core_text.specs.Told.{kept_text, numbered_text, told_line}
 
 pub pushed_line : (a b c d front line : List ℕ) (lines : List (List ℕ)) (number : ℕ) → front ≡ decimal number ++ codes ": " → b ≡ a ++ front
     → line ≡ get_or lines (number - 1) [] → c ≡ b ++ line → d ≡ c ++ codes "\n" → d ≡ a ++ told_line lines number
@@ -22,6 +22,15 @@ pushed_kept a b c lines numbers ks rest k e f g =
 
 pub pushed_none : (a : List ℕ) (lines : List (List ℕ)) (numbers : List ℕ) (ks : List Kept) → ks ≡ [] → a ≡ a ++ kept_text lines numbers ks
 pushed_none a lines numbers ks e = sym (ap (λ (xs : List Kept). a ++ kept_text lines numbers xs) e ∙ append-nil a)
+
+pub pushed_numbers : (a b c : List ℕ) (lines : List (List ℕ)) (ns rest : List ℕ) (n : ℕ) → ns ≡ n ∷ rest → b ≡ a ++ told_line lines n
+    → c ≡ b ++ numbered_text lines rest → c ≡ a ++ numbered_text lines ns
+pushed_numbers a b c lines ns rest n e f g =
+    g ∙ (ap (λ (x : List ℕ). x ++ numbered_text lines rest) f
+    ∙ (append_assoc a (told_line lines n) (numbered_text lines rest) ∙ ap (λ (xs : List ℕ). a ++ numbered_text lines xs) (sym e)))
+
+pub pushed_no_number : (a : List ℕ) (lines : List (List ℕ)) (ns : List ℕ) → ns ≡ [] → a ≡ a ++ numbered_text lines ns
+pushed_no_number a lines ns e = sym (ap (λ (xs : List ℕ). a ++ numbered_text lines xs) e ∙ append-nil a)
 
 -- ---- one line among all
 

@@ -14,3 +14,8 @@ kept_text lines numbers (k ∷ ks) = told_line lines (get_or numbers k.number 0)
 -- those of a core: that of its first call, which has this number, and those of the others
 abbrev pub core_text : List (List ℕ) → List ℕ → ℕ → List Kept → List ℕ
 core_text lines numbers first ks = told_line lines (get_or numbers first 0) ++ kept_text lines numbers ks
+
+-- those with these numbers
+abbrev pub numbered_text : List (List ℕ) → List ℕ → List ℕ
+numbered_text lines [] = []
+numbered_text lines (n ∷ ns) = told_line lines n ++ numbered_text lines ns

@@ -1,6 +1,6 @@
-//! A core of a history, as text: the lines of its calls.
+//! Calls of a history that have no order, as text: their lines.
 #![tactic(auto)]
 
 mod lines;
 
-pub use lines::core_text;
+pub use lines::{core_text, push_numbered};

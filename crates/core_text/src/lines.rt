@@ -1,7 +1,7 @@
 //! Lines of a text, each behind its number.
 ghost use Rattle.std.specs.Prelude.{◌≡◌, ◌++◌, [], IfOk, OnOk, codes, decimal, get_or};
 ghost use Rattle.trace_io.specs.Lines.{lines_of};
-ghost use Rattle.core_text.specs.Told.{core_text, kept_text, told_line};
+ghost use Rattle.core_text.specs.Told.{core_text, kept_text, numbered_text, told_line};
 
 use cores::{Core, Kept};
 use std::alloc::Allocator;
@@ -92,4 +92,20 @@ pub fn core_text<A: Allocator + Clone + Drop>(
     push_line(&mut out, text, number_of(lines, core.number))?;
     push_kept(&mut out, text, lines, core.kept.as_slice())?;
     Ok(out)
+}
+
+/// Appends the lines of a text with these numbers, each behind its own. What an error leaves of it isn't told.
+#[tactic(auto, using(crate::proofs::Behind::pushed_numbers, crate::proofs::Behind::pushed_no_number))]
+pub fn push_numbered<A: Allocator>(
+    out: &mut Vec<u8, A>,
+    text: &[u8],
+    numbers: &[u64],
+) -> Result<(), NoMemory>
+    ensures { OnOk result (out.new.items ≡ out.old.items ++ numbered_text (lines_of text.now) numbers.now) }
+{
+    let [first, rest @ ..] = numbers else {
+        return Ok(());
+    };
+    push_line(out, text, *first)?;
+    push_numbered(out, text, rest)
 }

@@ -291,7 +291,10 @@ not, and isn't counted. It writes one of these:
                        no file, and the others have changed them since, or
                        tell of them. Where no such calls are found, all orders
                        are tried of at most 64 calls; after 10,000 beginnings
-                       that is given up. It isn't told where a call waits
+                       that is given up. Then behind it stand the mappings
+                       that the first calls left, as help maps says, and the
+                       lines of all others, if these are at most 12. It isn't
+                       told where a call waits
   undecided N          no order was found that gets to the end of line N's
                        call, or the search met its limit there: 300,000
                        configurations. There may be an order
@@ -311,7 +314,8 @@ each of its pages is free at its moment. Where mprotect of several pages has
 enomem or eacces, that is its reply at some moment, and each of the pages was
 protected at a moment of its own or not (POSIX: they may have been changed).
 Every other call takes effect at one moment. CALLS counts the calls of the
-text. no order is told where at most 64 calls, of pages and others, have none.
+text. no order is told as above; the lines behind it are those of the calls of
+the text for whose pages the calls stand that have no order by themselves.
 --order OUT writes calls of one page each. More than 33,554,432 of them are
 told as a want of memory.
 
@@ -323,7 +327,9 @@ to that, so that the page itself stays as it is. So munmap may still run when
 a load of the page gets segv maperr, and another one, after it, the old byte.
 Here undecided is more frequent. An access of a page of a file is not looked at
 as before a call; and that there is no order must show without those accesses
-that may go as before one.
+that may go as before one. The lines behind no order are told as above: by
+themselves the calls of their pages have no order, even where each of these
+accesses may have any reply at any time.
 
 Example:
   printf '%s\\n' 'vm 1 4' 'c0! mmap 0x10000 4096 rw- pfa = 0x10000' \\

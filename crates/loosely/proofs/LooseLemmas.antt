@@ -1,5 +1,5 @@
 -- What an order by the loose rule says of a history
-use Rattle.std.proofs.Common.{◌≡◌, ◌∙◌, ℕ, Bool, List, ap, length, subst, sym}
+use Rattle.std.proofs.Common.{◌≡◌, ◌∙◌, ℕ, Bool, List, [], ap, length, subst, sym}
 use Rattle.vm_base.specs.declared.replies.Reply.{Reply}
 use Rattle.vm_base.specs.Plain.{Plain, nothing_mapped}
 use Rattle.backing.specs.declared.file_spec.FileSpec.{FileSpec}
@@ -15,9 +15,15 @@ use Rattle.loose_orders.specs.Loose.{HasLooseOrder, IsLooseOrder}
 use Rattle.by_pages.specs.Pages.{AreChosen, parts_from}
 use Rattle.by_pages.specs.declared.splitting.Part.{Part}
 use Rattle.overlapping.specs.Waiting.{NoneWaits}
+use Rattle.overlapping.specs.declared.judging.Ruling.TheVariants.{Legal}
+use Rattle.overlapping.specs.declared.judging.Shown.{Shown}
+use Rattle.overlapping.specs.declared.judging.Shown.TheVariants as By
+use Rattle.overlapping.specs.declared.judging.Told.{Told}
+use Rattle.page_orders.specs.Explained.{IsDisorder, IsTold}
 use Rattle.page_orders.specs.Rulings.{HasNone, IsLegal}
-use Rattle.page_orders.proofs.RuleLemmas.{all_answered, first_of}
-use Rattle.no_loose_order.specs.Lagging.{HasNoneLoosely}
+use Rattle.page_orders.specs.Showing.{IsCoreOf}
+use Rattle.page_orders.proofs.RuleLemmas.{all_answered, bare_told, first_of, parts_answered}
+use Rattle.no_loose_order.specs.Lagging.{HasNoneLoosely, ShowsNoneLoosely, eased}
 use Rattle.loosely.specs.Loosely.{HasLooseOrderAmong, HasLooseOrderByPages}
 
 pub order_among : (any_place rule : Bool) (t u : Plain) (parts : List Part) (calls made : List Timed) (steps : List Step) → rule ≡ any_place
@@ -58,3 +64,27 @@ none_there history any_place files replies parts all none f same is amiss others
     ∙ sym (same ∙ is) in
     amiss o.calls (subst (λ (ps : List Part). AreChosen ps o.calls) those o.chosen)
     (subst (λ (t : Plain). HasLooseOrder (rule_of any_place) t o.calls) (sym (first_of history files f)) o.order)
+
+-- So do they by what showed it.
+pub disorder_there : {A : Type 0} (history : History A) (any_place : Bool) (files : List (FileSpec A)) (replies : List Reply) (parts all : List Part)
+    (shown : Shown A) → NoneWaits history.waiting.items → files ≡ history.declaration.files.items → parts ≡ all
+    → all ≡ parts_from 0 (completed (replies_in replies) (read_of history)) → ShowsNoneLoosely any_place (given_files files) parts shown
+    → IsDisorder (HasLooseOrderByPages (rule_of any_place)) eased any_place (read_of history) all shown
+disorder_there history any_place files replies parts all By.Nothing none f same is s = tt
+disorder_there history any_place files replies parts all By.All none f same is s =
+    none_there history any_place files replies parts all none f same is s
+disorder_there history any_place files replies parts all (By.Few core) none f same is s = (
+  none_there history any_place files replies parts all none f same is s.0,
+  parts_answered history replies all none is,
+  subst (λ (ps : List Part). IsCoreOf any_place (eased ps) core) same s.1,
+)
+
+pub legal_bare : {A : Type 0} (any_place : Bool) (lines : List (List ℕ)) (history : History A) (replies : List Reply) (parts all : List Part)
+    (files : List (FileSpec A)) (told : Told A) (n : ℕ) → (told.ruling ≡ Legal n) × (told.explanation.items ≡ [])
+    → n ≡ length history.calls.items → files ≡ history.declaration.files.items → parts ≡ all
+    → all ≡ parts_from 0 (completed (replies_in replies) (read_of history))
+    → HasLooseOrderAmong (rule_of any_place) (nothing_mapped (given_files files)) parts
+    → IsTold (HasLooseOrderByPages (rule_of any_place)) eased any_place lines (read_of history) told
+legal_bare any_place lines history replies parts all files told n e count f same is o =
+    bare_told (HasLooseOrderByPages (rule_of any_place)) eased any_place lines (read_of history) told (Legal n) e
+    (λ ls h. legal_there any_place ls history replies parts all files n count f same is o h)

@@ -1,5 +1,5 @@
 //! Judging a text of calls that overlap by the loose rule.
-ghost use Rattle.std.specs.Prelude.{◌≡◌, ◌≤◌, ℕ, List, IfErr, IfOk, Ok, length, slice_get, true};
+ghost use Rattle.std.specs.Prelude.{◌≡◌, ◌≤◌, IfErr, IfOk, Ok, length, true};
 ghost use Rattle.trace_io.specs.Lines.{lines_of};
 ghost use Rattle.slot_lock.specs.Slots.{IsNew};
 ghost use Rattle.vm_base.specs.Plain.{nothing_mapped};
@@ -9,7 +9,9 @@ ghost use Rattle.orders_text.specs.Faults.{IsAtFault};
 ghost use Rattle.orders_text.specs.History.{IsHistory, completed, replies_in};
 ghost use Rattle.orders_text.specs.Steps.{HasPlaces, read_of};
 ghost use Rattle.by_pages.specs.Pages.{parts_from};
-ghost use Rattle.page_orders.specs.Rulings.{HasNone, IsRuling};
+ghost use Rattle.page_orders.specs.Explained.{IsDisorder, IsExplained, IsTold};
+ghost use Rattle.page_orders.specs.Rulings.{IsRuling};
+ghost use Rattle.no_loose_order.specs.Lagging.{eased};
 ghost use Rattle.loosely.specs.Loosely.{HasLooseOrderAmong, HasLooseOrderByPages};
 
 use crate::searching::{Order, find};
@@ -17,12 +19,12 @@ use audit::Auditor;
 use backing::FileSpec;
 use by_pages::{Part, chosen};
 use loose_orders::{Step, Use, follow};
-use no_loose_order::none_loosely;
+use no_loose_order::show_loosely;
 use no_order::files_again;
 use orders::Timed;
 use orders_text::{History, HistoryFault, read_history};
-use overlapping::{Ruled, Ruling};
-use page_orders::{effects, none_waits, split_history};
+use overlapping::{Ruled, Ruling, Shown, Told, bare};
+use page_orders::{call_of, effects, line_at, none_waits, split_history, tell_shown};
 use slot_lock::SlotMap;
 use std::alloc::Allocator;
 use trace_io::IoFault;
@@ -100,95 +102,67 @@ fn is_order<M: SlotMap + Drop, A: Allocator + Clone + Drop>(
     follow(alloc.clone()?, &mut auditor, calls, uses, steps)
 }
 
-// The line of the call at this place of a history, if there is one.
-fn line_at(lines: &[u64], place: usize) -> Option<u64>
-    ensures { result ≡ slice_get lines.now place }
-{
-    lines.get(place).copied()
-}
-
-// The call at this place, if there is one.
-fn call_at(calls: &[Timed], place: usize) -> Option<Timed>
-    ensures { result ≡ slice_get calls.now place }
-{
-    calls.get(place).copied()
-}
-
-// Tells whether it was shown that the parts of a history's calls have no order by the loose rule, with whatever replies of those that wait at
-// its end. None was found until the end of this part.
-fn is_disorder<A: Allocator + Clone + Drop>(
+// Shows that the parts of a history's calls have no order by the loose rule, with whatever replies of those that wait at its end. None was found
+// until the end of this part.
+fn show_disorder<A: Allocator + Clone + Drop>(
     alloc: &A,
     history: &History<A>,
     any_place: bool,
     tried: &Tried<A>,
     stuck: usize,
-) -> Result<bool, NoMemory>
+) -> Result<Shown<A>, NoMemory>
     requires few { length history.now.declaration.files.items ≤ 16 }
     requires parts { tried.now.parts.items ≡ parts_from 0 (completed (replies_in tried.now.replies.items) (read_of history.now)) }
-    ensures { result ≡ Ok true → HasNone (HasLooseOrderByPages (rule_of any_place)) (read_of history.now) }
+    ensures { IfOk result (λ shown.
+        IsDisorder (HasLooseOrderByPages (rule_of any_place)) eased any_place (read_of history.now) tried.now.parts.items shown) }
 {
     let waiting = history.waiting.as_slice();
     let none = none_waits(waiting);
     if !none {
-        return Ok(false);
+        return Ok(Shown::Nothing);
     }
     let files = history.declaration.files.as_slice();
     let parts = tried.parts.as_slice();
-    none_loosely(alloc, files, any_place, parts, stuck)
+    let shown = show_loosely(alloc, files, any_place, parts, stuck)?;
+    Ok(shown)
 }
 
-// The ruling where no order was found by the end of this part, which is of the call at this place.
-#[tactic(auto, using(page_orders::proofs::RuleLemmas::unordered_there))]
+// What is told where no order was found by the end of this part.
 fn rule_without<A: Allocator + Clone + Drop>(
     alloc: &A,
+    text: &[u8],
     history: &History<A>,
     any_place: bool,
     tried: &Tried<A>,
     stuck: usize,
-    place: usize,
-) -> Result<Ruling, NoMemory>
+) -> Result<Told<A>, NoMemory>
     requires few { length history.now.declaration.files.items ≤ 16 }
     requires parts { tried.now.parts.items ≡ parts_from 0 (completed (replies_in tried.now.replies.items) (read_of history.now)) }
-    ensures { IfOk result (λ ruling. (lines : List (List ℕ)) → IsHistory lines (read_of history.now)
-        → IsRuling (HasLooseOrderByPages (rule_of any_place)) lines ruling) }
+    ensures { IfOk result (λ told.
+        IsTold (HasLooseOrderByPages (rule_of any_place)) eased any_place (lines_of text.now) (read_of history.now) told) }
 {
-    let Some(line) = line_at(history.lines.as_slice(), place) else {
-        return Ok(Ruling::Undecided(0));
-    };
-    let Some(timed) = call_at(history.calls.as_slice(), place) else {
-        return Ok(Ruling::Undecided(line));
-    };
-    let shown = is_disorder(alloc, history, any_place, tried, stuck)?;
-    if shown {
-        let reply = timed.call.reply;
-        Ok(Ruling::NoOrder { line, reply })
-    } else {
-        Ok(Ruling::Undecided(line))
-    }
+    let shown = show_disorder(alloc, history, any_place, tried, stuck)?;
+    let parts = tried.parts.as_slice();
+    let place = call_of(parts, stuck);
+    let told = tell_shown(alloc, text, history, any_place, parts, place, &shown)?;
+    Ok(told)
 }
 
-// The place of the call that a part is of.
-fn call_of(parts: &[Part], part: usize) -> usize {
-    match parts.get(part) {
-        Some(part) => part.of,
-        None => 0,
-    }
-}
-
-// The ruling by what the search found.
-#[tactic(auto, using(crate::proofs::LooseLemmas::legal_there))]
+// What is told by what the search found.
+#[tactic(auto, using(crate::proofs::LooseLemmas::legal_bare, page_orders::proofs::RuleLemmas::undecided_bare))]
 fn rule_by<M: SlotMap + Drop, A: Allocator + Clone + Drop>(
     alloc: &A,
     map: M,
+    text: &[u8],
     history: &History<A>,
     any_place: bool,
     tried: &Tried<A>,
-) -> Result<Ruling, NoMemory>
+) -> Result<Told<A>, NoMemory>
     requires new { IsNew (M.slots map) }
     requires few { length history.now.declaration.files.items ≤ 16 }
     requires parts { tried.now.parts.items ≡ parts_from 0 (completed (replies_in tried.now.replies.items) (read_of history.now)) }
-    ensures { IfOk result (λ ruling. (lines : List (List ℕ)) → IsHistory lines (read_of history.now)
-        → IsRuling (HasLooseOrderByPages (rule_of any_place)) lines ruling) }
+    ensures { IfOk result (λ told.
+        IsTold (HasLooseOrderByPages (rule_of any_place)) eased any_place (lines_of text.now) (read_of history.now) told) }
 {
     let parts = tried.parts.as_slice();
     match &tried.order {
@@ -203,46 +177,45 @@ fn rule_by<M: SlotMap + Drop, A: Allocator + Clone + Drop>(
             let lost = losses.as_slice();
             let is_one = is_order(alloc, map, files, any_place, parts, lost, uses, steps)?;
             if is_one {
-                Ok(Ruling::Legal(history.calls.len() as u64))
+                bare(alloc, Ruling::Legal(history.calls.len() as u64))
             } else {
                 let last = history.calls.len().saturating_sub(1);
-                Ok(Ruling::Undecided(line_at(history.lines.as_slice(), last).unwrap_or(0)))
+                let line = line_at(history.lines.as_slice(), last).unwrap_or(0);
+                bare(alloc, Ruling::Undecided(line))
             }
         }
-        Order::None(part) => {
-            let place = call_of(parts, *part);
-            rule_without(alloc, history, any_place, tried, *part, place)
-        }
+        Order::None(part) => rule_without(alloc, text, history, any_place, tried, *part),
     }
 }
 
-// Judges a history that was read from a text.
+// Judges a history that was read from the text.
 fn rule<M: SlotMap + Drop, A: Allocator + Clone + Drop>(
     alloc: &A,
     map: M,
+    text: &[u8],
     history: &History<A>,
     any_place: bool,
 ) -> Result<Ruled<A>, NoMemory>
     requires new { IsNew (M.slots map) }
     requires few { length history.now.declaration.files.items ≤ 16 }
     requires places { HasPlaces history.now }
-    ensures { IfOk result (λ ruled. (lines : List (List ℕ)) → IsHistory lines (read_of history.now)
-        → IsRuling (HasLooseOrderByPages (rule_of any_place)) lines ruled.ruling) }
+    requires text { IsHistory (lines_of text.now) (read_of history.now) }
+    ensures ruling { IfOk result (λ ruled. IsRuling (HasLooseOrderByPages (rule_of any_place)) (lines_of text.now) ruled.ruling) }
+    ensures explained { IfOk result (λ ruled. IsExplained eased any_place (lines_of text.now) ruled.explanation.items) }
 {
     let tried = search_history(alloc, history, any_place)?;
-    let ruling = rule_by(alloc, map, history, any_place, &tried)?;
-    // Nothing stands beside a ruling by this rule.
+    let told = rule_by(alloc, map, text, history, any_place, &tried)?;
+    // No text of an order stands beside a ruling by this rule.
     let order = Vec::new(alloc.clone()?);
-    let explanation = Vec::new(alloc.clone()?);
     Ok(Ruled {
-        ruling,
+        ruling: told.ruling,
         order,
-        explanation,
+        explanation: told.explanation,
     })
 }
 
 /// Judges a text by the loose rule: it is that of a history, whose calls have an order by it, or have none, or of which none was
-/// found; or it isn't, and why.
+/// found; or it isn't, and why. Beside a ruling that there is none stands what explains it.
 pub fn judge_text<M: SlotMap + Drop, A: Allocator + Clone + Drop>(
     alloc: &A,
     map: M,
@@ -251,13 +224,14 @@ pub fn judge_text<M: SlotMap + Drop, A: Allocator + Clone + Drop>(
 ) -> Result<Ruled<A>, HistoryFault>
     requires new { IsNew (M.slots map) }
     ensures ok { IfOk result (λ ruled. IsRuling (HasLooseOrderByPages (rule_of any_place)) (lines_of text.now) ruled.ruling) }
+    ensures explained { IfOk result (λ ruled. IsExplained eased any_place (lines_of text.now) ruled.explanation.items) }
     ensures err { IfErr result (λ f. IsAtFault (lines_of text.now) f) }
 {
     let history = match read_history(alloc, text) {
         Ok(history) => history,
         Err(fault) => return Err(fault),
     };
-    match rule(alloc, map, &history, any_place) {
+    match rule(alloc, map, text, &history, any_place) {
         Ok(ruled) => Ok(ruled),
         Err(_) => Err(HistoryFault::Io(IoFault::NoMemory)),
     }

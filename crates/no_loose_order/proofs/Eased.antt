@@ -15,7 +15,8 @@ use Rattle.loose_orders.specs.declared.steps.Step.TheVariants.{Reply as Replied,
 use Rattle.loose_orders.specs.Loose.{GoesAsBefore, HasLooseOrder, LeadAll, Leads, Loose, begun, effect, effects, page_accessed, part, parts, replaces}
 use Rattle.by_pages.specs.Pages.{AreChosen, IsChosen, is_done, lost}
 use Rattle.by_pages.specs.declared.splitting.Part.{Part}
-use Rattle.no_loose_order.specs.Lagging.{HasNoneAmong, HasNoneLoosely, FilesStay, NoneIs, eased_by, eased_part, is_late_store, lags_behind, may_lag, under_way_together, replaces_at, shares}
+use Rattle.page_orders.specs.Showing.{HasNoneAmong, NoneIs}
+use Rattle.no_loose_order.specs.Lagging.{HasNoneLoosely, FilesStay, eased_by, eased_part, is_late_store, lags_behind, may_lag, under_way_together, replaces_at, shares}
 use Rattle.no_loose_order.proofs.Calm.{IsTame, NoneShare, late_same, tame_first, tame_on}
 use Rattle.no_loose_order.proofs.Tame.{AllTame}
 use Rattle.no_loose_order.proofs.Live.{AllLive, IsLive, live_on, none_live}

@@ -4,4 +4,4 @@ pub mod Tame
 pub mod Calm
 pub mod Eased
 pub mod Lists
-pub mod Sure
+pub mod Shows

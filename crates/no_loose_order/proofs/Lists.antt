@@ -1,10 +1,9 @@
 -- Parts, one after another
-use Rattle.std.proofs.Common.{◌≡◌, ◌∙◌, ◌⊎◌, inl, inr, ℕ, ◌+◌, ◌<◌, ◌≤◌, ◌||◌, Bool, true, false, List, [], ◌∷◌, ◌++◌, Some, append-nil, append_assoc, ap, arith, drop, get_or, length, map, slice_get, sym}
+use Rattle.std.proofs.Common.{◌≡◌, ◌∙◌, ℕ, ◌+◌, ◌<◌, ◌≤◌, ◌||◌, Bool, true, false, List, [], ◌∷◌, ◌++◌, append-nil, append_assoc, ap, drop, get_or, length, map, sym}
 use Rattle.std.proofs.lemmas.List.{drop_all, drop_more}
 use Rattle.orders.specs.declared.history.Timed.{Timed}
-use Rattle.orders.proofs.Lists.{below, get_here, get_within}
 use Rattle.by_pages.specs.declared.splitting.Part.{Part}
-use Rattle.no_loose_order.specs.Lagging.{NoneIs, eased_part, lags_behind, may_lag}
+use Rattle.no_loose_order.specs.Lagging.{eased_part, lags_behind, may_lag}
 
 -- ---- whether a call may go as before one of them
 
@@ -26,25 +25,6 @@ lag_here ps at p c b within is e is_so so =
 
 pub lag_none : (ps : List Part) (at : ℕ) (c : Timed) → length ps ≤ at → may_lag (drop at ps) c ≡ may_lag ps c → false ≡ may_lag ps c
 lag_none ps at c past so = sym (ap (λ (l : List Part). may_lag l c) (drop_all at ps past)) ∙ so
-
--- ---- whether one of them is such
-
-abbrev pub NoneSoFar : (Part → Bool) → List Part → ℕ → Type 0
-NoneSoFar test ps at = (k : ℕ) (p : Part) → k < at → slice_get ps k ≡ Some p → test p ≡ false
-
-pub none_more : (test : Part → Bool) (ps : List Part) (at : ℕ) (p : Part) (b : Bool) → at < length ps → p ≡ get_or ps at p → b ≡ test p → b ≡ false
-    → NoneSoFar test ps at → NoneSoFar test ps (at + 1)
-none_more test ps at p b within is e not' so k q n got = by (below k at n)
-  where
-    by : (k < at) ⊎ (k ≡ at) → test q ≡ false
-    by (inl less) = so k q less got
-    by (inr same) =
-        let here : Some q ≡ Some p = sym got ∙ (ap (slice_get ps) same ∙ (get_here ps at p within ∙ ap Some (sym is))) in
-        let that : q ≡ p = cc in
-        ap test that ∙ (sym e ∙ not')
-
-pub none_at_all : (test : Part → Bool) (ps : List Part) (at : ℕ) → length ps ≤ at → NoneSoFar test ps at → NoneIs test ps
-none_at_all test ps at past so k p got = let within = get_within ps k p got in so k p (omega (arith, within, past)) got
 
 -- ---- the parts eased
 

@@ -2,7 +2,8 @@
 ghost use Rattle.std.specs.Prelude.{◌≡◌, IfOk, map, true};
 ghost use Rattle.loose_orders.specs.Loose.{page_accessed};
 ghost use Rattle.by_pages.specs.Pages.{is_done};
-ghost use Rattle.no_loose_order.specs.Lagging.{FilesStay, NoneIs, eased_by, eased_part, is_late_store, lags_behind, may_lag, under_way_together, replaces_at, shares};
+ghost use Rattle.page_orders.specs.Showing.{NoneIs};
+ghost use Rattle.no_loose_order.specs.Lagging.{FilesStay, eased_by, eased_part, is_late_store, lags_behind, may_lag, under_way_together, replaces_at, shares};
 
 use audit::Call;
 use by_pages::{Part, lost};

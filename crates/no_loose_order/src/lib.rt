@@ -5,4 +5,4 @@
 mod lagging;
 mod showing;
 
-pub use showing::none_loosely;
+pub use showing::show_loosely;

@@ -18,12 +18,13 @@ use Rattle.orders_text.specs.declared.reading.History.{History}
 use Rattle.cores.specs.Shown.{IsShown}
 use Rattle.cores.specs.declared.finding.Core.{Core}
 use Rattle.core_text.specs.Told.{core_text}
+use Rattle.overlapping.specs.Story.{IsStory}
 use Rattle.overlapping.specs.declared.judging.Ruling.{Ruling}
 use Rattle.overlapping.specs.declared.judging.Ruling.TheVariants.{Legal, NoOrder, Undecided}
 use Rattle.overlapping.specs.declared.judging.Told.{Told}
 use Rattle.overlapping.specs.declared.judging.Shown.{Shown}
 use Rattle.overlapping.specs.declared.judging.Shown.TheVariants as By
-use Rattle.overlapping.specs.Explained.{IsDisorder, IsExplanation, IsTold, ShowsNone}
+use Rattle.overlapping.specs.Explained.{IsDisorder, IsExplanation, IsTold, IsWhole, ShowsNone}
 use Rattle.overlapping.specs.Rulings.{HasNone, IsLegal, IsRuling, IsUnordered}
 use Rattle.overlapping.specs.Waiting.{NoneWaits}
 
@@ -100,11 +101,28 @@ pub legal_bare : {A : Type 0} (any_place : Bool) (lines : List (List ℕ)) (r : 
 legal_bare any_place lines r told replies n e count order =
     bare_told any_place lines r told (Legal n) e.0 e.1 (λ ls is. legal_there any_place ls r replies n count order is)
 
-pub unordered_bare : {A : Type 0} (any_place : Bool) (lines : List (List ℕ)) (r : Read) (told : Told A) (number line : ℕ) (c : Timed)
-    → (told.ruling ≡ NoOrder line c.call.reply) × (told.explanation.items ≡ []) → HasNone any_place r → slice_get r.lines number ≡ Some line
-    → slice_get r.calls number ≡ Some c → IsTold any_place lines r told
-unordered_bare any_place lines r told number line c e none at is =
-    bare_told any_place lines r told (NoOrder line c.call.reply) e.0 e.1 (λ ls h. unordered_there any_place ls r number line c none at is h)
+pub whole_there : {A : Type 0} (history : History A) (any_place : Bool) (files : List (FileSpec A)) (calls : List Timed) (numbers : List ℕ)
+    (lines : List (List ℕ)) (told : List ℕ) → files ≡ history.declaration.files.items → calls ≡ history.calls.items → numbers ≡ history.lines.items
+    → IsStory (rule_of any_place) (nothing_mapped (given_files files)) calls lines numbers told → IsWhole any_place lines (read_of history) told
+whole_there {A} history any_place files calls numbers lines told e f g is =
+    let first : nothing_mapped (given_files files) ≡ first_map (read_of history).declared =
+    ap (λ (fs : List (FileSpec A)). nothing_mapped (given_files fs)) e ∙ ap nothing_mapped (same_files history.declaration.files.items) in
+    subst (λ (t : Plain). IsStory (rule_of any_place) t history.calls.items lines history.lines.items told) first
+    (subst (λ (cs : List Timed). IsStory (rule_of any_place) (nothing_mapped (given_files files)) cs lines history.lines.items told) f
+    (subst (λ (ns : List ℕ). IsStory (rule_of any_place) (nothing_mapped (given_files files)) calls lines ns told) g is))
+
+pub unordered_whole : {A : Type 0} (any_place : Bool) (lines : List (List ℕ)) (r : Read) (told : Told A) (number line : ℕ) (c : Timed)
+    → told.ruling ≡ NoOrder line c.call.reply → (told.explanation.items ≡ []) ⊎ IsWhole any_place lines r told.explanation.items → HasNone any_place r
+    → slice_get r.lines number ≡ Some line → slice_get r.calls number ≡ Some c → IsTold any_place lines r told
+unordered_whole any_place lines r told number line c e x none at is = record {
+  ruling = λ ls h. subst (λ (y : Ruling). IsRuling any_place ls y) (sym e) (unordered_there any_place ls r number line c none at is h);
+  explained = by x;
+}
+  where
+    by : (told.explanation.items ≡ []) ⊎ IsWhole any_place lines r told.explanation.items
+        → (told.explanation.items ≡ []) ⊎ (IsWhole any_place lines r told.explanation.items ⊎ IsExplanation any_place lines r told.explanation.items)
+    by (inl none_told) = inl none_told
+    by (inr all) = inr (inl all)
 
 pub unordered_by : {A : Type 0} (any_place : Bool) (lines : List (List ℕ)) (r : Read) (told : Told A) (number line : ℕ) (c : Timed) (core : Core A)
     → told.ruling ≡ NoOrder line c.call.reply → told.explanation.items ≡ core_text lines r.lines core.number core.kept.items
@@ -112,7 +130,7 @@ pub unordered_by : {A : Type 0} (any_place : Bool) (lines : List (List ℕ)) (r 
     → IsTold any_place lines r told
 unordered_by any_place lines r told number line c core e text shown at is = record {
   ruling = λ ls h. subst (λ (x : Ruling). IsRuling any_place ls x) (sym e) (unordered_there any_place ls r number line c shown.0 at is h);
-  explained = inr (record {
+  explained = inr (inr (record {
     pages = core.pages;
     number = core.number;
     first = core.first;
@@ -124,7 +142,7 @@ unordered_by any_place lines r told number line c core e text shown at is = reco
     files = shown.1.files;
     alone = shown.1.alone;
     text = text;
-  });
+  }));
 }
 
 -- where none waits, and a core shows that they have none

@@ -3,6 +3,7 @@ use Rattle.std.specs.Prelude.{◌≡◌, ℕ, ◌⊎◌, Bool, List, [], ◌∷�
 use Rattle.vm_base.specs.declared.page.PageRange.{PageRange}
 use Rattle.vm_base.specs.Plain.{File, nothing_mapped}
 use Rattle.audit.specs.Placing.{rule_of}
+use Rattle.audit_text.specs.Legal.{first_map}
 use Rattle.orders.specs.declared.history.Timed.{Timed}
 use Rattle.orders.specs.Orders.{HasOrder}
 use Rattle.orders_text.specs.History.{IsHistory, Read}
@@ -10,6 +11,7 @@ use Rattle.cores.specs.Cores.{HasNone as HasNoneOf, IsCore}
 use Rattle.cores.specs.Shown.{IsShown}
 use Rattle.cores.specs.declared.kept.Kept.{Kept}
 use Rattle.core_text.specs.Told.{core_text}
+use Rattle.overlapping.specs.Story.{IsStory}
 use Rattle.overlapping.specs.Rulings.{HasNone, IsRuling}
 use Rattle.overlapping.specs.declared.judging.Shown.{Shown}
 use Rattle.overlapping.specs.declared.judging.Shown.TheVariants as By
@@ -29,10 +31,14 @@ pub record IsExplanation (any_place : Bool) (lines : List (List ℕ)) (r : Read)
   pub alone : HasNoneOf (rule_of any_place) (nothing_mapped files) (start ∷ []) kept
   pub text : explanation ≡ core_text lines r.lines number kept
 
+-- It is told whole: the mappings that its first calls leave, and the lines of the others.
+abbrev pub IsWhole : Bool → List (List ℕ) → Read → List ℕ → Type 0
+IsWhole any_place lines r explanation = IsStory (rule_of any_place) (first_map r.declared) r.calls lines r.lines explanation
+
 -- So is what stands behind a ruling on the text, or nothing does.
 abbrev pub IsExplained : Bool → List (List ℕ) → List ℕ → Type 0
 IsExplained any_place lines explanation =
-    (explanation ≡ []) ⊎ ((r : Read) × IsHistory lines r × IsExplanation any_place lines r explanation)
+    (explanation ≡ []) ⊎ ((r : Read) × IsHistory lines r × (IsWhole any_place lines r explanation ⊎ IsExplanation any_place lines r explanation))
 
 -- ---- how it was shown
 
@@ -49,4 +55,5 @@ IsDisorder any_place r (By.Few core) = HasNone any_place r × IsShown any_place 
 -- what is told of a history with these lines, if it is one
 pub record IsTold {A : Type 0} (any_place : Bool) (lines : List (List ℕ)) (r : Read) (told : Told A) : Type 0 where
   pub ruling : (ls : List (List ℕ)) → IsHistory ls r → IsRuling any_place ls told.ruling
-  pub explained : (told.explanation.items ≡ []) ⊎ IsExplanation any_place lines r told.explanation.items
+  pub explained :
+      (told.explanation.items ≡ []) ⊎ (IsWhole any_place lines r told.explanation.items ⊎ IsExplanation any_place lines r told.explanation.items)

@@ -2,4 +2,5 @@ pub mod Rulings
 pub mod Ends
 pub mod Replies
 pub mod Waiting
+pub mod Story
 pub mod Explained

@@ -1,5 +1,5 @@
 //! Judging a text of calls that overlap.
-ghost use Rattle.std.specs.Prelude.{◌≡◌, ◌≤◌, ℕ, List, [], IfErr, IfOk, IfSome, Ok, Some, length, slice_get, true};
+ghost use Rattle.std.specs.Prelude.{◌≡◌, ◌≤◌, ◌⊎◌, ℕ, List, [], IfErr, IfOk, IfSome, Ok, Some, length, slice_get, true};
 ghost use Rattle.trace_io.specs.Lines.{lines_of};
 ghost use Rattle.slot_lock.specs.Slots.{IsNew};
 ghost use Rattle.vm_base.specs.Plain.{nothing_mapped};
@@ -11,11 +11,12 @@ ghost use Rattle.orders_text.specs.Faults.{IsAtFault};
 ghost use Rattle.orders_text.specs.History.{IsHistory, completed, replies_in};
 ghost use Rattle.orders_text.specs.Steps.{HasPlaces, read_of};
 ghost use Rattle.overlapping.specs.Rulings.{HasNone, IsRuling};
-ghost use Rattle.overlapping.specs.Explained.{IsDisorder, IsExplained, IsTold, ShowsNone};
+ghost use Rattle.overlapping.specs.Explained.{IsDisorder, IsExplained, IsTold, IsWhole, ShowsNone};
 
 use crate::found::{Order, search, waiting_core};
 use crate::given::given_order;
 use crate::order_text::order_text;
+use crate::story::story;
 use audit::Auditor;
 use backing::FileSpec;
 use core_text::core_text;
@@ -30,6 +31,9 @@ use vm_base::{NoMemory, Reply};
 
 /// So many beginnings of orders are tried at most.
 const BEGINNINGS: u32 = 10_000;
+
+/// So many lines are told at most of a history that has no order as a whole.
+const FEW: usize = 12;
 
 /// What is told of a history.
 #[derive(Clone, Copy, Debug, PartialEq, Eq)]
@@ -143,9 +147,9 @@ fn lacks_all<A: Allocator + Clone + Drop>(
     }
 }
 
-// By what it was shown that calls have no order.
+/// By what it was shown that calls have no order.
 #[derive(Debug, Drop)]
-pub(crate) enum Shown<A: Allocator> {
+pub enum Shown<A: Allocator> {
     Nothing,
     All,
     Few(Core<A>),
@@ -197,13 +201,13 @@ fn show_disorder<A: Allocator + Clone + Drop>(
 
 /// A ruling, and what explains it: nothing, or the lines of some calls that have no order by themselves.
 #[derive(Debug, Drop)]
-pub(crate) struct Told<A: Allocator> {
+pub struct Told<A: Allocator> {
     pub ruling: Ruling,
     pub explanation: Vec<u8, A>,
 }
 
-// A ruling that nothing explains.
-fn bare<A: Allocator + Clone + Drop>(alloc: &A, ruling: Ruling) -> Result<Told<A>, NoMemory>
+/// A ruling that nothing explains.
+pub fn bare<A: Allocator + Clone + Drop>(alloc: &A, ruling: Ruling) -> Result<Told<A>, NoMemory>
     ensures { IfOk result (λ told. (told.ruling ≡ ruling) × (told.explanation.items ≡ [])) }
 {
     let explanation = Vec::new(alloc.clone()?);
@@ -213,8 +217,28 @@ fn bare<A: Allocator + Clone + Drop>(alloc: &A, ruling: Ruling) -> Result<Told<A
     })
 }
 
+/// What explains that a history has no order as a whole: its mappings and its lines, or nothing, where these aren't few.
+#[tactic(auto, using(crate::proofs::RuleLemmas::whole_there))]
+pub fn explain_whole<A: Allocator + Clone + Drop>(
+    alloc: &A,
+    text: &[u8],
+    history: &History<A>,
+    any_place: bool,
+) -> Result<Vec<u8, A>, NoMemory>
+    requires { length history.now.declaration.files.items ≤ 16 }
+    ensures { IfOk result (λ told. (told.items ≡ []) ⊎ IsWhole any_place (lines_of text.now) (read_of history.now) told.items) }
+{
+    let files = history.declaration.files.as_slice();
+    let calls = history.calls.as_slice();
+    let numbers = history.lines.as_slice();
+    match story(alloc, files, any_place, text, calls, numbers, FEW)? {
+        Some(explanation) => Ok(explanation),
+        None => Ok(Vec::new(alloc.clone()?)),
+    }
+}
+
 // The ruling where no order was found by the end of this line's call.
-#[tactic(auto, using(crate::proofs::RuleLemmas::unordered_there, crate::proofs::RuleLemmas::undecided_bare, crate::proofs::RuleLemmas::unordered_bare, crate::proofs::RuleLemmas::unordered_by))]
+#[tactic(auto, using(crate::proofs::RuleLemmas::undecided_bare, crate::proofs::RuleLemmas::unordered_whole, crate::proofs::RuleLemmas::unordered_by))]
 fn rule_without<A: Allocator + Clone + Drop>(
     alloc: &A,
     text: &[u8],
@@ -234,7 +258,13 @@ fn rule_without<A: Allocator + Clone + Drop>(
     let reply = timed.call.reply;
     match show_disorder(alloc, history, any_place, place)? {
         Shown::Nothing => bare(alloc, Ruling::Undecided(line)),
-        Shown::All => bare(alloc, Ruling::NoOrder { line, reply }),
+        Shown::All => {
+            let explanation = explain_whole(alloc, text, history, any_place)?;
+            Ok(Told {
+                ruling: Ruling::NoOrder { line, reply },
+                explanation,
+            })
+        }
         Shown::Few(core) => {
             let explanation = core_text(alloc, text, history.lines.as_slice(), &core)?;
             Ok(Told {

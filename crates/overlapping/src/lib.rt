@@ -9,8 +9,9 @@ pub mod judging;
 mod order_text;
 pub mod overlapping;
 pub mod replies;
+mod story;
 
 pub use auditing::audit_text;
-pub use judging::{By, Ruled, Ruling};
+pub use judging::{By, Ruled, Ruling, Shown, Told, bare, explain_whole};
 pub use overlapping::judge_overlapping;
 pub use replies::Judgement;

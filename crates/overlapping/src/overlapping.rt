@@ -52,8 +52,8 @@ fn no_order_text(line: u64, reply: Reply) -> LineText
     text
 }
 
-// The line of a ruling, and behind it what explains it.
-fn told_text<A: Allocator + Clone + Drop>(
+/// The line of a ruling, and behind it what explains it.
+pub fn told_text<A: Allocator + Clone + Drop>(
     alloc: &A,
     ruling: Ruling,
     explanation: &[u8],

@@ -1,5 +1,5 @@
 -- What an order by pages says of a history
-use Rattle.std.proofs.Common.{◌≡◌, ◌∙◌, ℕ, zero, suc, ◌+◌, Bool, true, false, List, [], ◌∷◌, ◌++◌, append-nil, append_assoc, ap, length, map}
+use Rattle.std.proofs.Common.{◌≡◌, ◌∙◌, inl, ℕ, zero, suc, ◌+◌, Bool, true, false, List, [], ◌∷◌, ◌++◌, append-nil, append_assoc, ap, length, map}
 use Rattle.std.proofs.Common.{Option, Some, refl, slice_get, subst, sym}
 use Rattle.vm_base.specs.declared.replies.Reply.{Reply}
 use Rattle.vm_base.specs.Plain.{Plain, nothing_mapped}
@@ -21,7 +21,15 @@ use Rattle.by_pages.specs.ByPages.{HasOrderAmong, HasOrderByPages}
 use Rattle.by_pages.specs.Pages.{AreChosen, parts_from}
 use Rattle.by_pages.specs.declared.splitting.Part.{Part}
 use Rattle.page_orders.specs.Effects.{waiting_reply}
-use Rattle.page_orders.specs.Rulings.{HasNone, IsLegal, IsUnordered, OrderRule}
+use Rattle.overlapping.specs.declared.judging.Ruling.{Ruling}
+use Rattle.overlapping.specs.declared.judging.Ruling.TheVariants.{Legal, Undecided}
+use Rattle.overlapping.specs.declared.judging.Shown.{Shown}
+use Rattle.overlapping.specs.declared.judging.Shown.TheVariants as By
+use Rattle.overlapping.specs.declared.judging.Told.{Told}
+use Rattle.page_orders.specs.Explained.{Easing, IsDisorder, IsTold, as_they_are}
+use Rattle.page_orders.specs.Rulings.{HasNone, IsLegal, IsRuling, IsUnordered, OrderRule}
+use Rattle.page_orders.specs.Showing.{IsCoreOf, ShowsNone}
+use Rattle.page_orders.proofs.Sure.{none_of_core}
 
 -- where none waits, the calls that have a reply are all
 pub all_answered : {A : Type 0} (history : History A) (replies : ℕ → Reply) → NoneWaits history.waiting.items
@@ -88,11 +96,55 @@ none_there history any_place files replies parts all none f same is amiss others
     amiss o.calls (subst (λ (ps : List Part). AreChosen ps o.calls) those o.chosen)
     (subst (λ (t : Plain). HasOrder (rule_of any_place) t o.calls) (sym (first_of history files f)) o.order)
 
+-- the parts of calls that are all answered
+pub parts_answered : {A : Type 0} (history : History A) (replies : List Reply) (parts : List Part) → NoneWaits history.waiting.items
+    → parts ≡ parts_from 0 (completed (replies_in replies) (read_of history)) → parts ≡ parts_from 0 history.calls.items
+parts_answered history replies parts none is =
+    is ∙ ap (λ (cs : List Timed). parts_from 0 cs) (all_answered history (replies_in replies) none)
+
+-- So do they by what showed it.
+pub disorder_there : {A : Type 0} (history : History A) (any_place : Bool) (files : List (FileSpec A)) (replies : List Reply) (parts all : List Part)
+    (shown : Shown A) → NoneWaits history.waiting.items → files ≡ history.declaration.files.items → parts ≡ all
+    → all ≡ parts_from 0 (completed (replies_in replies) (read_of history)) → ShowsNone any_place (given_files files) parts shown
+    → IsDisorder (HasOrderByPages (rule_of any_place)) as_they_are any_place (read_of history) all shown
+disorder_there history any_place files replies parts all By.Nothing none f same is s = tt
+disorder_there history any_place files replies parts all By.All none f same is s =
+    none_there history any_place files replies parts all none f same is s
+disorder_there history any_place files replies parts all (By.Few core) none f same is s = (
+  none_there history any_place files replies parts all none f same is (none_of_core any_place parts core s (given_files files)),
+  parts_answered history replies all none is,
+  subst (λ (ps : List Part). IsCoreOf any_place ps core) same s,
+)
+
 pub unordered_there : (has : OrderRule) (lines : List (List ℕ)) (r : Read) (number line : ℕ) (c : Timed) → HasNone has r
     → slice_get r.lines number ≡ Some line → slice_get r.calls number ≡ Some c → IsHistory lines r
     → IsUnordered has lines line c.call.reply
 unordered_there has lines r number line c none at is h =
     record { read = r; history = h; none = none; number = number; call = c; is_call = is; is_line = at; replied = refl }
+
+-- ---- what is told without an explanation
+
+pub bare_told : {A : Type 0} (has : OrderRule) (easing : Easing) (any_place : Bool) (lines : List (List ℕ)) (r : Read) (told : Told A) (ruling : Ruling)
+    → (told.ruling ≡ ruling) × (told.explanation.items ≡ []) → ((ls : List (List ℕ)) → IsHistory ls r → IsRuling has ls ruling)
+    → IsTold has easing any_place lines r told
+bare_told has easing any_place lines r told ruling e h = record {
+  ruling = λ ls is. subst (λ (x : Ruling). IsRuling has ls x) (sym e.0) (h ls is);
+  explained = inl e.1;
+}
+
+pub undecided_bare : {A : Type 0} (has : OrderRule) (easing : Easing) (any_place : Bool) (lines : List (List ℕ)) (r : Read) (told : Told A) (line : ℕ)
+    → (told.ruling ≡ Undecided line) × (told.explanation.items ≡ []) → IsTold has easing any_place lines r told
+undecided_bare has easing any_place lines r told line e = bare_told has easing any_place lines r told (Undecided line) e (λ ls is. (r, is))
+
+pub legal_bare : {A : Type 0} (any_place : Bool) (lines : List (List ℕ)) (history : History A) (replies : List Reply) (parts all : List Part)
+    (files : List (FileSpec A)) (told : Told A) (n : ℕ) → (told.ruling ≡ Legal n) × (told.explanation.items ≡ [])
+    → n ≡ length history.calls.items → files ≡ history.declaration.files.items → parts ≡ all
+    → all ≡ parts_from 0 (completed (replies_in replies) (read_of history))
+    → HasOrderAmong (rule_of any_place) (nothing_mapped (given_files files)) parts
+    → IsTold (HasOrderByPages (rule_of any_place)) as_they_are any_place lines (read_of history) told
+legal_bare any_place lines history replies parts all files told n e count f same is o =
+    bare_told (HasOrderByPages (rule_of any_place)) as_they_are any_place lines (read_of history) told (Legal n) e
+    (λ ls h. legal_there any_place ls history replies parts all files n count f same is o h)
 
 -- ---- replies of calls that wait
 

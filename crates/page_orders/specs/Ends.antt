@@ -1,5 +1,5 @@
 -- How the judgement of calls that overlap ends, and what it writes.
-use Rattle.std.specs.Prelude.{ℕ, Bool, List, Option, Result, Ok, Err}
+use Rattle.std.specs.Prelude.{ℕ, Bool, List, ◌++◌, Option, Result, Ok, Err}
 use Rattle.std.specs.Io.KnownBytes.{Keeps, Appends}
 use Rattle.trace_io.specs.Lines.{lines_of}
 use Rattle.trace_io.specs.Sink.{AppendsFront}
@@ -12,29 +12,40 @@ use Rattle.overlapping.specs.declared.judging.Ruled.{Ruled}
 use Rattle.overlapping.specs.declared.judging.Ruling.{Ruling}
 use Rattle.audit.specs.Placing.{rule_of}
 use Rattle.by_pages.specs.ByPages.{HasOrderByPages}
+use Rattle.page_orders.specs.Explained.{IsExplained, as_they_are}
 use Rattle.page_orders.specs.Rulings.{IsRuling, OrderRule}
 
--- it was written
-pub record Judges (has : OrderRule) (input : List ℕ) (old new : Option (List ℕ)) (ruling : Ruling) : Type 0 where
+-- what it is that lines explain, where a text is judged
+abbrev pub ExplanationRule : Type 1
+ExplanationRule = (lines : List (List ℕ)) (explanation : List ℕ) → Type 0
+
+-- it was written, and what explains it
+pub record Judges (has : OrderRule) (explains : ExplanationRule) (input : List ℕ) (old new : Option (List ℕ)) (ruling : Ruling) : Type 0 where
   pub is : IsRuling has (lines_of input) ruling
-  pub written : Appends old new (ruling_text ruling)
+  pub explanation : List ℕ
+  pub explained : explains (lines_of input) explanation
+  pub written : Appends old new (ruling_text ruling ++ explanation)
 
 -- a front of it was
-pub record Breaks (has : OrderRule) (input : List ℕ) (old new : Option (List ℕ)) : Type 0 where
+pub record Breaks (has : OrderRule) (explains : ExplanationRule) (input : List ℕ) (old new : Option (List ℕ)) : Type 0 where
   pub ruling : Ruling
   pub is : IsRuling has (lines_of input) ruling
-  pub written : AppendsFront old new (ruling_text ruling)
+  pub explanation : List ℕ
+  pub explained : explains (lines_of input) explanation
+  pub written : AppendsFront old new (ruling_text ruling ++ explanation)
 
 -- after a fault nothing was written, but after a failed write
-abbrev pub Fails : OrderRule → List ℕ → Option (List ℕ) → Option (List ℕ) → HistoryFault → Type 0
-Fails has input old new (Io WriteFailed) = Breaks has input old new
-Fails has input old new (Io ReadFailed) = Keeps old new
-Fails has input old new f = IsAtFault (lines_of input) f × Keeps old new
+abbrev pub Fails : OrderRule → ExplanationRule → List ℕ → Option (List ℕ) → Option (List ℕ) → HistoryFault → Type 0
+Fails has explains input old new (Io WriteFailed) = Breaks has explains input old new
+Fails has explains input old new (Io ReadFailed) = Keeps old new
+Fails has explains input old new f = IsAtFault (lines_of input) f × Keeps old new
 
-abbrev pub JudgementEnds : {A : Type 0} → OrderRule → List ℕ → Option (List ℕ) → Option (List ℕ) → Result (Ruled A) HistoryFault → Type 0
-JudgementEnds has input old new (Ok ruled) = Judges has input old new ruled.ruling
-JudgementEnds has input old new (Err f) = Fails has input old new f
+abbrev pub JudgementEnds :
+    {A : Type 0} → OrderRule → ExplanationRule → List ℕ → Option (List ℕ) → Option (List ℕ) → Result (Ruled A) HistoryFault → Type 0
+JudgementEnds has explains input old new (Ok ruled) = Judges has explains input old new ruled.ruling
+JudgementEnds has explains input old new (Err f) = Fails has explains input old new f
 
 -- where each page of a range changes at a moment of its own
 abbrev pub EndsByPages : {A : Type 0} → Bool → List ℕ → Option (List ℕ) → Option (List ℕ) → Result (Ruled A) HistoryFault → Type 0
-EndsByPages any_place input old new r = JudgementEnds (HasOrderByPages (rule_of any_place)) input old new r
+EndsByPages any_place input old new r =
+    JudgementEnds (HasOrderByPages (rule_of any_place)) (IsExplained as_they_are any_place) input old new r

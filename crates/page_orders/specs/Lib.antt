@@ -1,3 +1,5 @@
 pub mod Rulings
+pub mod Showing
+pub mod Explained
 pub mod Ends
 pub mod Effects

@@ -89,7 +89,7 @@ fn none_behind<A: Allocator + Clone + Drop>(
 }
 
 /// Tells whether it was shown that the calls of pages have no order, whichever of those that aren't sure took effect.
-pub fn none_chosen<A: Allocator + Clone + Drop>(
+pub(crate) fn none_chosen<A: Allocator + Clone + Drop>(
     alloc: &A,
     files: &[FileSpec<A>],
     any_place: bool,

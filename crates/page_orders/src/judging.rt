@@ -12,11 +12,13 @@ ghost use Rattle.overlapping.specs.Waiting.{NoneWaits};
 ghost use Rattle.by_pages.specs.ByPages.{HasOrderAmong, HasOrderByPages};
 ghost use Rattle.by_pages.specs.Pages.{parts_from};
 ghost use Rattle.page_orders.specs.Effects.{effect_of, waiting_reply};
-ghost use Rattle.page_orders.specs.Rulings.{HasNone, IsRuling};
+ghost use Rattle.page_orders.specs.Explained.{IsDisorder, IsExplained, IsTold, as_they_are};
+ghost use Rattle.page_orders.specs.Rulings.{IsRuling};
 
-use crate::choices::none_chosen;
+use crate::explaining::{line_at, tell_shown};
 use crate::found::{Order, search_parts};
 use crate::order_text::order_text;
+use crate::showing::show_among;
 use audit::Auditor;
 use backing::FileSpec;
 use by_pages::{Part, chosen, split};
@@ -24,7 +26,7 @@ use no_order::files_again;
 use orders::{Item, Timed, follow};
 use orders_text::clock::Begun;
 use orders_text::{History, HistoryFault, completed, read_history};
-use overlapping::{Ruled, Ruling};
+use overlapping::{Ruled, Ruling, Shown, Told, bare};
 use slot_lock::SlotMap;
 use std::alloc::Allocator;
 use trace_io::IoFault;
@@ -186,118 +188,92 @@ fn is_order<M: SlotMap + Drop, A: Allocator + Clone + Drop>(
     follow(alloc.clone()?, &mut auditor, calls, items)
 }
 
-// The line of the call at this place of a history, if there is one.
-fn line_at(lines: &[u64], place: usize) -> Option<u64>
-    ensures { result ≡ slice_get lines.now place }
-{
-    lines.get(place).copied()
-}
-
-// The call at this place, if there is one.
-fn call_at(calls: &[Timed], place: usize) -> Option<Timed>
-    ensures { result ≡ slice_get calls.now place }
-{
-    calls.get(place).copied()
-}
-
-// Tells whether it was shown that the parts of a history's calls have no order, with whatever replies of those that wait at its end.
-fn is_disorder<A: Allocator + Clone + Drop>(
+// Shows that the parts of a history's calls have no order, with whatever replies of those that wait at its end. None was found until the end
+// of this part.
+fn show_disorder<A: Allocator + Clone + Drop>(
     alloc: &A,
     history: &History<A>,
     any_place: bool,
     tried: &Tried<A>,
-) -> Result<bool, NoMemory>
+    stuck: usize,
+) -> Result<Shown<A>, NoMemory>
     requires few { length history.now.declaration.files.items ≤ 16 }
     requires parts { tried.now.parts.items ≡ parts_from 0 (completed (replies_in tried.now.replies.items) (read_of history.now)) }
-    ensures { result ≡ Ok true → HasNone (HasOrderByPages (rule_of any_place)) (read_of history.now) }
+    ensures { IfOk result (λ shown.
+        IsDisorder (HasOrderByPages (rule_of any_place)) as_they_are any_place (read_of history.now) tried.now.parts.items shown) }
 {
     let waiting = history.waiting.as_slice();
     let none = none_waits(waiting);
     if !none {
-        return Ok(false);
+        return Ok(Shown::Nothing);
     }
     let files = history.declaration.files.as_slice();
     let parts = tried.parts.as_slice();
-    none_chosen(alloc, files, any_place, parts)
+    let shown = show_among(alloc, files, any_place, parts, stuck)?;
+    Ok(shown)
 }
 
-// The ruling where no order was found by the end of the call at this place.
-#[tactic(auto, using(crate::proofs::RuleLemmas::unordered_there))]
+// What is told where no order was found by the end of this part, which is of the call at this place.
 fn rule_without<A: Allocator + Clone + Drop>(
     alloc: &A,
+    text: &[u8],
     history: &History<A>,
     any_place: bool,
     tried: &Tried<A>,
-    place: usize,
-) -> Result<Ruling, NoMemory>
+    stuck: usize,
+) -> Result<Told<A>, NoMemory>
     requires few { length history.now.declaration.files.items ≤ 16 }
     requires parts { tried.now.parts.items ≡ parts_from 0 (completed (replies_in tried.now.replies.items) (read_of history.now)) }
-    ensures { IfOk result (λ ruling. (lines : List (List ℕ)) → IsHistory lines (read_of history.now)
-        → IsRuling (HasOrderByPages (rule_of any_place)) lines ruling) }
+    ensures { IfOk result (λ told.
+        IsTold (HasOrderByPages (rule_of any_place)) as_they_are any_place (lines_of text.now) (read_of history.now) told) }
 {
-    let Some(line) = line_at(history.lines.as_slice(), place) else {
-        return Ok(Ruling::Undecided(0));
-    };
-    let Some(timed) = call_at(history.calls.as_slice(), place) else {
-        return Ok(Ruling::Undecided(line));
-    };
-    let shown = is_disorder(alloc, history, any_place, tried)?;
-    if shown {
-        let reply = timed.call.reply;
-        Ok(Ruling::NoOrder { line, reply })
-    } else {
-        Ok(Ruling::Undecided(line))
-    }
+    let shown = show_disorder(alloc, history, any_place, tried, stuck)?;
+    let parts = tried.parts.as_slice();
+    let place = call_of(parts, stuck);
+    let told = tell_shown(alloc, text, history, any_place, parts, place, &shown)?;
+    Ok(told)
 }
 
-// The place of the call that a part is of.
-fn call_of(parts: &[Part], part: usize) -> usize {
+/// The place of the call that a part is of.
+pub fn call_of(parts: &[Part], part: usize) -> usize {
     match parts.get(part) {
         Some(part) => part.of,
         None => 0,
     }
 }
 
-// The ruling by what the search found.
-#[tactic(auto, using(crate::proofs::RuleLemmas::legal_there))]
+// What is told by what the search found.
+#[tactic(auto, using(crate::proofs::RuleLemmas::legal_bare, crate::proofs::RuleLemmas::undecided_bare))]
 fn rule_by<M: SlotMap + Drop, A: Allocator + Clone + Drop>(
     alloc: &A,
     map: M,
+    text: &[u8],
     history: &History<A>,
     any_place: bool,
     tried: &Tried<A>,
-) -> Result<Ruling, NoMemory>
+) -> Result<Told<A>, NoMemory>
     requires new { IsNew (M.slots map) }
     requires few { length history.now.declaration.files.items ≤ 16 }
     requires parts { tried.now.parts.items ≡ parts_from 0 (completed (replies_in tried.now.replies.items) (read_of history.now)) }
-    ensures { IfOk result (λ ruling. (lines : List (List ℕ)) → IsHistory lines (read_of history.now)
-        → IsRuling (HasOrderByPages (rule_of any_place)) lines ruling) }
+    ensures { IfOk result (λ told.
+        IsTold (HasOrderByPages (rule_of any_place)) as_they_are any_place (lines_of text.now) (read_of history.now) told) }
 {
     let parts = tried.parts.as_slice();
     match &tried.order {
         Order::Of { items, losses } => {
             let files = history.declaration.files.as_slice();
             let items = items.as_slice();
-            let is_one = is_order(
-                alloc,
-                map,
-                files,
-                any_place,
-                parts,
-                items,
-                losses.as_slice(),
-            )?;
+            let lost = losses.as_slice();
+            let is_one = is_order(alloc, map, files, any_place, parts, items, lost)?;
             if is_one {
-                Ok(Ruling::Legal(history.calls.len() as u64))
+                bare(alloc, Ruling::Legal(history.calls.len() as u64))
             } else {
                 let last = history.calls.len().saturating_sub(1);
-                Ok(Ruling::Undecided(line_at(history.lines.as_slice(), last).unwrap_or(0)))
+                let line = line_at(history.lines.as_slice(), last).unwrap_or(0);
+                bare(alloc, Ruling::Undecided(line))
             }
         }
-        Order::None(part) => {
-            let place = call_of(parts, *part);
-            rule_without(alloc, history, any_place, tried, place)
-        }
+        Order::None(part) => rule_without(alloc, text, history, any_place, tried, *part),
     }
 }
 
@@ -313,28 +289,28 @@ fn rule<M: SlotMap + Drop, A: Allocator + Clone + Drop>(
     requires new { IsNew (M.slots map) }
     requires few { length history.now.declaration.files.items ≤ 16 }
     requires places { HasPlaces history.now }
-    ensures { IfOk result (λ ruled. (lines : List (List ℕ)) → IsHistory lines (read_of history.now)
-        → IsRuling (HasOrderByPages (rule_of any_place)) lines ruled.ruling) }
+    requires text { IsHistory (lines_of text.now) (read_of history.now) }
+    ensures ruling { IfOk result (λ ruled. IsRuling (HasOrderByPages (rule_of any_place)) (lines_of text.now) ruled.ruling) }
+    ensures explained { IfOk result (λ ruled. IsExplained as_they_are any_place (lines_of text.now) ruled.explanation.items) }
 {
     let tried = search_history(alloc, history, any_place)?;
-    let ruling = rule_by(alloc, map, history, any_place, &tried)?;
+    let told = rule_by(alloc, map, text, history, any_place, &tried)?;
     let parts = tried.parts.as_slice();
     let order = if is_wanted {
         order_text(alloc, text, parts, history.calls.len(), &tried.order)?
     } else {
         Vec::new(alloc.clone()?)
     };
-    // Parts of calls have no lines of their own, so nothing stands behind a ruling here.
-    let explanation = Vec::new(alloc.clone()?);
     Ok(Ruled {
-        ruling,
+        ruling: told.ruling,
         order,
-        explanation,
+        explanation: told.explanation,
     })
 }
 
-/// Judges a text: it is that of a history, whose calls have an order by pages, or of which none was found; or it isn't, and why. Beside a
-/// ruling that it is legal stands the text of the order, if it is wanted: of calls of one page each.
+/// Judges a text: it is that of a history, whose calls have an order by pages, or have none, or of which none was found; or it isn't, and why.
+/// Beside a ruling that it is legal stands the text of the order, if it is wanted: of calls of one page each. Beside one that there is none
+/// stands what explains it.
 pub fn judge_pages<M: SlotMap + Drop, A: Allocator + Clone + Drop>(
     alloc: &A,
     map: M,
@@ -344,6 +320,7 @@ pub fn judge_pages<M: SlotMap + Drop, A: Allocator + Clone + Drop>(
 ) -> Result<Ruled<A>, HistoryFault>
     requires new { IsNew (M.slots map) }
     ensures ok { IfOk result (λ ruled. IsRuling (HasOrderByPages (rule_of any_place)) (lines_of text.now) ruled.ruling) }
+    ensures explained { IfOk result (λ ruled. IsExplained as_they_are any_place (lines_of text.now) ruled.explanation.items) }
     ensures err { IfErr result (λ f. IsAtFault (lines_of text.now) f) }
 {
     let history = match read_history(alloc, text) {

@@ -2,13 +2,16 @@
 #![tactic(auto)]
 
 mod choices;
+mod explaining;
 mod found;
 mod joining;
 pub mod judging;
 mod order_text;
 pub mod paging;
+mod showing;
 
-pub use choices::none_chosen;
+pub use explaining::{line_at, tell_shown};
 pub use joining::Joins;
-pub use judging::{effects, judge_pages, none_waits, split_history};
+pub use judging::{call_of, effects, judge_pages, none_waits, split_history};
 pub use paging::judge_by_pages;
+pub use showing::show_among;

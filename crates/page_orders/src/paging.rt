@@ -3,22 +3,20 @@ ghost use Rattle.std.specs.Prelude.{◌≡◌, ◌⊎◌, Err, OnOk, true};
 ghost use Rattle.trace_io.specs.Io.{read_from, written_to};
 ghost use Rattle.trace_io.specs.Source.{Reads};
 ghost use Rattle.slot_lock.specs.Slots.{IsNew};
-ghost use Rattle.audit.specs.Placing.{rule_of};
 ghost use Rattle.overlapping.specs.Ends.{TellsJudgement};
-ghost use Rattle.by_pages.specs.ByPages.{HasOrderByPages};
-ghost use Rattle.page_orders.specs.Ends.{JudgementEnds};
+ghost use Rattle.page_orders.specs.Ends.{EndsByPages};
 
 use crate::judging::judge_pages;
 use orders_text::HistoryFault;
 use overlapping::Ruled;
-use overlapping::overlapping::ruling_text;
+use overlapping::overlapping::told_text;
 use slot_lock::SlotMap;
 use std::alloc::Allocator;
 use trace_io::IoFault;
 use trace_io::sink::{Sink, write_out};
 use trace_io::source::{Source, read_all};
 
-// Judges a text by pages, and writes the ruling.
+// Judges a text by pages, and writes the ruling and what explains it.
 #[tactic(auto, using(crate::proofs::EndLemmas::judges_all, crate::proofs::EndLemmas::breaks_off, crate::proofs::EndLemmas::fails_so, trace_io::proofs::IoLemmas::keeps_same))]
 fn judge_out<M: SlotMap + Drop, A: Allocator + Clone + Drop, W: Sink>(
     alloc: A,
@@ -29,7 +27,7 @@ fn judge_out<M: SlotMap + Drop, A: Allocator + Clone + Drop, W: Sink>(
     is_wanted: bool,
 ) -> Result<Ruled<A>, HistoryFault>
     requires new { IsNew (M.slots map) }
-    ensures ends { JudgementEnds (HasOrderByPages (rule_of any_place)) text.now (W.contents writer.old) (W.contents writer.new) result }
+    ensures ends { EndsByPages any_place text.now (W.contents writer.old) (W.contents writer.new) result }
     ensures out { OnOk result (W.is_flushed writer.new ≡ true) }
     ensures read { result ≡ Err (HistoryFault.Io IoFault.ReadFailed) → ⊥ }
     ensures write { result ≡ Err (HistoryFault.Io IoFault.WriteFailed) → W.failed writer.new ≡ true }
@@ -39,8 +37,11 @@ fn judge_out<M: SlotMap + Drop, A: Allocator + Clone + Drop, W: Sink>(
         Ok(ruled) => ruled,
         Err(fault) => return Err(fault),
     };
-    let told = ruling_text(ruled.ruling);
-    match write_out(writer, told.as_str().as_bytes()) {
+    let told = match told_text(&alloc, ruled.ruling, ruled.explanation.as_slice()) {
+        Ok(told) => told,
+        Err(_) => return Err(HistoryFault::Io(IoFault::NoMemory)),
+    };
+    match write_out(writer, told.as_slice()) {
         Ok(()) => Ok(ruled),
         Err(_) => Err(HistoryFault::Io(IoFault::WriteFailed)),
     }
@@ -48,7 +49,8 @@ fn judge_out<M: SlotMap + Drop, A: Allocator + Clone + Drop, W: Sink>(
 
 /// Reads a text to its end, and writes whether its calls, which may overlap, have an order by pages that begins with nothing mapped:
 /// `legal CALLS`, `no order LINE: replied TEXT` where it was shown that there is none, or `undecided LINE` where none was found. `legal` is
-/// told only where the order was checked. Its text is answered, if it is wanted. The map has nothing mapped.
+/// told only where the order was checked. Behind `no order` stand the lines of some calls that show it, or the history as a whole, if it is
+/// short. The order's text is answered, if it is wanted. The map has nothing mapped.
 pub fn judge_by_pages<M: SlotMap + Drop, A: Allocator + Clone + Drop, S: Source, W: Sink>(
     alloc: A,
     map: M,
@@ -59,7 +61,7 @@ pub fn judge_by_pages<M: SlotMap + Drop, A: Allocator + Clone + Drop, S: Source,
 ) -> Result<Ruled<A>, HistoryFault>
     requires new { IsNew (M.slots map) }
     ensures ends { Reads (S.stream reader.old) (S.stream reader.new) (λ input unread.
-        JudgementEnds (HasOrderByPages (rule_of any_place)) input (W.contents writer.old) (W.contents writer.new) result) }
+        EndsByPages any_place input (W.contents writer.old) (W.contents writer.new) result) }
     ensures told { TellsJudgement result (read_from S.Source reader.old reader.new)
         (written_to W.Sink writer.old writer.new) }
 {

@@ -1,5 +1,5 @@
 use Rattle.no_loose_order.specs.Lagging.{is_late_store}
-use Rattle.no_loose_order.proofs.Lists.{none_at_all, none_more}
+use Rattle.page_orders.proofs.Sure.{none_at_all, none_more}
 use Rattle.no_loose_order.proofs.lagging.no_late_store.Goals as goal
 
 pub parts-preserved : goal.parts-preserved

@@ -1,5 +1,5 @@
 use Rattle.no_loose_order.specs.Lagging.{is_late_store}
-use Rattle.no_loose_order.proofs.Lists.{NoneSoFar}
+use Rattle.page_orders.proofs.Sure.{NoneSoFar}
 use Rattle.no_loose_order.proofs.lagging.no_late_store.Given as goal
 
 -- none of those so far is one

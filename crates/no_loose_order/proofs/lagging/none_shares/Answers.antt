@@ -1,7 +1,7 @@
 use Rattle.std.proofs.Common.{◌∙◌, ap, sym}
 use Rattle.by_pages.specs.declared.splitting.Part.{Part}
 use Rattle.no_loose_order.specs.Lagging.{shares}
-use Rattle.no_loose_order.proofs.Lists.{none_at_all, none_more}
+use Rattle.page_orders.proofs.Sure.{none_at_all, none_more}
 use Rattle.no_loose_order.proofs.lagging.none_shares.Goals as goal
 
 pub parts-preserved : goal.parts-preserved

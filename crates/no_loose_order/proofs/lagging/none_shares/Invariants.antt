@@ -1,5 +1,5 @@
 use Rattle.no_loose_order.specs.Lagging.{shares}
-use Rattle.no_loose_order.proofs.Lists.{NoneSoFar}
+use Rattle.page_orders.proofs.Sure.{NoneSoFar}
 use Rattle.no_loose_order.proofs.lagging.none_shares.Given as goal
 
 -- none of those so far is one
