@@ -1,7 +1,6 @@
 -- How an import ends.
-use Rattle.std.proofs.Common.{◌≡◌, ℕ, List, Option, length, refl, ap, ◌∙◌, subst}
+use Rattle.std.proofs.Common.{◌≡◌, ℕ, List, Option, refl, ap, ◌∙◌, subst}
 use Rattle.std.specs.Io.KnownBytes.{Appends}
-use Rattle.trace_io.specs.Lines.{lines_of}
 use Rattle.trace_io.specs.Sink.{AppendsFront}
 use Rattle.trace_io.specs.Source.{Stream, Reads}
 use Rattle.trace_io.specs.declared.fault.IoFault.{IoFault}
@@ -9,11 +8,12 @@ use Rattle.trace_io.specs.declared.fault.IoFault.TheVariants.{ReadFailed, NoMemo
 use Rattle.trace_io.proofs.IoLemmas.{keeps_same}
 use Rattle.trace_io.proofs.LineLemmas.{reads_map}
 use Rattle.import_text.specs.Counts.{total}
-use Rattle.import_text.specs.Ends.{MakesText, MakeStops, ended_text, made_text}
+use Rattle.import_text.specs.Ends.{ImportsAll, IsImported, MakeStops, ended_text, made_text}
 use Rattle.import_text.specs.Imported.{ending_of, import_of}
 use Rattle.import_text.specs.Taking.{SoFar}
 use Rattle.import_text.specs.declared.counts.Counts.{Counts}
 use Rattle.import_text.specs.declared.import.Ending.{Ending}
+use Rattle.import_text.specs.declared.import.Report.{Report}
 use Rattle.import_text.specs.declared.processes.Choice.{Choice}
 
 -- the text is that of the log's import
@@ -22,21 +22,26 @@ text_known : (start : SoFar) (choice : Choice) (input text : List ℕ) (counts :
 text_known start choice input text counts ending s h g e =
     e ∙ ap (λ x. ended_text x s) g ∙ ap (λ (p : SoFar × Counts). ended_text (ending_of start choice input) p.0) h
 
-pub imports_all : (start : SoFar) (choice : Choice) (input text : List ℕ) (old new : Option (List ℕ)) (counts : Counts) (ending : Ending) (s : SoFar)
-    → (s, counts) ≡ import_of start choice input → ending ≡ ending_of start choice input → total counts ≡ length (lines_of input)
-    → text ≡ ended_text ending s → Appends old new text
-    → MakesText (made_text start choice input) (import_of start choice input).1 counts input old new
-imports_all start choice input text old new counts ending s h g t e w = record {
-  written = subst (Appends old new) (text_known start choice input text counts ending s h g e) w;
-  told = ap (λ (p : SoFar × Counts). p.1) h;
-  all = t;
+pub imports_all : (start : SoFar) (choice : Choice) (input text : List ℕ) (old new : Option (List ℕ)) (s : SoFar) (report : Report)
+    → IsImported start choice input s report → text ≡ ended_text report.ending s → Appends old new text → ImportsAll start choice input old new report
+imports_all start choice input text old new s report is e w = record {
+  log = record {
+    written = subst (Appends old new) (text_known start choice input text report.counts report.ending s is.value is.ending e) w;
+    told = ap (λ (p : SoFar × Counts). p.1) is.value;
+    all = is.total;
+  };
+  ending = is.ending;
+  processes = is.processes;
+  programs = is.programs;
+  process = is.process;
+  unread = is.unread;
 }
 
-pub imports_front : (start : SoFar) (choice : Choice) (input text : List ℕ) (old new : Option (List ℕ)) (counts : Counts) (ending : Ending) (s : SoFar)
-    → (s, counts) ≡ import_of start choice input → ending ≡ ending_of start choice input → text ≡ ended_text ending s → AppendsFront old new text
+pub imports_front : (start : SoFar) (choice : Choice) (input text : List ℕ) (old new : Option (List ℕ)) (s : SoFar) (report : Report)
+    → IsImported start choice input s report → text ≡ ended_text report.ending s → AppendsFront old new text
     → AppendsFront old new (made_text start choice input)
-imports_front start choice input text old new counts ending s h g e w =
-    subst (AppendsFront old new) (text_known start choice input text counts ending s h g e) w
+imports_front start choice input text old new s report is e w =
+    subst (AppendsFront old new) (text_known start choice input text report.counts report.ending s is.value is.ending e) w
 
 pub stops_here : (text : List ℕ) (o : Option (List ℕ)) (f : IoFault) → (f ≡ WriteFailed → ⊥) → MakeStops text o o f
 stops_here text o ReadFailed n = keeps_same o

@@ -6,7 +6,7 @@ use Rattle.std.proofs.lemmas.Bool.Decides.{nat_tests}
 use Rattle.std.proofs.lemmas.List.{drop-append-le, length-drop, length-take-le}
 use Rattle.vm_base.specs.declared.requests.Request.{Request}
 use Rattle.vm_base.specs.declared.requests.Request.TheVariants as Asks
-use Rattle.import_text.specs.Steps.{head_of, is_name, kind_of_map, kind_width, name_kept, request_kept, shape_of, shape_width, six_of, step_kept, steps_kept, widths}
+use Rattle.import_text.specs.Steps.{flag_bits, flags_of, head_of, is_name, kind_of_map, kind_width, name_kept, prot_bits, prot_of, request_kept, shape_of, shape_width, six_of, step_kept, steps_kept, widths}
 use Rattle.import_text.specs.declared.names.Name.{Name}
 use Rattle.import_text.specs.declared.steps.Head.{Head}
 use Rattle.import_text.specs.declared.steps.Kind.{Kind}
@@ -17,6 +17,41 @@ use Rattle.vm_base.specs.declared.rights.Prot.{Prot}
 use Rattle.vm_base.specs.declared.requests.Flags.{Flags}
 
 -- ---- one request
+
+prot_by : (read write exec : Bool) → let p : Prot = record { read = read; write = write; exec = exec } in prot_of (prot_bits p) ≡ p
+prot_by false false false = refl
+prot_by false false true = refl
+prot_by false true false = refl
+prot_by false true true = refl
+prot_by true false false = refl
+prot_by true false true = refl
+prot_by true true false = refl
+prot_by true true true = refl
+
+prot_again : (p : Prot) → prot_of (prot_bits p) ≡ p
+prot_again p = prot_by p.read p.write p.exec
+
+flags_by : (private shared fixed anon : Bool)
+    → let f : Flags = record { private = private; shared = shared; fixed = fixed; anon = anon } in flags_of (flag_bits f) ≡ f
+flags_by false false false false = refl
+flags_by false false false true = refl
+flags_by false false true false = refl
+flags_by false false true true = refl
+flags_by false true false false = refl
+flags_by false true false true = refl
+flags_by false true true false = refl
+flags_by false true true true = refl
+flags_by true false false false = refl
+flags_by true false false true = refl
+flags_by true false true false = refl
+flags_by true false true true = refl
+flags_by true true false false = refl
+flags_by true true false true = refl
+flags_by true true true false = refl
+flags_by true true true true = refl
+
+flags_again : (f : Flags) → flags_of (flag_bits f) ≡ f
+flags_again f = flags_by f.private f.shared f.fixed f.anon
 
 zero_of : (a : ℕ) → eqb a 0 ≡ true → 0 ≡ a
 zero_of a h = grind (arith, nat_tests)
@@ -49,25 +84,34 @@ kept_by core named name r = step_kept (record { core = core; shape = shape_of na
 
 map_again : (core : ℕ) (name : Name) (addr len : ℕ) (prot : Prot) (flags : Flags) (file off : ℕ) (b : Bool) → b ≡ (eqb file 0 && eqb off 0)
     → false ≡ is_name name
-    → let h : Shape = record { kind = if b then Pages else Map; named = false; prot = prot; flags = flags; byte = 0 } in
+    → let h : Shape = record { kind = if b then Pages else Map; named = false; prot = prot_bits prot; flags = flag_bits flags; byte = 0 } in
     step_kept (record { core = core; shape = h }) (take (shape_width h) (addr ∷ len ∷ file ∷ off ∷ name.from ∷ name.len ∷ [])) ≡ step_by core name (Asks.Mmap addr len prot flags file off)
 map_again core name addr len prot flags file off true e n =
     let both = both_true (eqb file 0) (eqb off 0) (sym e) in
-    ap (λ m. step_by core m (Asks.Mmap addr len prot flags 0 0)) (bare_name name n)
+    ap (λ p. step_by core (name_kept false []) (Asks.Mmap addr len p (flags_of (flag_bits flags)) 0 0)) (prot_again prot)
+    ∙ ap (λ f. step_by core (name_kept false []) (Asks.Mmap addr len prot f 0 0)) (flags_again flags)
+    ∙ ap (λ m. step_by core m (Asks.Mmap addr len prot flags 0 0)) (bare_name name n)
     ∙ ap (λ k. step_by core name (Asks.Mmap addr len prot flags k 0)) (zero_of file both.0)
     ∙ ap (λ k. step_by core name (Asks.Mmap addr len prot flags file k)) (zero_of off both.1)
-map_again core name addr len prot flags file off false e n = ap (λ m. step_by core m (Asks.Mmap addr len prot flags file off)) (bare_name name n)
+map_again core name addr len prot flags file off false e n =
+    ap (λ p. step_by core (name_kept false []) (Asks.Mmap addr len p (flags_of (flag_bits flags)) file off)) (prot_again prot)
+    ∙ ap (λ f. step_by core (name_kept false []) (Asks.Mmap addr len prot f file off)) (flags_again flags)
+    ∙ ap (λ m. step_by core m (Asks.Mmap addr len prot flags file off)) (bare_name name n)
 
 again_by : (core : ℕ) (name : Name) (r : Request) (b : Bool) → b ≡ is_name name → kept_by core b name r ≡ step_by core name r
-again_by core name (Asks.Mmap addr len prot flags file off) true e = refl
+again_by core name (Asks.Mmap addr len prot flags file off) true e =
+    ap (λ p. step_by core name (Asks.Mmap addr len p (flags_of (flag_bits flags)) file off)) (prot_again prot)
+    ∙ ap (λ f. step_by core name (Asks.Mmap addr len prot f file off)) (flags_again flags)
 again_by core name (Asks.Munmap addr len) true e = refl
-again_by core name (Asks.Mprotect addr len prot) true e = refl
+again_by core name (Asks.Mprotect addr len prot) true e = ap (λ p. step_by core name (Asks.Mprotect addr len p)) (prot_again prot)
 again_by core name (Asks.Load addr) true e = refl
 again_by core name (Asks.Store addr byte) true e = refl
 again_by core name (Asks.Fetch addr) true e = refl
 again_by core name (Asks.Mmap addr len prot flags file off) false e = map_again core name addr len prot flags file off _ refl e
 again_by core name (Asks.Munmap addr len) false e = ap (λ m. step_by core m (Asks.Munmap addr len)) (bare_name name e)
-again_by core name (Asks.Mprotect addr len prot) false e = ap (λ m. step_by core m (Asks.Mprotect addr len prot)) (bare_name name e)
+again_by core name (Asks.Mprotect addr len prot) false e =
+    ap (λ p. step_by core (name_kept false []) (Asks.Mprotect addr len p)) (prot_again prot)
+    ∙ ap (λ m. step_by core m (Asks.Mprotect addr len prot)) (bare_name name e)
 again_by core name (Asks.Load addr) false e = ap (λ m. step_by core m (Asks.Load addr)) (bare_name name e)
 again_by core name (Asks.Store addr byte) false e = ap (λ m. step_by core m (Asks.Store addr byte)) (bare_name name e)
 again_by core name (Asks.Fetch addr) false e = ap (λ m. step_by core m (Asks.Fetch addr)) (bare_name name e)
@@ -139,8 +183,8 @@ width_in false k n p = p
 step_more : (h : Head) (ns more : List ℕ) → shape_width h.shape ≤ length ns → step_kept h (ns ++ more) ≡ step_kept h ns
 step_more h ns more p =
     let s = h.shape in
-    ap (λ n. step_by h.core n (request_kept s.kind s.prot s.flags s.byte (ns ++ more))) (name_more s.named s.kind ns more p)
-    ∙ ap (step_by h.core (name_kept s.named ns)) (request_more s.kind s.prot s.flags s.byte ns more (width_in s.named s.kind (length ns) p))
+    ap (λ n. step_by h.core n (request_kept s.kind (prot_of s.prot) (flags_of s.flags) s.byte (ns ++ more))) (name_more s.named s.kind ns more p)
+    ∙ ap (step_by h.core (name_kept s.named ns)) (request_more s.kind (prot_of s.prot) (flags_of s.flags) s.byte ns more (width_in s.named s.kind (length ns) p))
 
 kept_alone : (ns : List ℕ) (s : Step) → length ns ≡ 0 → steps_kept (head_of s ∷ []) (ns ++ numbers_of s) ≡ s ∷ []
 kept_alone [] s e = ap (λ x. x ∷ []) (kept_again s)

@@ -44,6 +44,16 @@ ended_text Absent s = []
 abbrev pub made_text : SoFar → Choice → List ℕ → List ℕ
 made_text start choice input = ended_text (ending_of start choice input) (import_of start choice input).0
 
+-- this is taken of a log, and this is said about it
+pub record IsImported (start : SoFar) (choice : Choice) (input : List ℕ) (taken : SoFar) (report : Report) : Type 0 where
+  pub value : (taken, report.counts) ≡ import_of start choice input
+  pub ending : report.ending ≡ ending_of start choice input
+  pub processes : report.processes.items ≡ processes_of choice.joined input
+  pub programs : map program_name report.programs.items ≡ programs_in choice.joined input
+  pub process : report.process ≡ process_in choice input
+  pub unread : report.unread.items ≡ unread_of start choice input
+  pub total : total report.counts ≡ length (lines_of input)
+
 -- the trace of a log was written, and this told of it
 pub record ImportsAll (start : SoFar) (choice : Choice) (input : List ℕ) (old new : Option (List ℕ)) (report : Report) : Type 0 where
   pub log : MakesText (made_text start choice input) (import_of start choice input).1 report.counts input old new

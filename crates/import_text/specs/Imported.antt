@@ -5,7 +5,7 @@ use Rattle.import_text.specs.Counts.{counted, no_counts}
 use Rattle.import_text.specs.Joining.{call_at, next_of, returns_by, speech_at}
 use Rattle.import_text.specs.Made.{all_makings, past_of, process_of, space_of}
 use Rattle.import_text.specs.Processes.{chosen, is_there, processes}
-use Rattle.import_forms.specs.Said.{is_known, said_of}
+use Rattle.import_forms.specs.Said.{file_named, is_known, said_of}
 use Rattle.import_forms.specs.Speech.{Spoken, begun_of, returned_of, speech_of}
 use Rattle.import_text.specs.Taking.{SoFar, after_said}
 use Rattle.import_text.specs.declared.counts.Counts.{Counts}
@@ -38,7 +38,7 @@ half_at all k =
 -- after the call that acts at a line of this thread, if one does, and else why the line is left out
 abbrev pub call_taken : SoFar → SoFar → ℕ → Reason → Option (List ℕ) → SoFar × Fate
 call_taken start s thread why None = (s, Left why)
-call_taken start s thread why (Some text) = after_said start s thread text (said_of text)
+call_taken start s thread why (Some text) = after_said start s thread (file_named text) (said_of text)
 
 -- Line k is about the process that was chosen: its thread's calls change there the address space that the process has at that line, or,
 -- before it was made, had from its maker.
@@ -130,10 +130,13 @@ first_unread [] = []
 first_unread (l ∷ ls) = if is_unread (said_of (speech_of l).1) then l else first_unread ls
 
 -- the first 80 bytes of it, where an import ended without a trace
+abbrev pub unread_shown : Ending → List ℕ → List ℕ
+unread_shown Written line = []
+unread_shown Nothing line = line
+unread_shown Absent line = line
+
 abbrev pub unread_for : Ending → List ℕ → List ℕ
-unread_for Written log = []
-unread_for Nothing log = take 80 (first_unread (lines_of log))
-unread_for Absent log = take 80 (first_unread (lines_of log))
+unread_for ending log = unread_shown ending (take 80 (first_unread (lines_of log)))
 
 abbrev pub unread_of : SoFar → Choice → List ℕ → List ℕ
 unread_of start choice log = unread_for (ending_of start choice log) log

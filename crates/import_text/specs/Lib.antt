@@ -9,6 +9,10 @@ pub mod Told
 pub mod Losses
 pub mod Counts
 pub mod Imported
+pub mod LogLines
+pub mod Reading
+pub mod Quotes
+pub mod Lines
 pub mod Programs
 pub mod Texts
 pub mod Ends

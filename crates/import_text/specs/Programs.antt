@@ -1,6 +1,5 @@
 -- Which programs the processes of a log ran.
-use Rattle.std.specs.Prelude.{ℕ, zero, suc, Bool, true, false, List, [], ◌∷◌, Option, None, Some, if◌then◌else◌, ◌==◌, ◌&&◌, codes, is_some, length, map, nat_lt, slice_index_or, unwrap_or}
-use Rattle.trace_text.specs.Words.{byte}
+use Rattle.std.specs.Prelude.{ℕ, zero, suc, Bool, true, false, List, [], Option, None, Some, if◌then◌else◌, ◌==◌, ◌&&◌, is_some, length, map, nat_lt, slice_index_or, unwrap_or}
 use Rattle.import_forms.specs.Said.{said_of}
 use Rattle.import_forms.specs.Speech.{Spoken}
 use Rattle.import_forms.specs.declared.said.Said.{Said}
@@ -9,23 +8,10 @@ use Rattle.import_text.specs.Imported.{processes_all, speeches_of}
 use Rattle.import_text.specs.Joining.{call_at}
 use Rattle.import_text.specs.Made.{all_makings, process_of}
 use Rattle.import_text.specs.Names.{name_shown}
+use Rattle.import_text.specs.Quotes.{quoted}
 use Rattle.import_text.specs.declared.made.Making.{Making}
 use Rattle.import_text.specs.declared.processes.Process.{Process}
 use Rattle.import_text.specs.declared.programs.Program.{Program}
-
--- what stands behind the first quote
-abbrev pub past_quote : List ℕ → List ℕ
-past_quote [] = []
-past_quote (x ∷ xs) = if x == byte (codes "\"") then xs else past_quote xs
-
--- what stands before the first quote
-abbrev pub up_to_quote : List ℕ → List ℕ
-up_to_quote [] = []
-up_to_quote (x ∷ xs) = if x == byte (codes "\"") then [] else x ∷ up_to_quote xs
-
--- what stands between the first two quotes
-abbrev pub quoted : List ℕ → List ℕ
-quoted text = up_to_quote (past_quote text)
 
 -- a program begins
 abbrev pub begins : Said → Bool

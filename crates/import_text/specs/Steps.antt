@@ -1,6 +1,5 @@
 -- The requests of a trace, as they are kept.
-use Rattle.std.specs.Prelude.{ℕ, ◌+◌, Bool, false, not, ◌&&◌, List, [], ◌∷◌, if◌then◌else◌, ◌==◌, drop, slice_index_or, take}
-use Rattle.trace_text.specs.Request.{no_flags}
+use Rattle.std.specs.Prelude.{ℕ, ◌+◌, ◌/◌, ◌%◌, Bool, not, ◌&&◌, List, [], ◌∷◌, if◌then◌else◌, ◌==◌, drop, slice_index_or, take}
 use Rattle.vm_base.specs.declared.rights.Prot.{Prot}
 use Rattle.vm_base.specs.declared.requests.Flags.{Flags}
 use Rattle.vm_base.specs.declared.requests.Request.{Request}
@@ -14,8 +13,22 @@ use Rattle.import_text.specs.declared.steps.Step.{Step}
 
 -- ---- what is kept of a request
 
-abbrev pub no_rights : Prot
-no_rights = record { read = false; write = false; exec = false }
+-- the bit of this value, where it is set
+abbrev pub bit : Bool → ℕ → ℕ
+bit b n = if b then n else 0
+
+-- rights and flags as bits
+abbrev pub prot_bits : Prot → ℕ
+prot_bits p = bit p.read 1 + bit p.write 2 + bit p.exec 4
+
+abbrev pub prot_of : ℕ → Prot
+prot_of n = record { read = n % 2 == 1; write = n / 2 % 2 == 1; exec = n / 4 % 2 == 1 }
+
+abbrev pub flag_bits : Flags → ℕ
+flag_bits f = bit f.private 1 + bit f.shared 2 + bit f.fixed 4 + bit f.anon 8
+
+abbrev pub flags_of : ℕ → Flags
+flags_of n = record { private = n % 2 == 1; shared = n / 2 % 2 == 1; fixed = n / 4 % 2 == 1; anon = n / 8 % 2 == 1 }
 
 -- There is a name. Where there is none it stands at 0 and has no byte.
 abbrev pub is_name : Name → Bool
@@ -26,12 +39,12 @@ kind_of_map named file off = if not named && (file == 0) && (off == 0) then Page
 
 abbrev pub shape_of : Bool → Request → Shape
 shape_of named (Asks.Mmap addr len prot flags file off) =
-    record { kind = kind_of_map named file off; named = named; prot = prot; flags = flags; byte = 0 }
-shape_of named (Asks.Munmap addr len) = record { kind = Unmap; named = named; prot = no_rights; flags = no_flags; byte = 0 }
-shape_of named (Asks.Mprotect addr len prot) = record { kind = Protect; named = named; prot = prot; flags = no_flags; byte = 0 }
-shape_of named (Asks.Load addr) = record { kind = Load; named = named; prot = no_rights; flags = no_flags; byte = 0 }
-shape_of named (Asks.Store addr byte) = record { kind = Store; named = named; prot = no_rights; flags = no_flags; byte = byte }
-shape_of named (Asks.Fetch addr) = record { kind = Fetch; named = named; prot = no_rights; flags = no_flags; byte = 0 }
+    record { kind = kind_of_map named file off; named = named; prot = prot_bits prot; flags = flag_bits flags; byte = 0 }
+shape_of named (Asks.Munmap addr len) = record { kind = Unmap; named = named; prot = 0; flags = 0; byte = 0 }
+shape_of named (Asks.Mprotect addr len prot) = record { kind = Protect; named = named; prot = prot_bits prot; flags = 0; byte = 0 }
+shape_of named (Asks.Load addr) = record { kind = Load; named = named; prot = 0; flags = 0; byte = 0 }
+shape_of named (Asks.Store addr byte) = record { kind = Store; named = named; prot = 0; flags = 0; byte = byte }
+shape_of named (Asks.Fetch addr) = record { kind = Fetch; named = named; prot = 0; flags = 0; byte = 0 }
 
 abbrev pub head_of : Step → Head
 head_of step = record { core = step.core; shape = shape_of (is_name step.name) step.request }
@@ -76,7 +89,7 @@ request_kept Fetch prot flags byte ns = Asks.Fetch (slice_index_or ns 0 0)
 abbrev pub step_kept : Head → List ℕ → Step
 step_kept h ns =
     let s = h.shape in
-    record { core = h.core; name = name_kept s.named ns; request = request_kept s.kind s.prot s.flags s.byte ns }
+    record { core = h.core; name = name_kept s.named ns; request = request_kept s.kind (prot_of s.prot) (flags_of s.flags) s.byte ns }
 
 -- the requests with these heads, whose numbers stand one behind another
 abbrev pub steps_kept : List Head → List ℕ → List Step

@@ -6,7 +6,6 @@ use Rattle.vm_base.specs.declared.rights.Prot.{Prot}
 use Rattle.vm_base.specs.declared.requests.Flags.{Flags}
 use Rattle.vm_base.specs.declared.requests.Request.{Request}
 use Rattle.vm_base.specs.declared.requests.Request.TheVariants.{Mmap, Munmap, Mprotect, Load, Store, Fetch}
-use Rattle.import_forms.specs.Said.{file_named}
 use Rattle.import_forms.specs.declared.said.Lost.TheVariants as Lose
 use Rattle.import_forms.specs.declared.said.Said.{Said}
 use Rattle.import_forms.specs.declared.said.Said.TheVariants as Says
@@ -158,11 +157,11 @@ after_file s thread name addr len prot flags off = if reaches off len
     thread name addr len prot flags off (file_place s.files name)
     else mapped_from s thread name addr len prot flags off None
 
--- a mapping is of anonymous pages, or of the file that its line names
+-- a mapping is of anonymous pages, or of the file of this name
 abbrev pub after_mapping : SoFar → ℕ → List ℕ → ℕ → ℕ → Prot → Flags → ℕ → SoFar × Fate
-after_mapping s thread text addr len prot flags off = if flags.anon
+after_mapping s thread name addr len prot flags off = if flags.anon
     then (asked_by s thread (Mmap addr len prot flags 0 off), Kept)
-    else after_file s thread (file_named text) addr len prot flags off
+    else after_file s thread name addr len prot flags off
 
 -- ---- the heap, and what is moved
 
@@ -280,27 +279,27 @@ sized_with s number len = (with_piece s number len, Left For.Other)
 abbrev pub keyed_with : SoFar → ℕ → Request → SoFar × Fate
 keyed_with s thread request = (asked_by s thread request, Changed Key)
 
--- what a request of the program becomes in the trace
+-- what a request of the program becomes in the trace, of a file of this name where it maps one
 abbrev pub after_request : SoFar → ℕ → List ℕ → Request → SoFar × Fate
-after_request s thread text (Mmap addr len prot flags file off) = after_mapping s thread text addr len prot flags off
-after_request s thread text (Munmap addr len) = (asked_by s thread (Munmap addr len), Kept)
-after_request s thread text (Mprotect addr len prot) = (asked_by s thread (Mprotect addr len prot), Kept)
-after_request s thread text (Load addr) = (asked_by s thread (Load addr), Kept)
-after_request s thread text (Store addr value) = (asked_by s thread (Store addr value), Kept)
-after_request s thread text (Fetch addr) = (asked_by s thread (Fetch addr), Kept)
+after_request s thread name (Mmap addr len prot flags file off) = after_mapping s thread name addr len prot flags off
+after_request s thread name (Munmap addr len) = (asked_by s thread (Munmap addr len), Kept)
+after_request s thread name (Mprotect addr len prot) = (asked_by s thread (Mprotect addr len prot), Kept)
+after_request s thread name (Load addr) = (asked_by s thread (Load addr), Kept)
+after_request s thread name (Store addr value) = (asked_by s thread (Store addr value), Kept)
+after_request s thread name (Fetch addr) = (asked_by s thread (Fetch addr), Kept)
 
--- what was taken after a call, and what became of its line; a program that begins has what is there at the start
+-- what was taken after a call that names this file, and what became of its line; a program that begins has what is there at the start
 abbrev pub after_said : SoFar → SoFar → ℕ → List ℕ → Said → SoFar × Fate
-after_said start s thread text (Says.Asks request) = after_request s thread text request
-after_said start s thread text (Says.Breaks to) = after_break s thread to
-after_said start s thread text (Says.Moves from old to new) = after_move s thread from old to new
-after_said start s thread text (Says.Makes child shares joins) = (s, Left For.Other)
-after_said start s thread text Says.Begins = (start, Left For.Begins)
-after_said start s thread text (Says.Keyed request) = keyed_with s thread request
-after_said start s thread text (Says.Sizes number len) = sized_with s number len
-after_said start s thread text (Says.Attaches number addr prot) = attached_with s thread number addr prot (len_of number s.pieces)
-after_said start s thread text (Says.Detaches addr) = detached_with s thread addr (len_of addr s.attached)
-after_said start s thread text (Says.Loses lost) = (s, Left (For.Lost lost))
-after_said start s thread text Says.Fails = (s, Left For.Failed)
-after_said start s thread text Says.Unread = (s, Left For.Unread)
-after_said start s thread text Says.Other = (s, Left For.Other)
+after_said start s thread name (Says.Asks request) = after_request s thread name request
+after_said start s thread name (Says.Breaks to) = after_break s thread to
+after_said start s thread name (Says.Moves from old to new) = after_move s thread from old to new
+after_said start s thread name (Says.Makes child shares joins) = (s, Left For.Other)
+after_said start s thread name Says.Begins = (start, Left For.Begins)
+after_said start s thread name (Says.Keyed request) = keyed_with s thread request
+after_said start s thread name (Says.Sizes number len) = sized_with s number len
+after_said start s thread name (Says.Attaches number addr prot) = attached_with s thread number addr prot (len_of number s.pieces)
+after_said start s thread name (Says.Detaches addr) = detached_with s thread addr (len_of addr s.attached)
+after_said start s thread name (Says.Loses lost) = (s, Left (For.Lost lost))
+after_said start s thread name Says.Fails = (s, Left For.Failed)
+after_said start s thread name Says.Unread = (s, Left For.Unread)
+after_said start s thread name Says.Other = (s, Left For.Other)

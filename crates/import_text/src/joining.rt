@@ -1,10 +1,14 @@
 //! The whole text of a call that strace tells in two lines, and the line at which it acts.
-ghost use Rattle.std.specs.Prelude.{◌≡◌, ◌<◌, ◌≤◌, IfOk, OnOk, drop, length, map};
+ghost use Rattle.std.specs.Prelude.{◌≡◌, ◌+◌, ◌<◌, ◌≤◌, IfOk, OnOk, drop, length, true};
 ghost use Rattle.import_text.specs.Joining.{acting_text, call_at, call_begun, call_returned, front_for, is_named, joined};
-ghost use Rattle.import_text.specs.Joining.{last_of, next_of, returns_by};
-ghost use Rattle.import_forms.specs.Speech.{begun_of, returned_of, spoken};
+ghost use Rattle.import_text.specs.Joining.{last_of, next_of, returns_by, speech_at};
+ghost use Rattle.import_text.specs.Lines.{is_half, told_at, told_by};
+ghost use Rattle.import_forms.specs.Speech.{begun_of, returned_of};
 
-use import_forms::speech::{Speech, begun, returned};
+use crate::line::name_in;
+use crate::lines::Lines;
+use import_forms::said::{Said, read_call};
+use import_forms::speech::{begun, returned};
 use import_forms::tokens::next_token;
 use std::alloc::{AllocError, Global};
 
@@ -18,32 +22,43 @@ fn is_named(text: &[u8], name: &[u8]) -> bool
     }
 }
 
-// What is said of the thread last before this place, nothing where it is first here.
-fn last_of<'a>(speeches: &[Speech<'a>], place: usize, thread: u64) -> &'a [u8]
-    requires { place ≤ length speeches.now }
-    ensures { result.now ≡ last_of thread (map spoken speeches.now) place }
+/// Of half of a call its text, and else nothing: either tells whether a call begins or returns here, and how.
+#[tactic(auto, using(crate::proofs::HalfLemmas::whole_returned))]
+pub(crate) fn half_text(lines: &Lines, place: usize) -> &[u8]
+    requires { place < length lines.now }
+    ensures begun { begun_of result.now ≡ begun_of (speech_at lines.now place).1 }
+    ensures returned { returned_of result.now ≡ returned_of (speech_at lines.now place).1 }
+{
+    let line = lines.line(place);
+    if line.half { line.name } else { b"".as_slice() }
+}
+
+// How the thread's last line before this place began a call, if it did.
+fn last_of(lines: &Lines, place: usize, thread: u64) -> &[u8]
+    requires { place ≤ length lines.now }
+    ensures { begun_of result.now ≡ begun_of (last_of thread lines.now place) }
 {
     let mut at = place;
     'earlier: while at > 0 {
         at -= 1;
-        let speech = speeches[at];
-        if speech.thread == thread {
-            return speech.text;
+        if lines.thread(at) == thread {
+            return half_text(lines, at);
         }
     }
     b"".as_slice()
 }
 
-/// What is said of the thread first from this place on, nothing where nothing is.
-pub(crate) fn next_of<'a>(speeches: &[Speech<'a>], place: usize, thread: u64) -> &'a [u8]
-    requires { place ≤ length speeches.now }
-    ensures { result.now ≡ next_of thread (drop place (map spoken speeches.now)) }
+/// How the thread's next line behind this place returns from a call, if it does.
+pub(crate) fn next_of(lines: &Lines, place: usize, thread: u64) -> &[u8]
+    requires { place < length lines.now }
+    ensures { returned_of result.now ≡ returned_of (next_of thread (drop (place + 1) lines.now)) }
 {
-    let mut at = place;
-    'later: while at < speeches.len() {
-        let speech = speeches[at];
-        if speech.thread == thread {
-            return speech.text;
+    let count = lines.len();
+    prove!(place < count);
+    let mut at = place + 1;
+    'later: while at < count {
+        if lines.thread(at) == thread {
+            return half_text(lines, at);
         }
         at += 1;
     }
@@ -114,27 +129,87 @@ fn put_returned(
     Ok(true)
 }
 
-/// Makes the whole text of the call that acts at this line, and tells whether one does. A call that stands in two lines
-/// acts where it returns; `munmap` acts where it begins, since its pages are gone before it returns. What begins in a line
-/// that isn't there is its name.
-pub(crate) fn put_call<'a>(
-    speeches: &[Speech<'a>],
+// Makes the whole text of the call that acts at this line, of half of a call, and tells whether one does. A call that stands in two
+// lines acts where it returns; `munmap` acts where it begins, since its pages are gone before it returns. What begins in a line
+// that isn't there is its name.
+fn put_half(
+    lines: &Lines,
     place: usize,
+    half: &[u8],
     text: &mut Vec<u8>,
 ) -> Result<bool, AllocError>
-    requires { place < length speeches.now }
-    ensures { IfOk result (λ acts. acting_text acts text.new.items ≡ call_at (map spoken speeches.now) place) }
+    requires place { place < length lines.now }
+    requires half { half.now ≡ (speech_at lines.now place).1 }
+    requires is_half { is_half half.now ≡ true }
+    ensures { IfOk result (λ acts. acting_text acts text.new.items ≡ call_at lines.now place) }
 {
-    let speech = speeches[place];
-    if let Some(front) = begun(speech.text) {
-        let later = next_of(speeches, place + 1, speech.thread);
+    let thread = lines.thread(place);
+    if let Some(front) = begun(half) {
+        let later = next_of(lines, place, thread);
         return put_begun(front, later, text);
     }
-    if let Some((name, rest)) = returned(speech.text) {
-        let earlier = last_of(speeches, place, speech.thread);
+    if let Some((name, rest)) = returned(half) {
+        let earlier = last_of(lines, place, thread);
         return put_returned(name, rest, earlier, text);
     }
-    text.clear();
-    text.extend_from_slice(speech.text)?;
-    Ok(true)
+    unreachable!()
+}
+
+/// Room for the text of a call, and for the name that it shows.
+#[derive(Debug, Drop)]
+pub(crate) struct Room {
+    text: Vec<u8>,
+    /// The name.
+    pub(crate) name: Vec<u8>,
+}
+
+impl Room {
+    /// Nothing.
+    pub(crate) fn new(alloc: Global) -> Room {
+        Room {
+            text: Vec::new(alloc),
+            name: Vec::new(alloc),
+        }
+    }
+}
+
+// What the call says that acts at this line, of half of a call, and the name that it shows.
+fn told_half(
+    lines: &Lines,
+    place: usize,
+    half: &[u8],
+    room: &mut Room,
+) -> Result<Option<Said>, AllocError>
+    requires place { place < length lines.now }
+    requires half { half.now ≡ (speech_at lines.now place).1 }
+    requires is_half { is_half half.now ≡ true }
+    ensures { IfOk result (λ said. told_by said room.new.name.items ≡ told_at lines.now place) }
+{
+    if !put_half(lines, place, half, &mut room.text)? {
+        return Ok(None);
+    }
+    let said = read_call(room.text.as_slice());
+    room.name.clear();
+    room.name
+        .extend_from_slice(name_in(said, room.text.as_slice()))?;
+    Ok(Some(said))
+}
+
+/// What the call says that acts at this line, if one does, and the name that it shows.
+#[tactic(auto, using(crate::proofs::HalfLemmas::told_whole))]
+pub(crate) fn told_at(
+    lines: &Lines,
+    place: usize,
+    room: &mut Room,
+) -> Result<Option<Said>, AllocError>
+    requires { place < length lines.now }
+    ensures { IfOk result (λ said. told_by said room.new.name.items ≡ told_at lines.now place) }
+{
+    let line = lines.line(place);
+    if line.half {
+        return told_half(lines, place, line.name, room);
+    }
+    room.name.clear();
+    room.name.extend_from_slice(line.name)?;
+    Ok(Some(line.said))
 }

@@ -1,13 +1,13 @@
 //! Which threads were made, and by whom: of which process a thread is, and whose address space a process has.
-ghost use Rattle.std.specs.Prelude.{◌≡◌, ◌&&◌, ◌||◌, ◌++◌, ◌∷◌, [], ℕ, IfOk, None, OnOk, length, map, nat_eq, nat_lt};
+ghost use Rattle.std.specs.Prelude.{◌≡◌, ◌&&◌, ◌||◌, ◌++◌, ◌∷◌, [], ℕ, IfOk, None, OnOk, length, nat_eq, nat_lt};
 ghost use Rattle.std.specs.HashMap.{get};
-ghost use Rattle.import_forms.specs.Speech.{spoken};
 ghost use Rattle.import_text.specs.Made.{adopted, all_makings, first_start, fork_of, maker_of, making_by, makings, own_from, past_of, process_of, space_of};
 ghost use Rattle.import_text.specs.Made.{space_within, with_making, with_makings};
 
+use crate::joining::Room;
+use crate::lines::Lines;
 use crate::meter::Meter;
 use crate::told::{Telling, hear_all};
-use import_forms::speech::Speech;
 use std::alloc::{AllocError, Global};
 use std::collections::HashMap;
 use std::marker::Model;
@@ -97,25 +97,25 @@ fn add_making(made: &mut Made, making: Making) -> Result<(), AllocError>
 }
 
 // The line from which on the child has an address space of its own, as it is known where each thread begins its first program.
-fn own_from<'a>(starts: &HashMap<u64, usize>, speeches: &[Speech<'a>], telling: Telling) -> usize
-    requires { (t : ℕ) → get nat_eq starts.now t ≡ first_start (map spoken speeches.now) (length speeches.now) t }
-    ensures { result ≡ own_from (map spoken speeches.now) telling }
+fn own_from(starts: &HashMap<u64, usize>, lines: &Lines, telling: Telling) -> usize
+    requires { (t : ℕ) → get nat_eq starts.now t ≡ first_start lines.now (length lines.now) t }
+    ensures { result ≡ own_from lines.now telling }
 {
     if !telling.joins {
         return telling.began;
     }
     match starts.get(&telling.child) {
         Some(at) => *at,
-        None => speeches.len(),
+        None => lines.len(),
     }
 }
 
 // The same with the line from which on it has an address space of its own.
-fn making_by<'a>(starts: &HashMap<u64, usize>, speeches: &[Speech<'a>], telling: Telling) -> Making
-    requires { (t : ℕ) → get nat_eq starts.now t ≡ first_start (map spoken speeches.now) (length speeches.now) t }
-    ensures { result ≡ making_by (map spoken speeches.now) telling }
+fn making_by(starts: &HashMap<u64, usize>, lines: &Lines, telling: Telling) -> Making
+    requires { (t : ℕ) → get nat_eq starts.now t ≡ first_start lines.now (length lines.now) t }
+    ensures { result ≡ making_by lines.now telling }
 {
-    let at = own_from(starts, speeches, telling);
+    let at = own_from(starts, lines, telling);
     Making {
         child: telling.child,
         parent: telling.parent,
@@ -126,18 +126,18 @@ fn making_by<'a>(starts: &HashMap<u64, usize>, speeches: &[Speech<'a>], telling:
 }
 
 // Adds these threads, each if the list doesn't say yet who made it.
-fn add_makings<'a>(
+fn add_makings(
     made: &mut Made,
-    speeches: &[Speech<'a>],
+    lines: &Lines,
     starts: &HashMap<u64, usize>,
     tellings: &[Telling],
 ) -> Result<(), AllocError>
-    requires { (t : ℕ) → get nat_eq starts.now t ≡ first_start (map spoken speeches.now) (length speeches.now) t }
-    ensures { OnOk result (made.new ≡ with_makings (map spoken speeches.now) made.old tellings.now) }
+    requires { (t : ℕ) → get nat_eq starts.now t ≡ first_start lines.now (length lines.now) t }
+    ensures { OnOk result (made.new ≡ with_makings lines.now made.old tellings.now) }
 {
     let mut at = 0;
     'tellings: while at < tellings.len() {
-        let making = making_by(starts, speeches, tellings[at]);
+        let making = making_by(starts, lines, tellings[at]);
         add_making(made, making)?;
         at += 1;
     }
@@ -145,32 +145,27 @@ fn add_makings<'a>(
 }
 
 // All threads that the lines say were made, each once, in the order of the first lines that say so.
-fn read_makings<'a, M: Meter>(
+fn read_makings<M: Meter>(
     alloc: Global,
-    speeches: &[Speech<'a>],
-    text: &mut Vec<u8>,
+    lines: &Lines,
+    room: &mut Room,
     meter: &mut M,
 ) -> Result<Made, AllocError>
-    ensures { IfOk result (λ made. made ≡ makings (map spoken speeches.now)) }
+    ensures { IfOk result (λ made. made ≡ makings lines.now) }
 {
-    let heard = hear_all(alloc, speeches, text, meter)?;
+    let heard = hear_all(alloc, lines, room, meter)?;
     let mut made = no_makings(alloc);
-    add_makings(
-        &mut made,
-        speeches,
-        &heard.starts,
-        heard.tellings.as_slice(),
-    )?;
+    add_makings(&mut made, lines, &heard.starts, heard.tellings.as_slice())?;
     Ok(made)
 }
 
 // Adds each thread of which no line says who made it as one of process 0.
-fn adopt<'a>(made: &mut Made, speeches: &[Speech<'a>]) -> Result<(), AllocError>
-    ensures { OnOk result (made.new ≡ adopted (map spoken speeches.now) made.old (length speeches.now)) }
+fn adopt(made: &mut Made, lines: &Lines) -> Result<(), AllocError>
+    ensures { OnOk result (made.new ≡ adopted lines.now made.old (length lines.now)) }
 {
     let mut at = 0;
-    'lines: while at < speeches.len() {
-        let thread = speeches[at].thread;
+    'lines: while at < lines.len() {
+        let thread = lines.thread(at);
         let making = Making {
             child: thread,
             parent: 0,
@@ -185,18 +180,18 @@ fn adopt<'a>(made: &mut Made, speeches: &[Speech<'a>]) -> Result<(), AllocError>
 }
 
 /// Who made which thread, as the lines say. Where all threads of which none says so are of one process, that is process 0.
-pub(crate) fn all_makings<'a, M: Meter>(
+pub(crate) fn all_makings<M: Meter>(
     alloc: Global,
-    speeches: &[Speech<'a>],
+    lines: &Lines,
     joined: bool,
-    text: &mut Vec<u8>,
+    room: &mut Room,
     meter: &mut M,
 ) -> Result<Made, AllocError>
-    ensures { IfOk result (λ made. made ≡ all_makings joined (map spoken speeches.now)) }
+    ensures { IfOk result (λ made. made ≡ all_makings joined lines.now) }
 {
-    let mut made = read_makings(alloc, speeches, text, meter)?;
+    let mut made = read_makings(alloc, lines, room, meter)?;
     if joined {
-        adopt(&mut made, speeches)?;
+        adopt(&mut made, lines)?;
     }
     Ok(made)
 }

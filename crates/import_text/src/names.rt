@@ -1,5 +1,5 @@
 //! Files by their names, in comments of a trace: what a line shows of a name.
-ghost use Rattle.std.specs.Prelude.{◌≡◌, ◌++◌, ◌-◌, ◌<◌, IfOk, OnOk, drop, length, take};
+ghost use Rattle.std.specs.Prelude.{◌≡◌, ◌++◌, ◌-◌, ◌<◌, IfOk, OnErr, OnOk, drop, length, take};
 ghost use Rattle.std.specs.Str.{bytes_eq};
 ghost use Rattle.import_text.specs.Names.{bare, byte_shown, digit, is_plain, name_shown, without_sign};
 ghost use Rattle.import_text.specs.Taking.{last_name, with_name};
@@ -37,6 +37,7 @@ fn ends(names: &[u8], name: &[u8]) -> bool
 pub fn note_name(names: &mut Vec<u8>, name: &[u8]) -> Result<Name, AllocError>
     ensures names { OnOk result (names.new.items ≡ with_name names.old.items name.now) }
     ensures name { IfOk result (λ n. n ≡ last_name names.new.items name.now) }
+    ensures err { OnErr result (names.new.items ≡ names.old.items) }
 {
     if !ends(names.as_slice(), name) {
         names.extend_from_slice(name)?;

@@ -1,15 +1,15 @@
 //! The processes of a log, and how much each asks of its address space.
-ghost use Rattle.std.specs.Prelude.{◌≡◌, ◌<◌, ◌++◌, ◌∷◌, [], ℕ, IfOk, OnOk, Some, length, map, nat_eq, slice_get};
+ghost use Rattle.std.specs.Prelude.{◌≡◌, ◌<◌, ◌++◌, ◌∷◌, [], ℕ, IfOk, OnOk, Some, length, nat_eq, slice_get};
 ghost use Rattle.std.specs.HashMap.{get};
-ghost use Rattle.import_forms.specs.Speech.{spoken};
 ghost use Rattle.import_text.specs.Made.{fork_of, maker_of, process_of, said_at, space_of};
 ghost use Rattle.import_text.specs.Processes.{asks, best_of, busiest, chosen, is_there, place_of, process_at, processes, with_request, with_line};
 
+use crate::joining::Room;
+use crate::lines::Lines;
 use crate::made::{Made, Making, fork_of, process_of, space_of};
 use crate::meter::{Meter, tell_of};
 use crate::told::said_at;
 use import_forms::said::Said;
-use import_forms::speech::Speech;
 use std::alloc::{AllocError, Global};
 use std::collections::HashMap;
 use std::marker::Model;
@@ -101,15 +101,11 @@ fn asks(said: Said) -> bool
 }
 
 // Tells whether the call that acts at this line, if one does, asks for something of the address space.
-fn line_asks<'a>(
-    speeches: &[Speech<'a>],
-    place: usize,
-    text: &mut Vec<u8>,
-) -> Result<bool, AllocError>
-    requires { place < length speeches.now }
-    ensures { IfOk result (λ b. b ≡ asks (said_at (map spoken speeches.now) place)) }
+fn line_asks(lines: &Lines, place: usize, room: &mut Room) -> Result<bool, AllocError>
+    requires { place < length lines.now }
+    ensures { IfOk result (λ b. b ≡ asks (said_at lines.now place)) }
 {
-    match said_at(speeches, place, text)? {
+    match said_at(lines, place, room)? {
         Some(said) => Ok(asks(said)),
         None => Ok(false),
     }
@@ -211,14 +207,14 @@ fn count_line(counted: &mut Counted, number: u64, asks: bool) -> Result<(), Allo
 }
 
 /// The processes of the lines, in the order of their first lines.
-pub(crate) fn read_processes<'a, M: Meter>(
+pub(crate) fn read_processes<M: Meter>(
     alloc: Global,
-    speeches: &[Speech<'a>],
+    lines: &Lines,
     made: &Made,
-    text: &mut Vec<u8>,
+    room: &mut Room,
     meter: &mut M,
 ) -> Result<Vec<Process>, AllocError>
-    ensures { IfOk result (λ all. all.items ≡ processes (map spoken speeches.now) made.now (length speeches.now)) }
+    ensures { IfOk result (λ all. all.items ≡ processes lines.now made.now (length lines.now)) }
 {
     let mut counted = Counted {
         all: Vec::new(alloc),
@@ -226,10 +222,10 @@ pub(crate) fn read_processes<'a, M: Meter>(
     };
     let mut known = look(made, 0);
     let mut at = 0;
-    'lines: while at < speeches.len() {
-        tell_of(meter, 2, at, speeches.len());
-        known = recall(made, known, speeches[at].thread);
-        let asks = line_asks(speeches, at, text)?;
+    'lines: while at < lines.len() {
+        tell_of(meter, 2, at, lines.len());
+        known = recall(made, known, lines.thread(at));
+        let asks = line_asks(lines, at, room)?;
         count_line(&mut counted, known.process, asks)?;
         at += 1;
     }
@@ -276,12 +272,12 @@ pub(crate) fn chosen(choice: Choice, made: &Made, processes: &[Process]) -> u64
 }
 
 // Tells whether a line is about the thread.
-fn has_thread<'a>(speeches: &[Speech<'a>], thread: u64) -> bool
-    ensures { result ≡ is_there (Some thread) (map spoken speeches.now) }
+fn has_thread(lines: &Lines, thread: u64) -> bool
+    ensures { result ≡ is_there (Some thread) lines.now }
 {
     let mut at = 0;
-    'lines: while at < speeches.len() {
-        if speeches[at].thread == thread {
+    'lines: while at < lines.len() {
+        if lines.thread(at) == thread {
             return true;
         }
         at += 1;
@@ -290,11 +286,11 @@ fn has_thread<'a>(speeches: &[Speech<'a>], thread: u64) -> bool
 }
 
 /// Tells whether a line is about the thread that was named, if one was.
-pub(crate) fn is_there<'a>(choice: Choice, speeches: &[Speech<'a>]) -> bool
-    ensures { result ≡ is_there choice.thread (map spoken speeches.now) }
+pub(crate) fn is_there(choice: Choice, lines: &Lines) -> bool
+    ensures { result ≡ is_there choice.thread lines.now }
 {
     match choice.thread {
-        Some(thread) => has_thread(speeches, thread),
+        Some(thread) => has_thread(lines, thread),
         None => true,
     }
 }

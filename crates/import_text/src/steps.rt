@@ -1,6 +1,6 @@
 //! The requests of a trace, kept small: of each a head, and its numbers after those of the others.
 ghost use Rattle.std.specs.Prelude.{◌≡◌, ◌≤◌, ◌<◌, ◌∷◌, length, slice_index_or};
-ghost use Rattle.import_text.specs.Steps.{is_name, kind_of_map, kind_width, name_kept, request_kept, shape_of, shape_width, six_of, steps_kept, widths};
+ghost use Rattle.import_text.specs.Steps.{bit, flag_bits, flags_of, is_name, kind_of_map, kind_width, name_kept, prot_bits, prot_of, request_kept, shape_of, shape_width, six_of, steps_kept, widths};
 
 use crate::names::{NO_NAME, Name};
 use std::alloc::{AllocError, Global};
@@ -43,8 +43,9 @@ pub(crate) struct Shape {
     kind: Kind,
     // Whether it has a name. All numbers are kept then.
     named: bool,
-    prot: Prot,
-    flags: Flags,
+    // Rights and flags, a bit each.
+    prot: u8,
+    flags: u8,
     byte: u8,
 }
 
@@ -74,18 +75,50 @@ impl Model for Steps {
     ghost invariant = { λ s. length s.numbers.items ≡ widths s.heads.items };
 }
 
-const NO_RIGHTS: Prot = Prot {
-    read: false,
-    write: false,
-    exec: false,
-};
+// The bit at this place, where it is set.
+fn bit(is_set: bool, place: u8) -> u8
+    ensures value { result ≡ bit is_set place }
+    ensures low { result ≤ place }
+{
+    if is_set { place } else { 0 }
+}
 
-const NO_FLAGS: Flags = Flags {
-    private: false,
-    shared: false,
-    fixed: false,
-    anon: false,
-};
+// Rights as bits.
+fn prot_bits(prot: Prot) -> u8
+    ensures { result ≡ prot_bits prot }
+{
+    bit(prot.read, 1) + bit(prot.write, 2) + bit(prot.exec, 4)
+}
+
+// The rights with these bits.
+fn prot_of(bits: u8) -> Prot
+    ensures { result ≡ prot_of bits }
+{
+    Prot {
+        read: bits % 2 == 1,
+        write: bits / 2 % 2 == 1,
+        exec: bits / 4 % 2 == 1,
+    }
+}
+
+// Flags as bits.
+fn flag_bits(flags: Flags) -> u8
+    ensures { result ≡ flag_bits flags }
+{
+    bit(flags.private, 1) + bit(flags.shared, 2) + bit(flags.fixed, 4) + bit(flags.anon, 8)
+}
+
+// The flags with these bits.
+fn flags_of(bits: u8) -> Flags
+    ensures { result ≡ flags_of bits }
+{
+    Flags {
+        private: bits % 2 == 1,
+        shared: bits / 2 % 2 == 1,
+        fixed: bits / 4 % 2 == 1,
+        anon: bits / 8 % 2 == 1,
+    }
+}
 
 // Tells whether there is a name.
 fn is_name(name: Name) -> bool
@@ -112,8 +145,8 @@ fn shape_of(named: bool, request: Request) -> Shape
     let bare = Shape {
         kind: Kind::Fetch,
         named,
-        prot: NO_RIGHTS,
-        flags: NO_FLAGS,
+        prot: 0,
+        flags: 0,
         byte: 0,
     };
     match request {
@@ -125,8 +158,8 @@ fn shape_of(named: bool, request: Request) -> Shape
             ..
         } => Shape {
             kind: kind_of_map(named, file, off),
-            prot,
-            flags,
+            prot: prot_bits(prot),
+            flags: flag_bits(flags),
             ..bare
         },
         Request::Munmap { .. } => Shape {
@@ -135,7 +168,7 @@ fn shape_of(named: bool, request: Request) -> Shape
         },
         Request::Mprotect { prot, .. } => Shape {
             kind: Kind::Protect,
-            prot,
+            prot: prot_bits(prot),
             ..bare
         },
         Request::Load { .. } => Shape {
@@ -227,12 +260,12 @@ fn name_of(named: bool, numbers: &[u64]) -> Name
 
 // The request of this shape with these numbers.
 fn request_of(shape: Shape, numbers: &[u64]) -> Request
-    ensures { result ≡ request_kept shape.kind shape.prot shape.flags shape.byte numbers.now }
+    ensures { result ≡ request_kept shape.kind (prot_of shape.prot) (flags_of shape.flags) shape.byte numbers.now }
 {
     let addr = number_at(numbers, 0);
     let len = number_at(numbers, 1);
-    let prot = shape.prot;
-    let flags = shape.flags;
+    let prot = prot_of(shape.prot);
+    let flags = flags_of(shape.flags);
     match shape.kind {
         Kind::Pages => Request::Mmap {
             addr,

@@ -11,7 +11,7 @@ ghost use Rattle.import_text.specs.Taking.{keyed_with, sized_with};
 use crate::names::{NO_NAME, Name, note_name};
 use crate::shared::{Piece, len_of, memory_name};
 use crate::steps::{Step, Steps};
-use import_forms::said::{Lost, Said, read_file_name};
+use import_forms::said::{Lost, Said};
 use std::alloc::{AllocError, Global};
 use vm_base::limits::{FILE_BYTES, FILE_COUNT};
 use vm_base::{CoreId, Flags, Prot, Request};
@@ -339,15 +339,15 @@ pub fn take_file(
     Ok(Fate::Changed(Change::File))
 }
 
-// Adds a mapping.
+// Adds a mapping, of the file of this name where it is of one.
 fn take_mapping(
     alloc: Global,
     taken: &mut Taken,
     thread: u64,
-    text: &[u8],
+    name: &[u8],
     mapping: Mapping,
 ) -> Result<Fate, AllocError>
-    ensures { IfOk result (λ fate. (so_far taken.new, fate) ≡ after_mapping (so_far taken.old) thread text.now
+    ensures { IfOk result (λ fate. (so_far taken.new, fate) ≡ after_mapping (so_far taken.old) thread name.now
         mapping.addr mapping.len mapping.prot mapping.flags mapping.off) }
 {
     let Mapping {
@@ -372,7 +372,7 @@ fn take_mapping(
         )?;
         return Ok(Fate::Kept);
     }
-    take_file(alloc, taken, thread, read_file_name(text), mapping)
+    take_file(alloc, taken, thread, name, mapping)
 }
 
 // Adds pages, which are anonymous, and may be read and written.
@@ -591,10 +591,10 @@ fn take_request(
     alloc: Global,
     taken: &mut Taken,
     thread: u64,
-    text: &[u8],
+    name: &[u8],
     request: Request,
 ) -> Result<Fate, AllocError>
-    ensures { IfOk result (λ fate. (so_far taken.new, fate) ≡ after_request (so_far taken.old) thread text.now request) }
+    ensures { IfOk result (λ fate. (so_far taken.new, fate) ≡ after_request (so_far taken.old) thread name.now request) }
 {
     if let Request::Mmap {
         addr,
@@ -612,27 +612,27 @@ fn take_request(
             flags,
             off,
         };
-        return take_mapping(alloc, taken, thread, text, mapping);
+        return take_mapping(alloc, taken, thread, name, mapping);
     }
     ask(taken, thread, request)?;
     Ok(Fate::Kept)
 }
 
-/// Takes what the thread's call says, and answers what becomes of its line. A program that begins has a new address space,
-/// so what was taken before is forgotten, except for what is there at the start.
+/// Takes what the thread's call says, of the file of this name where it maps one, and answers what becomes of its line. A program
+/// that begins has a new address space, so what was taken before is forgotten, except for what is there at the start.
 pub fn take(
     alloc: Global,
     start: &Taken,
     taken: &mut Taken,
     thread: u64,
-    text: &[u8],
+    name: &[u8],
     said: Said,
 ) -> Result<Fate, AllocError>
     ensures { IfOk result (λ fate. (so_far taken.new, fate)
-        ≡ after_said (so_far start.now) (so_far taken.old) thread text.now said) }
+        ≡ after_said (so_far start.now) (so_far taken.old) thread name.now said) }
 {
     match said {
-        Said::Asks(request) => take_request(alloc, taken, thread, text, request),
+        Said::Asks(request) => take_request(alloc, taken, thread, name, request),
         Said::Breaks(to) => take_break(taken, thread, to),
         Said::Moves { from, old, to, new } => take_move(taken, thread, from, old, to, new),
         Said::Begins => {

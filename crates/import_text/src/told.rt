@@ -1,14 +1,14 @@
 //! What lines tell of threads that were made, and of programs that begin.
-ghost use Rattle.std.specs.Prelude.{◌≡◌, ◌<◌, ◌+◌, ◌==◌, ◌&&◌, ℕ, IfOk, OnOk, Some, if◌then◌else◌, length, map, nat_eq, unwrap_or};
+ghost use Rattle.std.specs.Prelude.{◌≡◌, ◌<◌, ◌+◌, ◌==◌, ◌&&◌, ℕ, IfOk, OnOk, Some, if◌then◌else◌, length, nat_eq, unwrap_or};
 ghost use Rattle.std.specs.HashMap.{get};
-ghost use Rattle.import_forms.specs.Speech.{spoken};
 ghost use Rattle.import_text.specs.Made.{began_at, last_line, or_here, said_at, starts, telling_of, with_telling};
 ghost use Rattle.import_text.specs.Told.{Hears};
 
-use crate::joining::put_call;
+use crate::joining::{Room, half_text, told_at};
+use crate::lines::Lines;
 use crate::meter::{Meter, tell_of};
-use import_forms::said::{Said, read_call};
-use import_forms::speech::{Speech, returned};
+use import_forms::said::Said;
+use import_forms::speech::returned;
 use std::alloc::{AllocError, Global};
 use std::collections::HashMap;
 
@@ -49,14 +49,13 @@ fn last_or(last: &HashMap<u64, usize>, thread: u64, place: usize) -> usize
 }
 
 // The line in which the call began that acts at this one, as it is known which line is each thread's last before it.
-fn began_at<'a>(last: &HashMap<u64, usize>, speeches: &[Speech<'a>], place: usize) -> usize
-    requires place { place < length speeches.now }
-    requires last { (t : ℕ) → get nat_eq last.now t ≡ last_line (map spoken speeches.now) place t }
-    ensures { result ≡ began_at (map spoken speeches.now) place }
+fn began_at(last: &HashMap<u64, usize>, lines: &Lines, place: usize) -> usize
+    requires place { place < length lines.now }
+    requires last { (t : ℕ) → get nat_eq last.now t ≡ last_line lines.now place t }
+    ensures { result ≡ began_at lines.now place }
 {
-    let speech = speeches[place];
-    match returned(speech.text) {
-        Some(_) => last_or(last, speech.thread, place),
+    match returned(half_text(lines, place)) {
+        Some(_) => last_or(last, lines.thread(place), place),
         None => place,
     }
 }
@@ -83,15 +82,15 @@ pub(crate) fn starts_program(said: Said) -> bool
 }
 
 // What this line tells of a thread that was made.
-fn telling_of<'a>(
+fn telling_of(
     last: &HashMap<u64, usize>,
-    speeches: &[Speech<'a>],
+    lines: &Lines,
     place: usize,
     said: Said,
 ) -> Option<Telling>
-    requires place { place < length speeches.now }
-    requires last { (t : ℕ) → get nat_eq last.now t ≡ last_line (map spoken speeches.now) place t }
-    ensures { result ≡ telling_of (map spoken speeches.now) place (Some said) }
+    requires place { place < length lines.now }
+    requires last { (t : ℕ) → get nat_eq last.now t ≡ last_line lines.now place t }
+    ensures { result ≡ telling_of lines.now place (Some said) }
 {
     match said {
         Said::Makes {
@@ -100,10 +99,10 @@ fn telling_of<'a>(
             joins,
         } => Some(Telling {
             child: thread,
-            parent: speeches[place].thread,
+            parent: lines.thread(place),
             shares,
             joins,
-            began: began_at(last, speeches, place),
+            began: began_at(last, lines, place),
         }),
         Said::Asks(_)
         | Said::Breaks(_)
@@ -121,37 +120,35 @@ fn telling_of<'a>(
 }
 
 /// What the call says that acts at this line, if one does.
-pub(crate) fn said_at<'a>(
-    speeches: &[Speech<'a>],
+#[tactic(auto, using(crate::proofs::HalfLemmas::said_told))]
+pub(crate) fn said_at(
+    lines: &Lines,
     place: usize,
-    text: &mut Vec<u8>,
+    room: &mut Room,
 ) -> Result<Option<Said>, AllocError>
-    requires { place < length speeches.now }
-    ensures { IfOk result (λ said. said ≡ said_at (map spoken speeches.now) place) }
+    requires { place < length lines.now }
+    ensures { IfOk result (λ said. said ≡ said_at lines.now place) }
 {
-    if put_call(speeches, place, text)? {
-        Ok(Some(read_call(text.as_slice())))
-    } else {
-        Ok(None)
-    }
+    let said = told_at(lines, place, room)?;
+    Ok(said)
 }
 
 // Notes what this line tells of a thread that was made.
-fn hear_telling<'a>(
+fn hear_telling(
     tellings: &mut Vec<Telling>,
     last: &HashMap<u64, usize>,
-    speeches: &[Speech<'a>],
+    lines: &Lines,
     place: usize,
     said: Option<Said>,
 ) -> Result<(), AllocError>
-    requires place { place < length speeches.now }
-    requires last { (t : ℕ) → get nat_eq last.now t ≡ last_line (map spoken speeches.now) place t }
-    ensures { OnOk result (tellings.new.items ≡ with_telling tellings.old.items (telling_of (map spoken speeches.now) place said)) }
+    requires place { place < length lines.now }
+    requires last { (t : ℕ) → get nat_eq last.now t ≡ last_line lines.now place t }
+    ensures { OnOk result (tellings.new.items ≡ with_telling tellings.old.items (telling_of lines.now place said)) }
 {
     let Some(said) = said else {
         return Ok(());
     };
-    match telling_of(last, speeches, place, said) {
+    match telling_of(last, lines, place, said) {
         Some(telling) => {
             tellings.push(telling)?;
             Ok(())
@@ -201,32 +198,32 @@ fn note_last(last: &mut HashMap<u64, usize>, thread: u64, place: usize) -> Resul
 }
 
 // Notes what one more line tells.
-fn hear_line<'a>(
+fn hear_line(
     heard: &mut Heard,
-    speeches: &[Speech<'a>],
+    lines: &Lines,
     place: usize,
-    text: &mut Vec<u8>,
+    room: &mut Room,
 ) -> Result<(), AllocError>
-    requires place { place < length speeches.now }
-    requires heard { Hears (map spoken speeches.now) place heard.old }
-    ensures { OnOk result (Hears (map spoken speeches.now) (place + 1) heard.new) }
+    requires place { place < length lines.now }
+    requires heard { Hears lines.now place heard.old }
+    ensures { OnOk result (Hears lines.now (place + 1) heard.new) }
 {
-    let said = said_at(speeches, place, text)?;
-    let thread = speeches[place].thread;
-    hear_telling(&mut heard.tellings, &heard.last, speeches, place, said)?;
+    let said = said_at(lines, place, room)?;
+    let thread = lines.thread(place);
+    hear_telling(&mut heard.tellings, &heard.last, lines, place, said)?;
     hear_start(&mut heard.starts, thread, place, said)?;
     note_last(&mut heard.last, thread, place)?;
     Ok(())
 }
 
 /// What all lines tell.
-pub(crate) fn hear_all<'a, M: Meter>(
+pub(crate) fn hear_all<M: Meter>(
     alloc: Global,
-    speeches: &[Speech<'a>],
-    text: &mut Vec<u8>,
+    lines: &Lines,
+    room: &mut Room,
     meter: &mut M,
 ) -> Result<Heard, AllocError>
-    ensures { IfOk result (Hears (map spoken speeches.now) (length speeches.now)) }
+    ensures { IfOk result (Hears lines.now (length lines.now)) }
 {
     let mut heard = Heard {
         tellings: Vec::new(alloc),
@@ -234,9 +231,9 @@ pub(crate) fn hear_all<'a, M: Meter>(
         last: HashMap::new(alloc),
     };
     let mut at = 0;
-    'lines: while at < speeches.len() {
-        tell_of(meter, 1, at, speeches.len());
-        hear_line(&mut heard, speeches, at, text)?;
+    'lines: while at < lines.len() {
+        tell_of(meter, 1, at, lines.len());
+        hear_line(&mut heard, lines, at, room)?;
         at += 1;
     }
     Ok(heard)

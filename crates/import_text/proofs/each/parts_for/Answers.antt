@@ -1,6 +1,5 @@
 use Rattle.std.proofs.Common.{◌<◌, ◌^◌, arith, map, ap, sym, subst, ◌∙◌}
 use Rattle.std.specs.Prelude.{All}
-use Rattle.import_forms.specs.Speech.{spoken}
 use Rattle.import_text.specs.Counts.{total}
 use Rattle.import_text.specs.Each.{part_all, parted}
 use Rattle.import_text.specs.Taking.{so_far}
@@ -9,7 +8,7 @@ use Rattle.import_text.proofs.each.parts_for.Goals as goal
 
 pub processes-preserved : goal.processes-preserved
 processes-preserved g c =
-    let all = map spoken c.args.speeches.now in
+    let all = c.args.lines.now in
     record {
       within = omega (arith, c.processes-test.true);
       value = ap (map parted) c.in_ok-push.ensures.items ∙ told_more parted (part_all (so_far c.args.start.now) all)

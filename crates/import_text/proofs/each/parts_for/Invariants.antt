@@ -1,6 +1,5 @@
 use Rattle.std.proofs.Common.{◌≡◌, ◌≤◌, ◌-◌, ◌<◌, ◌^◌, map, length, take}
 use Rattle.std.specs.Prelude.{All}
-use Rattle.import_forms.specs.Speech.{spoken}
 use Rattle.import_text.specs.Counts.{total}
 use Rattle.import_text.specs.Each.{part_all, parted}
 use Rattle.import_text.specs.Taking.{so_far}
@@ -9,7 +8,7 @@ use Rattle.import_text.proofs.each.parts_for.Given as goal
 abbrev pub invariant-processes : goal.invariant-processes
 invariant-processes g l = record {
   within : l.at ≤ length l.processes;
-  value : map parted l.parts.items ≡ map (part_all (so_far l.start) (map spoken l.speeches)) (take l.at l.processes);
+  value : map parted l.parts.items ≡ map (part_all (so_far l.start) l.lines) (take l.at l.processes);
   few : All (λ p. total p.counts < 2 ^ 64) l.parts.items;
 }
 

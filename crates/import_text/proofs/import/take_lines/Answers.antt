@@ -1,22 +1,18 @@
-use Rattle.std.proofs.Common.{arith, map, ap, sym, ◌∙◌, eqb}
-use Rattle.import_forms.specs.Speech.{spoken}
+use Rattle.std.proofs.Common.{arith, ap, sym, ◌∙◌, eqb}
 use Rattle.import_text.specs.Imported.{is_ours, taken_if}
 use Rattle.import_text.specs.Made.{fork_of, maker_of, past_of, process_of}
 use Rattle.import_text.specs.Taking.{so_far}
-use Rattle.import_text.proofs.JoinLemmas.{map-get}
 use Rattle.import_text.proofs.TakingLemmas.{taken_more}
 use Rattle.import_text.proofs.import.take_lines.Goals as goal
 
 pub lines-preserved : goal.lines-preserved
 lines-preserved g c =
-    let all = map spoken c.args.speeches.now in
-    let here = map-get spoken c.args.speeches.now c.lines.at _ c.lines-test.true in
+    let all = c.args.lines.now in
     let ours = ap (λ h. eqb c.space_at.result h) c.past_of.ensures
     ∙ ap (λ p. eqb p (past_of c.args.made.now c.lines.at c.args.process)) c.space_at.ensures
-    ∙ ap (λ t. is_ours c.args.made.now c.args.process t c.lines.at) c.recall-known.ensures.thread
-    ∙ ap (λ s. is_ours c.args.made.now c.args.process s.0 c.lines.at) (sym here) in
+    ∙ ap (λ t. is_ours c.args.made.now c.args.process t c.lines.at) (c.recall-known.ensures.thread ∙ c.thread.ensures) in
     record {
-      within = omega (arith, c.lines-test.true);
+      within = omega (arith, c.lines-test.true, c.len.ensures);
       value = taken_more (so_far c.args.start.now) all c.args.made.now c.args.process c.lines.at _ _ _ _ _ c.lines.invariant.value
           (c.in_ok-fate.ensures ∙ ap (λ b. taken_if b (so_far c.args.start.now) (so_far c.lines.taken) all c.lines.at) ours) c.and-counts.ensures.value;
       known = c.recall-known.ensures.known ∙ ap (process_of c.args.made.now) (sym c.recall-known.ensures.thread);

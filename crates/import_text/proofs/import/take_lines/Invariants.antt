@@ -1,15 +1,14 @@
-use Rattle.std.proofs.Common.{◌≡◌, ◌≤◌, ◌-◌, map, length}
+use Rattle.std.proofs.Common.{◌≡◌, ◌≤◌, ◌-◌, length}
 use Rattle.import_text.specs.Counts.{total}
 use Rattle.import_text.specs.Imported.{imported}
 use Rattle.import_text.specs.Made.{fork_of, maker_of, process_of}
-use Rattle.import_forms.specs.Speech.{spoken}
 use Rattle.import_text.specs.Taking.{so_far}
 use Rattle.import_text.proofs.import.take_lines.Given as goal
 
 abbrev pub invariant-lines : goal.invariant-lines
 invariant-lines g l = record {
-  within : l.at ≤ length l.speeches;
-  value : (so_far l.taken, l.counts) ≡ imported (so_far l.start) (map spoken l.speeches) l.made l.process l.at;
+  within : l.at ≤ length l.lines;
+  value : (so_far l.taken, l.counts) ≡ imported (so_far l.start) l.lines l.made l.process l.at;
   known : l.known.process ≡ process_of l.made l.known.thread;
   own : l.known.own ≡ fork_of (maker_of l.made (process_of l.made l.known.thread));
   first : l.own ≡ fork_of (maker_of l.made l.process);
@@ -17,4 +16,4 @@ invariant-lines g l = record {
 }
 
 abbrev pub decreases-lines : goal.decreases-lines
-decreases-lines g l = length l.speeches - l.at
+decreases-lines g l = length l.lines - l.at

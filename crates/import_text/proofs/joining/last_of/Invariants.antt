@@ -1,12 +1,11 @@
-use Rattle.std.proofs.Common.{◌≡◌, ◌≤◌, map}
+use Rattle.std.proofs.Common.{◌≡◌, ◌≤◌}
 use Rattle.import_text.specs.Joining.{last_of}
-use Rattle.import_forms.specs.Speech.{spoken}
 use Rattle.import_text.proofs.joining.last_of.Given as goal
 
 abbrev pub invariant-earlier : goal.invariant-earlier
 invariant-earlier l = record {
   within : l.at ≤ l.place;
-  same : last_of l.thread (map spoken l.speeches) l.at ≡ last_of l.thread (map spoken l.speeches) l.place;
+  same : last_of l.thread l.lines l.at ≡ last_of l.thread l.lines l.place;
 }
 
 abbrev pub decreases-earlier : goal.decreases-earlier

@@ -1,18 +1,14 @@
-use Rattle.std.proofs.Common.{Err, ap, refl, sym, subst}
+use Rattle.std.proofs.Common.{[], Err, ap, refl}
 use Rattle.trace_io.proofs.IoLemmas.{tells_unread}
 use Rattle.trace_io.proofs.LineLemmas.{reads_map}
-use Rattle.import_text.specs.Ends.{ImportEnds, made_text}
+use Rattle.import_text.specs.Ends.{made_text}
 use Rattle.import_text.specs.Taking.{so_far}
 use Rattle.import_text.proofs.EndLemmas.{stopped}
 use Rattle.import_text.proofs.log.import_log.Goals as goal
 
 pub returns-in-Ok-clause-ends : goal.returns-in-Ok-clause-ends
 returns-in-Ok-clause-ends g c =
-    let old = g.W.Sink.contents c.args.writer.now in
-    let new = g.W.Sink.contents c.write_import.new.writer in
-    reads_map _ _ _ _ c.in-Ok.ensures.text
-    (λ xs ys k e. subst (λ i. ImportEnds (so_far c.args.start.now) c.args.choice i old new c.write_import.result)
-    (sym e) c.write_import.ensures.ends)
+    reads_map _ _ _ _ c.in-Ok.ensures.heard (λ xs ys k heard. c.write_import.ensures.ends xs (heard [] c.new-log.ensures))
 
 pub returns-in-Err-clause-ends : goal.returns-in-Err-clause-ends
 returns-in-Err-clause-ends g c =

@@ -1,11 +1,10 @@
-use Rattle.std.proofs.Common.{◌≡◌, ◌≤◌, ◌-◌, map, length, drop}
-use Rattle.import_forms.specs.Speech.{spoken}
+use Rattle.std.proofs.Common.{◌≡◌, ◌≤◌, ◌-◌, length, drop}
 use Rattle.import_text.specs.Made.{with_makings}
 use Rattle.import_text.proofs.made.add_makings.Given as goal
 
 abbrev pub invariant-tellings : goal.invariant-tellings
 invariant-tellings l =
-    let all = map spoken l.speeches in
+    let all = l.lines in
     record {
       within : l.at ≤ length l.tellings;
       made : with_makings all l.made (drop l.at l.tellings) ≡ with_makings all l.initial.made l.tellings;

@@ -1,22 +1,19 @@
-use Rattle.std.proofs.Common.{◌<◌, length, map, arith, sym, ap, ◌∙◌, eq-eqb}
-use Rattle.import_forms.specs.Speech.{spoken}
-use Rattle.import_text.proofs.JoinLemmas.{map-get, map-len, ne-eqb}
+use Rattle.std.proofs.Common.{◌<◌, length, arith, sym, ◌∙◌, eq-eqb}
+use Rattle.import_text.proofs.JoinLemmas.{ne-eqb}
 use Rattle.import_text.proofs.ProcessLemmas.{there_here, there_more}
 use Rattle.import_text.proofs.processes.has_thread.Goals as goal
 
-pub returns-then-speeches-at : goal.returns-then-speeches-at
-returns-then-speeches-at c =
-    let all = c.args.speeches.now in
-    let here = map-get spoken all c.lines.at _ c.lines-test.true in
-    let low : c.lines.at < length (map spoken all) = omega (arith, c.lines-test.true, map-len spoken all) in
-    sym (sym c.lines.invariant.same ∙ there_here _ (map spoken all) _ low (eq-eqb _ _ (ap (λ s. s.0) here ∙ c.if-speeches-at.true)))
+pub returns-then-thread : goal.returns-then-thread
+returns-then-thread c =
+    let all = c.args.lines.now in
+    let low : c.lines.at < length all = omega (arith, c.lines-test.true, c.len.ensures) in
+    sym (sym c.lines.invariant.same ∙ there_here _ all _ low (eq-eqb _ _ (sym c.thread.ensures ∙ c.if-thread.true)))
 
 pub lines-preserved : goal.lines-preserved
 lines-preserved c =
-    let all = c.args.speeches.now in
-    let here = map-get spoken all c.lines.at _ c.lines-test.true in
-    let low : c.lines.at < length (map spoken all) = omega (arith, c.lines-test.true, map-len spoken all) in
+    let all = c.args.lines.now in
+    let low : c.lines.at < length all = omega (arith, c.lines-test.true, c.len.ensures) in
     record {
-      within = omega (arith, c.lines-test.true);
-      same = there_more _ (map spoken all) _ low (ne-eqb _ _ (λ e. c.if-speeches-at.false (sym (ap (λ s. s.0) here) ∙ e))) ∙ c.lines.invariant.same;
+      within = omega (arith, low);
+      same = there_more _ all _ low (ne-eqb _ _ (λ e. c.if-thread.false (c.thread.ensures ∙ e))) ∙ c.lines.invariant.same;
     }

@@ -1,9 +1,8 @@
-use Rattle.std.proofs.Common.{length, map, sym, ◌∙◌}
-use Rattle.import_forms.specs.Speech.{spoken}
+use Rattle.std.proofs.Common.{length, sym, ◌∙◌}
 use Rattle.import_text.proofs.EachLemmas.{last_low}
 use Rattle.import_text.proofs.programs.program_of.Goals as goal
 
 pub shown_at-requires : goal.shown_at-requires
 shown_at-requires c =
-    last_low (map spoken c.args.speeches.now) c.args.owned.now (length c.args.speeches.now) c.args.number c.in-Some.place.now
+    last_low (c.args.lines.now) c.args.owned.now (length c.args.lines.now) c.args.number c.in-Some.place.now
     (sym (c.requires c.args.number) ∙ sym c.in-Some.ensures.value)

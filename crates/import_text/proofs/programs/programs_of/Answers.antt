@@ -1,12 +1,11 @@
 use Rattle.std.proofs.Common.{arith, map, ap, sym, ◌∙◌}
-use Rattle.import_forms.specs.Speech.{spoken}
 use Rattle.import_text.specs.Programs.{program_name, program_of}
 use Rattle.import_text.proofs.EachLemmas.{told_more}
 use Rattle.import_text.proofs.programs.programs_of.Goals as goal
 
 pub processes-preserved : goal.processes-preserved
 processes-preserved c =
-    let all = map spoken c.args.speeches.now in
+    let all = c.args.lines.now in
     record {
       within = omega (arith, c.processes-test.true);
       value = ap (map program_name) c.in_ok-push.ensures.items ∙ told_more program_name (λ p. program_of all c.args.owned.now p.number)

@@ -1,12 +1,11 @@
 use Rattle.std.proofs.Common.{◌≡◌, ◌≤◌, ◌-◌, map, length, take}
-use Rattle.import_forms.specs.Speech.{spoken}
 use Rattle.import_text.specs.Programs.{program_name, programs_of}
 use Rattle.import_text.proofs.programs.programs_of.Given as goal
 
 abbrev pub invariant-processes : goal.invariant-processes
 invariant-processes l = record {
   within : l.at ≤ length l.processes;
-  value : map program_name l.all.items ≡ programs_of (map spoken l.speeches) l.owned (take l.at l.processes);
+  value : map program_name l.all.items ≡ programs_of l.lines l.owned (take l.at l.processes);
 }
 
 abbrev pub decreases-processes : goal.decreases-processes

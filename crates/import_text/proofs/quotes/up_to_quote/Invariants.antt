@@ -1,6 +1,6 @@
 use Rattle.std.proofs.Common.{◌≡◌, ◌≤◌, ◌-◌, ◌++◌, length, drop, take}
-use Rattle.import_text.specs.Programs.{up_to_quote}
-use Rattle.import_text.proofs.programs.up_to_quote.Given as goal
+use Rattle.import_text.specs.Quotes.{up_to_quote}
+use Rattle.import_text.proofs.quotes.up_to_quote.Given as goal
 
 abbrev pub invariant-bytes : goal.invariant-bytes
 invariant-bytes l = record {

@@ -1,0 +1,132 @@
+//! The lines of a text, of any length, heard one after another as they are read.
+ghost use Rattle.std.specs.Prelude.{◌≡◌, ◌≢◌, ◌+◌, ◌^◌, ◌<◌, ◌≤◌, ◌++◌, ℕ, Err, IfOk, List, OnErr, OnOk, drop, length};
+ghost use Rattle.trace_io.specs.Lines.{lines_of};
+ghost use Rattle.trace_io.specs.Source.{Gives, HasEnded, HasStopped, Reads, read_bytes};
+ghost use Rattle.import_text.specs.Reading.{HearsMore, IsBreak};
+
+use std::alloc::{AllocError, Global};
+use trace_io::IoFault;
+use trace_io::lines::front_line;
+use trace_io::source::{ReadFailed, Source};
+
+/// How much is read at once at the most.
+const CHUNK: usize = 65536;
+
+/// Who hears lines.
+pub trait Listener {
+    ghost use Rattle.std.specs.Prelude.{ℕ, List, ◌++◌, ◌∷◌, [], OnOk};
+
+    // It has heard these lines.
+    ghost has_heard: { Self → List (List ℕ) → Type 0 };
+
+    /// Hears one more line.
+    fn hear(&mut self, line: &[u8]) -> Result<(), AllocError>
+        ensures { OnOk result ((lines : List (List ℕ)) → has_heard self.old lines → has_heard self.new (lines ++ line.now ∷ [])) };
+}
+
+// How many bytes there are up to the last newline, with it.
+fn last_break(text: &[u8]) -> usize
+    ensures { IsBreak text.now result }
+{
+    let mut at = text.len();
+    'bytes: while at > 0 {
+        if text[at - 1] == b'\n' {
+            return at;
+        }
+        at -= 1;
+    }
+    0
+}
+
+// Hears all lines of a text.
+fn hear_text<L: Listener>(listener: &mut L, text: &[u8]) -> Result<(), AllocError>
+    ensures { OnOk result ((lines : List (List ℕ)) → L.has_heard listener.old lines
+        → L.has_heard listener.new (lines ++ lines_of text.now)) }
+{
+    let mut rest = text;
+    'lines: while !rest.is_empty() {
+        let (line, more) = front_line(rest);
+        listener.hear(line)?;
+        rest = more;
+    }
+    Ok(())
+}
+
+// Room for what one read gives.
+fn new_chunk(alloc: Global) -> Result<Vec<u8>, AllocError>
+    ensures { IfOk result (λ chunk. length chunk.items ≡ 65536) }
+{
+    let chunk = vec![in alloc; 0u8; CHUNK]?;
+    Ok(chunk)
+}
+
+// Reads into the chunk.
+fn read_chunk<S: Source>(chunk: &mut Vec<u8>, reader: &mut S) -> Result<usize, ReadFailed>
+    requires { 0 < length chunk.old.items }
+    ensures same { length chunk.new.items ≡ length chunk.old.items }
+    ensures room { IfOk result (λ n. n ≤ length chunk.new.items) }
+    ensures bytes { Gives (S.stream reader.old) (S.stream reader.new)
+        (read_bytes result (drop 0 chunk.new.items)) }
+    ensures end { IfOk result (λ n. n ≡ 0 → HasEnded (S.stream reader.new)) }
+    ensures count { OnOk result (S.reads reader.new ≡ S.reads reader.old + 1) }
+    ensures limit { OnOk result (S.reads reader.old < 2 ^ 32) }
+    ensures stopped { OnErr result (HasStopped (S.failed reader.new) (S.reads reader.new)) }
+{
+    reader.read(&mut chunk[0..])
+}
+
+// Hears all whole lines of what is held and of these bytes behind it, and holds the others.
+fn hear_more<L: Listener>(
+    listener: &mut L,
+    held: &mut Vec<u8>,
+    bytes: &[u8],
+) -> Result<(), AllocError>
+    ensures { OnOk result (HearsMore L.has_heard listener.old listener.new (held.old.items ++ bytes.now) held.new.items) }
+{
+    let end = last_break(bytes);
+    if end == 0 {
+        held.extend_from_slice(bytes)?;
+        return Ok(());
+    }
+    let (whole, part) = bytes.split_at(end);
+    held.extend_from_slice(whole)?;
+    hear_text(listener, held.as_slice())?;
+    held.clear();
+    held.extend_from_slice(part)?;
+    Ok(())
+}
+
+/// Hears all lines of what is read until the input ends. Where a read fails, or there is no memory, some of it was read.
+pub fn read_lines<S: Source, L: Listener>(
+    alloc: Global,
+    reader: &mut S,
+    listener: &mut L,
+) -> Result<(), IoFault>
+    ensures heard { OnOk result (Reads (S.stream reader.old) (S.stream reader.new) (λ input unread.
+        (lines : List (List ℕ)) → L.has_heard listener.old lines → L.has_heard listener.new (lines ++ lines_of input))) }
+    ensures kept { OnErr result
+        (Reads (S.stream reader.old) (S.stream reader.new) (λ input unread. input ≡ input)) }
+    ensures read { result ≡ Err IoFault.ReadFailed →
+        HasStopped (S.failed reader.new) (S.reads reader.new) }
+    ensures write { result ≢ Err IoFault.WriteFailed }
+{
+    let Ok(mut chunk) = new_chunk(alloc) else {
+        return Err(IoFault::NoMemory);
+    };
+    let mut held: Vec<u8> = Vec::new(alloc);
+    'reads: loop {
+        let count = match read_chunk(&mut chunk, reader) {
+            Ok(count) => count,
+            Err(_) => return Err(IoFault::ReadFailed),
+        };
+        if count == 0 {
+            return match hear_text(listener, held.as_slice()) {
+                Ok(()) => Ok(()),
+                Err(_) => Err(IoFault::NoMemory),
+            };
+        }
+        if let Err(_) = hear_more(listener, &mut held, &chunk[..count]) {
+            return Err(IoFault::NoMemory);
+        }
+    }
+}
