@@ -479,9 +479,11 @@ file's line, as import writes it.
             pages on, and the picture says so. Not beside --steps, --from or
             --to
 
-What live writes is a trace once its tickets and outcomes are gone:
+A line may be a note (help notes). Its ticket and its outcome are left out, and
+the lines count in the order in which they stand, so what threads did has a
+picture:
 
-  radixvm live SCRIPT | sed 's/^[0-9]* //; s/ = .*//' | radixvm picture
+  radixvm live SCRIPT | radixvm picture
 
 The trace is held in memory.
 

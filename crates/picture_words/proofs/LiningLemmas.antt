@@ -1,5 +1,5 @@
 -- The picture of the lines of a trace, written
-use Rattle.std.proofs.Common.{◌≡◌, ℕ, ◌⊎◌, inl, inr, ◌≤◌, ◌++◌, [], List, Option, Some, Result, Ok, Err, IfOk, IfErr, ap, append-nil, append_assoc, subst, sym, ◌∙◌}
+use Rattle.std.proofs.Common.{◌≡◌, ℕ, ◌⊎◌, inl, inr, ◌≤◌, ◌++◌, [], List, Option, Some, Result, Ok, Err, IfOk, IfErr, subst, sym, ◌∙◌}
 use Rattle.std.proofs.KnownBytes.{Keeps-refl}
 use Rattle.std.specs.Io.KnownBytes.{Keeps}
 use Rattle.trace_io.specs.Lines.{lines_of}
@@ -12,7 +12,8 @@ use Rattle.core_steps.specs.declared.setup.CallLimit.TheVariants.{Usual}
 use Rattle.state_text.specs.Fronts.{IsFront}
 use Rattle.columns.specs.Columns.{Columned, columned}
 use Rattle.line_fronts.specs.Reading.{IsEnough, newlines}
-use Rattle.line_fronts.proofs.Fronts.{first_lines}
+use Rattle.note_lines.specs.Notes.{traced_text}
+use Rattle.note_lines.proofs.TracedFronts.{traced_front}
 use Rattle.watched.specs.Watching.{makes}
 use Rattle.picture_words.specs.Lining.{Drawn, FailsUpTo, Lined, begun_at, lacking_from, lacking_of, lines_picture, picture_drawn}
 use Rattle.picture_words.specs.Picture.{Fails, ShowsText, TextEnds, Watched}
@@ -41,22 +42,26 @@ lines_drawn lines input front old new one r lacks (Err f) is lacking begun w ok 
 
 -- ---- a text that was read up to a line
 
-front_more : (n : ℕ) (text more front : List ℕ) → (more ≡ []) ⊎ (n ≤ newlines text) → IsFront (Some n) text front → IsFront (Some n) (text ++ more) front
-front_more n text more front (inl none) is = subst (λ t. IsFront (Some n) t front) (sym (append-nil text) ∙ ap (λ l. text ++ l) (sym none)) is
-front_more n text more front (inr many) ((rest, e), ls) =
-    ((rest ++ more, ap (λ l. l ++ more) e ∙ append_assoc front rest more), ls ∙ sym (first_lines n text more many))
+front_more : (n : ℕ) (text more front : List ℕ) → (more ≡ []) ⊎ (n ≤ newlines text) → IsFront (Some n) (traced_text text) front
+    → IsFront (Some n) (traced_text (text ++ more)) front
+front_more n text more front enough is = traced_front n text more front enough is
 
-lined_more : (lines : Lines) (text more : List ℕ) (d : Drawn) → (more ≡ []) ⊎ (lines.last ≤ newlines text) → Lined lines text d → Lined lines (text ++ more) d
+lined_more : (lines : Lines) (text more : List ℕ) (d : Drawn) → (more ≡ []) ⊎ (lines.last ≤ newlines text) → Lined lines (traced_text text) d
+    → Lined lines (traced_text (text ++ more)) d
 lined_more lines text more d enough h = record { front = front_more lines.last text more d.front enough h.front; watched = h.watched }
 
-fails_more : (lines : Lines) (text more : List ℕ) (f : TraceFault) → (more ≡ []) ⊎ (lines.last ≤ newlines text) → FailsUpTo (Some lines.last) text f
-    → FailsUpTo (Some lines.last) (text ++ more) f
+fails_more : (lines : Lines) (text more : List ℕ) (f : TraceFault) → (more ≡ []) ⊎ (lines.last ≤ newlines text)
+    → FailsUpTo (Some lines.last) (traced_text text) f → FailsUpTo (Some lines.last) (traced_text (text ++ more)) f
 fails_more lines text more f enough (inl (front, is, h)) = inl (front, front_more lines.last text more front enough is, h)
 fails_more lines text more f enough (inr h) = inr h
 
+-- how picturing what a text tells ends
+abbrev pub LinesEnd : Lines → List ℕ → Option (List ℕ) → Option (List ℕ) → Result (Option ℕ) TraceFault → Type 0
+LinesEnd lines text old new ended =
+    TextEnds (Lined lines (traced_text text)) (FailsUpTo (Some lines.last) (traced_text text)) (lacking_of lines) picture_drawn old new ended
+
 drawn_more : (lines : Lines) (text more : List ℕ) (old new : Option (List ℕ)) (ended : Result (Option ℕ) TraceFault)
-    → (more ≡ []) ⊎ (lines.last ≤ newlines text) → TextEnds (Lined lines text) (FailsUpTo (Some lines.last) text) (lacking_of lines) picture_drawn old new ended
-    → TextEnds (Lined lines (text ++ more)) (FailsUpTo (Some lines.last) (text ++ more)) (lacking_of lines) picture_drawn old new ended
+    → (more ≡ []) ⊎ (lines.last ≤ newlines text) → LinesEnd lines text old new ended → LinesEnd lines (text ++ more) old new ended
 drawn_more lines text more old new (Ok x) enough (d, h, is, w) = (d, lined_more lines text more d enough h, is, w)
 drawn_more lines text more old new (Err f) enough (inl (why, kept)) = inl (fails_more lines text more f enough why, kept)
 drawn_more lines text more old new (Err f) enough (inr (failed, inl kept)) = inr (failed, inl kept)
@@ -64,13 +69,11 @@ drawn_more lines text more old new (Err f) enough (inr (failed, inr (d, h, front
 
 -- what comes of a text comes of the input that it is the front of
 pub lines_read : (s t : Stream) (lines : Lines) (text : List ℕ) (old new : Option (List ℕ)) (ended : Result (Option ℕ) TraceFault)
-    → Reads s t (IsEnough lines.last text) → TextEnds (Lined lines text) (FailsUpTo (Some lines.last) text) (lacking_of lines) picture_drawn old new ended
-    → Reads s t (λ input unread. TextEnds (Lined lines input) (FailsUpTo (Some lines.last) input) (lacking_of lines) picture_drawn old new ended)
+    → Reads s t (IsEnough lines.last text) → LinesEnd lines text old new ended → Reads s t (λ input unread. LinesEnd lines input old new ended)
 lines_read s t lines text old new ended r h = reads_map s t _ _ r (λ xs ys k e.
-    subst (λ i. TextEnds (Lined lines i) (FailsUpTo (Some lines.last) i) (lacking_of lines) picture_drawn old new ended) (sym e.is)
-    (drawn_more lines text ys old new ended e.enough h))
+    subst (λ i. LinesEnd lines i old new ended) (sym e.is) (drawn_more lines text ys old new ended e.enough h))
 
 pub lines_unread : (s t : Stream) (lines : Lines) (old : Option (List ℕ)) (f : TraceFault) → (f ≡ NoMemory) ⊎ (f ≡ ReadFailed)
     → Reads s t (λ input unread. input ≡ input)
-    → Reads s t (λ input unread. TextEnds (Lined lines input) (FailsUpTo (Some lines.last) input) (lacking_of lines) picture_drawn old old (Err f))
+    → Reads s t (λ input unread. LinesEnd lines input old old (Err f))
 lines_unread s t lines old f why r = reads_map s t _ _ r (λ xs ys k is. inl (inr why, Keeps-refl old))

@@ -21,7 +21,7 @@ use Rattle.word_parts.specs.declared.asked.Drawing.{Drawing}
 use Rattle.word_parts.specs.declared.asked.Drawing.TheVariants.{Lines, Steps, Lives, State, Objects, Page, Changes, Listing}
 use Rattle.picture_words.specs.Listing.{FailsToList, Listed}
 use Rattle.core_steps.specs.declared.setup.CallLimit.{CallLimit}
-use Rattle.picture_words.specs.Picture.{Fails, PictureEnds, Records, ShowsText, TextEnds, Watched, in_memory}
+use Rattle.picture_words.specs.Picture.{Fails, PictureEnds, Records, ShowsText, TextEnds, Watched, in_memory, pictured_text}
 
 -- what one who watches may be after each step
 abbrev After : Type 0 → Type 1
@@ -85,21 +85,29 @@ none_drawn after one lacks text limit input old f why = inl (why, Keeps-refl old
 
 -- a picture of the text that was read
 pub picture_read : (s t : Stream) (drawing : Drawing) (text : List ℕ) (old new : Option (List ℕ)) (ended : Result (Option ℕ) TraceFault)
-    → Reads s t (λ input unread. input ≡ text) → PictureEnds drawing text old new ended → Reads s t (λ input unread. PictureEnds drawing input old new ended)
+    → Reads s t (λ input unread. input ≡ text) → PictureEnds drawing (pictured_text drawing text) old new ended
+    → Reads s t (λ input unread. PictureEnds drawing (pictured_text drawing input) old new ended)
 picture_read s t drawing text old new ended r h =
-    reads_map s t _ _ r (λ xs ys k is. subst (λ (i : List ℕ). PictureEnds drawing i old new ended) (sym is) h)
+    reads_map s t _ _ r (λ xs ys k is. subst (λ (i : List ℕ). PictureEnds drawing (pictured_text drawing i) old new ended) (sym is) h)
 
--- none of a text that wasn't
+-- none for want of memory, or of a text that couldn't be read
+picture_failed : (drawing : Drawing) (text : List ℕ) (old : Option (List ℕ)) (f : TraceFault) → (f ≡ NoMemory) ⊎ (f ≡ ReadFailed)
+    → PictureEnds drawing text old old (Err f)
+picture_failed (Lines lines) text old f why = inl (inr why, Keeps-refl old)
+picture_failed (Steps steps) text old f why = inl (inr why, Keeps-refl old)
+picture_failed (State at) text old f why = inl (inr why, Keeps-refl old)
+picture_failed (Objects at) text old f why = inl (inr why, Keeps-refl old)
+picture_failed Page text old f why = inl (inr why, Keeps-refl old)
+picture_failed (Changes shows) text old f why = inl (inr why, Keeps-refl old)
+picture_failed Lives text old f why = inl (inr why, Keeps-refl old)
+picture_failed (Listing limit) text old f why = inl (inr why, Keeps-refl old)
+
+pub picture_wanting : (drawing : Drawing) (text : List ℕ) (old : Option (List ℕ)) → PictureEnds drawing text old old (Err NoMemory)
+picture_wanting drawing text old = picture_failed drawing text old NoMemory (inl refl)
+
 pub picture_unread : (s t : Stream) (drawing : Drawing) (old : Option (List ℕ)) (f : TraceFault) → (f ≡ NoMemory) ⊎ (f ≡ ReadFailed)
-    → Reads s t (λ input unread. input ≡ input) → Reads s t (λ input unread. PictureEnds drawing input old old (Err f))
-picture_unread s t (Lines lines) old f why r = reads_map s t _ _ r (λ xs ys k is. inl (inr why, Keeps-refl old))
-picture_unread s t (Steps steps) old f why r = reads_map s t _ _ r (λ xs ys k is. inl (inr why, Keeps-refl old))
-picture_unread s t (State at) old f why r = reads_map s t _ _ r (λ xs ys k is. inl (inr why, Keeps-refl old))
-picture_unread s t (Objects at) old f why r = reads_map s t _ _ r (λ xs ys k is. inl (inr why, Keeps-refl old))
-picture_unread s t Page old f why r = reads_map s t _ _ r (λ xs ys k is. inl (inr why, Keeps-refl old))
-picture_unread s t (Changes shows) old f why r = reads_map s t _ _ r (λ xs ys k is. inl (inr why, Keeps-refl old))
-picture_unread s t Lives old f why r = reads_map s t _ _ r (λ xs ys k is. inl (inr why, Keeps-refl old))
-picture_unread s t (Listing limit) old f why r = reads_map s t _ _ r (λ xs ys k is. inl (inr why, Keeps-refl old))
+    → Reads s t (λ input unread. input ≡ input) → Reads s t (λ input unread. PictureEnds drawing (pictured_text drawing input) old old (Err f))
+picture_unread s t drawing old f why r = reads_map s t _ _ r (λ xs ys k is. picture_failed drawing (pictured_text drawing xs) old f why)
 
 -- a flush keeps what was written
 shows_kept : (x : Option ℕ) (text : List ℕ) (a b c : Option (List ℕ)) → ShowsText x text a b → Keeps b c → ShowsText x text a c

@@ -15,6 +15,7 @@ use Rattle.picture_words.specs.Changing.{SaysStates, as_it_is, lacking_change}
 use Rattle.picture_words.specs.Lining.{FailsUpTo, Lined, lacking_of, picture_drawn}
 use Rattle.picture_words.specs.Listing.{FailsToList, Listed, lacking_nothing}
 use Rattle.named_lists.specs.Lists.{named_list}
+use Rattle.note_lines.specs.Notes.{traced_text}
 use Rattle.recorder.specs.Changes.{Changes, ChangesRecorded, nothing_changed}
 use Rattle.recorder.specs.Looking.{recorded}
 use Rattle.recorder.specs.Recording.{Recording, nothing_recorded}
@@ -87,6 +88,17 @@ PictureEnds Page input old new r = TextEnds (Paged input) (Fails Usual input) la
 PictureEnds (Changed shows) input old new r = TextEnds (SaysStates shows input) (Fails Usual input) lacking_change as_it_is old new r
 PictureEnds Lives input old new r = TextEnds (Watched ChangesRecorded nothing_changed input) (Fails Long input) lacking_none (lives_of input) old new r
 PictureEnds (Listing limit) input old new r = TextEnds (Listed limit input) (FailsToList limit input) lacking_nothing (named_list input) old new r
+
+-- the trace that is pictured: for a picture of lines, of steps or of lives, what the text tells, which may have notes
+abbrev pub pictured_text : Drawing → List ℕ → List ℕ
+pictured_text (Lines lines) text = traced_text text
+pictured_text (Steps steps) text = traced_text text
+pictured_text Lives text = traced_text text
+pictured_text (State at) text = text
+pictured_text (Objects at) text = text
+pictured_text Page text = text
+pictured_text (Changed shows) text = text
+pictured_text (Listing limit) text = text
 
 -- the fault of a replay in memory: it can be read and written, so where it can't, there was no memory
 abbrev pub in_memory : TraceFault → TraceFault

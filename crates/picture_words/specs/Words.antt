@@ -1,5 +1,5 @@
 -- What the words that show a trace do: how they end, what is read and written by then, and the status.
-use Rattle.picture_words.specs.Picture.{PictureEnds}
+use Rattle.picture_words.specs.Picture.{PictureEnds, pictured_text}
 use Rattle.word_parts.specs.declared.asked.Drawing.{Drawing}
 use Rattle.trace.specs.Ends.{TellsFaults}
 use Rattle.trace_io.specs.Io.{ReadFrom, WrittenTo}
@@ -16,4 +16,4 @@ picture_status (Err f) = fault_status f
 
 -- a picture of a trace, of its steps or of lives
 abbrev pub PicturesTrace : Drawing → ReadFrom → WrittenTo → ℕ → Type 0
-PicturesTrace drawing text out n = EndsInOneWay picture_status (λ input unread. PictureEnds drawing input) TellsFaults text out n
+PicturesTrace drawing text out n = EndsInOneWay picture_status (λ input unread. PictureEnds drawing (pictured_text drawing input)) TellsFaults text out n

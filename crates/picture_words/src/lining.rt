@@ -4,6 +4,7 @@ ghost use Rattle.std.specs.Prelude.{◌≡◌, ◌≢◌, ◌⊎◌, Err, IfErr,
 ghost use Rattle.std.specs.Io.KnownBytes.{Keeps};
 ghost use Rattle.picture_words.specs.Lining.{FailsUpTo, Lined, begun_at, lacking_from, lacking_of, lines_picture, picture_drawn};
 ghost use Rattle.picture_words.specs.Picture.{ShowsText, TextEnds};
+ghost use Rattle.note_lines.specs.Notes.{traced_text};
 ghost use Rattle.trace.specs.declared.fault.TraceFault.TheVariants as Of;
 ghost use Rattle.trace_io.specs.Lines.{lines_of};
 ghost use Rattle.trace.specs.Ends.{fault_named};
@@ -18,6 +19,7 @@ use columns::margin::Margin;
 use core_steps::CallLimit;
 use line_fronts::reading::read_lines;
 use line_picture::canvas::{Scene, draw};
+use note_lines::traced::traced;
 use recorder::Recorder;
 use state_text::fronts::{front_of, lacking_line};
 use std::alloc::{AllocError, Global};
@@ -145,6 +147,26 @@ pub(crate) fn draw_lines<W: Sink, E: Write>(
     }
 }
 
+// The same of the trace that a text tells.
+fn draw_told<W: Sink, E: Write>(
+    alloc: Global,
+    text: Vec<u8>,
+    out: &mut W,
+    errors: &mut E,
+    lines: Lines,
+) -> Result<Option<u64>, TraceFault>
+    ensures ends { TextEnds (Lined lines (traced_text text.items)) (FailsUpTo (Some lines.last) (traced_text text.items)) (lacking_of lines)
+        picture_drawn (W.contents out.old) (W.contents out.new) result }
+    ensures read { result ≢ Err Of.ReadFailed }
+    ensures write { result ≡ Err Of.WriteFailed → W.failed out.new ≡ true }
+    ensures kept { (result ≡ Err Of.WriteFailed) ⊎ (W.failed out.new ≡ W.failed out.old) }
+{
+    match traced(alloc, text) {
+        Ok(trace) => draw_lines(alloc, trace.as_slice(), out, errors, lines),
+        Err(_) => Err(TraceFault::NoMemory),
+    }
+}
+
 /// Reads the trace up to the last line, whose comments name files, and draws its lines. What stands behind the last isn't read, but for
 /// what came with it in one read.
 pub(crate) fn draw_front<S: Source, W: Sink, E: Write>(
@@ -155,12 +177,12 @@ pub(crate) fn draw_front<S: Source, W: Sink, E: Write>(
     lines: Lines,
 ) -> Result<Option<u64>, TraceFault>
     ensures ends { Reads (S.stream reader.old) (S.stream reader.new) (λ input unread.
-        TextEnds (Lined lines input) (FailsUpTo (Some lines.last) input) (lacking_of lines) picture_drawn
+        TextEnds (Lined lines (traced_text input)) (FailsUpTo (Some lines.last) (traced_text input)) (lacking_of lines) picture_drawn
         (W.contents out.old) (W.contents out.new) result) }
     ensures told { TellsIo fault_named result (read_from S.Source reader.old reader.new) (written_to W.Sink out.old out.new) }
 {
     match read_lines(alloc, reader, lines.last) {
-        Ok(trace) => draw_lines(alloc, trace.as_slice(), out, errors, lines),
+        Ok(text) => draw_told(alloc, text, out, errors, lines),
         Err(IoFault::ReadFailed) => Err(TraceFault::ReadFailed),
         Err(_) => Err(TraceFault::NoMemory),
     }

@@ -2,7 +2,7 @@
 ghost use Rattle.std.specs.Prelude.{◌≡◌, ◌≢◌, ◌≤◌, ◌⊎◌, Err, IfErr, IfOk, None, OnOk, true};
 ghost use Rattle.std.specs.Io.KnownBytes.{Appends, Keeps};
 ghost use Rattle.picture_words.specs.Picture.{Fails, PictureEnds, Records, ShowsText, TextEnds, Watched};
-ghost use Rattle.picture_words.specs.Picture.{in_memory, lacking, lacking_none, lives_of, picture_of};
+ghost use Rattle.picture_words.specs.Picture.{in_memory, lacking, lacking_none, lives_of, picture_of, pictured_text};
 ghost use Rattle.picture_words.specs.Words.{PicturesTrace};
 ghost use Rattle.recorder.specs.Changes.{ChangesRecorded, nothing_changed};
 ghost use Rattle.recorder.specs.Looking.{recorded};
@@ -23,6 +23,7 @@ use crate::stating::{Form, draw_state};
 use crate::stepping::draw_page;
 use core_steps::CallLimit;
 use lives::drawing::draw_lives;
+use note_lines::traced::traced;
 use picture::canvas::draw;
 use picture::places::view_of;
 use recorder::{ChangeRecorder, Recorder};
@@ -264,6 +265,35 @@ pub fn draw_text<W: Sink, E: Write>(
     }
 }
 
+// The text of the trace that is pictured: for a picture of lines, of steps or of lives, what notes tell.
+fn pictured_text(alloc: Global, text: Vec<u8>, drawing: Drawing) -> Result<Vec<u8>, AllocError>
+    ensures { IfOk result (λ trace. trace.items ≡ pictured_text drawing text.items) }
+{
+    match drawing {
+        Drawing::Lines(_) | Drawing::Steps(_) | Drawing::Lives => traced(alloc, text),
+        _ => Ok(text),
+    }
+}
+
+// Replays the trace that a text tells, and writes this picture of it.
+fn draw_told<W: Sink, E: Write>(
+    alloc: Global,
+    text: Vec<u8>,
+    out: &mut W,
+    errors: &mut E,
+    drawing: Drawing,
+) -> Result<Option<u64>, TraceFault>
+    ensures ends { PictureEnds drawing (pictured_text drawing text.items) (W.contents out.old) (W.contents out.new) result }
+    ensures read { result ≢ Err Of.ReadFailed }
+    ensures write { result ≡ Err Of.WriteFailed → W.failed out.new ≡ true }
+    ensures kept { (result ≡ Err Of.WriteFailed) ⊎ (W.failed out.new ≡ W.failed out.old) }
+{
+    match pictured_text(alloc, text, drawing) {
+        Ok(trace) => draw_text(alloc, trace.as_slice(), out, errors, drawing),
+        Err(_) => Err(TraceFault::NoMemory),
+    }
+}
+
 // Reads the whole trace, whose comments name files, replays it, and writes this picture of it.
 fn draw_whole<S: Source, W: Sink, E: Write>(
     alloc: Global,
@@ -273,11 +303,11 @@ fn draw_whole<S: Source, W: Sink, E: Write>(
     drawing: Drawing,
 ) -> Result<Option<u64>, TraceFault>
     ensures ends { Reads (S.stream reader.old) (S.stream reader.new) (λ input unread.
-        PictureEnds drawing input (W.contents out.old) (W.contents out.new) result) }
+        PictureEnds drawing (pictured_text drawing input) (W.contents out.old) (W.contents out.new) result) }
     ensures told { TellsIo fault_named result (read_from S.Source reader.old reader.new) (written_to W.Sink out.old out.new) }
 {
     match read_all(alloc, reader) {
-        Ok(trace) => draw_text(alloc, trace.as_slice(), out, errors, drawing),
+        Ok(text) => draw_told(alloc, text, out, errors, drawing),
         Err(IoFault::ReadFailed) => Err(TraceFault::ReadFailed),
         Err(_) => Err(TraceFault::NoMemory),
     }
@@ -292,7 +322,7 @@ fn draw_trace<S: Source, W: Sink, E: Write>(
     drawing: Drawing,
 ) -> Result<Option<u64>, TraceFault>
     ensures ends { Reads (S.stream reader.old) (S.stream reader.new) (λ input unread.
-        PictureEnds drawing input (W.contents out.old) (W.contents out.new) result) }
+        PictureEnds drawing (pictured_text drawing input) (W.contents out.old) (W.contents out.new) result) }
     ensures told { TellsIo fault_named result (read_from S.Source reader.old reader.new) (written_to W.Sink out.old out.new) }
 {
     match drawing {

@@ -1,5 +1,5 @@
 -- The state behind each line
-use Rattle.machine_laws.proofs.Words.{◌≡◌, ℕ, zero, suc, ◌+◌, true, List, [], ◌∷◌, ◌++◌, refl, sym, ap, subst, ◌∙◌, Option}
+use Rattle.machine_laws.proofs.Words.{append-nil, ◌≡◌, ℕ, zero, suc, ◌+◌, true, List, [], ◌∷◌, ◌++◌, refl, sym, ap, subst, ◌∙◌, Option}
 use Rattle.machine_laws.proofs.Words.{Event, Go, Outcome, Stepped, Wait, Idle, Answered, Full, None, World, Step, Run}
 use Rattle.std.proofs.Common.{length, length-append, take, drop, append_assoc, IsSomeAnd, Some, arith}
 use Rattle.std.specs.Prelude.{replicate}

@@ -1,14 +1,7 @@
-use Rattle.std.proofs.Common.{ℕ, List, Some, subst}
-use Rattle.picture_words.specs.Lining.{FailsUpTo, Lined, lacking_of, picture_drawn}
-use Rattle.picture_words.specs.Picture.{TextEnds}
 use Rattle.picture_words.proofs.LiningLemmas.{lines_read}
 use Rattle.picture_words.proofs.lining.draw_front.Goals as goal
 
 pub returns-in-Ok-clause-ends : goal.returns-in-Ok-clause-ends
 returns-in-Ok-clause-ends g c =
-    let old = g.W.Sink.contents c.args.out.now in
-    let new = g.W.Sink.contents c.draw_lines.new.out in
-    let lines = c.args.lines in
-    lines_read _ _ lines c.in-Ok.trace.items old new c.draw_lines.result c.in-Ok.ensures.text
-    (subst (λ (i : List ℕ). TextEnds (Lined lines i) (FailsUpTo (Some lines.last) i) (lacking_of lines) picture_drawn old new c.draw_lines.result)
-    c.as_slice.ensures.value c.draw_lines.ensures.ends)
+    lines_read _ _ c.args.lines c.in-Ok.text.items (g.W.Sink.contents c.args.out.now) (g.W.Sink.contents c.draw_told.new.out) c.draw_told.result
+    c.in-Ok.ensures.text c.draw_told.ensures.ends

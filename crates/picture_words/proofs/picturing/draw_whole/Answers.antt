@@ -1,11 +1,7 @@
-use Rattle.std.proofs.Common.{ℕ, List, subst}
-use Rattle.picture_words.specs.Picture.{PictureEnds}
 use Rattle.picture_words.proofs.PictureLemmas.{picture_read}
 use Rattle.picture_words.proofs.picturing.draw_whole.Goals as goal
 
 pub returns-in-Ok-clause-ends : goal.returns-in-Ok-clause-ends
 returns-in-Ok-clause-ends g c =
-    let old = g.W.Sink.contents c.args.out.now in
-    let new = g.W.Sink.contents c.draw_text.new.out in
-    picture_read _ _ c.args.drawing c.in-Ok.trace.items old new c.draw_text.result c.in-Ok.ensures.text
-    (subst (λ (i : List ℕ). PictureEnds c.args.drawing i old new c.draw_text.result) c.as_slice.ensures.value c.draw_text.ensures.ends)
+    picture_read _ _ c.args.drawing c.in-Ok.text.items (g.W.Sink.contents c.args.out.now) (g.W.Sink.contents c.draw_told.new.out) c.draw_told.result
+    c.in-Ok.ensures.text c.draw_told.ensures.ends

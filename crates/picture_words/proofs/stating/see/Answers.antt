@@ -1,20 +1,30 @@
-use Rattle.std.proofs.Common.{Bool, List, ℕ, [], Some, Vec, ap, cond, sym, subst, ◌∙◌, refl}
+use Rattle.std.proofs.Common.{◌≡◌, Bool, List, ℕ, [], Some, Vec, ap, cond, sym, subst, ◌∙◌, refl, rules}
+use Rattle.std.specs.Prelude.{option_map}
 use Rattle.std.specs.declared.alloc.Global.{Global}
+use Rattle.core_steps.specs.Machine.{state}
 use Rattle.core_steps.specs.declared.setup.CallLimit.TheVariants.{Usual}
+use Rattle.frame_counts.specs.Texts.{counts_at}
 use Rattle.picture_words.specs.Listing.{FailsToList}
+use Rattle.picture_words.specs.State.{counts_form}
 use Rattle.picture_words.proofs.PictureLemmas.{no_list_in_memory, was_not_listed}
 use Rattle.picture_words.proofs.StateLemmas.{was_seen}
 use Rattle.picture_words.proofs.stating.see.Goals as goal
+use Rattle.picture_words.proofs.stating.see.Goals.{in-Some-3, in-None-3}
 use denote.Ref.{Bor}
 
-pub returns-in-Ok-clause-ends : goal.returns-in-Ok-clause-ends
-returns-in-Ok-clause-ends c =
+pub returns-clause-ends : goal.returns-clause-ends
+returns-clause-ends c =
     let r = c.new-reader.result in
     let known = ap (λ (b : Bool). cond b (Some []) (Some r.reader.now)) c.new-reader.ensures.ended
     ∙ ap (λ (s : Bor (List ℕ)). Some s.now) c.new-reader.ensures.reader in
     let none = ap (λ (v : Vec ℕ Global). Some v.items) c.new-held.ensures.bytes ∙ ap Some c.new-bytes.ensures.items in
-    was_seen _ _ _ _ c.args.trace.now _ _ _ c.replay_watched-beside.result.replayed.ended _ known none refl c.in-Ok.is
-    c.replay_watched-beside.ensures.seen
+    let stood = c.replay_standing-stood.result in
+    let machine = option_map state stood.machine in
+    let seen = was_seen _ _ c.args.mirror stood.watch machine c.args.trace.now _ _ _ stood.ended _ known none refl c.in_default.is
+    c.replay_standing-stood.ensures.seen in
+    let put : c.put_counts_at.new.out.items ≡ counts_at c.counts_form.result machine = search rules in
+    let counts = put ∙ ap (λ f. counts_at f machine) c.counts_form.ensures in
+    elim c.match-stood-4.branch [ in-Some-3 w ↦ (machine, seen, counts) | in-None-3 w ↦ (machine, seen, counts) ]
 
 pub returns-in-Err-clause-ends : goal.returns-in-Err-clause-ends
 returns-in-Err-clause-ends c =
@@ -22,6 +32,6 @@ returns-in-Err-clause-ends c =
     let known = ap (λ (b : Bool). cond b (Some []) (Some r.reader.now)) c.new-reader.ensures.ended
     ∙ ap (λ (s : Bor (List ℕ)). Some s.now) c.new-reader.ensures.reader in
     let none = ap (λ (v : Vec ℕ Global). Some v.items) c.new-held.ensures.bytes ∙ ap Some c.new-bytes.ensures.items in
-    let fails = was_not_listed _ _ Usual c.args.trace.now _ _ _ c.replay_watched-beside.result.replayed.ended c.in-Err.fault known none refl
-    c.in-Err.is c.replay_watched-beside.ensures.ends in
+    let fails = was_not_listed _ _ Usual c.args.trace.now _ _ _ c.replay_standing-stood.result.ended c.in-Err.fault known none refl
+    c.in-Err.is c.replay_standing-stood.ensures.ends in
     subst (FailsToList Usual c.args.trace.now) (sym c.in_memory.ensures.value) (no_list_in_memory Usual c.args.trace.now c.in-Err.fault fails)

@@ -1,0 +1,3 @@
+pub mod TracedLines
+pub mod TracedFronts
+pub mod NoNotes
