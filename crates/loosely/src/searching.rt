@@ -7,17 +7,10 @@ use backing::{FileSpec, Objects};
 use by_pages::Part;
 use loose_orders::{Step, Use};
 use no_order::files_again;
-use order_search::{Found, Lag, find_lagging, find_whole};
+use order_search::{Found, Lag, find_lagging};
 use orders::{Item, Timed};
-use page_orders::{Divided, wholes_of};
 use std::alloc::Allocator;
 use vm_base::NoMemory;
-
-/// Where there are more parts than this, calls are first searched as wholes, and which byte a lagging access finds isn't looked at.
-const FEW: usize = 1_000;
-
-/// How often a search begins anew, with more calls divided into their parts.
-const TRIES: u32 = 24;
 
 /// What a search comes to.
 #[derive(Debug, Drop)]
@@ -211,61 +204,6 @@ impl<'a, A: Allocator + Clone + Drop> Search<'a, A> {
         }
     }
 
-    // Notes the order of a group that was found.
-    fn note_all(&mut self, alloc: &A, group: &[usize], items: &[Item]) -> Result<(), NoMemory> {
-        let items = self.lose(alloc, group, items)?;
-        let steps = lay(alloc, group.len(), items.as_slice(), self.lags.as_slice())?;
-        self.note(group, steps.as_slice())?;
-        self.note_uses(group)
-    }
-
-    // Searches an order in which the pages of each call change at one moment, but of those that are divided.
-    fn find_whole_calls(
-        &mut self,
-        alloc: &A,
-        divided: &Divided<A>,
-        may_lag: bool,
-    ) -> Result<Option<Found<A>>, NoMemory> {
-        let wholes = wholes_of(alloc, self.parts, divided)?;
-        let count = self.parts.len();
-        if wholes.calls.len() == count {
-            return Ok(None);
-        }
-        let found = find_whole(
-            alloc,
-            self.objects,
-            self.any_place,
-            wholes.calls.as_slice(),
-            wholes.unsure.as_slice(),
-            wholes.firsts.as_slice(),
-            count,
-            may_lag,
-            &mut self.lags,
-        )?;
-        Ok(Some(found))
-    }
-
-    // Searches an order in which the pages of each call change at one moment, if some call has several parts, divides the calls around the
-    // place where none is found, and tells whether it found one.
-    fn search_whole(&mut self, alloc: &A, may_lag: bool) -> Result<bool, NoMemory> {
-        let mut divided = Divided::new(alloc, self.parts)?;
-        for _ in 0..TRIES {
-            match self.find_whole_calls(alloc, &divided, may_lag)? {
-                Some(Found::Order(items, _lost)) => {
-                    let mut group = Vec::with_capacity(alloc.clone()?, self.parts.len())?;
-                    for part in 0..self.parts.len() {
-                        group.push(part)?;
-                    }
-                    self.note_all(alloc, group.as_slice(), items.as_slice())?;
-                    return Ok(true);
-                }
-                Some(Found::Stuck(part)) if divided.divide_near(self.parts, part) => {}
-                _ => return Ok(false),
-            }
-        }
-        Ok(false)
-    }
-
     // Searches an order of the parts of a group.
     fn search(&mut self, alloc: &A, group: &[usize]) -> Result<(), NoMemory> {
         self.take(group)?;
@@ -278,7 +216,12 @@ impl<'a, A: Allocator + Clone + Drop> Search<'a, A> {
             &mut self.lags,
         )?;
         match found {
-            Found::Order(items, _lost) => self.note_all(alloc, group, items.as_slice()),
+            Found::Order(items, _lost) => {
+                let items = self.lose(alloc, group, items.as_slice())?;
+                let steps = lay(alloc, group.len(), items.as_slice(), self.lags.as_slice())?;
+                self.note(group, steps.as_slice())?;
+                self.note_uses(group)
+            }
             Found::Stuck(call) | Found::Full(call) => {
                 self.note_stuck(part_at(group, call));
                 Ok(())
@@ -337,16 +280,8 @@ pub(crate) fn find<A: Allocator + Clone + Drop>(
 {
     let again = files_again(alloc, files)?;
     let objects = Objects::new(alloc.clone()?, again)?;
-    let is_long = parts.len() > FEW;
-    let mut whole = Search::new(alloc, parts, &objects, any_place)?;
-    if is_long && whole.search_whole(alloc, true)? {
-        return whole.into_order(alloc);
-    }
     let groups = group(alloc, parts)?;
     let mut search = Search::new(alloc, parts, &objects, any_place)?;
     search.search_all(alloc, &groups)?;
-    if !is_long && search.stuck.is_some() && whole.search_whole(alloc, false)? {
-        return whole.into_order(alloc);
-    }
     search.into_order(alloc)
 }

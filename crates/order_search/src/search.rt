@@ -32,19 +32,10 @@ pub struct Lag {
     pub access: u32,
 }
 
-// The parts of calls, each of which takes effect as a whole: the number of the first one of each call, and how many there are. Where no
-// number is given each call is one part.
-#[derive(Clone, Copy, Debug)]
-struct Parts<'p> {
-    firsts: &'p [usize],
-    count: usize,
-}
-
 // A call that changes pages.
 #[derive(Clone, Copy, Debug, PartialEq, Eq)]
 struct Recent {
     number: u32,
-    count: u32,
     end: u64,
     pages: PageRange,
 }
@@ -59,7 +50,6 @@ struct Search<'a, A: Allocator> {
     mapped: Mapped,
     answered: usize,
     unsure: &'a [bool],
-    parts: Parts<'a>,
     may_lag: bool,
     ways: Ways<'a, A>,
     under: Vec<Under, A>,
@@ -68,50 +58,12 @@ struct Search<'a, A: Allocator> {
     lags: Vec<Lag, A>,
 }
 
-// Each of so many calls is one part.
-fn each_alone(count: usize) -> Parts<'static> {
-    Parts { firsts: &[], count }
-}
-
 // The number of a call in an order.
 fn item_number(call: usize) -> u32 {
     if call < 0xffff_ffff {
         call as u32
     } else {
         0xffff_ffff
-    }
-}
-
-impl Recent {
-    // The number of the part that changes this page, which is one of the call's.
-    fn part(&self, page: u64) -> u32 {
-        if self.count <= 1 {
-            return self.number;
-        }
-        let before = page.wrapping_sub(self.pages.first) & 0xffff_ffff;
-        self.number.wrapping_add(before as u32)
-    }
-}
-
-impl Parts<'_> {
-    // The number of a call, or of its first part.
-    fn first(&self, call: usize) -> usize {
-        match self.firsts.get(call) {
-            Some(first) => *first,
-            None => call,
-        }
-    }
-
-    // How many parts a call has.
-    fn of(&self, call: usize) -> u32 {
-        if self.firsts.is_empty() {
-            return 1;
-        }
-        let end = match self.firsts.get(call.saturating_add(1)) {
-            Some(next) => *next,
-            None => self.count,
-        };
-        item_number(end.saturating_sub(self.first(call)))
     }
 }
 
@@ -124,7 +76,6 @@ impl<'a, A: Allocator + Clone + Drop> Search<'a, A> {
         history: &[Timed],
         answered: usize,
         unsure: &'a [bool],
-        parts: Parts<'a>,
     ) -> Result<Search<'a, A>, NoMemory> {
         let ways = Ways::new(alloc, objects, any_place, history.len())?;
         let mut configs = Vec::new(alloc.clone()?);
@@ -134,7 +85,6 @@ impl<'a, A: Allocator + Clone + Drop> Search<'a, A> {
             mapped: mapped_by(history),
             answered,
             unsure,
-            parts,
             may_lag: false,
             ways,
             under: Vec::new(alloc.clone()?),
@@ -164,12 +114,11 @@ impl<'a, A: Allocator + Clone + Drop> Search<'a, A> {
         };
         let mut under = Under::new(
             self.objects,
-            item_number(self.parts.first(call)),
+            item_number(call),
             &timed,
             call >= self.answered,
             self.mapped.has_copies,
-        )
-        .with_parts(self.parts.of(call));
+        );
         let Some(bit) = self.free_bit(under.bit) else {
             return Ok(false);
         };
@@ -181,32 +130,33 @@ impl<'a, A: Allocator + Clone + Drop> Search<'a, A> {
         self.note_rivals(&mut under);
         self.under.push(under)?;
         if self.may_lag {
-            self.note_change(&under)?;
+            self.note_change(history, &under)?;
         }
         Ok(true)
     }
 
     // The least begin of the calls under way.
-    fn least_begin(&self) -> u64 {
+    fn least_begin(&self, history: &[Timed]) -> u64 {
         let mut least = u64::MAX;
         for under in self.under.as_slice() {
-            least = least.min(under.begin);
+            if let Some(timed) = history.get(under.number as usize) {
+                least = least.min(timed.begin);
+            }
         }
         least
     }
 
     // Keeps a call that changes pages, as long as accesses under way may have begun before its end.
-    fn note_change(&mut self, under: &Under) -> Result<(), NoMemory> {
+    fn note_change(&mut self, history: &[Timed], under: &Under) -> Result<(), NoMemory> {
         if !under.changes || matches!(under.plan, Ok(Plan::Touch(_))) {
             return Ok(());
         }
         if self.recent.len() >= FEW_RECENT {
-            let least = self.least_begin();
+            let least = self.least_begin(history);
             self.recent.retain(|recent| recent.end >= least);
         }
         self.recent.push(Recent {
             number: under.number,
-            count: under.count,
             end: under.end,
             pages: under.pages,
         })?;
@@ -214,15 +164,18 @@ impl<'a, A: Allocator + Clone + Drop> Search<'a, A> {
     }
 
     // Passes over a call that none of the configurations reaches, if it is an access that may lag: then it changes nothing in any of them.
-    fn pass_over(&mut self, under: &Under) -> Result<bool, NoMemory> {
+    fn pass_over(&mut self, history: &[Timed], under: &Under) -> Result<bool, NoMemory> {
         let Ok(Plan::Touch(touch)) = under.plan else {
+            return Ok(false);
+        };
+        let Some(timed) = history.get(under.number as usize).copied() else {
             return Ok(false);
         };
         let known = self.lags.len();
         for recent in self.recent.as_slice() {
-            if recent.end >= under.begin && recent.pages.contains(touch.page) {
+            if recent.end >= timed.begin && recent.pages.contains(touch.page) {
                 self.lags.push(Lag {
-                    behind: recent.part(touch.page),
+                    behind: recent.number,
                     access: under.number,
                 })?;
             }
@@ -288,6 +241,7 @@ impl<'a, A: Allocator + Clone + Drop> Search<'a, A> {
     fn end_all(
         &mut self,
         alloc: &A,
+        history: &[Timed],
         time: Option<u64>,
     ) -> Result<Option<(Reach, usize)>, NoMemory> {
         for _ in 0..self.under.len() {
@@ -298,7 +252,7 @@ impl<'a, A: Allocator + Clone + Drop> Search<'a, A> {
                 return Ok(None);
             };
             let (number, ends) = (under.number, *under);
-            let reach = self.end(alloc, at, &ends)?;
+            let reach = self.end(alloc, history, at, &ends)?;
             if reach != Reach::Reached {
                 return Ok(Some((reach, number as usize)));
             }
@@ -307,12 +261,18 @@ impl<'a, A: Allocator + Clone + Drop> Search<'a, A> {
     }
 
     // This call under way, which is at this place, ends.
-    fn end(&mut self, alloc: &A, at: usize, ends: &Under) -> Result<Reach, NoMemory> {
+    fn end(
+        &mut self,
+        alloc: &A,
+        history: &[Timed],
+        at: usize,
+        ends: &Under,
+    ) -> Result<Reach, NoMemory> {
         let bit = ends.bit;
         if !self.is_done(bit) {
             let under = self.under.as_slice();
             let reach = self.ways.reach(Ending { under, bit }, &mut self.configs)?;
-            let lags = self.may_lag && reach == Reach::Stuck && self.pass_over(ends)?;
+            let lags = self.may_lag && reach == Reach::Stuck && self.pass_over(history, ends)?;
             if reach != Reach::Reached && !lags {
                 return Ok(reach);
             }
@@ -328,15 +288,15 @@ impl<'a, A: Allocator + Clone + Drop> Search<'a, A> {
         for at in 0..begins.len() {
             let (begin, call) = begins[at];
             // at one time begins come before ends
-            let stop = self.end_all(alloc, Some(begin))?;
+            let stop = self.end_all(alloc, history, Some(begin))?;
             if stop.is_some() {
                 return Ok(stop);
             }
             if !self.begin(history, call)? {
-                return Ok(Some((Reach::Full, self.parts.first(call))));
+                return Ok(Some((Reach::Full, call)));
             }
         }
-        self.end_all(alloc, None)
+        self.end_all(alloc, history, None)
     }
 
     // The items of the open calls that haven't taken effect in a configuration.
@@ -430,8 +390,7 @@ fn find_some<A: Allocator + Clone + Drop>(
     requires { 1 ≤ length history.now }
     ensures { IfOk result (λ found. IsFound (length history.now) found) }
 {
-    let parts = each_alone(history.len());
-    let mut search = Search::new(alloc, objects, any_place, history, answered, unsure, parts)?;
+    let mut search = Search::new(alloc, objects, any_place, history, answered, unsure)?;
     if let Some((reach, call)) = search.run(alloc, history)? {
         return Ok(stopped(history.len(), reach, call));
     }
@@ -494,42 +453,10 @@ pub fn find_lagging<A: Allocator + Clone + Drop>(
         return Ok(Found::Order(Vec::new(alloc.clone()?), CoreSet::empty()));
     }
     let count = history.len();
-    let parts = each_alone(count);
-    let mut search = Search::new(alloc, objects, any_place, history, count, unsure, parts)?;
+    let mut search = Search::new(alloc, objects, any_place, history, count, unsure)?;
     search.may_lag = true;
     if let Some((reach, call)) = search.run(alloc, history)? {
         return Ok(stopped(count, reach, call));
-    }
-    lags.extend_from_slice(search.lags.as_slice())?;
-    found_by(alloc, count, search.into_order(alloc)?)
-}
-
-/// Searches as `find_choice` does, where each call takes effect as a whole, as though its parts did one behind another. An `mprotect` that met a page that isn't
-/// mapped may have changed all pages in front of it: each part behind its first has an item `Copy` where it is lost. The numbers of the items
-/// are those of the parts: of so many, where the first of each call has these. Accesses may lag, or not.
-#[tactic(auto, using(crate::proofs::NoCalls::none_found))]
-pub fn find_whole<A: Allocator + Clone + Drop>(
-    alloc: &A,
-    objects: &Objects<A>,
-    any_place: bool,
-    calls: &[Timed],
-    unsure: &[bool],
-    firsts: &[usize],
-    count: usize,
-    may_lag: bool,
-    lags: &mut Vec<Lag, A>,
-) -> Result<Found<A>, NoMemory>
-    ensures { IfOk result (λ found. IsFound count found) }
-{
-    lags.clear();
-    if count == 0 {
-        return Ok(Found::Order(Vec::new(alloc.clone()?), CoreSet::empty()));
-    }
-    let parts = Parts { firsts, count };
-    let mut search = Search::new(alloc, objects, any_place, calls, calls.len(), unsure, parts)?;
-    search.may_lag = may_lag;
-    if let Some((reach, part)) = search.run(alloc, calls)? {
-        return Ok(stopped(count, reach, part));
     }
     lags.extend_from_slice(search.lags.as_slice())?;
     found_by(alloc, count, search.into_order(alloc)?)

@@ -2,9 +2,9 @@
 
 use backing::Objects;
 use orders::Timed;
-use slot_lock::{Change, Plan};
+use slot_lock::Plan;
 use std::alloc::Allocator;
-use vm_base::{CoreId, Errno, PageRange, Prot, Reply, Request, page_of};
+use vm_base::{CoreId, PageRange, Reply, Request, page_of};
 use vm_calls::check;
 
 /// No page.
@@ -19,14 +19,10 @@ const EVERYWHERE: PageRange = PageRange {
 /// A call that is under way: its number, and what it does.
 #[derive(Clone, Copy, Debug, PartialEq, Eq)]
 pub(crate) struct Under {
-    /// Its number, or that of its first part.
     pub number: u32,
-    /// How many parts it has, which have the next numbers.
-    pub count: u32,
     pub core: CoreId,
     /// Its bit in a set of calls under way: that of its core, if no other has it.
     pub bit: u64,
-    pub begin: u64,
     /// A time at which it has taken effect.
     pub end: u64,
     pub plan: Result<Plan, Reply>,
@@ -78,10 +74,8 @@ impl Under {
         let changes = plan.is_ok() && matches!(call.reply, Reply::Done | Reply::Mapped(_));
         Under {
             number,
-            count: 1,
             core: call.core,
             bit: 1u64.wrapping_shl(u32::from(call.core.index())),
-            begin: timed.begin,
             end: timed.end,
             plan,
             reply: call.reply,
@@ -92,24 +86,6 @@ impl Under {
             is_late: changes || stores_to.is_some(),
             pages: pages_of(plan),
             rivals: 0,
-        }
-    }
-
-    /// The same call with so many parts.
-    pub fn with_parts(self, count: u32) -> Under {
-        Under {
-            count,
-            is_late: self.is_late || count > 1,
-            ..self
-        }
-    }
-
-    /// The range of an `mprotect` that met a page that isn't mapped, and may have changed those in front of it, and their protection then.
-    pub fn refused_range(&self) -> Option<(PageRange, Prot)> {
-        match (self.reply, self.plan) {
-            (Reply::Refused(Errno::ENOMEM), Ok(Plan::Change(Change::Protect { range, prot })))
-                if self.count > 1 => { Some((range, prot)) }
-            _ => None,
         }
     }
 
