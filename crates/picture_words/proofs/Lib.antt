@@ -1,5 +1,5 @@
 mod ChangingLemmas
 mod LiningLemmas
 mod PageLemmas
-mod PictureLemmas
+pub mod PictureLemmas
 mod StateLemmas
