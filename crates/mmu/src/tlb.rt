@@ -22,7 +22,7 @@ const FILLS: usize = 192;
 const DROPPED: u8 = 64;
 
 /// A range of at most so many pages is dropped page by page, and a longer one fill by fill.
-const FEW_PAGES: u64 = 64;
+const FEW_PAGES: u64 = 16;
 
 /// A cached translation of a page.
 #[derive(Clone, Copy, Debug, Default, PartialEq, Eq)]
