@@ -1,5 +1,5 @@
 -- Slots that lie side by side are in order
-use Rattle.machine_laws.proofs.Words.{ℕ, zero, suc, ◌+◌, ◌<◌, ◌≤◌, List, [], ◌∷◌, length, get_or, arith, props, ∥∥₁_elim}
+use Rattle.machine_model.proofs.Words.{ℕ, zero, suc, ◌+◌, ◌<◌, ◌≤◌, List, [], ◌∷◌, length, get_or, arith, props, ∥∥₁_elim}
 use Rattle.live_levels.specs.declared.close.SlotHistory.{SlotHistory}
 use Rattle.live_levels.specs.Histories.{Chain}
 use Rattle.certifier.specs.Histories.{AreInOrder}

@@ -1,6 +1,6 @@
 -- Changes of a slot up to a ticket, and what one look at it settles
-use Rattle.machine_laws.proofs.Words.{◌≡◌, ◌≢◌, ◌⊎◌, ⊎_elim, inl, inr, ℕ, zero, suc, ◌<◌, ◌≤◌, ◌+◌, ◌-◌, true, false, List, [], ◌∷◌, length, take, get_or}
-use Rattle.machine_laws.proofs.Words.{Option, refl, sym, ap, ◌∙◌, subst, arith, nat_le, cases_lt, nat_tests, get_or_default, take_all, PageInfo}
+use Rattle.machine_model.proofs.Words.{◌≡◌, ◌≢◌, ◌⊎◌, ⊎_elim, inl, inr, ℕ, zero, suc, ◌<◌, ◌≤◌, ◌+◌, ◌-◌, true, false, List, [], ◌∷◌, length, take, get_or}
+use Rattle.machine_model.proofs.Words.{Option, refl, sym, ap, ◌∙◌, subst, arith, nat_le, cases_lt, nat_tests, get_or_default, take_all, PageInfo}
 use Rattle.std.proofs.Common.{max, min}
 use Rattle.vm_base.specs.Info.{info_from}
 use Rattle.live_levels.specs.declared.act.SlotChange.{SlotChange}

@@ -1,7 +1,7 @@
 -- Looks at all slots
-use Rattle.machine_laws.proofs.Words.{◌≡◌, ◌≢◌, ◌⊎◌, ⊎_elim, inl, inr, ℕ, ◌<◌, ◌≤◌, ◌+◌, ◌-◌, ◌^◌, Bool, true, false, List, [], ◌∷◌, ◌++◌, length, get_or}
-use Rattle.machine_laws.proofs.Words.{set, Option, Some, None, refl, sym, ap, ◌∙◌, subst, arith, not, cases_lt, get_or-set_other, get_or-set_same}
-use Rattle.machine_laws.proofs.Words.{get_or_default, length-set, PageInfo, PageRange, has, has_in, in_has, some_has}
+use Rattle.machine_model.proofs.Words.{◌≡◌, ◌≢◌, ◌⊎◌, ⊎_elim, inl, inr, ℕ, ◌<◌, ◌≤◌, ◌+◌, ◌-◌, ◌^◌, Bool, true, false, List, [], ◌∷◌, ◌++◌, length, get_or}
+use Rattle.machine_model.proofs.Words.{set, Option, Some, None, refl, sym, ap, ◌∙◌, subst, arith, not, cases_lt, get_or-set_other, get_or-set_same}
+use Rattle.machine_model.proofs.Words.{get_or_default, length-set, PageInfo, PageRange, has, has_in, in_has, some_has}
 use Rattle.std.proofs.Common.{IsTrue, ◌↔◌, IfSome, IfNone}
 use Rattle.std.proofs.lemmas.Bool.{cases_eq}
 use Rattle.std.proofs.lemmas.List.{get_or_append_left, get_or_push, length-append}

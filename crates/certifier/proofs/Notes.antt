@@ -1,12 +1,12 @@
 -- Runs that grow by the note with the next ticket
-use Rattle.machine_laws.proofs.Words.{◌≡◌, ◌≢◌, ℕ, ◌+◌, ◌<◌, ◌≤◌, Bool, true, false, List, [], ◌∷◌, ◌++◌, refl, sym, subst, ap, ◌∙◌, arith, length, get_or}
-use Rattle.machine_laws.proofs.Words.{map, Some, None, Option, add-one, get_or_default, filter-append, Slots, Event, Outcome, World, new_world, Step, Run}
-use Rattle.machine_laws.proofs.Words.{PageRange}
+use Rattle.machine_model.proofs.Words.{◌≡◌, ◌≢◌, ℕ, ◌+◌, ◌<◌, ◌≤◌, Bool, true, false, List, [], ◌∷◌, ◌++◌, refl, sym, subst, ap, ◌∙◌, arith, length, get_or}
+use Rattle.machine_model.proofs.Words.{map, Some, None, Option, add-one, get_or_default, filter-append, Slots, Event, Outcome, World, new_world, Step, Run}
+use Rattle.machine_model.proofs.Words.{PageRange}
 use Rattle.std.proofs.Common.{filter}
 use Rattle.std.specs.Prelude.{count_by, IfErr, IfNone, Result, Ok, Err}
 use Rattle.std.proofs.lemmas.List.{map-append, length-append}
 use Rattle.std.proofs.lemmas.List.Sums.{length-filter}
-use Rattle.machine_sound.proofs.Kept.{run_more}
+use Rattle.machine_model.proofs.SoundKept.{run_more}
 use Rattle.core_steps.specs.declared.setup.Setup.{Setup}
 use Rattle.core_steps.specs.Dividing.{DividesAsMap}
 use Rattle.core_steps.specs.Moving.{JoinsAsMap}

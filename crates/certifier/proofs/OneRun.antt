@@ -1,14 +1,14 @@
 -- A new machine has one run by its events, so that a refusal rules out what it says
-use Rattle.machine_laws.proofs.Words.{◌≡◌, ◌≢◌, ℕ, zero, suc, ◌+◌, ◌<◌, ◌≤◌, ◌==◌, Bool, true, false, cond, List, [], ◌∷◌, ◌++◌, inl, inr, refl, sym, subst}
-use Rattle.machine_laws.proofs.Words.{ap, ◌∙◌, arith, length, get_or, None, Option, nat_lt, nat_tests, add-one, append_assoc, cases_lt, ⊎_elim, PageInfo}
-use Rattle.machine_laws.proofs.Words.{Slots, Event, Outcome, World, new_world}
+use Rattle.machine_model.proofs.Words.{◌≡◌, ◌≢◌, ℕ, zero, suc, ◌+◌, ◌<◌, ◌≤◌, ◌==◌, Bool, true, false, cond, List, [], ◌∷◌, ◌++◌, inl, inr, refl, sym, subst}
+use Rattle.machine_model.proofs.Words.{ap, ◌∙◌, arith, length, get_or, None, Option, nat_lt, nat_tests, add-one, append_assoc, cases_lt, ⊎_elim, PageInfo}
+use Rattle.machine_model.proofs.Words.{Slots, Event, Outcome, World, new_world}
 use Rattle.live_levels.specs.declared.close.SlotHistory.{SlotHistory}
 use Rattle.slot_lock.proofs.Edits.{same_slots}
 use Rattle.refcache.specs.Sound.{AreReached}
 use Rattle.radix_range.specs.Folds.{CanFold, FoldsNode}
 use Rattle.radix_range.specs.Found.{in_512}
-use Rattle.machine_sound.specs.Sound.{IsReached}
-use Rattle.machine_sound.proofs.Kept.{reached_fine, reached_opening, reached_step}
+use Rattle.machine_model.specs.Sound.{IsReached}
+use Rattle.machine_model.proofs.SoundKept.{reached_fine, reached_opening, reached_step}
 use Rattle.core_steps.specs.declared.setup.Setup.{Setup}
 use Rattle.core_steps.specs.Running.{RunsAsMap}
 use Rattle.core_steps.specs.Setups.{fault_of, made_of}

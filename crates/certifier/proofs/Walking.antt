@@ -1,6 +1,6 @@
 -- A walk over the slots of the machine that have a slot's pages
-use Rattle.machine_laws.proofs.Words.{◌≡◌, ◌≢◌, ⊎_elim, ℕ, ◌<◌, ◌≤◌, ◌+◌, ◌-◌, ◌^◌, true, Option, refl, sym, ap, ◌∙◌, subst, arith, cases_lt, PageInfo}
-use Rattle.machine_laws.proofs.Words.{PageRange, has, has_in, Slots, IsSlot, IsSlotMap}
+use Rattle.machine_model.proofs.Words.{◌≡◌, ◌≢◌, ⊎_elim, ℕ, ◌<◌, ◌≤◌, ◌+◌, ◌-◌, ◌^◌, true, Option, refl, sym, ap, ◌∙◌, subst, arith, cases_lt, PageInfo}
+use Rattle.machine_model.proofs.Words.{PageRange, has, has_in, Slots, IsSlot, IsSlotMap}
 use Rattle.vm_base.specs.Info.{info_from}
 use Rattle.slot_lock.proofs.ListLaws.{info_from_twice}
 use Rattle.slot_lock.proofs.SlotLaws.{info_on}

@@ -10,8 +10,8 @@ use Rattle.machine_model.specs.declared.event.Outcome.{Outcome}
 use Rattle.machine_model.specs.declared.event.Outcome.TheVariants.{Answered}
 use Rattle.machine_model.specs.World.{World, new_world}
 use Rattle.machine_model.specs.Step.{Run, Step}
-use Rattle.machine_laws.specs.Brackets.{IsBracketed}
-use Rattle.machine_sound.specs.Sound.{SoundRun}
+use Rattle.machine_model.specs.Brackets.{IsBracketed}
+use Rattle.machine_model.specs.Sound.{SoundRun}
 use Rattle.core_steps.specs.declared.setup.Setup.{Setup}
 use Rattle.vm_base.specs.declared.page.PageRange.{PageRange}
 use Rattle.core_steps.specs.Dividing.{DividesAsMap}

@@ -6,7 +6,7 @@ use Rattle.radix_range.specs.Found.{in_512}
 use Rattle.machine_model.specs.declared.event.Event.{Event}
 use Rattle.machine_model.specs.declared.event.Outcome.{Outcome}
 use Rattle.machine_model.specs.World.{World, new_world}
-use Rattle.machine_sound.specs.Sound.{IsReached}
+use Rattle.machine_model.specs.Sound.{IsReached}
 use Rattle.core_steps.specs.declared.setup.Setup.{Setup}
 use Rattle.core_steps.specs.Running.{RunsAsMap}
 use Rattle.core_steps.specs.Setups.{fault_of, made_of}

@@ -1,14 +1,14 @@
 -- Batches that grow by one event
-use Rattle.machine_laws.proofs.Words.{◌≡◌, ℕ, Bool, false, ◌+◌, ◌<◌, ◌≤◌, List, [], ◌∷◌, ◌++◌, refl, sym, subst, ap, ◌∙◌, take, drop, map, length, get_or}
-use Rattle.machine_laws.proofs.Words.{set, arith, Ok, Err, length-map, slice_get-get_or, World, Made, new_world, Slots, IsNew}
+use Rattle.machine_model.proofs.Words.{◌≡◌, ℕ, Bool, false, ◌+◌, ◌<◌, ◌≤◌, List, [], ◌∷◌, ◌++◌, refl, sym, subst, ap, ◌∙◌, take, drop, map, length, get_or}
+use Rattle.machine_model.proofs.Words.{set, arith, Ok, Err, length-map, slice_get-get_or, World, Made, new_world, Slots, IsNew}
 use Rattle.std.specs.Prelude.{Option, Some}
 use Rattle.std.proofs.lemmas.List.{drop_more, set_at, set-get_or, length-append, map_push, map_more}
 use Rattle.core_steps.specs.Moving.{MayWant}
 use Rattle.shared.proofs.Places.{one_longer, said_more, same_place, told_more}
 use Rattle.coded.specs.declared.batch.Stop.{Stop}
 use Rattle.coded.specs.declared.batch.Stop.TheVariants.{BadEvent, NoMemory}
-use Rattle.machine_laws.proofs.Bracketed.{bracketed}
-use Rattle.machine_sound.proofs.Kept.{run_more, runs_sound, reached_opening}
+use Rattle.machine_model.proofs.Bracketed.{bracketed}
+use Rattle.machine_model.proofs.SoundKept.{run_more, runs_sound, reached_opening}
 use Rattle.core_steps.specs.Machine.{IsLegal}
 use Rattle.core_steps.proofs.Reached.{legal}
 use Rattle.core_steps.proofs.Runs.{plainly}

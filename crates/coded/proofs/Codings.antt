@@ -1,5 +1,5 @@
 -- Codes by their places in a list, and sets of cores by their bits
-use Rattle.machine_laws.proofs.Words.{◌≡◌, ℕ, zero, suc, ◌-◌, ◌+◌, ◌*◌, ◌^◌, ◌%◌, ◌<◌, ◌≤◌, get_or, refl, sym, ◌∙◌, arith, subst, slice_get-get_or}
+use Rattle.machine_model.proofs.Words.{◌≡◌, ℕ, zero, suc, ◌-◌, ◌+◌, ◌*◌, ◌^◌, ◌%◌, ◌<◌, ◌≤◌, get_or, refl, sym, ◌∙◌, arith, subst, slice_get-get_or}
 use Rattle.std.specs.Prelude.{Some}
 use Rattle.std.specs.Int.{bit_at}
 use Rattle.std.proofs.lemmas.Nat.{mod-pow-add}

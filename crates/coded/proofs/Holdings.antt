@@ -1,5 +1,5 @@
 -- What is said of a handle
-use Rattle.machine_laws.proofs.Words.{◌≡◌, false, refl, is_some}
+use Rattle.machine_model.proofs.Words.{◌≡◌, false, refl, is_some}
 use Rattle.std.specs.Prelude.{Option, None, Some}
 use Rattle.core_steps.specs.Machine.{IsLegal}
 use Rattle.core_steps.proofs.Reached.{legal}

@@ -1,5 +1,5 @@
 -- What is told one by one
-use Rattle.machine_laws.proofs.Words.{◌≡◌, ℕ, ◌+◌, ◌<◌, ◌≤◌, List, ◌++◌, sym, subst, ap, ◌∙◌, take, drop, map, length, get_or, set, arith, take_more}
+use Rattle.machine_model.proofs.Words.{◌≡◌, ℕ, ◌+◌, ◌<◌, ◌≤◌, List, ◌++◌, sym, subst, ap, ◌∙◌, take, drop, map, length, get_or, set, arith, take_more}
 use Rattle.std.proofs.Common.{min}
 use native.Mathlib.Nat.{min_comm, min-le_left}
 use Rattle.std.proofs.lemmas.List.{length-take-le}

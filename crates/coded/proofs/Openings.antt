@@ -1,6 +1,6 @@
 -- Files that are opened one by one, and the machine that has them
-use Rattle.machine_laws.proofs.Words.{◌≡◌, ℕ, zero, suc, Bool, ◌+◌, ◌-◌, ◌≤◌, List, [], ◌∷◌, ◌++◌, refl, sym, ap, ◌∙◌, take, drop, length, arith, inl, inr}
-use Rattle.machine_laws.proofs.Words.{◌||◌, slice_get-get_or, given_files, Slots, IsNew, World, new_world}
+use Rattle.machine_model.proofs.Words.{◌≡◌, ℕ, zero, suc, Bool, ◌+◌, ◌-◌, ◌≤◌, List, [], ◌∷◌, ◌++◌, refl, sym, ap, ◌∙◌, take, drop, length, arith, inl, inr}
+use Rattle.machine_model.proofs.Words.{◌||◌, slice_get-get_or, given_files, Slots, IsNew, World, new_world}
 use Rattle.std.specs.Prelude.{◌<◌, get_or, None, slice_get}
 use Rattle.std.specs.List.{list_any}
 use Rattle.std.proofs.lemmas.List.{length-take-le, length-drop}

@@ -7,8 +7,8 @@ use Rattle.machine_model.specs.declared.event.Event.{Event}
 use Rattle.machine_model.specs.declared.event.Outcome.{Outcome}
 use Rattle.machine_model.specs.World.{World, Made, new_world}
 use Rattle.machine_model.specs.Step.{Run, Step}
-use Rattle.machine_laws.specs.Brackets.{IsBracketed}
-use Rattle.machine_sound.specs.Sound.{SoundRun}
+use Rattle.machine_model.specs.Brackets.{IsBracketed}
+use Rattle.machine_model.specs.Sound.{SoundRun}
 use Rattle.core_steps.specs.declared.machine.Finished.{Finished}
 use Rattle.core_steps.specs.declared.machine.Finished.TheVariants.{Last, Stuck}
 use Rattle.core_steps.specs.declared.setup.SetupFault.{SetupFault}

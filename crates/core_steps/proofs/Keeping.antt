@@ -1,14 +1,14 @@
 -- What steps keep: what the machine was made with, which calls were begun, unless one begins, where slots begin, unless some are joined, and what pages have
 -- that the step doesn't change. Events only rise.
-use Rattle.machine_laws.proofs.Words.{◌≡◌, ◌≢◌, ℕ, ◌≤◌, true, false, refl, sym, ap, ◌∙◌, subst, arith, Option, nat_tests, PageInfo, PageRange, Request, has}
-use Rattle.machine_laws.proofs.Words.{put, put_other, Change, Touch, Slots, Event, Call, Go, Outcome, Phase, page_of_touch, some_has, World, Step, with_event}
+use Rattle.machine_model.proofs.Words.{◌≡◌, ◌≢◌, ℕ, ◌≤◌, true, false, refl, sym, ap, ◌∙◌, subst, arith, Option, nat_tests, PageInfo, PageRange, Request, has}
+use Rattle.machine_model.proofs.Words.{put, put_other, Change, Touch, Slots, Event, Call, Go, Outcome, Phase, page_of_touch, some_has, World, Step, with_event}
 use Rattle.slot_lock.specs.Changes.{changed}
 use Rattle.machine_model.specs.declared.event.Event.TheVariants.{Fold}
-use Rattle.machine_laws.proofs.Changed.{changed_edge, same_outside}
-use Rattle.machine_laws.proofs.Shapes.{Shape, rests, begins, ends, goes, aims, gives_up, works, joins, Comes, stopped, acts, comes}
-use Rattle.machine_laws.proofs.Shapes.{GoesBy, moves, divides, cuts, fits, owns, lets_go, answers, posts, commits, takes, zeroes, first_copies}
-use Rattle.machine_laws.proofs.Shapes.{caches, shares, posts_copy, copies, installs, accesses, faults, IsGoing, going, picking}
-use Rattle.machine_laws.proofs.Shapes.{Works, clears, invalidates, walks, evicts, flushes, reviews, frees}
+use Rattle.machine_model.proofs.Changed.{changed_edge, same_outside}
+use Rattle.machine_model.proofs.Shapes.{Shape, rests, begins, ends, goes, aims, gives_up, works, joins, Comes, stopped, acts, comes}
+use Rattle.machine_model.proofs.Shapes.{GoesBy, moves, divides, cuts, fits, owns, lets_go, answers, posts, commits, takes, zeroes, first_copies}
+use Rattle.machine_model.proofs.Shapes.{caches, shares, posts_copy, copies, installs, accesses, faults, IsGoing, going, picking}
+use Rattle.machine_model.proofs.Shapes.{Works, clears, invalidates, walks, evicts, flushes, reviews, frees}
 use Rattle.core_steps.specs.Changing.{changes_in, may_change, AllStepsKeepOtherPages}
 
 -- slots that begin go on beginning there

@@ -1,7 +1,7 @@
 -- Slots show what the pages of the plain page map are mapped to
-use Rattle.machine_laws.proofs.Words.{◌≡◌, ℕ, ◌-◌, ◌^◌, ⊎_elim, Option, None, Some, Result, Ok, Err, refl, sym, ap, ◌∙◌, subst, arith, ∥∥₁_elim, fun_ext}
-use Rattle.machine_laws.proofs.Words.{props, IfOk, IfSome, IfNone, Back, PageInfo, Prot, IsPage, Plain, IsSlotMap, MapLine, IsMapList, plain_metas, World}
-use Rattle.machine_laws.proofs.Words.{Memory}
+use Rattle.machine_model.proofs.Words.{◌≡◌, ℕ, ◌-◌, ◌^◌, ⊎_elim, Option, None, Some, Result, Ok, Err, refl, sym, ap, ◌∙◌, subst, arith, ∥∥₁_elim, fun_ext}
+use Rattle.machine_model.proofs.Words.{props, IfOk, IfSome, IfNone, Back, PageInfo, Prot, IsPage, Plain, IsSlotMap, MapLine, IsMapList, plain_metas, World}
+use Rattle.machine_model.proofs.Words.{Memory}
 use Rattle.std.proofs.Common.{Vec}
 use Rattle.std.specs.Prelude.{OnErr}
 use Rattle.vm_base.specs.declared.memory.NoMemory.{NoMemory}
@@ -9,11 +9,11 @@ use Rattle.vm_base.specs.Plain.{Entry}
 use Rattle.vm_base.specs.Runs.{NoneIn}
 use Rattle.slot_lock.specs.MapList.{GoesOn, IsNextLine, entry_meta}
 use Rattle.slot_lock.specs.MapWalks.{info_meta, slot_metas}
-use Rattle.machine_sound.specs.Invariant.{ShowsPage}
-use Rattle.machine_sound.specs.Sound.{IsReached}
-use Rattle.machine_sound.proofs.OneMap.{log_leads_to_one}
+use Rattle.machine_model.specs.Invariant.{ShowsPage}
+use Rattle.machine_model.specs.Sound.{IsReached}
+use Rattle.machine_model.proofs.OneMap.{log_leads_to_one}
 use Rattle.core_steps.specs.MapLines.{HasNoMap, IsLineStart, IsNextMap, ListsMaps}
-use Rattle.machine_sound.specs.Log.{LeadsTo}
+use Rattle.machine_model.specs.Log.{LeadsTo}
 use Rattle.core_steps.proofs.Reached.{well, legal}
 
 -- a page of the slots and the page of the plain page map that they show

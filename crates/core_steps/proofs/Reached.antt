@@ -1,12 +1,12 @@
 -- What a machine knows of the state that it has: some run leads to it
-use Rattle.machine_laws.proofs.Words.{◌≡◌, ℕ, zero, suc, ◌<◌, ◌≤◌, ◌+◌, Bool, None, sym, subst, arith, Result, Ok, Err, add-one, IfOk, ∥∥₁_map, Slots, IsNew}
-use Rattle.machine_laws.proofs.Words.{Event, Go, Outcome, Stepped, World, new_world, Step, StepsTo}
+use Rattle.machine_model.proofs.Words.{◌≡◌, ℕ, zero, suc, ◌<◌, ◌≤◌, ◌+◌, Bool, None, sym, subst, arith, Result, Ok, Err, add-one, IfOk, ∥∥₁_map, Slots, IsNew}
+use Rattle.machine_model.proofs.Words.{Event, Go, Outcome, Stepped, World, new_world, Step, StepsTo}
 use Rattle.std.specs.Prelude.{◌≢◌}
 use Rattle.vm_base.specs.declared.memory.NoMemory.{NoMemory}
 use Rattle.core_steps.specs.declared.machine.Finished.TheVariants.{Last}
-use Rattle.machine_sound.specs.Invariant.{IsWellFormed}
-use Rattle.machine_sound.specs.Sound.{IsReached, IsSoundStep}
-use Rattle.machine_sound.proofs.Kept.{reached_fine, reached_opening, reached_sound, reached_step, steps_sound}
+use Rattle.machine_model.specs.Invariant.{IsWellFormed}
+use Rattle.machine_model.specs.Sound.{IsReached, IsSoundStep}
+use Rattle.machine_model.proofs.SoundKept.{reached_fine, reached_opening, reached_sound, reached_step, steps_sound}
 use Rattle.core_steps.specs.declared.setup.Setup.{Setup}
 use Rattle.core_steps.specs.Finishing.{Finishes, IsRefused, finish_limit}
 use Rattle.core_steps.specs.Machine.{IsLegal}

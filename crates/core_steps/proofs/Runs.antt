@@ -1,15 +1,15 @@
 -- Runs that grow by one event
-use Rattle.machine_laws.proofs.Words.{◌≡◌, ℕ, Bool, ◌+◌, ◌<◌, ◌≤◌, List, [], ◌∷◌, ◌++◌, refl, sym, subst, ap, ◌∙◌, take, length, get_or, take_more, PageRange}
-use Rattle.machine_laws.proofs.Words.{Slots, IsNew, Event, Outcome, World, Made, new_world, Step, Run, nothing_mapped, Replays}
+use Rattle.machine_model.proofs.Words.{◌≡◌, ℕ, Bool, ◌+◌, ◌<◌, ◌≤◌, List, [], ◌∷◌, ◌++◌, refl, sym, subst, ap, ◌∙◌, take, length, get_or, take_more, PageRange}
+use Rattle.machine_model.proofs.Words.{Slots, IsNew, Event, Outcome, World, Made, new_world, Step, Run, nothing_mapped, Replays}
 use Rattle.std.proofs.lemmas.Option.{slice_get_read}
-use Rattle.machine_laws.proofs.Bracketed.{bracketed}
-use Rattle.machine_sound.proofs.Kept.{run_more}
+use Rattle.machine_model.proofs.Bracketed.{bracketed}
+use Rattle.machine_model.proofs.SoundKept.{run_more}
 use Rattle.core_steps.specs.Moving.{MayWant, JoinsAsMap}
 use Rattle.core_steps.specs.Dividing.{DividesAsMap}
 use Rattle.core_steps.specs.Running.{IsRefusedAt, LogsPlainly, RunsAsMap}
 use Rattle.core_steps.proofs.Keeping.{step_made}
-use Rattle.machine_sound.specs.Sound.{IsReached}
-use Rattle.machine_sound.proofs.Kept.{reached_sound}
+use Rattle.machine_model.specs.Sound.{IsReached}
+use Rattle.machine_model.proofs.SoundKept.{reached_sound}
 
 -- the event at n comes next
 pub next_run : (w : World) (es : List Event) (n : ℕ) (e : Event) (os : List Outcome) (m v : World) (o : Outcome) → n < length es

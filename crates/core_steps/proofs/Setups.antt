@@ -1,5 +1,5 @@
 -- What a setup without fault has, within its limit of calls
-use Rattle.machine_laws.proofs.Words.{◌≡◌, ℕ, ◌≤◌, Bool, true, false, length, Option, None, Some, refl, arith, if◌then◌else◌, nat_tests}
+use Rattle.machine_model.proofs.Words.{◌≡◌, ℕ, ◌≤◌, Bool, true, false, length, Option, None, Some, refl, arith, if◌then◌else◌, nat_tests}
 use Rattle.std.proofs.Common.{◌||◌, nat_lt}
 use Rattle.core_steps.specs.declared.setup.CallLimit.{CallLimit}
 use Rattle.core_steps.specs.declared.setup.CallLimit.TheVariants.{Usual, Long}

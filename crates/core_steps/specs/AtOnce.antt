@@ -11,7 +11,7 @@ use Rattle.machine_model.specs.declared.phase.Phase.TheVariants.{Free}
 use Rattle.machine_model.specs.World.{World}
 use Rattle.machine_model.specs.Changes.{checked_by}
 use Rattle.machine_model.specs.Step.{Step, StepsTo, event_limit}
-use Rattle.machine_sound.specs.Sound.{IsReached}
+use Rattle.machine_model.specs.Sound.{IsReached}
 use Rattle.core_steps.specs.Dividing.{StepsAsMap}
 use Rattle.core_steps.specs.Finishing.{Calls, CallsAsMap, finish_limit}
 use Rattle.core_steps.specs.declared.machine.Finished.TheVariants.{Last}

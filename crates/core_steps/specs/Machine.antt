@@ -2,7 +2,7 @@
 use Rattle.slot_lock.specs.declared.slot_map.SlotMap.{Ghosts as MapGhosts}
 use Rattle.slot_lock.specs.declared.slot_map.SlotRead.{Ghosts as ReadGhosts}
 use Rattle.machine_model.specs.World.{World}
-use Rattle.machine_sound.specs.Sound.{IsReached, IsSoundState}
+use Rattle.machine_model.specs.Sound.{IsReached, IsSoundState}
 use Rattle.core_steps.specs.declared.machine.Machine.{Machine}
 use Rattle.core_steps.specs.State.{world}
 

@@ -5,7 +5,7 @@ use Rattle.slot_lock.specs.declared.map_list.MapLine.{MapLine}
 use Rattle.vm_base.specs.Runs.{NoneIn}
 use Rattle.slot_lock.specs.MapList.{GoesOn, IsMapList, IsNextLine, plain_metas}
 use Rattle.machine_model.specs.World.{World}
-use Rattle.machine_sound.specs.Log.{LeadsTo}
+use Rattle.machine_model.specs.Log.{LeadsTo}
 
 -- of that map: these are all its mappings, in order,
 abbrev pub ListsMaps : World → List MapLine → Type 0

@@ -32,8 +32,8 @@ use Rattle.machine_model.specs.Holding.{awaits_in, is_open, taken_in}
 use Rattle.machine_model.specs.Locks.{locking}
 use Rattle.machine_model.specs.Translating.{frame_reached, translated_by}
 use Rattle.machine_model.specs.World.{World, Hardware}
-use Rattle.machine_laws.specs.Orderly.{answer_count}
-use Rattle.machine_sound.specs.Invariant.{IsWellFormed}
+use Rattle.machine_model.specs.Orderly.{answer_count}
+use Rattle.machine_model.specs.Invariant.{IsWellFormed}
 use Rattle.core_steps.specs.Filling.{IsAloneAt}
 use Rattle.core_steps.specs.Taking.{AreCounted}
 

@@ -26,7 +26,7 @@ use Rattle.machine_model.specs.Locks.{locking}
 use Rattle.machine_model.specs.Step.{StepsTo, event_limit}
 use Rattle.machine_model.specs.Translating.{entry_of_page, with_table}
 use Rattle.machine_model.specs.World.{Memory, World}
-use Rattle.machine_sound.specs.Sound.{IsReached}
+use Rattle.machine_model.specs.Sound.{IsReached}
 use Rattle.core_steps.specs.Moving.{tried_to}
 use Rattle.core_steps.specs.declared.at_once.fault.Source.{Source}
 use Rattle.core_steps.specs.declared.at_once.fault.Source.TheVariants.{Own, Cached, Free}

@@ -12,7 +12,7 @@ use Rattle.vm_base.specs.declared.page.PageRange.{PageRange}
 use Rattle.slot_lock.specs.Slots.{Slots}
 use Rattle.vm_base.specs.Plain.{File, Plain, nothing_mapped}
 use Rattle.vm_base.specs.declared.log.Entry.{Entry}
-use Rattle.machine_laws.specs.Brackets.{calls_of, requests_of}
+use Rattle.machine_model.specs.Brackets.{calls_of, requests_of}
 use Rattle.vm_base.specs.Log.{Replays}
 use Rattle.core_steps.specs.Setups.{IsFirstFault, fault_of}
 use Rattle.core_steps.specs.Moving.{MayWant, JoinsAsMap}

@@ -3,7 +3,7 @@ use Rattle.std.specs.Prelude.{ℕ, ◌<◌, pos, ◌<ℤ◌}
 use Rattle.slot_lock.specs.Slots.{Slots}
 use Rattle.refcache.specs.Counts.{Counts, true_count}
 use Rattle.machine_model.specs.World.{World}
-use Rattle.machine_sound.specs.Invariant.{IsWellFormed}
+use Rattle.machine_model.specs.Invariant.{IsWellFormed}
 
 -- some page has the frame, as far as the counts say
 pub record IsCounted (counts : Counts) (frame : ℕ) : Type 0 where

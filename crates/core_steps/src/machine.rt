@@ -1,5 +1,5 @@
 //! The machine as its users see it: it is made, given events and calls, and asked what it has.
-ghost use Rattle.machine_sound.specs.Sound.{IsReached};
+ghost use Rattle.machine_model.specs.Sound.{IsReached};
 ghost use Rattle.core_steps.specs.State.{world};
 
 mod counted;
@@ -94,7 +94,7 @@ impl<M: SlotMap, A: Allocator + Clone, L: Ledger> Machine<M, A, L> {
     ghost use Rattle.machine_model.specs.declared.event.Event.{Event};
     ghost use Rattle.machine_model.specs.Step.{Step, StepsTo};
     ghost use Rattle.machine_model.specs.World.{World};
-    ghost use Rattle.machine_sound.specs.Sound.{IsSoundStep};
+    ghost use Rattle.machine_model.specs.Sound.{IsSoundStep};
     ghost use Rattle.core_steps.specs.Changing.{may_change};
     ghost use Rattle.core_steps.specs.Moving.{JoinsAsMap, MayWant, Tries};
     ghost use Rattle.core_steps.specs.Dividing.{DividesAsMap, StepsAsMap};

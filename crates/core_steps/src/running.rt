@@ -3,8 +3,8 @@ ghost use Rattle.std.specs.Prelude.{◌≡◌, ◌≤◌, [], IfOk, IfErr, OnOk,
 ghost use Rattle.slot_lock.specs.Slots.{IsNew};
 ghost use Rattle.machine_model.specs.World.{new_world};
 ghost use Rattle.machine_model.specs.Step.{Run as RunsTo};
-ghost use Rattle.machine_laws.specs.Brackets.{IsBracketed};
-ghost use Rattle.machine_sound.specs.Sound.{SoundRun};
+ghost use Rattle.machine_model.specs.Brackets.{IsBracketed};
+ghost use Rattle.machine_model.specs.Sound.{SoundRun};
 ghost use Rattle.core_steps.specs.Machine.{state};
 ghost use Rattle.core_steps.specs.Setups.{IsFirstFault, made_of};
 ghost use Rattle.core_steps.specs.Running.{Fails, IsRefusedAt, LogsPlainly, RunsAsMap};

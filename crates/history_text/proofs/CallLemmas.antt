@@ -1,7 +1,7 @@
 -- Notes, one after another.
 use Rattle.std.proofs.Common.{◌≡◌, ℕ, ◌<◌, true, false, cond, List, [], ◌∷◌, ◌++◌, length, drop, Option, Some, None, refl, sym, ap, ◌∙◌}
 use Rattle.std.proofs.Common.{append_assoc, append-nil, ◌+◌, ◌≤◌, arith, get_or, map, take}
-use Rattle.machine_laws.proofs.Words.{flat_map-append, length-map, take_more}
+use Rattle.machine_model.proofs.Words.{flat_map-append, length-map, take_more}
 use Rattle.certifier.proofs.Standing.{all_of, seat_is}
 use Rattle.std.specs.Prelude.{slice_get, is_some}
 use Rattle.seats.specs.declared.noted.Noted.{Noted}

@@ -1,7 +1,7 @@
 -- Notes in order of their tickets, one after another
 use Rattle.std.proofs.Common.{◌≡◌, ℕ, ◌+◌, List, [], ◌∷◌, ◌++◌, map, sym, ap, ◌∙◌}
 use Rattle.std.proofs.lemmas.List.{map-append}
-use Rattle.machine_laws.proofs.Words.{add-one}
+use Rattle.machine_model.proofs.Words.{add-one}
 use Rattle.seats.specs.declared.noted.Noted.{Noted}
 use Rattle.certifier.specs.Order.{in_order, with_ticket}
 

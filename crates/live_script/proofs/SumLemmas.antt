@@ -1,7 +1,7 @@
 -- One note more adds to the numbers of notes.
 use Rattle.std.proofs.Common.{◌≡◌, ℕ, ◌+◌, Bool, true, false, cond, List, [], ◌∷◌, ◌++◌, length, refl, sym, ap, ◌∙◌, arith, filter}
 use Rattle.std.proofs.lemmas.List.{length-append}
-use Rattle.machine_laws.proofs.Words.{filter-append}
+use Rattle.machine_model.proofs.Words.{filter-append}
 use Rattle.vm_base.specs.declared.replies.Reply.{Reply}
 use Rattle.vm_base.specs.declared.requests.Request.{Request}
 use Rattle.machine_model.specs.declared.event.Event.{Event}

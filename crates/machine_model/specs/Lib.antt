@@ -12,3 +12,16 @@ pub mod Accesses
 pub mod GivingUp
 pub mod Filling
 pub mod Step
+pub mod Brackets
+pub mod Orderly
+pub mod Coherent
+pub mod Counted
+pub mod Log
+pub mod Translations
+pub mod Possible
+pub mod Sound
+pub mod Invariant
+pub mod Users
+pub mod Taken
+pub mod Alone
+pub mod Apart

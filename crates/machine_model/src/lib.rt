@@ -1,9 +1,10 @@
 //! The abstract machine: its state, its events, and what each event does to it. `answers` has what
-//! the machine and the threads both answer.
+//! the machine and the threads both answer, `laws` what holds of every run.
 #![tactic(auto)]
 
 pub mod answers;
 pub mod event;
+pub mod laws;
 pub mod phase;
 
 pub use event::{Blocker, Event, Outcome};

@@ -1,7 +1,7 @@
 -- Whole texts, a line at a time.
-use Rattle.machine_laws.proofs.Words.{◌≡◌, ◌≢◌, true, false, OnOk, ℕ, ◌+◌, ◌<◌, ◌≤◌, Bool, List, [], ◌∷◌, ◌++◌, Option, Some, None, Result, Ok, Err}
-use Rattle.machine_laws.proofs.Words.{length, take, ◌⊎◌, inl, inr, arith, refl, sym, ap, ◌∙◌, subst, append_assoc, append-nil, length-append, nat_tests}
-use Rattle.machine_laws.proofs.Words.{IsSomeAnd, Mode}
+use Rattle.machine_model.proofs.Words.{◌≡◌, ◌≢◌, true, false, OnOk, ℕ, ◌+◌, ◌<◌, ◌≤◌, Bool, List, [], ◌∷◌, ◌++◌, Option, Some, None, Result, Ok, Err}
+use Rattle.machine_model.proofs.Words.{length, take, ◌⊎◌, inl, inr, arith, refl, sym, ap, ◌∙◌, subst, append_assoc, append-nil, length-append, nat_tests}
+use Rattle.machine_model.proofs.Words.{IsSomeAnd, Mode}
 use Rattle.std.proofs.Common.{IfErr, IfOk}
 use Rattle.std.specs.Prelude.{is_err, ◌==◌}
 use Rattle.trace_io.specs.Lines.{lines_of, IsUnbroken, TakesLine}

@@ -1,7 +1,7 @@
 -- The text of an outcome names it.
-use Rattle.machine_laws.proofs.Words.{◌≡◌, ◌≢◌, inl, inr, ℕ, zero, suc, ◌+◌, ◌-◌, ◌^◌, ◌<◌, ◌≤◌, Bool, true, false, cond, eqb, ltb, List, [], ◌∷◌, ◌++◌}
-use Rattle.machine_laws.proofs.Words.{subst, codes, decimal, map, arith, refl, sym, ap, ◌∙◌, cases_lt, or_right, nat_tests, filter, range_with_len, members}
-use Rattle.machine_laws.proofs.Words.{with_member, EINVAL, MapErr, Reply, Mapped, Byte, Refused, Segv}
+use Rattle.machine_model.proofs.Words.{◌≡◌, ◌≢◌, inl, inr, ℕ, zero, suc, ◌+◌, ◌-◌, ◌^◌, ◌<◌, ◌≤◌, Bool, true, false, cond, eqb, ltb, List, [], ◌∷◌, ◌++◌}
+use Rattle.machine_model.proofs.Words.{subst, codes, decimal, map, arith, refl, sym, ap, ◌∙◌, cases_lt, or_right, nat_tests, filter, range_with_len, members}
+use Rattle.machine_model.proofs.Words.{with_member, EINVAL, MapErr, Reply, Mapped, Byte, Refused, Segv}
 use Rattle.std.proofs.Common.{◌&&◌, ◌||◌}
 use Rattle.std.proofs.lemmas.Bool.{cases_eq}
 use Rattle.std.proofs.lemmas.Nat.Bits.{bit_at-zero, bit_at-pow_same, bit_at-pow_other, bit_at_above}

@@ -1,7 +1,7 @@
 -- What is written piece by piece.
-use Rattle.machine_laws.proofs.Words.{◌≡◌, inl, inr, ℕ, suc, ◌+◌, ◌<◌, ◌≤◌, List, [], ◌∷◌, ◌++◌, Option, ◌⊎◌, length, take, drop, get_or, arith, refl, sym}
-use Rattle.machine_laws.proofs.Words.{ap, ◌∙◌, subst, append-nil, append_assoc, length-append, common_steps, flat_map-append, take_more, Appends-nil}
-use Rattle.machine_laws.proofs.Words.{Appends-trans, flat_map, Appends, Keeps}
+use Rattle.machine_model.proofs.Words.{◌≡◌, inl, inr, ℕ, suc, ◌+◌, ◌<◌, ◌≤◌, List, [], ◌∷◌, ◌++◌, Option, ◌⊎◌, length, take, drop, get_or, arith, refl, sym}
+use Rattle.machine_model.proofs.Words.{ap, ◌∙◌, subst, append-nil, append_assoc, length-append, common_steps, flat_map-append, take_more, Appends-nil}
+use Rattle.machine_model.proofs.Words.{Appends-trans, flat_map, Appends, Keeps}
 use Rattle.std.proofs.lemmas.List.{take-append-drop}
 use Rattle.trace_io.specs.Sink.{AppendsFront}
 use Rattle.trace_io.proofs.IoLemmas.{front_longer, front_more, keeps_same}

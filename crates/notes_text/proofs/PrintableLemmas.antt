@@ -1,6 +1,6 @@
 -- What is written has no bytes but printable ones.
-use Rattle.machine_laws.proofs.Words.{◌≡◌, ℕ, zero, suc, ◌+◌, ◌^◌, ◌<◌, ◌≤◌, Bool, true, false, cond, List, [], ◌∷◌, decimal, arith, refl, sym, ap, ◌∙◌}
-use Rattle.machine_laws.proofs.Words.{subst, nat_le, ◌&&◌, filter, range_with_len, members, Reply}
+use Rattle.machine_model.proofs.Words.{◌≡◌, ℕ, zero, suc, ◌+◌, ◌^◌, ◌<◌, ◌≤◌, Bool, true, false, cond, List, [], ◌∷◌, decimal, arith, refl, sym, ap, ◌∙◌}
+use Rattle.machine_model.proofs.Words.{subst, nat_le, ◌&&◌, filter, range_with_len, members, Reply}
 use Rattle.std.proofs.lemmas.Bool.{and_parts}
 use Rattle.std.specs.Prelude.{flat_map}
 use Rattle.trace_io.specs.Lines.{IsUnbroken}

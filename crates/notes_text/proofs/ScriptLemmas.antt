@@ -1,6 +1,6 @@
 -- Lines of scripts and their grammar.
-use Rattle.machine_laws.proofs.Words.{◌≡◌, ℕ, ◌<◌, inl, inr, Bool, true, false, cond, List, [], Option, Some, None, refl, sym, ap, ◌∙◌, subst, arith, ltb}
-use Rattle.machine_laws.proofs.Words.{nat_tests, IfSome, IfNone, IfOk, IfErr, IsSomeAnd, Request}
+use Rattle.machine_model.proofs.Words.{◌≡◌, ℕ, ◌<◌, inl, inr, Bool, true, false, cond, List, [], Option, Some, None, refl, sym, ap, ◌∙◌, subst, arith, ltb}
+use Rattle.machine_model.proofs.Words.{nat_tests, IfSome, IfNone, IfOk, IfErr, IsSomeAnd, Request}
 use Rattle.std.specs.Prelude.{Result, Ok, Err}
 use Rattle.trace.specs.Declarations.{Asked, asked_fault}
 use Rattle.trace.specs.declared.fault.TraceFault.{TraceFault}

@@ -1,5 +1,5 @@
 -- Words on both sides of a sign.
-use Rattle.machine_laws.proofs.Words.{◌≡◌, ◌≢◌, ℕ, ◌+◌, Bool, true, false, not, eqb, List, [], ◌∷◌, ◌++◌, codes, arith, refl, sym, ap, ◌∙◌, nat_tests}
+use Rattle.machine_model.proofs.Words.{◌≡◌, ◌≢◌, ℕ, ◌+◌, Bool, true, false, not, eqb, List, [], ◌∷◌, ◌++◌, codes, arith, refl, sym, ap, ◌∙◌, nat_tests}
 use Rattle.std.proofs.lemmas.Bool.{not-true}
 use Rattle.trace_io.specs.Lines.{onto}
 use Rattle.trace_text.specs.Words.{Word, words_of, begins_word}

@@ -1,7 +1,7 @@
 -- The tasks of each core.
-use Rattle.machine_laws.proofs.Words.{◌≡◌, ℕ, zero, suc, ◌+◌, ◌<◌, ◌≤◌, Bool, true, false, cond, eqb, List, [], ◌∷◌, ◌++◌, length, take, map, get_or, arith}
-use Rattle.machine_laws.proofs.Words.{refl, sym, ap, ◌∙◌, common_steps, take_more, filter-append, filter, range_with_len}
-use Rattle.machine_laws.proofs.Words.{Result, Ok}
+use Rattle.machine_model.proofs.Words.{◌≡◌, ℕ, zero, suc, ◌+◌, ◌<◌, ◌≤◌, Bool, true, false, cond, eqb, List, [], ◌∷◌, ◌++◌, length, take, map, get_or, arith}
+use Rattle.machine_model.proofs.Words.{refl, sym, ap, ◌∙◌, common_steps, take_more, filter-append, filter, range_with_len}
+use Rattle.machine_model.proofs.Words.{Result, Ok}
 use Rattle.std.proofs.Common.{is_ok}
 use Rattle.std.proofs.lemmas.List.{map-append}
 use Rattle.std.specs.Prelude.{◌==◌}

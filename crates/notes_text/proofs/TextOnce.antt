@@ -1,5 +1,5 @@
 -- A text says one declaration and one list of items, and what says them is refused at no line.
-use Rattle.machine_laws.proofs.Words.{◌≡◌, ◌⊎◌, inl, inr, ℕ, Bool, true, List, [], ◌∷◌, ◌++◌, Option, Some, None, arith, sym, ap, ◌∙◌, subst, Mode}
+use Rattle.machine_model.proofs.Words.{◌≡◌, ◌⊎◌, inl, inr, ℕ, Bool, true, List, [], ◌∷◌, ◌++◌, Option, Some, None, arith, sym, ap, ◌∙◌, subst, Mode}
 use Rattle.seats.specs.declared.noted.Noted.{Noted}
 use Rattle.trace_io.specs.Lines.{lines_of}
 use Rattle.trace_text.specs.Words.{Word, words_of}

@@ -1,7 +1,7 @@
 -- The text that is written of notes says them.
-use Rattle.machine_laws.proofs.Words.{◌≡◌, ◌≢◌, inl, inr, ℕ, suc, ◌+◌, ◌*◌, ◌^◌, ◌<◌, ◌≤◌, Bool, true, false, cond, eqb, ltb, List, [], ◌∷◌, ◌++◌, Some, None}
-use Rattle.machine_laws.proofs.Words.{length, codes, decimal, arith, refl, sym, ap, ◌∙◌, subst, append_assoc, append-nil, length-append, ◌||◌, nat_lt}
-use Rattle.machine_laws.proofs.Words.{nat_tests, length-decimal-le, Mode}
+use Rattle.machine_model.proofs.Words.{◌≡◌, ◌≢◌, inl, inr, ℕ, suc, ◌+◌, ◌*◌, ◌^◌, ◌<◌, ◌≤◌, Bool, true, false, cond, eqb, ltb, List, [], ◌∷◌, ◌++◌, Some, None}
+use Rattle.machine_model.proofs.Words.{length, codes, decimal, arith, refl, sym, ap, ◌∙◌, subst, append_assoc, append-nil, length-append, ◌||◌, nat_lt}
+use Rattle.machine_model.proofs.Words.{nat_tests, length-decimal-le, Mode}
 use Rattle.std.specs.Prelude.{flat_map}
 use Rattle.std.specs.List.{AllByRecursion}
 use Rattle.std.specs.Str.{bytes_eq}

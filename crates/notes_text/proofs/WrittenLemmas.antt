@@ -1,6 +1,6 @@
 -- What is written says what it was written of.
-use Rattle.machine_laws.proofs.Words.{◌≡◌, inl, inr, ℕ, ◌+◌, ◌^◌, ◌<◌, Bool, true, false, List, [], ◌∷◌, ◌++◌, length, decimal, arith, refl, ap, ◌∙◌}
-use Rattle.machine_laws.proofs.Words.{append-nil, Prot, Flags, Request, Mmap, Munmap, Mprotect, Load, Store, Fetch}
+use Rattle.machine_model.proofs.Words.{◌≡◌, inl, inr, ℕ, ◌+◌, ◌^◌, ◌<◌, Bool, true, false, List, [], ◌∷◌, ◌++◌, length, decimal, arith, refl, ap, ◌∙◌}
+use Rattle.machine_model.proofs.Words.{append-nil, Prot, Flags, Request, Mmap, Munmap, Mprotect, Load, Store, Fetch}
 use Rattle.std.specs.List.{list_all}
 use Rattle.trace_text.specs.Words.{Word, words_of}
 use Rattle.trace_text.specs.Printing.{address_of}

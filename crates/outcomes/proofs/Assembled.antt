@@ -1,13 +1,13 @@
 -- What is known of opened machines, and how outcomes come together
-use Rattle.machine_laws.proofs.Words.{◌≡◌, ℕ, ◌<◌, ◌≤◌, Bool, true, false, List, [], ◌∷◌, length, slice_get, None, Some, refl, sym, ◌∙◌, ap, subst, arith, nat_tests}
-use Rattle.machine_laws.proofs.Words.{Event, Outcome, World, Made, Free, Run, new_world, Replays, Plain, nothing_mapped, Slots, IsNew, Reply}
+use Rattle.machine_model.proofs.Words.{◌≡◌, ℕ, ◌<◌, ◌≤◌, Bool, true, false, List, [], ◌∷◌, length, slice_get, None, Some, refl, sym, ◌∙◌, ap, subst, arith, nat_tests}
+use Rattle.machine_model.proofs.Words.{Event, Outcome, World, Made, Free, Run, new_world, Replays, Plain, nothing_mapped, Slots, IsNew, Reply}
 use Rattle.std.proofs.Common.{nat_lt, ◌^◌, ◌++◌, ◌⊎◌, inl, inr, IfSome}
 use Rattle.slot_lock.specs.declared.map_list.MapLine.{MapLine}
 use Rattle.slot_lock.specs.MapList.{plain_metas}
 use Rattle.slot_lock.proofs.OneMapList.{one_list}
-use Rattle.machine_sound.specs.Log.{LeadsTo}
-use Rattle.machine_sound.specs.Sound.{IsReached, IsSoundState, SoundRun}
-use Rattle.machine_sound.proofs.Kept.{reached_fine}
+use Rattle.machine_model.specs.Log.{LeadsTo}
+use Rattle.machine_model.specs.Sound.{IsReached, IsSoundState, SoundRun}
+use Rattle.machine_model.proofs.SoundKept.{reached_fine}
 use Rattle.core_steps.specs.declared.setup.Setup.{Setup}
 use Rattle.core_steps.specs.Setups.{fault_of, made_of}
 use Rattle.core_steps.proofs.Keeping.{step_made}

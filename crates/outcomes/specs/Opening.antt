@@ -6,7 +6,7 @@ use Rattle.machine_model.specs.declared.event.Outcome.{Outcome as Result}
 use Rattle.machine_model.specs.declared.phase.Phase.TheVariants.{Free}
 use Rattle.machine_model.specs.World.{World, Made, new_world}
 use Rattle.machine_model.specs.Step.{Run}
-use Rattle.machine_sound.specs.Sound.{IsSoundState}
+use Rattle.machine_model.specs.Sound.{IsSoundState}
 
 -- a run of these events leads to it from a new machine
 pub record IsRun (made : Made) (events : List Event) (w : World) : Type 0 where

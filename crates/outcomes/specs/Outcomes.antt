@@ -10,7 +10,7 @@ use Rattle.machine_model.specs.declared.event.Outcome.{Outcome as Result}
 use Rattle.machine_model.specs.declared.phase.Phase.TheVariants.{Free}
 use Rattle.machine_model.specs.World.{World, Made, new_world}
 use Rattle.machine_model.specs.Step.{Run}
-use Rattle.machine_sound.specs.Log.{LeadsTo}
+use Rattle.machine_model.specs.Log.{LeadsTo}
 use Rattle.combinations.specs.declared.asked.Asked.{Asked}
 use Rattle.combinations.specs.Finals.{loads_by}
 use Rattle.merges.specs.Mappings.{AreMaps}

@@ -2,7 +2,7 @@
 ghost use Rattle.std.specs.Prelude.{◌≡◌, IfErr, IfOk, None, true};
 ghost use Rattle.vm_base.specs.Plain.{Plain};
 ghost use Rattle.backing.specs.Files.{files_of};
-ghost use Rattle.machine_sound.specs.Log.{LeadsTo};
+ghost use Rattle.machine_model.specs.Log.{LeadsTo};
 ghost use Rattle.core_steps.specs.Machine.{state};
 ghost use Rattle.combinations.specs.Laws.{AreNamed};
 ghost use Rattle.merges.specs.Nodes.{AreAll, AreOnce};

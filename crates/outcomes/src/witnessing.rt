@@ -3,7 +3,7 @@ ghost use Rattle.std.specs.Prelude.{◌≡◌, ◌++◌, IfOk, IfSome, None, tru
 ghost use Rattle.vm_base.specs.Plain.{Plain};
 ghost use Rattle.combinations.specs.Finals.{loads_by};
 ghost use Rattle.machine_model.specs.World.{World};
-ghost use Rattle.machine_sound.specs.Log.{LeadsTo};
+ghost use Rattle.machine_model.specs.Log.{LeadsTo};
 ghost use Rattle.core_steps.specs.Machine.{state};
 ghost use Rattle.trace.specs.Declarations.{asked_fault, made_by};
 ghost use Rattle.outcomes.specs.Opening.{IsCalm};

@@ -1,6 +1,6 @@
 -- The entry that a step logs is a turn of the call that it is of
-use Rattle.machine_laws.proofs.Words.{◌≡◌, ◌≢◌, ℕ, ◌++◌, ◌∷◌, [], Bool, true, false, cond, List, Option, Some, None, refl, sym, ◌∙◌, ap, subst, arith, if◌then◌else◌}
-use Rattle.machine_laws.proofs.Words.{nth, Plain, Entry, Detach, EntryLeads, Replays, Reply, Done, NoFrame, NoMemory, Request, World, IsPlace, Stands, Access, PageInfo, IsPage}
+use Rattle.machine_model.proofs.Words.{◌≡◌, ◌≢◌, ℕ, ◌++◌, ◌∷◌, [], Bool, true, false, cond, List, Option, Some, None, refl, sym, ◌∙◌, ap, subst, arith, if◌then◌else◌}
+use Rattle.machine_model.proofs.Words.{nth, Plain, Entry, Detach, EntryLeads, Replays, Reply, Done, NoFrame, NoMemory, Request, World, IsPlace, Stands, Access, PageInfo, IsPage}
 use Rattle.vm_base.specs.declared.log.Entry.TheVariants.{Answer}
 use Rattle.vm_base.specs.declared.replies.Reply.TheVariants as ReplyOf
 use Rattle.vm_base.specs.declared.requests.Request.TheVariants as RequestOf
@@ -15,12 +15,12 @@ use Rattle.vm_base.specs.Plain.{Bytes, Entry as PageEntry, bytes_of, nothing_map
 use Rattle.vm_base.specs.Rights.{is_allowed}
 use Rattle.std.proofs.lemmas.Bool.Decides.{nat_tests}
 use Rattle.std.proofs.Common.{is_some, ◌^◌, ◌<◌, ◌≤◌}
-use Rattle.machine_laws.specs.Brackets.{IsStoreTo}
-use Rattle.machine_laws.specs.Orderly.{BelongsTo}
+use Rattle.machine_model.specs.Brackets.{IsStoreTo}
+use Rattle.machine_model.specs.Orderly.{BelongsTo}
 use Rattle.machine_model.specs.World.{Memory}
-use Rattle.machine_sound.specs.Invariant.{IsWellFormed, ShowsPage}
-use Rattle.machine_sound.specs.Log.{LeadsTo}
-use Rattle.machine_sound.proofs.OneMap.{log_leads_to_one}
+use Rattle.machine_model.specs.Invariant.{IsWellFormed, ShowsPage}
+use Rattle.machine_model.specs.Log.{LeadsTo}
+use Rattle.machine_model.proofs.OneMap.{log_leads_to_one}
 use Rattle.combinations.specs.Turns.{TurnsTo}
 
 -- a log with one entry more

@@ -1,14 +1,14 @@
 -- What events say, and that the reply which a call has is the one that is handed out
-use Rattle.machine_laws.proofs.Words.{◌≡◌, ◌≢◌, ℕ, ◌==◌, ◌++◌, ◌∷◌, [], Bool, true, false, cond, List, refl, sym, ◌∙◌, ap, subst}
-use Rattle.machine_laws.proofs.Words.{Reply, Request, Event, Call, Go, Outcome, Stepped, Answered, World, Phase, Free, Check, Run, put_other}
+use Rattle.machine_model.proofs.Words.{◌≡◌, ◌≢◌, ℕ, ◌==◌, ◌++◌, ◌∷◌, [], Bool, true, false, cond, List, refl, sym, ◌∙◌, ap, subst}
+use Rattle.machine_model.proofs.Words.{Reply, Request, Event, Call, Go, Outcome, Stepped, Answered, World, Phase, Free, Check, Run, put_other}
 use Rattle.machine_model.specs.Step.{with_event}
 use Rattle.vm_base.proofs.Functions.{eq_true, eq_false}
 use Rattle.machine_model.specs.declared.event.Event.TheVariants as EventOf
 use Rattle.machine_model.specs.declared.event.Outcome.TheVariants as OutcomeOf
-use Rattle.machine_laws.proofs.Effects.{Status, Closed, Asked, Told, status, statuses, Effect, keeps, tells, detaches, opens, closes, effect_of}
-use Rattle.machine_laws.proofs.Shapes.{Comes, IsInner, acts, comes, stopped}
-use Rattle.machine_sound.specs.Invariant.{IsWellFormed}
-use Rattle.machine_sound.proofs.Kept.{fine_step}
+use Rattle.machine_model.proofs.Effects.{Status, Closed, Asked, Told, status, statuses, Effect, keeps, tells, detaches, opens, closes, effect_of}
+use Rattle.machine_model.proofs.Shapes.{Comes, IsInner, acts, comes, stopped}
+use Rattle.machine_model.specs.Invariant.{IsWellFormed}
+use Rattle.machine_model.proofs.SoundKept.{fine_step}
 use Rattle.performed.specs.Performed.{Said, said, said_by}
 use Rattle.performed.specs.Performed.Said.{Asks, Tells}
 

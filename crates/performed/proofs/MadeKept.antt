@@ -1,8 +1,8 @@
 -- A machine stays what it was made with.
-use Rattle.machine_laws.proofs.Words.{◌≡◌, ℕ, refl, ap, Event, Outcome, World, Step}
-use Rattle.machine_laws.proofs.Shapes.{GoesBy, moves, divides, cuts, fits, owns, lets_go, answers, posts, commits, takes, zeroes, first_copies, caches, shares, posts_copy}
-use Rattle.machine_laws.proofs.Shapes.{copies, installs, accesses, faults, Works, clears, invalidates, walks, evicts, flushes, reviews, frees}
-use Rattle.machine_laws.proofs.Shapes.{Shape, rests, begins, ends, goes, aims, gives_up, works, joins, Comes, stopped, acts, comes}
+use Rattle.machine_model.proofs.Words.{◌≡◌, ℕ, refl, ap, Event, Outcome, World, Step}
+use Rattle.machine_model.proofs.Shapes.{GoesBy, moves, divides, cuts, fits, owns, lets_go, answers, posts, commits, takes, zeroes, first_copies, caches, shares, posts_copy}
+use Rattle.machine_model.proofs.Shapes.{copies, installs, accesses, faults, Works, clears, invalidates, walks, evicts, flushes, reviews, frees}
+use Rattle.machine_model.proofs.Shapes.{Shape, rests, begins, ends, goes, aims, gives_up, works, joins, Comes, stopped, acts, comes}
 use Rattle.machine_model.specs.Step.{with_event}
 
 by_going : (w : World) (c : ℕ) (v : World) → GoesBy w c v → v.made ≡ w.made

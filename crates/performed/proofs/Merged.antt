@@ -1,20 +1,20 @@
 -- The replies that a run performs are a combination: each entry that it logs is a turn.
-use Rattle.machine_laws.proofs.Words.{◌≡◌, ◌≢◌, ℕ, zero, suc, ◌==◌, ◌++◌, ◌∷◌, [], Bool, true, false, List, length, Option, Some, None, refl, sym, ◌∙◌, ap, subst}
-use Rattle.machine_laws.proofs.Words.{nth, put, Plain, EntryLeads, Replays, Reply, NoFrame, NoMemory, Request, Event, Call, Go, Outcome, Stepped, Answered}
-use Rattle.machine_laws.proofs.Words.{World, Phase, Free, Check, Step, Run, after_call, to, answer_entry, detach_entry, put_other, put_same}
+use Rattle.machine_model.proofs.Words.{◌≡◌, ◌≢◌, ℕ, zero, suc, ◌==◌, ◌++◌, ◌∷◌, [], Bool, true, false, List, length, Option, Some, None, refl, sym, ◌∙◌, ap, subst}
+use Rattle.machine_model.proofs.Words.{nth, put, Plain, EntryLeads, Replays, Reply, NoFrame, NoMemory, Request, Event, Call, Go, Outcome, Stepped, Answered}
+use Rattle.machine_model.proofs.Words.{World, Phase, Free, Check, Step, Run, after_call, to, answer_entry, detach_entry, put_other, put_same}
 use Rattle.std.proofs.Common.{map, replicate, set}
 use Rattle.std.proofs.lemmas.List.{length-replicate, length-set}
 use Rattle.vm_base.specs.Plain.{nothing_mapped}
 use Rattle.vm_base.proofs.Functions.{eq_true, eq_false}
 use Rattle.machine_model.specs.Step.{with_event}
-use Rattle.machine_laws.specs.Brackets.{IsStoreTo}
-use Rattle.machine_laws.proofs.Effects.{Status, Closed, Asked, Told, status, statuses, Effect, keeps, tells, detaches, opens, closes, effect_of}
-use Rattle.machine_laws.proofs.Numbered.{at_new, at_old}
-use Rattle.machine_laws.proofs.Shapes.{Comes, IsInner, acts, comes, stopped}
-use Rattle.machine_sound.specs.Invariant.{IsWellFormed}
-use Rattle.machine_sound.specs.Log.{LeadsTo}
-use Rattle.machine_sound.proofs.Kept.{fine_step, reached_fine}
-use Rattle.machine_sound.proofs.Logs.{replays_requests}
+use Rattle.machine_model.specs.Brackets.{IsStoreTo}
+use Rattle.machine_model.proofs.Effects.{Status, Closed, Asked, Told, status, statuses, Effect, keeps, tells, detaches, opens, closes, effect_of}
+use Rattle.machine_model.proofs.Numbered.{at_new, at_old}
+use Rattle.machine_model.proofs.Shapes.{Comes, IsInner, acts, comes, stopped}
+use Rattle.machine_model.specs.Invariant.{IsWellFormed}
+use Rattle.machine_model.specs.Log.{LeadsTo}
+use Rattle.machine_model.proofs.SoundKept.{fine_step, reached_fine}
+use Rattle.machine_model.proofs.Logs.{replays_requests}
 use Rattle.combinations.specs.declared.asked.Asked.{Asked as Call'}
 use Rattle.combinations.specs.Finals.{loads_by}
 use Rattle.combinations.proofs.Loads.{loads_are_shown, loads_stay}

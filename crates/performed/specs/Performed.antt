@@ -12,8 +12,8 @@ use Rattle.machine_model.specs.declared.phase.Phase.TheVariants.{Free}
 use Rattle.machine_model.specs.Events.{core_of}
 use Rattle.machine_model.specs.World.{World}
 use Rattle.machine_model.specs.Step.{Run}
-use Rattle.machine_sound.specs.Log.{LeadsTo}
-use Rattle.machine_sound.specs.Sound.{IsReached}
+use Rattle.machine_model.specs.Log.{LeadsTo}
+use Rattle.machine_model.specs.Sound.{IsReached}
 use Rattle.combinations.specs.declared.asked.Asked.{Asked}
 use Rattle.combinations.specs.Finals.{AreShown, loads_by}
 use Rattle.combinations.specs.Merging.{IsCombination, IsEnd}

@@ -1,9 +1,9 @@
 -- What the log of a legal state has
-use Rattle.machine_laws.proofs.Words.{◌≡◌, ℕ, zero, suc, Bool, true, List, [], ◌∷◌, refl, subst, ap, ∥∥₁_elim, props, is_some, Request, Reply, Entry, Detach}
-use Rattle.machine_laws.proofs.Words.{Plain, nth, EntryLeads, Replays, World}
+use Rattle.machine_model.proofs.Words.{◌≡◌, ℕ, zero, suc, Bool, true, List, [], ◌∷◌, refl, subst, ap, ∥∥₁_elim, props, is_some, Request, Reply, Entry, Detach}
+use Rattle.machine_model.proofs.Words.{Plain, nth, EntryLeads, Replays, World}
 use Rattle.std.specs.Prelude.{Option, None, Some, slice_get}
 use Rattle.vm_base.specs.declared.log.Entry.TheVariants.{Answer}
-use Rattle.machine_laws.specs.Brackets.{IsAnswer}
+use Rattle.machine_model.specs.Brackets.{IsAnswer}
 use Rattle.core_steps.specs.Machine.{IsLegal}
 
 -- whether an answer at this place has its request

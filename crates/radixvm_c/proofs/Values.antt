@@ -1,5 +1,5 @@
 -- The machine values of a `Loose` and of a `Handle`. Assumes `Logic`.
-use Rattle.machine_laws.proofs.Words.{◌≡◌, ℕ, List, [], ◌∷◌, ◌++◌, refl, sym, subst, is_some, IsSome, ghosts}
+use Rattle.machine_model.proofs.Words.{◌≡◌, ℕ, List, [], ◌∷◌, ◌++◌, refl, sym, subst, is_some, IsSome, ghosts}
 use Rattle.std.proofs.Common.{lit<}
 use Rattle.std.specs.Prelude.{Option, None, Some}
 use mathlib.Core.Bool.{Bool, true, false, ◌&&◌, not}

@@ -6,7 +6,7 @@ use Rattle.vm_base.specs.declared.replies.Reply.{Reply}
 use Rattle.vm_base.specs.declared.log.Entry.{Entry}
 use Rattle.vm_base.specs.Log.{nth}
 use Rattle.machine_model.specs.World.{World}
-use Rattle.machine_laws.specs.Brackets.{IsAnswer}
+use Rattle.machine_model.specs.Brackets.{IsAnswer}
 use Rattle.machine_model.specs.declared.event.Event.{Event}
 use Rattle.machine_model.specs.declared.event.Event.TheVariants as Ev
 use Rattle.machine_model.specs.Events.{core_of as core_that_takes}

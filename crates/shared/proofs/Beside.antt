@@ -1,6 +1,6 @@
 -- What a core does beside calls
-use Rattle.machine_laws.proofs.Words.{◌≡◌, ℕ, Bool, ap, subst, World, Event, Outcome, Step, List, Request, Entry}
-use Rattle.machine_alone.specs.Alone.{IsBeside, IsCalm}
+use Rattle.machine_model.proofs.Words.{◌≡◌, ℕ, Bool, ap, subst, World, Event, Outcome, Step, List, Request, Entry}
+use Rattle.machine_model.specs.Alone.{IsBeside, IsCalm}
 use Rattle.core_steps.specs.Moving.{MayWant}
 use Rattle.core_steps.specs.Machine.{IsLegal}
 use Rattle.shared.specs.declared.asides.Aside.{Aside}

@@ -1,14 +1,14 @@
 -- A call halts, is let go, or is given up, and is ended
-use Rattle.machine_laws.proofs.Words.{◌≡◌, ◌≢◌, ℕ, ◌+◌, ◌<◌, ◌≤◌, arith, Bool, true, false, refl, sym, ap, subst, None, ◌∙◌, inl}
-use Rattle.machine_laws.proofs.Words.{inr, ◌⊎◌, ⊎_elim, World, Request, Reply, Call, Outcome}
-use Rattle.machine_laws.proofs.Words.{Stepped, Answered, Full, Idle, Wait, Free, Step, members, awaited, eq_true, ◌==◌}
-use Rattle.machine_laws.proofs.Words.{nat_tests, Result, ∥∥₁_elim, props}
-use Rattle.machine_laws.proofs.Going.{has_core}
-use Rattle.machine_laws.proofs.Shapes.{handed_out}
+use Rattle.machine_model.proofs.Words.{◌≡◌, ◌≢◌, ℕ, ◌+◌, ◌<◌, ◌≤◌, arith, Bool, true, false, refl, sym, ap, subst, None, ◌∙◌, inl}
+use Rattle.machine_model.proofs.Words.{inr, ◌⊎◌, ⊎_elim, World, Request, Reply, Call, Outcome}
+use Rattle.machine_model.proofs.Words.{Stepped, Answered, Full, Idle, Wait, Free, Step, members, awaited, eq_true, ◌==◌}
+use Rattle.machine_model.proofs.Words.{nat_tests, Result, ∥∥₁_elim, props}
+use Rattle.machine_model.proofs.Going.{has_core}
+use Rattle.machine_model.proofs.Shapes.{handed_out}
 use Rattle.machine_model.specs.declared.event.Event.TheVariants as EventOf
 use Rattle.vm_base.specs.declared.memory.NoMemory.{NoMemory}
-use Rattle.machine_sound.proofs.Kept.{reached_fine}
-use Rattle.machine_alone.specs.Alone.{IsCalm, left_to}
+use Rattle.machine_model.proofs.SoundKept.{reached_fine}
+use Rattle.machine_model.specs.Alone.{IsCalm, left_to}
 use Rattle.core_steps.specs.declared.machine.Finished.{Finished}
 use Rattle.core_steps.specs.declared.machine.Finished.TheVariants.{Last, Stuck}
 use Rattle.core_steps.specs.Finishing.{Calls, Finishes, FinishesAfter, IsCallRefused, IsRefused}

@@ -1,20 +1,20 @@
 -- A call that has begun: each step of it, and each take of another core, adds to the log what it is replied, and nothing of other cores
-use Rattle.machine_laws.proofs.Words.{◌≡◌, ◌≢◌, ℕ, zero, suc, ◌+◌, ◌<◌, arith, ◌==◌, Bool, true, false, refl, sym, ap, subst, Some, None}
-use Rattle.machine_laws.proofs.Words.{Option, [], ◌∷◌, ◌++◌, ◌∙◌, inl, inr, ◌⊎◌, ⊎_elim}
-use Rattle.machine_laws.proofs.Words.{List, length, append-nil, eq_true, eq_false, put_same, put_other, put, Request, Reply, Entry, nth}
-use Rattle.machine_laws.proofs.Words.{World, Event, Call, Go, Outcome}
-use Rattle.machine_laws.proofs.Words.{Stepped, Answered, Full, Phase, Free, Check, Unlock, Answer, with_event, after_call, answer_entry}
-use Rattle.machine_laws.proofs.Words.{detach_entry, Step, StepsTo, event_limit, nat_lt, put_all, nothing_mapped, nat_tests, Idle, Wait}
-use Rattle.machine_laws.proofs.Words.{Result, Ok, Err, ∥∥₁_elim, ∥∥₁_map, props}
-use Rattle.machine_laws.proofs.Effects.{Status, Closed, Asked, Told, status, statuses, SameCalls, Effect, keeps, tells, detaches, opens, closes, effect_of}
-use Rattle.machine_laws.proofs.Numbered.{at_new}
-use Rattle.machine_laws.proofs.Going.{has_core}
+use Rattle.machine_model.proofs.Words.{◌≡◌, ◌≢◌, ℕ, zero, suc, ◌+◌, ◌<◌, arith, ◌==◌, Bool, true, false, refl, sym, ap, subst, Some, None}
+use Rattle.machine_model.proofs.Words.{Option, [], ◌∷◌, ◌++◌, ◌∙◌, inl, inr, ◌⊎◌, ⊎_elim}
+use Rattle.machine_model.proofs.Words.{List, length, append-nil, eq_true, eq_false, put_same, put_other, put, Request, Reply, Entry, nth}
+use Rattle.machine_model.proofs.Words.{World, Event, Call, Go, Outcome}
+use Rattle.machine_model.proofs.Words.{Stepped, Answered, Full, Phase, Free, Check, Unlock, Answer, with_event, after_call, answer_entry}
+use Rattle.machine_model.proofs.Words.{detach_entry, Step, StepsTo, event_limit, nat_lt, put_all, nothing_mapped, nat_tests, Idle, Wait}
+use Rattle.machine_model.proofs.Words.{Result, Ok, Err, ∥∥₁_elim, ∥∥₁_map, props}
+use Rattle.machine_model.proofs.Effects.{Status, Closed, Asked, Told, status, statuses, SameCalls, Effect, keeps, tells, detaches, opens, closes, effect_of}
+use Rattle.machine_model.proofs.Numbered.{at_new}
+use Rattle.machine_model.proofs.Going.{has_core}
 use Rattle.machine_model.specs.declared.event.Event.TheVariants as EventOf
 use Rattle.vm_base.specs.declared.memory.NoMemory.{NoMemory}
-use Rattle.machine_laws.proofs.Shapes.{handed_out, IsInner, Comes, stopped, acts as happens, comes}
-use Rattle.machine_sound.specs.Sound.{IsReached, IsSoundState}
-use Rattle.machine_sound.proofs.Kept.{reached_fine, reached_step}
-use Rattle.machine_alone.specs.Alone.{IsCalm}
+use Rattle.machine_model.proofs.Shapes.{handed_out, IsInner, Comes, stopped, acts as happens, comes}
+use Rattle.machine_model.specs.Sound.{IsReached, IsSoundState}
+use Rattle.machine_model.proofs.SoundKept.{reached_fine, reached_step}
+use Rattle.machine_model.specs.Alone.{IsCalm}
 use Rattle.core_steps.specs.declared.machine.Finished.{Finished}
 use Rattle.core_steps.specs.declared.machine.Finished.TheVariants.{Last, Stuck}
 use Rattle.core_steps.specs.Finishing.{Calls, Finishes, FinishesAfter, IsRefused}

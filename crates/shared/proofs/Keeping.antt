@@ -15,9 +15,9 @@ use Rattle.vm_base.specs.declared.requests.Request.{Request}
 use Rattle.vm_base.specs.declared.replies.Reply.{Reply}
 use Rattle.std.proofs.Math.Logic.{∥∥₁_elim}
 use Rattle.std.proofs.Props.{props}
-use Rattle.machine_sound.proofs.Kept.{reached_fine}
+use Rattle.machine_model.proofs.SoundKept.{reached_fine}
 use Rattle.machine_model.specs.World.{World, Made}
-use Rattle.machine_alone.specs.Alone.{IsCalm}
+use Rattle.machine_model.specs.Alone.{IsCalm}
 use Rattle.core_steps.specs.Machine.{IsLegal}
 use Rattle.shared.specs.declared.history.History.{History}
 use Rattle.shared.specs.declared.history.Replied.{Replied}

@@ -1,26 +1,26 @@
 -- Below the limits a call is answered: what halts is let go by takes, and what is let go or given up is ended
-use Rattle.machine_laws.proofs.Words.{◌≡◌, ◌≢◌, ℕ, zero, suc, ◌+◌, ◌-◌, ◌<◌, ◌≤◌, ◌^◌, arith, ◌==◌, Bool, true, false, cond, refl, sym, ap}
-use Rattle.machine_laws.proofs.Words.{subst, Some, None, Option, [], ◌∷◌, ◌∙◌, inl, inr, ◌⊎◌, ⊎_elim}
-use Rattle.machine_laws.proofs.Words.{List, length, nat_lt, nat_tests, put, put_same, eq_true, eq_false, put_other, PageRange}
-use Rattle.machine_laws.proofs.Words.{Request, Reply, World, Event, Call, Go, Outcome, Stepped, Idle, Answered, Full, Plain}
-use Rattle.machine_laws.proofs.Words.{Phase, Free, Lock, Cut, Unlock, Answer, Fill, CopyAcks, Install, Acts, Goes, Begins}
-use Rattle.machine_laws.proofs.Words.{GivesUp, Becomes, is_here, core_of, with_event, event_limit, Step, StepsTo, after_give_up, held_after}
-use Rattle.machine_laws.proofs.Words.{still_held, let_go, awaits_in, members}
-use Rattle.machine_laws.proofs.Words.{Entry, Made, Message, Replays, after_call, between, awaited, if◌then◌else◌, nothing_mapped, nth, pred}
-use Rattle.machine_laws.proofs.Words.{∥∥₁_elim, ∥∥₁_map, props}
+use Rattle.machine_model.proofs.Words.{◌≡◌, ◌≢◌, ℕ, zero, suc, ◌+◌, ◌-◌, ◌<◌, ◌≤◌, ◌^◌, arith, ◌==◌, Bool, true, false, cond, refl, sym, ap}
+use Rattle.machine_model.proofs.Words.{subst, Some, None, Option, [], ◌∷◌, ◌∙◌, inl, inr, ◌⊎◌, ⊎_elim}
+use Rattle.machine_model.proofs.Words.{List, length, nat_lt, nat_tests, put, put_same, eq_true, eq_false, put_other, PageRange}
+use Rattle.machine_model.proofs.Words.{Request, Reply, World, Event, Call, Go, Outcome, Stepped, Idle, Answered, Full, Plain}
+use Rattle.machine_model.proofs.Words.{Phase, Free, Lock, Cut, Unlock, Answer, Fill, CopyAcks, Install, Acts, Goes, Begins}
+use Rattle.machine_model.proofs.Words.{GivesUp, Becomes, is_here, core_of, with_event, event_limit, Step, StepsTo, after_give_up, held_after}
+use Rattle.machine_model.proofs.Words.{still_held, let_go, awaits_in, members}
+use Rattle.machine_model.proofs.Words.{Entry, Made, Message, Replays, after_call, between, awaited, if◌then◌else◌, nothing_mapped, nth, pred}
+use Rattle.machine_model.proofs.Words.{∥∥₁_elim, ∥∥₁_map, props}
 use Rattle.machine_model.specs.declared.event.Event.TheVariants as EventOf
 use Rattle.vm_base.specs.declared.replies.Reply.TheVariants as ReplyOf
-use Rattle.machine_laws.proofs.Moves.{IsCallOf, call_at}
-use Rattle.machine_laws.proofs.Going.{has_core}
-use Rattle.machine_sound.specs.Sound.{IsReached}
-use Rattle.machine_sound.proofs.Kept.{reached_fine, reached_step}
-use Rattle.machine_alone.specs.Alone.{ComesBeside, IsAwaiting, IsBeside, IsBesideCalls, IsCalm}
-use Rattle.machine_alone.specs.Alone.{IsResting, IsWaiting, left_to, takes_left}
-use Rattle.machine_alone.specs.Taken.{frames_taken}
-use Rattle.machine_alone.proofs.Beside.{rests_beside}
-use Rattle.machine_alone.proofs.Ending.{served_at_last}
-use Rattle.machine_alone.proofs.Serving.{served_alone}
-use Rattle.machine_alone.proofs.Telling.{left_is_awaited}
+use Rattle.machine_model.proofs.Moves.{IsCallOf, call_at}
+use Rattle.machine_model.proofs.Going.{has_core}
+use Rattle.machine_model.specs.Sound.{IsReached}
+use Rattle.machine_model.proofs.SoundKept.{reached_fine, reached_step}
+use Rattle.machine_model.specs.Alone.{ComesBeside, IsAwaiting, IsBeside, IsBesideCalls, IsCalm}
+use Rattle.machine_model.specs.Alone.{IsResting, IsWaiting, left_to, takes_left}
+use Rattle.machine_model.specs.Taken.{frames_taken}
+use Rattle.machine_model.proofs.Beside.{rests_beside}
+use Rattle.machine_model.proofs.Ending.{served_at_last}
+use Rattle.machine_model.proofs.Serving.{served_alone}
+use Rattle.machine_model.proofs.Telling.{left_is_awaited}
 use Rattle.core_steps.specs.declared.machine.Finished.{Finished}
 use Rattle.core_steps.specs.declared.machine.Finished.TheVariants.{Last, Stuck}
 use Rattle.core_steps.specs.Finishing.{Finishes, IsRefused, finish_limit}

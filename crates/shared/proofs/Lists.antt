@@ -1,9 +1,9 @@
 -- The calls of a core in a log, as it grows
-use Rattle.machine_laws.proofs.Words.{◌≡◌, ◌≢◌, ℕ, ◌==◌, Bool, true, false, cond, refl, sym, ap, Some, None, Option, [], ◌∷◌, ◌++◌, ◌∙◌}
-use Rattle.machine_laws.proofs.Words.{List, length, take, append-nil, Request, Reply, Entry, nth}
-use Rattle.machine_laws.proofs.Words.{Plain, Replays}
+use Rattle.machine_model.proofs.Words.{◌≡◌, ◌≢◌, ℕ, ◌==◌, Bool, true, false, cond, refl, sym, ap, Some, None, Option, [], ◌∷◌, ◌++◌, ◌∙◌}
+use Rattle.machine_model.proofs.Words.{List, length, take, append-nil, Request, Reply, Entry, nth}
+use Rattle.machine_model.proofs.Words.{Plain, Replays}
 use Rattle.std.proofs.Common.{eq-eqb, ne_eqb}
-use Rattle.machine_laws.proofs.Numbered.{at_old}
+use Rattle.machine_model.proofs.Numbered.{at_old}
 use Rattle.vm_base.specs.declared.log.Entry.TheVariants.{Answer, Detach}
 use Rattle.shared.specs.declared.history.History.{History}
 use Rattle.shared.specs.declared.history.Replied.{Replied}

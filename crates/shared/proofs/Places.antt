@@ -1,5 +1,5 @@
 -- Lists that are written place by place
-use Rattle.machine_laws.proofs.Words.{◌≡◌, ℕ, ◌+◌, ◌<◌, List, [], ◌∷◌, ◌++◌, refl, sym, ap, ◌∙◌, take, drop, map, length, get_or, set, length-map}
+use Rattle.machine_model.proofs.Words.{◌≡◌, ℕ, ◌+◌, ◌<◌, List, [], ◌∷◌, ◌++◌, refl, sym, ap, ◌∙◌, take, drop, map, length, get_or, set, length-map}
 use Rattle.std.specs.Prelude.{Option, Some}
 use Rattle.std.proofs.lemmas.List.{drop_more, set_at, set-get_or, length-append, map_push, map_more}
 

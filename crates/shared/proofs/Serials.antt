@@ -1,10 +1,10 @@
 -- Many calls, one after another
-use Rattle.machine_laws.proofs.Words.{◌≡◌, ◌≢◌, ℕ, ◌+◌, ◌<◌, ◌≤◌, arith, refl, sym, ap, subst, Option, None, Some, [], ◌∷◌, ◌++◌, ◌∙◌, List, length, map}
-use Rattle.machine_laws.proofs.Words.{take, drop, get_or, set, append-nil, append_assoc, take_more, slice_get-get_or, Request, Reply, World}
+use Rattle.machine_model.proofs.Words.{◌≡◌, ◌≢◌, ℕ, ◌+◌, ◌<◌, ◌≤◌, arith, refl, sym, ap, subst, Option, None, Some, [], ◌∷◌, ◌++◌, ◌∙◌, List, length, map}
+use Rattle.machine_model.proofs.Words.{take, drop, get_or, set, append-nil, append_assoc, take_more, slice_get-get_or, Request, Reply, World}
 use Rattle.std.specs.Prelude.{slice_get}
 use Rattle.std.proofs.lemmas.List.{get_or-map, length-map, map_push}
 use Rattle.vm_base.specs.declared.replies.Reply.TheVariants.{NoMemory}
-use Rattle.machine_alone.specs.Alone.{IsCalm}
+use Rattle.machine_model.specs.Alone.{IsCalm}
 use Rattle.shared.specs.declared.history.History.{History}
 use Rattle.shared.specs.declared.history.Replied.{Replied}
 use Rattle.shared.specs.declared.series.Stop.{Stop}

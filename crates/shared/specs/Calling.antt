@@ -11,8 +11,8 @@ use Rattle.machine_model.specs.declared.event.Outcome.TheVariants.{Answered}
 use Rattle.core_steps.specs.declared.machine.Finished.{Finished}
 use Rattle.core_steps.specs.declared.machine.Finished.TheVariants.{Last}
 use Rattle.machine_model.specs.World.{World}
-use Rattle.machine_sound.specs.Sound.{IsReached}
-use Rattle.machine_alone.specs.Alone.{IsWaiting, left_to}
+use Rattle.machine_model.specs.Sound.{IsReached}
+use Rattle.machine_model.specs.Alone.{IsWaiting, left_to}
 use Rattle.core_steps.specs.Moving.{MayWant}
 use Rattle.shared.specs.declared.history.Replied.{Replied}
 use Rattle.shared.specs.declared.whole.Ended.{Ended}

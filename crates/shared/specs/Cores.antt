@@ -6,7 +6,7 @@ use Rattle.vm_base.specs.declared.replies.Reply.{Reply}
 use Rattle.machine_model.specs.declared.event.Outcome.{Outcome}
 use Rattle.machine_model.specs.declared.event.Outcome.TheVariants.{Full}
 use Rattle.machine_model.specs.World.{World, Made}
-use Rattle.machine_alone.specs.Alone.{IsCalm}
+use Rattle.machine_model.specs.Alone.{IsCalm}
 use Rattle.core_steps.specs.Machine.{IsLegal}
 use Rattle.shared.specs.declared.asides.Aside.{Aside}
 use Rattle.shared.specs.declared.history.History.{History}

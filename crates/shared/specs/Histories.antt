@@ -10,7 +10,7 @@ use Rattle.machine_model.specs.declared.event.Event.TheVariants as EventOf
 use Rattle.machine_model.specs.declared.event.Outcome.{Outcome}
 use Rattle.machine_model.specs.Step.{Step, event_limit}
 use Rattle.machine_model.specs.World.{World}
-use Rattle.machine_alone.specs.Alone.{IsCalm}
+use Rattle.machine_model.specs.Alone.{IsCalm}
 use Rattle.shared.specs.declared.asides.Aside.{Aside}
 use Rattle.shared.specs.declared.asides.Aside.TheVariants as Does
 use Rattle.shared.specs.declared.history.History.{History}

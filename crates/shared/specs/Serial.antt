@@ -4,7 +4,7 @@ use Rattle.vm_base.specs.declared.requests.Request.{Request}
 use Rattle.vm_base.specs.declared.replies.Reply.{Reply}
 use Rattle.vm_base.specs.declared.replies.Reply.TheVariants.{NoMemory}
 use Rattle.machine_model.specs.World.{World}
-use Rattle.machine_alone.specs.Alone.{IsCalm}
+use Rattle.machine_model.specs.Alone.{IsCalm}
 use Rattle.shared.specs.declared.history.Replied.{Replied}
 use Rattle.shared.specs.declared.series.Stop.{Stop}
 use Rattle.shared.specs.declared.series.Stop.TheVariants as For

@@ -1,6 +1,6 @@
 //! What a core does beside its calls.
 ghost use Rattle.std.specs.Prelude.{◌≡◌};
-ghost use Rattle.machine_alone.specs.Alone.{IsCalm};
+ghost use Rattle.machine_model.specs.Alone.{IsCalm};
 ghost use Rattle.core_steps.specs.Machine.{state, IsLegal};
 ghost use Rattle.shared.specs.Histories.{StepsAside, event_of};
 

@@ -1,6 +1,6 @@
 //! A whole call of a machine: the caller makes the takes of the cores that it waits for.
 ghost use Rattle.std.specs.Prelude.{◌≡◌, ◌<◌};
-ghost use Rattle.machine_alone.specs.Alone.{IsCalm};
+ghost use Rattle.machine_model.specs.Alone.{IsCalm};
 ghost use Rattle.core_steps.specs.Machine.{state, IsLegal};
 ghost use Rattle.shared.specs.Histories.{Ends};
 ghost use Rattle.shared.specs.Calling.{ComesTo, EndsFrom, Halts, HaltsTo, IsLetGo, LeavesHalted};

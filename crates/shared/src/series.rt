@@ -1,6 +1,6 @@
 //! Many whole calls of one core, one after another.
 ghost use Rattle.std.specs.Prelude.{◌≡◌, ◌<◌, ◌≤◌, List, Option, length, map};
-ghost use Rattle.machine_alone.specs.Alone.{IsCalm};
+ghost use Rattle.machine_model.specs.Alone.{IsCalm};
 ghost use Rattle.core_steps.specs.Machine.{IsLegal};
 ghost use Rattle.vm_base.specs.declared.requests.Request.{Request as RequestOf};
 ghost use Rattle.vm_base.specs.declared.replies.Reply.{Reply as ReplyOf};

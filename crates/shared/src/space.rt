@@ -4,7 +4,7 @@ ghost use Rattle.shared.specs.declared.history.Replied.{Replied as RepliedOf};
 ghost use Rattle.shared.specs.Histories.{history_of, replied_by, event_of, Ends, StepsAside};
 ghost use Rattle.shared.specs.Serial.{AreTold, EndsSeries};
 ghost use Rattle.shared.specs.Cores.{Answers, AnswersAll, Agrees, IsBeside, IsKept, Passes, made_of, new_core, told_of};
-ghost use Rattle.machine_alone.specs.Alone.{IsCalm};
+ghost use Rattle.machine_model.specs.Alone.{IsCalm};
 ghost use Rattle.core_steps.specs.Machine.{IsLegal};
 ghost use Rattle.shared.specs.Rules.{CanGive, Makes, Took, after, answer_of, word_after, word_of};
 

@@ -1,7 +1,7 @@
 //! A machine whose calls are whole: none is in flight between two of them.
 ghost use Rattle.std.specs.Prelude.{◌≡◌, ◌<◌, false, IsTrue};
 ghost use Rattle.machine_model.specs.World.{World};
-ghost use Rattle.machine_alone.specs.Alone.{IsCalm};
+ghost use Rattle.machine_model.specs.Alone.{IsCalm};
 ghost use Rattle.core_steps.specs.Machine.{IsLegal};
 ghost use Rattle.shared.specs.Histories.{Ends, StepsAside, event_of};
 

@@ -1,6 +1,6 @@
 -- What is written of a script's text
-use Rattle.machine_laws.proofs.Words.{◌≡◌, inr, ℕ, suc, ◌+◌, ◌<◌, List, [], ◌∷◌, ◌++◌, Option, length, take, drop, get_or, arith, refl, sym}
-use Rattle.machine_laws.proofs.Words.{ap, ◌∙◌, subst, append-nil, append_assoc, common_steps, take_more, Appends-trans, flat_map, Appends}
+use Rattle.machine_model.proofs.Words.{◌≡◌, inr, ℕ, suc, ◌+◌, ◌<◌, List, [], ◌∷◌, ◌++◌, Option, length, take, drop, get_or, arith, refl, sym}
+use Rattle.machine_model.proofs.Words.{ap, ◌∙◌, subst, append-nil, append_assoc, common_steps, take_more, Appends-trans, flat_map, Appends}
 use Rattle.std.proofs.Common.{Result, Ok, Err, map, Vec, Global}
 use Rattle.std.proofs.lemmas.List.{get_or_default, get_or-map, length-map, take-append-drop}
 use Rattle.machine_model.specs.World.{World}

@@ -1,16 +1,16 @@
 -- What the tables of a core have of a page, by what can be read
-use Rattle.machine_laws.proofs.Words.{◌≡◌, ℕ, subst, ◌+◌, ◌*◌, ◌/◌, ◌%◌, ◌^◌, ◌<◌, ◌≤◌, ◌==◌, Bool, true, false, refl, sym, ap, ◌∙◌, arith}
-use Rattle.machine_laws.proofs.Words.{Some, None, Option, nat_lt, nat_tests}
-use Rattle.machine_laws.proofs.Words.{if◌then◌else◌, is_page, IsPage, is_some, PageInfo, Translation, World, ∥∥₁_elim, props, Touch}
-use Rattle.machine_laws.proofs.Words.{CopyPost, page_of_touch}
-use Rattle.machine_laws.specs.Orderly.{IsReady, IsUsable}
+use Rattle.machine_model.proofs.Words.{◌≡◌, ℕ, subst, ◌+◌, ◌*◌, ◌/◌, ◌%◌, ◌^◌, ◌<◌, ◌≤◌, ◌==◌, Bool, true, false, refl, sym, ap, ◌∙◌, arith}
+use Rattle.machine_model.proofs.Words.{Some, None, Option, nat_lt, nat_tests}
+use Rattle.machine_model.proofs.Words.{if◌then◌else◌, is_page, IsPage, is_some, PageInfo, Translation, World, ∥∥₁_elim, props, Touch}
+use Rattle.machine_model.proofs.Words.{CopyPost, page_of_touch}
+use Rattle.machine_model.specs.Orderly.{IsReady, IsUsable}
 use Rattle.vm_base.specs.Info.{recorded_cores}
 use Rattle.mmu.specs.Entry.{entry_word}
 use Rattle.mmu.specs.Tables.{word_of}
-use Rattle.machine_sound.specs.Invariant.{IsWellFormed}
-use Rattle.machine_sound.proofs.Kept.{reached_fine}
-use Rattle.machine_sound.proofs.Reaching.{HasPage, backs}
-use Rattle.machine_sound.specs.Sound.{IsReached}
+use Rattle.machine_model.specs.Invariant.{IsWellFormed}
+use Rattle.machine_model.proofs.SoundKept.{reached_fine}
+use Rattle.machine_model.proofs.Reaching.{HasPage, backs}
+use Rattle.machine_model.specs.Sound.{IsReached}
 
 -- a number that is no page's
 invalid : (p : ℕ) → IsPage p → is_page p ≡ false → ⊥

@@ -1,13 +1,13 @@
 -- The pages that are shown as held are those that a call holds, and these its core owns.
-use Rattle.machine_laws.proofs.Words.{◌≡◌, ◌≢◌, ℕ, ◌+◌, ◌<◌, ◌≤◌, ◌==◌, ◌&&◌, Bool, true, false, refl, sym, ap, ◌∙◌, arith, nat_le, nat_lt, nat_tests}
-use Rattle.machine_laws.proofs.Words.{Some, None, Option, has, Phase, PageRange, Touch, Goal, World, page_of_touch}
+use Rattle.machine_model.proofs.Words.{◌≡◌, ◌≢◌, ℕ, ◌+◌, ◌<◌, ◌≤◌, ◌==◌, ◌&&◌, Bool, true, false, refl, sym, ap, ◌∙◌, arith, nat_le, nat_lt, nat_tests}
+use Rattle.machine_model.proofs.Words.{Some, None, Option, has, Phase, PageRange, Touch, Goal, World, page_of_touch}
 use Rattle.std.specs.Prelude.{if◌then◌else◌, ◌↔◌}
 use Rattle.slot_lock.specs.declared.plan.Goal.TheVariants as To
 use Rattle.slot_lock.specs.Plan.{goal_range, range_of, target_range}
 use Rattle.machine_model.specs.Holding.{holds}
 use Rattle.machine_model.specs.declared.phase.Phase.TheVariants as At
-use Rattle.machine_sound.specs.Sound.{IsReached}
-use Rattle.machine_sound.proofs.Kept.{reached_fine}
+use Rattle.machine_model.specs.Sound.{IsReached}
+use Rattle.machine_model.proofs.SoundKept.{reached_fine}
 use Rattle.state_text.specs.declared.words.Spot.{Spot}
 use Rattle.state_text.specs.declared.words.Spot.TheVariants.{Nowhere, Page, Pages}
 use Rattle.state_text.specs.Words.{goal_spot, held_spot, pages_if, spot_has}

@@ -1,14 +1,14 @@
 -- A step changes where the call of its own core stands, and no other.
-use Rattle.machine_laws.proofs.Words.{◌≡◌, ◌≢◌, ℕ, ◌==◌, Bool, true, false, cond, refl, sym, ap, subst, ◌∙◌, nat_lt, Some, None, Option, put, Event, Outcome}
-use Rattle.machine_laws.proofs.Words.{Phase, Free, Place, Target, World, with_event, event_limit, Step, Acts, is_here, core_of, Idles, Full}
+use Rattle.machine_model.proofs.Words.{◌≡◌, ◌≢◌, ℕ, ◌==◌, Bool, true, false, cond, refl, sym, ap, subst, ◌∙◌, nat_lt, Some, None, Option, put, Event, Outcome}
+use Rattle.machine_model.proofs.Words.{Phase, Free, Place, Target, World, with_event, event_limit, Step, Acts, is_here, core_of, Idles, Full}
 use Rattle.vm_base.proofs.Functions.{put_other}
-use Rattle.machine_laws.proofs.Shapes.{GoesBy, moves, divides, cuts, fits, owns, lets_go, answers, posts, commits, takes, zeroes}
-use Rattle.machine_laws.proofs.Shapes.{first_copies, caches, shares}
-use Rattle.machine_laws.proofs.Shapes.{posts_copy, copies, installs, accesses, faults, Works, clears, invalidates, walks, evicts, flushes}
-use Rattle.machine_laws.proofs.Shapes.{reviews, frees}
-use Rattle.machine_laws.proofs.Shapes.{IsGoing, going, picking, IsAiming, at_run, at_window, Shape, rests, begins, ends, goes, aims}
-use Rattle.machine_laws.proofs.Shapes.{gives_up, works, joins}
-use Rattle.machine_laws.proofs.Shapes.{Comes, stopped, acts as happens, comes}
+use Rattle.machine_model.proofs.Shapes.{GoesBy, moves, divides, cuts, fits, owns, lets_go, answers, posts, commits, takes, zeroes}
+use Rattle.machine_model.proofs.Shapes.{first_copies, caches, shares}
+use Rattle.machine_model.proofs.Shapes.{posts_copy, copies, installs, accesses, faults, Works, clears, invalidates, walks, evicts, flushes}
+use Rattle.machine_model.proofs.Shapes.{reviews, frees}
+use Rattle.machine_model.proofs.Shapes.{IsGoing, going, picking, IsAiming, at_run, at_window, Shape, rests, begins, ends, goes, aims}
+use Rattle.machine_model.proofs.Shapes.{gives_up, works, joins}
+use Rattle.machine_model.proofs.Shapes.{Comes, stopped, acts as happens, comes}
 use Rattle.state_text.specs.Shown.{phase_in}
 
 -- another core's call

@@ -1,26 +1,26 @@
 -- What a step does to tables is its event's edit.
-use Rattle.machine_laws.proofs.Words.{◌≡◌, ℕ, ◌<◌, ◌==◌, Bool, true, false, cond, refl, sym, ap, subst, ◌∙◌, arith, nat_lt, nat_tests, List}
-use Rattle.machine_laws.proofs.Words.{◌++◌, ◌∷◌, []}
-use Rattle.machine_laws.proofs.Words.{put, eq_true, has, members, None, Option, Reply, Took, Place, Target, Event, Outcome, Phase}
-use Rattle.machine_laws.proofs.Words.{PageRange, Message, World, asked, Touch, Translation}
-use Rattle.machine_laws.proofs.Words.{with_event, event_limit, Step, Acts, is_here, core_of, Idles, page_of_touch, Full, Stepped}
+use Rattle.machine_model.proofs.Words.{◌≡◌, ℕ, ◌<◌, ◌==◌, Bool, true, false, cond, refl, sym, ap, subst, ◌∙◌, arith, nat_lt, nat_tests, List}
+use Rattle.machine_model.proofs.Words.{◌++◌, ◌∷◌, []}
+use Rattle.machine_model.proofs.Words.{put, eq_true, has, members, None, Option, Reply, Took, Place, Target, Event, Outcome, Phase}
+use Rattle.machine_model.proofs.Words.{PageRange, Message, World, asked, Touch, Translation}
+use Rattle.machine_model.proofs.Words.{with_event, event_limit, Step, Acts, is_here, core_of, Idles, page_of_touch, Full, Stepped}
 use Rattle.vm_base.specs.Functions.{over}
 use Rattle.vm_base.proofs.Functions.{put_same}
 use Rattle.shootdown.specs.declared.message.Took.TheVariants as took
 use Rattle.slot_lock.specs.Plan.{range_of}
 use Rattle.machine_model.specs.Translating.{entry_of_page}
 use Rattle.machine_model.specs.declared.event.Outcome.TheVariants.{Idle, Wait, Answered}
-use Rattle.machine_laws.proofs.Shapes.{Rests, absent, busy, full, free, cannot, waits, awaits, Moves, locks, tries, hints, seeks, guesses}
-use Rattle.machine_laws.proofs.Shapes.{turns, chooses}
-use Rattle.machine_laws.proofs.Shapes.{acts as decides, finds, lacks, shows, Replies, refuses, no_place, declines, fails, no_frame, LetsGo}
-use Rattle.machine_laws.proofs.Shapes.{unlocks, returns, releases}
-use Rattle.machine_laws.proofs.Shapes.{GoesBy, moves, divides, cuts, fits, owns, lets_go, answers, posts, commits, takes, zeroes}
-use Rattle.machine_laws.proofs.Shapes.{first_copies, caches, shares}
-use Rattle.machine_laws.proofs.Shapes.{posts_copy, copies, installs, accesses, faults, Works, clears, invalidates, walks, evicts, flushes}
-use Rattle.machine_laws.proofs.Shapes.{reviews, frees}
-use Rattle.machine_laws.proofs.Shapes.{IsGoing, going, picking, IsAiming, at_run, at_window, Shape, rests, begins, ends, goes, aims}
-use Rattle.machine_laws.proofs.Shapes.{gives_up, works, joins}
-use Rattle.machine_laws.proofs.Shapes.{Comes, stopped, acts as happens, comes}
+use Rattle.machine_model.proofs.Shapes.{Rests, absent, busy, full, free, cannot, waits, awaits, Moves, locks, tries, hints, seeks, guesses}
+use Rattle.machine_model.proofs.Shapes.{turns, chooses}
+use Rattle.machine_model.proofs.Shapes.{acts as decides, finds, lacks, shows, Replies, refuses, no_place, declines, fails, no_frame, LetsGo}
+use Rattle.machine_model.proofs.Shapes.{unlocks, returns, releases}
+use Rattle.machine_model.proofs.Shapes.{GoesBy, moves, divides, cuts, fits, owns, lets_go, answers, posts, commits, takes, zeroes}
+use Rattle.machine_model.proofs.Shapes.{first_copies, caches, shares}
+use Rattle.machine_model.proofs.Shapes.{posts_copy, copies, installs, accesses, faults, Works, clears, invalidates, walks, evicts, flushes}
+use Rattle.machine_model.proofs.Shapes.{reviews, frees}
+use Rattle.machine_model.proofs.Shapes.{IsGoing, going, picking, IsAiming, at_run, at_window, Shape, rests, begins, ends, goes, aims}
+use Rattle.machine_model.proofs.Shapes.{gives_up, works, joins}
+use Rattle.machine_model.proofs.Shapes.{Comes, stopped, acts as happens, comes}
 use Rattle.state_text.specs.declared.edit.Edit.{Edit}
 use Rattle.state_text.specs.declared.edit.Edit.TheVariants.{Nothing, Clear, Take, Install}
 use Rattle.state_text.specs.Edits.{after_edit, edit_at, edit_of, edited, if_edits, taken_from}

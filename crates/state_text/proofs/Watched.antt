@@ -1,8 +1,8 @@
 -- Who watches each step from the first on knows the state.
-use Rattle.machine_laws.proofs.Words.{◌≡◌, ◌≢◌, arith, core_of, nat_tests, Some, ℕ, ◌<◌, ◌==◌, Bool, true, false, cond, refl, sym, ap, subst, ◌∙◌, List, [], ◌∷◌, ◌++◌, nat_lt}
-use Rattle.machine_laws.proofs.Words.{put, eq_true, has, None, Option, Translation, Message, asked, members}
-use Rattle.machine_laws.proofs.Words.{Event, Outcome, Phase, Free, PageRange, World, Made, Slots, new_world, Step, Run, Stepped, Full, Idle}
-use Rattle.machine_laws.proofs.Words.{Wait, Answered}
+use Rattle.machine_model.proofs.Words.{◌≡◌, ◌≢◌, arith, core_of, nat_tests, Some, ℕ, ◌<◌, ◌==◌, Bool, true, false, cond, refl, sym, ap, subst, ◌∙◌, List, [], ◌∷◌, ◌++◌, nat_lt}
+use Rattle.machine_model.proofs.Words.{put, eq_true, has, None, Option, Translation, Message, asked, members}
+use Rattle.machine_model.proofs.Words.{Event, Outcome, Phase, Free, PageRange, World, Made, Slots, new_world, Step, Run, Stepped, Full, Idle}
+use Rattle.machine_model.proofs.Words.{Wait, Answered}
 use Rattle.std.specs.List.{flat_map}
 use Rattle.shootdown.specs.declared.message.Took.{Took}
 use Rattle.shootdown.specs.declared.message.Took.TheVariants as took

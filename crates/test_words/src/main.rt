@@ -13,9 +13,17 @@
 //! In all of these `\xHH` is a byte, and `\.` nothing, so that `\.` alone is an empty line or word. A line that ends with `\c`
 //! has no newline. A line `\*N TEXT` is TEXT N times. Words name files of data/, too. Of the words, `@input`, `@output` and `@errors` aren't
 //! the program's: they say that standard input, output or error is a terminal, and `@NO_COLOR` that this variable is set.
+//!
+//! The tests run words where a read, a write or an allocation fails, each in turn.
 #![tactic(auto)]
 
+#[cfg(test)]
+mod heap_tests;
 mod row;
+#[cfg(test)]
+mod stream_tests;
+#[cfg(test)]
+mod streams;
 mod text;
 
 use crate::row::run_row;

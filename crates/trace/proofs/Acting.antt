@@ -1,6 +1,6 @@
 -- Why a line isn't acted on, by what a replayer has.
-use Rattle.machine_laws.proofs.Words.{◌≡◌, ℕ, Bool, true, false, List, [], ◌∷◌, Option, None, Some, ◌⊎◌, inl, inr, Result, Ok, Err, refl, sym, ap, subst}
-use Rattle.machine_laws.proofs.Words.{IfErr, IfSome, IsSomeAnd, if◌then◌else◌, World}
+use Rattle.machine_model.proofs.Words.{◌≡◌, ℕ, Bool, true, false, List, [], ◌∷◌, Option, None, Some, ◌⊎◌, inl, inr, Result, Ok, Err, refl, sym, ap, subst}
+use Rattle.machine_model.proofs.Words.{IfErr, IfSome, IsSomeAnd, if◌then◌else◌, World}
 use Rattle.std.proofs.Common.{is_some}
 use Rattle.std.specs.Prelude.{codes, is_none, option_map}
 use Rattle.std.specs.Str.{bytes_eq}

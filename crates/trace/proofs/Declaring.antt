@@ -1,6 +1,6 @@
 -- The files that the lines of a trace ask for, made one after another.
-use Rattle.machine_laws.proofs.Words.{◌≡◌, ℕ, ◌+◌, ◌%◌, ◌<◌, Bool, List, [], ◌∷◌, ◌++◌, map, length, Option, Some, None, refl, sym, ap, ◌∙◌, take, slice_get}
-use Rattle.machine_laws.proofs.Words.{get_or, ◌||◌, range_with_len, take_more, length-map, fun_ext, file_with, given_files}
+use Rattle.machine_model.proofs.Words.{◌≡◌, ℕ, ◌+◌, ◌%◌, ◌<◌, Bool, List, [], ◌∷◌, ◌++◌, map, length, Option, Some, None, refl, sym, ap, ◌∙◌, take, slice_get}
+use Rattle.machine_model.proofs.Words.{get_or, ◌||◌, range_with_len, take_more, length-map, fun_ext, file_with, given_files}
 use Rattle.std.specs.Prelude.{option_map}
 use Rattle.std.specs.List.{list_any}
 use Rattle.std.proofs.lemmas.List.{map_push}

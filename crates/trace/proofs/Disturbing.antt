@@ -1,12 +1,12 @@
 -- A call that waits is given up, or nothing comes of it.
-use Rattle.machine_laws.proofs.Words.{◌≡◌, ℕ, zero, suc, ◌<◌, ◌==◌, ◌⊎◌, inl, inr, Bool, true, false, Option, Some, None, refl, sym, ap, subst, ◌∙◌, arith}
-use Rattle.machine_laws.proofs.Words.{nat_lt, nat_tests, eq_true, eq_false, CopyAcks, can_give_up, World, is_access}
+use Rattle.machine_model.proofs.Words.{◌≡◌, ℕ, zero, suc, ◌<◌, ◌==◌, ◌⊎◌, inl, inr, Bool, true, false, Option, Some, None, refl, sym, ap, subst, ◌∙◌, arith}
+use Rattle.machine_model.proofs.Words.{nat_lt, nat_tests, eq_true, eq_false, CopyAcks, can_give_up, World, is_access}
 use Rattle.machine_model.specs.declared.event.Event.TheVariants as Ev
-use Rattle.machine_laws.proofs.Moves.{IsCallOf, call_at}
-use Rattle.machine_sound.proofs.Kept.{reached_fine}
-use Rattle.machine_alone.specs.Alone.{IsBeside}
-use Rattle.machine_alone.proofs.Taking.{its_access}
-use Rattle.machine_alone.proofs.Telling.{for_change, for_copy, waits_at}
+use Rattle.machine_model.proofs.Moves.{IsCallOf, call_at}
+use Rattle.machine_model.proofs.SoundKept.{reached_fine}
+use Rattle.machine_model.specs.Alone.{IsBeside}
+use Rattle.machine_model.proofs.Taking.{its_access}
+use Rattle.machine_model.proofs.Telling.{for_change, for_copy, waits_at}
 use Rattle.trace_text.specs.declared.action.Action.TheVariants as By
 use Rattle.trace_text.specs.declared.line.Line.TheVariants.{Act}
 use Rattle.trace.specs.PlainText.{AwaitsNobody, Disturbs, Open, Reached}

@@ -1,11 +1,11 @@
 -- The lines of a trace make one run.
-use Rattle.machine_laws.proofs.Words.{◌≡◌, ℕ, zero, suc, ◌≤◌, List, [], ◌∷◌, ◌++◌, Option, None, Some, refl, sym, ap, subst, append_assoc, append-nil}
-use Rattle.machine_laws.proofs.Words.{IsSomeAnd, Request, Event, Outcome, Stepped, Wait, Idle, Answered, Full, World, Step, StepsTo, Run}
+use Rattle.machine_model.proofs.Words.{◌≡◌, ℕ, zero, suc, ◌≤◌, List, [], ◌∷◌, ◌++◌, Option, None, Some, refl, sym, ap, subst, append_assoc, append-nil}
+use Rattle.machine_model.proofs.Words.{IsSomeAnd, Request, Event, Outcome, Stepped, Wait, Idle, Answered, Full, World, Step, StepsTo, Run}
 use Rattle.std.specs.Prelude.{replicate}
 use Rattle.radix_range.proofs.New.{new_tree_new}
 use Rattle.machine_model.specs.declared.event.Event.TheVariants as Ev
-use Rattle.machine_laws.proofs.Bracketed.{bracketed}
-use Rattle.machine_sound.proofs.Kept.{runs_sound}
+use Rattle.machine_model.proofs.Bracketed.{bracketed}
+use Rattle.machine_model.proofs.SoundKept.{runs_sound}
 use Rattle.core_steps.specs.declared.machine.Finished.{Finished}
 use Rattle.core_steps.specs.declared.machine.Finished.TheVariants.{Last, Stuck}
 use Rattle.core_steps.specs.Finishing.{EndsIn}

@@ -1,8 +1,8 @@
 -- What the definition of a plain page map's text refuses: other replies, a step of a core that isn't there, `stuck`, a log without a reply,
 -- and mappings that aren't.
-use Rattle.machine_laws.proofs.Words.{◌≡◌, ◌≢◌, ℕ, ◌==◌, ◌⊎◌, inl, inr, Bool, true, false, cond, List, [], ◌∷◌, Option, None, Some, length, refl, ap, ◌∙◌}
-use Rattle.machine_laws.proofs.Words.{arith, nat_lt, Entry, Entry, Reply, Mapped, Done, Byte, Refused, Segv, Bus, NoFrame, NoMemory, MapErr, Request, Load}
-use Rattle.machine_laws.proofs.Words.{Plain, MapLine, IsMapList, plain_metas, Outcome, Stepped, Wait, Idle, Answered, Full, RepliesBy, IsFirstPlace}
+use Rattle.machine_model.proofs.Words.{◌≡◌, ◌≢◌, ℕ, ◌==◌, ◌⊎◌, inl, inr, Bool, true, false, cond, List, [], ◌∷◌, Option, None, Some, length, refl, ap, ◌∙◌}
+use Rattle.machine_model.proofs.Words.{arith, nat_lt, Entry, Entry, Reply, Mapped, Done, Byte, Refused, Segv, Bus, NoFrame, NoMemory, MapErr, Request, Load}
+use Rattle.machine_model.proofs.Words.{Plain, MapLine, IsMapList, plain_metas, Outcome, Stepped, Wait, Idle, Answered, Full, RepliesBy, IsFirstPlace}
 use Rattle.std.specs.Prelude.{codes}
 use Rattle.machine_model.specs.declared.event.Blocker.TheVariants.{Acks}
 use Rattle.trace_text.specs.declared.action.Action.{Action}

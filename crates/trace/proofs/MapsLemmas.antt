@@ -1,6 +1,6 @@
 -- The mappings, written one after another.
-use Rattle.machine_laws.proofs.Words.{◌≡◌, ℕ, ◌^◌, ◌<◌, ◌≤◌, List, [], ◌∷◌, ◌++◌, Option, None, Some, inl, inr, arith, refl, sym, ap, ◌∙◌, subst, append-nil}
-use Rattle.machine_laws.proofs.Words.{∥∥₁_elim, props, flat_map-append, Appends-nil, Appends-trans, flat_map, Appends, MapLine, plain_metas, World}
+use Rattle.machine_model.proofs.Words.{◌≡◌, ℕ, ◌^◌, ◌<◌, ◌≤◌, List, [], ◌∷◌, ◌++◌, Option, None, Some, inl, inr, arith, refl, sym, ap, ◌∙◌, subst, append-nil}
+use Rattle.machine_model.proofs.Words.{∥∥₁_elim, props, flat_map-append, Appends-nil, Appends-trans, flat_map, Appends, MapLine, plain_metas, World}
 use Rattle.std.proofs.Common.{IfSome}
 use Rattle.slot_lock.proofs.MapLists.{lists_end, lists_more}
 use Rattle.core_steps.specs.Machine.{IsLegal}

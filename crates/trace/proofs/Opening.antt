@@ -1,7 +1,7 @@
 -- The files that the lines of a trace open, one after another.
-use Rattle.machine_laws.proofs.Words.{◌≡◌, ◌≢◌, ℕ, zero, suc, ◌+◌, ◌<◌, ◌≤◌, Bool, true, false, List, [], ◌∷◌, ◌++◌, Option, Some, None, refl, sym, ap, ◌∙◌}
-use Rattle.machine_laws.proofs.Words.{arith, length, length-append, slice_get, ◌&&◌, ◌||◌, nat_lt, if◌then◌else◌, fun_ext, nat_tests, put, file_with}
-use Rattle.machine_laws.proofs.Words.{nothing_mapped, eq_true, put_all}
+use Rattle.machine_model.proofs.Words.{◌≡◌, ◌≢◌, ℕ, zero, suc, ◌+◌, ◌<◌, ◌≤◌, Bool, true, false, List, [], ◌∷◌, ◌++◌, Option, Some, None, refl, sym, ap, ◌∙◌}
+use Rattle.machine_model.proofs.Words.{arith, length, length-append, slice_get, ◌&&◌, ◌||◌, nat_lt, if◌then◌else◌, fun_ext, nat_tests, put, file_with}
+use Rattle.machine_model.proofs.Words.{nothing_mapped, eq_true, put_all}
 use Rattle.std.specs.Prelude.{◌==◌, ◌^◌}
 use Rattle.core_steps.specs.declared.setup.CallLimit.{CallLimit}
 use Rattle.core_steps.specs.declared.setup.SetupFault.{SetupFault}

@@ -1,24 +1,24 @@
 -- The state of a machine between two lines of a trace in which no call runs beside another
-use Rattle.machine_laws.proofs.Words.{◌≡◌, ◌≢◌, ℕ, zero, suc, ◌+◌, ◌≤◌, ◌<◌, ◌^◌, ◌⊎◌, inl, inr, Bool, true, false, cond, List, [], ◌∷◌, ◌++◌, Option, None}
-use Rattle.machine_laws.proofs.Words.{Some, refl, sym, ap, subst, ◌∙◌, arith, fun_ext, nat_lt, pred, if◌then◌else◌, PageRange, Reply, NoFrame, Request}
-use Rattle.machine_laws.proofs.Words.{members, has, put, Plain, nothing_mapped, put_all, put_both, put_other, IsUser, Event, Outcome, Stepped, Idle, Full}
-use Rattle.machine_laws.proofs.Words.{Free, awaits_in, World, Made, Goes, Acts, with_event, event_limit, Step, StepsTo, nth, Replays, Stands, RepliesBy}
-use Rattle.machine_laws.proofs.Words.{NoneFree, page_copied, with_copy, is_placed, is_access, Users, Same, users_after, with_user, without, IsPlace}
-use Rattle.machine_laws.proofs.Words.{IsFirstPlace}
+use Rattle.machine_model.proofs.Words.{◌≡◌, ◌≢◌, ℕ, zero, suc, ◌+◌, ◌≤◌, ◌<◌, ◌^◌, ◌⊎◌, inl, inr, Bool, true, false, cond, List, [], ◌∷◌, ◌++◌, Option, None}
+use Rattle.machine_model.proofs.Words.{Some, refl, sym, ap, subst, ◌∙◌, arith, fun_ext, nat_lt, pred, if◌then◌else◌, PageRange, Reply, NoFrame, Request}
+use Rattle.machine_model.proofs.Words.{members, has, put, Plain, nothing_mapped, put_all, put_both, put_other, IsUser, Event, Outcome, Stepped, Idle, Full}
+use Rattle.machine_model.proofs.Words.{Free, awaits_in, World, Made, Goes, Acts, with_event, event_limit, Step, StepsTo, nth, Replays, Stands, RepliesBy}
+use Rattle.machine_model.proofs.Words.{NoneFree, page_copied, with_copy, is_placed, is_access, Users, Same, users_after, with_user, without, IsPlace}
+use Rattle.machine_model.proofs.Words.{IsFirstPlace}
 use Rattle.machine_model.specs.declared.event.Event.TheVariants as Ev
 use Rattle.vm_base.specs.declared.log.Entry.TheVariants.{Answer}
-use Rattle.machine_sound.specs.Sound.{IsDue, IsReached}
-use Rattle.machine_sound.proofs.Kept.{reached_fine, reached_step}
-use Rattle.machine_alone.specs.Alone.{ComesBeside, IsAwaiting, IsBeside, IsBesideCalls, IsCalm, IsResting, IsServed, IsServedAlone}
-use Rattle.machine_alone.specs.Alone.{IsServedAtLast, IsWaiting, KeepsOthers, KeepsTakes, left_to, takes_left, users_dropped}
-use Rattle.machine_sound.specs.Log.{LeadsTo}
-use Rattle.machine_alone.specs.Taken.{frames_for, frames_taken}
-use Rattle.machine_alone.proofs.Taking.{all_taken, no_frame_access}
-use Rattle.machine_alone.specs.Users.{recorded}
-use Rattle.machine_alone.proofs.Beside.{rests_beside}
-use Rattle.machine_alone.proofs.Ending.{served_at_last}
-use Rattle.machine_alone.proofs.Serving.{served_alone}
-use Rattle.machine_alone.proofs.Telling.{no_message}
+use Rattle.machine_model.specs.Sound.{IsDue, IsReached}
+use Rattle.machine_model.proofs.SoundKept.{reached_fine, reached_step}
+use Rattle.machine_model.specs.Alone.{ComesBeside, IsAwaiting, IsBeside, IsBesideCalls, IsCalm, IsResting, IsServed, IsServedAlone}
+use Rattle.machine_model.specs.Alone.{IsServedAtLast, IsWaiting, KeepsOthers, KeepsTakes, left_to, takes_left, users_dropped}
+use Rattle.machine_model.specs.Log.{LeadsTo}
+use Rattle.machine_model.specs.Taken.{frames_for, frames_taken}
+use Rattle.machine_model.proofs.Taking.{all_taken, no_frame_access}
+use Rattle.machine_model.specs.Users.{recorded}
+use Rattle.machine_model.proofs.Beside.{rests_beside}
+use Rattle.machine_model.proofs.Ending.{served_at_last}
+use Rattle.machine_model.proofs.Serving.{served_alone}
+use Rattle.machine_model.proofs.Telling.{no_message}
 use Rattle.core_steps.specs.declared.machine.Finished.{Finished}
 use Rattle.core_steps.specs.declared.machine.Finished.TheVariants.{Last, Stuck}
 use Rattle.core_steps.specs.Finishing.{EndsIn}

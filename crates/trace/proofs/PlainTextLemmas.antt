@@ -1,18 +1,18 @@
 -- The text of a trace in which no call runs beside another, and what comes behind it, are those of the plain page map and the users of its pages.
-use Rattle.machine_laws.proofs.Words.{◌≡◌, ◌≢◌, ℕ, ◌≤◌, ◌<◌, ◌==◌, ◌⊎◌, inl, inr, Bool, true, false, cond, List, [], ◌∷◌, ◌++◌, Option, None, Some, refl, sym}
-use Rattle.machine_laws.proofs.Words.{ap, subst, ◌∙◌, arith, length, nat_lt, pred, IsSomeAnd, fun_ext, put, is_recorded, nat_tests, Request, file_with}
-use Rattle.machine_laws.proofs.Words.{nothing_mapped, eq_true, eq_false, Slots, IsNew, MapLine, IsMapList, plain_metas, Event, Outcome, Stepped, Wait, Idle}
-use Rattle.machine_laws.proofs.Words.{Answered, Full, Free, Becomes, World, new_world, core_of, after_call, Acts, is_here, with_event, event_limit, Step}
-use Rattle.machine_laws.proofs.Words.{Replays}
+use Rattle.machine_model.proofs.Words.{◌≡◌, ◌≢◌, ℕ, ◌≤◌, ◌<◌, ◌==◌, ◌⊎◌, inl, inr, Bool, true, false, cond, List, [], ◌∷◌, ◌++◌, Option, None, Some, refl, sym}
+use Rattle.machine_model.proofs.Words.{ap, subst, ◌∙◌, arith, length, nat_lt, pred, IsSomeAnd, fun_ext, put, is_recorded, nat_tests, Request, file_with}
+use Rattle.machine_model.proofs.Words.{nothing_mapped, eq_true, eq_false, Slots, IsNew, MapLine, IsMapList, plain_metas, Event, Outcome, Stepped, Wait, Idle}
+use Rattle.machine_model.proofs.Words.{Answered, Full, Free, Becomes, World, new_world, core_of, after_call, Acts, is_here, with_event, event_limit, Step}
+use Rattle.machine_model.proofs.Words.{Replays}
 use Rattle.std.specs.Prelude.{◌^◌}
 use Rattle.radix_range.specs.Tree.{new_tree}
 use Rattle.radix_range.proofs.New.{new_tree_new}
 use Rattle.machine_model.specs.declared.event.Event.TheVariants as Ev
 use Rattle.machine_model.specs.Step.{Begins as BeginsBy}
-use Rattle.machine_sound.specs.Sound.{IsReached}
-use Rattle.machine_sound.proofs.Kept.{reached_opening, reached_step}
-use Rattle.machine_alone.proofs.Taking.{none_taken}
-use Rattle.machine_alone.specs.Alone.{IsBesideCalls, IsCalm, left_to}
+use Rattle.machine_model.specs.Sound.{IsReached}
+use Rattle.machine_model.proofs.SoundKept.{reached_opening, reached_step}
+use Rattle.machine_model.proofs.Taking.{none_taken}
+use Rattle.machine_model.specs.Alone.{IsBesideCalls, IsCalm, left_to}
 use Rattle.core_steps.specs.declared.machine.Finished.{Finished}
 use Rattle.core_steps.specs.declared.machine.Finished.TheVariants.{Last, Stuck}
 use Rattle.core_steps.specs.Finishing.{EndsIn}

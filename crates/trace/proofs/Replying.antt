@@ -1,14 +1,14 @@
 -- The replies in the log of a machine: a call adds its own, and none while it waits.
-use Rattle.machine_laws.proofs.Words.{◌≡◌, ℕ, zero, suc, ◌==◌, Bool, true, false, List, [], ◌∷◌, ◌++◌, Option, None, Some, refl, sym, ap, subst, ◌∙◌}
-use Rattle.machine_laws.proofs.Words.{append-nil, Reply, Request, Plain, eq_true, eq_false, put_same, Go, Stepped, Entry, Detach, detach_entry, World}
-use Rattle.machine_laws.proofs.Words.{with_event, Step, StepsTo}
+use Rattle.machine_model.proofs.Words.{◌≡◌, ℕ, zero, suc, ◌==◌, Bool, true, false, List, [], ◌∷◌, ◌++◌, Option, None, Some, refl, sym, ap, subst, ◌∙◌}
+use Rattle.machine_model.proofs.Words.{append-nil, Reply, Request, Plain, eq_true, eq_false, put_same, Go, Stepped, Entry, Detach, detach_entry, World}
+use Rattle.machine_model.proofs.Words.{with_event, Step, StepsTo}
 use Rattle.vm_base.specs.declared.log.Entry.TheVariants.{Answer}
-use Rattle.machine_laws.proofs.Effects.{Closed, Asked, Told, status, keeps, tells, detaches, opens, closes, effect_of}
-use Rattle.machine_laws.proofs.Shapes.{Comes, stopped, acts, comes}
-use Rattle.machine_sound.specs.Sound.{IsReached}
-use Rattle.machine_sound.proofs.Kept.{reached_fine, reached_step}
-use Rattle.machine_alone.specs.Alone.{IsCopied, IsNoted, IsWaiting}
-use Rattle.machine_alone.proofs.Telling.{for_change, for_copy, waits_at}
+use Rattle.machine_model.proofs.Effects.{Closed, Asked, Told, status, keeps, tells, detaches, opens, closes, effect_of}
+use Rattle.machine_model.proofs.Shapes.{Comes, stopped, acts, comes}
+use Rattle.machine_model.specs.Sound.{IsReached}
+use Rattle.machine_model.proofs.SoundKept.{reached_fine, reached_step}
+use Rattle.machine_model.specs.Alone.{IsCopied, IsNoted, IsWaiting}
+use Rattle.machine_model.proofs.Telling.{for_change, for_copy, waits_at}
 use Rattle.trace.specs.PlainText.{replies_in}
 
 -- ---- entries

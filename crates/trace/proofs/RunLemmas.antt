@@ -1,7 +1,7 @@
 -- Whole runs, a line at a time.
-use Rattle.machine_laws.proofs.Words.{◌≡◌, ◌≢◌, ℕ, zero, suc, ◌+◌, ◌<◌, ◌≤◌, false, Bool, cond, List, [], ◌∷◌, ◌++◌, Option, Result, Ok, Err, OnOk, length}
-use Rattle.machine_laws.proofs.Words.{take, ◌⊎◌, inl, inr, arith, refl, sym, ap, ◌∙◌, subst, eqb, append_assoc, append-nil, length-append, Appends-nil}
-use Rattle.machine_laws.proofs.Words.{Appends-trans, Appends-kept, Keeps, Appends}
+use Rattle.machine_model.proofs.Words.{◌≡◌, ◌≢◌, ℕ, zero, suc, ◌+◌, ◌<◌, ◌≤◌, false, Bool, cond, List, [], ◌∷◌, ◌++◌, Option, Result, Ok, Err, OnOk, length}
+use Rattle.machine_model.proofs.Words.{take, ◌⊎◌, inl, inr, arith, refl, sym, ap, ◌∙◌, subst, eqb, append_assoc, append-nil, length-append, Appends-nil}
+use Rattle.machine_model.proofs.Words.{Appends-trans, Appends-kept, Keeps, Appends}
 use Rattle.std.proofs.Common.{IfErr}
 use Rattle.std.proofs.lemmas.Bool.{eqb-true, ne_eqb}
 use Rattle.trace_io.specs.Lines.{onto, lines_of, IsUnbroken, IsFirstLine}

@@ -1,6 +1,6 @@
 -- What a replay writes: the text of outcomes, and the log piece by piece.
-use Rattle.machine_laws.proofs.Words.{◌≡◌, ℕ, ◌+◌, ◌<◌, ◌≤◌, List, [], ◌∷◌, ◌++◌, Option, length, take, drop, get_or, arith, refl, sym, ap, ◌∙◌, subst}
-use Rattle.machine_laws.proofs.Words.{append_assoc, common_steps, flat_map-append, Appends-nil, Appends-trans, flat_map, Appends, Entry}
+use Rattle.machine_model.proofs.Words.{◌≡◌, ℕ, ◌+◌, ◌<◌, ◌≤◌, List, [], ◌∷◌, ◌++◌, Option, length, take, drop, get_or, arith, refl, sym, ap, ◌∙◌, subst}
+use Rattle.machine_model.proofs.Words.{append_assoc, common_steps, flat_map-append, Appends-nil, Appends-trans, flat_map, Appends, Entry}
 use Rattle.std.proofs.lemmas.List.{take-append-drop}
 use Rattle.trace_io.specs.Sink.{AppendsFront}
 use Rattle.trace_io.proofs.IoLemmas.{each_more, front_longer, front_more}

@@ -1,7 +1,7 @@
 -- The text of a set of cores, one core after another.
-use Rattle.machine_laws.proofs.Words.{◌≡◌, ℕ, zero, suc, ◌+◌, ◌<◌, ◌≤◌, Bool, true, false, cond, List, [], ◌∷◌, ◌++◌, length, decimal, arith, refl, sym, ap}
-use Rattle.machine_laws.proofs.Words.{◌∙◌, subst, append-nil, append_assoc, flat_map, range_with_len, filter-append, flat_map-append, length-decimal-le}
-use Rattle.machine_laws.proofs.Words.{members}
+use Rattle.machine_model.proofs.Words.{◌≡◌, ℕ, zero, suc, ◌+◌, ◌<◌, ◌≤◌, Bool, true, false, cond, List, [], ◌∷◌, ◌++◌, length, decimal, arith, refl, sym, ap}
+use Rattle.machine_model.proofs.Words.{◌∙◌, subst, append-nil, append_assoc, flat_map, range_with_len, filter-append, flat_map-append, length-decimal-le}
+use Rattle.machine_model.proofs.Words.{members}
 use Rattle.std.specs.List.{filter}
 use Rattle.trace_text.specs.Printing.{core_text, cores_text}
 

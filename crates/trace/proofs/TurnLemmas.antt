@@ -1,6 +1,6 @@
 -- Whose fault a fault is, and what a line comes to in a turn.
-use Rattle.machine_laws.proofs.Words.{◌≡◌, ℕ, ◌+◌, ◌≤◌, Bool, true, false, List, ◌++◌, Option, None, Some, ◌⊎◌, inl, inr, refl, sym, ap, ◌∙◌, subst, length}
-use Rattle.machine_laws.proofs.Words.{Keeps, Appends}
+use Rattle.machine_model.proofs.Words.{◌≡◌, ℕ, ◌+◌, ◌≤◌, Bool, true, false, List, ◌++◌, Option, None, Some, ◌⊎◌, inl, inr, refl, sym, ap, ◌∙◌, subst, length}
+use Rattle.machine_model.proofs.Words.{Keeps, Appends}
 use Rattle.trace_io.specs.Sink.{AppendsFront}
 use Rattle.trace_io.specs.Lines.{TakesLine}
 use Rattle.trace_io.proofs.IoLemmas.{appends_after, front_after}

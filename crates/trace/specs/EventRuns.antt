@@ -8,8 +8,8 @@ use Rattle.machine_model.specs.declared.event.Outcome.{Outcome}
 use Rattle.machine_model.specs.declared.event.Outcome.TheVariants.{Stepped}
 use Rattle.machine_model.specs.World.{World}
 use Rattle.machine_model.specs.Step.{Run}
-use Rattle.machine_laws.specs.Brackets.{IsBracketed}
-use Rattle.machine_sound.specs.Sound.{SoundRun}
+use Rattle.machine_model.specs.Brackets.{IsBracketed}
+use Rattle.machine_model.specs.Sound.{SoundRun}
 use Rattle.core_steps.specs.declared.machine.Finished.{Finished}
 use Rattle.watched.specs.Watching.{GoesUntil}
 use Rattle.core_steps.specs.declared.setup.CallLimit.{CallLimit}

@@ -9,7 +9,7 @@ use Rattle.slot_lock.specs.MapList.{ListsLines, plain_metas}
 use Rattle.core_steps.specs.MapLines.{HasNoMap, IsLineStart, IsNextMap}
 use Rattle.core_steps.specs.declared.setup.CallLimit.{CallLimit}
 use Rattle.core_steps.specs.declared.setup.CallLimit.TheVariants.{Usual}
-use Rattle.machine_sound.specs.Log.{LeadsTo}
+use Rattle.machine_model.specs.Log.{LeadsTo}
 use Rattle.trace_text.specs.Lists.{log_text}
 use Rattle.trace.specs.Listing.{maps_text}
 use Rattle.trace.specs.declared.fault.TraceFault.{TraceFault}

@@ -1,12 +1,12 @@
 -- What is read of a machine's pages
-use Rattle.machine_laws.proofs.Words.{◌≡◌, ◌≢◌, ℕ, ◌+◌, ◌<◌, ◌≤◌, ◌==◌, ◌&&◌, Bool, true, false, refl, sym, ap, ◌∙◌, arith, nat_lt, nat_le, nat_tests}
-use Rattle.machine_laws.proofs.Words.{Some, None, Option, if◌then◌else◌, is_page, IsPage, is_some, PageInfo, PageRange, World, ∥∥₁_elim, props}
-use Rattle.machine_laws.proofs.Words.{Slots, IsSlotMap, has}
+use Rattle.machine_model.proofs.Words.{◌≡◌, ◌≢◌, ℕ, ◌+◌, ◌<◌, ◌≤◌, ◌==◌, ◌&&◌, Bool, true, false, refl, sym, ap, ◌∙◌, arith, nat_lt, nat_le, nat_tests}
+use Rattle.machine_model.proofs.Words.{Some, None, Option, if◌then◌else◌, is_page, IsPage, is_some, PageInfo, PageRange, World, ∥∥₁_elim, props}
+use Rattle.machine_model.proofs.Words.{Slots, IsSlotMap, has}
 use Rattle.vm_base.specs.Info.{is_leaf}
 use Rattle.slot_lock.specs.Slots.{IsSlot}
-use Rattle.machine_sound.specs.Invariant.{IsWellFormed}
-use Rattle.machine_sound.proofs.Kept.{reached_fine}
-use Rattle.machine_sound.specs.Sound.{IsReached}
+use Rattle.machine_model.specs.Invariant.{IsWellFormed}
+use Rattle.machine_model.proofs.SoundKept.{reached_fine}
+use Rattle.machine_model.specs.Sound.{IsReached}
 use Rattle.used_pages.specs.declared.used.Used.{Used}
 use Rattle.used_pages.specs.Used.{used_in, used_of}
 

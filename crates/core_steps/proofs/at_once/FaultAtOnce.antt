@@ -1,11 +1,11 @@
 -- A fault whose page is a slot of its own that nobody holds, made at once: the states that it passes, and the one that is left
-use Rattle.machine_laws.proofs.Words.{◌≡◌, ℕ, suc, ◌+◌, ◌-◌, ◌<◌, ◌≤◌, Bool, false, true, Option, Some, None, Err, refl, sym, subst, ap, ◌∙◌, arith, inl, inr, ◌⊎◌}
-use Rattle.machine_laws.proofs.Words.{if◌then◌else◌, Back, Anon, Shared, Private, PageInfo, Reply, Access, is_anonymous, put, frame_of, info_with_core}
-use Rattle.machine_laws.proofs.Words.{info_with_frame, is_allowed, by_test, put_same, Touch, with_info, Translated, Settled, is_cached, is_private_store}
-use Rattle.machine_laws.proofs.Words.{settled, source, Go, Stepped, Phase, Answer, Fill, Install, Release, Settle, Try, Want, Hardware, Memory, World}
-use Rattle.machine_laws.proofs.Words.{after_finding, found_at, is_past_end, memory_after, reply_of, answer_entry, to, with_entry, back_of, file_frame}
-use Rattle.machine_laws.proofs.Words.{FillsBacked, FillsFromFile, page_of_touch, locking, Step, StepsTo, event_limit, with_event, after_translating}
-use Rattle.machine_laws.proofs.Words.{entry_of_page, frame_reached, translated_by, with_hardware, with_table}
+use Rattle.machine_model.proofs.Words.{◌≡◌, ℕ, suc, ◌+◌, ◌-◌, ◌<◌, ◌≤◌, Bool, false, true, Option, Some, None, Err, refl, sym, subst, ap, ◌∙◌, arith, inl, inr, ◌⊎◌}
+use Rattle.machine_model.proofs.Words.{if◌then◌else◌, Back, Anon, Shared, Private, PageInfo, Reply, Access, is_anonymous, put, frame_of, info_with_core}
+use Rattle.machine_model.proofs.Words.{info_with_frame, is_allowed, by_test, put_same, Touch, with_info, Translated, Settled, is_cached, is_private_store}
+use Rattle.machine_model.proofs.Words.{settled, source, Go, Stepped, Phase, Answer, Fill, Install, Release, Settle, Try, Want, Hardware, Memory, World}
+use Rattle.machine_model.proofs.Words.{after_finding, found_at, is_past_end, memory_after, reply_of, answer_entry, to, with_entry, back_of, file_frame}
+use Rattle.machine_model.proofs.Words.{FillsBacked, FillsFromFile, page_of_touch, locking, Step, StepsTo, event_limit, with_event, after_translating}
+use Rattle.machine_model.proofs.Words.{entry_of_page, frame_reached, translated_by, with_hardware, with_table}
 use Rattle.std.proofs.Common.{◌&&◌, ◌||◌}
 use Rattle.std.proofs.lemmas.Bool.{or_parts}
 use Rattle.vm_base.specs.declared.rights.Access.TheVariants.{Store}

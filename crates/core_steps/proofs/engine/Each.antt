@@ -1,15 +1,15 @@
 -- What is read of each core, after one core changed
-use Rattle.machine_laws.proofs.Words.{◌≡◌, ℕ, zero, suc, ◌<◌, Bool, true, false, List, [], ◌∷◌, ◌++◌, length, map, get_or, refl, sym, ap, subst, ◌∙◌, Option}
-use Rattle.machine_laws.proofs.Words.{None, slice_set, if◌then◌else◌, fun_ext, length-map, PageRange, members, has, over, put, over_all, put_all, put_both}
-use Rattle.machine_laws.proofs.Words.{put_other, Translation, TlbEntry, tlb_without, Message, posted, Hardware, with_table, tables_cleared, tlb_invalidated}
-use Rattle.machine_laws.proofs.Words.{after_eviction, after_shot}
+use Rattle.machine_model.proofs.Words.{◌≡◌, ℕ, zero, suc, ◌<◌, Bool, true, false, List, [], ◌∷◌, ◌++◌, length, map, get_or, refl, sym, ap, subst, ◌∙◌, Option}
+use Rattle.machine_model.proofs.Words.{None, slice_set, if◌then◌else◌, fun_ext, length-map, PageRange, members, has, over, put, over_all, put_all, put_both}
+use Rattle.machine_model.proofs.Words.{put_other, Translation, TlbEntry, tlb_without, Message, posted, Hardware, with_table, tables_cleared, tlb_invalidated}
+use Rattle.machine_model.proofs.Words.{after_eviction, after_shot}
 use Rattle.std.proofs.lemmas.List.{map-set, get_or-map}
 use Rattle.mmu.specs.Tlb.{is_at}
 use Rattle.shootdown.specs.Messages.{InboxOf}
 use Rattle.shootdown.specs.Inboxes.{inbox, sent}
 use Rattle.machine_model.specs.World.{no_translations}
 use Rattle.machine_model.specs.Translating.{with_tlb}
-use Rattle.machine_invariants.specs.Coherent.{Every, HasDropped}
+use Rattle.machine_model.specs.Coherent.{Every, HasDropped}
 use Rattle.core_steps.specs.Cores.{of_each, parts_of}
 use Rattle.core_steps.specs.PageChange.{IsAlone}
 use Rattle.core_steps.proofs.engine.Lists.{set_is_put}

@@ -1,9 +1,9 @@
 -- Lists that are changed at one place, seen as functions, and the state of which they are a part
-use Rattle.machine_laws.proofs.Words.{◌≡◌, ℕ, ◌+◌, ◌<◌, List, [], ◌∷◌, ◌++◌, length, length-append, get_or, OnOk, Result, Ok, Err, ap, arith, ◌∙◌, slice_set}
-use Rattle.machine_laws.proofs.Words.{fun_ext, get_or-set_same, get_or-set_other, put, put_all, Entry}
+use Rattle.machine_model.proofs.Words.{◌≡◌, ℕ, ◌+◌, ◌<◌, List, [], ◌∷◌, ◌++◌, length, length-append, get_or, OnOk, Result, Ok, Err, ap, arith, ◌∙◌, slice_set}
+use Rattle.machine_model.proofs.Words.{fun_ext, get_or-set_same, get_or-set_other, put, put_all, Entry}
 use Rattle.std.proofs.Common.{OnErr}
-use Rattle.machine_laws.specs.Orderly.{answer_count}
-use Rattle.machine_laws.proofs.Moves.{answers_more}
+use Rattle.machine_model.specs.Orderly.{answer_count}
+use Rattle.machine_model.proofs.Moves.{answers_more}
 use Rattle.core_steps.specs.State.{number_at}
 
 pub set_is_put : {A : Type 0} (xs : List A) (d : A) (k : ℕ) (x : A) → k < length xs

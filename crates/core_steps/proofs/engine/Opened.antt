@@ -1,5 +1,5 @@
 -- A new engine has the state of a new machine
-use Rattle.machine_laws.proofs.Words.{◌≡◌, List, length, None, refl, zeros, Slots, given_files, Counts, no_counts, Hardware, new_world}
+use Rattle.machine_model.proofs.Words.{◌≡◌, List, length, None, refl, zeros, Slots, given_files, Counts, no_counts, Hardware, new_world}
 use Rattle.std.proofs.Common.{nat_lt}
 use Rattle.backing.specs.Files.{FileParts, files_of, cached_in}
 use Rattle.frames.specs.Parts.{FrameParts, frame_bytes, free_frames}

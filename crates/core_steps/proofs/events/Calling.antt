@@ -1,6 +1,6 @@
 -- A call that begins
-use Rattle.machine_laws.proofs.Words.{◌≡◌, ℕ, suc, ◌+◌, ◌<◌, Bool, true, false, not, List, [], ◌∷◌, ◌++◌, length, refl, arith, slice_set, Request, Slots}
-use Rattle.machine_laws.proofs.Words.{Counts, Stepped, Entry, Phase, Free, World, Hardware, Begins, after_call}
+use Rattle.machine_model.proofs.Words.{◌≡◌, ℕ, suc, ◌+◌, ◌<◌, Bool, true, false, not, List, [], ◌∷◌, ◌++◌, length, refl, arith, slice_set, Request, Slots}
+use Rattle.machine_model.proofs.Words.{Counts, Stepped, Entry, Phase, Free, World, Hardware, Begins, after_call}
 use Rattle.std.proofs.Common.{nat_lt}
 use Rattle.backing.specs.Files.{FileParts}
 use Rattle.frames.specs.Parts.{FrameParts}

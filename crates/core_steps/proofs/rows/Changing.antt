@@ -1,6 +1,6 @@
 -- What the pages that are held let a call change
-use Rattle.machine_laws.proofs.Words.{◌≡◌, ℕ, true, not, Some, None, Option, refl, sym, subst, ∥∥₁_elim, props, PageInfo, PageRange, Reply, IsPageRange, File}
-use Rattle.machine_laws.proofs.Words.{Change, Protect, Goal, range_of, IsSoundGoal, Slots, Act, entry_of, no_page, no_write, Unlock, World}
+use Rattle.machine_model.proofs.Words.{◌≡◌, ℕ, true, not, Some, None, Option, refl, sym, subst, ∥∥₁_elim, props, PageInfo, PageRange, Reply, IsPageRange, File}
+use Rattle.machine_model.proofs.Words.{Change, Protect, Goal, range_of, IsSoundGoal, Slots, Act, entry_of, no_page, no_write, Unlock, World}
 use Rattle.std.proofs.Common.{is_some}
 use Rattle.slot_lock.specs.declared.plan.Goal.TheVariants as To
 use Rattle.slot_lock.specs.Changes.{IsMappedFor}
@@ -8,8 +8,8 @@ use Rattle.slot_lock.specs.Plan.{IsSoundChange}
 use Rattle.vm_calls.specs.Decisions.{DecidesChange}
 use Rattle.vm_calls.specs.Decisions.DecidesProtect.{acts}
 use Rattle.vm_calls.proofs.Targets.{place-act}
-use Rattle.machine_laws.specs.Orderly.{IsChosen, IsChangeOf}
-use Rattle.machine_laws.proofs.Moves.{call_at}
+use Rattle.machine_model.specs.Orderly.{IsChosen, IsChangeOf}
+use Rattle.machine_model.proofs.Moves.{call_at}
 use Rattle.core_steps.specs.Moving.{IsAt}
 
 -- ---- a change that is to be made

@@ -1,10 +1,10 @@
 -- What the code learns of a page that is to get a frame
-use Rattle.machine_laws.proofs.Words.{◌≡◌, ℕ, zero, suc, ◌<◌, ◌≤◌, ◌^◌, Bool, true, false, not, List, length, get_or, Option, None, Some, inl, inr, refl, sym}
-use Rattle.machine_laws.proofs.Words.{ap, subst, arith, ◌∙◌, pos, ◌+ℤ◌, ◌<ℤ◌, ◌==◌, IfSome, if◌then◌else◌, nat_lt, ∥∥₁_elim, props, ints, Back, Anon, Shared}
-use Rattle.machine_laws.proofs.Words.{Private, PageInfo, Access, put, frame_of, info_with_copy, info_with_frame, Bytes, File, bytes_in, Touch, with_info}
-use Rattle.machine_laws.proofs.Words.{Counts, true_count, Takes, Begin, true_counts_move, Outcome, Stepped, Phase, Free, Fill, Install, to, with_entry}
-use Rattle.machine_laws.proofs.Words.{detach_entry, back_of, bytes_shown, file_frame, page_now, with_cached, FillsBacked, FillsFromFile, after_copy}
-use Rattle.machine_laws.proofs.Words.{after_first_copy, after_zeros, World, Memory}
+use Rattle.machine_model.proofs.Words.{◌≡◌, ℕ, zero, suc, ◌<◌, ◌≤◌, ◌^◌, Bool, true, false, not, List, length, get_or, Option, None, Some, inl, inr, refl, sym}
+use Rattle.machine_model.proofs.Words.{ap, subst, arith, ◌∙◌, pos, ◌+ℤ◌, ◌<ℤ◌, ◌==◌, IfSome, if◌then◌else◌, nat_lt, ∥∥₁_elim, props, ints, Back, Anon, Shared}
+use Rattle.machine_model.proofs.Words.{Private, PageInfo, Access, put, frame_of, info_with_copy, info_with_frame, Bytes, File, bytes_in, Touch, with_info}
+use Rattle.machine_model.proofs.Words.{Counts, true_count, Takes, Begin, true_counts_move, Outcome, Stepped, Phase, Free, Fill, Install, to, with_entry}
+use Rattle.machine_model.proofs.Words.{detach_entry, back_of, bytes_shown, file_frame, page_now, with_cached, FillsBacked, FillsFromFile, after_copy}
+use Rattle.machine_model.proofs.Words.{after_first_copy, after_zeros, World, Memory}
 use Rattle.std.proofs.Common.{is_some}
 use Rattle.std.proofs.lemmas.Bool.{cond_both, not-false}
 use Rattle.std.proofs.lemmas.List.{get_or_read}
@@ -12,11 +12,11 @@ use Rattle.vm_base.specs.Plain.{file_bytes}
 use Rattle.backing.specs.Files.{bytes_now}
 use Rattle.machine_model.specs.Accesses.{lies_past_end}
 use Rattle.machine_model.specs.Filling.{FillsFrame, FillsOwn}
-use Rattle.machine_invariants.specs.Counted.{FilePage, is_frame, one_if, pages_with}
-use Rattle.machine_invariants.proofs.CountsKept.{cached_positive}
-use Rattle.machine_laws.specs.Orderly.{IsUsable}
-use Rattle.machine_laws.proofs.Moves.{call_at}
-use Rattle.machine_sound.specs.Invariant.{IsWellFormed}
+use Rattle.machine_model.specs.Counted.{FilePage, is_frame, one_if, pages_with}
+use Rattle.machine_model.proofs.CountsKept.{cached_positive}
+use Rattle.machine_model.specs.Orderly.{IsUsable}
+use Rattle.machine_model.proofs.Moves.{call_at}
+use Rattle.machine_model.specs.Invariant.{IsWellFormed}
 use Rattle.core_steps.specs.Moving.{IsAt}
 use Rattle.core_steps.specs.State.{phase_at}
 use Rattle.core_steps.specs.Filling.{IsOfFile}

@@ -1,12 +1,12 @@
 -- What the code learns of the core that is to make a step: it knows only that the state is one that runs reach
-use Rattle.machine_laws.proofs.Words.{◌≡◌, ◌≢◌, ℕ, ◌+◌, ◌<◌, Bool, true, false, List, [], ◌∷◌, Option, Some, None, refl, sym, subst, ap, arith, cond, ◌∙◌}
-use Rattle.machine_laws.proofs.Words.{if◌then◌else◌, IfSome, ◌↔◌, ∥∥₁_elim, ∥∥₁_map, props, or_right, nat_tests, PageInfo, PageRange, Access, Prot, members}
-use Rattle.machine_laws.proofs.Words.{IsPage, IsPageRange, are_pages, is_page, frame_of, File, is_allowed, has_in, in_has, Change, Put, Clear, Protect, Plan}
-use Rattle.machine_laws.proofs.Words.{Touch, Goal, goal_plan, goal_range, range_of, HasTarget, IsSoundGoal, IsSoundTouch, Slots, IsUser, between, Act}
-use Rattle.machine_laws.proofs.Words.{no_page, no_write, Translation, has_right, Message, Took, asked, Counts, Takes, Reviewing, IsUnused, reached_is_orderly}
-use Rattle.machine_laws.proofs.Words.{Phase, Free, Check, Lock, Guess, Find, Cut, Acks, Unlock, Answer, Try, Settle, Want, Fill, CopyPost, CopyAcks, Install}
-use Rattle.machine_laws.proofs.Words.{Release, World, AwaitsNobody, is_private, shows_some, prot_shown, prot_installed, awaits_in, is_open, page_of_touch}
-use Rattle.machine_laws.proofs.Words.{range_held, some_has, taken_in, translated_by, frame_reached, sound_pages}
+use Rattle.machine_model.proofs.Words.{◌≡◌, ◌≢◌, ℕ, ◌+◌, ◌<◌, Bool, true, false, List, [], ◌∷◌, Option, Some, None, refl, sym, subst, ap, arith, cond, ◌∙◌}
+use Rattle.machine_model.proofs.Words.{if◌then◌else◌, IfSome, ◌↔◌, ∥∥₁_elim, ∥∥₁_map, props, or_right, nat_tests, PageInfo, PageRange, Access, Prot, members}
+use Rattle.machine_model.proofs.Words.{IsPage, IsPageRange, are_pages, is_page, frame_of, File, is_allowed, has_in, in_has, Change, Put, Clear, Protect, Plan}
+use Rattle.machine_model.proofs.Words.{Touch, Goal, goal_plan, goal_range, range_of, HasTarget, IsSoundGoal, IsSoundTouch, Slots, IsUser, between, Act}
+use Rattle.machine_model.proofs.Words.{no_page, no_write, Translation, has_right, Message, Took, asked, Counts, Takes, Reviewing, IsUnused, reached_is_orderly}
+use Rattle.machine_model.proofs.Words.{Phase, Free, Check, Lock, Guess, Find, Cut, Acks, Unlock, Answer, Try, Settle, Want, Fill, CopyPost, CopyAcks, Install}
+use Rattle.machine_model.proofs.Words.{Release, World, AwaitsNobody, is_private, shows_some, prot_shown, prot_installed, awaits_in, is_open, page_of_touch}
+use Rattle.machine_model.proofs.Words.{range_held, some_has, taken_in, translated_by, frame_reached, sound_pages}
 use Rattle.std.proofs.Common.{is_some, ◌&&◌, nat_lt}
 use Rattle.std.proofs.lemmas.Bool.{or_left}
 use Rattle.vm_base.specs.declared.rights.Access.TheVariants.{Load, Store, Fetch}
@@ -22,16 +22,16 @@ use Rattle.shootdown.specs.declared.message.Took.TheVariants as TookOf
 use Rattle.refcache.specs.declared.reports.Review.TheVariants as review
 use Rattle.refcache.specs.Sound.{AreReached}
 use Rattle.machine_model.specs.declared.phase.Phase.TheVariants.{Back}
-use Rattle.machine_invariants.proofs.CountsKept.{counted_positive}
-use Rattle.machine_laws.specs.Orderly.{IsOrderly, IsAsked, IsCutFor, IsUsable, Serves, answer_count}
-use Rattle.machine_laws.proofs.Deciding.{acts_in, acts_valid}
-use Rattle.machine_laws.proofs.Going.{call_sound, page_range}
-use Rattle.machine_laws.proofs.Moves.{call_at, IsCallOf}
-use Rattle.machine_laws.proofs.OpenCalls.{one, open_put}
-use Rattle.machine_invariants.specs.Coherent.{AreAsked}
-use Rattle.machine_invariants.proofs.Lists.{none_sent}
-use Rattle.machine_sound.specs.Invariant.{IsWellFormed}
-use Rattle.machine_sound.proofs.Reaching.{backs, reaches}
+use Rattle.machine_model.proofs.CountsKept.{counted_positive}
+use Rattle.machine_model.specs.Orderly.{IsOrderly, IsAsked, IsCutFor, IsUsable, Serves, answer_count}
+use Rattle.machine_model.proofs.Deciding.{acts_in, acts_valid}
+use Rattle.machine_model.proofs.Going.{call_sound, page_range}
+use Rattle.machine_model.proofs.Moves.{call_at, IsCallOf}
+use Rattle.machine_model.proofs.OpenCalls.{one, open_put}
+use Rattle.machine_model.specs.Coherent.{AreAsked}
+use Rattle.machine_model.proofs.Lists.{none_sent}
+use Rattle.machine_model.specs.Invariant.{IsWellFormed}
+use Rattle.machine_model.proofs.Reaching.{backs, reaches}
 use Rattle.core_steps.specs.Filling.{IsAloneAt}
 use Rattle.core_steps.specs.Moving.{IsAt, IsTaken, CanUnlock, CanCut, CanChange}
 use Rattle.core_steps.specs.Moving.{goal_in, page_in, plan_in, cursor_in, left_in, cut_in, change_in, framed_in}

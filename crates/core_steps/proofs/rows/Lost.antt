@@ -1,13 +1,13 @@
 -- Frames that are counted down, page by page
-use Rattle.machine_laws.proofs.Words.{◌≡◌, ℕ, ◌+◌, ◌-◌, ◌<◌, ◌≤◌, List, ◌∷◌, drop, length, get_or, Option, Some, sym, subst, refl, arith, ◌∙◌, IfSome}
-use Rattle.machine_laws.proofs.Words.{∥∥₁_elim, props, PageInfo, frame_of, Change, Protect, frames_in, Slots, Counts, Takes, Dec, CountsOne, frame_lost}
-use Rattle.machine_laws.proofs.Words.{World}
+use Rattle.machine_model.proofs.Words.{◌≡◌, ℕ, ◌+◌, ◌-◌, ◌<◌, ◌≤◌, List, ◌∷◌, drop, length, get_or, Option, Some, sym, subst, refl, arith, ◌∙◌, IfSome}
+use Rattle.machine_model.proofs.Words.{∥∥₁_elim, props, PageInfo, frame_of, Change, Protect, frames_in, Slots, Counts, Takes, Dec, CountsOne, frame_lost}
+use Rattle.machine_model.proofs.Words.{World}
 use Rattle.std.proofs.lemmas.List.{drop_all, drop_more}
 use Rattle.slot_lock.specs.declared.framed.Framed.{Framed}
 use Rattle.slot_lock.specs.Framed.{ListsFrames}
 use Rattle.machine_model.specs.Counting.{CountsDown}
-use Rattle.machine_laws.proofs.Counted.{counts_down}
-use Rattle.machine_invariants.proofs.CountingDown.{CountsUpTo, counted_still, counts_next, counts_past}
+use Rattle.machine_model.proofs.Counted.{counts_down}
+use Rattle.machine_model.proofs.CountingDown.{CountsUpTo, counted_still, counts_next, counts_past}
 use Rattle.core_steps.specs.Taking.{AreCounted, IsCounted}
 
 -- ---- one page

@@ -1,6 +1,6 @@
 -- Soundness of plans and goals is read off a state of which only its being reached is known
-use Rattle.machine_laws.proofs.Words.{ℕ, Option, Some, None, ∥∥₁_elim, ∥∥₁_map, props, PageRange, Put, Clear, Protect, Goal, Place, Plan, Hint, goal_plan}
-use Rattle.machine_laws.proofs.Words.{HasTarget, IsSoundGoal, IsSoundPlace}
+use Rattle.machine_model.proofs.Words.{ℕ, Option, Some, None, ∥∥₁_elim, ∥∥₁_map, props, PageRange, Put, Clear, Protect, Goal, Place, Plan, Hint, goal_plan}
+use Rattle.machine_model.proofs.Words.{HasTarget, IsSoundGoal, IsSoundPlace}
 use Rattle.slot_lock.specs.declared.plan.Goal.TheVariants as To
 use Rattle.slot_lock.specs.declared.plan.Plan.TheVariants as PlanOf
 use Rattle.slot_lock.specs.declared.plan.Target.TheVariants.{Run}

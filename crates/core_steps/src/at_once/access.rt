@@ -4,7 +4,7 @@ ghost use Rattle.slot_lock.specs.declared.plan.Plan.TheVariants as PlanOf;
 ghost use Rattle.vm_calls.specs.Checks.{touched};
 ghost use Rattle.machine_model.specs.Changes.{checked_by};
 ghost use Rattle.machine_model.specs.World.{Made};
-ghost use Rattle.machine_sound.specs.Sound.{IsReached};
+ghost use Rattle.machine_model.specs.Sound.{IsReached};
 ghost use Rattle.core_steps.specs.AtOnce.{IsAccess, Starts};
 ghost use Rattle.core_steps.specs.State.{world};
 

@@ -8,7 +8,7 @@ ghost use Rattle.machine_model.specs.Accesses.{NoneFree, after_finding, found_at
 ghost use Rattle.machine_model.specs.Locks.{locking};
 ghost use Rattle.machine_model.specs.Step.{StepsTo, event_limit};
 ghost use Rattle.machine_model.specs.World.{Memory, World};
-ghost use Rattle.machine_sound.specs.Sound.{IsReached};
+ghost use Rattle.machine_model.specs.Sound.{IsReached};
 ghost use Rattle.core_steps.specs.OnePage.{CanTake, IsFault, IsSource, Makes, TakesFrom, after_settling};
 ghost use Rattle.core_steps.specs.OnePage.{at_lock, frame_from, later, steps_from, wants_frame};
 ghost use Rattle.core_steps.specs.State.{world};

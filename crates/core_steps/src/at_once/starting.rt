@@ -1,7 +1,7 @@
 //! A call that begins, with the steps that it can make at once. No step looks up anew what the one
 //! before it has left.
 ghost use Rattle.std.specs.Prelude.{◌≡◌, ◌<◌, true, length};
-ghost use Rattle.machine_sound.specs.Sound.{IsReached};
+ghost use Rattle.machine_model.specs.Sound.{IsReached};
 ghost use Rattle.core_steps.specs.AtOnce.{CanBegin, Starts, StartsAsMap};
 ghost use Rattle.core_steps.specs.State.{world};
 

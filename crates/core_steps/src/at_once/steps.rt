@@ -3,7 +3,7 @@
 ghost use Rattle.std.specs.Prelude.{◌≡◌, ◌+◌, ◌≤◌};
 ghost use Rattle.machine_model.specs.declared.phase.Phase.{Phase};
 ghost use Rattle.machine_model.specs.Step.{StepsTo, event_limit};
-ghost use Rattle.machine_sound.specs.Sound.{IsReached};
+ghost use Rattle.machine_model.specs.Sound.{IsReached};
 ghost use Rattle.core_steps.specs.State.{world};
 ghost use Rattle.core_steps.specs.Moving.{IsAt};
 

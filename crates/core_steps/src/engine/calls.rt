@@ -1,6 +1,6 @@
 //! The engine's calls: where that of each core stands, the calls begun, and the log.
 ghost use Rattle.std.specs.Prelude.{◌≡◌, ◌+◌, ◌≤◌, length};
-ghost use Rattle.machine_laws.specs.Orderly.{answer_count};
+ghost use Rattle.machine_model.specs.Orderly.{answer_count};
 
 use crate::ledger::Ledger;
 use machine_model::Phase;

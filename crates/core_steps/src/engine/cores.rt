@@ -67,7 +67,7 @@ impl<H: Hardware, A: Allocator> Cores<H, A> {
     ghost use Rattle.mmu.specs.Tlb.{tlb_at};
     ghost use Rattle.shootdown.specs.Inboxes.{awaited};
     ghost use Rattle.shootdown.specs.Messages.{asked, remaining};
-    ghost use Rattle.machine_invariants.specs.Coherent.{HasDropped};
+    ghost use Rattle.machine_model.specs.Coherent.{HasDropped};
     ghost use Rattle.machine_model.specs.Changes.{AwaitsNobody, Awaits};
     ghost use Rattle.machine_model.specs.Translating.{translated_by, frame_reached, after_translating};
     ghost use Rattle.machine_model.specs.Translating.{can_walk, after_walk, after_eviction, after_shot};

@@ -4,7 +4,7 @@ ghost use Rattle.std.specs.Prelude.{◌≡◌, ◌+◌, ◌^◌, ◌<◌, length
 ghost use Rattle.machine_model.specs.declared.event.Event.{Event};
 ghost use Rattle.machine_model.specs.Events.{core_of};
 ghost use Rattle.machine_model.specs.Step.{Acts, Begins, Goes, Step, is_here};
-ghost use Rattle.machine_sound.specs.Invariant.{IsWellFormed};
+ghost use Rattle.machine_model.specs.Invariant.{IsWellFormed};
 ghost use Rattle.core_steps.specs.State.{phase_of, world};
 ghost use Rattle.core_steps.specs.Moving.{JoinsAsMap, MayWant, Tries, WantsMemory};
 ghost use Rattle.core_steps.specs.Dividing.{DividesAsMap, GoesAsMap};

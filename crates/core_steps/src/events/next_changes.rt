@@ -2,7 +2,7 @@
 ghost use Rattle.std.specs.Prelude.{◌≡◌, IfSome};
 ghost use Rattle.slot_lock.specs.Plan.{IsSoundGoal};
 ghost use Rattle.machine_model.specs.Holding.{page_of_touch};
-ghost use Rattle.machine_sound.specs.Invariant.{IsWellFormed};
+ghost use Rattle.machine_model.specs.Invariant.{IsWellFormed};
 ghost use Rattle.core_steps.specs.Changing.{changes_in};
 ghost use Rattle.core_steps.specs.Moving.{goal_in};
 ghost use Rattle.core_steps.specs.State.{world};

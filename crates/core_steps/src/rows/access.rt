@@ -5,7 +5,7 @@ ghost use Rattle.slot_lock.specs.Plan.{IsSoundGoal};
 ghost use Rattle.machine_model.specs.Accesses.{after_try, memory_after, reply_of};
 ghost use Rattle.machine_model.specs.Actions.{to};
 ghost use Rattle.machine_model.specs.Step.{Goes, event_limit};
-ghost use Rattle.machine_sound.specs.Sound.{IsReached};
+ghost use Rattle.machine_model.specs.Sound.{IsReached};
 ghost use Rattle.core_steps.specs.State.{world};
 ghost use Rattle.core_steps.specs.Moving.{CanTry, IsAt, tried_to};
 ghost use Rattle.core_steps.specs.OnePage.{Passes};

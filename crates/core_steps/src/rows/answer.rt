@@ -4,7 +4,7 @@ ghost use Rattle.std.specs.Prelude.{◌≡◌, ◌+◌, ◌<◌, ◌≤◌, leng
 ghost use Rattle.machine_model.specs.Actions.{let_go, after_reply, answer_entry, with_entry};
 ghost use Rattle.machine_model.specs.Locks.{held_after};
 ghost use Rattle.machine_model.specs.Step.{Goes, event_limit};
-ghost use Rattle.machine_laws.specs.Orderly.{answer_count};
+ghost use Rattle.machine_model.specs.Orderly.{answer_count};
 ghost use Rattle.core_steps.specs.State.{world};
 ghost use Rattle.core_steps.specs.Moving.{IsAt};
 ghost use Rattle.core_steps.specs.OnePage.{logged_later, replied};

@@ -1,7 +1,7 @@
 //! The first steps of a call: it gets its number, and its arguments are checked.
 ghost use Rattle.std.specs.Prelude.{◌≡◌, ◌<◌, length};
 ghost use Rattle.machine_model.specs.Step.{Goes};
-ghost use Rattle.machine_laws.specs.Orderly.{answer_count};
+ghost use Rattle.machine_model.specs.Orderly.{answer_count};
 ghost use Rattle.core_steps.specs.AtOnce.{with_call};
 ghost use Rattle.core_steps.specs.State.{world};
 

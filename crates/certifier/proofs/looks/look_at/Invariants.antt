@@ -1,4 +1,4 @@
-use Rattle.machine_laws.proofs.Words.{◌≡◌, ℕ, ◌+◌, ◌-◌, ◌≤◌, cond, Option, PageInfo}
+use Rattle.machine_model.proofs.Words.{◌≡◌, ℕ, ◌+◌, ◌-◌, ◌≤◌, cond, Option, PageInfo}
 use Rattle.core_steps.specs.Machine.{state}
 use Rattle.certifier.specs.Looks.{IsLooked}
 use Rattle.certifier.proofs.looks.look_at.Given as goal

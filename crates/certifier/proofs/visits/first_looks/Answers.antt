@@ -1,4 +1,4 @@
-use Rattle.machine_laws.proofs.Words.{rules, ◌≡◌, arith, ap, refl, length, sym, subst, ◌↔◌}
+use Rattle.machine_model.proofs.Words.{rules, ◌≡◌, arith, ap, refl, length, sym, subst, ◌↔◌}
 use Rattle.std.specs.Prelude.{IsTrue}
 use Rattle.live_levels.specs.declared.close.SlotHistory.{SlotHistory}
 use Rattle.certifier.specs.Histories.{AreDated}

@@ -1,4 +1,4 @@
-use Rattle.machine_laws.proofs.Words.{ℕ, Option, PageInfo}
+use Rattle.machine_model.proofs.Words.{ℕ, Option, PageInfo}
 use Rattle.certifier.proofs.Looked.{AreOpened}
 use Rattle.certifier.proofs.visits.first_looks.Given as goal
 

@@ -1,4 +1,4 @@
-use Rattle.machine_laws.proofs.Words.{◌≡◌, ◌≤◌, ◌∙◌, ap, arith, length, length-set}
+use Rattle.machine_model.proofs.Words.{◌≡◌, ◌≤◌, ◌∙◌, ap, arith, length, length-set}
 use Rattle.live_levels.specs.declared.close.SlotHistory.{SlotHistory}
 use Rattle.certifier.proofs.Looked.{beyond, caught_all, caught_more, look_set, look_there}
 use Rattle.certifier.proofs.visits.look_in.Goals as goal

@@ -1,4 +1,4 @@
-use Rattle.machine_laws.proofs.Words.{◌≡◌, ℕ, ◌≤◌, length, Option, PageInfo}
+use Rattle.machine_model.proofs.Words.{◌≡◌, ℕ, ◌≤◌, length, Option, PageInfo}
 use Rattle.core_steps.specs.Machine.{state}
 use Rattle.certifier.specs.Looks.{AreLooked}
 use Rattle.certifier.proofs.Looked.{CaughtFrom}

@@ -1,4 +1,4 @@
-use Rattle.machine_laws.proofs.Words.{refl, ◌∙◌, length-set}
+use Rattle.machine_model.proofs.Words.{refl, ◌∙◌, length-set}
 use Rattle.coded.proofs.Batching.{makes_none, makes_more, makes_still}
 use Rattle.coded.proofs.batch.make_items.Goals as goal
 

@@ -1,4 +1,4 @@
-use Rattle.machine_laws.proofs.Words.{refl, ◌∙◌, length-set}
+use Rattle.machine_model.proofs.Words.{refl, ◌∙◌, length-set}
 use Rattle.coded.proofs.Batching.{runs_none, runs_more, runs_still, stops_at}
 use Rattle.coded.proofs.batch.run_events.Goals as goal
 

@@ -1,4 +1,4 @@
-use Rattle.machine_laws.proofs.Words.{ap, ◌∙◌, slice_set, length-set}
+use Rattle.machine_model.proofs.Words.{ap, ◌∙◌, slice_set, length-set}
 use Rattle.coded.specs.Logs.{entry_code}
 use Rattle.coded.proofs.Listing.{one_more_of, below_both}
 use Rattle.coded.proofs.logs.tell_entries.Goals as goal

@@ -1,4 +1,4 @@
-use Rattle.machine_laws.proofs.Words.{ap, ◌∙◌, slice_set, length-set}
+use Rattle.machine_model.proofs.Words.{ap, ◌∙◌, slice_set, length-set}
 use Rattle.coded.specs.Maps.{line_code}
 use Rattle.coded.proofs.Listing.{one_more, below_both}
 use Rattle.coded.proofs.maps.tell_lines.Goals as goal

@@ -1,4 +1,4 @@
-use Rattle.machine_laws.proofs.Words.{◌++◌, ◌∷◌, [], rules, subst, sym, take_more}
+use Rattle.machine_model.proofs.Words.{◌++◌, ◌∷◌, [], rules, subst, sym, take_more}
 use Rattle.coded.specs.Opening.{AreFiles}
 use Rattle.coded.proofs.Openings.{files_more, first_missing}
 use Rattle.coded.proofs.opening.files_of.Goals as goal

@@ -1,4 +1,4 @@
-use Rattle.machine_laws.proofs.Words.{◌≡◌, ◌≤◌, take, length, vec_len, vec_capacity}
+use Rattle.machine_model.proofs.Words.{◌≡◌, ◌≤◌, take, length, vec_len, vec_capacity}
 use Rattle.coded.specs.Opening.{AreFiles}
 use Rattle.coded.proofs.opening.files_of.Given as goal
 

@@ -1,11 +1,11 @@
-use Rattle.machine_laws.proofs.Words.{◌≡◌, ◌<◌, ℕ, zero, suc, true, false, inl, inr, refl, subst, arith, new_world, Run}
+use Rattle.machine_model.proofs.Words.{◌≡◌, ◌<◌, ℕ, zero, suc, true, false, inl, inr, refl, subst, arith, new_world, Run}
 use Rattle.core_steps.specs.Running.{IsRefusedAt, RunsAsMap}
 use Rattle.core_steps.specs.Setups.{made_of}
 use Rattle.core_steps.specs.State.{world}
 use Rattle.core_steps.proofs.Reached.{few_cores}
 use Rattle.core_steps.proofs.Runs.{plainly}
-use Rattle.machine_laws.proofs.Bracketed.{bracketed}
-use Rattle.machine_sound.proofs.Kept.{runs_sound}
+use Rattle.machine_model.proofs.Bracketed.{bracketed}
+use Rattle.machine_model.proofs.SoundKept.{runs_sound}
 use Rattle.core_steps.proofs.running.run.Goals as goal
 
 pub returns-in-Ok-take_events : goal.returns-in-Ok-take_events

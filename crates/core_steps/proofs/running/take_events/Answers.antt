@@ -1,4 +1,4 @@
-use Rattle.machine_laws.proofs.Words.{◌≡◌, take, refl, rules, subst, Run, take_all}
+use Rattle.machine_model.proofs.Words.{◌≡◌, take, refl, rules, subst, Run, take_all}
 use Rattle.core_steps.specs.State.{world}
 use Rattle.core_steps.specs.Running.{RunsAsMap}
 use Rattle.core_steps.proofs.Runs.{next_run, next_as_map, refused_next}

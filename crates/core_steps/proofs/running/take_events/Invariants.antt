@@ -1,4 +1,4 @@
-use Rattle.machine_laws.proofs.Words.{◌≡◌, length, ◌≤◌, take, vec_len, vec_capacity, Run}
+use Rattle.machine_model.proofs.Words.{◌≡◌, length, ◌≤◌, take, vec_len, vec_capacity, Run}
 use Rattle.core_steps.specs.State.{world}
 use Rattle.core_steps.specs.Running.{RunsAsMap}
 use Rattle.core_steps.proofs.running.take_events.Given as goal

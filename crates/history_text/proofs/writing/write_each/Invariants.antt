@@ -1,4 +1,4 @@
-use Rattle.machine_laws.proofs.Words.{length, take, ◌-◌, ◌≡◌, ◌≤◌, flat_map, Appends}
+use Rattle.machine_model.proofs.Words.{length, take, ◌-◌, ◌≡◌, ◌≤◌, flat_map, Appends}
 use Rattle.history_text.specs.Text.{call_text}
 use Rattle.history_text.proofs.writing.write_each.Given as goal
 

@@ -1,4 +1,4 @@
-use Rattle.machine_laws.proofs.Words.{◌-◌, ◌<◌, arith, get_or, get_or_default, length, rules}
+use Rattle.machine_model.proofs.Words.{◌-◌, ◌<◌, arith, get_or, get_or_default, length, rules}
 use Rattle.seats.specs.Packing.{nothing, shown}
 use Rattle.seats.specs.declared.noted.Noted.{Noted}
 use Rattle.certifier.proofs.Standing.{ticket_there}

@@ -1,4 +1,4 @@
-use Rattle.machine_laws.proofs.Words.{◌∙◌, flat_map, Appends-trans}
+use Rattle.machine_model.proofs.Words.{◌∙◌, flat_map, Appends-trans}
 use Rattle.trace_io.proofs.IoLemmas.{front_longer, written_flushed, written_then}
 use Rattle.notes_text.specs.Written.{note_text}
 use Rattle.notes_text.proofs.MergeLemmas.{order_of}

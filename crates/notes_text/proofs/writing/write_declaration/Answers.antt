@@ -1,4 +1,4 @@
-use Rattle.machine_laws.proofs.Words.{ap, ◌∙◌, subst, Appends}
+use Rattle.machine_model.proofs.Words.{ap, ◌∙◌, subst, Appends}
 use Rattle.trace_io.proofs.IoLemmas.{front_longer, written_then}
 use Rattle.trace_io.specs.Io.{IsWritten}
 use Rattle.trace_io.specs.Sink.{AppendsFront}

@@ -1,4 +1,4 @@
-use Rattle.machine_laws.proofs.Words.{arith, refl, subst, ◌∙◌, Appends}
+use Rattle.machine_model.proofs.Words.{arith, refl, subst, ◌∙◌, Appends}
 use Rattle.trace_io.specs.Sink.{AppendsFront}
 use Rattle.notes_text.proofs.PieceLemmas.{files_front, files_wrote, nothing_yet}
 use Rattle.notes_text.proofs.writing.write_files.Goals as goal

@@ -1,4 +1,4 @@
-use Rattle.machine_laws.proofs.Words.{length, take, ◌-◌, ◌≡◌, ◌≤◌, Appends}
+use Rattle.machine_model.proofs.Words.{length, take, ◌-◌, ◌≡◌, ◌≤◌, Appends}
 use Rattle.notes_text.specs.Written.{files_text}
 use Rattle.notes_text.proofs.writing.write_files.Given as goal
 

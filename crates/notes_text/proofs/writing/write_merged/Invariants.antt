@@ -1,4 +1,4 @@
-use Rattle.machine_laws.proofs.Words.{◌≡◌, List, length, map, flat_map, Appends}
+use Rattle.machine_model.proofs.Words.{◌≡◌, List, length, map, flat_map, Appends}
 use Rattle.seats.specs.declared.noted.Noted.{Noted}
 use Rattle.certifier.specs.Order.{all_notes}
 use Rattle.seats.specs.Packing.{shown}

@@ -1,6 +1,6 @@
 use Rattle.std.proofs.Common.{◌≡◌, length}
 use Rattle.vm_base.specs.Plain.{Plain}
-use Rattle.machine_sound.specs.Log.{LeadsTo}
+use Rattle.machine_model.specs.Log.{LeadsTo}
 use Rattle.core_steps.specs.Machine.{state}
 use Rattle.trace.specs.Declarations.{made_by}
 use Rattle.outcomes.specs.Listing.{AreSeen}

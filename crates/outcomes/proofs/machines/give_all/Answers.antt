@@ -1,4 +1,4 @@
-use Rattle.machine_laws.proofs.Words.{rules, subst, Run, take_all}
+use Rattle.machine_model.proofs.Words.{rules, subst, Run, take_all}
 use Rattle.core_steps.specs.Machine.{state}
 use Rattle.core_steps.proofs.Runs.{next_run}
 use Rattle.outcomes.proofs.machines.give_all.Goals as goal

@@ -1,4 +1,4 @@
-use Rattle.machine_laws.proofs.Words.{take, Run}
+use Rattle.machine_model.proofs.Words.{take, Run}
 use Rattle.core_steps.specs.Machine.{state}
 use Rattle.outcomes.proofs.machines.give_all.Given as goal
 

@@ -1,4 +1,4 @@
-use Rattle.machine_laws.proofs.Words.{length, take, ◌-◌, ◌≡◌, ◌≤◌, Appends}
+use Rattle.machine_model.proofs.Words.{length, take, ◌-◌, ◌≡◌, ◌≤◌, Appends}
 use Rattle.std.proofs.Common.{map}
 use Rattle.shared_script.specs.Texts.{told_lines}
 use Rattle.shared_script.proofs.writing.write_cores.Given as goal

@@ -1,5 +1,5 @@
 use Rattle.std.proofs.Common.{◌∙◌}
-use Rattle.machine_laws.proofs.Words.{Appends-trans}
+use Rattle.machine_model.proofs.Words.{Appends-trans}
 use Rattle.trace_io.proofs.IoLemmas.{written_then}
 use Rattle.shared_script.proofs.TextLemmas.{second_front}
 use Rattle.shared_script.proofs.writing.write_lines.Goals as goal

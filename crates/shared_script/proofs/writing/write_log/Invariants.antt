@@ -1,4 +1,4 @@
-use Rattle.machine_laws.proofs.Words.{length, take, ◌-◌, ◌≡◌, ◌≤◌, flat_map, Appends}
+use Rattle.machine_model.proofs.Words.{length, take, ◌-◌, ◌≡◌, ◌≤◌, flat_map, Appends}
 use Rattle.shared_script.specs.Texts.{entry_line}
 use Rattle.shared_script.proofs.writing.write_log.Given as goal
 

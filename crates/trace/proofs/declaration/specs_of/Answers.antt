@@ -1,4 +1,4 @@
-use Rattle.machine_laws.proofs.Words.{◌≡◌, ◌∙◌, ap, length, map, rules, take, take_all, file_with}
+use Rattle.machine_model.proofs.Words.{◌≡◌, ◌∙◌, ap, length, map, rules, take, take_all, file_with}
 use Rattle.trace.specs.Declarations.{bytes_of}
 use Rattle.trace.proofs.Declaring.{length_of, map_more, same_files}
 use Rattle.trace.proofs.declaration.specs_of.Goals as goal

@@ -1,4 +1,4 @@
-use Rattle.machine_laws.proofs.Words.{◌≡◌, ◌≤◌, length, map, take, vec_len, vec_capacity, file_with}
+use Rattle.machine_model.proofs.Words.{◌≡◌, ◌≤◌, length, map, take, vec_len, vec_capacity, file_with}
 use Rattle.trace.specs.Declarations.{bytes_of}
 use Rattle.trace.proofs.declaration.specs_of.Given as goal
 

@@ -1,4 +1,4 @@
-use Rattle.machine_laws.proofs.Words.{refl, Appends-nil}
+use Rattle.machine_model.proofs.Words.{refl, Appends-nil}
 use Rattle.trace_io.proofs.LineLemmas.{reads_none}
 use Rattle.trace.specs.Ends.{unmade}
 use Rattle.trace.proofs.replay.replay_read.Goals as goal

@@ -1,4 +1,4 @@
-use Rattle.machine_laws.proofs.Words.{subst, IfOk}
+use Rattle.machine_model.proofs.Words.{subst, IfOk}
 use Rattle.trace_io.specs.Source.{Reads}
 use Rattle.watched.specs.Sums.{summed}
 use Rattle.watched.specs.Watching.{makes}

@@ -1,4 +1,4 @@
-use Rattle.machine_laws.proofs.Words.{arith, refl, subst, ◌∙◌, Appends}
+use Rattle.machine_model.proofs.Words.{arith, refl, subst, ◌∙◌, Appends}
 use Rattle.trace_io.specs.Sink.{AppendsFront}
 use Rattle.trace.proofs.ShownLemmas.{handed_all, handed_front, handed_more, handed_none}
 use Rattle.trace.proofs.shown.write_log.Goals as goal

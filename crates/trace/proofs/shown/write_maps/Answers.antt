@@ -1,4 +1,4 @@
-use Rattle.machine_laws.proofs.Words.{refl, subst, ◌∙◌, Appends}
+use Rattle.machine_model.proofs.Words.{refl, subst, ◌∙◌, Appends}
 use Rattle.trace_io.specs.Sink.{AppendsFront}
 use Rattle.trace.proofs.MapsLemmas.{listed_none, listed_more, listed_front, listed_all}
 use Rattle.trace.proofs.shown.write_maps.Goals as goal

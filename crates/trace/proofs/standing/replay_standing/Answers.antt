@@ -1,4 +1,4 @@
-use Rattle.machine_laws.proofs.Words.{refl, ap, Appends-nil}
+use Rattle.machine_model.proofs.Words.{refl, ap, Appends-nil}
 use Rattle.std.specs.Prelude.{option_map}
 use Rattle.std.proofs.lemmas.Result.{IfOk-weaker}
 use Rattle.core_steps.specs.Machine.{state}

@@ -1,4 +1,4 @@
-use Rattle.machine_laws.proofs.Words.{◌≡◌, arith, sym, true, false, members}
+use Rattle.machine_model.proofs.Words.{◌≡◌, arith, sym, true, false, members}
 use Rattle.watched.proofs.Counting.{count_at, count_none}
 use Rattle.watched.proofs.look.core_count.Goals as goal
 use Rattle.watched.proofs.look.core_count.Goals.{then-contains, else-contains}

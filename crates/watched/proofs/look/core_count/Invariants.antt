@@ -1,4 +1,4 @@
-use Rattle.machine_laws.proofs.Words.{◌≡◌, ◌≤◌, members}
+use Rattle.machine_model.proofs.Words.{◌≡◌, ◌≤◌, members}
 use Rattle.frames.specs.Bits.{count_below}
 use Rattle.watched.proofs.look.core_count.Given as goal
 

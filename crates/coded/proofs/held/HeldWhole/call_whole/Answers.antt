@@ -1,5 +1,5 @@
 use Rattle.std.proofs.Common.{subst}
-use Rattle.machine_alone.specs.Alone.{IsCalm}
+use Rattle.machine_model.specs.Alone.{IsCalm}
 use Rattle.coded.specs.declared.held.Held.{Held}
 use Rattle.coded.specs.Holding.{held_state}
 use Rattle.coded.proofs.held.HeldWhole.call_whole.Goals as goal

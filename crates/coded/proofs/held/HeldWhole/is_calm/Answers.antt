@@ -1,5 +1,5 @@
 use Rattle.std.proofs.Common.{◌≡◌, false, subst, sym}
-use Rattle.machine_alone.specs.Alone.{IsCalm}
+use Rattle.machine_model.specs.Alone.{IsCalm}
 use Rattle.coded.specs.declared.held.Held.{Held}
 use Rattle.coded.specs.Holding.{held_state}
 use Rattle.coded.proofs.held.HeldWhole.is_calm.Goals as goal

@@ -1,5 +1,5 @@
 use Rattle.std.proofs.Common.{subst, sym}
-use Rattle.machine_alone.specs.Alone.{IsCalm}
+use Rattle.machine_model.specs.Alone.{IsCalm}
 use Rattle.core_steps.specs.Machine.{state}
 use Rattle.shared.specs.Histories.{StepsAside, event_of}
 use Rattle.coded.specs.declared.held.Held.{Held}

@@ -1,4 +1,4 @@
-use Rattle.machine_laws.proofs.Words.{refl, ap, ◌∙◌, Install, to}
+use Rattle.machine_model.proofs.Words.{refl, ap, ◌∙◌, Install, to}
 use Rattle.core_steps.specs.State.{world}
 use Rattle.core_steps.proofs.rows.Framing.{cached_anew, fill_within, filled_bytes}
 use Rattle.core_steps.proofs.engine.Engine.cache.Goals as goal

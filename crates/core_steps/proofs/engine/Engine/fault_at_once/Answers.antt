@@ -1,5 +1,5 @@
 use Rattle.std.proofs.Common.{subst, sym}
-use Rattle.machine_sound.specs.Sound.{IsReached}
+use Rattle.machine_model.specs.Sound.{IsReached}
 use Rattle.core_steps.specs.State.{world}
 use Rattle.core_steps.proofs.Reached.{well}
 use Rattle.core_steps.proofs.rows.Known.{is_at}

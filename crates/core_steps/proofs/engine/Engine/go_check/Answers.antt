@@ -1,5 +1,5 @@
-use Rattle.machine_laws.proofs.Words.{◌≡◌, ℕ, Ok, Result, refl, rules, sym, subst, ap, ◌∙◌, Reply, Request, Plan, to, after_check, after_plan, checked_by}
-use Rattle.machine_laws.proofs.Words.{World}
+use Rattle.machine_model.proofs.Words.{◌≡◌, ℕ, Ok, Result, refl, rules, sym, subst, ap, ◌∙◌, Reply, Request, Plan, to, after_check, after_plan, checked_by}
+use Rattle.machine_model.proofs.Words.{World}
 use Rattle.slot_lock.specs.declared.plan.Plan.TheVariants as PlanOf
 use Rattle.core_steps.specs.State.{world}
 use Rattle.core_steps.proofs.engine.Engine.go_check.Goals as goal

@@ -1,4 +1,4 @@
-use Rattle.machine_laws.proofs.Words.{inl, refl, sym, ap, ◌∙◌, frame_of}
+use Rattle.machine_model.proofs.Words.{inl, refl, sym, ap, ◌∙◌, frame_of}
 use Rattle.core_steps.proofs.engine.Engine.go_copy_acks.Goals as goal
 
 pub returns : goal.returns

@@ -1,4 +1,4 @@
-use Rattle.machine_laws.proofs.Words.{refl, sym, ap, ◌∙◌, Release, to}
+use Rattle.machine_model.proofs.Words.{refl, sym, ap, ◌∙◌, Release, to}
 use Rattle.core_steps.specs.State.{world}
 use Rattle.core_steps.proofs.rows.Rows.{installed}
 use Rattle.core_steps.proofs.rows.Known.{install_right}

@@ -1,4 +1,4 @@
-use Rattle.machine_laws.proofs.Words.{Some, inl, inr, refl, ap, ◌∙◌, rules, after_reply, NoFrame}
+use Rattle.machine_model.proofs.Words.{Some, inl, inr, refl, ap, ◌∙◌, rules, after_reply, NoFrame}
 use Rattle.core_steps.specs.State.{world}
 use Rattle.core_steps.proofs.engine.Engine.go_want.Goals as goal
 use Rattle.core_steps.proofs.engine.Engine.go_want.Goals.{in-None, in-Some}

@@ -1,4 +1,4 @@
-use Rattle.machine_laws.proofs.Words.{subst, sym, World}
+use Rattle.machine_model.proofs.Words.{subst, sym, World}
 use Rattle.core_steps.specs.OnePage.{CanTake}
 use Rattle.core_steps.specs.State.{world}
 use Rattle.core_steps.proofs.at_once.AtOnce.{passes_reached, stands}

@@ -1,4 +1,4 @@
-use Rattle.machine_laws.proofs.Words.{ap, rules, ◌∙◌, after_check}
+use Rattle.machine_model.proofs.Words.{ap, rules, ◌∙◌, after_check}
 use Rattle.core_steps.specs.OnePage.{later}
 use Rattle.core_steps.specs.State.{world}
 use Rattle.core_steps.proofs.at_once.Divided.{starts_undivided}

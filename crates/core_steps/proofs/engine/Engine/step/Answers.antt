@@ -1,4 +1,4 @@
-use Rattle.machine_laws.proofs.Words.{◌≡◌, ◌+◌, ◌<◌, ◌^◌, true, arith, rules, core_of, event_limit, is_here}
+use Rattle.machine_model.proofs.Words.{◌≡◌, ◌+◌, ◌<◌, ◌^◌, true, arith, rules, core_of, event_limit, is_here}
 use Rattle.std.proofs.Common.{nat_lt}
 use Rattle.core_steps.specs.State.{world}
 use Rattle.core_steps.proofs.at_once.AtOnce.{less}

@@ -1,4 +1,4 @@
-use Rattle.machine_laws.proofs.Words.{refl, sym, ap, ◌∙◌, tables_cleared, tlb_invalidated}
+use Rattle.machine_model.proofs.Words.{refl, sym, ap, ◌∙◌, tables_cleared, tlb_invalidated}
 use Rattle.core_steps.specs.State.{world}
 use Rattle.core_steps.proofs.rows.Known.{message_pages}
 use Rattle.core_steps.proofs.rows.Rows.{none_left}

@@ -1,4 +1,4 @@
-use Rattle.machine_laws.proofs.Words.{ap, refl, Slots}
+use Rattle.machine_model.proofs.Words.{ap, refl, Slots}
 use Rattle.core_steps.specs.State.{world}
 use Rattle.core_steps.proofs.at_once.AtOnce.{stands}
 use Rattle.core_steps.proofs.at_once.FaultAtOnce.{can_try, tries}

@@ -1,4 +1,4 @@
-use Rattle.machine_laws.proofs.Words.{inr, IfOk-weaker, on_err_weaker, Stepped}
+use Rattle.machine_model.proofs.Words.{inr, IfOk-weaker, on_err_weaker, Stepped}
 use Rattle.core_steps.proofs.Reached.{legal}
 use Rattle.core_steps.proofs.machine.Machine.call.Goals as goal
 

@@ -1,5 +1,5 @@
 use Rattle.core_steps.specs.State.{world}
-use Rattle.machine_laws.proofs.Words.{refl, IfOk-weaker, on_err_weaker}
+use Rattle.machine_model.proofs.Words.{refl, IfOk-weaker, on_err_weaker}
 use Rattle.core_steps.proofs.machine.Machine.finish.Goals as goal
 
 pub returns-clause-ends : goal.returns-clause-ends

@@ -1,4 +1,4 @@
-use Rattle.machine_laws.proofs.Words.{◌-◌, ◌≤◌, ◌^◌, World, StepsTo}
+use Rattle.machine_model.proofs.Words.{◌-◌, ◌≤◌, ◌^◌, World, StepsTo}
 use Rattle.core_steps.specs.Dividing.{StepsAsMap}
 use Rattle.core_steps.specs.State.{world}
 use Rattle.core_steps.proofs.machine.Machine.go_on.Given as goal

@@ -1,7 +1,7 @@
-use Rattle.machine_laws.proofs.Words.{◌<◌, ◌≤◌, ⊎_elim, arith, sym, subst, cases_lt, frames_in}
+use Rattle.machine_model.proofs.Words.{◌<◌, ◌≤◌, ⊎_elim, arith, sym, subst, cases_lt, frames_in}
 use Rattle.slot_lock.specs.Framed.{ListsFrames}
 use Rattle.slot_lock.proofs.Listing.{list_moves, list_whole}
-use Rattle.machine_invariants.proofs.CountingDown.{counts_from}
+use Rattle.machine_model.proofs.CountingDown.{counts_from}
 use Rattle.core_steps.proofs.rows.Lost.{listed_all, listed_known, listed_next}
 use Rattle.core_steps.proofs.rows.commit.count_frames.Goals as goal
 

@@ -1,6 +1,6 @@
-use Rattle.machine_laws.proofs.Words.{◌-◌, ◌≤◌, frames_in}
+use Rattle.machine_model.proofs.Words.{◌-◌, ◌≤◌, frames_in}
 use Rattle.refcache.specs.Parts.{counts_of}
-use Rattle.machine_invariants.proofs.CountingDown.{CountsUpTo}
+use Rattle.machine_model.proofs.CountingDown.{CountsUpTo}
 use Rattle.core_steps.proofs.rows.Lost.{CountsListed}
 use Rattle.core_steps.proofs.rows.commit.count_frames.Given as goal
 

@@ -1,5 +1,5 @@
 use Rattle.std.proofs.Common.{None, arith, refl}
-use Rattle.machine_invariants.proofs.CountingDown.{counts_from, counts_past}
+use Rattle.machine_model.proofs.CountingDown.{counts_from, counts_past}
 use Rattle.core_steps.proofs.rows.commit.count_lost.Goals as goal
 
 pub returns-in-Protect : goal.returns-in-Protect

@@ -1,4 +1,4 @@
-use Rattle.machine_laws.proofs.Words.{None, Some, refl, sym, ◌∙◌, frame_lost}
+use Rattle.machine_model.proofs.Words.{None, Some, refl, sym, ◌∙◌, frame_lost}
 use Rattle.core_steps.proofs.rows.Lost.{lost_counted, lost_page}
 use Rattle.core_steps.proofs.rows.commit.count_page.Goals as goal
 

@@ -1,4 +1,4 @@
-use Rattle.machine_laws.proofs.Words.{subst, IfSome}
+use Rattle.machine_model.proofs.Words.{subst, IfSome}
 use Rattle.std.specs.Prelude.{◌<◌, ◌≡◌, false}
 use Rattle.frames.specs.Parts.{free_frames}
 use Rattle.core_steps.proofs.rows.filling.give_back.Goals as goal

@@ -1,5 +1,5 @@
 -- `empty` makes a handle without a machine. Assumes `Logic`.
-use Rattle.machine_laws.proofs.Words.{◌≡◌, List, [], ◌∷◌, ◌++◌, refl, sym, subst, proved_at, leaves}
+use Rattle.machine_model.proofs.Words.{◌≡◌, List, [], ◌∷◌, ◌++◌, refl, sym, subst, proved_at, leaves}
 use Rattle.std.specs.Prelude.{Option, None}
 use mir.Syntax.{Fn}
 use mir.Val.{Val}

@@ -1,5 +1,5 @@
 -- `get_mut` lends the machine behind the pointer, and the handle follows it. Assumes `Logic`.
-use Rattle.machine_laws.proofs.Words.{◌≡◌, ℕ, List, [], ◌∷◌, refl, sym, IsSome, ghosts}
+use Rattle.machine_model.proofs.Words.{◌≡◌, ℕ, List, [], ◌∷◌, refl, sym, IsSome, ghosts}
 use Rattle.std.proofs.raw_atomic.Walks.{proved}
 use base.Fraction.{full_share}
 use base.Logic.{SProp, ent, sep, id⊢}

@@ -1,5 +1,5 @@
 -- `into_loose` takes the handle apart. Assumes `Logic`.
-use Rattle.machine_laws.proofs.Words.{◌≡◌, List, [], ◌∷◌, ◌++◌, refl, sym, ap, ◌∙◌, subst, IsSome, proved_at, leaves, ghosts}
+use Rattle.machine_model.proofs.Words.{◌≡◌, List, [], ◌∷◌, ◌++◌, refl, sym, ap, ◌∙◌, subst, IsSome, proved_at, leaves, ghosts}
 use Rattle.std.specs.Prelude.{Some}
 use mir.Syntax.{Fn}
 use mir.Val.{Val, vptr}

@@ -1,4 +1,4 @@
-use Rattle.machine_laws.proofs.Words.{on_err_weaker}
+use Rattle.machine_model.proofs.Words.{on_err_weaker}
 use Rattle.std.proofs.lemmas.Result.{IfOk-weaker}
 use Rattle.core_steps.specs.Machine.{state}
 use Rattle.watched.proofs.Watched.{call_part_unwatched, call_unwatched}

@@ -1,4 +1,4 @@
-use Rattle.machine_laws.proofs.Words.{◌-◌, ◌≤◌, ◌^◌, StepsTo}
+use Rattle.machine_model.proofs.Words.{◌-◌, ◌≤◌, ◌^◌, StepsTo}
 use Rattle.core_steps.specs.Machine.{state}
 use Rattle.watched.proofs.Watched.{WatchesSteps}
 use Rattle.watched.proofs.watch.Watch.finish.Given as goal

@@ -1,4 +1,4 @@
-use Rattle.machine_laws.proofs.Words.{ap, sym, ◌∙◌, members, members-empty}
+use Rattle.machine_model.proofs.Words.{ap, sym, ◌∙◌, members, members-empty}
 use Rattle.core_steps.proofs.engine.cores.Cores.awaited.Goals as goal
 
 pub returns-in-Some-clause-some : goal.returns-in-Some-clause-some

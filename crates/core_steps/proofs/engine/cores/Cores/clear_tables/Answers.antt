@@ -1,4 +1,4 @@
-use Rattle.machine_laws.proofs.Words.{None, over, has}
+use Rattle.machine_model.proofs.Words.{None, over, has}
 use Rattle.core_steps.proofs.engine.Each.{table_set}
 use Rattle.core_steps.proofs.engine.cores.Cores.clear_tables.Goals as goal
 

@@ -1,4 +1,4 @@
-use Rattle.machine_laws.proofs.Words.{ap, ◌∙◌, tlb_invalidated}
+use Rattle.machine_model.proofs.Words.{ap, ◌∙◌, tlb_invalidated}
 use Rattle.core_steps.proofs.engine.cores.Cores.drop_own.Goals as goal
 
 pub returns-clause-after : goal.returns-clause-after

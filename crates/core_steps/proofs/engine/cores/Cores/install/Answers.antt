@@ -1,4 +1,4 @@
-use Rattle.machine_laws.proofs.Words.{Some, put, translation_of}
+use Rattle.machine_model.proofs.Words.{Some, put, translation_of}
 use Rattle.mmu.proofs.Valid.{on_ok, on_err}
 use Rattle.core_steps.proofs.engine.Each.{table_set, none_set}
 use Rattle.core_steps.proofs.engine.cores.Cores.install.Goals as goal

@@ -1,4 +1,4 @@
-use Rattle.machine_laws.proofs.Words.{has, tlb_without}
+use Rattle.machine_model.proofs.Words.{has, tlb_without}
 use Rattle.core_steps.proofs.engine.Each.{tlb_set}
 use Rattle.core_steps.proofs.engine.cores.Cores.invalidate.Goals as goal
 

@@ -1,4 +1,4 @@
-use Rattle.machine_laws.proofs.Words.{None, [], rules, fun_ext}
+use Rattle.machine_model.proofs.Words.{None, [], rules, fun_ext}
 use Rattle.core_steps.proofs.engine.Each.{bare_parts, one_more}
 use Rattle.core_steps.proofs.engine.cores.Cores.new.Goals as goal
 

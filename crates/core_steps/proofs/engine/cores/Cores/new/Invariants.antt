@@ -1,4 +1,4 @@
-use Rattle.machine_laws.proofs.Words.{◌≡◌, ◌≤◌, ℕ, None, [], vec_len, vec_capacity}
+use Rattle.machine_model.proofs.Words.{◌≡◌, ◌≤◌, ℕ, None, [], vec_len, vec_capacity}
 use Rattle.core_steps.specs.Cores.{of_each}
 use Rattle.core_steps.proofs.engine.cores.Cores.new.Given as goal
 

@@ -1,4 +1,4 @@
-use Rattle.machine_laws.proofs.Words.{◌≡◌, ◌<◌, true, false, ap, sym, subst, ◌∙◌, members, put_all, put_same, awaited}
+use Rattle.machine_model.proofs.Words.{◌≡◌, ◌<◌, true, false, ap, sym, subst, ◌∙◌, members, put_all, put_same, awaited}
 use Rattle.core_steps.specs.Parts.{parts}
 use Rattle.core_steps.proofs.engine.Each.{shot_set}
 use Rattle.core_steps.proofs.engine.cores.Cores.shoot.Goals as goal

@@ -1,4 +1,4 @@
-use Rattle.machine_laws.proofs.Words.{ap, ◌∙◌, translated, tlb_at}
+use Rattle.machine_model.proofs.Words.{ap, ◌∙◌, translated, tlb_at}
 use Rattle.mmu.specs.Tables.{tlb_after}
 use Rattle.core_steps.proofs.engine.Each.{tlb_set}
 use Rattle.core_steps.proofs.engine.cores.Cores.translate.Goals as goal

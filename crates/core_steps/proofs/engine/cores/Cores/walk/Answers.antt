@@ -1,4 +1,4 @@
-use Rattle.machine_laws.proofs.Words.{tlb_walked, tlb_at}
+use Rattle.machine_model.proofs.Words.{tlb_walked, tlb_at}
 use Rattle.core_steps.proofs.engine.Each.{tlb_set}
 use Rattle.core_steps.proofs.engine.cores.Cores.walk.Goals as goal
 

@@ -1,5 +1,0 @@
-use Rattle.machine_alone.proofs.Ending.{served_at_last}
-use Rattle.machine_alone.proofs.waiting_calls_are_answered.Goals as goal
-
-pub returns : goal.returns
-returns c = served_at_last

@@ -1,4 +1,0 @@
-pub mod Users
-pub mod Taken
-pub mod Alone
-pub mod Apart

@@ -1,8 +1,0 @@
-use Rattle.machine_invariants.proofs.CoherenceKept.{coherence_kept, opening}
-use Rattle.machine_invariants.proofs.translations_are_kept.Goals as goal
-
-pub returns-clause-kept : goal.returns-clause-kept
-returns-clause-kept c = coherence_kept
-
-pub returns-clause-opening : goal.returns-clause-opening
-returns-clause-opening c = opening

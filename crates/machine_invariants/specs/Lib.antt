@@ -1,2 +1,0 @@
-pub mod Coherent
-pub mod Counted
