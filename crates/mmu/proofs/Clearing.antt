@@ -102,20 +102,36 @@ all_before r P q i pos le = by (has r q) refl
 pub whole_range : (r : PageRange) (p q : ℕ) → r.first ≤ p → (r.end < p → p ≡ r.first) → r.end ≤ p → has (record { first = r.first; end = p }) q ≡ has r q
 whole_range r p q a b e = grind (arith, nat_tests)
 
--- the last table that has a page of the range is one of 512
-pub within_tables : (e P n i : ℕ) → 0 < P → e ≤ 512 * P → n ≡ div_ceil e P → i < n → i < 512
-within_tables e P n i pos le is lt = by (cases_lt i 512)
+-- a place beyond all has no table, so that nothing is left to clear there
+pub beyond_places : {V : Type 0} (none v : V) (b : Bool) (k i : ℕ) → (i ≤ k → v ≡ none) → cond (b && nat_lt k i) none v ≡ cond b none v
+beyond_places none v b k i past = by (cases_lt k i)
   where
-    by : (i < 512) ⊎ (512 ≤ i) → i < 512
-    by (inl h) = h
-    by (inr h) =
-        let a : 513 * P ≤ n * P = mul-le-mul_right P (omega arith) in
-        let b : n * P < e + P = rw is ((div_ceil_times e P pos).1) in
-        absurd (omega arith)
+    before : (b : Bool) → k < i → b && nat_lt k i ≡ b
+    before true h = grind (arith, nat_tests)
+    before false h = refl
 
--- and none of the range's pages lies in a later one
+    same : (a b : Bool) → cond a none none ≡ cond b none none
+    same true true = refl
+    same true false = refl
+    same false true = refl
+    same false false = refl
+
+    by : (k < i) ⊎ (i ≤ k) → cond (b && nat_lt k i) none v ≡ cond b none v
+    by (inl h) = ap (λ c. cond c none v) (before b h)
+    by (inr h) = ap (cond (b && nat_lt k i) none) (past h) ∙ same (b && nat_lt k i) b ∙ sym (ap (cond b none) (past h))
+
+-- none of the range's pages lies behind its last table
 pub past_end : (e P n i : ℕ) → 0 < P → n ≡ div_ceil e P → n ≤ i → e ≤ i * P
 past_end e P n i pos is le =
     let a : n * P ≤ i * P = mul-le-mul_right P le in
     let b : e ≤ n * P = rw is ((div_ceil_times e P pos).0) in
     omega arith
+
+-- a loop over the tables, and no further than the places, has cleared all pages of the range
+pub all_cleared : {V : Type 0} (none v : V) (r : PageRange) (P q n i : ℕ) → 0 < P → n ≡ div_ceil r.end P → (i < n → i ≤ q / P → v ≡ none)
+    → cond (has r q && nat_lt (q / P) i) none v ≡ cond (has r q) none v
+all_cleared none v r P q n i pos is past = by (cases_lt i n)
+  where
+    by : (i < n) ⊎ (n ≤ i) → cond (has r q && nat_lt (q / P) i) none v ≡ cond (has r q) none v
+    by (inl h) = beyond_places none v (has r q) (q / P) i (past h)
+    by (inr h) = ap (λ b. cond b none v) (all_before r P q i pos (past_end r.end P n i pos is h))

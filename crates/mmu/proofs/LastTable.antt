@@ -5,7 +5,7 @@ use Rattle.std.proofs.Math.ListN.{set}
 use Rattle.std.proofs.lemmas.List.{get_or-set_same, get_or-set_other}
 use Rattle.std.proofs.lemmas.Bool.Decides.{nat_tests}
 use Rattle.std.specs.Prelude.{Result, Ok, Err, OnErr}
-use Rattle.std.proofs.Math.Nat.{div-div-eq-div-mul, mod-eq-sub-div-mul, div-mul-le_self, div-lt_iff_lt-mul}
+use Rattle.std.proofs.Math.Nat.{div-div-eq-div-mul, mod-eq-sub-div-mul, div-mul-le_self}
 use Rattle.vm_base.specs.Pages.{is_page}
 use Rattle.vm_base.proofs.Functions.{eq_true, eq_false}
 use Rattle.mmu.specs.declared.entry.Translation.{Translation}
@@ -71,9 +71,6 @@ other_shares P leaves p q e ne = by (q / 512 == p / 512) refl
     by : (b : Bool) → (q / 512 == p / 512) ≡ b → (q / 512 == p / 512) ≡ false
     by true t = absurd (ne (same_table P leaves p q e (eq_true (q / 512) (p / 512) t)))
     by false t = t
-
-pub place_within : (page P n i : ℕ) → 0 < P → page < 512 * P → n ≡ 512 → i ≡ page / P → i < n
-place_within page P n i pos lt e at = let q : page / P < 512 = (div-lt_iff_lt-mul pos).1 lt in omega (arith, q)
 
 -- a new table that has one entry has just the tables that lead to it
 pub made_rest : (P p r : ℕ) → r < P → p < P → with_last_table p (λ _. P == 512) r ≡ with_last_table p (λ _. false) r

@@ -115,8 +115,8 @@ pub struct Cpu<A: Allocator + Clone> {
 }
 
 impl<A: Allocator + Clone> Cpu<A> {
-    /// A core whose tables and TLB are empty. Only the root table is made; without memory for it
-    /// there is no core.
+    /// A core whose tables and TLB are empty, and take no memory until an entry is set. Where the
+    /// allocator can't be cloned there is no core.
     pub fn new(alloc: A) -> Result<Self, NoMemory>
         ensures table { IfOk result (λ c. (p : ℕ) → ⟦<Self as Hardware>⟧.table c p ≡ None) }
         ensures tables { IfOk result (λ c. (p : ℕ) → ⟦<Self as Hardware>⟧.has_table c p ≡ false) }

@@ -4,7 +4,7 @@ ghost use Rattle.std.specs.Prelude.{◌≡◌, ◌≢◌, ℕ, ◌+◌, ◌^◌,
 ghost use Rattle.std.specs.Prelude.{◌==◌, Bool, true, false};
 ghost use Rattle.std.specs.Prelude.{None, Some, IfOk, OnOk, OnErr, vec_len, slice_index};
 ghost use Rattle.std.specs.Prelude.{slice_index_or, option_and_then};
-ghost use Rattle.vm_base.specs.Functions.{put, over, has};
+ghost use Rattle.vm_base.specs.Functions.{over, has};
 ghost use Rattle.mmu.specs.Entry.{decode};
 ghost use Rattle.mmu.specs.Tables.{in_table, with_last_table};
 ghost use Rattle.mmu.specs.declared.entry.Translation.{Translation};
@@ -77,14 +77,13 @@ pub trait Level<A: Allocator>: Drop {
 /// A table of the last level: 512 entries of 64 bits, 0 where a page has none.
 #[derive(Drop)]
 pub struct Leaf<A: Allocator> {
-    entries: Vec<u64, A>,
-    ghost full: { vec_len entries ≡ 512 },
+    entries: Box<[u64; 512], A>,
 }
 
 impl<A: Allocator + Clone> Level<A> for Leaf<A> {
     ghost pages = { 512 };
 
-    ghost entry_at = { λ t page. decode (slice_index t.entries.items page) };
+    ghost entry_at = { λ t page. decode (slice_index t.entries.value page) };
 
     ghost has_table = { λ t page. true };
 
@@ -97,11 +96,11 @@ impl<A: Allocator + Clone> Level<A> for Leaf<A> {
     }
 
     fn clear(&mut self, _width: u64, range: PageRange) {
-        erase(&mut self.entries, range);
+        erase(self.entries.as_mut(), range);
     }
 
     fn make(alloc: A) -> Result<Self, NoMemory> {
-        match Vec::from_elem(alloc, 0u64, 512) {
+        match Box::new(alloc, [0; 512]) {
             Ok(entries) => Ok(Leaf { entries }),
             Err(_) => Err(NoMemory),
         }
@@ -120,22 +119,20 @@ impl<A: Allocator + Clone> Level<A> for Leaf<A> {
 }
 
 /// Makes the words of the range 0.
-fn erase<A: Allocator>(words: &mut Vec<u64, A>, range: PageRange)
-    requires { range.end ≤ vec_len words.old }
-    ensures len { vec_len words.new ≡ vec_len words.old }
-    ensures words { (q : ℕ) → slice_index words.new.items q ≡ over (λ p. slice_index words.old.items p)
-        (has range) 0 q }
+fn erase(words: &mut [u64; 512], range: PageRange)
+    requires { range.end ≤ 512 }
+    ensures { (q : ℕ) → slice_index words.new q ≡ over (λ p. slice_index words.old p) (has range) 0 q }
 {
     'pages: for page in range.first..range.end {
         words[page as usize] = 0;
     }
 }
 
-/// A table of a higher level: 512 places for tables below, each made when it is needed.
+/// A table of a higher level: places for at most 512 tables below, up to the last that was needed.
+/// A place beyond is one without a table.
 #[derive(Drop)]
 pub struct Inner<C: Drop, A: Allocator> {
     tables: Vec<Option<C>, A>,
-    ghost full: { vec_len tables ≡ 512 },
 }
 
 impl<C: Level<A>, A: Allocator + Clone> Level<A> for Inner<C, A> {
@@ -153,7 +150,11 @@ impl<C: Level<A>, A: Allocator + Clone> Level<A> for Inner<C, A> {
 
     fn entry(&self, width: u64, page: u64) -> Option<Translation> {
         let below = width / ENTRIES;
-        match &self.tables[(page / below) as usize] {
+        let i = (page / below) as usize;
+        if i >= self.tables.len() {
+            return None;
+        }
+        match &self.tables[i] {
             None => None,
             Some(table) => table.entry(below, page % below),
         }
@@ -164,14 +165,9 @@ impl<C: Level<A>, A: Allocator + Clone> Level<A> for Inner<C, A> {
     }
 
     fn make(alloc: A) -> Result<Self, NoMemory> {
-        let mut tables = match Vec::with_capacity(alloc, 512) {
-            Ok(tables) => tables,
-            Err(_) => return Err(NoMemory),
-        };
-        'places: for _ in 0usize..512 {
-            tables.push_reserved(None);
-        }
-        Ok(Inner { tables })
+        Ok(Inner {
+            tables: Vec::new(alloc),
+        })
     }
 
     fn install(
@@ -182,6 +178,59 @@ impl<C: Level<A>, A: Allocator + Clone> Level<A> for Inner<C, A> {
         translation: Translation,
     ) -> Result<(), NoMemory> {
         let below = width / ENTRIES;
+        self.reach((page / below) as usize)?;
+        self.install_at(alloc, below, page, translation)
+    }
+}
+
+impl<C: Level<A>, A: Allocator + Clone> Inner<C, A> {
+    /// Makes the place and all before it, without tables, where they aren't there yet. Memory is refused
+    /// only then, and no place is added.
+    fn reach(&mut self, place: usize) -> Result<(), NoMemory>
+        requires { place < 512 }
+        ensures ok { OnOk result (place < vec_len self.new.tables) }
+        ensures err { OnErr result (vec_len self.old.tables ≤ place) }
+        ensures entries { (q : ℕ) → ⟦<Self as Level<A>>⟧.entry_at self.new q
+            ≡ ⟦<Self as Level<A>>⟧.entry_at self.old q }
+        ensures tables { (q : ℕ) → ⟦<Self as Level<A>>⟧.has_table self.new q
+            ≡ ⟦<Self as Level<A>>⟧.has_table self.old q }
+    {
+        if place < self.tables.len() {
+            return Ok(());
+        }
+        let missing = place + 1 - self.tables.len();
+        if self.tables.reserve(missing).is_err() {
+            return Err(NoMemory);
+        }
+        'places: for _ in 0..missing {
+            self.tables.push_reserved(None);
+        }
+        Ok(())
+    }
+
+    /// Sets the entry of a page whose place is there, among tables that cover `below` pages each.
+    fn install_at(
+        &mut self,
+        alloc: &A,
+        below: u64,
+        page: u64,
+        translation: Translation,
+    ) -> Result<(), NoMemory>
+        requires below { below ≡ C.pages }
+        requires within { page / below < vec_len self.old.tables }
+        ensures there { OnOk result (⟦<Self as Level<A>>⟧.entry_at self.new page ≡ Some translation) }
+        ensures err { OnErr result (⟦<Self as Level<A>>⟧.entry_at self.new page
+            ≡ ⟦<Self as Level<A>>⟧.entry_at self.old page) }
+        ensures err_last { OnErr result ((q : ℕ) → q / 512 ≡ page / 512
+            → ⟦<Self as Level<A>>⟧.entry_at self.old q ≡ None) }
+        ensures others { (q : ℕ) → q ≢ page
+            → ⟦<Self as Level<A>>⟧.entry_at self.new q ≡ ⟦<Self as Level<A>>⟧.entry_at self.old q }
+        ensures tables { OnOk result ((q : ℕ) → ⟦<Self as Level<A>>⟧.has_table self.new q
+            ≡ with_last_table page (⟦<Self as Level<A>>⟧.has_table self.old) q) }
+        ensures err_tables { OnErr result ((q : ℕ) → ⟦<Self as Level<A>>⟧.has_table self.new q
+            ≡ ⟦<Self as Level<A>>⟧.has_table self.old q) }
+        ensures err_only { OnErr result (⟦<Self as Level<A>>⟧.has_table self.old page ≡ false) }
+    {
         let i = (page / below) as usize;
         match &mut self.tables[i] {
             Some(table) => table.install(alloc, below, page % below, translation),
@@ -223,9 +272,6 @@ fn clear_tables<C: Level<A>, A: Allocator>(
     range: PageRange,
 )
     requires below { below ≡ C.pages }
-    requires full { vec_len tables.old ≡ 512 }
-    requires covered { range.end ≤ 512 * C.pages }
-    ensures full { vec_len tables.new ≡ 512 }
     ensures entries { (q : ℕ)
         → option_and_then (λ t. C.entry_at t (q % C.pages))
         (slice_index_or tables.new.items (q / C.pages) None)
@@ -235,7 +281,8 @@ fn clear_tables<C: Level<A>, A: Allocator>(
         → in_table (λ t. C.has_table t (q % C.pages)) (slice_index_or tables.new.items (q / C.pages) None)
         ≡ in_table (λ t. C.has_table t (q % C.pages)) (slice_index_or tables.old.items (q / C.pages) None) }
 {
-    let end = range.end.div_ceil(below);
+    let needed = range.end.div_ceil(below);
+    let end = needed.min(tables.len() as u64);
     'tables: for i in range.first / below..end {
         clear_table(
             &mut tables[i as usize],

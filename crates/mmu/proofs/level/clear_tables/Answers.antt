@@ -1,11 +1,12 @@
-use Rattle.std.proofs.Common.{refl, ◌≡◌, ℕ, ◌+◌, ◌*◌, ◌/◌, ◌%◌, ◌<◌, ◌≤◌, ◌&&◌, nat_lt, arith, ap, sym, ◌∙◌, Option, None, cond, length, get_or}
+use Rattle.std.proofs.Common.{refl, ℕ, ◌+◌, ◌*◌, ◌/◌, ◌%◌, ◌<◌, ◌&&◌, nat_lt, arith, ap, sym, ◌∙◌, Option, None, cond, length, get_or}
 use Rattle.std.specs.Prelude.{option_and_then}
-use Rattle.std.proofs.lemmas.List.{get_or_default}
+use Rattle.std.proofs.Math.ListN.{length-set}
+use Rattle.std.proofs.lemmas.List.{get_or_default, get_or_past}
 use Rattle.std.specs.Int.{div_ceil}
 use Rattle.vm_base.specs.Functions.{has}
 use Rattle.mmu.specs.Tables.{in_table}
 use Rattle.mmu.proofs.LastTable.{none_more}
-use Rattle.mmu.proofs.Clearing.{cleared_next, none_before, all_before, within_tables, past_end}
+use Rattle.mmu.proofs.Clearing.{cleared_next, none_before, all_cleared}
 use Rattle.mmu.proofs.level.clear_tables.Goals as goal
 
 pub tables-init : goal.tables-init
@@ -13,7 +14,7 @@ tables-init g c =
     let P = g.C.Level.pages in
     let r = c.args.range in
     record {
-      full = c.requires.full;
+      len = refl;
       entries = λ q. sym (ap (λ b. cond b None (option_and_then (λ b. g.C.Level.entry_at b (q % P)) (get_or c.args.tables.now.items (q / P) None)))
           (ap (λ k. has r q && nat_lt (q / P) (r.first / k)) c.requires.below ∙ none_before r P q g.met.C.Level.some_page));
       tables = λ q. refl;
@@ -26,12 +27,9 @@ tables-preserved g c =
     let i = c.tables.i in
     let items = c.tables.tables.items in
     let at = λ (o : Option g.row.C.Denot) (k : ℕ). option_and_then (λ b. g.C.Level.entry_at b k) o in
-    let full : length items ≡ 512 = omega (arith, c.tables.invariant.full) in
-    let ends : c.div_ceil-end.result ≡ div_ceil r.end P = c.div_ceil-end.ensures ∙ ap (div_ceil r.end) c.requires.below in
-    let near : i < 512 = within_tables r.end P c.div_ceil-end.result i g.met.C.Level.some_page c.requires.covered ends c.tables-test.true in
-    let in' : i < length items = omega arith in
+    let in' : i < length items = omega (arith, c.tables.invariant.len, c.tables-test.true, c.min-end.ensures) in
     record {
-      full = c.tables.invariant.full;
+      len = omega (arith, length-set items i c.clear_table.new.table, c.tables.invariant.len);
       entries = cleared_next at None c.args.tables.now.items None P (has r) items i (has c.part.result) c.clear_table.new.table
           g.met.C.Level.some_page in' c.tables.invariant.entries
           (λ k h. c.clear_table.ensures.entries k h ∙ ap (λ o. cond (has c.part.result k) None (at o k)) (c.index_mut.ensures.value
@@ -46,8 +44,10 @@ pub returns-clause-entries : goal.returns-clause-entries
 returns-clause-entries g c =
     let P = g.C.Level.pages in
     let r = c.args.range in
-    let reached : r.end ≤ c.tables.i * P = past_end r.end P c.div_ceil-end.result c.tables.i g.met.C.Level.some_page
-    (c.div_ceil-end.ensures ∙ ap (div_ceil r.end) c.requires.below) c.tables-test.false in
+    let i = c.tables.i in
+    let xs = c.args.tables.now.items in
     λ q. c.tables.invariant.entries q
-    ∙ ap (λ b. cond b None (option_and_then (λ b. g.C.Level.entry_at b (q % P)) (get_or c.args.tables.now.items (q / P) None)))
-    (all_before r P q c.tables.i g.met.C.Level.some_page reached)
+    ∙ all_cleared None (option_and_then (λ b. g.C.Level.entry_at b (q % P)) (get_or xs (q / P) None)) r P q c.div_ceil-needed.result i
+    g.met.C.Level.some_page (c.div_ceil-needed.ensures ∙ ap (div_ceil r.end) c.requires.below)
+    (λ few past. ap (option_and_then (λ b. g.C.Level.entry_at b (q % P)))
+    (get_or_past xs (q / P) None (omega (arith, few, past, c.tables-test.false, c.min-end.ensures))))

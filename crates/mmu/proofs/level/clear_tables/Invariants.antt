@@ -6,7 +6,7 @@ use Rattle.mmu.proofs.level.clear_tables.Given as goal
 
 abbrev pub invariant-tables : goal.invariant-tables
 invariant-tables g l = record {
-  full : vec_len l.tables ≡ 512;
+  len : vec_len l.tables ≡ vec_len l.fn.tables;
   entries : (q : ℕ) → option_and_then (λ b. g.C.Level.entry_at b (q % g.C.Level.pages)) (get_or l.tables.items (q / g.C.Level.pages) None)
       ≡ cond (has l.fn.range q && nat_lt (q / g.C.Level.pages) l.i) None
       (option_and_then (λ b. g.C.Level.entry_at b (q % g.C.Level.pages)) (get_or l.fn.tables.items (q / g.C.Level.pages) None));

@@ -2,7 +2,7 @@ use Rattle.std.proofs.Common.{◌∙◌, ap, get_or, cond}
 use Rattle.mmu.proofs.Clearing.{whole_range}
 use Rattle.mmu.proofs.level.erase.Goals as goal
 
-pub returns-clause-words : goal.returns-clause-words
-returns-clause-words g c = λ q.
-    c.pages.invariant.2 q ∙ ap (λ b. cond b 0 (get_or c.args.words.now.items q 0))
-    (whole_range c.args.range c.pages.page q c.pages.auto.page c.pages.invariant.1 c.pages-test.false)
+pub returns : goal.returns
+returns c = λ q.
+    c.pages.invariant.1 q ∙ ap (λ b. cond b 0 (get_or c.args.words.now q 0))
+    (whole_range c.args.range c.pages.page q c.pages.auto.page c.pages.invariant.0 c.pages-test.false)
