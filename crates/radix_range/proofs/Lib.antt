@@ -10,3 +10,5 @@ pub mod New
 pub mod NodeFolds
 pub mod Edits
 pub mod Mapped
+pub mod NoRoom
+pub mod Known

@@ -1,34 +1,15 @@
 -- What keeps pages mapped, and where no room is among them
-use Rattle.slot_lock.proofs.Words.{◌≡◌, ℕ, ◌+◌, ◌<◌, ◌≤◌, ◌⊎◌, inl, inr, ⊎_elim, Bool, true, false, ◌==◌, Option, Some, None, is_some, Result, Ok, Err, refl}
-use Rattle.slot_lock.proofs.Words.{sym, ap, ◌∙◌, arith, nat_tests, cases_lt, PageRange, PageInfo, IsPage, by_test, in_has}
-use Rattle.std.proofs.Common.{IsTrue}
-use Rattle.std.proofs.Common.{IfSome, IfNone, OnOk, OnErr}
-use Rattle.slot_lock.specs.Slots.{Slots, Divides, IsFreeRun, Joins, between, with_info}
-use Rattle.slot_lock.proofs.Facts.{no_some, two}
-use Rattle.radix_node.specs.Node.{Parts}
-use Rattle.radix_range.specs.Tree.{tree_slots}
+use Rattle.slot_lock.proofs.Words.{◌≡◌, ℕ, ◌+◌, ◌<◌, ◌≤◌, ◌⊎◌, inl, inr, ⊎_elim, true, ◌==◌, Option, Some, None, is_some}
+use Rattle.slot_lock.proofs.Words.{sym, ap, ◌∙◌, arith, nat_tests, cases_lt, PageRange, PageInfo, by_test, in_has}
+use Rattle.std.proofs.Common.{IfSome, IfNone}
+use Rattle.slot_lock.specs.Slots.{Slots, IsFreeRun, between, with_info}
+use Rattle.slot_lock.proofs.Facts.{no_some}
 use Rattle.radix_range.specs.Mapped.{IsMappedRun}
 
 -- ---- what keeps pages mapped
 
 pub same_info : (s t : Slots) (full : PageRange) → IsMappedRun s full → t.info ≡ s.info → IsMappedRun t full
 same_info s t full a e = record { mapped = λ p h. ap (λ (f : ℕ → Option PageInfo). is_some (f p)) e ∙ a.mapped p h }
-
-pub same_slots : (s t : Slots) (full : PageRange) → IsMappedRun s full → t ≡ s → IsMappedRun t full
-same_slots s t full a e = same_info s t full a (ap (λ (u : Slots). u.info) e)
-
--- an expansion, or its refusal
-pub expanded : {T E : Type 0} (r : Result T E) (v w : Parts) (owner : Option ℕ) (full : PageRange)
-    → OnOk r ((at : ℕ) × IsPage at × Divides (tree_slots v) (tree_slots w) owner at) → OnErr r (w ≡ v)
-    → IsMappedRun (tree_slots v) full → IsMappedRun (tree_slots w) full
-expanded (Ok x) v w owner full (at, valid, d) err a = same_info (tree_slots v) (tree_slots w) full a d.info
-expanded (Err e) v w owner full ok err a = same_slots (tree_slots v) (tree_slots w) full a (ap tree_slots err)
-
--- a fold, or none
-pub folded : (b : Bool) (v w : Parts) (full : PageRange) → (IsTrue b → Joins (tree_slots v) (tree_slots w)) → (¬ IsTrue b → w ≡ v)
-    → IsMappedRun (tree_slots v) full → IsMappedRun (tree_slots w) full
-folded true v w full joins same a = same_info (tree_slots v) (tree_slots w) full a (joins refl).info
-folded false v w full joins same a = same_slots (tree_slots v) (tree_slots w) full a (ap tree_slots (same (λ x. two false refl x)))
 
 -- one page that stays mapped
 pub one_info : (s : Slots) (page : ℕ) (info : Option PageInfo) (full : PageRange)

@@ -3,3 +3,4 @@ pub mod Found
 pub mod Locking
 pub mod Folds
 pub mod Mapped
+pub mod Tight

@@ -5,6 +5,7 @@ pub mod change;
 pub mod full;
 pub mod radix_map;
 pub mod slot;
+pub mod tight;
 pub mod walk;
 
 pub use radix_map::RadixMap;

@@ -1,14 +1,16 @@
 //! The second slot map: a radix tree.
 ghost use Rattle.std.specs.Prelude.{◌≡◌, ◌≢◌, ℕ, ◌+◌, ◌-◌, ◌^◌, ◌<◌, ◌≤◌, IfOk, OnErr, Option, Some};
 ghost use Rattle.std.specs.Prelude.{Bool};
-ghost use Rattle.radix_range.specs.Mapped.{IsMappedRun};
+ghost use Rattle.radix_range.specs.Tight.{IsKnown};
 ghost use Rattle.radix_range.specs.Tree.{IsRadix, tree_slots};
 
 use crate::slot::slot_at;
-use crate::{change, full, walk};
+use crate::tight::Tights;
+use crate::{change, full, tight, walk};
 use radix_node::{Handover, Lock, Node};
 use slot_lock::{Change, Fit, FramedPages, FreePage, Got, SlotMap, SlotRead, SlotRun};
 use std::alloc::Allocator;
+use std::cell::Cell;
 use vm_base::info::info_from;
 use vm_base::{CoreId, CoreSet, NoMemory, PageInfo, PageRange};
 
@@ -23,8 +25,12 @@ pub struct RadixMap<A: Allocator> {
     root: Node<A>,
     // pages that are all mapped, among which no room is looked for
     full: PageRange,
+    // where no room begins
+    tights: Tights,
+    // from where to where room was last looked for
+    sought: Cell<PageRange>,
     ghost ok: { IsRadix root },
-    ghost all_full: { IsMappedRun (tree_slots root) full },
+    ghost known: { IsKnown (tree_slots root) full tights.items },
 }
 
 impl<A: Allocator + Clone> RadixMap<A> {
@@ -40,8 +46,19 @@ impl<A: Allocator + Clone> RadixMap<A> {
             Ok(root) => Ok(RadixMap {
                 root,
                 full: PageRange { first: 0, end: 0 },
+                tights: Tights::new(),
+                sought: Cell::new(PageRange { first: 0, end: 0 }),
             }),
             Err(e) => Err(e),
+        }
+    }
+}
+
+impl<A: Allocator> RadixMap<A> {
+    // Keeps in mind that room was found behind the first page where it was looked for.
+    fn sought_up_to(&self, first: u64, start: u64) {
+        if first < start {
+            self.sought.set(PageRange { first, end: start });
         }
     }
 }
@@ -68,7 +85,12 @@ impl<A: Allocator> SlotRead for RadixMap<A> {
     }
 
     fn first_free_run(&self, range: PageRange, n: u64) -> Option<u64> {
-        walk::first_free_run(&self.root, self.full, range, n)
+        let tights = self.tights.as_slice();
+        let found = tight::first_free_run(&self.root, self.full, tights, range, n);
+        if let Some(start) = found {
+            self.sought_up_to(range.first, start);
+        }
+        found
     }
 
     fn recorded(&self, range: PageRange) -> CoreSet {
@@ -155,6 +177,8 @@ impl<A: Allocator + Clone> SlotMap for RadixMap<A> {
     fn change(&mut self, core: CoreId, change: Change) {
         change::change(&mut self.root, change);
         self.full = full::with_change(self.full, change);
+        let sought = self.sought.get();
+        tight::note_change(&mut self.tights, &self.root, self.full, sought, change);
     }
 
     fn list_frames(&self, from: u64, end: u64, list: &mut FramedPages) -> u64 {
@@ -165,6 +189,8 @@ impl<A: Allocator + Clone> SlotMap for RadixMap<A> {
     fn change_free(&mut self, change: Change) {
         change::change_one(&mut self.root, change);
         self.full = full::with_change(self.full, change);
+        let sought = self.sought.get();
+        tight::note_change(&mut self.tights, &self.root, self.full, sought, change);
     }
 
     fn set_leaf(&mut self, core: CoreId, page: u64, info: PageInfo) {

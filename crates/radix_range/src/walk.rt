@@ -18,7 +18,7 @@ use vm_base::{CoreSet, PageRange};
 fn free_run<A: Allocator>(root: &Node<A>, range: PageRange, n: u64) -> Option<u64>
     requires some { 1 ≤ n }
     requires tree { IsRadix root.now }
-    requires high { range.end ≤ 2 ^ 35 }
+    requires high { range.end ≤ 2 ^ 36 }
     ensures found { IfSome result (IsFreeRun (tree_slots root.now) range n) }
     ensures least { IfSome result (λ s. (r : ℕ) → r < s → ¬ IsFreeRun (tree_slots root.now) range n r) }
     ensures none { IfNone result ((r : ℕ) → ¬ IsFreeRun (tree_slots root.now) range n r) }
@@ -32,8 +32,8 @@ fn free_run<A: Allocator>(root: &Node<A>, range: PageRange, n: u64) -> Option<u6
     }
 }
 
-/// The least start of `n` unmapped pages in the range, if there is one. Pages that are known to be
-/// mapped aren't looked at.
+/// The least start of `n` unmapped pages in the range, if there is one. There may be no pages in it.
+/// Pages that are known to be mapped aren't looked at.
 pub(crate) fn first_free_run<A: Allocator>(
     root: &Node<A>,
     full: PageRange,
@@ -43,7 +43,7 @@ pub(crate) fn first_free_run<A: Allocator>(
     requires some { 1 ≤ n }
     requires tree { IsRadix root.now }
     requires full { IsMappedRun (tree_slots root.now) full }
-    requires range { IsPageRange range }
+    requires high { range.end ≤ 2 ^ 36 }
     ensures found { IfSome result (IsFreeRun (tree_slots root.now) range n) }
     ensures least { IfSome result (λ s. (r : ℕ) → r < s → ¬ IsFreeRun (tree_slots root.now) range n r) }
     ensures none { IfNone result ((r : ℕ) → ¬ IsFreeRun (tree_slots root.now) range n r) }

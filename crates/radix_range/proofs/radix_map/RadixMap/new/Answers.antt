@@ -1,11 +1,18 @@
-use Rattle.slot_lock.proofs.Words.{◌≡◌, ℕ, true, arith, has, has_in}
+use Rattle.slot_lock.proofs.Words.{◌≡◌, ℕ, [], true, arith, has, has_in}
+use Rattle.std.proofs.lemmas.List.Elements.{All-nil, All-same}
+use Rattle.radix_range.specs.Tree.{tree_slots}
+use Rattle.radix_range.specs.Tight.{IsTight}
 use Rattle.radix_range.proofs.New.{new_radix, is_new, root_edged}
 use Rattle.radix_range.proofs.radix_map.RadixMap.new.Goals as goal
 
 pub invariant_of-result : goal.invariant_of-result
 invariant_of-result g c = record {
   ok = new_radix c.in-Ok.root c.in-Ok.ensures.is c.in-Ok.ensures.whole;
-  all_full = record { mapped = λ p h. absurd (no_page p h) };
+  known = record {
+    mapped = record { mapped = λ p h. absurd (no_page p h) };
+    tight = All-same (IsTight (tree_slots c.in-Ok.root)) c.new-in-Ok.result.items [] c.new-in-Ok.ensures
+        (All-nil (IsTight (tree_slots c.in-Ok.root)));
+  };
 }
   where
     no_page : (p : ℕ) → has (record { first = 0; end = 0 }) p ≡ true → ⊥

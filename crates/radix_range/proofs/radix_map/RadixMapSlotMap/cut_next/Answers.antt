@@ -3,7 +3,7 @@ use Rattle.slot_lock.proofs.Divisions.{cuts, at_first, at_end}
 use Rattle.slot_lock.proofs.Steps.{slot_by_edge}
 use Rattle.radix_range.specs.Tree.{tree_slots}
 use Rattle.radix_range.specs.Found.{in_512}
-use Rattle.radix_range.proofs.Mapped.{expanded}
+use Rattle.radix_range.proofs.Known.{expanded}
 use Rattle.radix_range.proofs.radix_map.RadixMapSlotMap.cut_next.Goals as goal
 
 pub returns-then-slot_at-range-clause-step : goal.returns-then-slot_at-range-clause-step
@@ -43,13 +43,13 @@ returns-then-slot_at-range-2-clause-exact g c =
     let first : c.slot_at.result.first ≡ c.args.range.first = omega (arith, c.slot_at.ensures.low, c.if-slot_at-range.false) in
     at_end in_512 _ _ c.args.range (ap (tree_slots c.args.self.now.root).edge (sym first) ∙ c.slot_at.ensures.slot.begins) c.in_ok-expand-2.ensures.exact
 
-pub invariant_of-self-clause-all_full : goal.invariant_of-self-clause-all_full
-invariant_of-self-clause-all_full g c =
-    expanded c.expand.result c.args.self.now.root c.expand.new.root _ c.args.self.now.full c.expand.ensures.ok
-    c.expand.ensures.err c.args.self.now.all_full
+pub invariant_of-self-clause-known : goal.invariant_of-self-clause-known
+invariant_of-self-clause-known g c =
+    expanded c.expand.result c.args.self.now.root c.expand.new.root _ c.args.self.now.full c.args.self.now.tights.items c.expand.ensures.ok
+    c.expand.ensures.err c.args.self.now.known
 
-pub invariant_of-self-then-slot_at-range-2-clause-all_full : goal.invariant_of-self-then-slot_at-range-2-clause-all_full
-invariant_of-self-then-slot_at-range-2-clause-all_full g c =
+pub invariant_of-self-then-slot_at-range-2-clause-known : goal.invariant_of-self-then-slot_at-range-2-clause-known
+invariant_of-self-then-slot_at-range-2-clause-known g c =
     expanded c.expand-then-slot_at-range-2.result c.args.self.now.root c.expand-then-slot_at-range-2.new.root _
-    c.args.self.now.full c.expand-then-slot_at-range-2.ensures.ok c.expand-then-slot_at-range-2.ensures.err
-    c.args.self.now.all_full
+    c.args.self.now.full c.args.self.now.tights.items c.expand-then-slot_at-range-2.ensures.ok c.expand-then-slot_at-range-2.ensures.err
+    c.args.self.now.known

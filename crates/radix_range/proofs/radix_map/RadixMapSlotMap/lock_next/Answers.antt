@@ -4,7 +4,7 @@ use Rattle.slot_lock.proofs.Divisions.{splits, at_first, at_end}
 use Rattle.slot_lock.proofs.Steps.{slot_by_edge}
 use Rattle.radix_range.specs.Tree.{tree_slots}
 use Rattle.radix_range.specs.Found.{in_512}
-use Rattle.radix_range.proofs.Mapped.{expanded, same_slots, same_info}
+use Rattle.radix_range.proofs.Known.{expanded, same_slots, same_info}
 use Rattle.radix_range.proofs.radix_map.RadixMapSlotMap.lock_next.Goals as goal
 
 pub expand-requires-clause-crossed : goal.expand-requires-clause-crossed
@@ -48,27 +48,27 @@ returns-in_ok-expand-in-Beyond-clause-step g c =
 pub invariant_of-self : goal.invariant_of-self
 invariant_of-self g c = record {
   ok = c.lock.ensures.tree;
-  all_full = same_slots (tree_slots c.args.self.now.root) (tree_slots c.lock.new.root) c.args.self.now.full
-      c.args.self.now.all_full c.in-Held.ensures.tries.1;
+  known = same_slots (tree_slots c.args.self.now.root) (tree_slots c.lock.new.root) c.args.self.now.full c.args.self.now.tights.items
+      c.args.self.now.known c.in-Held.ensures.tries.1;
 }
 
-pub invariant_of-self-in-Before-clause-all_full : goal.invariant_of-self-in-Before-clause-all_full
-invariant_of-self-in-Before-clause-all_full g c =
-    expanded c.expand.result c.lock.new.root c.expand.new.root _ c.args.self.now.full c.expand.ensures.ok
+pub invariant_of-self-in-Before-clause-known : goal.invariant_of-self-in-Before-clause-known
+invariant_of-self-in-Before-clause-known g c =
+    expanded c.expand.result c.lock.new.root c.expand.new.root _ c.args.self.now.full c.args.self.now.tights.items c.expand.ensures.ok
     c.expand.ensures.err
-    (same_slots (tree_slots c.args.self.now.root) (tree_slots c.lock.new.root) c.args.self.now.full
-    c.args.self.now.all_full c.in-Before.ensures.tries.2)
+    (same_slots (tree_slots c.args.self.now.root) (tree_slots c.lock.new.root) c.args.self.now.full c.args.self.now.tights.items
+    c.args.self.now.known c.in-Before.ensures.tries.2)
 
-pub invariant_of-self-in-Beyond-clause-all_full : goal.invariant_of-self-in-Beyond-clause-all_full
-invariant_of-self-in-Beyond-clause-all_full g c =
-    expanded c.expand-in-Beyond.result c.lock.new.root c.expand-in-Beyond.new.root _ c.args.self.now.full
+pub invariant_of-self-in-Beyond-clause-known : goal.invariant_of-self-in-Beyond-clause-known
+invariant_of-self-in-Beyond-clause-known g c =
+    expanded c.expand-in-Beyond.result c.lock.new.root c.expand-in-Beyond.new.root _ c.args.self.now.full c.args.self.now.tights.items
     c.expand-in-Beyond.ensures.ok c.expand-in-Beyond.ensures.err
-    (same_slots (tree_slots c.args.self.now.root) (tree_slots c.lock.new.root) c.args.self.now.full
-    c.args.self.now.all_full c.in-Beyond.ensures.tries.1)
+    (same_slots (tree_slots c.args.self.now.root) (tree_slots c.lock.new.root) c.args.self.now.full c.args.self.now.tights.items
+    c.args.self.now.known c.in-Beyond.ensures.tries.1)
 
 pub invariant_of-self-in-Locked-1 : goal.invariant_of-self-in-Locked-1
 invariant_of-self-in-Locked-1 g c = record {
   ok = c.lock.ensures.tree;
-  all_full = same_info (tree_slots c.args.self.now.root) (tree_slots c.lock.new.root) c.args.self.now.full
-      c.args.self.now.all_full (ap (λ (s : Slots). s.info) c.in-Locked.ensures.tries.now);
+  known = same_info (tree_slots c.args.self.now.root) (tree_slots c.lock.new.root) c.args.self.now.full c.args.self.now.tights.items
+      c.args.self.now.known (ap (λ (s : Slots). s.info) c.in-Locked.ensures.tries.now);
 }

@@ -2,7 +2,7 @@ use Rattle.std.proofs.Common.{◌∙◌, ap, arith, refl}
 use Rattle.slot_lock.proofs.SlotLaws.{held_page}
 use Rattle.slot_lock.proofs.Steps.{slot_by_edge}
 use Rattle.radix_range.specs.Tree.{tree_slots}
-use Rattle.radix_range.proofs.Mapped.{same_info}
+use Rattle.radix_range.proofs.Known.{same_info}
 use Rattle.slot_lock.specs.Slots.{Slots}
 use Rattle.radix_range.proofs.radix_map.RadixMapSlotMap.unlock_next.Goals as goal
 
@@ -22,7 +22,7 @@ returns g c =
       now = e.slots;
     }
 
-pub invariant_of-self-clause-all_full : goal.invariant_of-self-clause-all_full
-invariant_of-self-clause-all_full g c =
-    same_info (tree_slots c.args.self.now.root) (tree_slots c.unlock.new.root) c.args.self.now.full c.args.self.now.all_full
+pub invariant_of-self-clause-known : goal.invariant_of-self-clause-known
+invariant_of-self-clause-known g c =
+    same_info (tree_slots c.args.self.now.root) (tree_slots c.unlock.new.root) c.args.self.now.full c.args.self.now.tights.items c.args.self.now.known
     (ap (λ (s : Slots). s.info) c.unlock.ensures.slots)
