@@ -1,18 +1,21 @@
 -- A fault whose page is a slot of its own that nobody holds: what it finds there, where the page's
 -- frame comes from, and what is left, there and after a change of such a page
 use Rattle.std.specs.Prelude.{◌≡◌, ℕ, ◌+◌, ◌<◌, ◌≤◌, ◌^◌, [], ◌∷◌, ◌++◌, Bool, true, false}
-use Rattle.std.specs.Prelude.{Option, Some, pos, ◌<ℤ◌, Result, Ok, Err}
+use Rattle.std.specs.Prelude.{Option, None, Some, is_some, pos, ◌<ℤ◌, Result, Ok, Err}
 use Rattle.vm_base.specs.declared.info.Back.{Back}
 use Rattle.vm_base.specs.declared.info.Back.TheVariants.{Anon}
 use Rattle.vm_base.specs.declared.info.PageInfo.{PageInfo}
 use Rattle.vm_base.specs.declared.replies.Reply.{Reply}
+use Rattle.vm_base.specs.declared.rights.Access.{Access}
 use Rattle.vm_base.specs.Functions.{put}
-use Rattle.vm_base.specs.Plain.{zeros}
+use Rattle.vm_base.specs.Plain.{File, file_bytes, zeros}
 use Rattle.slot_lock.specs.declared.plan.Goal.TheVariants as To
 use Rattle.slot_lock.specs.declared.plan.Touch.{Touch}
 use Rattle.slot_lock.specs.Slots.{IsFreeSlot, with_info}
 use Rattle.vm_calls.specs.declared.fault.Settled.{Settled}
 use Rattle.vm_calls.specs.declared.fault.Settled.TheVariants as Found
+use Rattle.vm_calls.specs.Settling.{is_private_store}
+use Rattle.mmu.specs.declared.entry.Translation.{Translation}
 use Rattle.refcache.specs.Counts.{Counts, true_count}
 use Rattle.refcache.specs.Steps.{Takes, Begin, Inc, IsUnused}
 use Rattle.vm_base.specs.declared.log.Entry.TheVariants as EntryOf
@@ -21,15 +24,17 @@ use Rattle.machine_model.specs.declared.phase.Phase.TheVariants.{Answer}
 use Rattle.machine_model.specs.Accesses.{IsLeastFree}
 use Rattle.vm_base.specs.Info.{info_with_core}
 use Rattle.machine_model.specs.Actions.{after_reply, to}
+use Rattle.machine_model.specs.Files.{page_now}
 use Rattle.machine_model.specs.Holding.{page_of_touch}
 use Rattle.machine_model.specs.Locks.{locking}
 use Rattle.machine_model.specs.Step.{StepsTo, event_limit}
 use Rattle.machine_model.specs.Translating.{entry_of_page, with_table}
 use Rattle.machine_model.specs.World.{Memory, World}
 use Rattle.machine_model.specs.Sound.{IsReached}
+use Rattle.core_steps.specs.Filling.{IsOfFile}
 use Rattle.core_steps.specs.Moving.{tried_to}
 use Rattle.core_steps.specs.declared.at_once.fault.Source.{Source}
-use Rattle.core_steps.specs.declared.at_once.fault.Source.TheVariants.{Own, Cached, Free}
+use Rattle.core_steps.specs.declared.at_once.fault.Source.TheVariants.{Own, Cached, Free, Read}
 
 -- the core's call is to lock the page of its access, which is a slot of its own that nobody holds,
 -- and all events of the fault can be counted
@@ -58,23 +63,45 @@ abbrev pub frame_from : Source → ℕ
 frame_from (Own f) = f
 frame_from (Cached f) = f
 frame_from (Free f) = f
+frame_from (Read f n k) = f
 
 -- in how many steps the page gets it
 abbrev pub steps_from : Source → ℕ
 steps_from (Own f) = 0
 steps_from (Cached f) = 1
 steps_from (Free f) = 2
+steps_from (Read f n k) = 2
 
 -- the state in which the core's call is to lock the page of its access
 abbrev pub at_lock : ℕ → Touch → World → World
 at_lock core touch w = to core (locking (To.Access touch)) w
 
+-- The access, which is no store to a private page, finds that its page, which this page of a file
+-- backs, wants a frame; and this is the least free one.
+pub record IsToRead (access : Access) (settled : Settled) (back : Back) (is_free : ℕ → Bool)
+    (f n k : ℕ) : Type 0 where
+  pub wants : settled ≡ Found.Wants
+  pub shared : is_private_store back access ≡ false
+  pub backed : IsOfFile back n k
+  pub least : IsLeastFree is_free f
+
 -- an access that finds this at a page with this backing gets the frame from there
-abbrev pub IsSource : Settled → Back → (ℕ → Bool) → Source → Type 0
-IsSource settled back is_free (Own f) = settled ≡ Found.Has f
-IsSource settled back is_free (Cached f) = settled ≡ Found.Cached f
-IsSource settled back is_free (Free f) =
+abbrev pub IsSource : Access → Settled → Back → (ℕ → Bool) → Source → Type 0
+IsSource access settled back is_free (Own f) = settled ≡ Found.Has f
+IsSource access settled back is_free (Cached f) = settled ≡ Found.Cached f
+IsSource access settled back is_free (Free f) =
     (settled ≡ Found.Wants) × (back ≡ Anon) × IsLeastFree is_free f
+IsSource access settled back is_free (Read f n k) = IsToRead access settled back is_free f n k
+
+-- the page that is read is the one of a file that backs the page
+abbrev pub ReadsBacking : Source → Back → Type 0
+ReadsBacking (Read f n k) back = IsOfFile back n k
+ReadsBacking _ back = Unit {0}
+
+-- which frames cache pages of files once the page has its frame
+abbrev pub cached_from : (ℕ → ℕ → Option ℕ) → Source → ℕ → ℕ → Option ℕ
+cached_from cached (Read f n k) = put cached n (put (cached n) k (Some f))
+cached_from cached _ = cached
 
 -- the core can count the frame up
 pub record CanCount (counts : Counts) (core f : ℕ) : Type 0 where
@@ -90,34 +117,59 @@ pub record CanTakeFree (m : Memory) (frames f : ℕ) : Type 0 where
   pub object : f < m.counts.objects
   pub unused : IsUnused m.counts f
 
+-- it can be taken for a page of a file, which no frame caches
+pub record CanRead (m : Memory) (frames : ℕ) (file : Option File) (f n k : ℕ) : Type 0 where
+  pub frame : CanTakeFree m frames f
+  pub there : is_some (file_bytes file k) ≡ true
+  pub uncached : m.cached n k ≡ None
+
 abbrev pub CanTake : World → ℕ → Source → Type 0
 CanTake w core (Own f) = Unit {0}
 CanTake w core (Cached f) = CanCount w.memory.counts core f
 CanTake w core (Free f) = CanTakeFree w.memory w.made.frames f
+CanTake w core (Read f n k) = CanRead w.memory w.made.frames (w.made.file n) f n k
 
--- the memory once the frame is the page's: one of a file's page is counted up, and a free one is
--- taken, has zeros and is counted once
-abbrev pub TakesFrom : Memory → ℕ → Source → Memory → Type 0
-TakesFrom m core (Own f) n = n ≡ m
-TakesFrom m core (Cached f) n =
+-- the memory once frame f is taken, has the page of the file as it now is and caches it, with these
+-- counts
+abbrev pub with_page_read : (ℕ → Option File) → ℕ → ℕ → ℕ → Counts → Memory → Memory
+with_page_read file f n k counts m =
+    let taken = record m { is_free = put m.is_free f false } in
+    record taken {
+      bytes = put m.bytes f (page_now taken (file n) n k);
+      counts = counts;
+      cached = put m.cached n (put (m.cached n) k (Some f));
+    }
+
+-- The memory once the frame is the page's: one of a file's page is counted up; a free one is taken,
+-- has zeros and is counted once; or it gets a page of a file and is counted for the file too.
+abbrev pub TakesFrom : (ℕ → Option File) → Memory → ℕ → Source → Memory → Type 0
+TakesFrom file m core (Own f) n = n ≡ m
+TakesFrom file m core (Cached f) n =
     (counts : Counts) × Takes m.counts (Inc core f) counts × (n ≡ record m { counts = counts })
-TakesFrom m core (Free f) n =
+TakesFrom file m core (Free f) n =
     (counts : Counts) × Takes m.counts (Begin f 1) counts
     × (n ≡ record m {
       bytes = put m.bytes f zeros;
       is_free = put m.is_free f false;
       counts = counts;
     })
+TakesFrom file m core (Read f i k) n =
+    (counts : Counts) × Takes m.counts (Begin f 2) counts
+    × (n ≡ with_page_read file f i k counts m)
 
 -- ---- what is left
 
--- the page has this, with the core recorded, and the core's tables have its entry
-abbrev pub with_translation : ℕ → ℕ → PageInfo → World → World
-with_translation core page info w = record w {
+-- the page has this, with the core recorded, and the core's tables have this entry of it
+abbrev pub with_entry_of : ℕ → ℕ → PageInfo → Option Translation → World → World
+with_entry_of core page info entry w = record w {
   slots = with_info w.slots page (info_with_core core (Some info));
-  hardware = with_table w.hardware core
-      (put (w.hardware.table core) page (entry_of_page w.memory.cached (Some info)));
+  hardware = with_table w.hardware core (put (w.hardware.table core) page entry);
 }
+
+-- and they have the page's entry
+abbrev pub with_translation : ℕ → ℕ → PageInfo → World → World
+with_translation core page info w =
+    with_entry_of core page info (entry_of_page w.memory.cached (Some info)) w
 
 -- n steps of the core's call lead from this phase of it in w to that one in v, where its phase isn't
 -- written

@@ -7,21 +7,25 @@ use Rattle.machine_model.proofs.Words.{after_finding, found_at, is_past_end, mem
 use Rattle.machine_model.proofs.Words.{FillsBacked, FillsFromFile, page_of_touch, locking, Step, StepsTo, event_limit, with_event, after_translating}
 use Rattle.machine_model.proofs.Words.{entry_of_page, frame_reached, translated_by, with_hardware, with_table}
 use Rattle.std.proofs.Common.{◌&&◌, ◌||◌}
-use Rattle.std.proofs.lemmas.Bool.{or_parts}
+use Rattle.std.proofs.Common.{is_some}
+use Rattle.std.proofs.lemmas.Bool.{not-false, or_parts}
+use Rattle.vm_base.specs.Plain.{file_bytes}
+use Rattle.machine_model.proofs.Words.{File, Translation}
 use Rattle.vm_base.specs.declared.rights.Access.TheVariants.{Store}
 use Rattle.slot_lock.specs.declared.plan.Goal.TheVariants as To
 use Rattle.mmu.specs.declared.translated.Translated.TheVariants as By
 use Rattle.vm_calls.specs.declared.fault.Settled.TheVariants as Found
-use Rattle.machine_model.specs.Accesses.{NoneFree, after_translation, after_try}
+use Rattle.machine_model.specs.Accesses.{NoneFree, after_translation, after_try, lies_past_end}
 use Rattle.vm_base.specs.declared.replies.Reply.TheVariants.{NoFrame}
 use Rattle.core_steps.specs.declared.at_once.fault.Source.{Source}
-use Rattle.core_steps.specs.declared.at_once.fault.Source.TheVariants.{Own, Cached, Free}
+use Rattle.core_steps.specs.declared.at_once.fault.Source.TheVariants.{Own, Cached, Free, Read}
+use Rattle.core_steps.specs.Filling.{IsOfFile}
 use Rattle.core_steps.specs.Moving.{CanTry, IsAt, tried_to}
-use Rattle.core_steps.specs.OnePage.{CanTake, IsFault, IsSource, Makes, Passes, TakesFrom, after_settling, at_lock, frame_from}
-use Rattle.core_steps.specs.OnePage.{later, logged_later, steps_from, wants_frame, with_translation}
+use Rattle.core_steps.specs.OnePage.{CanTake, IsFault, IsSource, Makes, Passes, ReadsBacking, TakesFrom, after_settling, at_lock, frame_from}
+use Rattle.core_steps.specs.OnePage.{cached_from, later, logged_later, steps_from, wants_frame, with_entry_of}
 use Rattle.core_steps.proofs.at_once.AtOnce.{answered, goes, holding, locked, one_later, passes_join}
 use Rattle.core_steps.proofs.at_once.AtOnce.{released, stands, step_from, to_same, to_twice}
-use Rattle.core_steps.proofs.rows.Framing.{counted_few, fills_zeros, shown_here, shown_used, zeroed}
+use Rattle.core_steps.proofs.rows.Framing.{cached_anew, counted_few, fills_zeros, of_file_frame, shown_here, shown_used, zeroed}
 use Rattle.core_steps.proofs.rows.Known.{frame_below, free_below, free_unused}
 use Rattle.core_steps.proofs.engine.Each.{put_id, put_twice}
 use Rattle.core_steps.proofs.rows.Rows.{installed}
@@ -103,11 +107,73 @@ shares w v c touch g (Shared n k) access load e h = subst (λ o. FillsFromFile w
 shares w v c touch g (Private n k) Store load e h = absurd cc
 shares w v c touch g (Private n k) access load e h = subst (λ o. FillsFromFile w c touch None o Stepped v) (sym e) h
 
--- whatever the frame is taken from, frames go on caching what they cache
-same_cached : (from : Source) (c : ℕ) (m n : Memory) → TakesFrom m c from n → n.cached ≡ m.cached
-same_cached (Own f) c m n t = ap (λ (x : Memory). x.cached) t
-same_cached (Cached f) c m n t = ap (λ (x : Memory). x.cached) t.2
-same_cached (Free f) c m n t = ap (λ (x : Memory). x.cached) t.2
+-- or the frame that reads its file page, which none caches
+reads : (w v : World) (c : ℕ) (touch : Touch) (own : Option ℕ) (back : Back) (access : Access) (n k : ℕ) → is_private_store back access ≡ false
+    → IsOfFile back n k → w.memory.cached n k ≡ None → FillsFromFile w c touch own None Stepped v → FillsBacked w c touch own back access Stepped v
+reads w v c touch own back access n k load backed none h = go back access load backed
+  where
+    from_file : FillsFromFile w c touch own (w.memory.cached n k) Stepped v
+    from_file = subst (λ o. FillsFromFile w c touch own o Stepped v) (sym none) h
+
+    private : (access : Access) → is_private_store (Private n k) access ≡ false → FillsBacked w c touch own (Private n k) access Stepped v
+    private Store load = absurd cc
+    private access load = from_file
+
+    go : (back : Back) (access : Access) → is_private_store back access ≡ false → IsOfFile back n k → FillsBacked w c touch own back access Stepped v
+    go back access load (inl e) = subst (λ back. FillsBacked w c touch own back access Stepped v) (sym e) from_file
+    go back access load (inr e) =
+        subst (λ back. FillsBacked w c touch own back access Stepped v) (sym e)
+        (private access (ap (λ back. is_private_store back access) (sym e) ∙ load))
+
+-- the file page of what doesn't lie past its file's end is there
+there : (file : ℕ → Option File) (back : Back) (n k : ℕ) → IsOfFile back n k → lies_past_end file back ≡ false → is_some (file_bytes (file n) k) ≡ true
+there file back n k (inl e) past = not-false _ (ap (lies_past_end file) (sym e) ∙ past)
+there file back n k (inr e) past = not-false _ (ap (lies_past_end file) (sym e) ∙ past)
+
+named : (back : Back) (n k : ℕ) → IsOfFile back n k → is_anonymous back ≡ false
+named back n k (inl e) = ap is_anonymous e
+named back n k (inr e) = ap is_anonymous e
+
+-- a page that wants a frame shows no file page, but for a private store,
+unshown : (back : Back) (access : Access) (frame shown : Option ℕ) → source back frame access shown ≡ Found.Wants → is_private_store back access ≡ false
+    → is_anonymous back ≡ false → shown ≡ None
+unshown back access (Some f) shown e load named =
+    by_test (λ s. s ≡ Found.Wants → shown ≡ None) (is_private_store back access && is_cached shown f) (Found.Copies f) (Found.Has f)
+    (λ _ k. absurd cc) (λ _ k. absurd cc) e
+unshown back access None None e load named = refl
+unshown back access None (Some g) e load named =
+    by_test (λ s. s ≡ Found.Wants → Some g ≡ None) (is_private_store back access || is_anonymous back) Found.Wants (Found.Cached g)
+    (λ yes k. let no = rw (load, named) at yes in absurd cc) (λ _ k. absurd cc) e
+
+-- and doesn't lie past its file's end
+abbrev Wanted : PageInfo → Access → Bool → Option ℕ → Settled → Type 0
+Wanted info access past shown s =
+    s ≡ Found.Wants → (past ≡ false) × (is_private_store info.meta.back access ≡ false → is_anonymous info.meta.back ≡ false → shown ≡ None)
+
+wanted : (o : Option PageInfo) (access : Access) (past : Bool) (shown : Option ℕ) → settled o access past shown ≡ Found.Wants
+    → (past ≡ false) × (is_private_store (back_of o) access ≡ false → is_anonymous (back_of o) ≡ false → shown ≡ None)
+wanted None access past shown e = absurd cc
+wanted (Some info) access past shown e =
+    let found = source info.meta.back info.frame access shown in
+    by_test (Wanted info access past shown) (is_allowed info.meta.prot access) (if past then Found.Bus else found) Found.AccErr
+    (λ _. by_test (Wanted info access past shown) past Found.Bus found (λ _ k. absurd cc)
+    (λ no k. (no, unshown info.meta.back access info.frame shown k))) (λ _ k. absurd cc) e
+
+-- ---- which frames cache pages of files then
+
+-- what is read is the page's backing
+pub reads_backing : (access : Access) (found : Settled) (back : Back) (is_free : ℕ → Bool) (from : Source) → IsSource access found back is_free from
+    → ReadsBacking from back
+reads_backing access found back is_free (Read f n k) h = h.backed
+reads_backing access found back is_free (Own f) h = tt
+reads_backing access found back is_free (Cached f) h = tt
+reads_backing access found back is_free (Free f) h = tt
+
+caches : (from : Source) (c : ℕ) (file : ℕ → Option File) (m n : Memory) → TakesFrom file m c from n → n.cached ≡ cached_from m.cached from
+caches (Own f) c file m n t = ap (λ (x : Memory). x.cached) t
+caches (Cached f) c file m n t = ap (λ (x : Memory). x.cached) t.2
+caches (Free f) c file m n t = ap (λ (x : Memory). x.cached) t.2
+caches (Read f i k) c file m n t = ap (λ (x : Memory). x.cached) t.2
 
 -- an access that has to take a frame goes on to where it wants one
 wanting : (c : ℕ) (touch : Touch) (s : Settled) → wants_frame s ≡ true
@@ -189,7 +255,25 @@ module _ (w : World) (c : ℕ) (touch : Touch) (fault : IsFault (at_lock c touch
 
   module _ (info : PageInfo) (e : w.slots.info touch.page ≡ Some info) where
     abbrev Comes : Source → Type 0
-    Comes = IsSource (found_at w touch) info.meta.back w.memory.is_free
+    Comes = IsSource touch.access (found_at w touch) info.meta.back w.memory.is_free
+
+    -- what is known of a file page that is to be read
+    module _ {f n k : ℕ} (h : Comes (Read f n k)) where
+      abbrev back : Back
+      back = back_of (w.slots.info touch.page)
+
+      known : (is_past_end w.made.file (w.slots.info touch.page) ≡ false)
+          × (is_private_store back touch.access ≡ false → is_anonymous back ≡ false → file_frame w.memory.cached back ≡ None)
+      known = wanted (w.slots.info touch.page) touch.access (is_past_end w.made.file (w.slots.info touch.page)) (file_frame w.memory.cached back) h.wants
+
+      backed : IsOfFile back n k
+      backed = subst (λ b. IsOfFile b n k) (sym (ap back_of e)) h.backed
+
+      shared : is_private_store back touch.access ≡ false
+      shared = ap (λ b. is_private_store b touch.access) (ap back_of e) ∙ h.shared
+
+      uncached : w.memory.cached n k ≡ None
+      uncached = sym (of_file_frame w.memory.cached back n k backed) ∙ known.1 shared (named back n k backed)
 
     pub can_take : (from : Source) → Comes from → CanTake w c from
     can_take (Own f) h = tt
@@ -207,12 +291,20 @@ module _ (w : World) (c : ℕ) (touch : Touch) (fault : IsFault (at_lock c touch
         let m = at_lock c touch w in
         let here = free_below m at.well f h.2.free in
         record { here = here; free = h.2.free; object = at.objects f here; unused = free_unused m f at.well h.2.free }
+    can_take (Read f n k) h =
+        let m = at_lock c touch w in
+        let here = free_below m at.well f h.least.free in
+        record {
+          frame = record { here = here; free = h.least.free; object = at.objects f here; unused = free_unused m f at.well h.least.free };
+          there = there w.made.file info.meta.back n k h.backed (ap (is_past_end w.made.file) (sym e) ∙ (known h).0);
+          uncached = uncached h;
+        }
 
     -- with the frame, and where this is the memory then
     abbrev filled : ℕ → Memory → World
     filled f m = record w { slots = with_info w.slots touch.page (info_with_frame f (w.slots.info touch.page)); memory = m }
 
-    fetches : (from : Source) (m : Memory) → Comes from → TakesFrom w.memory c from m
+    fetches : (from : Source) (m : Memory) → Comes from → TakesFrom w.made.file w.memory c from m
         → StepsTo (at_lock c touch w) c (steps_from from + 2) (to c (Install touch) (later (steps_from from + 2) (pages (filled (frame_from from) m))))
     fetches (Own f) m h t =
         let same = put_id w.slots.info touch.page _ (framed (w.slots.info touch.page) f (said (Found.Has f) h)) in
@@ -243,54 +335,73 @@ module _ (w : World) (c : ℕ) (touch : Touch) (fault : IsFault (at_lock c touch
               (fills_zeros x _ c touch (Some f) Stepped back (zeroed x _ c touch f t.0 back t.1
               (ap (λ (m : Memory). to c (Install touch) (to c fill (with_event (later 3 (pages (filled f m)))))) t.2))),
         )
+    fetches (Read f n k) m h t =
+        let fill = Fill touch (Some f) in
+        let taken = record w { memory = record w.memory { is_free = put w.memory.is_free f false } } in
+        let x = to c fill (with_event (later 3 (pages taken))) in (
+          to c fill (later 3 (pages taken)),
+          (
+            to c (Want touch None) (later 2 (pages w)),
+            settles (Want touch None) Found.Wants h.wants (λ m. refl),
+            goes (pages w) (pages taken) c 2 (Want touch None) fill (omega arith) fault.here
+                (inr (f, record { free = h.least.free; least = h.least.least }, (refl, refl))),
+          ),
+          goes (pages taken) (pages (filled f m)) c 3 fill (Install touch) (omega arith) fault.here
+              (reads x _ c touch (Some f) (back_of (w.slots.info touch.page)) touch.access n k (shared h) (backed h) (uncached h)
+              (cached_anew x _ c touch f n k t.0 (backed h) t.1
+              (ap (λ (m : Memory). to c (Install touch) (to c fill (with_event (later 3 (pages (filled f m)))))) t.2))),
+        )
+
+    abbrev shown : Source → PageInfo
+    shown from = record info { frame = Some (frame_from from) }
 
     -- it is installed, and the page let go
     abbrev left : Source → Memory → World
-    left from m = record (with_translation c touch.page (record info { frame = Some (frame_from from) }) w) { memory = m }
+    left from m = record (with_entry_of c touch.page (shown from) (entry_of_page m.cached (Some (shown from))) w) { memory = m }
 
-    shows : (from : Source) (m : Memory) → Comes from → TakesFrom w.memory c from m
+    shows : (from : Source) (m : Memory) → Comes from → TakesFrom w.made.file w.memory c from m
         → StepsTo (at_lock c touch w) c (suc (suc (steps_from from + 2))) (to c (Try touch) (later (steps_from from + 2 + 1 + 1) (left from m)))
     shows from m h t =
         let k = steps_from from + 2 in
         let f = frame_from from in
-        let shown = record info { frame = Some f } in
         let x = to c (Install touch) (with_event (later k (pages (filled f m)))) in
         let put_there = put_same w.slots.info touch.page (info_with_frame f (w.slots.info touch.page)) ∙ ap (info_with_frame f) e in
-        let twice = put_twice w.slots.info touch.page (info_with_frame f (w.slots.info touch.page)) (info_with_core c (Some shown)) in
-        let infos = put x.slots.info touch.page (info_with_core c (Some shown)) in
-        let cached = sym (same_cached from c w.memory m t) in (
+        let twice = put_twice w.slots.info touch.page (info_with_frame f (w.slots.info touch.page)) (info_with_core c (Some (shown from))) in (
           to c (Release touch) (later (k + 1) (pages (left from m))),
           (
             to c (Install touch) (later k (pages (filled f m))),
             fetches from m h t,
             goes (pages (filled f m)) (pages (left from m)) c k (Install touch) (Release touch) (omega (arith, few_steps from)) fault.here (
               refl,
-              ap (installs x shown w.memory.cached) twice
-                  ∙ (ap (λ cached. installs x shown cached infos) cached ∙ installed x c touch shown put_there),
+              ap (installs x) twice ∙ installed x c touch (shown from) put_there,
             ),
           ),
-          released (left from m) w.slots (put w.slots.info touch.page (info_with_core c (Some shown))) c (k + 1) touch
+          released (left from m) w.slots (put w.slots.info touch.page (info_with_core c (Some (shown from)))) c (k + 1) touch
               (omega (arith, few_steps from)) fault.here fault.alone,
         )
       where
-        installs : World → PageInfo → (ℕ → ℕ → Option ℕ) → (ℕ → Option PageInfo) → World
-        installs x shown cached infos = to c (Release touch) (record x {
+        installs : World → (ℕ → Option PageInfo) → World
+        installs x infos = to c (Release touch) (record x {
           slots = record x.slots { info = infos };
-          hardware = with_table x.hardware c (put (x.hardware.table c) touch.page (entry_of_page cached (Some shown)));
+          hardware = with_table x.hardware c (put (x.hardware.table c) touch.page (entry_of_page x.memory.cached (Some (shown from))));
         })
 
-    -- ---- the states that the code leaves: it is shown in a, and its frame taken in v
+    -- ---- the states that the code leaves: it is shown in a, by this entry, and its frame taken in v
 
-    module _ (from : Source) (h : Comes from) (a v : World) (now : a ≡ with_translation c touch.page (record info { frame = Some (frame_from from) }) w)
-        (taken : (memory : Memory) × TakesFrom a.memory c from memory × (v ≡ later (steps_from from) (record a { memory = memory }))) where
-      pub gets : Passes w c (locking (To.Access touch)) (suc (suc (steps_from from + 2))) (Try touch) (later 4 v)
+    module _ (from : Source) (h : Comes from) (a v : World) (entry : Option Translation)
+        (entered : entry ≡ entry_of_page (cached_from w.memory.cached from) (Some (shown from)))
+        (now : a ≡ with_entry_of c touch.page (shown from) entry w)
+        (taken : (memory : Memory) × TakesFrom a.made.file a.memory c from memory × (v ≡ record a { memory = memory })) where
+      pub gets : Passes w c (locking (To.Access touch)) (suc (suc (steps_from from + 2))) (Try touch) (later (steps_from from + 4) v)
       gets =
           let memory = taken.0 in
           let x = left from memory in
-          let takes = subst (λ (x : World). TakesFrom x.memory c from memory) now taken.1 in
-          let sum : w.calls.events + (steps_from from + 2 + 1 + 1) ≡ w.calls.events + steps_from from + 4 = omega arith in
-          subst (λ (x : World). Passes w c (locking (To.Access touch)) (suc (suc (steps_from from + 2))) (Try touch) (later 4 x))
-          (sym (taken.2 ∙ ap (λ (x : World). later (steps_from from) (record x { memory = memory })) now)) (record {
+          let takes = subst (λ (x : World). TakesFrom x.made.file x.memory c from memory) now taken.1 in
+          let sum : w.calls.events + (steps_from from + 2 + 1 + 1) ≡ w.calls.events + (steps_from from + 4) = omega arith in
+          let same = entered ∙ ap (λ cached. entry_of_page cached (Some (shown from))) (sym (caches from c w.made.file w.memory memory takes)) in
+          subst (λ (x : World). Passes w c (locking (To.Access touch)) (suc (suc (steps_from from + 2))) (Try touch) (later (steps_from from + 4) x))
+          (sym (taken.2 ∙ ap (λ (x : World). record x { memory = memory })
+          (now ∙ ap (λ entry. with_entry_of c touch.page (shown from) entry w) same))) (record {
             steps = subst (λ n. StepsTo (at_lock c touch w) c (suc (suc (steps_from from + 2)))
                 (to c (Try touch) (record x { calls = record x.calls { events = n } }))) sum (shows from memory h takes);
             cores = refl;
@@ -300,11 +411,11 @@ module _ (w : World) (c : ℕ) (touch : Touch) (fault : IsFault (at_lock c touch
           })
 
       -- and the access tried
-      pub ends : (r : Option Reply) (x : World) → Passes (later 4 v) c (Try touch) 1 (tried_to touch r) x → Makes w c touch r x
+      pub ends : (r : Option Reply) (x : World) → Passes (later (steps_from from + 4) v) c (Try touch) 1 (tried_to touch r) x → Makes w c touch r x
       ends r x tried = record {
         steps = suc (suc (steps_from from + 2)) + 1;
         few = omega (arith, few_steps from);
-        passes = passes_join w (later 4 v) x c (locking (To.Access touch)) (Try touch) (tried_to touch r) (suc (suc (steps_from from + 2))) 1 gets tried;
+        passes = passes_join w (later (steps_from from + 4) v) x c (locking (To.Access touch)) (Try touch) (tried_to touch r) (suc (suc (steps_from from + 2))) 1 gets tried;
       }
 
 -- the steps that were made, by the number of events

@@ -4,23 +4,29 @@ ghost use Rattle.std.specs.Prelude.{◌≡◌, ◌+◌, ◌<◌, ◌≤◌, None
 ghost use Rattle.std.specs.Prelude.{length};
 ghost use Rattle.slot_lock.specs.declared.plan.Goal.TheVariants as To;
 ghost use Rattle.frames.specs.Parts.{free_frames};
+ghost use Rattle.refcache.specs.Counts.{Counts};
+ghost use Rattle.refcache.specs.Steps.{Takes, Begin};
 ghost use Rattle.machine_model.specs.Accesses.{NoneFree, after_finding, found_at};
+ghost use Rattle.machine_model.specs.Files.{file_frame};
 ghost use Rattle.machine_model.specs.Locks.{locking};
 ghost use Rattle.machine_model.specs.Step.{StepsTo, event_limit};
 ghost use Rattle.machine_model.specs.World.{Memory, World};
 ghost use Rattle.machine_model.specs.Sound.{IsReached};
-ghost use Rattle.core_steps.specs.OnePage.{CanTake, IsFault, IsSource, Makes, TakesFrom, after_settling};
-ghost use Rattle.core_steps.specs.OnePage.{at_lock, frame_from, later, steps_from, wants_frame};
+ghost use Rattle.core_steps.specs.OnePage.{CanRead, CanTake, IsFault, IsSource, Makes};
+ghost use Rattle.core_steps.specs.OnePage.{ReadsBacking, TakesFrom, after_settling, at_lock, cached_from};
+ghost use Rattle.core_steps.specs.OnePage.{frame_from, steps_from, wants_frame, with_page_read};
 ghost use Rattle.core_steps.specs.State.{world};
 
 use crate::engine::Engine;
 use crate::ledger::Ledger;
 use crate::rows::access::tried_to;
 use crate::rows::fault::settled_to;
+use crate::rows::file_pages::file_frame;
+use machine_model::answers::prot_with;
 use mmu::Hardware;
 use slot_lock::{SlotMap, Touch};
 use std::alloc::Allocator;
-use vm_base::{Back, CoreId, PageInfo, Reply};
+use vm_base::{Access, Back, CoreId, PageInfo, Reply};
 use vm_calls::Settled;
 
 /// The most steps that a fault makes at once.
@@ -35,6 +41,8 @@ pub(crate) enum Source {
     Cached(u32),
     /// It is the least free one, for a page of zeros.
     Free(u32),
+    /// It is the least free one, which gets this page of a file, and caches it from there on.
+    Read { frame: u32, file: u32, page: u64 },
 }
 
 impl Source {
@@ -44,6 +52,19 @@ impl Source {
     {
         match *self {
             Source::Own(frame) | Source::Cached(frame) | Source::Free(frame) => frame,
+            Source::Read { frame, .. } => frame,
+        }
+    }
+
+    // In how many steps the page gets it.
+    fn steps(&self) -> u64
+        ensures value { result ≡ steps_from self.now }
+        ensures few { result ≤ 2 }
+    {
+        match *self {
+            Source::Own(_) => 0,
+            Source::Cached(_) => 1,
+            Source::Free(_) | Source::Read { .. } => 2,
         }
     }
 }
@@ -80,40 +101,76 @@ impl<M: SlotMap, H: Hardware, A: Allocator, L: Ledger> Engine<M, H, A, L> {
         self.log_at_once(core, Reply::NoFrame, 3);
     }
 
-    // Where the page's frame comes from, if neither a message has to be sent nor a file to be read.
-    fn source_of(&self, settled: Settled, back: Back) -> Option<Source>
-        ensures { IfSome result (IsSource settled back (free_frames self.now.frames)) }
+    // What the least free frame is for, where a page that wants one isn't to have a copy.
+    fn new_source(&self, access: Access, back: Back) -> Option<Source>
+        ensures { IfSome result (IsSource access Settled.Wants back (free_frames self.now.frames)) }
+    {
+        let frame = self.frames.least_free()?;
+        match (back, access) {
+            (Back::Anon, _) => Some(Source::Free(frame)),
+            (Back::Private { .. }, Access::Store) => None,
+            (Back::Shared { file, page } | Back::Private { file, page }, _) => {
+                Some(Source::Read { frame, file, page })
+            }
+        }
+    }
+
+    // Where the page's frame comes from, if neither a message has to be sent nor a copy to be made.
+    fn source_of(&self, access: Access, settled: Settled, back: Back) -> Option<Source>
+        ensures { IfSome result (IsSource access settled back (free_frames self.now.frames)) }
     {
         match settled {
             Settled::Has(frame) => Some(Source::Own(frame)),
             Settled::Cached(frame) => Some(Source::Cached(frame)),
-            Settled::Wants if back == Back::Anon => {
-                let frame = self.frames.least_free()?;
-                Some(Source::Free(frame))
-            }
+            Settled::Wants => self.new_source(access, back),
             _ => None,
         }
     }
 
-    // The page's frame is taken, filled and counted, as far as it has to be, in as many steps.
+    // The frame that caches the page's file page once its own comes from there.
+    fn cached_from(&self, source: Source, back: Back) -> Option<u32>
+        requires { ReadsBacking source back }
+        ensures { result ≡ file_frame (cached_from (world M.slots self.now).memory.cached source) back }
+    {
+        match source {
+            Source::Read { frame, .. } => Some(frame),
+            _ => file_frame(&self.objects, back),
+        }
+    }
+
+    // The free frame is taken, gets the page of the file, which it caches from here on, and is counted
+    // for the file and for the page, which shows it.
+    fn read_page(&mut self, frame: u32, file: u32, page: u64)
+        requires { CanRead (world M.slots self.old).memory (world M.slots self.old).made.frames
+            ((world M.slots self.old).made.file file) frame file page }
+        ensures { (counts : Counts) × Takes (world M.slots self.old).memory.counts (Begin frame 2) counts
+            × (world M.slots self.new ≡ record (world M.slots self.old) {
+              memory = with_page_read (world M.slots self.old).made.file frame file page counts
+                  (world M.slots self.old).memory;
+            }) }
+    {
+        self.frames.take(frame);
+        self.objects.fill(file, page, &mut self.frames, frame);
+        self.objects.set_cached(file, page, frame);
+        self.counts.begin(frame, 2);
+    }
+
+    // The page's frame is taken, filled and counted, as far as it has to be.
     fn take_from(&mut self, core: CoreId, source: Source)
-        requires can { CanTake (world M.slots self.old) core source }
-        requires room { self.old.calls.events + 2 ≤ event_limit }
-        ensures { (memory : Memory) × TakesFrom (world M.slots self.old).memory core source memory
-            × (world M.slots self.new ≡ later (steps_from source) (record (world M.slots self.old) { memory = memory })) }
+        requires { CanTake (world M.slots self.old) core source }
+        ensures { (memory : Memory)
+            × TakesFrom (world M.slots self.old).made.file (world M.slots self.old).memory core source memory
+            × (world M.slots self.new ≡ record (world M.slots self.old) { memory = memory }) }
     {
         match source {
             Source::Own(_) => {}
-            Source::Cached(frame) => {
-                self.counts.inc(core, frame);
-                self.calls.events += 1;
-            }
+            Source::Cached(frame) => self.counts.inc(core, frame),
             Source::Free(frame) => {
                 self.frames.take(frame);
                 self.frames.fill_zero(frame);
                 self.counts.begin(frame, 1);
-                self.calls.events += 2;
             }
+            Source::Read { frame, file, page } => self.read_page(frame, file, page),
         }
     }
 
@@ -128,7 +185,7 @@ impl<M: SlotMap, H: Hardware, A: Allocator, L: Ledger> Engine<M, H, A, L> {
     ) -> Option<Reply>
         requires fault { IsFault (at_lock core touch (world M.slots self.old)) core touch }
         requires info { (M.slots self.old.map).info touch.page ≡ Some info }
-        requires source { IsSource (found_at (world M.slots self.old) touch) info.meta.back
+        requires source { IsSource touch.access (found_at (world M.slots self.old) touch) info.meta.back
             (world M.slots self.old).memory.is_free source }
         ensures { Makes (world M.slots self.old) core touch result (world M.slots self.new) }
     {
@@ -137,19 +194,20 @@ impl<M: SlotMap, H: Hardware, A: Allocator, L: Ledger> Engine<M, H, A, L> {
             frame: Some(frame),
             ..info
         };
-        let Ok(()) = self.show_page(core, touch.page, shown, frame) else {
+        let prot = prot_with(&shown, self.cached_from(source, info.meta.back));
+        let Ok(()) = self.show_with(core, touch.page, shown, frame, prot) else {
             return None;
         };
         self.take_from(core, source);
-        self.calls.events += 4;
+        self.calls.events += source.steps() + 4;
         self.try_page(core, touch)
     }
 
     /// The steps of an access whose page has to be locked, where that is a slot of its own that nobody
     /// holds: up to the next try of the page, or up to the reply where the access fails. It answers the
     /// access's reply, which is logged; without one the call is to lock its page. The core's phase isn't
-    /// written. No step is made where a plain one has to look, since there may be no memory, a file has
-    /// to be read, or other cores have to be told.
+    /// written. No step is made where a plain one has to look, since there may be no memory, a copy has
+    /// to be made, or other cores have to be told.
     pub fn make_fault(&mut self, core: CoreId, touch: Touch) -> Option<Reply>
         requires here { core < length self.old.calls.phases.items }
         requires reached { ∥ IsReached (at_lock core touch (world M.slots self.old)) ∥₁ }
@@ -165,7 +223,7 @@ impl<M: SlotMap, H: Hardware, A: Allocator, L: Ledger> Engine<M, H, A, L> {
             return Some(reply);
         }
         if let Some(info) = page.info
-            && let Some(source) = self.source_of(settled, info.meta.back)
+            && let Some(source) = self.source_of(touch.access, settled, info.meta.back)
         {
             return self.show_at_once(core, touch, info, source);
         }

@@ -4,7 +4,7 @@
 ghost use Rattle.std.specs.Prelude.{◌≡◌, ℕ, ◌+◌, ◌<◌, ◌⊎◌, true, false, None, Some, length};
 ghost use Rattle.std.specs.Prelude.{IfNone, IfSome, OnErr, OnOk};
 ghost use Rattle.vm_base.specs.Pages.{IsPage};
-ghost use Rattle.mmu.specs.Entry.{has_right};
+ghost use Rattle.mmu.specs.Entry.{has_right, translation_of};
 ghost use Rattle.mmu.specs.Tables.{IsEmptyBeside};
 ghost use Rattle.slot_lock.specs.Slots.{HasMeta, IsSlot};
 ghost use Rattle.frames.specs.Parts.{free_frames};
@@ -14,7 +14,7 @@ ghost use Rattle.machine_model.specs.Step.{Goes};
 ghost use Rattle.machine_model.specs.World.{World};
 ghost use Rattle.core_steps.specs.State.{phase_of, world};
 ghost use Rattle.core_steps.specs.Moving.{IsAt, IsOf, Tries, WantsMemory};
-ghost use Rattle.core_steps.specs.OnePage.{after_settling, with_translation};
+ghost use Rattle.core_steps.specs.OnePage.{after_settling, with_entry_of, with_translation};
 
 use crate::engine::Engine;
 use crate::ledger::Ledger;
@@ -24,7 +24,7 @@ use machine_model::{Outcome, Phase};
 use mmu::Hardware;
 use slot_lock::{SlotMap, Touch};
 use std::alloc::Allocator;
-use vm_base::{CoreId, NoMemory, PageInfo, Reply, SegvCode};
+use vm_base::{CoreId, NoMemory, PageInfo, Prot, Reply, SegvCode};
 use vm_calls::{Settled, settle};
 
 /// Where the call goes on that has taken this frame: the page gets it, or a copy in it of
@@ -137,6 +137,36 @@ impl<M: SlotMap, H: Hardware, A: Allocator, L: Ledger> Engine<M, H, A, L> {
         }
     }
 
+    /// The core's tables get an entry of the page, with this frame and protection, and the page has this
+    /// from here on, with the core recorded. The core holds the page, or nobody. A refusal for memory
+    /// changes nothing. The core's phase isn't written.
+    #[inline(always)]
+    pub fn show_with(
+        &mut self,
+        core: CoreId,
+        page: u64,
+        info: PageInfo,
+        frame: u32,
+        prot: Prot,
+    ) -> Result<(), NoMemory>
+        requires here { core < length self.old.calls.phases.items }
+        requires page { IsPage page }
+        requires held { ((M.slots self.old.map).owner page ≡ Some core)
+            ⊎ ((M.slots self.old.map).owner page ≡ None) }
+        requires alone { IsSlot (M.slots self.old.map) page (page + 1) }
+        requires meta { HasMeta ((M.slots self.old.map).info page) info.meta }
+        requires right { has_right prot ≡ true }
+        ensures ok { OnOk result (world M.slots self.new
+            ≡ with_entry_of core page info (Some (translation_of frame prot)) (world M.slots self.old)) }
+        ensures err { OnErr result (world M.slots self.new ≡ world M.slots self.old) }
+        ensures err_last { OnErr result (IsEmptyBeside ((world M.slots self.old).hardware.table core) page) }
+    {
+        self.cores.install(core, page, frame, prot)?;
+        let cores = info.cores.with(core);
+        self.map.set_leaf(core, page, PageInfo { cores, ..info });
+        Ok(())
+    }
+
     /// The core's tables get the entry of the page, which has this from here on, with the core recorded.
     /// The core holds the page, or nobody. A refusal for memory changes nothing. The core's phase isn't
     /// written.
@@ -161,9 +191,7 @@ impl<M: SlotMap, H: Hardware, A: Allocator, L: Ledger> Engine<M, H, A, L> {
         ensures err_last { OnErr result (IsEmptyBeside ((world M.slots self.old).hardware.table core) page) }
     {
         let prot = prot_installed(&self.objects, &info);
-        self.cores.install(core, page, frame, prot)?;
-        let cores = info.cores.with(core);
-        self.map.set_leaf(core, page, PageInfo { cores, ..info });
+        self.show_with(core, page, info, frame, prot)?;
         Ok(())
     }
 
