@@ -200,6 +200,8 @@ impl<A: Allocator + Clone> SlotMap for RadixMap<A> {
     fn change_unheld(&mut self, change: Change) {
         change::change(&mut self.root, change);
         self.full = full::with_change(self.full, change);
+        let sought = self.sought.get();
+        tight::note_change(&mut self.tights, &self.root, self.full, sought, change);
     }
 
     fn set_leaf(&mut self, core: CoreId, page: u64, info: PageInfo) {
