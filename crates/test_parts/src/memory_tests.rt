@@ -124,7 +124,7 @@ fn refusals(alloc: Global, part: Part) -> Result<Option<usize>, AllocError> {
 }
 
 // The least rooms, in steps of 16 bytes from 64 on: two frames have 8192 bytes, one 4096, a file of one page as many twice where it is given and opened, a chunk of lines 65,536,
-// the places of two cores 16 bytes each, six tables 4096 each, a list its three runs, the nodes of a tree 16 bytes for each slot.
+// the places of two cores 16 bytes each, two tables of the last level 4096 each, a list its three runs, the nodes of a tree 16 bytes for each slot.
 #[test]
 fn each_allocation_is_refused(rt: HostRuntime) -> Result<(), Fail> {
     for (part, least) in [
@@ -133,7 +133,7 @@ fn each_allocation_is_refused(rt: HostRuntime) -> Result<(), Fail> {
         (Part::File, 4096 / 16 - 4),
         (Part::Reader, 65_536 / 16 - 4),
         (Part::Counts, 2 * 64 - 4),
-        (Part::Tables, 6 * 4096 / 16 - 4),
+        (Part::Tables, 2 * 4096 / 16 - 4),
         (Part::List, 2),
         (Part::Tree, 4 * 512 - 4),
         (Part::Node, 2 * 512 - 4),
