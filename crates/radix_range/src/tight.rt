@@ -150,6 +150,7 @@ fn known_to(tights: &[Tight], first: u64, n: u64) -> u64 {
 
 // Keeps in mind that no room for the pages of a range, which are mapped now, was found from the
 // first page on in front of them, where that is far.
+#[inline(never)]
 fn note_room<A: Allocator>(
     tights: &mut Tights,
     root: &Node<A>,
@@ -217,6 +218,7 @@ fn opened<A: Allocator>(
 }
 
 // Forgets of each what is no longer known since the pages of the range were unmapped.
+#[inline(never)]
 fn forget<A: Allocator>(
     tights: &[Tight],
     root: &Node<A>,
