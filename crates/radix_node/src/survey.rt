@@ -21,8 +21,11 @@ impl SlotState {
     pub(crate) fn survey(&self, core: CoreId, begins: bool) -> Option<Survey>
         ensures { IfSome result (IsSlotSurvey (state_of self.now) begins) }
     {
+        if self.owner().is_some() {
+            return None;
+        }
         let cores = self.cores();
-        if self.owner().is_some() || !cores.without(core).is_empty() {
+        if !cores.without(core).is_empty() {
             return None;
         }
         Some(Survey {
@@ -36,6 +39,26 @@ impl SlotState {
 }
 
 impl<A: Allocator> Node<A> {
+    // The same in a node whose slots have one page each.
+    fn survey_pages(&self, first: usize, end: usize, core: CoreId) -> Option<Survey>
+        requires level { self.now.level ≡ 0 }
+        requires some { first < end }
+        requires within { end ≤ 512 }
+        ensures { IfSome result (IsSurvey (slots_in (runs self.now)) (between first end)) }
+    {
+        let mut found = Survey::empty();
+        'pages: for k in first..end {
+            match &self.slots[k] {
+                Slot::Own(state) => {
+                    let page = state.survey(core, true)?;
+                    found = found.and(page);
+                }
+                Slot::Child(_) => return None,
+            }
+        }
+        Some(found)
+    }
+
     /// What the slots of the node's pages from `first` up to `end` have together, if nobody holds
     /// them. It tells nothing where another core than this is recorded on some page.
     pub fn survey(&self, first: u64, end: u64, core: CoreId) -> Option<Survey>
@@ -43,6 +66,9 @@ impl<A: Allocator> Node<A> {
         requires within { end ≤ 512 * width_of self.now.level }
         ensures { IfSome result (IsSurvey (slots_in (runs self.now)) (between first end)) }
     {
+        if self.level == 0 {
+            return self.survey_pages(first as usize, end as usize, core);
+        }
         let width = slot_pages(self.level);
         let slots = slots_of(self.level, first, end);
         let mut found = Survey::empty();
