@@ -2,6 +2,5 @@
 pub mod AtOnce
 pub mod FaultAtOnce
 pub mod ChangeAtOnce
-pub mod RangeAtOnce
 pub mod FirstEvents
 pub mod Divided

@@ -11,7 +11,6 @@ pub mod Finishing
 pub mod AtOnce
 pub mod OnePage
 pub mod PageChange
-pub mod RangeChange
 pub mod Running
 pub mod MapLines
 pub mod Changing

@@ -6,5 +6,4 @@ pub mod OwnedRuns
 pub mod Slots
 pub mod SlotsFall
 pub mod Walk
-pub mod Survey
 pub mod Edit

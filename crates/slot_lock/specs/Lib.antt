@@ -9,6 +9,5 @@ pub mod SlotList
 pub mod ListedSlots
 pub mod Adding
 pub mod Edges
-pub mod Surveys
 pub mod MapList
 pub mod MapWalks

@@ -3,7 +3,6 @@ pub mod Rooms
 mod Steps
 mod Absent
 mod OnePage
-mod Surveyed
 pub mod Targets
 pub mod Readable
 pub mod Passed

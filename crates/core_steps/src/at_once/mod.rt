@@ -5,6 +5,5 @@
 pub mod access;
 pub mod change;
 pub mod fault;
-pub mod range;
 pub mod starting;
 pub mod steps;
