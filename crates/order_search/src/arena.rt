@@ -4,13 +4,15 @@ use crate::configs::Config;
 use crate::pages::{
     Cell, add_copy, drop_pages, file_key, first_byte, is_copied, own_key, put_byte, shown_byte,
 };
-use crate::runs::{Run, all_mapped, change_runs, least_room, meta_at, none_mapped};
+use crate::runs::{Run, all_mapped, change_runs, first_hole, least_room, meta_at, none_mapped};
 use crate::under::Under;
 use backing::Objects;
 use slot_lock::{Change, Place, Plan, Touch};
 use std::alloc::Allocator;
 use vm_base::page::{PAGE_LIMIT, PAGE_SIZE, is_page_start};
-use vm_base::{Access, Back, Errno, Meta, NoMemory, PageRange, Reply, SegvCode, allows, page_of};
+use vm_base::{
+    Access, Back, Errno, Meta, NoMemory, PageRange, Prot, Reply, SegvCode, allows, page_of,
+};
 
 /// How long the lists are at least before what nobody needs is left out.
 const FEW: usize = 100_000;
@@ -408,6 +410,28 @@ impl<A: Allocator + Clone + Drop> Arena<A> {
                 Ok(Some(self.change(spot, change)?))
             }
         }
+    }
+
+    /// The map after the pages of a range were protected in front of the first that isn't mapped, and how many these are, if some are and
+    /// there is one.
+    pub fn protect_front(
+        &mut self,
+        spot: &Spot,
+        range: PageRange,
+        prot: Prot,
+    ) -> Result<Option<(Spot, u32)>, NoMemory> {
+        let runs = runs_in(self.runs.as_slice(), spot.runs);
+        let hole = first_hole(runs, range);
+        if hole <= range.first || hole >= range.end {
+            return Ok(None);
+        }
+        let front = PageRange {
+            first: range.first,
+            end: hole,
+        };
+        let count = (hole.wrapping_sub(range.first) & 0xffff_ffff) as u32;
+        let new = self.change(spot, Change::Protect { range: front, prot })?;
+        Ok(Some((new, count)))
     }
 
     /// The map after a page's copy, if one is due.

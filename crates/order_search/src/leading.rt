@@ -29,10 +29,13 @@ pub(crate) struct Ending<'u> {
     pub bit: u64,
 }
 
-// One item more: the map behind it, the cores whose calls have taken effect there, and those whose calls it may let take effect.
+// One item more, of so many parts of a call, the others of which are lost: the map behind it, the cores whose calls have taken effect
+// there, and those whose calls it may let take effect.
 #[derive(Clone, Copy, Debug, PartialEq, Eq)]
 struct Step {
     item: Item,
+    count: u32,
+    lost: u32,
     spot: Spot,
     done: u64,
     may: u64,
@@ -114,7 +117,8 @@ impl<'a, A: Allocator + Clone + Drop> Ways<'a, A> {
         for at in 0..configs.len() {
             let config = configs[at];
             if self.holds(&config.spot, under) {
-                let trail = self.trail.add(config.trail, Item::Reply(under.number))?;
+                let item = Item::Reply(under.number);
+                let trail = self.trail.add(config.trail, item, under.count)?;
                 configs[at].done = config.done | under.bit;
                 configs[at].trail = trail;
             }
@@ -126,7 +130,8 @@ impl<'a, A: Allocator + Clone + Drop> Ways<'a, A> {
     pub fn pass_over(&mut self, configs: &mut [Config], under: &Under) -> Result<(), NoMemory> {
         for at in 0..configs.len() {
             let config = configs[at];
-            let trail = self.trail.add(config.trail, Item::Reply(under.number))?;
+            let item = Item::Reply(under.number);
+            let trail = self.trail.add(config.trail, item, under.count)?;
             configs[at].done = config.done | under.bit;
             configs[at].trail = trail;
         }
@@ -158,7 +163,8 @@ impl<'a, A: Allocator + Clone + Drop> Ways<'a, A> {
         }
         for under in calls {
             if settled & under.bit != 0 && done & under.bit == 0 {
-                trail = self.trail.add(trail, Item::Reply(under.number))?;
+                let item = Item::Reply(under.number);
+                trail = self.trail.add(trail, item, under.count)?;
             }
         }
         Ok(trail)
@@ -174,11 +180,16 @@ impl<'a, A: Allocator + Clone + Drop> Ways<'a, A> {
         Ok(())
     }
 
-    // The way on from a node by the reply of a call that was lost: its copy is no step of its own.
+    // The way on from a node by the reply of a call that was lost, or by parts that were: their copies are no steps of their own.
     fn add_reply(&mut self, from: &Config, step: &Step, node: usize) -> Result<usize, NoMemory> {
         match step.item {
             Item::Copy(number) if step.done != from.done => {
-                self.trail.add(node, Item::Reply(number))
+                self.trail.add(node, Item::Reply(number), step.count)
+            }
+            Item::Reply(number) if step.lost > 0 => {
+                let next = number.wrapping_add(step.count);
+                let node = self.trail.add(node, Item::Copy(next), step.lost)?;
+                self.trail.add(node, Item::Reply(next), step.lost)
             }
             _ => Ok(node),
         }
@@ -190,7 +201,7 @@ impl<'a, A: Allocator + Clone + Drop> Ways<'a, A> {
         if !self.seen.is_new(print_of(&step.spot, settled))? {
             return Ok(false);
         }
-        let trail = self.trail.add(from.trail, step.item)?;
+        let trail = self.trail.add(from.trail, step.item, step.count)?;
         let trail = self.add_reply(from, step, trail)?;
         let trail = self.add_settled(ending.under, trail, step.done, settled)?;
         self.take_in(
@@ -223,8 +234,15 @@ impl<'a, A: Allocator + Clone + Drop> Ways<'a, A> {
         let Some(spot) = self.replied(from, under)? else {
             return Ok(());
         };
+        let is_refused = under.count > 1 && !under.changes;
         let step = Step {
             item: Item::Reply(under.number),
+            count: if is_refused { 1 } else { under.count },
+            lost: if is_refused {
+                under.count.saturating_sub(1)
+            } else {
+                0
+            },
             spot,
             done: from.done | under.bit,
             may: under.rivals,
@@ -246,6 +264,8 @@ impl<'a, A: Allocator + Clone + Drop> Ways<'a, A> {
         };
         let step = Step {
             item: Item::Copy(under.number),
+            count: 1,
+            lost: 0,
             spot,
             done: from.done,
             may: under.rivals,
@@ -261,11 +281,37 @@ impl<'a, A: Allocator + Clone + Drop> Ways<'a, A> {
         if under.is_unsure {
             let step = Step {
                 item: Item::Copy(under.number),
+                count: 1,
+                lost: 0,
                 spot: from.spot,
                 done: from.done | under.bit,
                 may: 0,
             };
             let _is_new = self.add(ending, from, &step)?;
+        }
+        Ok(())
+    }
+
+    // Adds what a refusal under way leads to from a configuration, if it changed the pages in front of the one that isn't mapped.
+    fn refuse(&mut self, ending: Ending<'_>, from: &Config, under: &Under) -> Result<(), NoMemory> {
+        let Some((range, prot)) = under.refused_range() else {
+            return Ok(());
+        };
+        let ends = self.arena.ends();
+        let Some((spot, pages)) = self.arena.protect_front(&from.spot, range, prot)? else {
+            return Ok(());
+        };
+        let count = 1u32.saturating_add(pages).min(under.count);
+        let step = Step {
+            item: Item::Reply(under.number),
+            count,
+            lost: under.count.saturating_sub(count),
+            spot,
+            done: from.done | under.bit,
+            may: under.rivals,
+        };
+        if !self.add(ending, from, &step)? {
+            self.arena.cut(ends);
         }
         Ok(())
     }
@@ -278,6 +324,7 @@ impl<'a, A: Allocator + Clone + Drop> Ways<'a, A> {
                 self.reply(ending, from, under)?;
                 self.copy(ending, from, under)?;
                 self.lose(ending, from, under)?;
+                self.refuse(ending, from, under)?;
             }
         }
         Ok(())

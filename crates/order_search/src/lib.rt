@@ -14,4 +14,4 @@ mod trail;
 mod under;
 
 pub use leading::LIMIT;
-pub use search::{Found, Lag, find_choice, find_lagging, find_order};
+pub use search::{Found, Lag, Wholes, find_choice, find_lagging, find_order, find_whole};

@@ -180,13 +180,18 @@ pub(crate) fn change_runs<A: Allocator>(
 
 /// Tells whether all pages of the range are mapped.
 pub(crate) fn all_mapped(runs: &[Run], range: PageRange) -> bool {
+    first_hole(runs, range) >= range.end
+}
+
+/// The first page of the range that isn't mapped, or its end.
+pub(crate) fn first_hole(runs: &[Run], range: PageRange) -> u64 {
     let mut next = range.first;
     for run in runs {
         if run.first <= next && next < run.end {
             next = run.end;
         }
     }
-    next >= range.end
+    next.min(range.end)
 }
 
 /// Tells whether no page of the range is mapped.

@@ -32,13 +32,39 @@ pub struct Lag {
     pub access: u32,
 }
 
+/// Calls, each of which takes effect as a whole, as though its parts did one behind another.
+#[derive(Debug, Drop)]
+pub struct Wholes<A: Allocator> {
+    /// The calls.
+    pub calls: Vec<Timed, A>,
+    /// The number of the first part of each.
+    pub firsts: Vec<usize, A>,
+    /// Whether each may be lost.
+    pub unsure: Vec<bool, A>,
+    /// Whether each may lag.
+    pub late: Vec<bool, A>,
+    /// How many parts there are.
+    pub count: usize,
+}
+
+// The parts of calls: the number of the first one of each call, and how many there are. Where no number is given each call is one part.
+#[derive(Clone, Copy, Debug)]
+struct Parts<'p> {
+    firsts: &'p [usize],
+    count: usize,
+}
+
 // A call that changes pages.
 #[derive(Clone, Copy, Debug, PartialEq, Eq)]
 struct Recent {
     number: u32,
+    count: u32,
     end: u64,
     pages: PageRange,
 }
+
+/// So many calls that no order gets to are passed over by a search of whole calls.
+const MOST_STUCK: usize = 64;
 
 /// So many calls that change pages are kept at least, before those are left out that all calls under way began after.
 const FEW_RECENT: usize = 64;
@@ -50,12 +76,23 @@ struct Search<'a, A: Allocator> {
     mapped: Mapped,
     answered: usize,
     unsure: &'a [bool],
+    parts: Parts<'a>,
+    // Whether all accesses may lag, and which of the calls may where not all do.
     may_lag: bool,
+    late: &'a [bool],
+    // So many calls that no order gets to are passed over, and which ones were.
+    may_pass: usize,
+    passed: Vec<usize, A>,
     ways: Ways<'a, A>,
     under: Vec<Under, A>,
     configs: Vec<Config, A>,
     recent: Vec<Recent, A>,
     lags: Vec<Lag, A>,
+}
+
+// Each of so many calls is one part.
+fn each_alone(count: usize) -> Parts<'static> {
+    Parts { firsts: &[], count }
 }
 
 // The number of a call in an order.
@@ -64,6 +101,39 @@ fn item_number(call: usize) -> u32 {
         call as u32
     } else {
         0xffff_ffff
+    }
+}
+
+impl Recent {
+    // The number of the part that changes this page, which is one of the call's.
+    fn part(&self, page: u64) -> u32 {
+        if self.count <= 1 {
+            return self.number;
+        }
+        let before = page.wrapping_sub(self.pages.first) & 0xffff_ffff;
+        self.number.wrapping_add(before as u32)
+    }
+}
+
+impl Parts<'_> {
+    // The number of a call, or of its first part.
+    fn first(&self, call: usize) -> usize {
+        match self.firsts.get(call) {
+            Some(first) => *first,
+            None => call,
+        }
+    }
+
+    // How many parts a call has.
+    fn of(&self, call: usize) -> u32 {
+        if self.firsts.is_empty() {
+            return 1;
+        }
+        let end = match self.firsts.get(call.saturating_add(1)) {
+            Some(next) => *next,
+            None => self.count,
+        };
+        item_number(end.saturating_sub(self.first(call)))
     }
 }
 
@@ -76,6 +146,7 @@ impl<'a, A: Allocator + Clone + Drop> Search<'a, A> {
         history: &[Timed],
         answered: usize,
         unsure: &'a [bool],
+        parts: Parts<'a>,
     ) -> Result<Search<'a, A>, NoMemory> {
         let ways = Ways::new(alloc, objects, any_place, history.len())?;
         let mut configs = Vec::new(alloc.clone()?);
@@ -85,7 +156,11 @@ impl<'a, A: Allocator + Clone + Drop> Search<'a, A> {
             mapped: mapped_by(history),
             answered,
             unsure,
+            parts,
             may_lag: false,
+            late: &[],
+            may_pass: 0,
+            passed: Vec::new(alloc.clone()?),
             ways,
             under: Vec::new(alloc.clone()?),
             configs,
@@ -114,49 +189,50 @@ impl<'a, A: Allocator + Clone + Drop> Search<'a, A> {
         };
         let mut under = Under::new(
             self.objects,
-            item_number(call),
+            item_number(self.parts.first(call)),
             &timed,
             call >= self.answered,
             self.mapped.has_copies,
-        );
+        )
+        .with_parts(self.parts.of(call));
         let Some(bit) = self.free_bit(under.bit) else {
             return Ok(false);
         };
         under.bit = bit;
         under.is_unsure = matches!(self.unsure.get(call), Some(true));
+        under.may_lag = self.may_lag || matches!(self.late.get(call), Some(true));
         if !under.is_late {
             self.ways.settle(&mut self.configs, &under)?;
         }
         self.note_rivals(&mut under);
         self.under.push(under)?;
-        if self.may_lag {
-            self.note_change(history, &under)?;
+        if self.may_lag || !self.late.is_empty() {
+            self.note_change(&under)?;
         }
         Ok(true)
     }
 
     // The least begin of the calls under way.
-    fn least_begin(&self, history: &[Timed]) -> u64 {
+    fn least_begin(&self) -> u64 {
         let mut least = u64::MAX;
         for under in self.under.as_slice() {
-            if let Some(timed) = history.get(under.number as usize) {
-                least = least.min(timed.begin);
-            }
+            least = least.min(under.begin);
         }
         least
     }
 
     // Keeps a call that changes pages, as long as accesses under way may have begun before its end.
-    fn note_change(&mut self, history: &[Timed], under: &Under) -> Result<(), NoMemory> {
+    fn note_change(&mut self, under: &Under) -> Result<(), NoMemory> {
         if !under.changes || matches!(under.plan, Ok(Plan::Touch(_))) {
             return Ok(());
         }
         if self.recent.len() >= FEW_RECENT {
-            let least = self.least_begin(history);
+            let least = self.least_begin();
             self.recent.retain(|recent| recent.end >= least);
         }
         self.recent.push(Recent {
             number: under.number,
+            count: under.count,
             end: under.end,
             pages: under.pages,
         })?;
@@ -164,18 +240,15 @@ impl<'a, A: Allocator + Clone + Drop> Search<'a, A> {
     }
 
     // Passes over a call that none of the configurations reaches, if it is an access that may lag: then it changes nothing in any of them.
-    fn pass_over(&mut self, history: &[Timed], under: &Under) -> Result<bool, NoMemory> {
+    fn pass_over(&mut self, under: &Under) -> Result<bool, NoMemory> {
         let Ok(Plan::Touch(touch)) = under.plan else {
-            return Ok(false);
-        };
-        let Some(timed) = history.get(under.number as usize).copied() else {
             return Ok(false);
         };
         let known = self.lags.len();
         for recent in self.recent.as_slice() {
-            if recent.end >= timed.begin && recent.pages.contains(touch.page) {
+            if recent.end >= under.begin && recent.pages.contains(touch.page) {
                 self.lags.push(Lag {
-                    behind: recent.number,
+                    behind: recent.part(touch.page),
                     access: under.number,
                 })?;
             }
@@ -183,6 +256,20 @@ impl<'a, A: Allocator + Clone + Drop> Search<'a, A> {
         if self.lags.len() == known {
             return Ok(false);
         }
+        self.ways.pass_over(&mut self.configs, under)?;
+        Ok(true)
+    }
+
+    // Passes over a call that none of the configurations reaches, if it may lag, or if the search goes on behind it: what follows is no order
+    // then, but other such calls may show up.
+    fn pass_by(&mut self, under: &Under) -> Result<bool, NoMemory> {
+        if under.may_lag && self.pass_over(under)? {
+            return Ok(true);
+        }
+        if self.passed.len() >= self.may_pass {
+            return Ok(false);
+        }
+        self.passed.push(under.number as usize)?;
         self.ways.pass_over(&mut self.configs, under)?;
         Ok(true)
     }
@@ -241,7 +328,6 @@ impl<'a, A: Allocator + Clone + Drop> Search<'a, A> {
     fn end_all(
         &mut self,
         alloc: &A,
-        history: &[Timed],
         time: Option<u64>,
     ) -> Result<Option<(Reach, usize)>, NoMemory> {
         for _ in 0..self.under.len() {
@@ -252,7 +338,7 @@ impl<'a, A: Allocator + Clone + Drop> Search<'a, A> {
                 return Ok(None);
             };
             let (number, ends) = (under.number, *under);
-            let reach = self.end(alloc, history, at, &ends)?;
+            let reach = self.end(alloc, at, &ends)?;
             if reach != Reach::Reached {
                 return Ok(Some((reach, number as usize)));
             }
@@ -261,19 +347,12 @@ impl<'a, A: Allocator + Clone + Drop> Search<'a, A> {
     }
 
     // This call under way, which is at this place, ends.
-    fn end(
-        &mut self,
-        alloc: &A,
-        history: &[Timed],
-        at: usize,
-        ends: &Under,
-    ) -> Result<Reach, NoMemory> {
+    fn end(&mut self, alloc: &A, at: usize, ends: &Under) -> Result<Reach, NoMemory> {
         let bit = ends.bit;
         if !self.is_done(bit) {
             let under = self.under.as_slice();
             let reach = self.ways.reach(Ending { under, bit }, &mut self.configs)?;
-            let lags = self.may_lag && reach == Reach::Stuck && self.pass_over(history, ends)?;
-            if reach != Reach::Reached && !lags {
+            if reach == Reach::Full || (reach == Reach::Stuck && !self.pass_by(ends)?) {
                 return Ok(reach);
             }
         }
@@ -288,15 +367,15 @@ impl<'a, A: Allocator + Clone + Drop> Search<'a, A> {
         for at in 0..begins.len() {
             let (begin, call) = begins[at];
             // at one time begins come before ends
-            let stop = self.end_all(alloc, history, Some(begin))?;
+            let stop = self.end_all(alloc, Some(begin))?;
             if stop.is_some() {
                 return Ok(stop);
             }
             if !self.begin(history, call)? {
-                return Ok(Some((Reach::Full, call)));
+                return Ok(Some((Reach::Full, self.parts.first(call))));
             }
         }
-        self.end_all(alloc, history, None)
+        self.end_all(alloc, None)
     }
 
     // The items of the open calls that haven't taken effect in a configuration.
@@ -390,7 +469,8 @@ fn find_some<A: Allocator + Clone + Drop>(
     requires { 1 ≤ length history.now }
     ensures { IfOk result (λ found. IsFound (length history.now) found) }
 {
-    let mut search = Search::new(alloc, objects, any_place, history, answered, unsure)?;
+    let parts = each_alone(history.len());
+    let mut search = Search::new(alloc, objects, any_place, history, answered, unsure, parts)?;
     if let Some((reach, call)) = search.run(alloc, history)? {
         return Ok(stopped(history.len(), reach, call));
     }
@@ -453,10 +533,52 @@ pub fn find_lagging<A: Allocator + Clone + Drop>(
         return Ok(Found::Order(Vec::new(alloc.clone()?), CoreSet::empty()));
     }
     let count = history.len();
-    let mut search = Search::new(alloc, objects, any_place, history, count, unsure)?;
+    let parts = each_alone(count);
+    let mut search = Search::new(alloc, objects, any_place, history, count, unsure, parts)?;
     search.may_lag = true;
     if let Some((reach, call)) = search.run(alloc, history)? {
         return Ok(stopped(count, reach, call));
+    }
+    lags.extend_from_slice(search.lags.as_slice())?;
+    found_by(alloc, count, search.into_order(alloc)?)
+}
+
+/// Searches as `find_choice` does, where each call takes effect as a whole, as though its parts did one behind another. An `mprotect` that
+/// met a page that isn't mapped may have changed all pages in front of it: each part behind its first has an item `Copy` where it is lost.
+/// The numbers of the items are those of the parts. Some accesses may lag, as for `find_lagging`. Where no order is found, `stuck` tells
+/// the first parts that none gets to, as though those before were passed over.
+#[tactic(auto, using(crate::proofs::NoCalls::none_found))]
+pub fn find_whole<'w, A: Allocator + Clone + Drop>(
+    alloc: &A,
+    objects: &'w Objects<A>,
+    any_place: bool,
+    wholes: &'w Wholes<A>,
+    lags: &mut Vec<Lag, A>,
+    stuck: &mut Vec<usize, A>,
+) -> Result<Found<A>, NoMemory>
+    ensures { IfOk result (λ found. IsFound wholes.now.count found) }
+{
+    lags.clear();
+    stuck.clear();
+    let count = wholes.count;
+    if count == 0 {
+        return Ok(Found::Order(Vec::new(alloc.clone()?), CoreSet::empty()));
+    }
+    let calls = wholes.calls.as_slice();
+    let unsure = wholes.unsure.as_slice();
+    let firsts = wholes.firsts.as_slice();
+    let parts = Parts { firsts, count };
+    let mut search = Search::new(alloc, objects, any_place, calls, calls.len(), unsure, parts)?;
+    search.late = wholes.late.as_slice();
+    search.may_pass = MOST_STUCK;
+    let stop = search.run(alloc, calls)?;
+    stuck.extend_from_slice(search.passed.as_slice())?;
+    if let Some(part) = stuck.get(0) {
+        return Ok(stopped(count, Reach::Stuck, *part));
+    }
+    if let Some((reach, part)) = stop {
+        stuck.push(part)?;
+        return Ok(stopped(count, reach, part));
     }
     lags.extend_from_slice(search.lags.as_slice())?;
     found_by(alloc, count, search.into_order(alloc)?)

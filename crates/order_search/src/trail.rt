@@ -8,11 +8,12 @@ use vm_base::NoMemory;
 /// How many nodes there are at least before those that nobody needs are left out.
 const FEW: usize = 100_000;
 
-// An item behind that of another node.
+// An item behind that of another node, and the same of so many calls with the next numbers.
 #[derive(Clone, Copy, Debug, PartialEq, Eq)]
 struct Node {
     parent: usize,
     item: Item,
+    count: u32,
 }
 
 // What is known of a node: whether a configuration needs it, how many nodes behind it are needed, one of these, and where it goes.
@@ -32,6 +33,21 @@ pub(crate) struct Trail<A: Allocator> {
     most: usize,
 }
 
+// Appends an item of so many calls with the next numbers.
+fn push_all<A: Allocator>(
+    order: &mut Vec<Item, A>,
+    item: Item,
+    count: u32,
+) -> Result<(), NoMemory> {
+    for more in 0..count {
+        order.push(match item {
+            Item::Reply(call) => Item::Reply(call.wrapping_add(more)),
+            Item::Copy(call) => Item::Copy(call.wrapping_add(more)),
+        })?;
+    }
+    Ok(())
+}
+
 impl<A: Allocator + Clone + Drop> Trail<A> {
     /// Nothing took effect yet. There is room for the order of so many items.
     pub fn new(alloc: &A, items: usize) -> Result<Trail<A>, NoMemory> {
@@ -39,6 +55,7 @@ impl<A: Allocator + Clone + Drop> Trail<A> {
         nodes.push(Node {
             parent: 0,
             item: Item::Reply(0),
+            count: 1,
         })?;
         Ok(Trail {
             order: Vec::with_capacity(alloc.clone()?, items)?,
@@ -47,10 +64,14 @@ impl<A: Allocator + Clone + Drop> Trail<A> {
         })
     }
 
-    /// Adds an item behind that of a node, and answers its node.
-    pub fn add(&mut self, parent: usize, item: Item) -> Result<usize, NoMemory> {
+    /// Adds an item of so many calls behind that of a node, and answers its node.
+    pub fn add(&mut self, parent: usize, item: Item, count: u32) -> Result<usize, NoMemory> {
         let at = self.nodes.len();
-        self.nodes.push(Node { parent, item })?;
+        self.nodes.push(Node {
+            parent,
+            item,
+            count,
+        })?;
         Ok(at)
     }
 
@@ -113,8 +134,8 @@ impl<A: Allocator + Clone + Drop> Trail<A> {
             }
             root = need.next;
             if let Some(node) = self.nodes.get(root) {
-                let item = node.item;
-                self.order.push(item)?;
+                let (item, count) = (node.item, node.count);
+                push_all(&mut self.order, item, count)?;
             }
         }
         Ok(root)
@@ -140,6 +161,7 @@ impl<A: Allocator + Clone + Drop> Trail<A> {
                     nodes.push(Node {
                         parent,
                         item: node.item,
+                        count: node.count,
                     })?;
                 }
             }

@@ -2,9 +2,9 @@
 
 use backing::Objects;
 use orders::Timed;
-use slot_lock::Plan;
+use slot_lock::{Change, Plan};
 use std::alloc::Allocator;
-use vm_base::{CoreId, PageRange, Reply, Request, page_of};
+use vm_base::{CoreId, Errno, PageRange, Prot, Reply, Request, page_of};
 use vm_calls::check;
 
 /// No page.
@@ -19,10 +19,14 @@ const EVERYWHERE: PageRange = PageRange {
 /// A call that is under way: its number, and what it does.
 #[derive(Clone, Copy, Debug, PartialEq, Eq)]
 pub(crate) struct Under {
+    /// Its number, or that of its first part.
     pub number: u32,
+    /// How many parts it has, which have the next numbers.
+    pub count: u32,
     pub core: CoreId,
     /// Its bit in a set of calls under way: that of its core, if no other has it.
     pub bit: u64,
+    pub begin: u64,
     /// A time at which it has taken effect.
     pub end: u64,
     pub plan: Result<Plan, Reply>,
@@ -33,6 +37,8 @@ pub(crate) struct Under {
     pub is_open: bool,
     /// Whether it may be lost: then it takes effect with its reply, or changes nothing.
     pub is_unsure: bool,
+    /// Whether it may be passed over where no order gets to its end, if it is an access.
+    pub may_lag: bool,
     /// Whether its reply says that it changed something. A call that is answered at its check changes nothing.
     pub changes: bool,
     /// Whether something may be lost where it takes effect as soon as it can: it changes something, or its page may get a copy before.
@@ -74,18 +80,39 @@ impl Under {
         let changes = plan.is_ok() && matches!(call.reply, Reply::Done | Reply::Mapped(_));
         Under {
             number,
+            count: 1,
             core: call.core,
             bit: 1u64.wrapping_shl(u32::from(call.core.index())),
+            begin: timed.begin,
             end: timed.end,
             plan,
             reply: call.reply,
             stores_to,
             is_open,
             is_unsure: false,
+            may_lag: false,
             changes,
             is_late: changes || stores_to.is_some(),
             pages: pages_of(plan),
             rivals: 0,
+        }
+    }
+
+    /// The same call with so many parts.
+    pub fn with_parts(self, count: u32) -> Under {
+        Under {
+            count,
+            is_late: self.is_late || count > 1,
+            ..self
+        }
+    }
+
+    /// The range of an `mprotect` that met a page that isn't mapped, and may have changed those in front of it, and their protection then.
+    pub fn refused_range(&self) -> Option<(PageRange, Prot)> {
+        match (self.reply, self.plan) {
+            (Reply::Refused(Errno::ENOMEM), Ok(Plan::Change(Change::Protect { range, prot })))
+                if self.count > 1 => { Some((range, prot)) }
+            _ => None,
         }
     }
 
