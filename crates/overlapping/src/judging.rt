@@ -74,7 +74,8 @@ fn judge<M: SlotMap + Drop, A: Allocator + Clone + Drop>(
 ) -> Result<bool, NoMemory>
     requires new { IsNew (M.slots map) }
     requires few { length files.items ≤ 16 }
-    ensures { result ≡ Ok true → IsOrder (rule_of any_place) (nothing_mapped (given_files files.items)) calls.now items.now }
+    ensures { result ≡ Ok true
+        → IsOrder (rule_of any_place) (nothing_mapped (given_files files.items)) calls.now items.now }
 {
     let mut auditor = Auditor::new(alloc.clone()?, map, files, any_place)?;
     follow(alloc.clone()?, &mut auditor, calls, items)
@@ -226,7 +227,8 @@ pub fn explain_whole<A: Allocator + Clone + Drop>(
     any_place: bool,
 ) -> Result<Vec<u8, A>, NoMemory>
     requires { length history.now.declaration.files.items ≤ 16 }
-    ensures { IfOk result (λ told. (told.items ≡ []) ⊎ IsWhole any_place (lines_of text.now) (read_of history.now) told.items) }
+    ensures { IfOk result (λ told.
+        (told.items ≡ []) ⊎ IsWhole any_place (lines_of text.now) (read_of history.now) told.items) }
 {
     let files = history.declaration.files.as_slice();
     let calls = history.calls.as_slice();

@@ -132,7 +132,8 @@ fn story_behind<A: Allocator + Clone + Drop>(
 ) -> Result<Option<Vec<u8, A>>, NoMemory>
     requires { length files.now ≤ 16 }
     ensures { IfOk result (λ found. IfSome found (λ told.
-        IsStory (rule_of any_place) (nothing_mapped (given_files files.now)) calls.now (lines_of text.now) numbers.now told.items)) }
+        IsStory (rule_of any_place) (nothing_mapped (given_files files.now)) calls.now
+        (lines_of text.now) numbers.now told.items)) }
 {
     if count > calls.len() || count > numbers.len() {
         return Ok(None);
@@ -164,7 +165,8 @@ pub(crate) fn story<A: Allocator + Clone + Drop>(
 ) -> Result<Option<Vec<u8, A>>, NoMemory>
     requires { length files.now ≤ 16 }
     ensures { IfOk result (λ found. IfSome found (λ told.
-        IsStory (rule_of any_place) (nothing_mapped (given_files files.now)) calls.now (lines_of text.now) numbers.now told.items)) }
+        IsStory (rule_of any_place) (nothing_mapped (given_files files.now)) calls.now
+        (lines_of text.now) numbers.now told.items)) }
 {
     let most_first = count_first(calls);
     'counts: for less in 0..most_first.saturating_add(1) {
