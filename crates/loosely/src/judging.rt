@@ -48,7 +48,8 @@ fn try_with<A: Allocator + Clone + Drop>(
 ) -> Result<Tried<A>, NoMemory>
     requires few { length history.now.declaration.files.items ≤ 16 }
     requires places { HasPlaces history.now }
-    ensures { IfOk result (λ tried. tried.parts.items ≡ parts_from 0 (completed (replies_in tried.replies.items) (read_of history.now))) }
+    ensures { IfOk result (λ tried.
+        tried.parts.items ≡ parts_from 0 (completed (replies_in tried.replies.items) (read_of history.now))) }
 {
     let replies = effects(alloc, history.waiting.as_slice(), take_effect)?;
     let told = replies.as_slice();
@@ -70,7 +71,8 @@ fn search_history<A: Allocator + Clone + Drop>(
 ) -> Result<Tried<A>, NoMemory>
     requires few { length history.now.declaration.files.items ≤ 16 }
     requires places { HasPlaces history.now }
-    ensures { IfOk result (λ tried. tried.parts.items ≡ parts_from 0 (completed (replies_in tried.replies.items) (read_of history.now))) }
+    ensures { IfOk result (λ tried.
+        tried.parts.items ≡ parts_from 0 (completed (replies_in tried.replies.items) (read_of history.now))) }
 {
     let tried = try_with(alloc, history, any_place, true)?;
     if matches!(tried.order, Order::Of { .. }) || none_waits(history.waiting.as_slice()) {
@@ -93,7 +95,8 @@ fn is_order<M: SlotMap + Drop, A: Allocator + Clone + Drop>(
 ) -> Result<bool, NoMemory>
     requires new { IsNew (M.slots map) }
     requires few { length files.now ≤ 16 }
-    ensures { result ≡ Ok true → HasLooseOrderAmong (rule_of any_place) (nothing_mapped (given_files files.now)) parts.now }
+    ensures { result ≡ Ok true
+        → HasLooseOrderAmong (rule_of any_place) (nothing_mapped (given_files files.now)) parts.now }
 {
     let made = chosen(alloc, parts, losses)?;
     let calls = made.as_slice();
@@ -112,9 +115,11 @@ fn show_disorder<A: Allocator + Clone + Drop>(
     stuck: usize,
 ) -> Result<Shown<A>, NoMemory>
     requires few { length history.now.declaration.files.items ≤ 16 }
-    requires parts { tried.now.parts.items ≡ parts_from 0 (completed (replies_in tried.now.replies.items) (read_of history.now)) }
+    requires parts { tried.now.parts.items
+        ≡ parts_from 0 (completed (replies_in tried.now.replies.items) (read_of history.now)) }
     ensures { IfOk result (λ shown.
-        IsDisorder (HasLooseOrderByPages (rule_of any_place)) eased any_place (read_of history.now) tried.now.parts.items shown) }
+        IsDisorder (HasLooseOrderByPages (rule_of any_place)) eased any_place (read_of history.now)
+        tried.now.parts.items shown) }
 {
     let waiting = history.waiting.as_slice();
     let none = none_waits(waiting);
@@ -137,9 +142,11 @@ fn rule_without<A: Allocator + Clone + Drop>(
     stuck: usize,
 ) -> Result<Told<A>, NoMemory>
     requires few { length history.now.declaration.files.items ≤ 16 }
-    requires parts { tried.now.parts.items ≡ parts_from 0 (completed (replies_in tried.now.replies.items) (read_of history.now)) }
+    requires parts { tried.now.parts.items
+        ≡ parts_from 0 (completed (replies_in tried.now.replies.items) (read_of history.now)) }
     ensures { IfOk result (λ told.
-        IsTold (HasLooseOrderByPages (rule_of any_place)) eased any_place (lines_of text.now) (read_of history.now) told) }
+        IsTold (HasLooseOrderByPages (rule_of any_place)) eased any_place (lines_of text.now)
+        (read_of history.now) told) }
 {
     let shown = show_disorder(alloc, history, any_place, tried, stuck)?;
     let parts = tried.parts.as_slice();
@@ -160,9 +167,11 @@ fn rule_by<M: SlotMap + Drop, A: Allocator + Clone + Drop>(
 ) -> Result<Told<A>, NoMemory>
     requires new { IsNew (M.slots map) }
     requires few { length history.now.declaration.files.items ≤ 16 }
-    requires parts { tried.now.parts.items ≡ parts_from 0 (completed (replies_in tried.now.replies.items) (read_of history.now)) }
+    requires parts { tried.now.parts.items
+        ≡ parts_from 0 (completed (replies_in tried.now.replies.items) (read_of history.now)) }
     ensures { IfOk result (λ told.
-        IsTold (HasLooseOrderByPages (rule_of any_place)) eased any_place (lines_of text.now) (read_of history.now) told) }
+        IsTold (HasLooseOrderByPages (rule_of any_place)) eased any_place (lines_of text.now)
+        (read_of history.now) told) }
 {
     let parts = tried.parts.as_slice();
     match &tried.order {
@@ -200,7 +209,8 @@ fn rule<M: SlotMap + Drop, A: Allocator + Clone + Drop>(
     requires few { length history.now.declaration.files.items ≤ 16 }
     requires places { HasPlaces history.now }
     requires text { IsHistory (lines_of text.now) (read_of history.now) }
-    ensures ruling { IfOk result (λ ruled. IsRuling (HasLooseOrderByPages (rule_of any_place)) (lines_of text.now) ruled.ruling) }
+    ensures ruling { IfOk result (λ ruled.
+        IsRuling (HasLooseOrderByPages (rule_of any_place)) (lines_of text.now) ruled.ruling) }
     ensures explained { IfOk result (λ ruled. IsExplained eased any_place (lines_of text.now) ruled.explanation.items) }
 {
     let tried = search_history(alloc, history, any_place)?;
@@ -223,7 +233,8 @@ pub fn judge_text<M: SlotMap + Drop, A: Allocator + Clone + Drop>(
     any_place: bool,
 ) -> Result<Ruled<A>, HistoryFault>
     requires new { IsNew (M.slots map) }
-    ensures ok { IfOk result (λ ruled. IsRuling (HasLooseOrderByPages (rule_of any_place)) (lines_of text.now) ruled.ruling) }
+    ensures ok { IfOk result (λ ruled.
+        IsRuling (HasLooseOrderByPages (rule_of any_place)) (lines_of text.now) ruled.ruling) }
     ensures explained { IfOk result (λ ruled. IsExplained eased any_place (lines_of text.now) ruled.explanation.items) }
     ensures err { IfErr result (λ f. IsAtFault (lines_of text.now) f) }
 {

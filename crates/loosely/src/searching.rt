@@ -9,8 +9,12 @@ use loose_orders::{Step, Use};
 use no_order::files_again;
 use order_search::{Found, Lag, find_lagging};
 use orders::{Item, Timed};
+use page_orders::search_whole;
 use std::alloc::Allocator;
 use vm_base::NoMemory;
+
+/// Where there are more parts than this, calls are first searched as wholes, and which byte a lagging access finds isn't looked at.
+const FEW: usize = 1_000;
 
 /// What a search comes to.
 #[derive(Debug, Drop)]
@@ -204,6 +208,30 @@ impl<'a, A: Allocator + Clone + Drop> Search<'a, A> {
         }
     }
 
+    // Notes the order of a group that was found.
+    fn note_all(&mut self, alloc: &A, group: &[usize], items: &[Item]) -> Result<(), NoMemory> {
+        let items = self.lose(alloc, group, items)?;
+        let steps = lay(alloc, group.len(), items.as_slice(), self.lags.as_slice())?;
+        self.note(group, steps.as_slice())?;
+        self.note_uses(group)
+    }
+
+    // Searches an order in which the pages of each call change at one moment, and tells whether one was found.
+    fn search_whole(&mut self, alloc: &A, may_lag: bool) -> Result<bool, NoMemory> {
+        let (objects, parts) = (self.objects, self.parts);
+        let lags = &mut self.lags;
+        let found = search_whole(alloc, objects, self.any_place, parts, may_lag, lags)?;
+        let Some(items) = found else {
+            return Ok(false);
+        };
+        let mut group = Vec::with_capacity(alloc.clone()?, parts.len())?;
+        for part in 0..parts.len() {
+            group.push(part)?;
+        }
+        self.note_all(alloc, group.as_slice(), items.as_slice())?;
+        Ok(true)
+    }
+
     // Searches an order of the parts of a group.
     fn search(&mut self, alloc: &A, group: &[usize]) -> Result<(), NoMemory> {
         self.take(group)?;
@@ -216,12 +244,7 @@ impl<'a, A: Allocator + Clone + Drop> Search<'a, A> {
             &mut self.lags,
         )?;
         match found {
-            Found::Order(items, _lost) => {
-                let items = self.lose(alloc, group, items.as_slice())?;
-                let steps = lay(alloc, group.len(), items.as_slice(), self.lags.as_slice())?;
-                self.note(group, steps.as_slice())?;
-                self.note_uses(group)
-            }
+            Found::Order(items, _lost) => self.note_all(alloc, group, items.as_slice()),
             Found::Stuck(call) | Found::Full(call) => {
                 self.note_stuck(part_at(group, call));
                 Ok(())
@@ -280,8 +303,16 @@ pub(crate) fn find<A: Allocator + Clone + Drop>(
 {
     let again = files_again(alloc, files)?;
     let objects = Objects::new(alloc.clone()?, again)?;
+    let is_long = parts.len() > FEW;
+    let mut whole = Search::new(alloc, parts, &objects, any_place)?;
+    if is_long && whole.search_whole(alloc, true)? {
+        return whole.into_order(alloc);
+    }
     let groups = group(alloc, parts)?;
     let mut search = Search::new(alloc, parts, &objects, any_place)?;
     search.search_all(alloc, &groups)?;
+    if !is_long && search.stuck.is_some() && whole.search_whole(alloc, false)? {
+        return whole.into_order(alloc);
+    }
     search.into_order(alloc)
 }

@@ -110,7 +110,8 @@ pub fn split_history<A: Allocator + Clone + Drop>(
     replies: &[Reply],
 ) -> Result<Vec<Part, A>, NoMemory>
     requires { HasPlaces history.now }
-    ensures { IfOk result (λ parts. parts.items ≡ parts_from 0 (completed (replies_in replies.now) (read_of history.now))) }
+    ensures { IfOk result (λ parts.
+        parts.items ≡ parts_from 0 (completed (replies_in replies.now) (read_of history.now))) }
 {
     let waiting = history.waiting.as_slice();
     let none = none_waits(waiting);
@@ -135,7 +136,8 @@ fn try_with<A: Allocator + Clone + Drop>(
 ) -> Result<Tried<A>, NoMemory>
     requires few { length history.now.declaration.files.items ≤ 16 }
     requires places { HasPlaces history.now }
-    ensures { IfOk result (λ tried. tried.parts.items ≡ parts_from 0 (completed (replies_in tried.replies.items) (read_of history.now))) }
+    ensures { IfOk result (λ tried.
+        tried.parts.items ≡ parts_from 0 (completed (replies_in tried.replies.items) (read_of history.now))) }
 {
     let replies = effects(alloc, history.waiting.as_slice(), take_effect)?;
     let told = replies.as_slice();
@@ -157,7 +159,8 @@ fn search_history<A: Allocator + Clone + Drop>(
 ) -> Result<Tried<A>, NoMemory>
     requires few { length history.now.declaration.files.items ≤ 16 }
     requires places { HasPlaces history.now }
-    ensures { IfOk result (λ tried. tried.parts.items ≡ parts_from 0 (completed (replies_in tried.replies.items) (read_of history.now))) }
+    ensures { IfOk result (λ tried.
+        tried.parts.items ≡ parts_from 0 (completed (replies_in tried.replies.items) (read_of history.now))) }
 {
     let tried = try_with(alloc, history, any_place, true)?;
     if matches!(tried.order, Order::Of { .. }) || none_waits(history.waiting.as_slice()) {
@@ -198,9 +201,11 @@ fn show_disorder<A: Allocator + Clone + Drop>(
     stuck: usize,
 ) -> Result<Shown<A>, NoMemory>
     requires few { length history.now.declaration.files.items ≤ 16 }
-    requires parts { tried.now.parts.items ≡ parts_from 0 (completed (replies_in tried.now.replies.items) (read_of history.now)) }
+    requires parts { tried.now.parts.items
+        ≡ parts_from 0 (completed (replies_in tried.now.replies.items) (read_of history.now)) }
     ensures { IfOk result (λ shown.
-        IsDisorder (HasOrderByPages (rule_of any_place)) as_they_are any_place (read_of history.now) tried.now.parts.items shown) }
+        IsDisorder (HasOrderByPages (rule_of any_place)) as_they_are any_place (read_of history.now)
+        tried.now.parts.items shown) }
 {
     let waiting = history.waiting.as_slice();
     let none = none_waits(waiting);
@@ -223,9 +228,11 @@ fn rule_without<A: Allocator + Clone + Drop>(
     stuck: usize,
 ) -> Result<Told<A>, NoMemory>
     requires few { length history.now.declaration.files.items ≤ 16 }
-    requires parts { tried.now.parts.items ≡ parts_from 0 (completed (replies_in tried.now.replies.items) (read_of history.now)) }
+    requires parts { tried.now.parts.items
+        ≡ parts_from 0 (completed (replies_in tried.now.replies.items) (read_of history.now)) }
     ensures { IfOk result (λ told.
-        IsTold (HasOrderByPages (rule_of any_place)) as_they_are any_place (lines_of text.now) (read_of history.now) told) }
+        IsTold (HasOrderByPages (rule_of any_place)) as_they_are any_place (lines_of text.now)
+        (read_of history.now) told) }
 {
     let shown = show_disorder(alloc, history, any_place, tried, stuck)?;
     let parts = tried.parts.as_slice();
@@ -254,9 +261,11 @@ fn rule_by<M: SlotMap + Drop, A: Allocator + Clone + Drop>(
 ) -> Result<Told<A>, NoMemory>
     requires new { IsNew (M.slots map) }
     requires few { length history.now.declaration.files.items ≤ 16 }
-    requires parts { tried.now.parts.items ≡ parts_from 0 (completed (replies_in tried.now.replies.items) (read_of history.now)) }
+    requires parts { tried.now.parts.items
+        ≡ parts_from 0 (completed (replies_in tried.now.replies.items) (read_of history.now)) }
     ensures { IfOk result (λ told.
-        IsTold (HasOrderByPages (rule_of any_place)) as_they_are any_place (lines_of text.now) (read_of history.now) told) }
+        IsTold (HasOrderByPages (rule_of any_place)) as_they_are any_place (lines_of text.now)
+        (read_of history.now) told) }
 {
     let parts = tried.parts.as_slice();
     match &tried.order {
@@ -290,8 +299,10 @@ fn rule<M: SlotMap + Drop, A: Allocator + Clone + Drop>(
     requires few { length history.now.declaration.files.items ≤ 16 }
     requires places { HasPlaces history.now }
     requires text { IsHistory (lines_of text.now) (read_of history.now) }
-    ensures ruling { IfOk result (λ ruled. IsRuling (HasOrderByPages (rule_of any_place)) (lines_of text.now) ruled.ruling) }
-    ensures explained { IfOk result (λ ruled. IsExplained as_they_are any_place (lines_of text.now) ruled.explanation.items) }
+    ensures ruling { IfOk result (λ ruled.
+        IsRuling (HasOrderByPages (rule_of any_place)) (lines_of text.now) ruled.ruling) }
+    ensures explained { IfOk result (λ ruled.
+        IsExplained as_they_are any_place (lines_of text.now) ruled.explanation.items) }
 {
     let tried = search_history(alloc, history, any_place)?;
     let told = rule_by(alloc, map, text, history, any_place, &tried)?;
@@ -319,8 +330,10 @@ pub fn judge_pages<M: SlotMap + Drop, A: Allocator + Clone + Drop>(
     is_wanted: bool,
 ) -> Result<Ruled<A>, HistoryFault>
     requires new { IsNew (M.slots map) }
-    ensures ok { IfOk result (λ ruled. IsRuling (HasOrderByPages (rule_of any_place)) (lines_of text.now) ruled.ruling) }
-    ensures explained { IfOk result (λ ruled. IsExplained as_they_are any_place (lines_of text.now) ruled.explanation.items) }
+    ensures ok { IfOk result (λ ruled.
+        IsRuling (HasOrderByPages (rule_of any_place)) (lines_of text.now) ruled.ruling) }
+    ensures explained { IfOk result (λ ruled.
+        IsExplained as_they_are any_place (lines_of text.now) ruled.explanation.items) }
     ensures err { IfErr result (λ f. IsAtFault (lines_of text.now) f) }
 {
     let history = match read_history(alloc, text) {

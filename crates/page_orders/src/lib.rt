@@ -9,9 +9,11 @@ pub mod judging;
 mod order_text;
 pub mod paging;
 mod showing;
+mod wholes;
 
 pub use explaining::{line_at, tell_shown};
 pub use joining::Joins;
 pub use judging::{call_of, effects, judge_pages, none_waits, split_history};
 pub use paging::judge_by_pages;
 pub use showing::show_among;
+pub use wholes::search_whole;

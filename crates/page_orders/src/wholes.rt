@@ -1,0 +1,307 @@
+//! Searches in which calls take effect as wholes. Most kernels let the pages of a call change nearly at one moment, so an order in which they do
+//! is searched first. Calls are divided into their parts only around the places where none is found.
+ghost use Rattle.std.specs.Prelude.{◌≡◌, IfOk, IfSome, length};
+ghost use Rattle.orders.specs.Orders.{EachOnce};
+
+use backing::Objects;
+use by_pages::Part;
+use order_search::{Found, Lag, Wholes, find_whole};
+use orders::{Item, Timed};
+use std::alloc::Allocator;
+use vm_base::page::PAGE_SIZE;
+use vm_base::{NoMemory, Reply, Request};
+
+/// How often a search begins anew, with more calls divided into their parts.
+const TRIES: u32 = 24;
+
+/// How far before where a search was stuck the calls are divided, as the times of their begins and ends tell, at most.
+const FAR: u64 = 5_000;
+
+/// So often that is farther, until it is farthest.
+const WIDTHS: u8 = 6;
+
+/// Where calls were divided so far before an access, and none is found, the access may lag.
+const NEAR: u64 = 72;
+
+// Which calls are divided into their parts, by their places in the history; which parts may lag; and the parts where the last search was stuck,
+// with how far around each the calls are divided.
+#[derive(Drop)]
+struct Divided<A: Allocator> {
+    calls: Vec<bool, A>,
+    late: Vec<bool, A>,
+    around: Vec<(usize, u64), A>,
+}
+
+// What is asked for so many pages from that of a request on.
+fn lengthened(request: Request, count: u64) -> Request {
+    let len = PAGE_SIZE.wrapping_mul(count);
+    match request {
+        Request::Mmap {
+            addr,
+            prot,
+            flags,
+            file,
+            off,
+            ..
+        } => Request::Mmap {
+            addr,
+            len,
+            prot,
+            flags,
+            file,
+            off,
+        },
+        Request::Munmap { addr, .. } => Request::Munmap { addr, len },
+        Request::Mprotect { addr, prot, .. } => Request::Mprotect { addr, len, prot },
+        Request::Load { .. } | Request::Store { .. } | Request::Fetch { .. } => request,
+    }
+}
+
+// The call of which so many parts are, the first of which is this one. The first part of one that was refused is the call itself.
+fn whole_of(part: &Part, count: usize) -> Timed {
+    let mut timed = part.timed;
+    if count > 1 && !matches!(timed.call.reply, Reply::Refused(_)) {
+        timed.call.request = lengthened(timed.call.request, count as u64);
+    }
+    timed
+}
+
+// The place of the call that a part is of, if there is such a part.
+fn call_of(parts: &[Part], at: usize) -> Option<usize> {
+    match parts.get(at) {
+        Some(part) => Some(part.of),
+        None => None,
+    }
+}
+
+// Tells whether a part is one of several of its call.
+fn has_others(parts: &[Part], at: usize) -> bool {
+    let of = call_of(parts, at);
+    of == call_of(parts, at.saturating_add(1))
+        || (at > 0 && of == call_of(parts, at.saturating_sub(1)))
+}
+
+// The next width.
+fn wider(width: u64) -> u64 {
+    width.saturating_mul(8).saturating_add(8).min(FAR)
+}
+
+// Tells whether a call is under way at some of these times, which ascend and have none in common.
+fn is_at(times: &[(u64, u64)], timed: &Timed) -> bool {
+    let mut low = 0usize;
+    let mut high = times.len();
+    for _ in 0..64u8 {
+        if low >= high {
+            break;
+        }
+        let middle = low + (high - low) / 2;
+        match times.get(middle) {
+            Some((_, most)) if *most < timed.begin => low = middle + 1,
+            _ => high = middle,
+        }
+    }
+    match times.get(low) {
+        Some((least, _)) => *least <= timed.end,
+        None => false,
+    }
+}
+
+impl<A: Allocator + Clone + Drop> Divided<A> {
+    // None is divided.
+    fn new(alloc: &A, parts: &[Part]) -> Result<Divided<A>, NoMemory> {
+        let count = match parts.last() {
+            Some(part) => part.of.saturating_add(1),
+            None => 0,
+        };
+        Ok(Divided {
+            calls: vec![in alloc.clone()?; false; count]?,
+            late: vec![in alloc.clone()?; false; parts.len()]?,
+            around: Vec::new(alloc.clone()?),
+        })
+    }
+
+    // Tells whether a call is divided.
+    fn is_divided(&self, of: usize) -> bool {
+        matches!(self.calls.get(of), Some(true))
+    }
+
+    // How far around a part calls were divided, if a search was stuck there before.
+    fn width_at(&self, part: usize) -> Option<u64> {
+        for (other, width) in self.around.as_slice() {
+            if *other == part {
+                return Some(*width);
+            }
+        }
+        None
+    }
+
+    // Lets a part lag, and tells whether it didn't.
+    fn let_lag(&mut self, part: usize) -> bool {
+        match self.late.get_mut(part) {
+            Some(is_late) if !*is_late => {
+                *is_late = true;
+                true
+            }
+            _ => false,
+        }
+    }
+
+    // Takes the parts in where a search was stuck, each farther around than before, and tells whether one of them may newly lag: that is
+    // where calls were divided around it already, and it was stuck there again.
+    fn widen(&mut self, alloc: &A, stuck: &[usize], may_lag: bool) -> Result<bool, NoMemory> {
+        let mut around = Vec::with_capacity(alloc.clone()?, stuck.len())?;
+        let mut is_new = false;
+        for part in stuck {
+            let width = match self.width_at(*part) {
+                Some(width) if may_lag && width >= NEAR && self.let_lag(*part) => {
+                    is_new = true;
+                    width
+                }
+                Some(width) => wider(width),
+                None => 0,
+            };
+            around.push((*part, width))?;
+        }
+        self.around = around;
+        Ok(is_new)
+    }
+
+    // The times around these parts in ascending order, those that have some in common as one.
+    fn times(&self, alloc: &A, parts: &[Part]) -> Result<Vec<(u64, u64), A>, NoMemory> {
+        let mut times = Vec::with_capacity(alloc.clone()?, self.around.len())?;
+        for (at, width) in self.around.as_slice() {
+            if let Some(part) = parts.get(*at) {
+                times.push((part.timed.begin.saturating_sub(*width), part.timed.end))?;
+            }
+        }
+        times.sort_unstable();
+        let mut joined = Vec::with_capacity(alloc.clone()?, times.len())?;
+        for at in 0..times.len() {
+            let (least, most) = times[at];
+            match joined.pop() {
+                Some((first, last)) if least <= last => joined.push((first, most.max(last)))?,
+                Some(before) => {
+                    joined.push(before)?;
+                    joined.push((least, most))?;
+                }
+                None => joined.push((least, most))?,
+            }
+        }
+        Ok(joined)
+    }
+
+    // Divides the calls that are under way at some of these times, and tells whether one of them wasn't.
+    fn divide_at(&mut self, parts: &[Part], times: &[(u64, u64)]) -> bool {
+        let mut is_new = false;
+        for at in 0..parts.len() {
+            if is_at(times, &parts[at].timed) && has_others(parts, at) {
+                if let Some(is_divided) = self.calls.get_mut(parts[at].of) {
+                    is_new = is_new || !*is_divided;
+                    *is_divided = true;
+                }
+            }
+        }
+        is_new
+    }
+
+    // Divides the calls around the parts where a search was stuck, farther than before where it was stuck there before; or lets these lag. It
+    // tells whether one of the calls wasn't divided, or one of the parts didn't lag.
+    fn divide_near(
+        &mut self,
+        alloc: &A,
+        parts: &[Part],
+        stuck: &[usize],
+        may_lag: bool,
+    ) -> Result<bool, NoMemory> {
+        for _ in 0..WIDTHS {
+            let lags = self.widen(alloc, stuck, may_lag)?;
+            let times = self.times(alloc, parts)?;
+            if self.divide_at(parts, times.as_slice()) || lags {
+                return Ok(true);
+            }
+        }
+        Ok(false)
+    }
+
+    // How many parts from one on are those of a call that isn't divided.
+    fn count_at(&self, parts: &[Part], first: usize) -> usize {
+        let Some(of) = call_of(parts, first) else {
+            return 1;
+        };
+        if self.is_divided(of) {
+            return 1;
+        }
+        for at in first..parts.len() {
+            if parts[at].of != of {
+                return at.saturating_sub(first);
+            }
+        }
+        parts.len().saturating_sub(first)
+    }
+}
+
+// The calls of which these are the parts, those of each side by side.
+fn wholes_of<A: Allocator + Clone + Drop>(
+    alloc: &A,
+    parts: &[Part],
+    divided: &Divided<A>,
+) -> Result<Wholes<A>, NoMemory>
+    ensures { IfOk result (λ wholes. wholes.count ≡ length parts.now) }
+{
+    let mut calls = Vec::new(alloc.clone()?);
+    let mut firsts = Vec::new(alloc.clone()?);
+    let mut unsure = Vec::new(alloc.clone()?);
+    let mut late = Vec::new(alloc.clone()?);
+    let mut next = 0usize;
+    for at in 0..parts.len() {
+        if at == next {
+            let count = divided.count_at(parts, at);
+            calls.push(whole_of(&parts[at], count))?;
+            firsts.push(at)?;
+            unsure.push(count == 1 && !parts[at].is_sure)?;
+            late.push(matches!(divided.late.get(at), Some(true)))?;
+            next = at.saturating_add(count);
+        }
+    }
+    Ok(Wholes {
+        calls,
+        firsts,
+        unsure,
+        late,
+        count: parts.len(),
+    })
+}
+
+/// Searches an order in which the pages of each call change at one moment, if some call has several parts, and divides the calls around the
+/// places where none is found. Where that isn't enough accesses may lag, if that is wanted; `lags` tells which do. The items that it answers have
+/// each part once; whether they are an order is the caller's to judge. `Err` says that memory was wanting.
+pub fn search_whole<A: Allocator + Clone + Drop>(
+    alloc: &A,
+    objects: &Objects<A>,
+    any_place: bool,
+    parts: &[Part],
+    may_lag: bool,
+    lags: &mut Vec<Lag, A>,
+) -> Result<Option<Vec<Item, A>>, NoMemory>
+    ensures { IfOk result (λ found. IfSome found (λ items. EachOnce (length parts.now) items.items)) }
+{
+    let mut divided = Divided::new(alloc, parts)?;
+    let mut stuck = Vec::new(alloc.clone()?);
+    'tries: for _ in 0..TRIES {
+        let wholes = wholes_of(alloc, parts, &divided)?;
+        if wholes.calls.len() == parts.len() {
+            return Ok(None);
+        }
+        let found = find_whole(alloc, objects, any_place, &wholes, lags, &mut stuck)?;
+        match found {
+            Found::Order(items, _lost) => return Ok(Some(items)),
+            Found::Stuck(_) => {
+                if !divided.divide_near(alloc, parts, stuck.as_slice(), may_lag)? {
+                    return Ok(None);
+                }
+            }
+            Found::Full(_) => return Ok(None),
+        }
+    }
+    Ok(None)
+}
