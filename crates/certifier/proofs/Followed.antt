@@ -1,6 +1,7 @@
 -- A run that is followed note by note, and the slots beside it
 use Rattle.machine_model.proofs.Words.{◌≡◌, ◌≢◌, ℕ, ◌+◌, ◌<◌, ◌≤◌, Bool, true, false, List, [], ◌∷◌, refl, sym, subst, ap, ◌∙◌, ⊎_elim, arith, length, get_or}
-use Rattle.machine_model.proofs.Words.{Option, cases_lt, PageInfo, PageRange, put, put_other, put_same, Slots, Outcome, some_has, World, new_world, Run}
+use Rattle.machine_model.proofs.Words.{Option, cases_lt, PageInfo, PageRange, put, put_other, put_same, Slots, some_has, World, new_world, Run}
+use Rattle.machine_model.specs.declared.event.Outcome.{Outcome}
 use Rattle.std.specs.Prelude.{count_by}
 use Rattle.live_levels.specs.declared.close.SlotHistory.{SlotHistory}
 use Rattle.machine_model.proofs.Bracketed.{bracketed}

@@ -1,7 +1,9 @@
 -- Runs that grow by the note with the next ticket
 use Rattle.machine_model.proofs.Words.{◌≡◌, ◌≢◌, ℕ, ◌+◌, ◌<◌, ◌≤◌, Bool, true, false, List, [], ◌∷◌, ◌++◌, refl, sym, subst, ap, ◌∙◌, arith, length, get_or}
-use Rattle.machine_model.proofs.Words.{map, Some, None, Option, add-one, get_or_default, filter-append, Slots, Event, Outcome, World, new_world, Step, Run}
+use Rattle.machine_model.proofs.Words.{map, Some, None, Option, add-one, get_or_default, filter-append, Slots, World, new_world, Step, Run}
 use Rattle.machine_model.proofs.Words.{PageRange}
+use Rattle.machine_model.specs.declared.event.Event.{Event}
+use Rattle.machine_model.specs.declared.event.Outcome.{Outcome}
 use Rattle.std.proofs.Common.{filter}
 use Rattle.std.specs.Prelude.{count_by, IfErr, IfNone, Result, Ok, Err}
 use Rattle.std.proofs.lemmas.List.{map-append, length-append}

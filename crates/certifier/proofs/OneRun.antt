@@ -1,7 +1,9 @@
 -- A new machine has one run by its events, so that a refusal rules out what it says
 use Rattle.machine_model.proofs.Words.{◌≡◌, ◌≢◌, ℕ, zero, suc, ◌+◌, ◌<◌, ◌≤◌, ◌==◌, Bool, true, false, cond, List, [], ◌∷◌, ◌++◌, inl, inr, refl, sym, subst}
 use Rattle.machine_model.proofs.Words.{ap, ◌∙◌, arith, length, get_or, None, Option, nat_lt, nat_tests, add-one, append_assoc, cases_lt, ⊎_elim, PageInfo}
-use Rattle.machine_model.proofs.Words.{Slots, Event, Outcome, World, new_world}
+use Rattle.machine_model.proofs.Words.{Slots, World, new_world}
+use Rattle.machine_model.specs.declared.event.Event.{Event}
+use Rattle.machine_model.specs.declared.event.Outcome.{Outcome}
 use Rattle.live_levels.specs.declared.close.SlotHistory.{SlotHistory}
 use Rattle.slot_lock.proofs.Edits.{same_slots}
 use Rattle.refcache.specs.Sound.{AreReached}

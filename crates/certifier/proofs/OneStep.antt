@@ -2,13 +2,19 @@
 use Rattle.machine_model.proofs.Words.{◌≡◌, ◌⊎◌, ℕ, ◌+◌, ◌<◌, Bool, true, false, cond, inl, inr, refl, sym, subst, ap, ◌∙◌, arith, Option, Some, None}
 use Rattle.machine_model.proofs.Words.{nat_lt, PageRange, Request, IsPage, is_mapped, entries, Slots, Unlocks, between, Place, Target, Change, Goal, Touch}
 use Rattle.machine_model.proofs.Words.{Back, Anon, Shared, Private, Access, Counts, Takes, Begin, Inc, Flushing, Reviewing, Took, asked, is_some, tlb_at}
-use Rattle.machine_model.proofs.Words.{range_of, goal_range, Event, Call, Go, Outcome, Stepped, Idle, Answered, Full, Wait, Phase, Free, Check, Lock, Guess}
-use Rattle.machine_model.proofs.Words.{Find, Cut, Decide, Post, Acks, Unlock, Answer, Try, Settle, Want, Fill, CopyPost, CopyAcks, Install, Release, Idles}
+use Rattle.machine_model.proofs.Words.{range_of, goal_range}
+use Rattle.machine_model.proofs.Words.{Idles}
 use Rattle.machine_model.proofs.Words.{Becomes, to, World, Hardware, Begins, Goes, Acts, is_here, core_of, with_event, event_limit, Step, AwaitsNobody}
 use Rattle.machine_model.proofs.Words.{Awaits, FillsBacked, FillsFromFile, TakesThisFrame, GuessesThisRun, TakesWindow, TakesMessage, GivesUp, can_give_up}
 use Rattle.machine_model.proofs.Words.{ReportsFlush, ReportsReview, after_call, after_commit, after_frame, after_zeros, after_first_copy, after_caching}
 use Rattle.machine_model.proofs.Words.{after_sharing, after_copy, after_give_up, after_walk, after_eviction, with_hardware, can_walk, guess_of, back_to}
 use Rattle.machine_model.proofs.Words.{let_go, held_after, locked_to, length, after_cuts, Locked, Held, pages_from, frame_of}
+use Rattle.machine_model.specs.declared.event.Event.{Event}
+use Rattle.machine_model.specs.declared.event.Event.TheVariants.{Call, Go}
+use Rattle.machine_model.specs.declared.event.Outcome.{Outcome}
+use Rattle.machine_model.specs.declared.event.Outcome.TheVariants.{Stepped, Idle, Answered, Full, Wait}
+use Rattle.machine_model.specs.declared.phase.Phase.{Phase}
+use Rattle.machine_model.specs.declared.phase.Phase.TheVariants.{Free, Check, Lock, Guess, Find, Cut, Decide, Post, Acks, Unlock, Answer, Try, Settle, Want, Fill, CopyPost, CopyAcks, Install, Release}
 use Rattle.vm_base.specs.declared.rights.Access.TheVariants.{Store}
 use Rattle.vm_base.specs.Runs.{lies_in}
 use Rattle.refcache.specs.Sound.{AreReached}

@@ -1,7 +1,11 @@
 -- What steps keep: what the machine was made with, which calls were begun, unless one begins, where slots begin, unless some are joined, and what pages have
 -- that the step doesn't change. Events only rise.
 use Rattle.machine_model.proofs.Words.{◌≡◌, ◌≢◌, ℕ, ◌≤◌, true, false, refl, sym, ap, ◌∙◌, subst, arith, Option, nat_tests, PageInfo, PageRange, Request, has}
-use Rattle.machine_model.proofs.Words.{put, put_other, Change, Touch, Slots, Event, Call, Go, Outcome, Phase, page_of_touch, some_has, World, Step, with_event}
+use Rattle.machine_model.proofs.Words.{put, put_other, Change, Touch, Slots, page_of_touch, some_has, World, Step, with_event}
+use Rattle.machine_model.specs.declared.event.Event.{Event}
+use Rattle.machine_model.specs.declared.event.Event.TheVariants.{Call, Go}
+use Rattle.machine_model.specs.declared.event.Outcome.{Outcome}
+use Rattle.machine_model.specs.declared.phase.Phase.{Phase}
 use Rattle.slot_lock.specs.Changes.{changed}
 use Rattle.machine_model.specs.declared.event.Event.TheVariants.{Fold}
 use Rattle.machine_model.proofs.Changed.{changed_edge, same_outside}

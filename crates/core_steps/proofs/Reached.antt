@@ -1,6 +1,10 @@
 -- What a machine knows of the state that it has: some run leads to it
 use Rattle.machine_model.proofs.Words.{◌≡◌, ℕ, zero, suc, ◌<◌, ◌≤◌, ◌+◌, Bool, None, sym, subst, arith, Result, Ok, Err, add-one, IfOk, ∥∥₁_map, Slots, IsNew}
-use Rattle.machine_model.proofs.Words.{Event, Go, Outcome, Stepped, World, new_world, Step, StepsTo}
+use Rattle.machine_model.proofs.Words.{World, new_world, Step, StepsTo}
+use Rattle.machine_model.specs.declared.event.Event.{Event}
+use Rattle.machine_model.specs.declared.event.Event.TheVariants.{Go}
+use Rattle.machine_model.specs.declared.event.Outcome.{Outcome}
+use Rattle.machine_model.specs.declared.event.Outcome.TheVariants.{Stepped}
 use Rattle.std.specs.Prelude.{◌≢◌}
 use Rattle.vm_base.specs.declared.memory.NoMemory.{NoMemory}
 use Rattle.core_steps.specs.declared.machine.Finished.TheVariants.{Last}

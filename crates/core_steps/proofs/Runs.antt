@@ -1,6 +1,8 @@
 -- Runs that grow by one event
 use Rattle.machine_model.proofs.Words.{◌≡◌, ℕ, Bool, ◌+◌, ◌<◌, ◌≤◌, List, [], ◌∷◌, ◌++◌, refl, sym, subst, ap, ◌∙◌, take, length, get_or, take_more, PageRange}
-use Rattle.machine_model.proofs.Words.{Slots, IsNew, Event, Outcome, World, Made, new_world, Step, Run, nothing_mapped, Replays}
+use Rattle.machine_model.proofs.Words.{Slots, IsNew, World, Made, new_world, Step, Run, nothing_mapped, Replays}
+use Rattle.machine_model.specs.declared.event.Event.{Event}
+use Rattle.machine_model.specs.declared.event.Outcome.{Outcome}
 use Rattle.std.proofs.lemmas.Option.{slice_get_read}
 use Rattle.machine_model.proofs.Bracketed.{bracketed}
 use Rattle.machine_model.proofs.SoundKept.{run_more}

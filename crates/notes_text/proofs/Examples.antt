@@ -1,5 +1,7 @@
 -- A note that is written, and what its text doesn't say.
-use Rattle.machine_model.proofs.Words.{◌≡◌, List, [], ◌∷◌, arith, refl, Flush, Idle}
+use Rattle.machine_model.proofs.Words.{◌≡◌, List, [], ◌∷◌, arith, refl}
+use Rattle.machine_model.specs.declared.event.Event.TheVariants.{Flush}
+use Rattle.machine_model.specs.declared.event.Outcome.TheVariants.{Idle}
 use Rattle.seats.specs.Notes.{noted}
 use Rattle.seats.specs.declared.noted.Noted.{Noted}
 use Rattle.trace.specs.Declarations.{Asked, asks_for}

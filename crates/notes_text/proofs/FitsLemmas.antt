@@ -1,8 +1,11 @@
 -- What lines name and declare fits.
 use Rattle.machine_model.proofs.Words.{◌≡◌, ◌≢◌, ◌⊎◌, inl, inr, ℕ, zero, suc, ◌+◌, ◌^◌, ◌<◌, ◌≤◌, Bool, true, false, cond, eqb, ltb, List, [], ◌∷◌, ◌++◌}
 use Rattle.machine_model.proofs.Words.{Option, Some, None, length, arith, refl, sym, ap, ◌∙◌, subst, length-append, nat_lt, ◌||◌, or_right, nat_tests, members}
-use Rattle.machine_model.proofs.Words.{with_member, Mode, Request, Mmap, Munmap, Mprotect, Load, Store, Fetch, Reply, Mapped, Byte, Event, Slot, Outcome}
-use Rattle.machine_model.proofs.Words.{Stepped, Wait, Idle, Answered, Full}
+use Rattle.machine_model.proofs.Words.{with_member, Mode, Request, Mmap, Munmap, Mprotect, Load, Store, Fetch, Reply, Mapped, Byte}
+use Rattle.machine_model.specs.declared.event.Blocker.TheVariants.{Slot}
+use Rattle.machine_model.specs.declared.event.Event.{Event}
+use Rattle.machine_model.specs.declared.event.Outcome.{Outcome}
+use Rattle.machine_model.specs.declared.event.Outcome.TheVariants.{Stepped, Wait, Idle, Answered, Full}
 use Rattle.std.specs.List.{AllByRecursion}
 use Rattle.std.proofs.lemmas.Nat.{or_lt, pow_below, pow_pos}
 use Rattle.std.proofs.lemmas.Nat.Bits.{bit_at-zero}

@@ -1,7 +1,10 @@
 -- Notes and their grammar.
 use Rattle.machine_model.proofs.Words.{◌≡◌, ◌≢◌, ℕ, suc, ◌<◌, Bool, true, false, not, eqb, List, [], ◌∷◌, ◌++◌, Option, Some, None, codes, decimal, map, arith}
-use Rattle.machine_model.proofs.Words.{refl, sym, ap, ◌∙◌, subst, IfSome, IfNone, nat_tests, EINVAL, MapErr, Reply, Mapped, Byte, Refused, Segv, Event, Slot}
-use Rattle.machine_model.proofs.Words.{Outcome, Stepped, Wait, Idle, Answered, Full}
+use Rattle.machine_model.proofs.Words.{refl, sym, ap, ◌∙◌, subst, IfSome, IfNone, nat_tests, EINVAL, MapErr, Reply, Mapped, Byte, Refused, Segv}
+use Rattle.machine_model.specs.declared.event.Blocker.TheVariants.{Slot}
+use Rattle.machine_model.specs.declared.event.Event.{Event}
+use Rattle.machine_model.specs.declared.event.Outcome.{Outcome}
+use Rattle.machine_model.specs.declared.event.Outcome.TheVariants.{Stepped, Wait, Idle, Answered, Full}
 use Rattle.std.specs.List.{list_all}
 use Rattle.machine_model.specs.declared.event.Blocker.TheVariants.{Acks}
 use Rattle.seats.specs.declared.noted.Noted.{Noted}

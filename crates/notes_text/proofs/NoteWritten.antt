@@ -1,6 +1,10 @@
 -- The line that is written of a note names it.
 use Rattle.machine_model.proofs.Words.{◌≡◌, ℕ, ◌-◌, ◌*◌, ◌^◌, ◌<◌, List, [], ◌∷◌, ◌++◌, length, take, true, codes, decimal, arith, refl, sym, ap, ◌∙◌}
-use Rattle.machine_model.proofs.Words.{append_assoc, length-append, Event, Slot, Outcome, Stepped, Wait, Idle, Answered, Full}
+use Rattle.machine_model.proofs.Words.{append_assoc, length-append}
+use Rattle.machine_model.specs.declared.event.Blocker.TheVariants.{Slot}
+use Rattle.machine_model.specs.declared.event.Event.{Event}
+use Rattle.machine_model.specs.declared.event.Outcome.{Outcome}
+use Rattle.machine_model.specs.declared.event.Outcome.TheVariants.{Stepped, Wait, Idle, Answered, Full}
 use Rattle.machine_model.specs.declared.event.Event.TheVariants as Ev
 use Rattle.machine_model.specs.declared.event.Blocker.TheVariants.{Acks}
 use Rattle.trace.specs.OutcomeText.{outcome_text}

@@ -1,8 +1,10 @@
 -- Outcomes and their grammar.
 use Rattle.machine_model.proofs.Words.{◌≡◌, ◌⊎◌, inl, inr, ℕ, suc, ◌<◌, ◌≤◌, ◌^◌, true, false, cond, List, [], ◌∷◌, ◌++◌, Option, Some, None, length, codes}
 use Rattle.machine_model.proofs.Words.{decimal, map, arith, refl, sym, ap, ◌∙◌, subst, nat_tests, nat_lt, with_member, EINVAL, ENOMEM, EACCES, EBADF}
-use Rattle.machine_model.proofs.Words.{EOVERFLOW, MapErr, Reply, Mapped, Done, Byte, Refused, Segv, Bus, NoFrame, NoMemory, Slot, Outcome, Stepped, Wait, Idle}
-use Rattle.machine_model.proofs.Words.{Answered, Full}
+use Rattle.machine_model.proofs.Words.{EOVERFLOW, MapErr, Reply, Mapped, Done, Byte, Refused, Segv, Bus, NoFrame, NoMemory}
+use Rattle.machine_model.specs.declared.event.Blocker.TheVariants.{Slot}
+use Rattle.machine_model.specs.declared.event.Outcome.{Outcome}
+use Rattle.machine_model.specs.declared.event.Outcome.TheVariants.{Stepped, Wait, Idle, Answered, Full}
 use Rattle.std.proofs.Common.{is_some}
 use Rattle.std.specs.Prelude.{option_map}
 use Rattle.vm_base.specs.declared.replies.SegvCode.TheVariants.{AccErr}

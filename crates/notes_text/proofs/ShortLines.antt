@@ -1,8 +1,11 @@
 -- The lines of notes are short enough to be read.
 use Rattle.machine_model.proofs.Words.{◌≡◌, ℕ, zero, suc, ◌+◌, ◌*◌, ◌^◌, ◌<◌, ◌≤◌, Bool, true, false, cond, eqb, List, [], ◌∷◌, ◌++◌, length, codes, decimal}
 use Rattle.machine_model.proofs.Words.{map, arith, refl, sym, subst, length-append, filter, range_with_len, length-decimal-le, length-map, members, Flags}
-use Rattle.machine_model.proofs.Words.{Request, Mmap, Munmap, Mprotect, Load, Store, Fetch, Prot, EINVAL, MapErr, Reply, Mapped, Byte, Refused, Segv, Event}
-use Rattle.machine_model.proofs.Words.{Slot, Outcome, Stepped, Wait, Idle, Answered, Full}
+use Rattle.machine_model.proofs.Words.{Request, Mmap, Munmap, Mprotect, Load, Store, Fetch, Prot, EINVAL, MapErr, Reply, Mapped, Byte, Refused, Segv}
+use Rattle.machine_model.specs.declared.event.Blocker.TheVariants.{Slot}
+use Rattle.machine_model.specs.declared.event.Event.{Event}
+use Rattle.machine_model.specs.declared.event.Outcome.{Outcome}
+use Rattle.machine_model.specs.declared.event.Outcome.TheVariants.{Stepped, Wait, Idle, Answered, Full}
 use Rattle.std.specs.Prelude.{flat_map}
 use Rattle.std.specs.Fmt.{digit_glyph}
 use Rattle.std.specs.Int.Digits.{digits_of}

@@ -1,6 +1,7 @@
 -- What is written of a verdict, and what a verdict says.
 use Rattle.machine_model.proofs.Words.{◌≡◌, inl, inr, true, ℕ, Bool, List, [], ◌∷◌, ◌++◌, Option, Some, None, Result, Ok, Err, refl, sym, ap, ◌∙◌, subst}
-use Rattle.machine_model.proofs.Words.{append-nil, option_map, Appends-kept, IsSomeAnd, Keeps, Appends, PageRange, Slots, Outcome}
+use Rattle.machine_model.proofs.Words.{append-nil, option_map, Appends-kept, IsSomeAnd, Keeps, Appends, PageRange, Slots}
+use Rattle.machine_model.specs.declared.event.Outcome.{Outcome}
 use Rattle.std.proofs.Common.{IfOk, IfErr}
 use Rattle.std.proofs.KnownBytes.{Keeps-trans}
 use Rattle.trace_io.specs.Sink.{AppendsFront}

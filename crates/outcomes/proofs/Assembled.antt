@@ -1,6 +1,9 @@
 -- What is known of opened machines, and how outcomes come together
 use Rattle.machine_model.proofs.Words.{◌≡◌, ℕ, ◌<◌, ◌≤◌, Bool, true, false, List, [], ◌∷◌, length, slice_get, None, Some, refl, sym, ◌∙◌, ap, subst, arith, nat_tests}
-use Rattle.machine_model.proofs.Words.{Event, Outcome, World, Made, Free, Run, new_world, Replays, Plain, nothing_mapped, Slots, IsNew, Reply}
+use Rattle.machine_model.proofs.Words.{World, Made, Run, new_world, Replays, Plain, nothing_mapped, Slots, IsNew, Reply}
+use Rattle.machine_model.specs.declared.event.Event.{Event}
+use Rattle.machine_model.specs.declared.event.Outcome.{Outcome}
+use Rattle.machine_model.specs.declared.phase.Phase.TheVariants.{Free}
 use Rattle.std.proofs.Common.{nat_lt, ◌^◌, ◌++◌, ◌⊎◌, inl, inr, IfSome}
 use Rattle.slot_lock.specs.declared.map_list.MapLine.{MapLine}
 use Rattle.slot_lock.specs.MapList.{plain_metas}

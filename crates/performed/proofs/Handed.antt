@@ -1,6 +1,12 @@
 -- What events say, and that the reply which a call has is the one that is handed out
 use Rattle.machine_model.proofs.Words.{◌≡◌, ◌≢◌, ℕ, ◌==◌, ◌++◌, ◌∷◌, [], Bool, true, false, cond, List, refl, sym, ◌∙◌, ap, subst}
-use Rattle.machine_model.proofs.Words.{Reply, Request, Event, Call, Go, Outcome, Stepped, Answered, World, Phase, Free, Check, Run, put_other}
+use Rattle.machine_model.proofs.Words.{Reply, Request, World, Run, put_other}
+use Rattle.machine_model.specs.declared.event.Event.{Event}
+use Rattle.machine_model.specs.declared.event.Event.TheVariants.{Call, Go}
+use Rattle.machine_model.specs.declared.event.Outcome.{Outcome}
+use Rattle.machine_model.specs.declared.event.Outcome.TheVariants.{Stepped, Answered}
+use Rattle.machine_model.specs.declared.phase.Phase.{Phase}
+use Rattle.machine_model.specs.declared.phase.Phase.TheVariants.{Free, Check}
 use Rattle.machine_model.specs.Step.{with_event}
 use Rattle.vm_base.proofs.Functions.{eq_true, eq_false}
 use Rattle.machine_model.specs.declared.event.Event.TheVariants as EventOf

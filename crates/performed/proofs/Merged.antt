@@ -1,7 +1,13 @@
 -- The replies that a run performs are a combination: each entry that it logs is a turn.
 use Rattle.machine_model.proofs.Words.{◌≡◌, ◌≢◌, ℕ, zero, suc, ◌==◌, ◌++◌, ◌∷◌, [], Bool, true, false, List, length, Option, Some, None, refl, sym, ◌∙◌, ap, subst}
-use Rattle.machine_model.proofs.Words.{nth, put, Plain, EntryLeads, Replays, Reply, NoFrame, NoMemory, Request, Event, Call, Go, Outcome, Stepped, Answered}
-use Rattle.machine_model.proofs.Words.{World, Phase, Free, Check, Step, Run, after_call, to, answer_entry, detach_entry, put_other, put_same}
+use Rattle.machine_model.proofs.Words.{nth, put, Plain, EntryLeads, Replays, Reply, NoFrame, NoMemory, Request}
+use Rattle.machine_model.proofs.Words.{World, Step, Run, after_call, to, answer_entry, detach_entry, put_other, put_same}
+use Rattle.machine_model.specs.declared.event.Event.{Event}
+use Rattle.machine_model.specs.declared.event.Event.TheVariants.{Call, Go}
+use Rattle.machine_model.specs.declared.event.Outcome.{Outcome}
+use Rattle.machine_model.specs.declared.event.Outcome.TheVariants.{Stepped, Answered}
+use Rattle.machine_model.specs.declared.phase.Phase.{Phase}
+use Rattle.machine_model.specs.declared.phase.Phase.TheVariants.{Free, Check}
 use Rattle.std.proofs.Common.{map, replicate, set}
 use Rattle.std.proofs.lemmas.List.{length-replicate, length-set}
 use Rattle.vm_base.specs.Plain.{nothing_mapped}

@@ -1,7 +1,8 @@
 -- What is written for an event is read as it was meant, and what is told tells outcomes apart
 use Rattle.machine_model.proofs.Words.{◌≡◌, ℕ, List, ◌+◌, ◌<◌, Bool, true, false, cond, refl, sym, ap, ◌∙◌, ◌==◌, arith, nat_lt, if◌then◌else◌, nat_tests}
-use Rattle.machine_model.proofs.Words.{Prot, Flags, Request, Entry, Errno, EINVAL, ENOMEM, EACCES, EBADF, EOVERFLOW, MapErr, Reply, Event, Stepped, Wait, Idle}
-use Rattle.machine_model.proofs.Words.{Answered, Full}
+use Rattle.machine_model.proofs.Words.{Prot, Flags, Request, Entry, Errno, EINVAL, ENOMEM, EACCES, EBADF, EOVERFLOW, MapErr, Reply}
+use Rattle.machine_model.specs.declared.event.Event.{Event}
+use Rattle.machine_model.specs.declared.event.Outcome.TheVariants.{Stepped, Wait, Idle, Answered, Full}
 use Rattle.std.specs.Prelude.{Option, None, Some, Result, Ok, Err}
 use Rattle.vm_base.specs.declared.requests.Request.TheVariants as Asks
 use Rattle.vm_base.specs.declared.log.Entry.TheVariants as In

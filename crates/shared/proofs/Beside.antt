@@ -1,5 +1,7 @@
 -- What a core does beside calls
-use Rattle.machine_model.proofs.Words.{◌≡◌, ℕ, Bool, ap, subst, World, Event, Outcome, Step, List, Request, Entry}
+use Rattle.machine_model.proofs.Words.{◌≡◌, ℕ, Bool, ap, subst, World, Step, List, Request, Entry}
+use Rattle.machine_model.specs.declared.event.Event.{Event}
+use Rattle.machine_model.specs.declared.event.Outcome.{Outcome}
 use Rattle.machine_model.specs.Alone.{IsBeside, IsCalm}
 use Rattle.core_steps.specs.Moving.{MayWant}
 use Rattle.core_steps.specs.Machine.{IsLegal}

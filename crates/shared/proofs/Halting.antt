@@ -1,8 +1,12 @@
 -- A call halts, is let go, or is given up, and is ended
 use Rattle.machine_model.proofs.Words.{◌≡◌, ◌≢◌, ℕ, ◌+◌, ◌<◌, ◌≤◌, arith, Bool, true, false, refl, sym, ap, subst, None, ◌∙◌, inl}
-use Rattle.machine_model.proofs.Words.{inr, ◌⊎◌, ⊎_elim, World, Request, Reply, Call, Outcome}
-use Rattle.machine_model.proofs.Words.{Stepped, Answered, Full, Idle, Wait, Free, Step, members, awaited, eq_true, ◌==◌}
+use Rattle.machine_model.proofs.Words.{inr, ◌⊎◌, ⊎_elim, World, Request, Reply}
+use Rattle.machine_model.proofs.Words.{Step, members, awaited, eq_true, ◌==◌}
 use Rattle.machine_model.proofs.Words.{nat_tests, Result, ∥∥₁_elim, props}
+use Rattle.machine_model.specs.declared.event.Event.TheVariants.{Call}
+use Rattle.machine_model.specs.declared.event.Outcome.{Outcome}
+use Rattle.machine_model.specs.declared.event.Outcome.TheVariants.{Stepped, Answered, Full, Idle, Wait}
+use Rattle.machine_model.specs.declared.phase.Phase.TheVariants.{Free}
 use Rattle.machine_model.proofs.Going.{has_core}
 use Rattle.machine_model.proofs.Shapes.{handed_out}
 use Rattle.machine_model.specs.declared.event.Event.TheVariants as EventOf

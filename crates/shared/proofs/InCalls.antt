@@ -2,10 +2,16 @@
 use Rattle.machine_model.proofs.Words.{◌≡◌, ◌≢◌, ℕ, zero, suc, ◌+◌, ◌<◌, arith, ◌==◌, Bool, true, false, refl, sym, ap, subst, Some, None}
 use Rattle.machine_model.proofs.Words.{Option, [], ◌∷◌, ◌++◌, ◌∙◌, inl, inr, ◌⊎◌, ⊎_elim}
 use Rattle.machine_model.proofs.Words.{List, length, append-nil, eq_true, eq_false, put_same, put_other, put, Request, Reply, Entry, nth}
-use Rattle.machine_model.proofs.Words.{World, Event, Call, Go, Outcome}
-use Rattle.machine_model.proofs.Words.{Stepped, Answered, Full, Phase, Free, Check, Unlock, Answer, with_event, after_call, answer_entry}
-use Rattle.machine_model.proofs.Words.{detach_entry, Step, StepsTo, event_limit, nat_lt, put_all, nothing_mapped, nat_tests, Idle, Wait}
+use Rattle.machine_model.proofs.Words.{World}
+use Rattle.machine_model.proofs.Words.{with_event, after_call, answer_entry}
+use Rattle.machine_model.proofs.Words.{detach_entry, Step, StepsTo, event_limit, nat_lt, put_all, nothing_mapped, nat_tests}
 use Rattle.machine_model.proofs.Words.{Result, Ok, Err, ∥∥₁_elim, ∥∥₁_map, props}
+use Rattle.machine_model.specs.declared.event.Event.{Event}
+use Rattle.machine_model.specs.declared.event.Event.TheVariants.{Call, Go}
+use Rattle.machine_model.specs.declared.event.Outcome.{Outcome}
+use Rattle.machine_model.specs.declared.event.Outcome.TheVariants.{Stepped, Answered, Full, Idle, Wait}
+use Rattle.machine_model.specs.declared.phase.Phase.{Phase}
+use Rattle.machine_model.specs.declared.phase.Phase.TheVariants.{Free, Check, Unlock, Answer}
 use Rattle.machine_model.proofs.Effects.{Status, Closed, Asked, Told, status, statuses, SameCalls, Effect, keeps, tells, detaches, opens, closes, effect_of}
 use Rattle.machine_model.proofs.Numbered.{at_new}
 use Rattle.machine_model.proofs.Going.{has_core}

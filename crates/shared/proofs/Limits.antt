@@ -2,12 +2,18 @@
 use Rattle.machine_model.proofs.Words.{◌≡◌, ◌≢◌, ℕ, zero, suc, ◌+◌, ◌-◌, ◌<◌, ◌≤◌, ◌^◌, arith, ◌==◌, Bool, true, false, cond, refl, sym, ap}
 use Rattle.machine_model.proofs.Words.{subst, Some, None, Option, [], ◌∷◌, ◌∙◌, inl, inr, ◌⊎◌, ⊎_elim}
 use Rattle.machine_model.proofs.Words.{List, length, nat_lt, nat_tests, put, put_same, eq_true, eq_false, put_other, PageRange}
-use Rattle.machine_model.proofs.Words.{Request, Reply, World, Event, Call, Go, Outcome, Stepped, Idle, Answered, Full, Plain}
-use Rattle.machine_model.proofs.Words.{Phase, Free, Lock, Cut, Unlock, Answer, Fill, CopyAcks, Install, Acts, Goes, Begins}
+use Rattle.machine_model.proofs.Words.{Request, Reply, World, Plain}
+use Rattle.machine_model.proofs.Words.{Acts, Goes, Begins}
 use Rattle.machine_model.proofs.Words.{GivesUp, Becomes, is_here, core_of, with_event, event_limit, Step, StepsTo, after_give_up, held_after}
 use Rattle.machine_model.proofs.Words.{still_held, let_go, awaits_in, members}
 use Rattle.machine_model.proofs.Words.{Entry, Made, Message, Replays, after_call, between, awaited, if◌then◌else◌, nothing_mapped, nth, pred}
 use Rattle.machine_model.proofs.Words.{∥∥₁_elim, ∥∥₁_map, props}
+use Rattle.machine_model.specs.declared.event.Event.{Event}
+use Rattle.machine_model.specs.declared.event.Event.TheVariants.{Call, Go}
+use Rattle.machine_model.specs.declared.event.Outcome.{Outcome}
+use Rattle.machine_model.specs.declared.event.Outcome.TheVariants.{Stepped, Idle, Answered, Full}
+use Rattle.machine_model.specs.declared.phase.Phase.{Phase}
+use Rattle.machine_model.specs.declared.phase.Phase.TheVariants.{Free, Lock, Cut, Unlock, Answer, Fill, CopyAcks, Install}
 use Rattle.machine_model.specs.declared.event.Event.TheVariants as EventOf
 use Rattle.vm_base.specs.declared.replies.Reply.TheVariants as ReplyOf
 use Rattle.machine_model.proofs.Moves.{IsCallOf, call_at}

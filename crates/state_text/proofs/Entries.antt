@@ -2,7 +2,8 @@
 use Rattle.machine_model.proofs.Words.{◌≡◌, ℕ, subst, ◌+◌, ◌*◌, ◌/◌, ◌%◌, ◌^◌, ◌<◌, ◌≤◌, ◌==◌, Bool, true, false, refl, sym, ap, ◌∙◌, arith}
 use Rattle.machine_model.proofs.Words.{Some, None, Option, nat_lt, nat_tests}
 use Rattle.machine_model.proofs.Words.{if◌then◌else◌, is_page, IsPage, is_some, PageInfo, Translation, World, ∥∥₁_elim, props, Touch}
-use Rattle.machine_model.proofs.Words.{CopyPost, page_of_touch}
+use Rattle.machine_model.proofs.Words.{page_of_touch}
+use Rattle.machine_model.specs.declared.phase.Phase.TheVariants.{CopyPost}
 use Rattle.machine_model.specs.Orderly.{IsReady, IsUsable}
 use Rattle.vm_base.specs.Info.{recorded_cores}
 use Rattle.mmu.specs.Entry.{entry_word}

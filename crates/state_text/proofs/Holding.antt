@@ -1,6 +1,7 @@
 -- The pages that are shown as held are those that a call holds, and these its core owns.
 use Rattle.machine_model.proofs.Words.{◌≡◌, ◌≢◌, ℕ, ◌+◌, ◌<◌, ◌≤◌, ◌==◌, ◌&&◌, Bool, true, false, refl, sym, ap, ◌∙◌, arith, nat_le, nat_lt, nat_tests}
-use Rattle.machine_model.proofs.Words.{Some, None, Option, has, Phase, PageRange, Touch, Goal, World, page_of_touch}
+use Rattle.machine_model.proofs.Words.{Some, None, Option, has, PageRange, Touch, Goal, World, page_of_touch}
+use Rattle.machine_model.specs.declared.phase.Phase.{Phase}
 use Rattle.std.specs.Prelude.{if◌then◌else◌, ◌↔◌}
 use Rattle.slot_lock.specs.declared.plan.Goal.TheVariants as To
 use Rattle.slot_lock.specs.Plan.{goal_range, range_of, target_range}

@@ -1,6 +1,11 @@
 -- A step changes where the call of its own core stands, and no other.
-use Rattle.machine_model.proofs.Words.{◌≡◌, ◌≢◌, ℕ, ◌==◌, Bool, true, false, cond, refl, sym, ap, subst, ◌∙◌, nat_lt, Some, None, Option, put, Event, Outcome}
-use Rattle.machine_model.proofs.Words.{Phase, Free, Place, Target, World, with_event, event_limit, Step, Acts, is_here, core_of, Idles, Full}
+use Rattle.machine_model.proofs.Words.{◌≡◌, ◌≢◌, ℕ, ◌==◌, Bool, true, false, cond, refl, sym, ap, subst, ◌∙◌, nat_lt, Some, None, Option, put}
+use Rattle.machine_model.proofs.Words.{Place, Target, World, with_event, event_limit, Step, Acts, is_here, core_of, Idles}
+use Rattle.machine_model.specs.declared.event.Event.{Event}
+use Rattle.machine_model.specs.declared.event.Outcome.{Outcome}
+use Rattle.machine_model.specs.declared.event.Outcome.TheVariants.{Full}
+use Rattle.machine_model.specs.declared.phase.Phase.{Phase}
+use Rattle.machine_model.specs.declared.phase.Phase.TheVariants.{Free}
 use Rattle.vm_base.proofs.Functions.{put_other}
 use Rattle.machine_model.proofs.Shapes.{GoesBy, moves, divides, cuts, fits, owns, lets_go, answers, posts, commits, takes, zeroes}
 use Rattle.machine_model.proofs.Shapes.{first_copies, caches, shares}

@@ -1,10 +1,14 @@
 -- What a step does to TLBs and inboxes is its event's deed.
 use Rattle.machine_model.proofs.Words.{◌≡◌, ℕ, ◌<◌, ◌==◌, Bool, true, false, cond, refl, sym, ap, subst, ◌∙◌, arith, nat_lt, nat_tests, List}
 use Rattle.machine_model.proofs.Words.{◌++◌, ◌∷◌, []}
-use Rattle.machine_model.proofs.Words.{put, eq_true, has, members, Option, Reply, Took, Place, Target, Event, Outcome, Phase, PageRange}
+use Rattle.machine_model.proofs.Words.{put, eq_true, has, members, Option, Reply, Took, Place, Target, PageRange}
 use Rattle.machine_model.proofs.Words.{TlbEntry, Message, World, posted, remaining, asked, Touch}
-use Rattle.machine_model.proofs.Words.{tlb_without, with_event, event_limit, Step, Acts, is_here, core_of, Idles, page_of_touch, Full}
-use Rattle.machine_model.proofs.Words.{Stepped, inboxes_after}
+use Rattle.machine_model.proofs.Words.{tlb_without, with_event, event_limit, Step, Acts, is_here, core_of, Idles, page_of_touch}
+use Rattle.machine_model.proofs.Words.{inboxes_after}
+use Rattle.machine_model.specs.declared.event.Event.{Event}
+use Rattle.machine_model.specs.declared.event.Outcome.{Outcome}
+use Rattle.machine_model.specs.declared.event.Outcome.TheVariants.{Full, Stepped}
+use Rattle.machine_model.specs.declared.phase.Phase.{Phase}
 use Rattle.vm_base.specs.Info.{recorded_cores}
 use Rattle.shootdown.specs.declared.message.Took.TheVariants as took
 use Rattle.slot_lock.specs.Plan.{range_of}

@@ -1,9 +1,13 @@
 -- What a step does to tables is its event's edit.
 use Rattle.machine_model.proofs.Words.{◌≡◌, ℕ, ◌<◌, ◌==◌, Bool, true, false, cond, refl, sym, ap, subst, ◌∙◌, arith, nat_lt, nat_tests, List}
 use Rattle.machine_model.proofs.Words.{◌++◌, ◌∷◌, []}
-use Rattle.machine_model.proofs.Words.{put, eq_true, has, members, None, Option, Reply, Took, Place, Target, Event, Outcome, Phase}
+use Rattle.machine_model.proofs.Words.{put, eq_true, has, members, None, Option, Reply, Took, Place, Target}
 use Rattle.machine_model.proofs.Words.{PageRange, Message, World, asked, Touch, Translation}
-use Rattle.machine_model.proofs.Words.{with_event, event_limit, Step, Acts, is_here, core_of, Idles, page_of_touch, Full, Stepped}
+use Rattle.machine_model.proofs.Words.{with_event, event_limit, Step, Acts, is_here, core_of, Idles, page_of_touch}
+use Rattle.machine_model.specs.declared.event.Event.{Event}
+use Rattle.machine_model.specs.declared.event.Outcome.{Outcome}
+use Rattle.machine_model.specs.declared.event.Outcome.TheVariants.{Full, Stepped}
+use Rattle.machine_model.specs.declared.phase.Phase.{Phase}
 use Rattle.vm_base.specs.Functions.{over}
 use Rattle.vm_base.proofs.Functions.{put_same}
 use Rattle.shootdown.specs.declared.message.Took.TheVariants as took

@@ -1,5 +1,7 @@
 -- Who watched a trace's steps from the first on knows the state to which it leads.
-use Rattle.machine_model.proofs.Words.{◌≡◌, ℕ, true, List, [], ◌++◌, Option, None, Some, refl, sym, ap, subst, ◌∙◌, World, Event, Outcome, Run}
+use Rattle.machine_model.proofs.Words.{◌≡◌, ℕ, true, List, [], ◌++◌, Option, None, Some, refl, sym, ap, subst, ◌∙◌, World, Run}
+use Rattle.machine_model.specs.declared.event.Event.{Event}
+use Rattle.machine_model.specs.declared.event.Outcome.{Outcome}
 use Rattle.radix_range.specs.Tree.{new_tree}
 use Rattle.trace_io.specs.Lines.{lines_of}
 use Rattle.trace.specs.declared.shown.Show.TheVariants.{Maps}

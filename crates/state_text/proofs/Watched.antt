@@ -1,8 +1,12 @@
 -- Who watches each step from the first on knows the state.
 use Rattle.machine_model.proofs.Words.{◌≡◌, ◌≢◌, arith, core_of, nat_tests, Some, ℕ, ◌<◌, ◌==◌, Bool, true, false, cond, refl, sym, ap, subst, ◌∙◌, List, [], ◌∷◌, ◌++◌, nat_lt}
 use Rattle.machine_model.proofs.Words.{put, eq_true, has, None, Option, Translation, Message, asked, members}
-use Rattle.machine_model.proofs.Words.{Event, Outcome, Phase, Free, PageRange, World, Made, Slots, new_world, Step, Run, Stepped, Full, Idle}
-use Rattle.machine_model.proofs.Words.{Wait, Answered}
+use Rattle.machine_model.proofs.Words.{PageRange, World, Made, Slots, new_world, Step, Run}
+use Rattle.machine_model.specs.declared.event.Event.{Event}
+use Rattle.machine_model.specs.declared.event.Outcome.{Outcome}
+use Rattle.machine_model.specs.declared.event.Outcome.TheVariants.{Stepped, Full, Idle, Wait, Answered}
+use Rattle.machine_model.specs.declared.phase.Phase.{Phase}
+use Rattle.machine_model.specs.declared.phase.Phase.TheVariants.{Free}
 use Rattle.std.specs.List.{flat_map}
 use Rattle.shootdown.specs.declared.message.Took.{Took}
 use Rattle.shootdown.specs.declared.message.Took.TheVariants as took

@@ -1,6 +1,7 @@
 -- A call that waits is given up, or nothing comes of it.
 use Rattle.machine_model.proofs.Words.{◌≡◌, ℕ, zero, suc, ◌<◌, ◌==◌, ◌⊎◌, inl, inr, Bool, true, false, Option, Some, None, refl, sym, ap, subst, ◌∙◌, arith}
-use Rattle.machine_model.proofs.Words.{nat_lt, nat_tests, eq_true, eq_false, CopyAcks, can_give_up, World, is_access}
+use Rattle.machine_model.proofs.Words.{nat_lt, nat_tests, eq_true, eq_false, can_give_up, World, is_access}
+use Rattle.machine_model.specs.declared.phase.Phase.TheVariants.{CopyAcks}
 use Rattle.machine_model.specs.declared.event.Event.TheVariants as Ev
 use Rattle.machine_model.proofs.Moves.{IsCallOf, call_at}
 use Rattle.machine_model.proofs.SoundKept.{reached_fine}

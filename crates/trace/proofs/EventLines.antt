@@ -1,6 +1,8 @@
 -- What the steps of a line of an event give
 use Rattle.machine_model.proofs.Words.{◌≡◌, ℕ, Bool, List, Option, Some, None, false, inl, inr, Result, Ok, Err, refl, sym, ap, ◌∙◌, subst, IsSomeAnd, IfErr}
-use Rattle.machine_model.proofs.Words.{Outcome, Stepped, Wait, Idle, Answered, Full, World, Made, new_world, Slots, IsNew, Request}
+use Rattle.machine_model.proofs.Words.{World, Made, new_world, Slots, IsNew, Request}
+use Rattle.machine_model.specs.declared.event.Outcome.{Outcome}
+use Rattle.machine_model.specs.declared.event.Outcome.TheVariants.{Stepped, Wait, Idle, Answered, Full}
 use Rattle.std.specs.Prelude.{OnOk, OnErr, ◌⊎◌}
 use Rattle.vm_base.specs.declared.memory.NoMemory.{NoMemory}
 use Rattle.radix_range.specs.Folds.{CanFold, FoldsNode}

@@ -1,6 +1,9 @@
 -- The lines of a trace make one run.
 use Rattle.machine_model.proofs.Words.{◌≡◌, ℕ, zero, suc, ◌≤◌, List, [], ◌∷◌, ◌++◌, Option, None, Some, refl, sym, ap, subst, append_assoc, append-nil}
-use Rattle.machine_model.proofs.Words.{IsSomeAnd, Request, Event, Outcome, Stepped, Wait, Idle, Answered, Full, World, Step, StepsTo, Run}
+use Rattle.machine_model.proofs.Words.{IsSomeAnd, Request, World, Step, StepsTo, Run}
+use Rattle.machine_model.specs.declared.event.Event.{Event}
+use Rattle.machine_model.specs.declared.event.Outcome.{Outcome}
+use Rattle.machine_model.specs.declared.event.Outcome.TheVariants.{Stepped, Wait, Idle, Answered, Full}
 use Rattle.std.specs.Prelude.{replicate}
 use Rattle.radix_range.proofs.New.{new_tree_new}
 use Rattle.machine_model.specs.declared.event.Event.TheVariants as Ev

@@ -2,7 +2,9 @@
 -- and mappings that aren't.
 use Rattle.machine_model.proofs.Words.{◌≡◌, ◌≢◌, ℕ, ◌==◌, ◌⊎◌, inl, inr, Bool, true, false, cond, List, [], ◌∷◌, Option, None, Some, length, refl, ap, ◌∙◌}
 use Rattle.machine_model.proofs.Words.{arith, nat_lt, Entry, Entry, Reply, Mapped, Done, Byte, Refused, Segv, Bus, NoFrame, NoMemory, MapErr, Request, Load}
-use Rattle.machine_model.proofs.Words.{Plain, MapLine, IsMapList, plain_metas, Outcome, Stepped, Wait, Idle, Answered, Full, RepliesBy, IsFirstPlace}
+use Rattle.machine_model.proofs.Words.{Plain, MapLine, IsMapList, plain_metas, RepliesBy, IsFirstPlace}
+use Rattle.machine_model.specs.declared.event.Outcome.{Outcome}
+use Rattle.machine_model.specs.declared.event.Outcome.TheVariants.{Stepped, Wait, Idle, Answered, Full}
 use Rattle.std.specs.Prelude.{codes}
 use Rattle.machine_model.specs.declared.event.Blocker.TheVariants.{Acks}
 use Rattle.trace_text.specs.declared.action.Action.{Action}

@@ -1,10 +1,14 @@
 -- The state of a machine between two lines of a trace in which no call runs beside another
 use Rattle.machine_model.proofs.Words.{◌≡◌, ◌≢◌, ℕ, zero, suc, ◌+◌, ◌≤◌, ◌<◌, ◌^◌, ◌⊎◌, inl, inr, Bool, true, false, cond, List, [], ◌∷◌, ◌++◌, Option, None}
 use Rattle.machine_model.proofs.Words.{Some, refl, sym, ap, subst, ◌∙◌, arith, fun_ext, nat_lt, pred, if◌then◌else◌, PageRange, Reply, NoFrame, Request}
-use Rattle.machine_model.proofs.Words.{members, has, put, Plain, nothing_mapped, put_all, put_both, put_other, IsUser, Event, Outcome, Stepped, Idle, Full}
-use Rattle.machine_model.proofs.Words.{Free, awaits_in, World, Made, Goes, Acts, with_event, event_limit, Step, StepsTo, nth, Replays, Stands, RepliesBy}
+use Rattle.machine_model.proofs.Words.{members, has, put, Plain, nothing_mapped, put_all, put_both, put_other, IsUser}
+use Rattle.machine_model.proofs.Words.{awaits_in, World, Made, Goes, Acts, with_event, event_limit, Step, StepsTo, nth, Replays, Stands, RepliesBy}
 use Rattle.machine_model.proofs.Words.{NoneFree, page_copied, with_copy, is_placed, is_access, Users, Same, users_after, with_user, without, IsPlace}
 use Rattle.machine_model.proofs.Words.{IsFirstPlace}
+use Rattle.machine_model.specs.declared.event.Event.{Event}
+use Rattle.machine_model.specs.declared.event.Outcome.{Outcome}
+use Rattle.machine_model.specs.declared.event.Outcome.TheVariants.{Stepped, Idle, Full}
+use Rattle.machine_model.specs.declared.phase.Phase.TheVariants.{Free}
 use Rattle.machine_model.specs.declared.event.Event.TheVariants as Ev
 use Rattle.vm_base.specs.declared.log.Entry.TheVariants.{Answer}
 use Rattle.machine_model.specs.Sound.{IsDue, IsReached}

@@ -1,9 +1,13 @@
 -- The text of a trace in which no call runs beside another, and what comes behind it, are those of the plain page map and the users of its pages.
 use Rattle.machine_model.proofs.Words.{◌≡◌, ◌≢◌, ℕ, ◌≤◌, ◌<◌, ◌==◌, ◌⊎◌, inl, inr, Bool, true, false, cond, List, [], ◌∷◌, ◌++◌, Option, None, Some, refl, sym}
 use Rattle.machine_model.proofs.Words.{ap, subst, ◌∙◌, arith, length, nat_lt, pred, IsSomeAnd, fun_ext, put, is_recorded, nat_tests, Request, file_with}
-use Rattle.machine_model.proofs.Words.{nothing_mapped, eq_true, eq_false, Slots, IsNew, MapLine, IsMapList, plain_metas, Event, Outcome, Stepped, Wait, Idle}
-use Rattle.machine_model.proofs.Words.{Answered, Full, Free, Becomes, World, new_world, core_of, after_call, Acts, is_here, with_event, event_limit, Step}
+use Rattle.machine_model.proofs.Words.{nothing_mapped, eq_true, eq_false, Slots, IsNew, MapLine, IsMapList, plain_metas}
+use Rattle.machine_model.proofs.Words.{Becomes, World, new_world, core_of, after_call, Acts, is_here, with_event, event_limit, Step}
 use Rattle.machine_model.proofs.Words.{Replays}
+use Rattle.machine_model.specs.declared.event.Event.{Event}
+use Rattle.machine_model.specs.declared.event.Outcome.{Outcome}
+use Rattle.machine_model.specs.declared.event.Outcome.TheVariants.{Stepped, Wait, Idle, Answered, Full}
+use Rattle.machine_model.specs.declared.phase.Phase.TheVariants.{Free}
 use Rattle.std.specs.Prelude.{◌^◌}
 use Rattle.radix_range.specs.Tree.{new_tree}
 use Rattle.radix_range.proofs.New.{new_tree_new}

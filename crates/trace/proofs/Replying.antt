@@ -1,7 +1,9 @@
 -- The replies in the log of a machine: a call adds its own, and none while it waits.
 use Rattle.machine_model.proofs.Words.{◌≡◌, ℕ, zero, suc, ◌==◌, Bool, true, false, List, [], ◌∷◌, ◌++◌, Option, None, Some, refl, sym, ap, subst, ◌∙◌}
-use Rattle.machine_model.proofs.Words.{append-nil, Reply, Request, Plain, eq_true, eq_false, put_same, Go, Stepped, Entry, Detach, detach_entry, World}
+use Rattle.machine_model.proofs.Words.{append-nil, Reply, Request, Plain, eq_true, eq_false, put_same, Entry, Detach, detach_entry, World}
 use Rattle.machine_model.proofs.Words.{with_event, Step, StepsTo}
+use Rattle.machine_model.specs.declared.event.Event.TheVariants.{Go}
+use Rattle.machine_model.specs.declared.event.Outcome.TheVariants.{Stepped}
 use Rattle.vm_base.specs.declared.log.Entry.TheVariants.{Answer}
 use Rattle.machine_model.proofs.Effects.{Closed, Asked, Told, status, keeps, tells, detaches, opens, closes, effect_of}
 use Rattle.machine_model.proofs.Shapes.{Comes, stopped, acts, comes}

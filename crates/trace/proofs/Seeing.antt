@@ -1,7 +1,10 @@
 -- What is seen of lines, and of a whole replay
 use Rattle.machine_model.proofs.Words.{◌≡◌, ℕ, ◌≤◌, List, [], ◌∷◌, ◌++◌, Option, None, Some, Result, Ok, Err, OnOk, length, refl, sym, ap, ◌∙◌, subst}
 use Rattle.machine_model.proofs.Words.{append_assoc, append-nil, IfOk, IsSomeAnd, Keeps, Appends, Appends-nil, Appends-trans, Appends-kept, Request, Mode}
-use Rattle.machine_model.proofs.Words.{Event, Outcome, Stepped, Wait, Idle, Answered, Full, World, Step}
+use Rattle.machine_model.proofs.Words.{World, Step}
+use Rattle.machine_model.specs.declared.event.Event.{Event}
+use Rattle.machine_model.specs.declared.event.Outcome.{Outcome}
+use Rattle.machine_model.specs.declared.event.Outcome.TheVariants.{Stepped, Wait, Idle, Answered, Full}
 use Rattle.machine_model.specs.declared.event.Event.TheVariants as Ev
 use Rattle.core_steps.specs.declared.machine.Finished.{Finished}
 use Rattle.core_steps.specs.declared.machine.Finished.TheVariants.{Last}

@@ -1,6 +1,10 @@
 -- The state behind each line
 use Rattle.machine_model.proofs.Words.{append-nil, ◌≡◌, ℕ, zero, suc, ◌+◌, true, List, [], ◌∷◌, ◌++◌, refl, sym, ap, subst, ◌∙◌, Option}
-use Rattle.machine_model.proofs.Words.{Event, Go, Outcome, Stepped, Wait, Idle, Answered, Full, None, World, Step, Run}
+use Rattle.machine_model.proofs.Words.{None, World, Step, Run}
+use Rattle.machine_model.specs.declared.event.Event.{Event}
+use Rattle.machine_model.specs.declared.event.Event.TheVariants.{Go}
+use Rattle.machine_model.specs.declared.event.Outcome.{Outcome}
+use Rattle.machine_model.specs.declared.event.Outcome.TheVariants.{Stepped, Wait, Idle, Answered, Full}
 use Rattle.std.proofs.Common.{length, length-append, take, drop, append_assoc, IsSomeAnd, Some, arith}
 use Rattle.std.specs.Prelude.{replicate}
 use Rattle.std.proofs.lemmas.List.{append_cancel_left}

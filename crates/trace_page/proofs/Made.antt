@@ -1,6 +1,9 @@
 -- What is recorded of steps, one after another
 use Rattle.machine_model.proofs.Words.{◌≡◌, ◌≢◌, ℕ, zero, suc, ◌+◌, true, false, List, [], ◌∷◌, ◌++◌, refl, sym, ap, subst, ◌∙◌, None, Option}
-use Rattle.machine_model.proofs.Words.{Event, Outcome, World, Stepped, Wait, Idle, Answered, Full}
+use Rattle.machine_model.proofs.Words.{World}
+use Rattle.machine_model.specs.declared.event.Event.{Event}
+use Rattle.machine_model.specs.declared.event.Outcome.{Outcome}
+use Rattle.machine_model.specs.declared.event.Outcome.TheVariants.{Stepped, Wait, Idle, Answered, Full}
 use Rattle.std.proofs.Common.{length, length-append, min, arith, append_assoc, append-nil, IsSomeAnd, Some, if◌then◌else◌}
 use Rattle.std.specs.Prelude.{replicate}
 use Rattle.core_steps.specs.Finishing.{finish_limit}

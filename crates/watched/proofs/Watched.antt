@@ -1,6 +1,10 @@
 -- Runs that are watched, one after another and step by step
-use Rattle.machine_model.proofs.Words.{◌≡◌, ◌≢◌, ℕ, zero, suc, ◌+◌, ◌<◌, List, [], ◌∷◌, ◌++◌, refl, sym, ap, subst, Bool, Request, Event, Call, Go, Outcome}
-use Rattle.machine_model.proofs.Words.{Stepped, Wait, Idle, Answered, Full, World, Step, StepsTo}
+use Rattle.machine_model.proofs.Words.{◌≡◌, ◌≢◌, ℕ, zero, suc, ◌+◌, ◌<◌, List, [], ◌∷◌, ◌++◌, refl, sym, ap, subst, Bool, Request}
+use Rattle.machine_model.proofs.Words.{World, Step, StepsTo}
+use Rattle.machine_model.specs.declared.event.Event.{Event}
+use Rattle.machine_model.specs.declared.event.Event.TheVariants.{Call, Go}
+use Rattle.machine_model.specs.declared.event.Outcome.{Outcome}
+use Rattle.machine_model.specs.declared.event.Outcome.TheVariants.{Stepped, Wait, Idle, Answered, Full}
 use Rattle.std.proofs.Common.{add-one}
 use Rattle.std.specs.Prelude.{replicate}
 use Rattle.core_steps.specs.declared.machine.Finished.{Finished}

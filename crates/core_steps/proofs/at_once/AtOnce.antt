@@ -1,10 +1,16 @@
 -- Steps of a call one after another, between which its core's phase isn't written: in general, those that lock or let go slots one after
 -- another, and those at pages that are one slot
 use Rattle.machine_model.proofs.Words.{◌≡◌, ℕ, zero, suc, ◌+◌, ◌<◌, ◌≤◌, ◌==◌, Bool, true, false, cond, Option, Some, None, [], ◌∷◌, ◌++◌, refl, sym, subst}
-use Rattle.machine_model.proofs.Words.{ap, ◌∙◌, arith, if◌then◌else◌, nat_tests, Request, put_same, has_in, in_has, Event, Call, Go, Stepped, Outcome, core_of}
-use Rattle.machine_model.proofs.Words.{Phase, to, after_reply, let_go, World, Memory, Acts, Goes, Step, event_limit, is_here, with_event, StepsTo, fun_ext}
+use Rattle.machine_model.proofs.Words.{ap, ◌∙◌, arith, if◌then◌else◌, nat_tests, Request, put_same, has_in, in_has, core_of}
+use Rattle.machine_model.proofs.Words.{to, after_reply, let_go, World, Memory, Acts, Goes, Step, event_limit, is_here, with_event, StepsTo, fun_ext}
 use Rattle.machine_model.proofs.Words.{PageInfo, PageRange, Reply, has, Goal, Touch, Locked, goal_range, IsSlot, Slots, Unlocks, between, with_owner, Locks}
-use Rattle.machine_model.proofs.Words.{Answer, Lock, Release, Try, Unlock, page_of_touch, all_locked, locking, held_after, locked_to}
+use Rattle.machine_model.proofs.Words.{page_of_touch, all_locked, locking, held_after, locked_to}
+use Rattle.machine_model.specs.declared.event.Event.{Event}
+use Rattle.machine_model.specs.declared.event.Event.TheVariants.{Call, Go}
+use Rattle.machine_model.specs.declared.event.Outcome.{Outcome}
+use Rattle.machine_model.specs.declared.event.Outcome.TheVariants.{Stepped}
+use Rattle.machine_model.specs.declared.phase.Phase.{Phase}
+use Rattle.machine_model.specs.declared.phase.Phase.TheVariants.{Answer, Lock, Release, Try, Unlock}
 use Rattle.std.proofs.Common.{nat_le, nat_lt}
 use Rattle.std.proofs.Common.{add-one}
 use Rattle.std.specs.Prelude.{◌≢◌}

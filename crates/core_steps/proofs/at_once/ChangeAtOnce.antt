@@ -1,9 +1,10 @@
 -- The steps of a change of one page, made at once: the states that they pass, and the one that is left
 use Rattle.machine_model.proofs.Words.{◌≡◌, ℕ, ◌+◌, ◌-◌, ◌≤◌, [], ◌∷◌, true, false, Bool, List, Option, Some, None, inl, refl, sym, subst, ap, ◌∙◌, arith}
 use Rattle.machine_model.proofs.Words.{IfSome, ∥∥₁_elim, props, PageRange, Errno, Reply, Refused, members, has, put, frame_of, is_recorded, members-empty}
-use Rattle.machine_model.proofs.Words.{Change, Put, range_of, Slots, Decision, Act, Refuse, Counts, Translation, TlbEntry, Acks, Decide, Lock, Post, Hardware}
+use Rattle.machine_model.proofs.Words.{Change, Put, range_of, Slots, Decision, Act, Refuse, Counts, Translation, TlbEntry, Hardware}
 use Rattle.machine_model.proofs.Words.{World, after_reply, to, AwaitsNobody, reply_to, slots_after, frame_lost, locking, StepsTo, event_limit, with_event}
 use Rattle.machine_model.proofs.Words.{after_shot, with_hardware}
+use Rattle.machine_model.specs.declared.phase.Phase.TheVariants.{Acks, Decide, Lock, Post}
 use Rattle.slot_lock.specs.declared.plan.Goal.TheVariants as To
 use Rattle.slot_lock.specs.declared.slot_map.FreePage.{FreePage}
 use Rattle.slot_lock.specs.Slots.{IsFreePage}

@@ -1,7 +1,11 @@
 -- Steps of a call after which slots begin where they began divide none, and so they divide as any map does
 use Rattle.machine_model.proofs.Words.{◌≡◌, ℕ, zero, suc, ◌+◌, Bool, true, false, cond, refl, sym, subst, ap, ◌∙◌, arith, ◌⊎◌, inl, inr, Ok, Some, fun_ext}
-use Rattle.machine_model.proofs.Words.{add-one, PageRange, Request, Locked, Held, goal_range, Slots, Divides, Locks, Call, Go, Outcome, Full, Stepped, Phase}
+use Rattle.machine_model.proofs.Words.{add-one, PageRange, Request, Locked, Held, goal_range, Slots, Divides, Locks}
 use Rattle.machine_model.proofs.Words.{Idles, World, Goes, Step, StepsTo, event_limit, is_here, with_event}
+use Rattle.machine_model.specs.declared.event.Event.TheVariants.{Call, Go}
+use Rattle.machine_model.specs.declared.event.Outcome.{Outcome}
+use Rattle.machine_model.specs.declared.event.Outcome.TheVariants.{Full, Stepped}
+use Rattle.machine_model.specs.declared.phase.Phase.{Phase}
 use Rattle.std.proofs.Common.{nat_lt}
 use Rattle.std.specs.Prelude.{◌≢◌}
 use Rattle.slot_lock.specs.declared.slot_map.Got.TheVariants.{Split}

@@ -2,7 +2,7 @@
 use Rattle.machine_model.proofs.Words.{◌≡◌, ℕ, suc, ◌+◌, ◌-◌, ◌<◌, ◌≤◌, Bool, false, true, Option, Some, None, Err, refl, sym, subst, ap, ◌∙◌, arith, inl, inr, ◌⊎◌}
 use Rattle.machine_model.proofs.Words.{if◌then◌else◌, Back, Anon, Shared, Private, PageInfo, Reply, Access, is_anonymous, put, frame_of, info_with_core}
 use Rattle.machine_model.proofs.Words.{info_with_frame, is_allowed, by_test, put_same, Touch, with_info, Translated, Settled, is_cached, is_private_store}
-use Rattle.machine_model.proofs.Words.{settled, source, Go, Stepped, Phase, Answer, Fill, Install, Release, Settle, Try, Want, Hardware, Memory, World}
+use Rattle.machine_model.proofs.Words.{settled, source, Hardware, Memory, World}
 use Rattle.machine_model.proofs.Words.{after_finding, found_at, is_past_end, memory_after, reply_of, answer_entry, to, with_entry, back_of, file_frame}
 use Rattle.machine_model.proofs.Words.{FillsBacked, FillsFromFile, page_of_touch, locking, Step, StepsTo, event_limit, with_event, after_translating}
 use Rattle.machine_model.proofs.Words.{entry_of_page, frame_reached, translated_by, with_hardware, with_table}
@@ -11,6 +11,10 @@ use Rattle.std.proofs.Common.{is_some}
 use Rattle.std.proofs.lemmas.Bool.{not-false, or_parts}
 use Rattle.vm_base.specs.Plain.{file_bytes}
 use Rattle.machine_model.proofs.Words.{File, Translation}
+use Rattle.machine_model.specs.declared.event.Event.TheVariants.{Go}
+use Rattle.machine_model.specs.declared.event.Outcome.TheVariants.{Stepped}
+use Rattle.machine_model.specs.declared.phase.Phase.{Phase}
+use Rattle.machine_model.specs.declared.phase.Phase.TheVariants.{Answer, Fill, Install, Release, Settle, Try, Want}
 use Rattle.vm_base.specs.declared.rights.Access.TheVariants.{Store}
 use Rattle.slot_lock.specs.declared.plan.Goal.TheVariants as To
 use Rattle.mmu.specs.declared.translated.Translated.TheVariants as By

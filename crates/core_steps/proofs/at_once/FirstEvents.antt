@@ -1,8 +1,12 @@
 -- The first events of a call, made at once: the states that it passes, and the one that is left
 use Rattle.machine_model.proofs.Words.{◌≡◌, ℕ, suc, ◌+◌, ◌-◌, ◌<◌, ◌≤◌, Bool, not, length, Option, None, Result, Ok, Err, refl, sym, subst, ap, ◌∙◌, arith}
-use Rattle.machine_model.proofs.Words.{∥∥₁_map, PageRange, Reply, Request, put_same, Plan, Touch, Call, Go, Answered, Stepped, Phase, Answer, Check, Free, Try}
+use Rattle.machine_model.proofs.Words.{∥∥₁_map, PageRange, Reply, Request, put_same, Plan, Touch}
 use Rattle.machine_model.proofs.Words.{World, answer_entry, to, with_entry, after_check, after_plan, checked_by, locking, placing, Step, StepsTo, after_call}
 use Rattle.machine_model.proofs.Words.{event_limit, with_event}
+use Rattle.machine_model.specs.declared.event.Event.TheVariants.{Call, Go}
+use Rattle.machine_model.specs.declared.event.Outcome.TheVariants.{Answered, Stepped}
+use Rattle.machine_model.specs.declared.phase.Phase.{Phase}
+use Rattle.machine_model.specs.declared.phase.Phase.TheVariants.{Answer, Check, Free, Try}
 use Rattle.slot_lock.specs.declared.plan.Goal.TheVariants as To
 use Rattle.slot_lock.specs.declared.plan.Plan.TheVariants as PlanOf
 use Rattle.machine_model.specs.Orderly.{answer_count}

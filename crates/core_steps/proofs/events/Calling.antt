@@ -1,6 +1,9 @@
 -- A call that begins
 use Rattle.machine_model.proofs.Words.{◌≡◌, ℕ, suc, ◌+◌, ◌<◌, Bool, true, false, not, List, [], ◌∷◌, ◌++◌, length, refl, arith, slice_set, Request, Slots}
-use Rattle.machine_model.proofs.Words.{Counts, Stepped, Entry, Phase, Free, World, Hardware, Begins, after_call}
+use Rattle.machine_model.proofs.Words.{Counts, Entry, World, Hardware, Begins, after_call}
+use Rattle.machine_model.specs.declared.event.Outcome.TheVariants.{Stepped}
+use Rattle.machine_model.specs.declared.phase.Phase.{Phase}
+use Rattle.machine_model.specs.declared.phase.Phase.TheVariants.{Free}
 use Rattle.std.proofs.Common.{nat_lt}
 use Rattle.backing.specs.Files.{FileParts}
 use Rattle.frames.specs.Parts.{FrameParts}

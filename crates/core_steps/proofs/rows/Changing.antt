@@ -1,6 +1,7 @@
 -- What the pages that are held let a call change
 use Rattle.machine_model.proofs.Words.{◌≡◌, ℕ, true, not, Some, None, Option, refl, sym, subst, ∥∥₁_elim, props, PageInfo, PageRange, Reply, IsPageRange, File}
-use Rattle.machine_model.proofs.Words.{Change, Protect, Goal, range_of, IsSoundGoal, Slots, Act, entry_of, no_page, no_write, Unlock, World}
+use Rattle.machine_model.proofs.Words.{Change, Protect, Goal, range_of, IsSoundGoal, Slots, Act, entry_of, no_page, no_write, World}
+use Rattle.machine_model.specs.declared.phase.Phase.TheVariants.{Unlock}
 use Rattle.std.proofs.Common.{is_some}
 use Rattle.slot_lock.specs.declared.plan.Goal.TheVariants as To
 use Rattle.slot_lock.specs.Changes.{IsMappedFor}

@@ -2,9 +2,13 @@
 use Rattle.machine_model.proofs.Words.{◌≡◌, ℕ, zero, suc, ◌<◌, ◌≤◌, ◌^◌, Bool, true, false, not, List, length, get_or, Option, None, Some, inl, inr, refl, sym}
 use Rattle.machine_model.proofs.Words.{ap, subst, arith, ◌∙◌, pos, ◌+ℤ◌, ◌<ℤ◌, ◌==◌, IfSome, if◌then◌else◌, nat_lt, ∥∥₁_elim, props, ints, Back, Anon, Shared}
 use Rattle.machine_model.proofs.Words.{Private, PageInfo, Access, put, frame_of, info_with_copy, info_with_frame, Bytes, File, bytes_in, Touch, with_info}
-use Rattle.machine_model.proofs.Words.{Counts, true_count, Takes, Begin, true_counts_move, Outcome, Stepped, Phase, Free, Fill, Install, to, with_entry}
+use Rattle.machine_model.proofs.Words.{Counts, true_count, Takes, Begin, true_counts_move, to, with_entry}
 use Rattle.machine_model.proofs.Words.{detach_entry, back_of, bytes_shown, file_frame, page_now, with_cached, FillsBacked, FillsFromFile, after_copy}
 use Rattle.machine_model.proofs.Words.{after_first_copy, after_zeros, World, Memory}
+use Rattle.machine_model.specs.declared.event.Outcome.{Outcome}
+use Rattle.machine_model.specs.declared.event.Outcome.TheVariants.{Stepped}
+use Rattle.machine_model.specs.declared.phase.Phase.{Phase}
+use Rattle.machine_model.specs.declared.phase.Phase.TheVariants.{Free, Fill, Install}
 use Rattle.std.proofs.Common.{is_some}
 use Rattle.std.proofs.lemmas.Bool.{cond_both, not-false}
 use Rattle.std.proofs.lemmas.List.{get_or_read}

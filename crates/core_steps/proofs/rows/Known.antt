@@ -4,9 +4,10 @@ use Rattle.machine_model.proofs.Words.{if◌then◌else◌, IfSome, ◌↔◌, �
 use Rattle.machine_model.proofs.Words.{IsPage, IsPageRange, are_pages, is_page, frame_of, File, is_allowed, has_in, in_has, Change, Put, Clear, Protect, Plan}
 use Rattle.machine_model.proofs.Words.{Touch, Goal, goal_plan, goal_range, range_of, HasTarget, IsSoundGoal, IsSoundTouch, Slots, IsUser, between, Act}
 use Rattle.machine_model.proofs.Words.{no_page, no_write, Translation, has_right, Message, Took, asked, Counts, Takes, Reviewing, IsUnused, reached_is_orderly}
-use Rattle.machine_model.proofs.Words.{Phase, Free, Check, Lock, Guess, Find, Cut, Acks, Unlock, Answer, Try, Settle, Want, Fill, CopyPost, CopyAcks, Install}
-use Rattle.machine_model.proofs.Words.{Release, World, AwaitsNobody, is_private, shows_some, prot_shown, prot_installed, awaits_in, is_open, page_of_touch}
+use Rattle.machine_model.proofs.Words.{World, AwaitsNobody, is_private, shows_some, prot_shown, prot_installed, awaits_in, is_open, page_of_touch}
 use Rattle.machine_model.proofs.Words.{range_held, some_has, taken_in, translated_by, frame_reached, sound_pages}
+use Rattle.machine_model.specs.declared.phase.Phase.{Phase}
+use Rattle.machine_model.specs.declared.phase.Phase.TheVariants.{Free, Check, Lock, Guess, Find, Cut, Acks, Unlock, Answer, Try, Settle, Want, Fill, CopyPost, CopyAcks, Install, Release}
 use Rattle.std.proofs.Common.{is_some, ◌&&◌, nat_lt}
 use Rattle.std.proofs.lemmas.Bool.{or_left}
 use Rattle.vm_base.specs.declared.rights.Access.TheVariants.{Load, Store, Fetch}

@@ -1,8 +1,12 @@
 -- Rows of the model that turn on one test
 use Rattle.machine_model.proofs.Words.{◌≡◌, ℕ, Bool, true, false, not, List, [], ◌∷◌, Option, None, Some, cond, refl, sym, ap, subst, add-one, if◌then◌else◌}
-use Rattle.machine_model.proofs.Words.{put, Touch, Translation, TlbEntry, tlb_walked, tlb_at, Message, asked, remaining, Event, Outcome, Idle, Acts}
-use Rattle.machine_model.proofs.Words.{with_event, Release, World, Hardware, PageInfo, with_info, after_install, info_with_core, to, after_walk, can_walk}
+use Rattle.machine_model.proofs.Words.{put, Touch, Translation, TlbEntry, tlb_walked, tlb_at, Message, asked, remaining, Acts}
+use Rattle.machine_model.proofs.Words.{with_event, World, Hardware, PageInfo, with_info, after_install, info_with_core, to, after_walk, can_walk}
 use Rattle.machine_model.proofs.Words.{with_inbox, with_table, entry_of_page}
+use Rattle.machine_model.specs.declared.event.Event.{Event}
+use Rattle.machine_model.specs.declared.event.Outcome.{Outcome}
+use Rattle.machine_model.specs.declared.event.Outcome.TheVariants.{Idle}
+use Rattle.machine_model.specs.declared.phase.Phase.TheVariants.{Release}
 use Rattle.std.proofs.Common.{◌&&◌}
 use Rattle.std.proofs.Common.{is_some}
 use Rattle.std.proofs.lemmas.Bool.{and_right}

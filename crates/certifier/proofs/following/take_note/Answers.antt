@@ -1,4 +1,5 @@
-use Rattle.machine_model.proofs.Words.{rules, refl, subst, Outcome}
+use Rattle.machine_model.proofs.Words.{rules, refl, subst}
+use Rattle.machine_model.specs.declared.event.Outcome.{Outcome}
 use Rattle.core_steps.specs.Machine.{state}
 use Rattle.certifier.specs.Following.{Leads}
 use Rattle.certifier.proofs.following.take_note.Goals as goal

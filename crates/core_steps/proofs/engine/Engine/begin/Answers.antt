@@ -1,4 +1,5 @@
-use Rattle.machine_model.proofs.Words.{inl, refl, Call}
+use Rattle.machine_model.proofs.Words.{inl, refl}
+use Rattle.machine_model.specs.declared.event.Event.TheVariants.{Call}
 use Rattle.core_steps.specs.State.{world}
 use Rattle.core_steps.proofs.at_once.AtOnce.{not_begun}
 use Rattle.core_steps.proofs.Reached.{well, kept_by}

@@ -1,4 +1,5 @@
-use Rattle.machine_model.proofs.Words.{refl, ap, ◌∙◌, Install, to}
+use Rattle.machine_model.proofs.Words.{refl, ap, ◌∙◌, to}
+use Rattle.machine_model.specs.declared.phase.Phase.TheVariants.{Install}
 use Rattle.core_steps.specs.State.{world}
 use Rattle.core_steps.proofs.rows.Framing.{cached_anew, fill_within, filled_bytes}
 use Rattle.core_steps.proofs.engine.Engine.cache.Goals as goal

@@ -1,4 +1,5 @@
-use Rattle.machine_model.proofs.Words.{◌≡◌, sym, ap, ◌∙◌, rules, Check, Free, to}
+use Rattle.machine_model.proofs.Words.{◌≡◌, sym, ap, ◌∙◌, rules, to}
+use Rattle.machine_model.specs.declared.phase.Phase.TheVariants.{Check, Free}
 use Rattle.core_steps.specs.State.{phase_at}
 use Rattle.core_steps.proofs.events.Calling.{begun}
 use Rattle.core_steps.proofs.engine.Engine.call.Goals as goal

@@ -1,4 +1,6 @@
-use Rattle.machine_model.proofs.Words.{refl, sym, subst, ap, inr, ◌∙◌, Stepped, after_first_copy, Install, to}
+use Rattle.machine_model.proofs.Words.{refl, sym, subst, ap, inr, ◌∙◌, after_first_copy, to}
+use Rattle.machine_model.specs.declared.event.Outcome.TheVariants.{Stepped}
+use Rattle.machine_model.specs.declared.phase.Phase.TheVariants.{Install}
 use Rattle.machine_model.specs.Filling.{FillsOwn}
 use Rattle.core_steps.specs.State.{world}
 use Rattle.core_steps.proofs.rows.Framing.{cached_below, fill_within, first_copied, filled_bytes}

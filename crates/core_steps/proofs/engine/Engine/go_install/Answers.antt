@@ -1,4 +1,5 @@
-use Rattle.machine_model.proofs.Words.{refl, sym, ap, ◌∙◌, Release, to}
+use Rattle.machine_model.proofs.Words.{refl, sym, ap, ◌∙◌, to}
+use Rattle.machine_model.specs.declared.phase.Phase.TheVariants.{Release}
 use Rattle.core_steps.specs.State.{world}
 use Rattle.core_steps.proofs.rows.Rows.{installed}
 use Rattle.core_steps.proofs.rows.Known.{install_right}

@@ -1,4 +1,5 @@
-use Rattle.machine_model.proofs.Words.{◌∙◌, ap, refl, Lock}
+use Rattle.machine_model.proofs.Words.{◌∙◌, ap, refl}
+use Rattle.machine_model.specs.declared.phase.Phase.TheVariants.{Lock}
 use Rattle.slot_lock.specs.declared.plan.Goal.TheVariants as To
 use Rattle.core_steps.proofs.rows.Known.{only_page}
 use Rattle.core_steps.proofs.engine.Engine.lock_at_once.Goals as goal

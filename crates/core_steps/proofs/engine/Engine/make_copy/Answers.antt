@@ -1,4 +1,5 @@
-use Rattle.machine_model.proofs.Words.{refl, ap, ◌∙◌, frame_of, Install, to}
+use Rattle.machine_model.proofs.Words.{refl, ap, ◌∙◌, frame_of, to}
+use Rattle.machine_model.specs.declared.phase.Phase.TheVariants.{Install}
 use Rattle.core_steps.specs.State.{world}
 use Rattle.core_steps.proofs.rows.Framing.{copied_page, page_frame_used}
 use Rattle.core_steps.proofs.engine.Engine.make_copy.Goals as goal

@@ -1,4 +1,5 @@
-use Rattle.machine_model.proofs.Words.{inr, IfOk-weaker, on_err_weaker, Stepped}
+use Rattle.machine_model.proofs.Words.{inr, IfOk-weaker, on_err_weaker}
+use Rattle.machine_model.specs.declared.event.Outcome.TheVariants.{Stepped}
 use Rattle.core_steps.proofs.Reached.{legal}
 use Rattle.core_steps.proofs.machine.Machine.call.Goals as goal
 

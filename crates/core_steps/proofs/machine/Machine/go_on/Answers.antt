@@ -1,4 +1,5 @@
-use Rattle.machine_model.proofs.Words.{◌≡◌, ◌<◌, ◌+◌, ◌^◌, arith, rules, subst, sym, Stepped}
+use Rattle.machine_model.proofs.Words.{◌≡◌, ◌<◌, ◌+◌, ◌^◌, arith, rules, subst, sym}
+use Rattle.machine_model.specs.declared.event.Outcome.TheVariants.{Stepped}
 use Rattle.std.specs.Prelude.{◌≢◌}
 use Rattle.core_steps.proofs.Reached.{legal, refused_at, steps_end, steps_join, steps_more}
 use Rattle.core_steps.proofs.at_once.Divided.{as_map_join, as_map_more, none_divided}

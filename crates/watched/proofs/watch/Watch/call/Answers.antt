@@ -1,4 +1,5 @@
-use Rattle.machine_model.proofs.Words.{◌≡◌, rules, IfOk-weaker, on_err_weaker, Stepped}
+use Rattle.machine_model.proofs.Words.{◌≡◌, rules, IfOk-weaker, on_err_weaker}
+use Rattle.machine_model.specs.declared.event.Outcome.TheVariants.{Stepped}
 use Rattle.std.specs.Prelude.{◌≢◌}
 use Rattle.core_steps.specs.Machine.{state}
 use Rattle.watched.proofs.Watched.{call_finished, call_not_begun, call_refused, call_watched, call_watched_end, call_watched_part}

@@ -1,4 +1,5 @@
-use Rattle.machine_model.proofs.Words.{◌≡◌, ◌^◌, arith, refl, rules, Stepped}
+use Rattle.machine_model.proofs.Words.{◌≡◌, ◌^◌, arith, refl, rules}
+use Rattle.machine_model.specs.declared.event.Outcome.TheVariants.{Stepped}
 use Rattle.std.specs.Prelude.{◌≢◌}
 use Rattle.core_steps.proofs.Reached.{refused_at, steps_end, steps_more}
 use Rattle.watched.proofs.Watched.{steps_watched_end, steps_watched_more, steps_watched_part, steps_watched_stuck}
