@@ -30,6 +30,7 @@ use Rattle.mmu.proofs.tlb.Tlb.TheSendSync as mmu_tlb
 use Rattle.mmu.proofs.tlb.TlbEntry.TheSendSync as mmu_tlbentry
 use Rattle.radix_node.proofs.state.Kind.TheSendSync as radix_node_kind
 use Rattle.radix_node.proofs.state.SlotState.TheSendSync as radix_node_slotstate
+use Rattle.radix_range.proofs.tight.Tight.TheSendSync as radix_range_tight
 use Rattle.refcache.proofs.core_counts.CoreCounts.TheSendSync as refcache_corecounts
 use Rattle.refcache.proofs.epochs.Epochs.TheSendSync as refcache_epochs
 use Rattle.refcache.proofs.object_count.ObjectCount.TheSendSync as refcache_objectcount
@@ -160,6 +161,10 @@ ruleset parts = (
   radix_node_slotstate.the_field_sync,
   radix_node_slotstate.the_send,
   radix_node_slotstate.the_sync,
+  radix_range_tight.the_field_send,
+  radix_range_tight.the_field_sync,
+  radix_range_tight.the_send,
+  radix_range_tight.the_sync,
   refcache_corecounts.the_send,
   refcache_corecounts.the_sync,
   refcache_epochs.the_send,
