@@ -14,8 +14,8 @@ use vm_base::{CoreSet, NoMemory, PageRange};
 /// What a search comes to. That it is right isn't claimed.
 #[derive(Debug, Drop)]
 pub enum Found<A: Allocator> {
-    /// An order of the calls: each of them once, and copies before them. The open calls of these cores, which stand last, don't have
-    /// their replies in it, but found no memory.
+    /// An order of the calls: each of them once, and copies before them. The open calls of these cores, which stand
+    /// last, don't have their replies in it, but found no memory.
     Order(Vec<Item, A>, CoreSet),
     /// No order of the calls so far gets to the end of this one.
     Stuck(usize),
@@ -47,7 +47,8 @@ pub struct Wholes<A: Allocator> {
     pub count: usize,
 }
 
-// The parts of calls: the number of the first one of each call, and how many there are. Where no number is given each call is one part.
+// The parts of calls: the number of the first one of each call, and how many there are. Where no number is given each
+// call is one part.
 #[derive(Clone, Copy, Debug)]
 struct Parts<'p> {
     firsts: &'p [usize],
@@ -69,7 +70,8 @@ const MOST_STUCK: usize = 64;
 /// So many calls that change pages are kept at least, before those are left out that all calls under way began after.
 const FEW_RECENT: usize = 64;
 
-// The state of a search between two begins or ends. Where accesses may lag, the calls are kept that have changed pages of late.
+// The state of a search between two begins or ends. Where accesses may lag, the calls are kept that have changed pages
+// of late.
 #[derive(Drop)]
 struct Search<'a, A: Allocator> {
     objects: &'a Objects<A>,
@@ -239,7 +241,8 @@ impl<'a, A: Allocator + Clone + Drop> Search<'a, A> {
         Ok(())
     }
 
-    // Passes over a call that none of the configurations reaches, if it is an access that may lag: then it changes nothing in any of them.
+    // Passes over a call that none of the configurations reaches, if it is an access that may lag: then it changes
+    // nothing in any of them.
     fn pass_over(&mut self, under: &Under) -> Result<bool, NoMemory> {
         let Ok(Plan::Touch(touch)) = under.plan else {
             return Ok(false);
@@ -260,8 +263,8 @@ impl<'a, A: Allocator + Clone + Drop> Search<'a, A> {
         Ok(true)
     }
 
-    // Passes over a call that none of the configurations reaches, if it may lag, or if the search goes on behind it: what follows is no order
-    // then, but other such calls may show up.
+    // Passes over a call that none of the configurations reaches, if it may lag, or if the search goes on behind it:
+    // what follows is no order then, but other such calls may show up.
     fn pass_by(&mut self, under: &Under) -> Result<bool, NoMemory> {
         if under.may_lag && self.pass_over(under)? {
             return Ok(true);
@@ -307,7 +310,8 @@ impl<'a, A: Allocator + Clone + Drop> Search<'a, A> {
         }
     }
 
-    // The place of the call under way that ends first, if it ends before this time, or if none is given. Open calls don't end.
+    // The place of the call under way that ends first, if it ends before this time, or if none is given. Open calls
+    // don't end.
     fn first_end(&self, time: Option<u64>) -> Option<usize> {
         let mut first = None;
         let mut end = u64::MAX;
@@ -400,7 +404,8 @@ impl<'a, A: Allocator + Clone + Drop> Search<'a, A> {
         cores
     }
 
-    // The order of the first configuration, and the cores whose open calls haven't taken effect in it: these stand last.
+    // The order of the first configuration, and the cores whose open calls haven't taken effect in it: these stand
+    // last.
     fn into_order(self, alloc: &A) -> Result<(Vec<Item, A>, CoreSet), NoMemory> {
         let Some(config) = self.configs.get(0).copied() else {
             return Ok((Vec::new(alloc.clone()?), CoreSet::empty()));
@@ -477,9 +482,10 @@ fn find_some<A: Allocator + Clone + Drop>(
     found_by(alloc, history.len(), search.into_order(alloc)?)
 }
 
-/// Searches an order of the calls of a space with these files, from the map on in which nothing is mapped. The first calls, so many, have
-/// their replies; of the others, which are open and of different cores, each may take effect with its reply, or find no memory. The items
-/// that it answers have each call once; whether they are an order is the caller's to judge. `Err` says that memory was wanting.
+/// Searches an order of the calls of a space with these files, from the map on in which nothing is mapped. The first
+/// calls, so many, have their replies; of the others, which are open and of different cores, each may take effect with
+/// its reply, or find no memory. The items that it answers have each call once; whether they are an order is the
+/// caller's to judge. `Err` says that memory was wanting.
 #[tactic(auto, using(crate::proofs::NoCalls::none_found))]
 pub fn find_order<A: Allocator + Clone + Drop>(
     alloc: &A,
@@ -496,8 +502,8 @@ pub fn find_order<A: Allocator + Clone + Drop>(
     find_some(alloc, objects, any_place, history, answered, &[])
 }
 
-/// The same where all calls have their replies, but some may be lost: such a call may as well have changed nothing. Where it did, an item
-/// `Copy` of it stands right before its reply. Calls of one core may overlap.
+/// The same where all calls have their replies, but some may be lost: such a call may as well have changed nothing.
+/// Where it did, an item `Copy` of it stands right before its reply. Calls of one core may overlap.
 #[tactic(auto, using(crate::proofs::NoCalls::none_found))]
 pub fn find_choice<A: Allocator + Clone + Drop>(
     alloc: &A,
@@ -514,9 +520,9 @@ pub fn find_choice<A: Allocator + Clone + Drop>(
     find_some(alloc, objects, any_place, history, history.len(), unsure)
 }
 
-/// Searches as `find_choice` does, where accesses may lag: one that no order so far gets to the end of is passed over, as though it changed
-/// nothing, if a call that changes its page hadn't ended when it began. It stands among the items, and `lags` tells it, once for each such
-/// call.
+/// Searches as `find_choice` does, where accesses may lag: one that no order so far gets to the end of is passed over,
+/// as though it changed nothing, if a call that changes its page hadn't ended when it began. It stands among the items,
+/// and `lags` tells it, once for each such call.
 #[tactic(auto, using(crate::proofs::NoCalls::none_found))]
 pub fn find_lagging<A: Allocator + Clone + Drop>(
     alloc: &A,
@@ -543,10 +549,11 @@ pub fn find_lagging<A: Allocator + Clone + Drop>(
     found_by(alloc, count, search.into_order(alloc)?)
 }
 
-/// Searches as `find_choice` does, where each call takes effect as a whole, as though its parts did one behind another. An `mprotect` that
-/// met a page that isn't mapped may have changed all pages in front of it: each part behind its first has an item `Copy` where it is lost.
-/// The numbers of the items are those of the parts. Some accesses may lag, as for `find_lagging`. Where no order is found, `stuck` tells
-/// the first parts that none gets to, as though those before were passed over.
+/// Searches as `find_choice` does, where each call takes effect as a whole, as though its parts did one behind another.
+/// An `mprotect` that met a page that isn't mapped may have changed all pages in front of it: each part behind its
+/// first has an item `Copy` where it is lost. The numbers of the items are those of the parts. Some accesses may lag,
+/// as for `find_lagging`. Where no order is found, `stuck` tells the first parts that none gets to, as though those
+/// before were passed over.
 #[tactic(auto, using(crate::proofs::NoCalls::none_found))]
 pub fn find_whole<'w, A: Allocator + Clone + Drop>(
     alloc: &A,

@@ -1,5 +1,6 @@
-//! Searches in which calls take effect as wholes. Most kernels let the pages of a call change nearly at one moment, so an order in which they do
-//! is searched first. Calls are divided into their parts only around the places where none is found.
+//! Searches in which calls take effect as wholes. Most kernels let the pages of a call change nearly at one moment, so
+//! an order in which they do is searched first. Calls are divided into their parts only around the places where none is
+//! found.
 ghost use Rattle.std.specs.Prelude.{◌≡◌, IfOk, IfSome, length};
 ghost use Rattle.orders.specs.Orders.{EachOnce};
 
@@ -23,8 +24,8 @@ const WIDTHS: u8 = 6;
 /// Where calls were divided so far before an access, and none is found, the access may lag.
 const NEAR: u64 = 72;
 
-// Which calls are divided into their parts, by their places in the history; which parts may lag; and the parts where the last search was stuck,
-// with how far around each the calls are divided.
+// Which calls are divided into their parts, by their places in the history; which parts may lag; and the parts where
+// the last search was stuck, with how far around each the calls are divided.
 #[derive(Drop)]
 struct Divided<A: Allocator> {
     calls: Vec<bool, A>,
@@ -57,7 +58,8 @@ fn lengthened(request: Request, count: u64) -> Request {
     }
 }
 
-// The call of which so many parts are, the first of which is this one. The first part of one that was refused is the call itself.
+// The call of which so many parts are, the first of which is this one. The first part of one that was refused is the
+// call itself.
 fn whole_of(part: &Part, count: usize) -> Timed {
     let mut timed = part.timed;
     if count > 1 && !matches!(timed.call.reply, Reply::Refused(_)) {
@@ -146,8 +148,8 @@ impl<A: Allocator + Clone + Drop> Divided<A> {
         }
     }
 
-    // Takes the parts in where a search was stuck, each farther around than before, and tells whether one of them may newly lag: that is
-    // where calls were divided around it already, and it was stuck there again.
+    // Takes the parts in where a search was stuck, each farther around than before, and tells whether one of them may
+    // newly lag: that is where calls were divided around it already, and it was stuck there again.
     fn widen(&mut self, alloc: &A, stuck: &[usize], may_lag: bool) -> Result<bool, NoMemory> {
         let mut around = Vec::with_capacity(alloc.clone()?, stuck.len())?;
         let mut is_new = false;
@@ -204,8 +206,8 @@ impl<A: Allocator + Clone + Drop> Divided<A> {
         is_new
     }
 
-    // Divides the calls around the parts where a search was stuck, farther than before where it was stuck there before; or lets these lag. It
-    // tells whether one of the calls wasn't divided, or one of the parts didn't lag.
+    // Divides the calls around the parts where a search was stuck, farther than before where it was stuck there before;
+    // or lets these lag. It tells whether one of the calls wasn't divided, or one of the parts didn't lag.
     fn divide_near(
         &mut self,
         alloc: &A,
@@ -272,9 +274,10 @@ fn wholes_of<A: Allocator + Clone + Drop>(
     })
 }
 
-/// Searches an order in which the pages of each call change at one moment, if some call has several parts, and divides the calls around the
-/// places where none is found. Where that isn't enough accesses may lag, if that is wanted; `lags` tells which do. The items that it answers have
-/// each part once; whether they are an order is the caller's to judge. `Err` says that memory was wanting.
+/// Searches an order in which the pages of each call change at one moment, if some call has several parts, and divides
+/// the calls around the places where none is found. Where that isn't enough accesses may lag, if that is wanted; `lags`
+/// tells which do. The items that it answers have each part once; whether they are an order is the caller's to judge.
+/// `Err` says that memory was wanting.
 pub fn search_whole<A: Allocator + Clone + Drop>(
     alloc: &A,
     objects: &Objects<A>,
