@@ -2,5 +2,6 @@
 pub mod AtOnce
 pub mod FaultAtOnce
 pub mod ChangeAtOnce
+pub mod RangeAtOnce
 pub mod FirstEvents
 pub mod Divided

@@ -11,6 +11,7 @@ pub mod Finishing
 pub mod AtOnce
 pub mod OnePage
 pub mod PageChange
+pub mod RangeChange
 pub mod Running
 pub mod MapLines
 pub mod Changing

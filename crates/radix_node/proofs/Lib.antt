@@ -6,6 +6,7 @@ pub mod Folds
 pub mod Locks
 pub mod OwnedRuns
 pub mod Walks
+pub mod Surveys
 pub mod Listing
 pub mod Edits
 pub mod OnePage

@@ -6,4 +6,5 @@ pub mod OwnedRuns
 pub mod Slots
 pub mod SlotsFall
 pub mod Walk
+pub mod Survey
 pub mod Edit

@@ -8,6 +8,7 @@ pub mod node;
 pub mod own_run;
 pub mod place;
 pub mod state;
+pub mod survey;
 pub mod walk;
 
 pub use edit::Edit;

@@ -4,6 +4,7 @@ ghost use Rattle.std.specs.Prelude.{false};
 ghost use Rattle.vm_base.specs.Cores.{members};
 ghost use Rattle.vm_base.specs.Info.{file_page, info_file_page, info_from, info_with_prot};
 ghost use Rattle.vm_base.specs.Info.{is_leaf, frame_of, is_recorded};
+ghost use Rattle.slot_lock.specs.Surveys.{is_shared};
 ghost use Rattle.radix_node.specs.Edit.{CanEdit, edited};
 ghost use Rattle.radix_node.specs.State.{backing_of, frame_in, state_of, state_from, IsPlain};
 
@@ -223,6 +224,13 @@ impl SlotState {
         } else {
             None
         }
+    }
+
+    /// Tells whether the slot's pages are shared ones of a file.
+    pub fn is_shared(&self) -> bool
+        ensures { result ≡ is_shared (state_of self.now).info }
+    {
+        matches!(self.kind, Kind::OfFile)
     }
 
     /// Tells whether a page of the slot is mapped.

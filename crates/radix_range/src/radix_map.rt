@@ -8,7 +8,7 @@ use crate::slot::slot_at;
 use crate::tight::Tights;
 use crate::{change, full, tight, walk};
 use radix_node::{Handover, Lock, Node};
-use slot_lock::{Change, Fit, FramedPages, FreePage, Got, SlotMap, SlotRead, SlotRun};
+use slot_lock::{Change, Fit, FramedPages, FreePage, Got, SlotMap, SlotRead, SlotRun, Survey};
 use std::alloc::Allocator;
 use std::cell::Cell;
 use vm_base::info::info_from;
@@ -127,6 +127,10 @@ impl<A: Allocator + Clone> SlotMap for RadixMap<A> {
         })
     }
 
+    fn survey(&self, core: CoreId, range: PageRange) -> Option<Survey> {
+        walk::survey(&self.root, core, range)
+    }
+
     fn lock_next(&mut self, core: CoreId, cursor: u64, end: u64) -> Result<Got, NoMemory> {
         match change::lock(&mut self.root, core, cursor, end) {
             Lock::Held(owner) => Ok(Got::Held(owner)),
@@ -191,6 +195,11 @@ impl<A: Allocator + Clone> SlotMap for RadixMap<A> {
         self.full = full::with_change(self.full, change);
         let sought = self.sought.get();
         tight::note_change(&mut self.tights, &self.root, self.full, sought, change);
+    }
+
+    fn change_unheld(&mut self, change: Change) {
+        change::change(&mut self.root, change);
+        self.full = full::with_change(self.full, change);
     }
 
     fn set_leaf(&mut self, core: CoreId, page: u64, info: PageInfo) {

@@ -6,13 +6,15 @@ ghost use Rattle.vm_base.specs.Pages.{IsPageRange};
 ghost use Rattle.arrayvec.specs.ArrayVec.{array_vec_len};
 ghost use Rattle.slot_lock.specs.Framed.{AddsFrames, frames_in};
 ghost use Rattle.slot_lock.specs.Slots.{IsFreeRun, IsUser};
+ghost use Rattle.slot_lock.specs.Surveys.{AreFree};
 ghost use Rattle.radix_range.specs.Tree.{IsRadix, tree_slots};
 ghost use Rattle.radix_range.specs.Mapped.{IsMappedRun};
 
+use crate::slot::slot_at;
 use radix_node::{FreeRun, Node};
-use slot_lock::FramedPages;
+use slot_lock::{FramedPages, Survey};
 use std::alloc::Allocator;
-use vm_base::{CoreSet, PageRange};
+use vm_base::{CoreId, CoreSet, PageRange};
 
 // The least start of `n` unmapped pages in the range, if there is one. There may be no pages in it.
 fn free_run<A: Allocator>(root: &Node<A>, range: PageRange, n: u64) -> Option<u64>
@@ -76,6 +78,23 @@ pub(crate) fn recorded<A: Allocator>(root: &Node<A>, range: PageRange) -> CoreSe
     ensures { (core : ℕ) → (members result core ≡ true) ↔ IsUser (tree_slots root.now) range core }
 {
     root.recorded(range.first, range.end)
+}
+
+/// What the slots of the range have together, where nobody holds them, and none crosses an edge of
+/// it. It tells nothing where another core than this is recorded on some page.
+pub(crate) fn survey<A: Allocator>(root: &Node<A>, core: CoreId, range: PageRange) -> Option<Survey>
+    requires tree { IsRadix root.now }
+    requires range { IsPageRange range }
+    ensures { IfSome result (AreFree (tree_slots root.now) range) }
+{
+    if slot_at(root, range.first).first < range.first {
+        return None;
+    }
+    if slot_at(root, range.end).first < range.end {
+        return None;
+    }
+    let found = root.survey(range.first, range.end, core)?;
+    Some(found)
 }
 
 /// Adds the pages from `from` up to `end` that have a frame, and their frames, to the list, in

@@ -11,6 +11,8 @@ pub mod Walks
 pub mod Defaults
 pub mod Listing
 pub mod EdgeCounts
+pub mod Surveys
+pub mod Ranges
 pub mod SlotLaws
 pub mod Divisions
 pub mod Adding

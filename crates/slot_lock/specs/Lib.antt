@@ -9,5 +9,6 @@ pub mod SlotList
 pub mod ListedSlots
 pub mod Adding
 pub mod Edges
+pub mod Surveys
 pub mod MapList
 pub mod MapWalks

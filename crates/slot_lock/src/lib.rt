@@ -12,6 +12,7 @@ pub mod plan;
 pub mod slot;
 pub mod slot_list;
 pub mod slot_map;
+pub mod survey;
 pub mod walk;
 
 pub use acquire::Acquire;
@@ -21,3 +22,4 @@ pub use map_list::{MapLine, all_lines, next_line};
 pub use plan::{Change, Goal, Place, Plan, Target, Touch};
 pub use slot_list::SlotList;
 pub use slot_map::{Fit, FreePage, Got, SlotMap, SlotRead, SlotRun};
+pub use survey::Survey;

@@ -208,6 +208,10 @@ impl<A: Allocator> SlotMap for SlotList<A> {
         slot::change(&mut self.slots, change);
     }
 
+    fn change_unheld(&mut self, change: Change) {
+        slot::change(&mut self.slots, change);
+    }
+
     fn set_leaf(&mut self, core: CoreId, page: u64, info: PageInfo) {
         let i = slot::place(&self.slots, page);
         slot::set_info(&mut self.slots, i, info);

@@ -9,19 +9,22 @@ ghost use Rattle.vm_base.specs.declared.page.PageRange.{PageRange};
 ghost use Rattle.vm_base.specs.Functions.{has};
 ghost use Rattle.vm_base.specs.Cores.{members};
 ghost use Rattle.vm_base.specs.Pages.{IsPage, IsPageRange};
+ghost use Rattle.vm_base.specs.Runs.{NoneIn};
 ghost use Rattle.slot_lock.specs.Plan.{FitsFile, IsSoundChange, range_of};
 ghost use Rattle.arrayvec.specs.ArrayVec.{array_vec_len};
 ghost use Rattle.slot_lock.specs.Framed.{AddsFrames, frames_in};
 ghost use Rattle.slot_lock.specs.Changes.{changed, IsMappedFor};
 ghost use Rattle.slot_lock.specs.Slots.{Slots, IsSlot, IsSlotBy, IsSlotMap, IsFreePage, IsFreeSlot};
-ghost use Rattle.slot_lock.specs.Slots.{IsHeld, IsCrossed, OwnsAll, Steps, Crosses, CutSteps, Unlocks};
+ghost use Rattle.slot_lock.specs.Slots.{IsCut, IsHeld, IsCrossed, OwnsAll, Steps, Crosses, CutSteps, Unlocks};
 ghost use Rattle.slot_lock.specs.Slots.{Joins, HasMeta, IsFreeRun, LosesFrame, NoFrames, IsUser};
 ghost use Rattle.slot_lock.specs.Slots.{AllMapped, DividesAs, IfSplit, IfCut, between, crossed_edge};
 ghost use Rattle.slot_lock.specs.Slots.{cleared, mapped, protected, with_info};
 ghost use Rattle.slot_lock.specs.SlotRuns.{LocksRun, UnlocksRun};
+ghost use Rattle.slot_lock.specs.Surveys.{AreFree};
 
 use crate::framed::FramedPages;
 use crate::plan::Change;
+use crate::survey::Survey;
 use vm_base::{CoreId, CoreSet, Meta, NoMemory, PageInfo, PageRange, Prot};
 
 /// What one step of an acquisition did.
@@ -126,6 +129,16 @@ pub trait SlotMap: SlotRead {
         requires { IsPage page }
         ensures some { IfSome result (IsFreePage (Self.slots self.now) page) }
         ensures none { IfNone result (¬ IsFreeSlot (Self.slots self.now) page) };
+
+    /// What the slots of the range have together, where nobody holds them, and none crosses an edge
+    /// of it: then they can be changed without being locked, as long as no other core can act in
+    /// between. A map may tell nothing, as where a page has another recorded core than this.
+    fn survey(&self, core: CoreId, range: PageRange) -> Option<Survey>
+        requires { IsPageRange range }
+        ensures { IfSome result (AreFree (Self.slots self.now) range) }
+    {
+        None
+    }
 
     /// One step of the core towards holding the pages from the cursor up to the end: the cursor's
     /// slot is another core's, or is divided where it crosses the first edge of them that it
@@ -249,6 +262,14 @@ pub trait SlotMap: SlotRead {
         requires sound { IsSoundChange change }
         requires one { (range_of change).end ≡ (range_of change).first + 1 }
         requires free { IsFreeSlot (Self.slots self.old) (range_of change).first }
+        requires mapped { IsMappedFor (Self.slots self.old) change }
+        ensures { Self.slots self.new ≡ changed (Self.slots self.old) change };
+
+    /// Makes a change of pages that nobody holds, where no slot crosses an edge of them.
+    fn change_unheld(&mut self, change: Change)
+        requires sound { IsSoundChange change }
+        requires cut { IsCut (Self.slots self.old) (range_of change) }
+        requires free { NoneIn (Self.slots self.old).owner (range_of change).first (range_of change).end }
         requires mapped { IsMappedFor (Self.slots self.old) change }
         ensures { Self.slots self.new ≡ changed (Self.slots self.old) change };
 

@@ -3,6 +3,7 @@ pub mod Rooms
 mod Steps
 mod Absent
 mod OnePage
+mod Surveyed
 pub mod Targets
 pub mod Readable
 pub mod Passed

@@ -5,14 +5,15 @@ ghost use Rattle.vm_base.specs.Pages.{IsPageRange};
 ghost use Rattle.vm_base.specs.Apply.{HasPage, is_read_only};
 ghost use Rattle.slot_lock.specs.declared.plan.Goal.TheVariants as GoalOf;
 ghost use Rattle.slot_lock.specs.Plan.{IsSoundGoal, IsSoundPlace, goal_range, range_of, target_range};
+ghost use Rattle.slot_lock.specs.Surveys.{IsSurvey};
 ghost use Rattle.backing.specs.Files.{files_of};
 ghost use Rattle.vm_calls.specs.declared.decision.Decision.TheVariants as DecisionOf;
-ghost use Rattle.vm_calls.specs.Decisions.{Decides, DecidesPage, DecidesRun, DecidesWindow};
+ghost use Rattle.vm_calls.specs.Decisions.{Decides, DecidesChange, DecidesPage, DecidesRun, DecidesWindow};
 ghost use Rattle.vm_calls.specs.Decisions.{DecidesPlace, DecidesProtect, IsReadable, IsNoAccess};
 ghost use Rattle.vm_calls.specs.Decisions.{ActsOn, IsSoundAct, entries, entry_of};
 
 use backing::Objects;
-use slot_lock::{Change, Goal, Place, SlotRead, Target};
+use slot_lock::{Change, Goal, Place, SlotRead, Survey, Target};
 use std::alloc::Allocator;
 use vm_base::info::recorded_cores;
 use vm_base::{Back, CoreSet, Errno, PageInfo, PageRange, Prot};
@@ -198,4 +199,32 @@ pub fn decide_page<A: Allocator>(
         }
     }
     Ok(recorded_cores(&info))
+}
+
+/// What `decide` decides of a change, where this is what the slots of its range have together: it is
+/// made, and these cores are recorded on its pages, or it is refused.
+pub fn decide_surveyed<M: SlotRead, A: Allocator>(
+    map: &M,
+    objects: &Objects<A>,
+    change: Change,
+    found: Survey,
+) -> Result<CoreSet, Errno>
+    requires readable { IsReadable (λ p. M.reads map.now p) (M.slots map.now) (range_of change) }
+    requires survey { IsSurvey (M.slots map.now) (range_of change) found }
+    ensures made { IfOk result (λ shoot. DecidesChange (files_of objects.now) (M.slots map.now) change
+        (DecisionOf.Act (range_of change) shoot)) }
+    ensures refused { IfErr result (λ errno. DecidesChange (files_of objects.now) (M.slots map.now) change
+        (DecisionOf.Refuse errno)) }
+{
+    if let Change::Protect { range, prot } = change {
+        if found.gap {
+            return Err(Errno::ENOMEM);
+        }
+        if prot.write && found.shared {
+            if has_read_only(map, objects, range) {
+                return Err(Errno::EACCES);
+            }
+        }
+    }
+    Ok(found.cores)
 }

@@ -8,5 +8,5 @@ pub mod fault;
 pub mod laws;
 
 pub use arguments::check;
-pub use decision::{Decision, decide, decide_page};
+pub use decision::{Decision, decide, decide_page, decide_surveyed};
 pub use fault::{Settled, settle};

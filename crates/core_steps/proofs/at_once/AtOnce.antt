@@ -101,7 +101,7 @@ not_begun o w m c request n s = (o, m, s, (refl, refl))
 -- ---- slots one after another
 
 -- n events later, with these slots
-abbrev passed : Slots → ℕ → World → World
+abbrev pub passed : Slots → ℕ → World → World
 passed t n w = later n (record w { slots = t })
 
 -- slots up to an end are changed one after another: at each page before it the call is in a phase in which such a change is a plain step
@@ -109,7 +109,7 @@ module _ (w : World) (c end : ℕ) (at before : ℕ → Phase) (on : (a : ℕ) �
     (each : (s t : Slots) (a b : ℕ) → changes s t a b → (a < b) × (b ≤ end) × (t.edge ≡ s.edge))
     (one : (v : World) (t : Slots) (a b : ℕ) → changes v.slots t a b → Goes v c (before a) Stepped (to c (at b) (record v { slots = t })))
     (here : c < w.made.cores) (first : ℕ) where
-  steps : (n : ℕ) (t : Slots) (upto : ℕ) → w.calls.events + n ≤ event_limit → OneByOne changes w.slots t first n upto
+  pub steps : (n : ℕ) (t : Slots) (upto : ℕ) → w.calls.events + n ≤ event_limit → OneByOne changes w.slots t first n upto
       → StepsTo (to c (at first) w) c n (to c (at upto) (passed t n w))
   steps zero t upto room (same, start) =
       ap (λ x. to c (at x) (passed t 0 w)) start ∙ (ap (λ s. to c (at first) (passed s 0 w)) same ∙ none_yet w c (at first))
@@ -153,7 +153,7 @@ locks w v c goal cursor n t upto most phase i =
     cursor v n t upto most phase i.phase (is_left w c goal cursor i)
 
 -- before the end of what is held the call unlocks on
-unlocks_on : (held : PageRange) (reply : Reply) (a : ℕ) → a < held.end → let_go (held_after held a) reply ≡ Unlock (between a held.end) reply
+pub unlocks_on : (held : PageRange) (reply : Reply) (a : ℕ) → a < held.end → let_go (held_after held a) reply ≡ Unlock (between a held.end) reply
 unlocks_on held reply a h =
     let more : (a == held.end) ≡ false = grind (arith, nat_tests, h) in ap (λ b. let_go (if b then None else Some (between a held.end)) reply) more
 
@@ -176,7 +176,7 @@ abbrev pub holding : ℕ → PageRange → World → World
 holding c r w = record w { slots = held w.slots c r }
 
 -- what pages have may have changed since
-abbrev having : Slots → (ℕ → Option PageInfo) → World → World
+abbrev pub having : Slots → (ℕ → Option PageInfo) → World → World
 having s info x = record x { slots = record s { info = info } }
 
 module _ (s : Slots) (r : PageRange) (one : r.end ≡ r.first + 1) (alone : IsFreeSlot s r.first) where

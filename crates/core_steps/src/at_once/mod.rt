@@ -5,5 +5,6 @@
 pub mod access;
 pub mod change;
 pub mod fault;
+pub mod range;
 pub mod starting;
 pub mod steps;

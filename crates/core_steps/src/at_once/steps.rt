@@ -34,6 +34,11 @@ impl<M: SlotMap, H: Hardware, A: Allocator, L: Ledger> Engine<M, H, A, L> {
                 Goal::Place { .. } | Goal::Access(_) => 0,
             };
         }
+        if let Goal::Change(change) = goal
+            && let Some(free) = self.find_range(core, change, cursor, most)
+        {
+            return self.range_at_once(core, change, free);
+        }
         let run = self.map.lock_run(core, cursor, end, most);
         if run.slots == 0 {
             return 0;

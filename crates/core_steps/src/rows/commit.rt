@@ -80,7 +80,7 @@ pub fn count_page<A: Allocator>(
 
 /// Counts down the frames that pages lose by the change: those of pages that are replaced or
 /// unmapped.
-fn count_lost<M: SlotMap, A: Allocator>(
+pub fn count_lost<M: SlotMap, A: Allocator>(
     map: &M,
     counts: &mut Refcache<A>,
     core: CoreId,

@@ -1,4 +1,4 @@
-use Rattle.std.proofs.Common.{true, false, ◌+◌}
+use Rattle.std.proofs.Common.{◌+◌}
 use Rattle.slot_lock.specs.SlotList.{get_slot, IsJoint}
 use Rattle.slot_lock.proofs.Places.{after_first}
 use Rattle.slot_lock.proofs.Joins.{joined-IsSlotList, slots_of-joined, joint-CanJoin, CanJoin-joint}

@@ -1,4 +1,4 @@
-use Rattle.std.proofs.Common.{◌<◌, true, refl, sym, ap, subst, arith}
+use Rattle.std.proofs.Common.{◌<◌, refl, sym, ap, subst, arith}
 use Rattle.radix_node.specs.Node.{Parts, runs}
 use Rattle.radix_node.specs.Slots.{IsNode}
 use Rattle.radix_node.proofs.Flat.{same_slots}
