@@ -213,6 +213,7 @@ pub fn decide_surveyed<M: SlotRead, A: Allocator>(
     requires survey { IsSurvey (M.slots map.now) (range_of change) found }
     ensures made { IfOk result (λ shoot. DecidesChange (files_of objects.now) (M.slots map.now) change
         (DecisionOf.Act (range_of change) shoot)) }
+    ensures cores { IfOk result (λ shoot. shoot ≡ found.cores) }
     ensures refused { IfErr result (λ errno. DecidesChange (files_of objects.now) (M.slots map.now) change
         (DecisionOf.Refuse errno)) }
 {
