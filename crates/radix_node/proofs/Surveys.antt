@@ -1,17 +1,17 @@
 -- What the slots of a range of a node have together, slot by slot
-use Rattle.slot_lock.proofs.Words.{Box, ◌≡◌, ℕ, ◌+◌, ◌-◌, ◌*◌, ◌<◌, ◌≤◌, ◌==◌, ⊎_elim, Bool, true, false, List, get_or, min, max, sym, ap, ◌∙◌}
-use Rattle.slot_lock.proofs.Words.{arith, cases_lt, nat_tests, info_from}
+use Rattle.slot_lock.proofs.Words.{Box, ◌≡◌, ℕ, ◌+◌, ◌-◌, ◌*◌, ◌<◌, ◌≤◌, ◌==◌, ◌||◌, ⊎_elim, Bool, true, false, List, get_or, min, max, sym, ap, ◌∙◌}
+use Rattle.slot_lock.proofs.Words.{arith, cases_lt, nat_tests, info_from, members, refl}
 use Rattle.std.proofs.Common.{nat_le}
 use Rattle.slot_lock.specs.declared.survey.Survey.{Survey}
 use Rattle.slot_lock.specs.Slots.{between}
 use Rattle.slot_lock.specs.Surveys.{IsSurvey}
-use Rattle.slot_lock.proofs.Surveys.{one_if, survey_moved, survey_one}
+use Rattle.slot_lock.proofs.Surveys.{one_if, survey_both, survey_moved, survey_one}
 use Rattle.radix_node.specs.declared.node.Node.{Node}
 use Rattle.radix_node.specs.declared.node.Slot.{Slot}
 use Rattle.radix_node.specs.declared.node.Slot.TheVariants.{Own as OwnSlot, Child}
 use Rattle.radix_node.specs.declared.state.SlotState.{SlotState}
 use Rattle.radix_node.specs.State.{state_of}
-use Rattle.radix_node.specs.Run.{Cell, cell_at, width_of}
+use Rattle.radix_node.specs.Run.{Run, Cell, cell_at, width_of}
 use Rattle.radix_node.specs.Node.{Parts, runs, flatten}
 use Rattle.radix_node.specs.Slots.{parts_of, IsNode}
 use Rattle.radix_node.specs.Survey.{IsSlotSurvey, slots_in}
@@ -49,6 +49,44 @@ survey_own {level = level} {i = i} {ss = ss} d s first end begins found n l is s
         (λ (x : b < a). let m : max a b - b ≡ a - b = omega arith in grind (arith, nat_tests, x, m))
         (λ (x : a ≤ b). let m : max a b - b ≡ 0 = omega arith in grind (arith, nat_tests, x, m))
         (cases_lt b a)
+
+-- a page of a node whose slots have one page each
+pub survey_page : {A : Type 0} {level k : ℕ} {ss : List (Slot A)} (d : Slot A) (s : SlotState) (found : Survey) → level ≡ 0 → IsNode level ss → k < 512
+    → OwnSlot s ≡ get_or ss k d → IsSlotSurvey (state_of s) true found
+    → IsSurvey (slots_in (flatten (width_of level) (parts_of ss))) (between k (k + 1)) found
+survey_page {level = level} {k = k} {ss = ss} d s found zero_level n l is h =
+    let one : width_of level ≡ 1 = rw zero_level refl in
+    let place : k * width_of level ≡ k = ap (λ n. k * n) one ∙ omega arith in
+    let low : max k (k * width_of level) ≡ k = omega (arith, place) in
+    let high : min (k + 1) (k * width_of level + width_of level) ≡ k + 1 = omega (arith, place, one) in
+    let begins : nat_le k k ≡ true = grind (arith, nat_tests) in
+    let whole = survey_own d s k (k + 1) true found n l is (omega arith) (omega (arith, place, one)) (omega (arith, place))
+    (sym (ap (nat_le k) place ∙ begins)) h in
+    rw (low, high) at whole
+
+-- the pages of a range before the k-th have this
+pub record PagesSurveyed (rs : List Run) (first end k : ℕ) (found : Survey) : Type 0 where
+  pub low : first ≤ k
+  pub high : k ≤ end
+  pub slots : found.slots ≡ k - first
+  pub survey : IsSurvey (slots_in rs) (between first k) found
+
+-- and so does the k-th too
+pub page_surveyed : {A : Type 0} {level k : ℕ} {ss : List (Slot A)} (d : Slot A) (s : SlotState) (first end : ℕ) (found one next : Survey) → level ≡ 0
+    → IsNode level ss → k < end → end ≤ 512 → OwnSlot s ≡ get_or ss k d → IsSlotSurvey (state_of s) true one
+    → next.slots ≡ k + 1 - first → ((core : ℕ) → members next.cores core ≡ (members found.cores core || members one.cores core))
+    → next.gap ≡ (found.gap || one.gap) → next.framed ≡ (found.framed || one.framed) → next.shared ≡ (found.shared || one.shared)
+    → PagesSurveyed (flatten (width_of level) (parts_of ss)) first end k found
+    → PagesSurveyed (flatten (width_of level) (parts_of ss)) first end (k + 1) next
+page_surveyed {level = level} {k = k} {ss = ss} d s first end found one next zero_level n below within is page slots cores gap framed shared h = record {
+  low = omega (arith, h.low);
+  high = omega (arith, below);
+  slots = slots;
+  survey =
+      survey_both (slots_in (flatten (width_of level) (parts_of ss))) first k (k + 1) found one next h.low (omega arith)
+      (omega (arith, slots, page.slots, h.slots, h.low)) cores gap framed shared h.survey
+      (survey_page d s one zero_level n (omega (arith, below, within)) is page);
+}
 
 -- a child's slots
 pub survey_child : {A : Type 0} {level i : ℕ} {ss : List (Slot A)} (d : Slot A) (b : Box (Node A) A) (v : Parts) (first end lo hi : ℕ) (found : Survey)

@@ -1,5 +1,5 @@
 //! What the slots of a range have together, in one walk.
-ghost use Rattle.std.specs.Prelude.{◌≡◌, ◌*◌, ◌<◌, ◌≤◌, IfSome};
+ghost use Rattle.std.specs.Prelude.{◌≡◌, ◌*◌, ◌<◌, ◌≤◌, IfSome, IsTrue, None};
 ghost use Rattle.slot_lock.specs.Slots.{between};
 ghost use Rattle.slot_lock.specs.Surveys.{IsSurvey};
 ghost use Rattle.radix_node.specs.State.{state_of};
@@ -12,51 +12,66 @@ use crate::place::{part_in, slot_pages, slots_of};
 use crate::state::SlotState;
 use slot_lock::Survey;
 use std::alloc::Allocator;
-use vm_base::CoreId;
+use vm_base::{CoreId, CoreSet};
 
 impl SlotState {
-    /// What the slot has, or its pages from a later one on, if nobody holds it and no other core than
-    /// this is recorded on it.
+    // Tells whether nobody holds the slot, and no other core than this is recorded on it.
     #[inline(always)]
-    pub(crate) fn survey(&self, core: CoreId, begins: bool) -> Option<Survey>
-        ensures { IfSome result (IsSlotSurvey (state_of self.now) begins) }
+    fn is_free_for(&self, core: CoreId) -> bool
+        ensures { IsTrue result → (state_of self.now).owner ≡ None }
     {
-        if self.owner().is_some() {
-            return None;
-        }
-        let cores = self.cores();
-        if !cores.without(core).is_empty() {
-            return None;
-        }
-        Some(Survey {
+        self.owner().is_none() && self.cores().without(core).is_empty()
+    }
+
+    // What the slot has, which nobody holds, or its pages from a later one on.
+    #[inline(always)]
+    fn survey(&self, begins: bool) -> Survey
+        requires { (state_of self.now).owner ≡ None }
+        ensures { IsSlotSurvey (state_of self.now) begins result }
+    {
+        Survey {
             slots: if begins { 1 } else { 0 },
-            cores,
+            cores: self.cores(),
             gap: !self.is_mapped(),
             framed: self.frame().is_some(),
             shared: self.is_shared(),
-        })
+        }
     }
 }
 
 impl<A: Allocator> Node<A> {
-    // The same in a node whose slots have one page each.
+    // What `survey` tells, in a node whose slots have one page each.
     fn survey_pages(&self, first: usize, end: usize, core: CoreId) -> Option<Survey>
         requires level { self.now.level ≡ 0 }
         requires some { first < end }
         requires within { end ≤ 512 }
         ensures { IfSome result (IsSurvey (slots_in (runs self.now)) (between first end)) }
     {
-        let mut found = Survey::empty();
+        let mut cores = CoreSet::empty();
+        let mut gap = false;
+        let mut framed = false;
+        let mut shared = false;
         'pages: for k in first..end {
             match &self.slots[k] {
                 Slot::Own(state) => {
-                    let page = state.survey(core, true)?;
-                    found = found.and(page);
+                    if !state.is_free_for(core) {
+                        return None;
+                    }
+                    cores = cores.union(state.cores());
+                    gap |= !state.is_mapped();
+                    framed |= state.frame().is_some();
+                    shared |= state.is_shared();
                 }
-                Slot::Child(_) => return None,
+                Slot::Child(_) => unreachable!(),
             }
         }
-        Some(found)
+        Some(Survey {
+            slots: (end - first) as u64,
+            cores,
+            gap,
+            framed,
+            shared,
+        })
     }
 
     /// What the slots of the node's pages from `first` up to `end` have together, if nobody holds
@@ -76,8 +91,10 @@ impl<A: Allocator> Node<A> {
             let start = k as u64 * width;
             match &self.slots[k] {
                 Slot::Own(state) => {
-                    let slot = state.survey(core, first <= start)?;
-                    found = found.and(slot);
+                    if !state.is_free_for(core) {
+                        return None;
+                    }
+                    found = found.and(state.survey(first <= start));
                 }
                 Slot::Child(node) => {
                     let part = part_in(first, end, start, width);

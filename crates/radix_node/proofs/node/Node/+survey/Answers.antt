@@ -11,7 +11,7 @@ use Rattle.radix_node.proofs.Joined.{width_most}
 use Rattle.radix_node.proofs.Surveys.{one_most, reach_at, reach_end, reach_from, reach_next, reach_within, survey_child, survey_own}
 use Rattle.radix_node.proofs.Walks.{along_below, along_done, along_down, along_in, along_next, along_part, slot_small}
 use Rattle.radix_node.proofs.node.Node.+survey.Goals as goal
-use Rattle.radix_node.proofs.node.Node.+survey.Goals.{in-Own+in_ok-slot-in-Own, in-Child+in_ok-below-in-Child}
+use Rattle.radix_node.proofs.node.Node.+survey.Goals.{in-Own+else-not-is_free_for, in-Child+in_ok-below-in-Child}
 
 pub slots-init : goal.slots-init
 slots-init g t c =
@@ -40,7 +40,7 @@ and-found-requires g t c =
     let wide = width_most c.self.inside.level l.low in
     let last : c.args.end ≤ 512 * width_of c.self.inside.level =
     subst (λ (v : Parts). c.args.end ≤ 512 * width_of v.level) (sym c.self.view_is) c.requires.within in
-    let one = one_most _ _ (c.in_ok-slot-in-Own.ensures {u = tt}).slots in
+    let one = one_most _ _ c.survey.ensures.slots in
     omega (arith, few, most, wide, last, one)
 
 pub part_in-part-requires-clause-small : goal.part_in-part-requires-clause-small
@@ -90,10 +90,10 @@ slots-preserved g t c =
     let some : max first start ≤ min end (start + width_of level) = omega (arith, low, past, l.some) in (
       along_next l refl,
       subst (λ n. IsSurvey rs (between first n) c.match-index.found) (sym next) (elim c.match-index.branch [
-        | in-Own+in_ok-slot-in-Own w ↦
-            let slot = survey_own _ w.in-Own.state first end _ w.in_ok-slot-in-Own.slot c.self.invariant is_in
+        | in-Own+else-not-is_free_for w ↦
+            let slot = survey_own _ w.in-Own.state first end _ w.survey.result c.self.invariant is_in
             (sym w.in-Own.is ∙ c.index.ensures) l.some past low (ap (λ n. nat_le first (c.slots.k * n)) l.width_is)
-            (w.in_ok-slot-in-Own.ensures {u = tt}) in
+            w.survey.ensures in
             subst (λ f. IsSurvey rs (between first (min end (start + width_of level))) f) (sym w.found-is)
             (w.and-found.ensures rs first (max first start) (min end (start + width_of level)) order some done slot)
         | in-Child+in_ok-below-in-Child w ↦
