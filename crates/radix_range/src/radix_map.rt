@@ -1,6 +1,9 @@
 //! The second slot map: a radix tree.
 ghost use Rattle.std.specs.Prelude.{◌≡◌, ◌≢◌, ℕ, ◌+◌, ◌-◌, ◌^◌, ◌<◌, ◌≤◌, IfOk, OnErr, Option, Some};
 ghost use Rattle.std.specs.Prelude.{Bool};
+ghost use Rattle.slot_lock.specs.Plan.{IsSoundChange, range_of};
+ghost use Rattle.slot_lock.specs.Slots.{IsCut};
+ghost use Rattle.slot_lock.specs.Changes.{changed};
 ghost use Rattle.radix_range.specs.Tight.{IsKnown};
 ghost use Rattle.radix_range.specs.Tree.{IsRadix, tree_slots};
 
@@ -60,6 +63,18 @@ impl<A: Allocator> RadixMap<A> {
         if first < start {
             self.sought.set(PageRange { first, end: start });
         }
+    }
+
+    // Makes a change of pages that no slot crosses the edge of, and keeps in mind what is known then.
+    fn make(&mut self, change: Change)
+        requires sound { IsSoundChange change }
+        requires cut { IsCut (tree_slots self.old.root) (range_of change) }
+        ensures { tree_slots self.new.root ≡ changed (tree_slots self.old.root) change }
+    {
+        change::change(&mut self.root, change);
+        self.full = full::with_change(self.full, change);
+        let sought = self.sought.get();
+        tight::note_change(&mut self.tights, &self.root, self.full, sought, change);
     }
 }
 
@@ -179,10 +194,7 @@ impl<A: Allocator + Clone> SlotMap for RadixMap<A> {
     }
 
     fn change(&mut self, core: CoreId, change: Change) {
-        change::change(&mut self.root, change);
-        self.full = full::with_change(self.full, change);
-        let sought = self.sought.get();
-        tight::note_change(&mut self.tights, &self.root, self.full, sought, change);
+        self.make(change);
     }
 
     fn list_frames(&self, from: u64, end: u64, list: &mut FramedPages) -> u64 {
@@ -198,8 +210,7 @@ impl<A: Allocator + Clone> SlotMap for RadixMap<A> {
     }
 
     fn change_unheld(&mut self, change: Change) {
-        change::change(&mut self.root, change);
-        self.full = full::with_change(self.full, change);
+        self.make(change);
     }
 
     fn set_leaf(&mut self, core: CoreId, page: u64, info: PageInfo) {

@@ -1,6 +1,6 @@
 use Rattle.radix_range.specs.Tree.{tree_slots}
 use Rattle.radix_range.proofs.Known.{after_change}
-use Rattle.radix_range.proofs.radix_map.RadixMapSlotMap.change.Goals as goal
+use Rattle.radix_range.proofs.radix_map.RadixMap.make.Goals as goal
 
 pub note_change-requires-clause-full : goal.note_change-requires-clause-full
 note_change-requires-clause-full g c =
