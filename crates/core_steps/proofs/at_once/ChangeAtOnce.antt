@@ -8,7 +8,7 @@ use Rattle.machine_model.specs.declared.phase.Phase.TheVariants.{Acks, Decide, L
 use Rattle.slot_lock.specs.declared.plan.Goal.TheVariants as To
 use Rattle.slot_lock.specs.declared.slot_map.FreePage.{FreePage}
 use Rattle.slot_lock.specs.Slots.{IsFreePage}
-use Rattle.vm_calls.specs.Decisions.{DecidesPage}
+use Rattle.vm_calls.specs.Decisions.{DecidesChange, DecidesPage}
 use Rattle.machine_model.specs.Counting.{CountsDown}
 use Rattle.machine_model.specs.Coherent.{Every, HasDropped, IsSoundEntry}
 use Rattle.machine_model.specs.Invariant.{IsWellFormed}
@@ -21,7 +21,7 @@ use Rattle.core_steps.proofs.rows.Known.{only_page, page_counted, shot_just}
 use Rattle.core_steps.proofs.at_once.AtOnce.{answered, goes, held, holding, locked, to_same}
 
 -- a change changes nothing but what pages have, whoever holds them
-change_held : (change : Change) (s : Slots) (c : ℕ) (r : PageRange) → (slots_after change s ≡ record s { info = (slots_after change s).info })
+pub change_held : (change : Change) (s : Slots) (c : ℕ) (r : PageRange) → (slots_after change s ≡ record s { info = (slots_after change s).info })
     × (held (record s { info = (slots_after change s).info }) c r ≡ slots_after change (held s c r))
 change_held (Put range meta) s c r = (refl, refl)
 change_held change s c r = (refl, refl)
@@ -127,27 +127,27 @@ page_change {w} {c} {cursor} {change} {range} {page} {d} most i same size found 
 pub alone_by : (core set others : ℕ) → members others ≡ put (members set) core false → others ≡ 0 → IsAlone set core
 alone_by core set others e none d = sym (ap (λ f. f d) e) ∙ (ap (λ s. members s d) none ∙ members-empty d)
 
--- a core that isn't recorded on the page has no translation of it
-pub nothing_left : {w : World} {c shoot : ℕ} {change : Change} {page : FreePage} → IsPageChange w c change page (Act (range_of change) shoot)
+-- a core that isn't recorded on the pages has no translation of them
+pub nothing_left : (w : World) (c shoot : ℕ) (change : Change) → ∥ IsWellFormed w ∥₁ → DecidesChange w.made.file w.slots change (Act (range_of change) shoot)
     → members shoot c ≡ false → HasDropped (w.hardware.table c) (w.hardware.tlb c) (range_of change) None
-nothing_left {w} {c} {shoot} {change} {page} i out = (
+nothing_left w c shoot change well decided out = (
   λ p h. no_entry p h (w.hardware.table c p) refl,
   no_tlb (w.hardware.tlb c) (λ g. g.coherent.tlbs c),
 )
   where
     outside : (p : ℕ) (b : Bool) → has (range_of change) p ≡ b → is_recorded (w.slots.info p) c ≡ true → b ≡ false
     outside p false h r = refl
-    outside p true h r = let in' = (shot_just w.made.file w.slots change shoot (i.decides w.slots (sym i.found.info)) c).1 (p, h, r) in absurd cc
+    outside p true h r = let in' = (shot_just w.made.file w.slots change shoot decided c).1 (p, h, r) in absurd cc
 
     no_entry : (p : ℕ) → has (range_of change) p ≡ true → (o : Option Translation) → w.hardware.table c p ≡ o → o ≡ None
     no_entry p h None e = refl
-    no_entry p h (Some t) e = ∥∥₁_elim i.at.well (hlevel props) (λ g. let none = outside p true h (g.coherent.tables c p t e).recorded in absurd cc)
+    no_entry p h (Some t) e = ∥∥₁_elim well (hlevel props) (λ g. let none = outside p true h (g.coherent.tables c p t e).recorded in absurd cc)
 
     no_tlb : (es : List TlbEntry)
         → (IsWellFormed w → Every (IsSoundEntry w.memory.cached w.slots.info c (w.hardware.table c) (w.hardware.inbox c)) es)
         → Every (λ (e : TlbEntry). has (range_of change) e.page ≡ false) es
     no_tlb [] sound = tt
     no_tlb (e ∷ es) sound = (
-      ∥∥₁_elim i.at.well (hlevel props) (λ g. outside e.page (has (range_of change) e.page) refl (sound g).0.0.recorded),
+      ∥∥₁_elim well (hlevel props) (λ g. outside e.page (has (range_of change) e.page) refl (sound g).0.0.recorded),
       no_tlb es (λ g. (sound g).1),
     )

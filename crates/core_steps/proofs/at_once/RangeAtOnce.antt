@@ -1,13 +1,14 @@
 -- The steps of a change of a range, made at once: the states that they pass, and the one that is left
-use Rattle.machine_model.proofs.Words.{◌≡◌, ℕ, zero, suc, ◌+◌, ◌*◌, ◌-◌, ◌<◌, ◌≤◌, ◌==◌, [], ◌∷◌, ◌++◌, true, false, Bool, List, Option, Some, None, inl, refl, sym}
-use Rattle.machine_model.proofs.Words.{subst, ap, ◌∙◌, arith, cond, if◌then◌else◌, nat_tests, fun_ext, ∥∥₁_elim, props, PageInfo, PageRange, Errno, Reply, Refused}
-use Rattle.machine_model.proofs.Words.{members, has, has_in, in_has, frame_of, is_recorded, File, Decision, Change, Put, Clear, Protect, range_of, goal_range, Slots, Act, Refuse}
-use Rattle.machine_model.proofs.Words.{Counts, Translation, TlbEntry, Acks, Answer, Decide, Lock, Post, Unlock, Phase, Hardware, Memory, World, Goes, StepsTo}
-use Rattle.machine_model.proofs.Words.{after_reply, to, AwaitsNobody, CountsLost, reply_to, slots_after, frame_lost, held_after, let_go, event_limit, with_event}
-use Rattle.machine_model.proofs.Words.{after_shot, with_hardware, between, with_owner, Locks, Unlocks, Stepped, locked_to, Go, Step}
-use Rattle.std.proofs.Common.{is_some, nat_le}
-use Rattle.vm_base.specs.Pages.{IsPageRange}
-use Rattle.vm_base.specs.Runs.{NoneIn}
+use Rattle.machine_model.proofs.Words.{◌≡◌, ℕ, zero, suc, ◌+◌, ◌*◌, ◌-◌, ◌<◌, ◌≤◌, ◌==◌, [], ◌∷◌, ◌++◌, true, false, Bool, Option, Some, None, inl, refl, sym}
+use Rattle.machine_model.proofs.Words.{subst, ap, ◌∙◌, arith, cond, if◌then◌else◌, nat_tests, fun_ext, PageInfo, PageRange, Errno, Reply, Refused}
+use Rattle.machine_model.proofs.Words.{has, has_in, in_has, File, Decision, Change, Put, Clear, Protect, range_of, Slots, Act, Refuse}
+use Rattle.machine_model.proofs.Words.{Counts, Hardware, Memory, World, Goes, StepsTo}
+use Rattle.machine_model.proofs.Words.{after_reply, to, AwaitsNobody, CountsLost, reply_to, slots_after, held_after, let_go, event_limit, with_event}
+use Rattle.machine_model.proofs.Words.{after_shot, with_hardware, between, with_owner, Locks, Unlocks}
+use Rattle.machine_model.specs.declared.event.Outcome.TheVariants.{Stepped}
+use Rattle.machine_model.specs.declared.phase.Phase.{Phase}
+use Rattle.machine_model.specs.declared.phase.Phase.TheVariants.{Acks, Answer, Decide, Lock, Post, Unlock}
+use Rattle.std.proofs.Common.{nat_le}
 use Rattle.vm_base.specs.declared.log.Entry.TheVariants as EntryOf
 use Rattle.slot_lock.specs.declared.plan.Goal.TheVariants as To
 use Rattle.slot_lock.specs.declared.survey.Survey.{Survey}
@@ -19,16 +20,13 @@ use Rattle.slot_lock.proofs.Surveys.{edges_next, edges_rise, one_if}
 use Rattle.vm_calls.specs.Decisions.{DecidesChange}
 use Rattle.vm_calls.specs.Decisions.DecidesProtect.{acts, no_page, no_write}
 use Rattle.slot_lock.proofs.Changes.{sound_pages}
-use Rattle.machine_model.proofs.CountingDown.{counts_from, counts_past}
-use Rattle.machine_model.specs.Coherent.{Every, HasDropped, IsSoundEntry}
-use Rattle.machine_model.specs.Invariant.{IsWellFormed}
 use Rattle.core_steps.specs.Moving.{IsAt}
 use Rattle.core_steps.specs.OnePage.{later, replied}
 use Rattle.core_steps.specs.PageChange.{IsAlone}
-use Rattle.core_steps.specs.RangeChange.{IsRangeChange}
+use Rattle.core_steps.specs.RangeChange.{IsFreeRange, IsRangeChange}
 use Rattle.core_steps.proofs.engine.Each.{own_dropped}
 use Rattle.core_steps.proofs.Reached.{steps_join}
-use Rattle.core_steps.proofs.rows.Known.{shot_just}
+use Rattle.core_steps.proofs.at_once.ChangeAtOnce.{change_held}
 use Rattle.core_steps.proofs.at_once.AtOnce.{goes, having, held, holding, locks, passed, steps, unlocks_on}
 
 -- ---- the slots
@@ -133,25 +131,19 @@ answered_all from x info memory c n r found a reply before room here some h logs
 
 module _ {w : World} {c : ℕ} {change : Change} {found : Survey} {d : Decision} (i : IsRangeChange w c change found d) where
   pub some : (range_of change).first < (range_of change).end
-  some = (sound_pages change i.at.goal.plan).some
+  some = (sound_pages change i.range.at.goal.plan).some
 
   locked : StepsTo w c found.slots (to c (Decide change) (later found.slots (holding c (range_of change) w)))
   locked =
       let r = range_of change in
       let past : nat_le r.end r.end ≡ true = grind (arith, nat_tests) in
-      let room = i.room in
+      let room = i.range.room in
       (locks w (to c (Decide change) (later found.slots (holding c r w))) c (To.Change change) r.first found.slots (held w.slots c r) r.end found.slots
-      (Decide change) i.at (omega arith) (omega (arith, room)) (locks_all w.slots r found some i.free c)
+      (Decide change) i.range.at (omega arith) (omega (arith, room)) (locks_all w.slots r found some i.range.free c)
       (sym (ap (λ b. if b then Decide change else Lock (To.Change change) r.end) past)) refl).0
 
   pub some_slot : 1 ≤ found.slots
-  some_slot = survey_some w.slots (range_of change) found some i.free
-
--- a change changes nothing but what pages have, whoever holds them
-change_held : (change : Change) (s : Slots) (c : ℕ) (r : PageRange) → (slots_after change s ≡ record s { info = (slots_after change s).info })
-    × (held (record s { info = (slots_after change s).info }) c r ≡ slots_after change (held s c r))
-change_held (Put range meta) s c r = (refl, refl)
-change_held change s c r = (refl, refl)
+  some_slot = survey_some w.slots (range_of change) found some i.range.free
 
 -- a decision looks at what pages have alone
 decided_held : (files : ℕ → Option File) (change : Change) (s : Slots) (c : ℕ) (r : PageRange) (d : Decision) → DecidesChange files s change d
@@ -168,11 +160,11 @@ pub refuses_range : {w v : World} {c : ℕ} {change : Change} {found : Survey} {
     → v ≡ later (found.slots - 1) (replied c (Refused errno) (found.slots + 1) w) → StepsTo w c (2 * found.slots + 1) v × (v.slots.edge ≡ w.slots.edge)
 refuses_range {w} {v} {c} {change} {found} {errno} i left =
     let r = range_of change in
-    let room = i.room in
+    let room = i.range.room in
     let sum : found.slots + 1 + found.slots ≡ 2 * found.slots + 1 = omega arith in (
       subst (λ n. StepsTo w c n v) sum (subst (StepsTo w c (found.slots + 1 + found.slots)) (sym left)
-          (answered_all w w w.slots.info w.memory c found.slots r found (Decide change) (Refused errno) (locked i) (omega (arith, room)) i.at.here
-          (some i) i.free (Refuse errno, decided_held w.made.file change w.slots c r (Refuse errno) i.decides, (refl, refl)))),
+          (answered_all w w w.slots.info w.memory c found.slots r found (Decide change) (Refused errno) (locked i) (omega (arith, room)) i.range.at.here
+          (some i) i.range.free (Refuse errno, decided_held w.made.file change w.slots c r (Refuse errno) i.decides, (refl, refl)))),
       ap (λ (x : World). x.slots.edge) left,
     )
 
@@ -188,7 +180,7 @@ module _ {w : World} {c shoot : ℕ} {change : Change} {found : Survey}
       let r = range_of change in
       let x = holding c r w in
       let n = found.slots in
-      let room = i.room in
+      let room = i.range.room in
       let decided = decided_held w.made.file change w.slots c r (Act r shoot) i.decides in
       let two : n + 1 + 1 ≡ n + 2 = omega arith in
       let two_too : suc (suc n) ≡ n + 2 = omega arith in
@@ -198,9 +190,9 @@ module _ {w : World} {c shoot : ℕ} {change : Change} {found : Survey}
         (
           to c (Decide change) (later n x),
           locked i,
-          goes x x c n (Decide change) (Post change shoot) (omega (arith, room)) i.at.here (Act r shoot, decided, (refl, refl)),
+          goes x x c n (Decide change) (Post change shoot) (omega (arith, room)) i.range.at.here (Act r shoot, decided, (refl, refl)),
         ),
-        goes x (holding c r told) c (n + 1) (Post change shoot) (Acks (To.Change change) change) (omega (arith, room)) i.at.here (refl, refl),
+        goes x (holding c r told) c (n + 1) (Post change shoot) (Acks (To.Change change) change) (omega (arith, room)) i.range.at.here (refl, refl),
       ))
 
   -- what is left, but for the reply
@@ -214,7 +206,7 @@ module _ {w : World} {c shoot : ℕ} {change : Change} {found : Survey}
   makes_range counts h range slots reply v lost same shot changed replies now =
       let r = range_of change in
       let n = found.slots in
-      let room = i.room in
+      let room = i.range.room in
       let memory = record w.memory { counts = counts } in
       let phase = Acks (To.Change change) change in
       let m = to c phase (with_event (later (n + 2) (holding c r told))) in
@@ -226,9 +218,9 @@ module _ {w : World} {c shoot : ℕ} {change : Change} {found : Survey}
       rw (now, changed, replies, shot, same, third)
       (ap (λ s. later (n - 1) (replied c (reply_to change) (n + 3) (made counts (after_shot w.hardware c shoot r) s))) after.0) in (
         subst (λ k. StepsTo w c k v) sum (subst (StepsTo w c (n + 2 + 1 + n)) (sym left)
-            (answered_all w told infos memory c (n + 2) r found phase (reply_to change) tells (omega (arith, room)) i.at.here (some i) i.free (inl (
+            (answered_all w told infos memory c (n + 2) r found phase (reply_to change) tells (omega (arith, room)) i.range.at.here (some i) i.range.free (inl (
               -- the call awaits nobody, as before
-              subst (λ h. AwaitsNobody h c) (sym (own_dropped w.hardware c shoot r alone)) (i.at.idle refl),
+              subst (λ h. AwaitsNobody h c) (sym (own_dropped w.hardware c shoot r alone)) (i.range.at.idle refl),
               (counts, lost, (refl, ap (λ s. after_reply c (Some r) (reply_to change) (record m { slots = s; memory = memory })) after.1)),
             )))),
         ap (λ (x : World). x.slots.edge) left,
@@ -236,56 +228,13 @@ module _ {w : World} {c shoot : ℕ} {change : Change} {found : Survey}
 
 -- ---- what it is to know
 
--- where no page has a frame, none is counted down
-pub none_lost : (w : World) (c : ℕ) (change : Change) (found : Survey) → (range_of change).first < (range_of change).end
-    → AreFree w.slots (range_of change) found → found.framed ≡ false → CountsLost c change w w.memory.counts
-none_lost w c change found some h none =
-    let r = range_of change in
-    counts_past c (frame_lost change w.slots.info) r.first r.first r.end w.memory.counts w.memory.counts (omega arith) (omega (arith, some))
-    (λ p low high. lost change (frame_of (w.slots.info p)) p refl (in_has r p low high))
-    (counts_from c (frame_lost change w.slots.info) r.first w.memory.counts)
-  where
-    bare : (p : ℕ) → has (range_of change) p ≡ true → (o : Option ℕ) → frame_of (w.slots.info p) ≡ o → o ≡ None
-    bare p inside None e = refl
-    bare p inside (Some f) e = let wrong : false ≡ true = sym none ∙ h.survey.framed.1 (p, inside, ap is_some e) in absurd cc
-
-    lost : (x : Change) (o : Option ℕ) (p : ℕ) → frame_of (w.slots.info p) ≡ o → has (range_of change) p ≡ true → frame_lost x w.slots.info p ≡ None
-    lost (Put range meta) o p e inside = e ∙ bare p inside o e
-    lost (Clear range) o p e inside = e ∙ bare p inside o e
-    lost (Protect range prot) o p e inside = refl
-
--- a core that isn't recorded on its pages has no translation of them
-pub nothing_left : (w : World) (c shoot : ℕ) (change : Change) → ∥ IsWellFormed w ∥₁ → DecidesChange w.made.file w.slots change (Act (range_of change) shoot)
-    → members shoot c ≡ false → HasDropped (w.hardware.table c) (w.hardware.tlb c) (range_of change) None
-nothing_left w c shoot change well decided out = (
-  λ p h. no_entry p h (w.hardware.table c p) refl,
-  no_tlb (w.hardware.tlb c) (λ g. g.coherent.tlbs c),
-)
-  where
-    outside : (p : ℕ) (b : Bool) → has (range_of change) p ≡ b → is_recorded (w.slots.info p) c ≡ true → b ≡ false
-    outside p false h r = refl
-    outside p true h r = let in' = (shot_just w.made.file w.slots change shoot decided c).1 (p, h, r) in absurd cc
-
-    no_entry : (p : ℕ) → has (range_of change) p ≡ true → (o : Option Translation) → w.hardware.table c p ≡ o → o ≡ None
-    no_entry p h None e = refl
-    no_entry p h (Some t) e = ∥∥₁_elim well (hlevel props) (λ g. let none = outside p true h (g.coherent.tables c p t e).recorded in absurd cc)
-
-    no_tlb : (es : List TlbEntry)
-        → (IsWellFormed w → Every (IsSoundEntry w.memory.cached w.slots.info c (w.hardware.table c) (w.hardware.inbox c)) es)
-        → Every (λ (e : TlbEntry). has (range_of change) e.page ≡ false) es
-    no_tlb [] sound = tt
-    no_tlb (e ∷ es) sound = (
-      ∥∥₁_elim well (hlevel props) (λ g. outside e.page (has (range_of change) e.page) refl (sound g).0.0.recorded),
-      no_tlb es (λ g. (sound g).1),
-    )
-
 -- what was found of its slots is known of the change, whose range is this
-pub range_change : {w : World} {c cursor : ℕ} {change : Change} {range : PageRange} {found : Survey} {d : Decision} (most : ℕ)
+pub free_range : {w : World} {c cursor : ℕ} {change : Change} {range : PageRange} {found : Survey} (most : ℕ)
     → IsAt w c (Lock (To.Change change) cursor) → range ≡ range_of change → cursor ≡ range.first → AreFree w.slots range found
-    → DecidesChange w.made.file w.slots change d → w.calls.events + most ≤ event_limit → 2 * found.slots + 3 ≤ most → IsRangeChange w c change found d
-range_change {w} {c} {cursor} {change} {range} {found} {d} most i same start free decides room enough = record {
+    → IsAlone found.cores c → w.calls.events + most ≤ event_limit → 2 * found.slots + 3 ≤ most → IsFreeRange w c change found
+free_range {w} {c} {cursor} {change} {range} {found} most i same start free alone room enough = record {
   at = subst (λ p. IsAt w c (Lock (To.Change change) p)) (start ∙ ap (λ (r : PageRange). r.first) same) i;
   free = subst (λ r. AreFree w.slots r found) same free;
-  decides = decides;
+  alone = alone;
   room = omega (arith, room, enough);
 }

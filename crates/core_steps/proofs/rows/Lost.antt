@@ -1,13 +1,16 @@
 -- Frames that are counted down, page by page
-use Rattle.machine_model.proofs.Words.{◌≡◌, ℕ, ◌+◌, ◌-◌, ◌<◌, ◌≤◌, List, ◌∷◌, drop, length, get_or, Option, Some, sym, subst, refl, arith, ◌∙◌, IfSome}
-use Rattle.machine_model.proofs.Words.{∥∥₁_elim, props, PageInfo, frame_of, Change, Protect, frames_in, Slots, Counts, Takes, Dec, CountsOne, frame_lost}
+use Rattle.machine_model.proofs.Words.{◌≡◌, ℕ, ◌+◌, ◌-◌, ◌<◌, ◌≤◌, List, ◌∷◌, drop, length, get_or, Option, Some, None, true, false, sym, ap, subst, refl, arith, ◌∙◌, IfSome}
+use Rattle.machine_model.proofs.Words.{∥∥₁_elim, props, PageInfo, frame_of, has, in_has, Change, Put, Clear, Protect, range_of, frames_in, Slots, Counts, Takes, Dec, CountsOne, frame_lost}
 use Rattle.machine_model.proofs.Words.{World}
+use Rattle.std.proofs.Common.{is_some}
 use Rattle.std.proofs.lemmas.List.{drop_all, drop_more}
 use Rattle.slot_lock.specs.declared.framed.Framed.{Framed}
+use Rattle.slot_lock.specs.declared.survey.Survey.{Survey}
 use Rattle.slot_lock.specs.Framed.{ListsFrames}
+use Rattle.slot_lock.specs.Surveys.{IsSurvey}
 use Rattle.machine_model.specs.Counting.{CountsDown}
 use Rattle.machine_model.proofs.Counted.{counts_down}
-use Rattle.machine_model.proofs.CountingDown.{CountsUpTo, counted_still, counts_next, counts_past}
+use Rattle.machine_model.proofs.CountingDown.{CountsUpTo, counted_still, counts_from, counts_next, counts_past}
 use Rattle.core_steps.specs.Taking.{AreCounted, IsCounted}
 
 -- ---- one page
@@ -76,3 +79,23 @@ listed_known s c first upto xs k v w l are here h =
         used = counted_still u g.order g.counted c first h.from w h.low h.counted x.frame x.page n.0 n.3;
       },
     ))
+
+-- ---- pages that were surveyed
+
+-- where none has a frame, none is counted down
+pub none_lost : (c : ℕ) (change : Change) (s : Slots) (found : Survey) (v : Counts) → (range_of change).first < (range_of change).end
+    → IsSurvey s (range_of change) found → found.framed ≡ false
+    → CountsUpTo c (frame_lost change s.info) (range_of change).first (range_of change).end v v
+none_lost c change s found v some h none =
+    let r = range_of change in
+    counts_past c (frame_lost change s.info) r.first r.first r.end v v (omega arith) (omega (arith, some))
+    (λ p low high. lost change (frame_of (s.info p)) p refl (in_has r p low high)) (counts_from c (frame_lost change s.info) r.first v)
+  where
+    bare : (p : ℕ) → has (range_of change) p ≡ true → (o : Option ℕ) → frame_of (s.info p) ≡ o → o ≡ None
+    bare p inside None e = refl
+    bare p inside (Some f) e = let wrong : false ≡ true = sym none ∙ h.framed.1 (p, inside, ap is_some e) in absurd cc
+
+    lost : (x : Change) (o : Option ℕ) (p : ℕ) → frame_of (s.info p) ≡ o → has (range_of change) p ≡ true → frame_lost x s.info p ≡ None
+    lost (Put range meta) o p e inside = e ∙ bare p inside o e
+    lost (Clear range) o p e inside = e ∙ bare p inside o e
+    lost (Protect range prot) o p e inside = refl

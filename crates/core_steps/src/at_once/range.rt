@@ -4,7 +4,6 @@
 ghost use Rattle.std.specs.Prelude.{◌≡◌, ◌+◌, ◌*◌, ◌≤◌, IfSome};
 ghost use Rattle.slot_lock.specs.declared.plan.Change.{Change};
 ghost use Rattle.slot_lock.specs.declared.plan.Goal.TheVariants as GoalOf;
-ghost use Rattle.slot_lock.specs.declared.survey.Survey.{Survey};
 ghost use Rattle.slot_lock.specs.Plan.{range_of};
 ghost use Rattle.vm_calls.specs.declared.decision.Decision.TheVariants as DecisionOf;
 ghost use Rattle.machine_model.specs.declared.phase.Phase.{Phase};
@@ -16,7 +15,7 @@ ghost use Rattle.core_steps.specs.State.{world};
 
 use crate::engine::Engine;
 use crate::ledger::Ledger;
-use crate::rows::commit::count_lost;
+use crate::rows::commit::count_surveyed;
 use machine_model::answers::reply_to;
 use mmu::Hardware;
 use slot_lock::{Change, SlotMap, Survey};
@@ -24,20 +23,11 @@ use std::alloc::Allocator;
 use vm_base::{CoreId, CoreSet, Errno, Reply};
 use vm_calls::decide_surveyed;
 
-/// Slots of a change's range that nobody holds, and what is decided of the change.
-#[derive(Clone, Copy, Debug, PartialEq, Eq)]
-pub(crate) struct FreeRange {
-    /// What the slots have together.
-    pub found: Survey,
-    /// The cores that are recorded on their pages, or why the change is refused.
-    pub decided: Result<CoreSet, Errno>,
-}
-
 impl<M: SlotMap, H: Hardware, A: Allocator, L: Ledger> Engine<M, H, A, L> {
     // The steps of a change that is refused.
-    fn refuse_range(&mut self, core: CoreId, change: Change, found: Survey, errno: Errno)
-        requires { IsRangeChange (world M.slots self.old) core change found (DecisionOf.Refuse errno) }
-        ensures steps { StepsTo (world M.slots self.old) core (2 * found.slots + 1) (world M.slots self.new) }
+    fn refuse_range(&mut self, core: CoreId, change: Change, found: &Survey, errno: Errno)
+        requires { IsRangeChange (world M.slots self.old) core change found.now (DecisionOf.Refuse errno) }
+        ensures steps { StepsTo (world M.slots self.old) core (2 * found.now.slots + 1) (world M.slots self.new) }
         ensures edges { (M.slots self.new.map).edge ≡ (M.slots self.old.map).edge }
     {
         self.reply_at_once(core, Reply::Refused(errno), found.slots + 1);
@@ -46,78 +36,57 @@ impl<M: SlotMap, H: Hardware, A: Allocator, L: Ledger> Engine<M, H, A, L> {
 
     // The steps of a change that is made: these cores are recorded on its pages.
     #[inline(always)]
-    fn make_range(&mut self, core: CoreId, change: Change, found: Survey, shoot: CoreSet)
-        requires change { IsRangeChange (world M.slots self.old) core change found
+    fn make_range(&mut self, core: CoreId, change: Change, found: &Survey, shoot: CoreSet)
+        requires change { IsRangeChange (world M.slots self.old) core change found.now
             (DecisionOf.Act (range_of change) shoot) }
         requires alone { IsAlone shoot core }
-        ensures steps { StepsTo (world M.slots self.old) core (2 * found.slots + 3) (world M.slots self.new) }
+        ensures steps { StepsTo (world M.slots self.old) core (2 * found.now.slots + 3) (world M.slots self.new) }
         ensures edges { (M.slots self.new.map).edge ≡ (M.slots self.old.map).edge }
     {
         self.cores.shoot_alone(core, shoot, change.range());
-        if found.framed {
-            count_lost(&self.map, &mut self.counts, core, change);
-        }
+        count_surveyed(&self.map, &mut self.counts, core, change, found);
         self.map.change_unheld(change);
         self.reply_at_once(core, reply_to(change), found.slots + 3);
         self.calls.events += found.slots - 1;
     }
 
-    /// What the slots of a change's range have, and what is decided of it, if it can be changed at once
-    /// and its steps may be taken, which are at most this many: the cores that are recorded there, none
-    /// but the call's own, or why it is refused.
-    pub fn find_range(
-        &self,
-        core: CoreId,
-        change: Change,
-        cursor: u64,
-        most: u64,
-    ) -> Option<FreeRange>
+    /// What the slots of a change's range have together, if it can be decided and made at once: nobody
+    /// holds them, no core but the call's own is recorded there, and its steps may be taken, which are at
+    /// most this many.
+    pub fn find_range(&self, core: CoreId, change: Change, cursor: u64, most: u64) -> Option<Survey>
         requires at { IsAt (world M.slots self.now) core (Phase.Lock (GoalOf.Change change) cursor) }
         requires room { self.now.calls.events + most ≤ event_limit }
-        ensures few { IfSome result (λ it. 2 * it.found.slots + 3 ≤ most) }
-        ensures can { IfSome result (IsFreeRange (world M.slots self.now) core change) }
+        ensures few { IfSome result (λ found. 2 * found.slots + 3 ≤ most) }
+        ensures free { IfSome result (IsFreeRange (world M.slots self.now) core change) }
     {
         let range = change.range();
         if cursor != range.first {
             return None;
         }
         let found = self.map.survey(core, range)?;
-        if most / 2 < found.slots + 2 {
+        if most / 2 < found.slots + 2 || !found.cores.without(core).is_empty() {
             return None;
         }
-        match decide_surveyed(&self.map, &self.objects, change, found) {
-            Err(errno) => Some(FreeRange {
-                found,
-                decided: Err(errno),
-            }),
-            Ok(shoot) => {
-                if !shoot.without(core).is_empty() {
-                    return None;
-                }
-                Some(FreeRange {
-                    found,
-                    decided: Ok(shoot),
-                })
-            }
-        }
+        Some(found)
     }
 
     /// The steps from the lock of a change's first slot to the unlock of its last. It answers how many
     /// they were.
-    pub fn range_at_once(&mut self, core: CoreId, change: Change, free: FreeRange) -> u64
-        requires { IsFreeRange (world M.slots self.old) core change free }
-        ensures few { result ≤ 2 * free.found.slots + 3 }
+    pub fn range_at_once(&mut self, core: CoreId, change: Change, found: &Survey) -> u64
+        requires { IsFreeRange (world M.slots self.old) core change found.now }
+        ensures few { result ≤ 2 * found.now.slots + 3 }
         ensures steps { StepsTo (world M.slots self.old) core result (world M.slots self.new) }
         ensures edges { (M.slots self.new.map).edge ≡ (M.slots self.old.map).edge }
     {
-        match free.decided {
+        let known = *found;
+        match decide_surveyed(&self.map, &self.objects, change, known) {
             Err(errno) => {
-                self.refuse_range(core, change, free.found, errno);
-                2 * free.found.slots + 1
+                self.refuse_range(core, change, found, errno);
+                2 * found.slots + 1
             }
             Ok(shoot) => {
-                self.make_range(core, change, free.found, shoot);
-                2 * free.found.slots + 3
+                self.make_range(core, change, found, shoot);
+                2 * found.slots + 3
             }
         }
     }

@@ -1,6 +1,7 @@
 //! Steps of a call that are made at once: so many plain ones. Slots that it locks or unlocks one after
-//! another, and what a fault, or a change of one page, does at its page.
+//! another, what a fault does at its page, and what a change does at slots that nobody holds.
 ghost use Rattle.std.specs.Prelude.{◌≡◌, ◌+◌, ◌≤◌};
+ghost use Rattle.slot_lock.specs.declared.plan.Goal.TheVariants as GoalOf;
 ghost use Rattle.machine_model.specs.declared.phase.Phase.{Phase};
 ghost use Rattle.machine_model.specs.Step.{StepsTo, event_limit};
 ghost use Rattle.machine_model.specs.Sound.{IsReached};
@@ -13,13 +14,12 @@ use crate::rows::acquire::locked_to;
 use crate::rows::answer::{held_after, let_go};
 use machine_model::Phase;
 use mmu::Hardware;
-use slot_lock::{Goal, SlotMap};
+use slot_lock::{Change, Goal, SlotMap};
 use std::alloc::Allocator;
 use vm_base::{CoreId, PageRange, Reply};
 
 impl<M: SlotMap, H: Hardware, A: Allocator, L: Ledger> Engine<M, H, A, L> {
-    // Slots of the goal, from the cursor on. A page alone is one slot, which a step locks as fast, but
-    // for a change of one page, whose steps may go on at once.
+    // Slots of the goal, from the cursor on. A page alone is one slot, which a step locks as fast.
     fn lock_slots(&mut self, core: CoreId, goal: Goal, cursor: u64, most: u64) -> u64
         requires at { IsAt (world M.slots self.old) core (Phase.Lock goal cursor) }
         requires room { self.old.calls.events + most ≤ event_limit }
@@ -29,15 +29,7 @@ impl<M: SlotMap, H: Hardware, A: Allocator, L: Ledger> Engine<M, H, A, L> {
     {
         let end = goal.range().end;
         if end - cursor == 1 {
-            return match goal {
-                Goal::Change(change) => self.change_at_once(core, change, cursor, most),
-                Goal::Place { .. } | Goal::Access(_) => 0,
-            };
-        }
-        if let Goal::Change(change) = goal
-            && let Some(free) = self.find_range(core, change, cursor, most)
-        {
-            return self.range_at_once(core, change, free);
+            return 0;
         }
         let run = self.map.lock_run(core, cursor, end, most);
         if run.slots == 0 {
@@ -69,8 +61,25 @@ impl<M: SlotMap, H: Hardware, A: Allocator, L: Ledger> Engine<M, H, A, L> {
         run.slots
     }
 
-    // Steps from the lock of the goal's pages on: of an access, and of a change of one page, those at the
-    // page too.
+    // Slots of a change, from the cursor on, or all that it does, at slots that nobody holds.
+    fn lock_change(&mut self, core: CoreId, change: Change, cursor: u64, most: u64) -> u64
+        requires at { IsAt (world M.slots self.old) core (Phase.Lock (GoalOf.Change change) cursor) }
+        requires room { self.old.calls.events + most ≤ event_limit }
+        ensures few { result ≤ most }
+        ensures steps { StepsTo (world M.slots self.old) core result (world M.slots self.new) }
+        ensures edges { (M.slots self.new.map).edge ≡ (M.slots self.old.map).edge }
+    {
+        let range = change.range();
+        if range.end - range.first == 1 {
+            return self.change_at_once(core, change, cursor, most);
+        }
+        if let Some(found) = self.find_range(core, change, cursor, most) {
+            return self.range_at_once(core, change, &found);
+        }
+        self.lock_slots(core, Goal::Change(change), cursor, most)
+    }
+
+    // Steps from the lock of the goal's pages on: of an access, and of a change, those at the pages too.
     fn lock_at_once(&mut self, core: CoreId, goal: Goal, cursor: u64, most: u64) -> u64
         requires at { IsAt (world M.slots self.old) core (Phase.Lock goal cursor) }
         requires reached { ∥ IsReached (world M.slots self.old) ∥₁ }
@@ -81,14 +90,15 @@ impl<M: SlotMap, H: Hardware, A: Allocator, L: Ledger> Engine<M, H, A, L> {
     {
         match goal {
             Goal::Access(touch) => self.fault_at_once(core, touch, most),
+            Goal::Change(change) => self.lock_change(core, change, cursor, most),
             _ => self.lock_slots(core, goal, cursor, most),
         }
     }
 
     /// The events of the next steps of the core's call that can be made at once, at most this many: those
-    /// that lock or unlock slots which the map finds side by side, and those of a fault, or of a change
-    /// of one page, at a page that nobody holds. It answers how many they were: none where the call does
-    /// something else next, or can't go on. No slot is divided by them.
+    /// that lock or unlock slots which the map finds side by side, and those of a fault, or of a change,
+    /// at slots that nobody holds. It answers how many they were: none where the call does something else
+    /// next, or can't go on. No slot is divided by them.
     pub fn steps_at_once(&mut self, core: CoreId, most: u64) -> u64
         requires { ∥ IsReached (world M.slots self.old) ∥₁ }
         ensures few { result ≤ most }

@@ -7,6 +7,7 @@ ghost use Rattle.refcache.specs.Parts.{counts_of};
 ghost use Rattle.slot_lock.specs.Plan.{IsSoundChange, range_of};
 ghost use Rattle.slot_lock.specs.Changes.{IsMappedFor};
 ghost use Rattle.slot_lock.specs.Slots.{IsHeld};
+ghost use Rattle.slot_lock.specs.Surveys.{IsSurvey};
 ghost use Rattle.machine_model.specs.Changes.{slots_after, reply_to};
 ghost use Rattle.machine_model.specs.Counting.{CountsDown, frame_lost};
 ghost use Rattle.machine_model.specs.Step.{Goes};
@@ -20,7 +21,7 @@ use machine_model::answers::reply_to;
 use machine_model::{Blocker, Outcome, Phase};
 use mmu::Hardware;
 use refcache::Refcache;
-use slot_lock::{Change, Framed, FramedPages, Goal, SlotMap};
+use slot_lock::{Change, Framed, FramedPages, Goal, SlotMap, Survey};
 use std::alloc::Allocator;
 use vm_base::{CoreId, PageInfo, PageRange};
 
@@ -80,7 +81,7 @@ pub fn count_page<A: Allocator>(
 
 /// Counts down the frames that pages lose by the change: those of pages that are replaced or
 /// unmapped.
-pub fn count_lost<M: SlotMap, A: Allocator>(
+fn count_lost<M: SlotMap, A: Allocator>(
     map: &M,
     counts: &mut Refcache<A>,
     core: CoreId,
@@ -98,6 +99,28 @@ pub fn count_lost<M: SlotMap, A: Allocator>(
             count_frames(map, counts, core, range);
         }
         Change::Protect { .. } => {}
+    }
+}
+
+/// Counts down the frames that the pages of a change, whose slots have this together, lose by it.
+#[inline(always)]
+pub fn count_surveyed<M: SlotMap, A: Allocator>(
+    map: &M,
+    counts: &mut Refcache<A>,
+    core: CoreId,
+    change: Change,
+    found: &Survey,
+)
+    requires sound { IsSoundChange change }
+    requires here { core < (counts_of counts.old).cores }
+    requires counted { AreCounted (M.slots map.now) (counts_of counts.old) }
+    requires survey { IsSurvey (M.slots map.now) (range_of change) found.now }
+    ensures { CountsDown core (frame_lost change (M.slots map.now).info)
+        (range_of change).first ((range_of change).end - (range_of change).first)
+        (counts_of counts.old) (counts_of counts.new) }
+{
+    if found.framed {
+        count_lost(map, counts, core, change);
     }
 }
 
