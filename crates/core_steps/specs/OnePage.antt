@@ -1,12 +1,14 @@
 -- A fault whose page is a slot of its own that nobody holds: what it finds there, where the page's
 -- frame comes from, and what is left, there and after a change of such a page
 use Rattle.std.specs.Prelude.{◌≡◌, ℕ, ◌+◌, ◌<◌, ◌≤◌, ◌^◌, [], ◌∷◌, ◌++◌, Bool, true, false}
-use Rattle.std.specs.Prelude.{Option, None, Some, is_some, pos, ◌<ℤ◌, Result, Ok, Err}
+use Rattle.std.specs.Prelude.{Option, None, Some, IfSome, List, is_some, pos, ◌<ℤ◌, Result, Ok, Err}
 use Rattle.vm_base.specs.declared.info.Back.{Back}
-use Rattle.vm_base.specs.declared.info.Back.TheVariants.{Anon}
+use Rattle.vm_base.specs.declared.info.Back.TheVariants.{Anon, Private}
 use Rattle.vm_base.specs.declared.info.PageInfo.{PageInfo}
 use Rattle.vm_base.specs.declared.replies.Reply.{Reply}
 use Rattle.vm_base.specs.declared.rights.Access.{Access}
+use Rattle.vm_base.specs.declared.rights.Access.TheVariants.{Store}
+use Rattle.vm_base.specs.declared.log.Entry.{Entry}
 use Rattle.vm_base.specs.Functions.{put}
 use Rattle.vm_base.specs.Plain.{File, file_bytes, zeros}
 use Rattle.slot_lock.specs.declared.plan.Goal.TheVariants as To
@@ -29,12 +31,12 @@ use Rattle.machine_model.specs.Holding.{page_of_touch}
 use Rattle.machine_model.specs.Locks.{locking}
 use Rattle.machine_model.specs.Step.{StepsTo, event_limit}
 use Rattle.machine_model.specs.Translating.{entry_of_page, with_table}
-use Rattle.machine_model.specs.World.{Memory, World}
+use Rattle.machine_model.specs.World.{Calls, Memory, World}
 use Rattle.machine_model.specs.Sound.{IsReached}
 use Rattle.core_steps.specs.Filling.{IsOfFile}
 use Rattle.core_steps.specs.Moving.{tried_to}
 use Rattle.core_steps.specs.declared.at_once.fault.Source.{Source}
-use Rattle.core_steps.specs.declared.at_once.fault.Source.TheVariants.{Own, Cached, Free, Read}
+use Rattle.core_steps.specs.declared.at_once.fault.Source.TheVariants.{Own, Cached, Free, Read, First}
 
 -- the core's call is to lock the page of its access, which is a slot of its own that nobody holds,
 -- and all events of the fault can be counted
@@ -64,6 +66,7 @@ frame_from (Own f) = f
 frame_from (Cached f) = f
 frame_from (Free f) = f
 frame_from (Read f n k) = f
+frame_from (First f n k) = f
 
 -- in how many steps the page gets it
 abbrev pub steps_from : Source → ℕ
@@ -71,6 +74,7 @@ steps_from (Own f) = 0
 steps_from (Cached f) = 1
 steps_from (Free f) = 2
 steps_from (Read f n k) = 2
+steps_from (First f n k) = 2
 
 -- the state in which the core's call is to lock the page of its access
 abbrev pub at_lock : ℕ → Touch → World → World
@@ -85,6 +89,15 @@ pub record IsToRead (access : Access) (settled : Settled) (back : Back) (is_free
   pub backed : IsOfFile back n k
   pub least : IsLeastFree is_free f
 
+-- The access, a store, finds that its private page of this page of a file wants a frame; and this is
+-- the least free one.
+pub record IsToCopy (access : Access) (settled : Settled) (back : Back) (is_free : ℕ → Bool)
+    (f n k : ℕ) : Type 0 where
+  pub wants : settled ≡ Found.Wants
+  pub stores : access ≡ Store
+  pub backed : back ≡ Private n k
+  pub least : IsLeastFree is_free f
+
 -- an access that finds this at a page with this backing gets the frame from there
 abbrev pub IsSource : Access → Settled → Back → (ℕ → Bool) → Source → Type 0
 IsSource access settled back is_free (Own f) = settled ≡ Found.Has f
@@ -92,6 +105,7 @@ IsSource access settled back is_free (Cached f) = settled ≡ Found.Cached f
 IsSource access settled back is_free (Free f) =
     (settled ≡ Found.Wants) × (back ≡ Anon) × IsLeastFree is_free f
 IsSource access settled back is_free (Read f n k) = IsToRead access settled back is_free f n k
+IsSource access settled back is_free (First f n k) = IsToCopy access settled back is_free f n k
 
 -- the page that is read is the one of a file that backs the page
 abbrev pub ReadsBacking : Source → Back → Type 0
@@ -123,11 +137,18 @@ pub record CanRead (m : Memory) (frames : ℕ) (file : Option File) (f n k : ℕ
   pub there : is_some (file_bytes file k) ≡ true
   pub uncached : m.cached n k ≡ None
 
+-- it can be taken for a copy of a page of a file
+pub record CanFill (m : Memory) (frames : ℕ) (file : Option File) (f n k : ℕ) : Type 0 where
+  pub frame : CanTakeFree m frames f
+  pub there : is_some (file_bytes file k) ≡ true
+  pub below : IfSome (m.cached n k) (λ g. g < frames)
+
 abbrev pub CanTake : World → ℕ → Source → Type 0
 CanTake w core (Own f) = Unit {0}
 CanTake w core (Cached f) = CanCount w.memory.counts core f
 CanTake w core (Free f) = CanTakeFree w.memory w.made.frames f
 CanTake w core (Read f n k) = CanRead w.memory w.made.frames (w.made.file n) f n k
+CanTake w core (First f n k) = CanFill w.memory w.made.frames (w.made.file n) f n k
 
 -- the memory once frame f is taken, has the page of the file as it now is and caches it, with these
 -- counts
@@ -140,8 +161,15 @@ with_page_read file f n k counts m =
       cached = put m.cached n (put (m.cached n) k (Some f));
     }
 
+-- the memory once frame f is taken and has the page of the file as it now is, with these counts
+abbrev pub with_page_copied : (ℕ → Option File) → ℕ → ℕ → ℕ → Counts → Memory → Memory
+with_page_copied file f n k counts m =
+    let taken = record m { is_free = put m.is_free f false } in
+    record taken { bytes = put m.bytes f (page_now taken (file n) n k); counts = counts }
+
 -- The memory once the frame is the page's: one of a file's page is counted up; a free one is taken,
--- has zeros and is counted once; or it gets a page of a file and is counted for the file too.
+-- has zeros and is counted once; or it gets a page of a file, which it caches, and is counted for the
+-- file too, or for the page alone as its copy.
 abbrev pub TakesFrom : (ℕ → Option File) → Memory → ℕ → Source → Memory → Type 0
 TakesFrom file m core (Own f) n = n ≡ m
 TakesFrom file m core (Cached f) n =
@@ -156,6 +184,24 @@ TakesFrom file m core (Free f) n =
 TakesFrom file m core (Read f i k) n =
     (counts : Counts) × Takes m.counts (Begin f 2) counts
     × (n ≡ with_page_read file f i k counts m)
+TakesFrom file m core (First f i k) n =
+    (counts : Counts) × Takes m.counts (Begin f 1) counts
+    × (n ≡ with_page_copied file f i k counts m)
+
+-- A copy is logged: the fourth event of the fault makes it.
+abbrev pub log_from : ℕ → ℕ → Source → Calls → List Entry
+log_from core page (First f n k) calls =
+    calls.log ++ EntryOf.Detach (calls.events + 4) (calls.number core) page ∷ []
+log_from core page _ calls = calls.log
+
+abbrev pub detached_from : ℕ → ℕ → Source → World → World
+detached_from core page from w =
+    record w { calls = record w.calls { log = log_from core page from w.calls } }
+
+-- for which there is memory, where one is to be logged: for more entries than may be logged so far
+abbrev pub HasRoom : Source → ℕ → ℕ → Type 0
+HasRoom (First f n k) limit fits = limit < fits
+HasRoom _ limit fits = Unit {0}
 
 -- ---- what is left
 

@@ -10,11 +10,13 @@ use Rattle.std.proofs.Common.{◌&&◌, ◌||◌}
 use Rattle.std.proofs.Common.{is_some}
 use Rattle.std.proofs.lemmas.Bool.{not-false, or_parts}
 use Rattle.vm_base.specs.Plain.{file_bytes}
-use Rattle.machine_model.proofs.Words.{File, Translation}
+use Rattle.machine_model.proofs.Words.{File, Translation, [], ◌++◌, ◌∷◌, after_first_copy}
+use Rattle.machine_model.specs.Filling.{FillsOwn}
 use Rattle.machine_model.specs.declared.event.Event.TheVariants.{Go}
 use Rattle.machine_model.specs.declared.event.Outcome.TheVariants.{Stepped}
 use Rattle.machine_model.specs.declared.phase.Phase.{Phase}
 use Rattle.machine_model.specs.declared.phase.Phase.TheVariants.{Answer, Fill, Install, Release, Settle, Try, Want}
+use Rattle.vm_base.specs.declared.log.Entry.TheVariants as EntryOf
 use Rattle.vm_base.specs.declared.rights.Access.TheVariants.{Store}
 use Rattle.slot_lock.specs.declared.plan.Goal.TheVariants as To
 use Rattle.mmu.specs.declared.translated.Translated.TheVariants as By
@@ -22,14 +24,14 @@ use Rattle.vm_calls.specs.declared.fault.Settled.TheVariants as Found
 use Rattle.machine_model.specs.Accesses.{NoneFree, after_translation, after_try, lies_past_end}
 use Rattle.vm_base.specs.declared.replies.Reply.TheVariants.{NoFrame}
 use Rattle.core_steps.specs.declared.at_once.fault.Source.{Source}
-use Rattle.core_steps.specs.declared.at_once.fault.Source.TheVariants.{Own, Cached, Free, Read}
+use Rattle.core_steps.specs.declared.at_once.fault.Source.TheVariants.{Own, Cached, Free, Read, First}
 use Rattle.core_steps.specs.Filling.{IsOfFile}
 use Rattle.core_steps.specs.Moving.{CanTry, IsAt, tried_to}
 use Rattle.core_steps.specs.OnePage.{CanTake, IsFault, IsSource, Makes, Passes, ReadsBacking, TakesFrom, after_settling, at_lock, frame_from}
-use Rattle.core_steps.specs.OnePage.{cached_from, later, logged_later, steps_from, wants_frame, with_entry_of}
+use Rattle.core_steps.specs.OnePage.{cached_from, detached_from, later, log_from, logged_later, steps_from, wants_frame, with_entry_of}
 use Rattle.core_steps.proofs.at_once.AtOnce.{answered, goes, holding, locked, one_later, passes_join}
 use Rattle.core_steps.proofs.at_once.AtOnce.{released, stands, step_from, to_same, to_twice}
-use Rattle.core_steps.proofs.rows.Framing.{cached_anew, counted_few, fills_zeros, of_file_frame, shown_here, shown_used, zeroed}
+use Rattle.core_steps.proofs.rows.Framing.{cached_anew, cached_below, counted_few, first_copied, fills_zeros, of_file_frame, shown_here, shown_used, zeroed}
 use Rattle.core_steps.proofs.rows.Known.{frame_below, free_below, free_unused}
 use Rattle.core_steps.proofs.engine.Each.{put_id, put_twice}
 use Rattle.core_steps.proofs.rows.Rows.{installed}
@@ -129,6 +131,12 @@ reads w v c touch own back access n k load backed none h = go back access load b
         subst (λ back. FillsBacked w c touch own back access Stepped v) (sym e)
         (private access (ap (λ back. is_private_store back access) (sym e) ∙ load))
 
+-- or, for a private store, one that gets a copy of it
+copies : (w v : World) (c : ℕ) (touch : Touch) (own : Option ℕ) (back : Back) (access : Access) (n k : ℕ) → back ≡ Private n k → access ≡ Store
+    → FillsOwn w (λ f counts. after_first_copy c touch f counts w) own Stepped v → FillsBacked w c touch own back access Stepped v
+copies w v c touch own back access n k e s h =
+    subst (λ b. FillsBacked w c touch own b access Stepped v) (sym e) (subst (λ a. FillsBacked w c touch own (Private n k) a Stepped v) (sym s) h)
+
 -- the file page of what doesn't lie past its file's end is there
 there : (file : ℕ → Option File) (back : Back) (n k : ℕ) → IsOfFile back n k → lies_past_end file back ≡ false → is_some (file_bytes (file n) k) ≡ true
 there file back n k (inl e) past = not-false _ (ap (lies_past_end file) (sym e) ∙ past)
@@ -172,12 +180,14 @@ reads_backing access found back is_free (Read f n k) h = h.backed
 reads_backing access found back is_free (Own f) h = tt
 reads_backing access found back is_free (Cached f) h = tt
 reads_backing access found back is_free (Free f) h = tt
+reads_backing access found back is_free (First f n k) h = tt
 
 caches : (from : Source) (c : ℕ) (file : ℕ → Option File) (m n : Memory) → TakesFrom file m c from n → n.cached ≡ cached_from m.cached from
 caches (Own f) c file m n t = ap (λ (x : Memory). x.cached) t
 caches (Cached f) c file m n t = ap (λ (x : Memory). x.cached) t.2
 caches (Free f) c file m n t = ap (λ (x : Memory). x.cached) t.2
 caches (Read f i k) c file m n t = ap (λ (x : Memory). x.cached) t.2
+caches (First f i k) c file m n t = ap (λ (x : Memory). x.cached) t.2
 
 -- an access that has to take a frame goes on to where it wants one
 wanting : (c : ℕ) (touch : Touch) (s : Settled) → wants_frame s ≡ true
@@ -303,25 +313,47 @@ module _ (w : World) (c : ℕ) (touch : Touch) (fault : IsFault (at_lock c touch
           there = there w.made.file info.meta.back n k h.backed (ap (is_past_end w.made.file) (sym e) ∙ (known h).0);
           uncached = uncached h;
         }
+    can_take (First f n k) h =
+        let m = at_lock c touch w in
+        let here = free_below m at.well f h.least.free in
+        let o = w.slots.info touch.page in
+        record {
+          frame = record { here = here; free = h.least.free; object = at.objects f here; unused = free_unused m f at.well h.least.free };
+          there = there w.made.file info.meta.back n k (inr h.backed) (ap (is_past_end w.made.file) (sym e)
+              ∙ (wanted o touch.access (is_past_end w.made.file o) (file_frame w.memory.cached (back_of o)) h.wants).0);
+          below = cached_below m at.well n k;
+        }
 
     -- with the frame, and where this is the memory then
-    abbrev filled : ℕ → Memory → World
-    filled f m = record w { slots = with_info w.slots touch.page (info_with_frame f (w.slots.info touch.page)); memory = m }
+    abbrev filled : Source → Memory → World
+    filled from m = record w {
+      slots = with_info w.slots touch.page (info_with_frame (frame_from from) (w.slots.info touch.page));
+      memory = m;
+      calls = record w.calls { log = log_from c touch.page from w.calls };
+    }
+
+    -- as a copy that this step logged
+    abbrev copied : ℕ → ℕ → Memory → World
+    copied f step m = record w {
+      slots = with_info w.slots touch.page (info_with_frame f (w.slots.info touch.page));
+      memory = m;
+      calls = record w.calls { log = w.calls.log ++ EntryOf.Detach step (w.calls.number c) touch.page ∷ [] };
+    }
 
     fetches : (from : Source) (m : Memory) → Comes from → TakesFrom w.made.file w.memory c from m
-        → StepsTo (at_lock c touch w) c (steps_from from + 2) (to c (Install touch) (later (steps_from from + 2) (pages (filled (frame_from from) m))))
+        → StepsTo (at_lock c touch w) c (steps_from from + 2) (to c (Install touch) (later (steps_from from + 2) (pages (filled from m))))
     fetches (Own f) m h t =
         let same = put_id w.slots.info touch.page _ (framed (w.slots.info touch.page) f (said (Found.Has f) h)) in
         subst (λ (x : World). StepsTo (at_lock c touch w) c 2 (to c (Install touch) (later 2 (pages x))))
-        (sym (ap (filled f) t ∙ ap (λ i. record w { slots = record w.slots { info = i } }) same)) (settles (Install touch) (Found.Has f) h (λ m. refl))
+        (sym (ap (filled (Own f)) t ∙ ap (λ i. record w { slots = record w.slots { info = i } }) same)) (settles (Install touch) (Found.Has f) h (λ m. refl))
     fetches (Cached f) m h t =
         let fill = Fill touch None in
         let known = said (Found.Cached f) h in (
           to c fill (later 2 (pages w)),
           settles fill (Found.Cached f) h (λ m. refl),
-          goes (pages w) (pages (filled f m)) c 2 fill (Install touch) (omega arith) fault.here
+          goes (pages w) (pages (filled (Cached f) m)) c 2 fill (Install touch) (omega arith) fault.here
               (shares (to c fill (with_event (later 2 (pages w)))) _ c touch f (back_of (w.slots.info touch.page)) touch.access known.0 known.1
-              (t.0, t.1, (refl, ap (λ (m : Memory). to c (Install touch) (to c fill (with_event (later 2 (pages (filled f m)))))) t.2))),
+              (t.0, t.1, (refl, ap (λ (m : Memory). to c (Install touch) (to c fill (with_event (later 2 (pages (filled (Cached f) m)))))) t.2))),
         )
     fetches (Free f) m h t =
         let fill = Fill touch (Some f) in
@@ -335,9 +367,9 @@ module _ (w : World) (c : ℕ) (touch : Touch) (fault : IsFault (at_lock c touch
             goes (pages w) (pages taken) c 2 (Want touch None) fill (omega arith) fault.here
                 (inr (f, record { free = h.2.free; least = h.2.least }, (refl, refl))),
           ),
-          goes (pages taken) (pages (filled f m)) c 3 fill (Install touch) (omega arith) fault.here
+          goes (pages taken) (pages (filled (Free f) m)) c 3 fill (Install touch) (omega arith) fault.here
               (fills_zeros x _ c touch (Some f) Stepped back (zeroed x _ c touch f t.0 back t.1
-              (ap (λ (m : Memory). to c (Install touch) (to c fill (with_event (later 3 (pages (filled f m)))))) t.2))),
+              (ap (λ (m : Memory). to c (Install touch) (to c fill (with_event (later 3 (pages (filled (Free f) m)))))) t.2))),
         )
     fetches (Read f n k) m h t =
         let fill = Fill touch (Some f) in
@@ -350,10 +382,29 @@ module _ (w : World) (c : ℕ) (touch : Touch) (fault : IsFault (at_lock c touch
             goes (pages w) (pages taken) c 2 (Want touch None) fill (omega arith) fault.here
                 (inr (f, record { free = h.least.free; least = h.least.least }, (refl, refl))),
           ),
-          goes (pages taken) (pages (filled f m)) c 3 fill (Install touch) (omega arith) fault.here
+          goes (pages taken) (pages (filled (Read f n k) m)) c 3 fill (Install touch) (omega arith) fault.here
               (reads x _ c touch (Some f) (back_of (w.slots.info touch.page)) touch.access n k (shared h) (backed h) (uncached h)
               (cached_anew x _ c touch f n k t.0 (backed h) t.1
-              (ap (λ (m : Memory). to c (Install touch) (to c fill (with_event (later 3 (pages (filled f m)))))) t.2))),
+              (ap (λ (m : Memory). to c (Install touch) (to c fill (with_event (later 3 (pages (filled (Read f n k) m)))))) t.2))),
+        )
+    fetches (First f n k) m h t =
+        let fill = Fill touch (Some f) in
+        let taken = record w { memory = record w.memory { is_free = put w.memory.is_free f false } } in
+        let x = to c fill (with_event (later 3 (pages taken))) in
+        let back : back_of (w.slots.info touch.page) ≡ Private n k = ap back_of e ∙ h.backed in
+        let step : w.calls.events + 4 ≡ suc (w.calls.events + 3) = omega arith in (
+          to c fill (later 3 (pages taken)),
+          (
+            to c (Want touch None) (later 2 (pages w)),
+            settles (Want touch None) Found.Wants h.wants (λ m. refl),
+            goes (pages w) (pages taken) c 2 (Want touch None) fill (omega arith) fault.here
+                (inr (f, record { free = h.least.free; least = h.least.least }, (refl, refl))),
+          ),
+          goes (pages taken) (pages (filled (First f n k) m)) c 3 fill (Install touch) (omega arith) fault.here
+              (copies x _ c touch (Some f) (back_of (w.slots.info touch.page)) touch.access n k back h.stores
+              (first_copied x _ c touch f n k t.0 back t.1
+              (ap (λ s. to c (Install touch) (to c fill (with_event (later 3 (pages (copied f s m)))))) step
+              ∙ ap (λ (m : Memory). to c (Install touch) (to c fill (with_event (later 3 (pages (copied f (suc (w.calls.events + 3)) m)))))) t.2))),
         )
 
     abbrev shown : Source → PageInfo
@@ -361,21 +412,24 @@ module _ (w : World) (c : ℕ) (touch : Touch) (fault : IsFault (at_lock c touch
 
     -- it is installed, and the page let go
     abbrev left : Source → Memory → World
-    left from m = record (with_entry_of c touch.page (shown from) (entry_of_page m.cached (Some (shown from))) w) { memory = m }
+    left from m = record (with_entry_of c touch.page (shown from) (entry_of_page m.cached (Some (shown from))) w) {
+      memory = m;
+      calls = record w.calls { log = log_from c touch.page from w.calls };
+    }
 
     shows : (from : Source) (m : Memory) → Comes from → TakesFrom w.made.file w.memory c from m
         → StepsTo (at_lock c touch w) c (suc (suc (steps_from from + 2))) (to c (Try touch) (later (steps_from from + 2 + 1 + 1) (left from m)))
     shows from m h t =
         let k = steps_from from + 2 in
         let f = frame_from from in
-        let x = to c (Install touch) (with_event (later k (pages (filled f m)))) in
+        let x = to c (Install touch) (with_event (later k (pages (filled from m)))) in
         let put_there = put_same w.slots.info touch.page (info_with_frame f (w.slots.info touch.page)) ∙ ap (info_with_frame f) e in
         let twice = put_twice w.slots.info touch.page (info_with_frame f (w.slots.info touch.page)) (info_with_core c (Some (shown from))) in (
           to c (Release touch) (later (k + 1) (pages (left from m))),
           (
-            to c (Install touch) (later k (pages (filled f m))),
+            to c (Install touch) (later k (pages (filled from m))),
             fetches from m h t,
-            goes (pages (filled f m)) (pages (left from m)) c k (Install touch) (Release touch) (omega (arith, few_steps from)) fault.here (
+            goes (pages (filled from m)) (pages (left from m)) c k (Install touch) (Release touch) (omega (arith, few_steps from)) fault.here (
               refl,
               ap (installs x) twice ∙ installed x c touch (shown from) put_there,
             ),
@@ -395,7 +449,7 @@ module _ (w : World) (c : ℕ) (touch : Touch) (fault : IsFault (at_lock c touch
     module _ (from : Source) (h : Comes from) (a v : World) (entry : Option Translation)
         (entered : entry ≡ entry_of_page (cached_from w.memory.cached from) (Some (shown from)))
         (now : a ≡ with_entry_of c touch.page (shown from) entry w)
-        (taken : (memory : Memory) × TakesFrom a.made.file a.memory c from memory × (v ≡ record a { memory = memory })) where
+        (taken : (memory : Memory) × TakesFrom a.made.file a.memory c from memory × (v ≡ detached_from c touch.page from (record a { memory = memory }))) where
       pub gets : Passes w c (locking (To.Access touch)) (suc (suc (steps_from from + 2))) (Try touch) (later (steps_from from + 4) v)
       gets =
           let memory = taken.0 in
@@ -404,7 +458,7 @@ module _ (w : World) (c : ℕ) (touch : Touch) (fault : IsFault (at_lock c touch
           let sum : w.calls.events + (steps_from from + 2 + 1 + 1) ≡ w.calls.events + (steps_from from + 4) = omega arith in
           let same = entered ∙ ap (λ cached. entry_of_page cached (Some (shown from))) (sym (caches from c w.made.file w.memory memory takes)) in
           subst (λ (x : World). Passes w c (locking (To.Access touch)) (suc (suc (steps_from from + 2))) (Try touch) (later (steps_from from + 4) x))
-          (sym (taken.2 ∙ ap (λ (x : World). record x { memory = memory })
+          (sym (taken.2 ∙ ap (λ (x : World). detached_from c touch.page from (record x { memory = memory }))
           (now ∙ ap (λ entry. with_entry_of c touch.page (shown from) entry w) same))) (record {
             steps = subst (λ n. StepsTo (at_lock c touch w) c (suc (suc (steps_from from + 2)))
                 (to c (Try touch) (record x { calls = record x.calls { events = n } }))) sum (shows from memory h takes);

@@ -12,9 +12,10 @@ ghost use Rattle.machine_model.specs.Locks.{locking};
 ghost use Rattle.machine_model.specs.Step.{StepsTo, event_limit};
 ghost use Rattle.machine_model.specs.World.{Memory, World};
 ghost use Rattle.machine_model.specs.Sound.{IsReached};
-ghost use Rattle.core_steps.specs.OnePage.{CanRead, CanTake, IsFault, IsSource, Makes};
+ghost use Rattle.core_steps.specs.OnePage.{CanFill, CanRead, CanTake, HasRoom, IsFault, IsSource, Makes};
 ghost use Rattle.core_steps.specs.OnePage.{ReadsBacking, TakesFrom, after_settling, at_lock, cached_from};
-ghost use Rattle.core_steps.specs.OnePage.{frame_from, steps_from, wants_frame, with_page_read};
+ghost use Rattle.core_steps.specs.OnePage.{detached_from, frame_from, steps_from, wants_frame, with_page_copied, with_page_read};
+ghost use Rattle.core_steps.specs.declared.at_once.fault.Source.TheVariants.{First};
 ghost use Rattle.core_steps.specs.State.{world};
 
 use crate::engine::Engine;
@@ -43,6 +44,8 @@ pub(crate) enum Source {
     Free(u32),
     /// It is the least free one, which gets this page of a file, and caches it from there on.
     Read { frame: u32, file: u32, page: u64 },
+    /// It is the least free one, for a private page's copy of this page of a file.
+    First { frame: u32, file: u32, page: u64 },
 }
 
 impl Source {
@@ -52,7 +55,7 @@ impl Source {
     {
         match *self {
             Source::Own(frame) | Source::Cached(frame) | Source::Free(frame) => frame,
-            Source::Read { frame, .. } => frame,
+            Source::Read { frame, .. } | Source::First { frame, .. } => frame,
         }
     }
 
@@ -64,7 +67,7 @@ impl Source {
         match *self {
             Source::Own(_) => 0,
             Source::Cached(_) => 1,
-            Source::Free(_) | Source::Read { .. } => 2,
+            Source::Free(_) | Source::Read { .. } | Source::First { .. } => 2,
         }
     }
 }
@@ -101,21 +104,25 @@ impl<M: SlotMap, H: Hardware, A: Allocator, L: Ledger> Engine<M, H, A, L> {
         self.log_at_once(core, Reply::NoFrame, 3);
     }
 
-    // What the least free frame is for, where a page that wants one isn't to have a copy.
+    // What the least free frame is for, where a page wants one.
     fn new_source(&self, access: Access, back: Back) -> Option<Source>
         ensures { IfSome result (IsSource access Settled.Wants back (free_frames self.now.frames)) }
     {
         let frame = self.frames.least_free()?;
         match (back, access) {
             (Back::Anon, _) => Some(Source::Free(frame)),
-            (Back::Private { .. }, Access::Store) => None,
+            (Back::Private { file, page }, Access::Store) => Some(Source::First {
+                frame,
+                file,
+                page,
+            }),
             (Back::Shared { file, page } | Back::Private { file, page }, _) => {
                 Some(Source::Read { frame, file, page })
             }
         }
     }
 
-    // Where the page's frame comes from, if neither a message has to be sent nor a copy to be made.
+    // Where the page's frame comes from, if it has none that is to be copied.
     fn source_of(&self, access: Access, settled: Settled, back: Back) -> Option<Source>
         ensures { IfSome result (IsSource access settled back (free_frames self.now.frames)) }
     {
@@ -155,12 +162,52 @@ impl<M: SlotMap, H: Hardware, A: Allocator, L: Ledger> Engine<M, H, A, L> {
         self.counts.begin(frame, 2);
     }
 
-    // The page's frame is taken, filled and counted, as far as it has to be.
-    fn take_from(&mut self, core: CoreId, source: Source)
-        requires { CanTake (world M.slots self.old) core source }
+    // The free frame is taken, gets the page of the file, and is counted for the page, which has it as a
+    // copy. That is logged.
+    fn copy_page(&mut self, core: CoreId, at: u64, frame: u32, file: u32, page: u64)
+        requires can { CanFill (world M.slots self.old).memory (world M.slots self.old).made.frames
+            ((world M.slots self.old).made.file file) frame file page }
+        requires here { core < length self.old.calls.phases.items }
+        requires room { L.limit self.old.calls.ledger < L.fits self.old.calls.ledger }
+        requires events { self.old.calls.events + 4 < event_limit }
+        ensures { (counts : Counts) × Takes (world M.slots self.old).memory.counts (Begin frame 1) counts
+            × (world M.slots self.new ≡ detached_from core at (First frame file page)
+            (record (world M.slots self.old) {
+              memory = with_page_copied (world M.slots self.old).made.file frame file page counts
+                  (world M.slots self.old).memory;
+            })) }
+    {
+        self.frames.take(frame);
+        self.objects.fill(file, page, &mut self.frames, frame);
+        self.counts.begin(frame, 1);
+        self.calls.log_copy(core, at, 4);
+    }
+
+    // There is memory for the entry of a copy, if the frame comes from there for one. Nothing else
+    // changes.
+    fn room_for(&mut self, source: Source) -> bool
+        ensures same { world M.slots self.new ≡ world M.slots self.old }
+        ensures cores { length self.new.calls.phases.items ≡ length self.old.calls.phases.items }
+        ensures room { result ≡ true
+            → HasRoom source (L.limit self.new.calls.ledger) (L.fits self.new.calls.ledger) }
+    {
+        match source {
+            Source::First { .. } => self.calls.make_room().is_ok(),
+            Source::Own(_) | Source::Cached(_) | Source::Free(_) | Source::Read { .. } => true,
+        }
+    }
+
+    // The frame of the core's page `at` is taken, filled and counted, as far as it has to be, and a copy
+    // is logged.
+    fn take_from(&mut self, core: CoreId, at: u64, source: Source)
+        requires can { CanTake (world M.slots self.old) core source }
+        requires here { core < length self.old.calls.phases.items }
+        requires room { HasRoom source (L.limit self.old.calls.ledger) (L.fits self.old.calls.ledger) }
+        requires events { self.old.calls.events + 4 < event_limit }
         ensures { (memory : Memory)
             × TakesFrom (world M.slots self.old).made.file (world M.slots self.old).memory core source memory
-            × (world M.slots self.new ≡ record (world M.slots self.old) { memory = memory }) }
+            × (world M.slots self.new
+            ≡ detached_from core at source (record (world M.slots self.old) { memory = memory })) }
     {
         match source {
             Source::Own(_) => {}
@@ -171,6 +218,7 @@ impl<M: SlotMap, H: Hardware, A: Allocator, L: Ledger> Engine<M, H, A, L> {
                 self.counts.begin(frame, 1);
             }
             Source::Read { frame, file, page } => self.read_page(frame, file, page),
+            Source::First { frame, file, page } => self.copy_page(core, at, frame, file, page),
         }
     }
 
@@ -187,6 +235,7 @@ impl<M: SlotMap, H: Hardware, A: Allocator, L: Ledger> Engine<M, H, A, L> {
         requires info { (M.slots self.old.map).info touch.page ≡ Some info }
         requires source { IsSource touch.access (found_at (world M.slots self.old) touch) info.meta.back
             (world M.slots self.old).memory.is_free source }
+        requires log { HasRoom source (L.limit self.old.calls.ledger) (L.fits self.old.calls.ledger) }
         ensures { Makes (world M.slots self.old) core touch result (world M.slots self.new) }
     {
         let frame = source.frame();
@@ -198,7 +247,7 @@ impl<M: SlotMap, H: Hardware, A: Allocator, L: Ledger> Engine<M, H, A, L> {
         let Ok(()) = self.show_with(core, touch.page, shown, frame, prot) else {
             return None;
         };
-        self.take_from(core, source);
+        self.take_from(core, touch.page, source);
         self.calls.events += source.steps() + 4;
         self.try_page(core, touch)
     }
@@ -206,8 +255,8 @@ impl<M: SlotMap, H: Hardware, A: Allocator, L: Ledger> Engine<M, H, A, L> {
     /// The steps of an access whose page has to be locked, where that is a slot of its own that nobody
     /// holds: up to the next try of the page, or up to the reply where the access fails. It answers the
     /// access's reply, which is logged; without one the call is to lock its page. The core's phase isn't
-    /// written. No step is made where a plain one has to look, since there may be no memory, a copy has
-    /// to be made, or other cores have to be told.
+    /// written. No step is made where a plain one has to look, since there may be no memory, or the frame
+    /// that the page has is to be copied.
     pub fn make_fault(&mut self, core: CoreId, touch: Touch) -> Option<Reply>
         requires here { core < length self.old.calls.phases.items }
         requires reached { ∥ IsReached (at_lock core touch (world M.slots self.old)) ∥₁ }
@@ -225,6 +274,9 @@ impl<M: SlotMap, H: Hardware, A: Allocator, L: Ledger> Engine<M, H, A, L> {
         if let Some(info) = page.info
             && let Some(source) = self.source_of(touch.access, settled, info.meta.back)
         {
+            if !self.room_for(source) {
+                return None;
+            }
             return self.show_at_once(core, touch, info, source);
         }
         if wants_frame(settled) && self.frames.least_free().is_none() {

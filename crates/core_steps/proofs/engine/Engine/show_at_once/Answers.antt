@@ -12,8 +12,8 @@ pub show_with-requires-clause-page : goal.show_with-requires-clause-page
 show_with-requires-clause-page g c =
     (stands (world g.M.SlotRead.slots c.args.self.now) c.args.core _ c.requires.fault.here c.requires.fault.reached).goal.plan.page
 
-pub take_from-requires : goal.take_from-requires
-take_from-requires g c =
+pub take_from-requires-clause-can : goal.take_from-requires-clause-can
+take_from-requires-clause-can g c =
     subst (λ (x : World). CanTake x c.args.core c.args.source) (sym c.in-Ok.ensures.ok)
     (can_take (world g.M.SlotRead.slots c.args.self.now) c.args.core c.args.touch c.requires.fault c.args.info c.requires.info c.args.source c.requires.source)
 
