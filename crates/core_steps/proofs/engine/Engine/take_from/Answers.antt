@@ -20,3 +20,6 @@ returns-in-Read g c = rw c.in-Read.is (_, (c.read_page.ensures.0, c.read_page.en
 
 pub returns-in-First : goal.returns-in-First
 returns-in-First g c = rw c.in-First.is (_, (c.copy_page.ensures.0, c.copy_page.ensures.1, refl), c.copy_page.ensures.2)
+
+pub returns-in-Shown : goal.returns-in-Shown
+returns-in-Shown g c = rw c.in-Shown.is (_, (c.copy_shown.ensures.0, c.copy_shown.ensures.1, refl), c.copy_shown.ensures.2)
