@@ -63,7 +63,7 @@ impl Source {
             Source::Own(frame) | Source::Cached(frame) | Source::Free(frame) => frame,
             Source::Read { frame, .. }
             | Source::First { frame, .. }
-            | Source::Shown { frame, .. } => { frame }
+            | Source::Shown { frame, .. } => frame,
         }
     }
 
