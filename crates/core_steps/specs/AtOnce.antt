@@ -40,7 +40,7 @@ pub record CanBegin (w : World) (core : ℕ) : Type 0 where
 -- a call of the core can begin, and all its events that are made at once can be counted
 pub record CanStart (w : World) (core : ℕ) : Type 0 where
   pub reached : ∥ IsReached w ∥₁
-  pub below : w.calls.events + 11 < event_limit
+  pub below : w.calls.events + 12 < event_limit
   pub here : core < w.made.cores
   pub begins : CanBegin w core
 

@@ -6,15 +6,21 @@ use Rattle.machine_model.proofs.Words.{settled, source, Hardware, Memory, World}
 use Rattle.machine_model.proofs.Words.{after_finding, found_at, is_past_end, memory_after, reply_of, answer_entry, to, with_entry, back_of, file_frame}
 use Rattle.machine_model.proofs.Words.{FillsBacked, FillsFromFile, page_of_touch, locking, Step, StepsTo, event_limit, with_event, after_translating}
 use Rattle.machine_model.proofs.Words.{entry_of_page, frame_reached, translated_by, with_hardware, with_table}
+use Rattle.machine_model.proofs.Words.{AwaitsNobody, after_shot, tables_cleared, tlb_invalidated, info_with_copy, fun_ext, has, has_in, over, pages_from, put_both}
+use Rattle.machine_model.proofs.Words.{cond, props, ∥∥₁_elim}
+use Rattle.std.specs.Prelude.{◌≢◌}
+use Rattle.vm_base.specs.Info.{recorded_cores}
 use Rattle.std.proofs.Common.{◌&&◌, ◌||◌}
 use Rattle.std.proofs.Common.{is_some}
 use Rattle.std.proofs.lemmas.Bool.{not-false, or_parts}
 use Rattle.vm_base.specs.Plain.{file_bytes}
-use Rattle.machine_model.proofs.Words.{File, Translation}
+use Rattle.machine_model.proofs.Words.{File, Translation, [], ◌++◌, ◌∷◌, after_first_copy}
+use Rattle.machine_model.specs.Filling.{FillsOwn}
 use Rattle.machine_model.specs.declared.event.Event.TheVariants.{Go}
 use Rattle.machine_model.specs.declared.event.Outcome.TheVariants.{Stepped}
 use Rattle.machine_model.specs.declared.phase.Phase.{Phase}
-use Rattle.machine_model.specs.declared.phase.Phase.TheVariants.{Answer, Fill, Install, Release, Settle, Try, Want}
+use Rattle.machine_model.specs.declared.phase.Phase.TheVariants.{Answer, CopyAcks, CopyPost, Fill, Install, Release, Settle, Try, Want}
+use Rattle.vm_base.specs.declared.log.Entry.TheVariants as EntryOf
 use Rattle.vm_base.specs.declared.rights.Access.TheVariants.{Store}
 use Rattle.slot_lock.specs.declared.plan.Goal.TheVariants as To
 use Rattle.mmu.specs.declared.translated.Translated.TheVariants as By
@@ -22,16 +28,19 @@ use Rattle.vm_calls.specs.declared.fault.Settled.TheVariants as Found
 use Rattle.machine_model.specs.Accesses.{NoneFree, after_translation, after_try, lies_past_end}
 use Rattle.vm_base.specs.declared.replies.Reply.TheVariants.{NoFrame}
 use Rattle.core_steps.specs.declared.at_once.fault.Source.{Source}
-use Rattle.core_steps.specs.declared.at_once.fault.Source.TheVariants.{Own, Cached, Free, Read}
+use Rattle.core_steps.specs.declared.at_once.fault.Source.TheVariants.{Own, Cached, Free, Read, First, Shown}
 use Rattle.core_steps.specs.Filling.{IsOfFile}
 use Rattle.core_steps.specs.Moving.{CanTry, IsAt, tried_to}
 use Rattle.core_steps.specs.OnePage.{CanTake, IsFault, IsSource, Makes, Passes, ReadsBacking, TakesFrom, after_settling, at_lock, frame_from}
-use Rattle.core_steps.specs.OnePage.{cached_from, later, logged_later, steps_from, wants_frame, with_entry_of}
+use Rattle.core_steps.specs.OnePage.{IsUntold, cached_from, detached_from, hardware_from, later, log_from, logged_later, shown_from, steps_from, wants_frame}
+use Rattle.core_steps.specs.OnePage.{with_entry_of}
+use Rattle.core_steps.specs.PageChange.{IsAlone}
 use Rattle.core_steps.proofs.at_once.AtOnce.{answered, goes, holding, locked, one_later, passes_join}
 use Rattle.core_steps.proofs.at_once.AtOnce.{released, stands, step_from, to_same, to_twice}
-use Rattle.core_steps.proofs.rows.Framing.{cached_anew, counted_few, fills_zeros, of_file_frame, shown_here, shown_used, zeroed}
-use Rattle.core_steps.proofs.rows.Known.{frame_below, free_below, free_unused}
-use Rattle.core_steps.proofs.engine.Each.{put_id, put_twice}
+use Rattle.core_steps.proofs.rows.Framing.{cached_anew, cached_below, counted_few, first_copied, fills_zeros, of_file_frame, page_frame_used, shown_here}
+use Rattle.core_steps.proofs.rows.Framing.{shown_used, zeroed}
+use Rattle.core_steps.proofs.rows.Known.{frame_below, free_below, free_unused, page_counted}
+use Rattle.core_steps.proofs.engine.Each.{own_dropped, put_id, put_twice}
 use Rattle.core_steps.proofs.rows.Rows.{installed}
 
 -- ---- the try of an access
@@ -78,13 +87,14 @@ touched w y z c touch f reply h reached translates memory replies logs = rw (log
 -- what is known where this is found at a page that has this, of whose file page that frame is shown
 abbrev Says : Option PageInfo → Access → Option ℕ → Settled → Type 0
 Says o access shown (Found.Has f) = frame_of o ≡ Some f
+Says o access shown (Found.Copies f) = frame_of o ≡ Some f
 Says o access shown (Found.Cached g) = (is_private_store (back_of o) access ≡ false) × (shown ≡ Some g)
 Says o access shown _ = Unit {0}
 
 comes : (info : PageInfo) (access : Access) (frame shown : Option ℕ) → info.frame ≡ frame
     → Says (Some info) access shown (source info.meta.back frame access shown)
 comes info access (Some f) shown e =
-    by_test (Says (Some info) access shown) (is_private_store info.meta.back access && is_cached shown f) (Found.Copies f) (Found.Has f) (λ _. tt) (λ _. e)
+    by_test (Says (Some info) access shown) (is_private_store info.meta.back access && is_cached shown f) (Found.Copies f) (Found.Has f) (λ _. e) (λ _. e)
 comes info access None None e = tt
 comes info access None (Some g) e =
     let store = is_private_store info.meta.back access in
@@ -129,6 +139,12 @@ reads w v c touch own back access n k load backed none h = go back access load b
         subst (λ back. FillsBacked w c touch own back access Stepped v) (sym e)
         (private access (ap (λ back. is_private_store back access) (sym e) ∙ load))
 
+-- or, for a private store, one that gets a copy of it
+copies : (w v : World) (c : ℕ) (touch : Touch) (own : Option ℕ) (back : Back) (access : Access) (n k : ℕ) → back ≡ Private n k → access ≡ Store
+    → FillsOwn w (λ f counts. after_first_copy c touch f counts w) own Stepped v → FillsBacked w c touch own back access Stepped v
+copies w v c touch own back access n k e s h =
+    subst (λ b. FillsBacked w c touch own b access Stepped v) (sym e) (subst (λ a. FillsBacked w c touch own (Private n k) a Stepped v) (sym s) h)
+
 -- the file page of what doesn't lie past its file's end is there
 there : (file : ℕ → Option File) (back : Back) (n k : ℕ) → IsOfFile back n k → lies_past_end file back ≡ false → is_some (file_bytes (file n) k) ≡ true
 there file back n k (inl e) past = not-false _ (ap (lies_past_end file) (sym e) ∙ past)
@@ -172,12 +188,16 @@ reads_backing access found back is_free (Read f n k) h = h.backed
 reads_backing access found back is_free (Own f) h = tt
 reads_backing access found back is_free (Cached f) h = tt
 reads_backing access found back is_free (Free f) h = tt
+reads_backing access found back is_free (First f n k) h = tt
+reads_backing access found back is_free (Shown f g) h = tt
 
 caches : (from : Source) (c : ℕ) (file : ℕ → Option File) (m n : Memory) → TakesFrom file m c from n → n.cached ≡ cached_from m.cached from
 caches (Own f) c file m n t = ap (λ (x : Memory). x.cached) t
 caches (Cached f) c file m n t = ap (λ (x : Memory). x.cached) t.2
 caches (Free f) c file m n t = ap (λ (x : Memory). x.cached) t.2
 caches (Read f i k) c file m n t = ap (λ (x : Memory). x.cached) t.2
+caches (First f i k) c file m n t = ap (λ (x : Memory). x.cached) t.2
+caches (Shown f g) c file m n t = ap (λ (x : Memory). x.cached) t.2
 
 -- an access that has to take a frame goes on to where it wants one
 wanting : (c : ℕ) (touch : Touch) (s : Settled) → wants_frame s ≡ true
@@ -186,9 +206,30 @@ wanting c touch Found.Wants e = (None, λ m. refl)
 wanting c touch (Found.Copies f) e = (Some f, λ m. refl)
 wanting c touch _ e = absurd cc
 
-few_steps : (from : Source) → steps_from from ≤ 2
+few_steps : (from : Source) → steps_from from ≤ 3
 few_steps (Own f) = omega arith
 few_steps from = omega arith
+
+-- what the page has with the frame
+abbrev info_after : Source → Option PageInfo → Option PageInfo
+info_after (Shown f g) o = info_with_copy f o
+info_after from o = info_with_frame (frame_from from) o
+
+shows_it : (from : Source) (info : PageInfo) → info_after from (Some info) ≡ Some (shown_from from info)
+shows_it (Own f) info = refl
+shows_it (Cached f) info = refl
+shows_it (Free f) info = refl
+shows_it (Read f n k) info = refl
+shows_it (First f n k) info = refl
+shows_it (Shown f g) info = refl
+
+-- of a page alone: what is cleared and set is set
+cleared_set : {V : Type 0} (f : ℕ → V) (none v : V) (p : ℕ) → put (over f (has (pages_from p 1)) none) p v ≡ put f p v
+cleared_set f none v p = fun_ext (put_both (λ j x y. x ≡ y) (over f (has (pages_from p 1)) none) f p v v refl (λ j other. outside j other (has (pages_from p 1) j) refl))
+  where
+    outside : (j : ℕ) → j ≢ p → (b : Bool) → has (pages_from p 1) j ≡ b → over f (has (pages_from p 1)) none j ≡ f j
+    outside j other true h = let ends = has_in (pages_from p 1) j h in let low = ends.0 in let high = ends.1 in absurd (other (omega (arith, low, high)))
+    outside j other false h = ap (λ b. cond b none (f j)) h
 
 -- ---- steps at the page, from the lock of it on
 
@@ -303,27 +344,101 @@ module _ (w : World) (c : ℕ) (touch : Touch) (fault : IsFault (at_lock c touch
           there = there w.made.file info.meta.back n k h.backed (ap (is_past_end w.made.file) (sym e) ∙ (known h).0);
           uncached = uncached h;
         }
+    can_take (Shown f g) h =
+        let m = at_lock c touch w in
+        let here = free_below m at.well f h.1.free in
+        let had = said (Found.Copies g) h.0 in
+        let counted = page_counted m touch.page g at.well had in
+        record {
+          frame = record { here = here; free = h.1.free; object = at.objects f here; unused = free_unused m f at.well h.1.free };
+          shown = ∥∥₁_elim at.well (hlevel props) (λ k. (k.order.pages touch.page).frame g had);
+          here = at.counted;
+          object = counted.object;
+          used = λ counts begun. page_frame_used m touch.page f g counts at.well had begun;
+        }
+    can_take (First f n k) h =
+        let m = at_lock c touch w in
+        let here = free_below m at.well f h.least.free in
+        let o = w.slots.info touch.page in
+        record {
+          frame = record { here = here; free = h.least.free; object = at.objects f here; unused = free_unused m f at.well h.least.free };
+          there = there w.made.file info.meta.back n k (inr h.backed) (ap (is_past_end w.made.file) (sym e)
+              ∙ (wanted o touch.access (is_past_end w.made.file o) (file_frame w.memory.cached (back_of o)) h.wants).0);
+          below = cached_below m at.well n k;
+        }
+
+    -- the core has dropped the page before a copy shows
+    abbrev hardware_at : Source → Hardware
+    hardware_at (Shown f g) = after_shot w.hardware c (recorded_cores (w.slots.info touch.page)) (page_of_touch touch)
+    hardware_at _ = w.hardware
 
     -- with the frame, and where this is the memory then
-    abbrev filled : ℕ → Memory → World
-    filled f m = record w { slots = with_info w.slots touch.page (info_with_frame f (w.slots.info touch.page)); memory = m }
+    abbrev filled : Source → Memory → World
+    filled from m = record w {
+      slots = with_info w.slots touch.page (info_after from (w.slots.info touch.page));
+      hardware = hardware_at from;
+      memory = m;
+      calls = record w.calls { log = log_from c touch.page from w.calls };
+    }
 
-    fetches : (from : Source) (m : Memory) → Comes from → TakesFrom w.made.file w.memory c from m
-        → StepsTo (at_lock c touch w) c (steps_from from + 2) (to c (Install touch) (later (steps_from from + 2) (pages (filled (frame_from from) m))))
-    fetches (Own f) m h t =
+    -- as a copy that this step logged
+    abbrev copied : ℕ → ℕ → Memory → World
+    copied f step m = record w {
+      slots = with_info w.slots touch.page (info_with_frame f (w.slots.info touch.page));
+      memory = m;
+      calls = record w.calls { log = w.calls.log ++ EntryOf.Detach step (w.calls.number c) touch.page ∷ [] };
+    }
+
+    -- as a copy of the frame that the page had
+    abbrev copied_at : ℕ → ℕ → Memory → World
+    copied_at f step m = record w {
+      slots = with_info w.slots touch.page (info_with_copy f (w.slots.info touch.page));
+      hardware = after_shot w.hardware c (recorded_cores (w.slots.info touch.page)) (page_of_touch touch);
+      memory = m;
+      calls = record w.calls { log = w.calls.log ++ EntryOf.Detach step (w.calls.number c) touch.page ∷ [] };
+    }
+
+    -- no other core is recorded on the page
+    only_own : IsAlone info.cores c → IsAlone (recorded_cores (w.slots.info touch.page)) c
+    only_own = subst (λ (o : Option PageInfo). IsAlone (recorded_cores o) c) (sym e)
+
+    -- with this entry of the page the core's tables are the same
+    abbrev hardware_left : Source → Option Translation → Hardware
+    hardware_left from entry = hardware_from c touch.page from (with_table w.hardware c (put (w.hardware.table c) touch.page entry))
+
+    same_hardware : (from : Source) → IsUntold from c info.cores → (entry : Option Translation)
+        → hardware_left from entry ≡ with_table (hardware_at from) c (put ((hardware_at from).table c) touch.page entry)
+    same_hardware (Shown f g) alone entry =
+        let h = w.hardware in
+        let r = page_of_touch touch in
+        let none = over (h.table c) (has r) None in
+        let own = tlb_invalidated (tables_cleared h c r) c r in
+        let gone = own_dropped h c (recorded_cores (w.slots.info touch.page)) r (only_own alone) in
+        ap (λ t. record own { table = t }) (ap (put h.table c) (sym (cleared_set (h.table c) None entry touch.page))
+        ∙ (put_twice h.table c none (put none touch.page entry) ∙ ap (λ t. put (put h.table c none) c (put t touch.page entry)) (sym (put_same h.table c none))))
+        ∙ ap (λ (h : Hardware). with_table h c (put (h.table c) touch.page entry)) (sym gone)
+    same_hardware (Own f) alone entry = refl
+    same_hardware (Cached f) alone entry = refl
+    same_hardware (Free f) alone entry = refl
+    same_hardware (Read f n k) alone entry = refl
+    same_hardware (First f n k) alone entry = refl
+
+    fetches : (from : Source) (m : Memory) → Comes from → IsUntold from c info.cores → TakesFrom w.made.file w.memory c from m
+        → StepsTo (at_lock c touch w) c (steps_from from + 2) (to c (Install touch) (later (steps_from from + 2) (pages (filled from m))))
+    fetches (Own f) m h alone t =
         let same = put_id w.slots.info touch.page _ (framed (w.slots.info touch.page) f (said (Found.Has f) h)) in
         subst (λ (x : World). StepsTo (at_lock c touch w) c 2 (to c (Install touch) (later 2 (pages x))))
-        (sym (ap (filled f) t ∙ ap (λ i. record w { slots = record w.slots { info = i } }) same)) (settles (Install touch) (Found.Has f) h (λ m. refl))
-    fetches (Cached f) m h t =
+        (sym (ap (filled (Own f)) t ∙ ap (λ i. record w { slots = record w.slots { info = i } }) same)) (settles (Install touch) (Found.Has f) h (λ m. refl))
+    fetches (Cached f) m h alone t =
         let fill = Fill touch None in
         let known = said (Found.Cached f) h in (
           to c fill (later 2 (pages w)),
           settles fill (Found.Cached f) h (λ m. refl),
-          goes (pages w) (pages (filled f m)) c 2 fill (Install touch) (omega arith) fault.here
+          goes (pages w) (pages (filled (Cached f) m)) c 2 fill (Install touch) (omega arith) fault.here
               (shares (to c fill (with_event (later 2 (pages w)))) _ c touch f (back_of (w.slots.info touch.page)) touch.access known.0 known.1
-              (t.0, t.1, (refl, ap (λ (m : Memory). to c (Install touch) (to c fill (with_event (later 2 (pages (filled f m)))))) t.2))),
+              (t.0, t.1, (refl, ap (λ (m : Memory). to c (Install touch) (to c fill (with_event (later 2 (pages (filled (Cached f) m)))))) t.2))),
         )
-    fetches (Free f) m h t =
+    fetches (Free f) m h alone t =
         let fill = Fill touch (Some f) in
         let taken = record w { memory = record w.memory { is_free = put w.memory.is_free f false } } in
         let x = to c fill (with_event (later 3 (pages taken))) in
@@ -335,11 +450,11 @@ module _ (w : World) (c : ℕ) (touch : Touch) (fault : IsFault (at_lock c touch
             goes (pages w) (pages taken) c 2 (Want touch None) fill (omega arith) fault.here
                 (inr (f, record { free = h.2.free; least = h.2.least }, (refl, refl))),
           ),
-          goes (pages taken) (pages (filled f m)) c 3 fill (Install touch) (omega arith) fault.here
+          goes (pages taken) (pages (filled (Free f) m)) c 3 fill (Install touch) (omega arith) fault.here
               (fills_zeros x _ c touch (Some f) Stepped back (zeroed x _ c touch f t.0 back t.1
-              (ap (λ (m : Memory). to c (Install touch) (to c fill (with_event (later 3 (pages (filled f m)))))) t.2))),
+              (ap (λ (m : Memory). to c (Install touch) (to c fill (with_event (later 3 (pages (filled (Free f) m)))))) t.2))),
         )
-    fetches (Read f n k) m h t =
+    fetches (Read f n k) m h alone t =
         let fill = Fill touch (Some f) in
         let taken = record w { memory = record w.memory { is_free = put w.memory.is_free f false } } in
         let x = to c fill (with_event (later 3 (pages taken))) in (
@@ -350,34 +465,93 @@ module _ (w : World) (c : ℕ) (touch : Touch) (fault : IsFault (at_lock c touch
             goes (pages w) (pages taken) c 2 (Want touch None) fill (omega arith) fault.here
                 (inr (f, record { free = h.least.free; least = h.least.least }, (refl, refl))),
           ),
-          goes (pages taken) (pages (filled f m)) c 3 fill (Install touch) (omega arith) fault.here
+          goes (pages taken) (pages (filled (Read f n k) m)) c 3 fill (Install touch) (omega arith) fault.here
               (reads x _ c touch (Some f) (back_of (w.slots.info touch.page)) touch.access n k (shared h) (backed h) (uncached h)
               (cached_anew x _ c touch f n k t.0 (backed h) t.1
-              (ap (λ (m : Memory). to c (Install touch) (to c fill (with_event (later 3 (pages (filled f m)))))) t.2))),
+              (ap (λ (m : Memory). to c (Install touch) (to c fill (with_event (later 3 (pages (filled (Read f n k) m)))))) t.2))),
+        )
+    fetches (First f n k) m h alone t =
+        let fill = Fill touch (Some f) in
+        let taken = record w { memory = record w.memory { is_free = put w.memory.is_free f false } } in
+        let x = to c fill (with_event (later 3 (pages taken))) in
+        let back : back_of (w.slots.info touch.page) ≡ Private n k = ap back_of e ∙ h.backed in
+        let step : w.calls.events + 4 ≡ suc (w.calls.events + 3) = omega arith in (
+          to c fill (later 3 (pages taken)),
+          (
+            to c (Want touch None) (later 2 (pages w)),
+            settles (Want touch None) Found.Wants h.wants (λ m. refl),
+            goes (pages w) (pages taken) c 2 (Want touch None) fill (omega arith) fault.here
+                (inr (f, record { free = h.least.free; least = h.least.least }, (refl, refl))),
+          ),
+          goes (pages taken) (pages (filled (First f n k) m)) c 3 fill (Install touch) (omega arith) fault.here
+              (copies x _ c touch (Some f) (back_of (w.slots.info touch.page)) touch.access n k back h.stores
+              (first_copied x _ c touch f n k t.0 back t.1
+              (ap (λ s. to c (Install touch) (to c fill (with_event (later 3 (pages (copied f s m)))))) step
+              ∙ ap (λ (m : Memory). to c (Install touch) (to c fill (with_event (later 3 (pages (copied f (suc (w.calls.events + 3)) m)))))) t.2))),
+        )
+    fetches (Shown f g) m h alone t =
+        let taken = record w { memory = record w.memory { is_free = put w.memory.is_free f false } } in
+        let told = with_hardware (hardware_at (Shown f g)) taken in
+        let x = to c (CopyAcks touch f) (with_event (later 4 (pages told))) in
+        let step : w.calls.events + 5 ≡ suc (w.calls.events + 4) = omega arith in (
+          to c (CopyAcks touch f) (later 4 (pages told)),
+          (
+            to c (CopyPost touch f) (later 3 (pages taken)),
+            (
+              to c (Want touch (Some g)) (later 2 (pages w)),
+              settles (Want touch (Some g)) (Found.Copies g) h.0 (λ m. refl),
+              goes (pages w) (pages taken) c 2 (Want touch (Some g)) (CopyPost touch f) (omega arith) fault.here
+                  (inr (f, record { free = h.1.free; least = h.1.least }, (refl, refl))),
+            ),
+            goes (pages taken) (pages told) c 3 (CopyPost touch f) (CopyAcks touch f) (omega arith) fault.here (refl, refl),
+          ),
+          goes (pages told) (pages (filled (Shown f g) m)) c 4 (CopyAcks touch f) (Install touch) (omega arith) fault.here (inl (
+            -- the call awaits nobody, as before
+            subst (λ h. AwaitsNobody h c) (sym (own_dropped w.hardware c (recorded_cores (w.slots.info touch.page)) (page_of_touch touch) (only_own alone)))
+                (at.idle refl),
+            (
+              g,
+              t.0,
+              said (Found.Copies g) h.0,
+              t.1,
+              (
+                refl,
+                ap (λ s. to c (Install touch) (to c (CopyAcks touch f) (with_event (later 4 (pages (copied_at f s m)))))) step
+                    ∙ ap (λ (m : Memory). to c (Install touch) (to c (CopyAcks touch f) (with_event (later 4 (pages (copied_at f (suc (w.calls.events + 4)) m)))))) t.2,
+              ),
+            ),
+          )),
         )
 
     abbrev shown : Source → PageInfo
-    shown from = record info { frame = Some (frame_from from) }
+    shown from = shown_from from info
 
     -- it is installed, and the page let go
     abbrev left : Source → Memory → World
-    left from m = record (with_entry_of c touch.page (shown from) (entry_of_page m.cached (Some (shown from))) w) { memory = m }
+    left from m = record (with_entry_of c touch.page (shown from) (entry_of_page m.cached (Some (shown from))) w) {
+      hardware = hardware_left from (entry_of_page m.cached (Some (shown from)));
+      memory = m;
+      calls = record w.calls { log = log_from c touch.page from w.calls };
+    }
 
-    shows : (from : Source) (m : Memory) → Comes from → TakesFrom w.made.file w.memory c from m
+    shows : (from : Source) (m : Memory) → Comes from → IsUntold from c info.cores → TakesFrom w.made.file w.memory c from m
         → StepsTo (at_lock c touch w) c (suc (suc (steps_from from + 2))) (to c (Try touch) (later (steps_from from + 2 + 1 + 1) (left from m)))
-    shows from m h t =
+    shows from m h alone t =
         let k = steps_from from + 2 in
-        let f = frame_from from in
-        let x = to c (Install touch) (with_event (later k (pages (filled f m)))) in
-        let put_there = put_same w.slots.info touch.page (info_with_frame f (w.slots.info touch.page)) ∙ ap (info_with_frame f) e in
-        let twice = put_twice w.slots.info touch.page (info_with_frame f (w.slots.info touch.page)) (info_with_core c (Some (shown from))) in (
+        let x = to c (Install touch) (with_event (later k (pages (filled from m)))) in
+        let put_there = put_same w.slots.info touch.page (info_after from (w.slots.info touch.page)) ∙ (ap (info_after from) e ∙ shows_it from info) in
+        let twice = put_twice w.slots.info touch.page (info_after from (w.slots.info touch.page)) (info_with_core c (Some (shown from))) in (
           to c (Release touch) (later (k + 1) (pages (left from m))),
           (
-            to c (Install touch) (later k (pages (filled f m))),
-            fetches from m h t,
-            goes (pages (filled f m)) (pages (left from m)) c k (Install touch) (Release touch) (omega (arith, few_steps from)) fault.here (
+            to c (Install touch) (later k (pages (filled from m))),
+            fetches from m h alone t,
+            goes (pages (filled from m)) (pages (left from m)) c k (Install touch) (Release touch) (omega (arith, few_steps from)) fault.here (
               refl,
-              ap (installs x) twice ∙ installed x c touch (shown from) put_there,
+              ap (λ h. to c (Release touch) (record x {
+                slots = record x.slots { info = put w.slots.info touch.page (info_with_core c (Some (shown from))) };
+                hardware = h;
+              })) (same_hardware from alone (entry_of_page m.cached (Some (shown from))))
+                  ∙ (ap (installs x) twice ∙ installed x c touch (shown from) put_there),
             ),
           ),
           released (left from m) w.slots (put w.slots.info touch.page (info_with_core c (Some (shown from)))) c (k + 1) touch
@@ -392,10 +566,10 @@ module _ (w : World) (c : ℕ) (touch : Touch) (fault : IsFault (at_lock c touch
 
     -- ---- the states that the code leaves: it is shown in a, by this entry, and its frame taken in v
 
-    module _ (from : Source) (h : Comes from) (a v : World) (entry : Option Translation)
+    module _ (from : Source) (h : Comes from) (alone : IsUntold from c info.cores) (a v : World) (entry : Option Translation)
         (entered : entry ≡ entry_of_page (cached_from w.memory.cached from) (Some (shown from)))
         (now : a ≡ with_entry_of c touch.page (shown from) entry w)
-        (taken : (memory : Memory) × TakesFrom a.made.file a.memory c from memory × (v ≡ record a { memory = memory })) where
+        (taken : (memory : Memory) × TakesFrom a.made.file a.memory c from memory × (v ≡ detached_from c touch.page from (record a { memory = memory }))) where
       pub gets : Passes w c (locking (To.Access touch)) (suc (suc (steps_from from + 2))) (Try touch) (later (steps_from from + 4) v)
       gets =
           let memory = taken.0 in
@@ -404,10 +578,10 @@ module _ (w : World) (c : ℕ) (touch : Touch) (fault : IsFault (at_lock c touch
           let sum : w.calls.events + (steps_from from + 2 + 1 + 1) ≡ w.calls.events + (steps_from from + 4) = omega arith in
           let same = entered ∙ ap (λ cached. entry_of_page cached (Some (shown from))) (sym (caches from c w.made.file w.memory memory takes)) in
           subst (λ (x : World). Passes w c (locking (To.Access touch)) (suc (suc (steps_from from + 2))) (Try touch) (later (steps_from from + 4) x))
-          (sym (taken.2 ∙ ap (λ (x : World). record x { memory = memory })
+          (sym (taken.2 ∙ ap (λ (x : World). detached_from c touch.page from (record x { memory = memory }))
           (now ∙ ap (λ entry. with_entry_of c touch.page (shown from) entry w) same))) (record {
             steps = subst (λ n. StepsTo (at_lock c touch w) c (suc (suc (steps_from from + 2)))
-                (to c (Try touch) (record x { calls = record x.calls { events = n } }))) sum (shows from memory h takes);
+                (to c (Try touch) (record x { calls = record x.calls { events = n } }))) sum (shows from memory h alone takes);
             cores = refl;
             phases = refl;
             events = omega arith;

@@ -80,7 +80,7 @@ pub record IsCalled (w : World) (c : ℕ) (request : Request) (touch : Touch) (a
   pub steps : StepsTo begun c 1 (to c (Try touch) (later 2 a))
   pub reached : ∥ IsReached (to c (Try touch) (later 2 a)) ∥₁
   pub at : IsAt (to c (Try touch) (later 2 a)) c (Try touch)
-  pub room : a.calls.events + 11 < event_limit
+  pub room : a.calls.events + 12 < event_limit
   pub free : a.calls.phase c ≡ Free
 
 pub called : {w a : World} {c : ℕ} {request : Request} {touch : Touch} → IsAccess w c request touch → a ≡ with_call c request w
@@ -109,7 +109,7 @@ so {w} {a} {x} {c} {n} {request} {touch} {upto} i p = (
 
 -- It is, and the call goes on. The number of events tells how many steps these were: none of them is the call's own event.
 pub goes_on : {w a x : World} {c n : ℕ} {request : Request} {touch : Touch} {upto : Phase} → IsCalled w c request touch a
-    → Passes (later 2 a) c (Try touch) n upto x → n ≤ 8 → (u : World) → u ≡ to c upto x
+    → Passes (later 2 a) c (Try touch) n upto x → n ≤ 9 → (u : World) → u ≡ to c upto x
     → Starts w c request (Started.Begun (u.calls.events - a.calls.events - 1)) u × ∥ IsReached u ∥₁
 goes_on {w} {a} {x} {c} {n} {request} {touch} {upto} i p few u left =
     let events = ap (λ (y : World). y.calls.events) left ∙ p.events in
@@ -121,7 +121,7 @@ goes_on {w} {a} {x} {c} {n} {request} {touch} {upto} i p few u left =
 
 -- or the reply is handed out, and the core has no call again
 pub ends : {w a x : World} {c n : ℕ} {request : Request} {touch : Touch} {reply : Reply} → IsCalled w c request touch a
-    → Passes (later 2 a) c (Try touch) n (Answer reply) x → n ≤ 8
+    → Passes (later 2 a) c (Try touch) n (Answer reply) x → n ≤ 9
     → Starts w c request (Started.Ended (Answered reply)) (later 1 x) × ∥ IsReached (later 1 x) ∥₁
 ends {w} {a} {x} {c} {n} {request} {touch} {reply} i p few =
     let made = so i p in
@@ -136,7 +136,7 @@ ends {w} {a} {x} {c} {n} {request} {touch} {reply} i p few =
 
 -- a fault's steps, and the try before them
 pub faults : {w x v : World} {c : ℕ} {touch : Touch} {r told : Option Reply} → r ≡ None → Passes w c (Try touch) 1 (tried_to touch r) x
-    → (makes : Makes x c touch told v) → Passes w c (Try touch) (1 + makes.steps) (tried_to touch told) v × (1 + makes.steps ≤ 8)
+    → (makes : Makes x c touch told v) → Passes w c (Try touch) (1 + makes.steps) (tried_to touch told) v × (1 + makes.steps ≤ 9)
 faults {w} {x} {v} {c} {touch} {r} {told} none tried makes = (
   passes_join w x v c (Try touch) (locking (To.Access touch)) (tried_to touch told) 1 makes.steps
       (subst (λ o. Passes w c (Try touch) 1 (tried_to touch o) x) none tried) makes.passes,

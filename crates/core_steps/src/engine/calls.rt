@@ -30,6 +30,7 @@ pub(crate) struct CallTable<A: Allocator, L: Ledger> {
 impl<A: Allocator, L: Ledger> CallTable<A, L> {
     ghost use Rattle.std.specs.Prelude.{◌<◌, ◌++◌, ◌∷◌, [], true, not, nat_lt, OnOk, OnErr};
     ghost use Rattle.vm_base.specs.declared.log.Entry.TheVariants.{Detach};
+    ghost use Rattle.machine_model.specs.Step.{event_limit};
     ghost use Rattle.core_steps.specs.State.{number_at, calls_in};
 
     /// Tells whether as many calls began as may.
@@ -59,5 +60,38 @@ impl<A: Allocator, L: Ledger> CallTable<A, L> {
             page,
         })?;
         Ok(())
+    }
+
+    /// There is memory for the entry of a copy. Nothing else changes. A refusal comes only where the log
+    /// keeps its entries.
+    pub fn make_room(&mut self) -> Result<(), NoMemory>
+        ensures room { OnOk result (L.limit self.new.ledger < L.fits self.new.ledger) }
+        ensures same { calls_in self.new ≡ calls_in self.old }
+        ensures err_only { OnErr result (L.keeps ≡ true) }
+        ensures cores { length self.new.phases.items ≡ length self.old.phases.items }
+        ensures limit { self.new.limit ≡ self.old.limit }
+    {
+        self.ledger.make_room()?;
+        Ok(())
+    }
+
+    /// It is logged that the core's call makes a copy of its own for the page, at the event this many
+    /// later. The room for replies stays.
+    pub fn log_copy(&mut self, core: CoreId, page: u64, later: u64)
+        requires here { core < length self.old.phases.items }
+        requires room { L.limit self.old.ledger < L.fits self.old.ledger }
+        requires events { self.old.events + later < event_limit }
+        ensures log { calls_in self.new ≡ record (calls_in self.old) {
+          log = L.entries self.old.ledger
+              ++ Detach (self.old.events + later) (number_at self.old.numbers.items core) page ∷ [];
+        } }
+        ensures cores { length self.new.phases.items ≡ length self.old.phases.items }
+        ensures limit { self.new.limit ≡ self.old.limit }
+    {
+        self.ledger.push_made(Entry::Detach {
+            step: self.events + later,
+            call: self.numbers[core.index() as usize],
+            page,
+        });
     }
 }

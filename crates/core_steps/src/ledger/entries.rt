@@ -50,4 +50,28 @@ impl<A: Allocator> KeptEntries<A> {
         self.items.push_reserved(entry);
         Ok(())
     }
+
+    /// There is memory for one more than the room. A refusal changes nothing.
+    pub fn make_room(&mut self) -> Result<(), AllocError>
+        ensures room { OnOk result (self.new.limit < vec_capacity self.new.items) }
+        ensures items { self.new.items.items ≡ self.old.items.items }
+        ensures limit { self.new.limit ≡ self.old.limit }
+    {
+        let Some(limit) = self.limit.checked_add(1) else {
+            return Err(AllocError);
+        };
+        self.items.try_reserve(limit as usize - self.items.len())
+    }
+
+    /// One more, for which there is memory: the room that was left stays.
+    pub fn push_made(&mut self, entry: Entry)
+        requires { self.old.limit < vec_capacity self.old.items }
+        ensures items { self.new.items.items ≡ self.old.items.items ++ entry ∷ [] }
+        ensures limit { self.new.limit ≡ self.old.limit + 1 }
+    {
+        if self.limit < self.items.capacity() as u64 {
+            self.limit += 1;
+            self.items.push_reserved(entry);
+        }
+    }
 }

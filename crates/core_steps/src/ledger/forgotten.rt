@@ -29,6 +29,8 @@ impl Ledger for Forgotten {
 
     ghost limit = { λ log. log.limit + length log.beyond.items };
 
+    ghost fits = { λ log. log.limit + length log.beyond.items + 1 };
+
     ghost keeps = { false };
 
     fn begun(&self) -> u64 {
@@ -49,6 +51,15 @@ impl Ledger for Forgotten {
         self.entries = self.entries.and(&entry);
         self.beyond = self.beyond.and(&entry);
         Ok(())
+    }
+
+    fn make_room(&mut self) -> Result<(), AllocError> {
+        Ok(())
+    }
+
+    fn push_made(&mut self, entry: Entry) {
+        self.entries = self.entries.and(&entry);
+        self.beyond = self.beyond.and(&entry);
     }
 
     fn kept(&self) -> Option<&[Entry]> {

@@ -27,6 +27,8 @@ impl<A: Allocator> Ledger for Kept<A> {
 
     ghost limit = { λ log. log.entries.limit };
 
+    ghost fits = { λ log. vec_capacity log.entries.items };
+
     ghost keeps = { true };
 
     fn begun(&self) -> u64 {
@@ -44,6 +46,14 @@ impl<A: Allocator> Ledger for Kept<A> {
 
     fn push_beyond(&mut self, entry: Entry) -> Result<(), AllocError> {
         self.entries.push_beyond(entry)
+    }
+
+    fn make_room(&mut self) -> Result<(), AllocError> {
+        self.entries.make_room()
+    }
+
+    fn push_made(&mut self, entry: Entry) {
+        self.entries.push_made(entry);
     }
 
     fn kept(&self) -> Option<&[Entry]> {

@@ -1,5 +1,5 @@
 //! A ledger that keeps the entries alone: only clauses know the requests.
-ghost use Rattle.std.specs.Prelude.{◌≡◌, true, length};
+ghost use Rattle.std.specs.Prelude.{◌≡◌, true, length, vec_capacity};
 
 use crate::ledger::entries::KeptEntries;
 use crate::ledger::{Ledger, Opening};
@@ -29,6 +29,8 @@ impl<A: Allocator> Ledger for Logged<A> {
 
     ghost limit = { λ log. log.entries.limit };
 
+    ghost fits = { λ log. vec_capacity log.entries.items };
+
     ghost keeps = { true };
 
     fn begun(&self) -> u64 {
@@ -47,6 +49,14 @@ impl<A: Allocator> Ledger for Logged<A> {
 
     fn push_beyond(&mut self, entry: Entry) -> Result<(), AllocError> {
         self.entries.push_beyond(entry)
+    }
+
+    fn make_room(&mut self) -> Result<(), AllocError> {
+        self.entries.make_room()
+    }
+
+    fn push_made(&mut self, entry: Entry) {
+        self.entries.push_made(entry);
     }
 
     fn kept(&self) -> Option<&[Entry]> {

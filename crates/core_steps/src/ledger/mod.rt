@@ -26,6 +26,8 @@ pub trait Ledger {
     ghost entries: { Self → List EntryOf };
     // How many there may be at the most.
     ghost limit: { Self → ℕ };
+    // For how many there is memory.
+    ghost fits: { Self → ℕ };
     // Whether the entries can be read again.
     ghost keeps: { Bool };
 
@@ -58,6 +60,24 @@ pub trait Ledger {
         ensures same_items { OnErr result (entries self.new ≡ entries self.old) }
         ensures same_limit { OnErr result (limit self.new ≡ limit self.old) }
         ensures err_only { OnErr result (keeps ≡ true) }
+        ensures requests { requests self.new ≡ requests self.old }
+        ensures calls { calls self.new ≡ calls self.old };
+
+    /// There is memory for an entry beyond the room. Nothing else changes. A refusal comes only where the
+    /// entries are kept.
+    fn make_room(&mut self) -> Result<(), AllocError>
+        ensures room { OnOk result (limit self.new < fits self.new) }
+        ensures err_only { OnErr result (keeps ≡ true) }
+        ensures items { entries self.new ≡ entries self.old }
+        ensures limit { limit self.new ≡ limit self.old }
+        ensures requests { requests self.new ≡ requests self.old }
+        ensures calls { calls self.new ≡ calls self.old };
+
+    /// One entry more beyond the room, for which there is memory: the room that was left stays.
+    fn push_made(&mut self, entry: Entry)
+        requires { limit self.old < fits self.old }
+        ensures items { entries self.new ≡ entries self.old ++ entry ∷ [] }
+        ensures limit { limit self.new ≡ limit self.old + 1 }
         ensures requests { requests self.new ≡ requests self.old }
         ensures calls { calls self.new ≡ calls self.old };
 

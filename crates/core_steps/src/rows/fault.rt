@@ -160,6 +160,7 @@ impl<M: SlotMap, H: Hardware, A: Allocator, L: Ledger> Engine<M, H, A, L> {
             ≡ with_entry_of core page info (Some (translation_of frame prot)) (world M.slots self.old)) }
         ensures err { OnErr result (world M.slots self.new ≡ world M.slots self.old) }
         ensures err_last { OnErr result (IsEmptyBeside ((world M.slots self.old).hardware.table core) page) }
+        ensures calls { self.new.calls ≡ self.old.calls }
     {
         self.cores.install(core, page, frame, prot)?;
         let cores = info.cores.with(core);

@@ -1,4 +1,4 @@
-use Rattle.machine_model.proofs.Words.{Some, ap, subst, sym, translation_of, World}
+use Rattle.machine_model.proofs.Words.{PageInfo, Some, ap, file_frame, subst, sym, translation_of, World, ◌∙◌}
 use Rattle.core_steps.specs.OnePage.{CanTake, cached_from}
 use Rattle.core_steps.specs.State.{world}
 use Rattle.core_steps.proofs.at_once.AtOnce.{passes_reached, stands}
@@ -12,24 +12,30 @@ pub show_with-requires-clause-page : goal.show_with-requires-clause-page
 show_with-requires-clause-page g c =
     (stands (world g.M.SlotRead.slots c.args.self.now) c.args.core _ c.requires.fault.here c.requires.fault.reached).goal.plan.page
 
-pub take_from-requires : goal.take_from-requires
-take_from-requires g c =
+pub take_from-requires-clause-page : goal.take_from-requires-clause-page
+take_from-requires-clause-page g c =
+    (stands (world g.M.SlotRead.slots c.args.self.now) c.args.core _ c.requires.fault.here c.requires.fault.reached).goal.plan.page
+
+pub take_from-requires-clause-can : goal.take_from-requires-clause-can
+take_from-requires-clause-can g c =
     subst (λ (x : World). CanTake x c.args.core c.args.source) (sym c.in-Ok.ensures.ok)
     (can_take (world g.M.SlotRead.slots c.args.self.now) c.args.core c.args.touch c.requires.fault c.args.info c.requires.info c.args.source c.requires.source)
 
 pub try_page-requires-clause-reached : goal.try_page-requires-clause-reached
 try_page-requires-clause-reached g c =
     let w = world g.M.SlotRead.slots c.args.self.now in
-    rw c.steps.ensures.value (passes_reached (gets w c.args.core c.args.touch c.requires.fault c.args.info c.requires.info c.args.source c.requires.source
-    _ (world g.M.SlotRead.slots c.take_from.new.self) _ (rw c.frame-frame.ensures at (ap (λ p. Some (translation_of c.frame-frame.result p))
-    (c.prot_with-prot.ensures (cached_from w.memory.cached c.args.source) (sym c.cached_from.ensures))))
-    (rw c.frame-frame.ensures at c.in-Ok.ensures.ok) c.take_from.ensures) c.requires.fault.reached)
+    rw c.steps.ensures.value (passes_reached (gets w c.args.core c.args.touch c.requires.fault c.args.info c.requires.info c.args.source c.requires.source c.requires.untold
+    _ (world g.M.SlotRead.slots c.take_from.new.self) _ (rw (c.frame-frame.ensures, c.shown-shown.ensures) at (ap (λ p. Some (translation_of c.frame-frame.result p))
+    (c.prot_with-prot.ensures (cached_from w.memory.cached c.args.source)
+    (ap (λ (i : PageInfo). file_frame (cached_from w.memory.cached c.args.source) i.meta.back) c.shown-shown.ensures ∙ sym c.cached_from.ensures))))
+    (rw (c.frame-frame.ensures, c.shown-shown.ensures) at c.in-Ok.ensures.ok) c.take_from.ensures) c.requires.fault.reached)
 
 pub returns : goal.returns
 returns g c =
     let w = world g.M.SlotRead.slots c.args.self.now in
-    ends w c.args.core c.args.touch c.requires.fault c.args.info c.requires.info c.args.source c.requires.source
-    _ (world g.M.SlotRead.slots c.take_from.new.self) _ (rw c.frame-frame.ensures at (ap (λ p. Some (translation_of c.frame-frame.result p))
-    (c.prot_with-prot.ensures (cached_from w.memory.cached c.args.source) (sym c.cached_from.ensures))))
-    (rw c.frame-frame.ensures at c.in-Ok.ensures.ok) c.take_from.ensures c.try_page.result _
+    ends w c.args.core c.args.touch c.requires.fault c.args.info c.requires.info c.args.source c.requires.source c.requires.untold
+    _ (world g.M.SlotRead.slots c.take_from.new.self) _ (rw (c.frame-frame.ensures, c.shown-shown.ensures) at (ap (λ p. Some (translation_of c.frame-frame.result p))
+    (c.prot_with-prot.ensures (cached_from w.memory.cached c.args.source)
+    (ap (λ (i : PageInfo). file_frame (cached_from w.memory.cached c.args.source) i.meta.back) c.shown-shown.ensures ∙ sym c.cached_from.ensures))))
+    (rw (c.frame-frame.ensures, c.shown-shown.ensures) at c.in-Ok.ensures.ok) c.take_from.ensures c.try_page.result _
     (rw c.steps.ensures.value at c.try_page.ensures)

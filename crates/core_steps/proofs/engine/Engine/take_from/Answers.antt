@@ -17,3 +17,9 @@ returns-in-Free g c =
 
 pub returns-in-Read : goal.returns-in-Read
 returns-in-Read g c = rw c.in-Read.is (_, (c.read_page.ensures.0, c.read_page.ensures.1, refl), c.read_page.ensures.2)
+
+pub returns-in-First : goal.returns-in-First
+returns-in-First g c = rw c.in-First.is (_, (c.copy_page.ensures.0, c.copy_page.ensures.1, refl), c.copy_page.ensures.2)
+
+pub returns-in-Shown : goal.returns-in-Shown
+returns-in-Shown g c = rw c.in-Shown.is (_, (c.copy_shown.ensures.0, c.copy_shown.ensures.1, refl), c.copy_shown.ensures.2)
