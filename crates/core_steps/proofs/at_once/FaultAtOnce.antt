@@ -6,8 +6,8 @@ use Rattle.machine_model.proofs.Words.{settled, source, Hardware, Memory, World}
 use Rattle.machine_model.proofs.Words.{after_finding, found_at, is_past_end, memory_after, reply_of, answer_entry, to, with_entry, back_of, file_frame}
 use Rattle.machine_model.proofs.Words.{FillsBacked, FillsFromFile, page_of_touch, locking, Step, StepsTo, event_limit, with_event, after_translating}
 use Rattle.machine_model.proofs.Words.{entry_of_page, frame_reached, translated_by, with_hardware, with_table}
-use Rattle.machine_model.proofs.Words.{AwaitsNobody, after_shot, tables_cleared, tlb_invalidated, info_with_copy, fun_ext, has, has_in, over, pages_from, put_both}
-use Rattle.machine_model.proofs.Words.{cond, props, ∥∥₁_elim}
+use Rattle.machine_model.proofs.Words.{AwaitsNobody, after_shot, tables_cleared, tlb_invalidated, info_with_copy, fun_ext, has, has_in, over, pages_from}
+use Rattle.machine_model.proofs.Words.{cond, props, put_both, ∥∥₁_elim}
 use Rattle.std.specs.Prelude.{◌≢◌}
 use Rattle.vm_base.specs.Info.{recorded_cores}
 use Rattle.std.proofs.Common.{◌&&◌, ◌||◌}
@@ -225,7 +225,8 @@ shows_it (Shown f g) info = refl
 
 -- of a page alone: what is cleared and set is set
 cleared_set : {V : Type 0} (f : ℕ → V) (none v : V) (p : ℕ) → put (over f (has (pages_from p 1)) none) p v ≡ put f p v
-cleared_set f none v p = fun_ext (put_both (λ j x y. x ≡ y) (over f (has (pages_from p 1)) none) f p v v refl (λ j other. outside j other (has (pages_from p 1) j) refl))
+cleared_set f none v p =
+    fun_ext (put_both (λ j x y. x ≡ y) (over f (has (pages_from p 1)) none) f p v v refl (λ j other. outside j other (has (pages_from p 1) j) refl))
   where
     outside : (j : ℕ) → j ≢ p → (b : Bool) → has (pages_from p 1) j ≡ b → over f (has (pages_from p 1)) none j ≡ f j
     outside j other true h = let ends = has_in (pages_from p 1) j h in let low = ends.0 in let high = ends.1 in absurd (other (omega (arith, low, high)))
@@ -415,7 +416,8 @@ module _ (w : World) (c : ℕ) (touch : Touch) (fault : IsFault (at_lock c touch
         let own = tlb_invalidated (tables_cleared h c r) c r in
         let gone = own_dropped h c (recorded_cores (w.slots.info touch.page)) r (only_own alone) in
         ap (λ t. record own { table = t }) (ap (put h.table c) (sym (cleared_set (h.table c) None entry touch.page))
-        ∙ (put_twice h.table c none (put none touch.page entry) ∙ ap (λ t. put (put h.table c none) c (put t touch.page entry)) (sym (put_same h.table c none))))
+        ∙ (put_twice h.table c none (put none touch.page entry)
+        ∙ ap (λ t. put (put h.table c none) c (put t touch.page entry)) (sym (put_same h.table c none))))
         ∙ ap (λ (h : Hardware). with_table h c (put (h.table c) touch.page entry)) (sym gone)
     same_hardware (Own f) alone entry = refl
     same_hardware (Cached f) alone entry = refl
@@ -490,11 +492,11 @@ module _ (w : World) (c : ℕ) (touch : Touch) (fault : IsFault (at_lock c touch
               ∙ ap (λ (m : Memory). to c (Install touch) (to c fill (with_event (later 3 (pages (copied f (suc (w.calls.events + 3)) m)))))) t.2))),
         )
     fetches (Shown f g) m h alone t =
+        let acks = CopyAcks touch f in
         let taken = record w { memory = record w.memory { is_free = put w.memory.is_free f false } } in
         let told = with_hardware (hardware_at (Shown f g)) taken in
-        let x = to c (CopyAcks touch f) (with_event (later 4 (pages told))) in
         let step : w.calls.events + 5 ≡ suc (w.calls.events + 4) = omega arith in (
-          to c (CopyAcks touch f) (later 4 (pages told)),
+          to c acks (later 4 (pages told)),
           (
             to c (CopyPost touch f) (later 3 (pages taken)),
             (
@@ -503,9 +505,9 @@ module _ (w : World) (c : ℕ) (touch : Touch) (fault : IsFault (at_lock c touch
               goes (pages w) (pages taken) c 2 (Want touch (Some g)) (CopyPost touch f) (omega arith) fault.here
                   (inr (f, record { free = h.1.free; least = h.1.least }, (refl, refl))),
             ),
-            goes (pages taken) (pages told) c 3 (CopyPost touch f) (CopyAcks touch f) (omega arith) fault.here (refl, refl),
+            goes (pages taken) (pages told) c 3 (CopyPost touch f) acks (omega arith) fault.here (refl, refl),
           ),
-          goes (pages told) (pages (filled (Shown f g) m)) c 4 (CopyAcks touch f) (Install touch) (omega arith) fault.here (inl (
+          goes (pages told) (pages (filled (Shown f g) m)) c 4 acks (Install touch) (omega arith) fault.here (inl (
             -- the call awaits nobody, as before
             subst (λ h. AwaitsNobody h c) (sym (own_dropped w.hardware c (recorded_cores (w.slots.info touch.page)) (page_of_touch touch) (only_own alone)))
                 (at.idle refl),
@@ -516,8 +518,9 @@ module _ (w : World) (c : ℕ) (touch : Touch) (fault : IsFault (at_lock c touch
               t.1,
               (
                 refl,
-                ap (λ s. to c (Install touch) (to c (CopyAcks touch f) (with_event (later 4 (pages (copied_at f s m)))))) step
-                    ∙ ap (λ (m : Memory). to c (Install touch) (to c (CopyAcks touch f) (with_event (later 4 (pages (copied_at f (suc (w.calls.events + 4)) m)))))) t.2,
+                ap (λ s. to c (Install touch) (to c acks (with_event (later 4 (pages (copied_at f s m)))))) step
+                    ∙ ap (λ (m : Memory). to c (Install touch) (to c acks (with_event (later 4 (pages (copied_at f (suc (w.calls.events + 4)) m))))))
+                    t.2,
               ),
             ),
           )),
@@ -593,7 +596,8 @@ module _ (w : World) (c : ℕ) (touch : Touch) (fault : IsFault (at_lock c touch
       ends r x tried = record {
         steps = suc (suc (steps_from from + 2)) + 1;
         few = omega (arith, few_steps from);
-        passes = passes_join w (later (steps_from from + 4) v) x c (locking (To.Access touch)) (Try touch) (tried_to touch r) (suc (suc (steps_from from + 2))) 1 gets tried;
+        passes = passes_join w (later (steps_from from + 4) v) x c (locking (To.Access touch)) (Try touch) (tried_to touch r)
+            (suc (suc (steps_from from + 2))) 1 gets tried;
       }
 
 -- the steps that were made, by the number of events

@@ -1,5 +1,4 @@
 use Rattle.std.proofs.Common.{arith, refl, subst, sym, None}
-use Rattle.machine_model.proofs.Words.{World}
 use Rattle.core_steps.specs.OnePage.{Makes}
 use Rattle.core_steps.specs.State.{world}
 use Rattle.core_steps.proofs.at_once.AtOnce.{stands}

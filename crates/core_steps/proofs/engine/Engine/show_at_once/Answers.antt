@@ -24,8 +24,9 @@ take_from-requires-clause-can g c =
 pub try_page-requires-clause-reached : goal.try_page-requires-clause-reached
 try_page-requires-clause-reached g c =
     let w = world g.M.SlotRead.slots c.args.self.now in
-    rw c.steps.ensures.value (passes_reached (gets w c.args.core c.args.touch c.requires.fault c.args.info c.requires.info c.args.source c.requires.source c.requires.untold
-    _ (world g.M.SlotRead.slots c.take_from.new.self) _ (rw (c.frame-frame.ensures, c.shown-shown.ensures) at (ap (λ p. Some (translation_of c.frame-frame.result p))
+    rw c.steps.ensures.value (passes_reached (gets w c.args.core c.args.touch c.requires.fault c.args.info c.requires.info c.args.source c.requires.source
+    c.requires.untold _ (world g.M.SlotRead.slots c.take_from.new.self) _
+    (rw (c.frame-frame.ensures, c.shown-shown.ensures) at (ap (λ p. Some (translation_of c.frame-frame.result p))
     (c.prot_with-prot.ensures (cached_from w.memory.cached c.args.source)
     (ap (λ (i : PageInfo). file_frame (cached_from w.memory.cached c.args.source) i.meta.back) c.shown-shown.ensures ∙ sym c.cached_from.ensures))))
     (rw (c.frame-frame.ensures, c.shown-shown.ensures) at c.in-Ok.ensures.ok) c.take_from.ensures) c.requires.fault.reached)
@@ -33,8 +34,9 @@ try_page-requires-clause-reached g c =
 pub returns : goal.returns
 returns g c =
     let w = world g.M.SlotRead.slots c.args.self.now in
-    ends w c.args.core c.args.touch c.requires.fault c.args.info c.requires.info c.args.source c.requires.source c.requires.untold
-    _ (world g.M.SlotRead.slots c.take_from.new.self) _ (rw (c.frame-frame.ensures, c.shown-shown.ensures) at (ap (λ p. Some (translation_of c.frame-frame.result p))
+    ends w c.args.core c.args.touch c.requires.fault c.args.info c.requires.info c.args.source c.requires.source
+    c.requires.untold _ (world g.M.SlotRead.slots c.take_from.new.self) _
+    (rw (c.frame-frame.ensures, c.shown-shown.ensures) at (ap (λ p. Some (translation_of c.frame-frame.result p))
     (c.prot_with-prot.ensures (cached_from w.memory.cached c.args.source)
     (ap (λ (i : PageInfo). file_frame (cached_from w.memory.cached c.args.source) i.meta.back) c.shown-shown.ensures ∙ sym c.cached_from.ensures))))
     (rw (c.frame-frame.ensures, c.shown-shown.ensures) at c.in-Ok.ensures.ok) c.take_from.ensures c.try_page.result _

@@ -1,5 +1,4 @@
-use Rattle.std.proofs.Common.{◌∙◌, ap, length, ◌+◌}
-use Rattle.machine_model.specs.Orderly.{answer_count}
+use Rattle.std.proofs.Common.{◌∙◌}
 use Rattle.core_steps.proofs.engine.calls.CallTable.make_room.Goals as goal
 
 pub invariant_of-self : goal.invariant_of-self
