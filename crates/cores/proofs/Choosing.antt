@@ -45,65 +45,65 @@ at_stands (Copy i ∷ xs) n zero e = absurd cc
 at_stands (Reply i ∷ xs) n (suc k) e = ap (λ (b : Bool). (i == n) || b) (at_stands xs n k e) ∙ or_true (i == n)
 at_stands (Copy i ∷ xs) n (suc k) e = at_stands xs n k e
 
--- ---- those that stand there
+-- ---- those of some numbers
 
-abbrev put_if : Bool → Kept → List Kept → List Kept
+abbrev pub put_if : Bool → Kept → List Kept → List Kept
 put_if true k ks = k ∷ ks
 put_if false k ks = ks
 
-abbrev pub choose : List Item → List Kept → List Kept
-choose xs [] = []
-choose xs (k ∷ ks) = put_if (stands xs k.number) k (choose xs ks)
+abbrev pub choose : (ℕ → Bool) → List Kept → List Kept
+choose by [] = []
+choose by (k ∷ ks) = put_if (by k.number) k (choose by ks)
 
-pub choose_in : (xs : List Item) (ks : List Kept) (n : ℕ) (k : Kept) → slice_get ks n ≡ Some k → stands xs k.number ≡ true
-    → (m : ℕ) × (slice_get (choose xs ks) m ≡ Some k)
-choose_in xs [] n k e s = absurd cc
-choose_in xs (d ∷ ds) zero k e s = go (stands xs d.number) (ap (λ (x : Kept). stands xs x.number) same ∙ s)
+pub choose_in : (by : ℕ → Bool) (ks : List Kept) (n : ℕ) (k : Kept) → slice_get ks n ≡ Some k → by k.number ≡ true
+    → (m : ℕ) × (slice_get (choose by ks) m ≡ Some k)
+choose_in by [] n k e s = absurd cc
+choose_in by (d ∷ ds) zero k e s = go (by d.number) (ap (λ (x : Kept). by x.number) same ∙ s)
   where
     same : d ≡ k
     same = let both : Some d ≡ Some k = e in cc
 
-    go : (b : Bool) → b ≡ true → (m : ℕ) × (slice_get (put_if b d (choose xs ds)) m ≡ Some k)
+    go : (b : Bool) → b ≡ true → (m : ℕ) × (slice_get (put_if b d (choose by ds)) m ≡ Some k)
     go true f = (0, ap Some same)
     go false f = absurd cc
-choose_in xs (d ∷ ds) (suc n) k e s = go (stands xs d.number) (choose_in xs ds n k e s)
+choose_in by (d ∷ ds) (suc n) k e s = go (by d.number) (choose_in by ds n k e s)
   where
-    go : (b : Bool) → (m : ℕ) × (slice_get (choose xs ds) m ≡ Some k) → (m : ℕ) × (slice_get (put_if b d (choose xs ds)) m ≡ Some k)
+    go : (b : Bool) → (m : ℕ) × (slice_get (choose by ds) m ≡ Some k) → (m : ℕ) × (slice_get (put_if b d (choose by ds)) m ≡ Some k)
     go true r = (suc r.0, r.1)
     go false r = r
 
-pub record WasThere (xs : List Item) (ks : List Kept) (k : Kept) : Type 0 where
+pub record WasThere (by : ℕ → Bool) (ks : List Kept) (k : Kept) : Type 0 where
   pub at : ℕ
   pub is : slice_get ks at ≡ Some k
-  pub stood : stands xs k.number ≡ true
+  pub stood : by k.number ≡ true
 
-there_later : (xs : List Item) (d k : Kept) (ks : List Kept) → WasThere xs ks k → WasThere xs (d ∷ ks) k
-there_later xs d k ks w = record { at = suc w.at; is = w.is; stood = w.stood }
+there_later : (by : ℕ → Bool) (d k : Kept) (ks : List Kept) → WasThere by ks k → WasThere by (d ∷ ks) k
+there_later by d k ks w = record { at = suc w.at; is = w.is; stood = w.stood }
 
-pub choose_of : (xs : List Item) (ks : List Kept) (m : ℕ) (k : Kept) → slice_get (choose xs ks) m ≡ Some k → WasThere xs ks k
-choose_of xs [] m k e = absurd cc
-choose_of xs (d ∷ ds) m k e = go (λ n h. choose_of xs ds n k h) (stands xs d.number) refl m e
+pub choose_of : (by : ℕ → Bool) (ks : List Kept) (m : ℕ) (k : Kept) → slice_get (choose by ks) m ≡ Some k → WasThere by ks k
+choose_of by [] m k e = absurd cc
+choose_of by (d ∷ ds) m k e = go (λ n h. choose_of by ds n k h) (by d.number) refl m e
   where
-    go : ((n : ℕ) → slice_get (choose xs ds) n ≡ Some k → WasThere xs ds k) → (b : Bool) → stands xs d.number ≡ b → (n : ℕ)
-        → slice_get (put_if b d (choose xs ds)) n ≡ Some k → WasThere xs (d ∷ ds) k
-    go more false f n h = there_later xs d k ds (more n h)
+    go : ((n : ℕ) → slice_get (choose by ds) n ≡ Some k → WasThere by ds k) → (b : Bool) → by d.number ≡ b → (n : ℕ)
+        → slice_get (put_if b d (choose by ds)) n ≡ Some k → WasThere by (d ∷ ds) k
+    go more false f n h = there_later by d k ds (more n h)
     go more true f zero h =
         let both : Some d ≡ Some k = h in
-        let same : d ≡ k = cc in record { at = 0; is = h; stood = subst (λ (x : Kept). stands xs x.number ≡ true) same f }
-    go more true f (suc n) h = there_later xs d k ds (more n h)
+        let same : d ≡ k = cc in record { at = 0; is = h; stood = subst (λ (x : Kept). by x.number ≡ true) same f }
+    go more true f (suc n) h = there_later by d k ds (more n h)
 
 -- where all but open ones stand, they are a choice
-pub is_choice : (xs : List Item) (ks : List Kept) → ((n : ℕ) (k : Kept) → slice_get ks n ≡ Some k → k.is_open ≡ false → stands xs k.number ≡ true)
-    → IsChoice ks (choose xs ks)
-is_choice xs [] sure = refl
-is_choice xs (d ∷ ds) sure = go (is_choice xs ds (λ n k e o. sure (suc n) k e o)) (stands xs d.number) refl
+pub is_choice : (by : ℕ → Bool) (ks : List Kept) → ((n : ℕ) (k : Kept) → slice_get ks n ≡ Some k → k.is_open ≡ false → by k.number ≡ true)
+    → IsChoice ks (choose by ks)
+is_choice by [] sure = refl
+is_choice by (d ∷ ds) sure = go (is_choice by ds (λ n k e o. sure (suc n) k e o)) (by d.number) refl
   where
-    open_else : (b : Bool) → d.is_open ≡ b → stands xs d.number ≡ false → d.is_open ≡ true
+    open_else : (b : Bool) → d.is_open ≡ b → by d.number ≡ false → d.is_open ≡ true
     open_else true e f = e
     open_else false e f = let wrong : true ≡ false = sym (sure 0 d refl e) ∙ f in absurd cc
 
-    go : IsChoice ds (choose xs ds) → (b : Bool) → stands xs d.number ≡ b → IsChoice (d ∷ ds) (put_if b d (choose xs ds))
-    go rest true e = inl (choose xs ds, refl, rest)
+    go : IsChoice ds (choose by ds) → (b : Bool) → by d.number ≡ b → IsChoice (d ∷ ds) (put_if b d (choose by ds))
+    go rest true e = inl (choose by ds, refl, rest)
     go rest false e = inr (open_else d.is_open refl e, rest)
 
 -- ---- each once
@@ -112,13 +112,13 @@ pub rises_from : (low high : ℕ) (ks : List Kept) → low ≤ high → Rises hi
 rises_from low high [] l r = tt
 rises_from low high (k ∷ ks) l r = let more = r.0 in (omega (arith, l, more), r.1)
 
-pub choose_rises : (low : ℕ) (xs : List Item) (ks : List Kept) → Rises low ks → Rises low (choose xs ks)
-choose_rises low xs [] r = tt
-choose_rises low xs (k ∷ ks) r = go (choose_rises (suc k.number) xs ks r.1) (stands xs k.number)
+pub choose_rises : (low : ℕ) (by : ℕ → Bool) (ks : List Kept) → Rises low ks → Rises low (choose by ks)
+choose_rises low by [] r = tt
+choose_rises low by (k ∷ ks) r = go (choose_rises (suc k.number) by ks r.1) (by k.number)
   where
-    go : Rises (suc k.number) (choose xs ks) → (b : Bool) → Rises low (put_if b k (choose xs ks))
+    go : Rises (suc k.number) (choose by ks) → (b : Bool) → Rises low (put_if b k (choose by ks))
     go rest true = (r.0, rest)
-    go rest false = let more = r.0 in rises_from low (suc k.number) (choose xs ks) (omega (arith, more)) rest
+    go rest false = let more = r.0 in rises_from low (suc k.number) (choose by ks) (omega (arith, more)) rest
 
 risen : (low : ℕ) (ks : List Kept) (n : ℕ) (k : Kept) → Rises low ks → slice_get ks n ≡ Some k → low ≤ k.number
 risen low [] n k r e = absurd cc

@@ -5,3 +5,4 @@ pub mod Choosing
 pub mod Leading
 pub mod Refuting
 pub mod Gathered
+pub mod Sparing

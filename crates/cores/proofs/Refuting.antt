@@ -164,7 +164,7 @@ record Builds (x built : ℕ) (ks : List Kept) : Type 0 where
   closed : call.is_open ≡ false
   resets : IsResetAt x call.timed.call.request call.timed.call.reply
 
-closed_if : (built : ℕ) (k : Kept) → IsTimely built k → nat_le k.timed.end built ≡ true → k.is_open ≡ false
+pub closed_if : (built : ℕ) (k : Kept) → IsTimely built k → nat_le k.timed.end built ≡ true → k.is_open ≡ false
 closed_if built k (inl early) e = early.1
 closed_if built k (inr late) e = let wrong : true ≡ false = sym e ∙ late.0 in absurd cc
 
@@ -193,7 +193,7 @@ timely_at built (d ∷ ds) (suc n) k timely e = timely_at built ds n k timely.1 
 pub core_order : (rule : PlaceRule) (t z : Plain) (h : List Timed) (p : PageRange) (number : ℕ) (first start : Timed) (built cut : ℕ)
     (ks : List Kept) → IsCore h p number first start built cut ks → HasOrder rule t h
     → (chosen : List Kept) × IsChoice ks chosen × HasOrder rule z (start ∷ map timed_of chosen)
-core_order rule t z h p number first start built cut ks core has_order = (chosen, is_choice mid ks sure_stands, record { items = pick g seg; is_order = order })
+core_order rule t z h p number first start built cut ks core has_order = (chosen, is_choice (stands mid) ks sure_stands, record { items = pick g seg; is_order = order })
   where
     items : List Item
     items = has_order.items
@@ -221,7 +221,7 @@ core_order rule t z h p number first start built cut ks core has_order = (chosen
     seg = Reply number ∷ mid
 
     chosen : List Kept
-    chosen = choose mid ks
+    chosen = choose (stands mid) ks
 
     names : List ℕ
     names = number ∷ map (λ (k : Kept). k.number) chosen
@@ -321,7 +321,7 @@ core_order rule t z h p number first start built cut ks core has_order = (chosen
     timed_at m k e = slice_get-map timed_of chosen m ∙ ap (option_map timed_of) e
 
     kept_of : (m : ℕ) (k : Kept) → slice_get chosen m ≡ Some k → IsKept h p number first cut k
-    kept_of m k e = let w = choose_of mid ks m k e in core.all.kept w.at k w.is
+    kept_of m k e = let w = choose_of (stands mid) ks m k e in core.all.kept w.at k w.is
 
     distinct : AreDistinct names
     distinct zero zero i e f = refl
@@ -338,7 +338,7 @@ core_order rule t z h p number first start built cut ks core has_order = (chosen
     distinct (suc j) (suc n) i e f =
         let k = named j i e in
         let d = named n i f in
-        ap suc (rises_distinct 0 chosen j n k.0 d.0 (choose_rises 0 mid ks core.all.rises) k.1 d.1 (k.2 ∙ sym d.2))
+        ap suc (rises_distinct 0 chosen j n k.0 d.0 (choose_rises 0 (stands mid) ks core.all.rises) k.1 d.1 (k.2 ∙ sym d.2))
 
     -- what a number stands for
     is_of : (i j : ℕ) → slice_get names j ≡ Some i
@@ -395,7 +395,7 @@ core_order rule t z h p number first start built cut ks core has_order = (chosen
         all (suc m) l =
             let r = long (suc m) l in
             let k = named m r.0 r.1 in
-            let w = choose_of mid ks m k.0 k.1 in
+            let w = choose_of (stands mid) ks m k.0 k.1 in
             let stood = stands_at mid k.0.number w.stood in
             (r.0, suc stood.0, number_at names r.0 (suc m) distinct r.1, stood.1 ∙ ap (λ (i : ℕ). Some (Reply i)) k.2)
 
@@ -426,7 +426,7 @@ core_order rule t z h p number first start built cut ks core has_order = (chosen
                 (until_early cut h s.rest n (Reply i) c e got)
             by (inr (inr among)) =
                 let stood : stands mid among.1.number ≡ true = ap (stands mid) among.3 ∙ at_stands mid i n e in
-                let r = choose_in mid ks among.0 among.1 among.2 stood in
+                let r = choose_in (stands mid) ks among.0 among.1 among.2 stood in
                 absurd (never (suc r.0) (slice_get-map (λ (k : Kept). k.number) chosen r.0 ∙ (ap (option_map (λ (k : Kept). k.number)) r.1 ∙ ap Some among.3)))
 
     new_first : g number ≡ Some 0
@@ -467,7 +467,7 @@ core_order rule t z h p number first start built cut ks core has_order = (chosen
             let kept = core.all.kept k.at k.call k.is in
             let there = sure_stands k.at k.call k.is k.closed in
             let place = stands_at mid k.call.number there in
-            let c = choose_in mid ks k.at k.call k.is there in
+            let c = choose_in (stands mid) ks k.at k.call k.is there in
             let named_so = slice_get-map (λ (k : Kept). k.number) chosen c.0 ∙ ap (option_map (λ (k : Kept). k.number)) c.1 in
             record {
               at = suc place.0;
@@ -489,7 +489,7 @@ core_order rule t z h p number first start built cut ks core has_order = (chosen
             subst (λ (x : Timed). IsTimelyCall built x) (timed_same start d f) (inl (b.first, b.sets))
         kinds i (suc m) d e f =
             let k = named m i (number_got names i (suc m) e) in
-            let w = choose_of mid ks m k.0 k.1 in
+            let w = choose_of (stands mid) ks m k.0 k.1 in
             subst (λ (x : Timed). IsTimelyCall built x) (timed_same k.0.timed d (sym (timed_at m k.0 k.1) ∙ f))
             (timely_at built ks w.at k.0 b.timely w.is)
 
@@ -547,23 +547,6 @@ pub core_refutes : (rule : PlaceRule) (t z : Plain) (h : List Timed) (p : PageRa
     (ks : List Kept) → IsCore h p number first start built cut ks → HasNone rule z (start ∷ []) ks → ¬ HasOrder rule t h
 core_refutes rule t z h p number first start built cut ks core none order =
     let c = core_order rule t z h p number first start built cut ks core order in none c.0 c.1 c.2
-
-pub core_shown : {A : Type 0} (any_place : Bool) (files : ℕ → Option File) (h : List Timed) (core : Core A) (front : List Timed)
-    → Some core.first ≡ slice_get h core.number → IsStart core.pages core.first core.start
-    → IsBase core.pages core.start core.built core.kept.items
-    → AreAll h core.pages core.number core.first core.cut core.kept.items → front ≡ core.start ∷ []
-    → HasNone (rule_of any_place) (nothing_mapped files) front core.kept.items → IsShown any_place h core
-core_shown any_place files h core front at start base all is none =
-    let i : IsCore h core.pages core.number core.first core.start core.built core.cut core.kept.items =
-    record { at = sym at; starts = start; base = base; all = all } in
-    let alone = subst (λ (f : List Timed). HasNone (rule_of any_place) (nothing_mapped files) f core.kept.items) is none in
-    record {
-      is = i;
-      files = files;
-      alone = alone;
-      none = λ t. core_refutes (rule_of any_place) t (nothing_mapped files) h core.pages core.number core.first core.start core.built core.cut
-          core.kept.items i alone;
-    }
 
 pub shown_none : {A : Type 0} (any_place : Bool) (files : ℕ → Option File) (h : List Timed) (core : Core A) → IsShown any_place h core
     → ¬ HasOrder (rule_of any_place) (nothing_mapped files) h

@@ -1,3 +1,4 @@
 pub mod Parts
 pub mod Cores
+pub mod Effects
 pub mod Shown

@@ -1,9 +1,10 @@
 //! A core of a history of which no order was found. Which one is tried is nobody's belief: each is shown to have no order.
 ghost use Rattle.std.specs.Prelude.{◌≡◌, ◌≤◌, IfOk, IfSome, Some, length, slice_get};
-ghost use Rattle.cores.specs.Shown.{IsShown};
+ghost use Rattle.cores.specs.Shown.{IsShown, IsShownBut};
 
 use crate::building::is_base;
-use crate::gathering::{gather, start_of};
+use crate::effects::are_told;
+use crate::gathering::{gather, start_of, took};
 use crate::kept::Kept;
 use crate::parts::{is_aside, is_reset, part_of, sets};
 use crate::trying::{followed_by, none_of};
@@ -65,19 +66,19 @@ struct Base {
 }
 
 /// Shows that a core has no order, if that can be shown.
-#[tactic(auto, using(crate::proofs::Refuting::core_shown))]
 fn attempt<A: Allocator + Clone + Drop>(
     alloc: &A,
     files: &[FileSpec<A>],
     any_place: bool,
     history: &[Timed],
+    effects: &[bool],
     pages: PageRange,
     base: Base,
     cut: u64,
     wanted: &[usize],
 ) -> Result<Option<Core<A>>, NoMemory>
     requires { length files.now ≤ 16 }
-    ensures { IfOk result (λ found. IfSome found (λ core. IsShown any_place history.now core)) }
+    ensures { IfOk result (λ found. IfSome found (λ core. IsShownBut any_place history.now effects.now core)) }
 {
     let (number, built) = (base.number, base.built);
     let Some(first) = call_at(history, number) else {
@@ -86,9 +87,18 @@ fn attempt<A: Allocator + Clone + Drop>(
     let Some(start) = start_of(pages, &first) else {
         return Ok(None);
     };
-    let Some(kept) = gather(alloc, history, pages, number, &first, cut, wanted)? else {
+    let gathered = gather(alloc, history, effects, pages, number, &first, cut, wanted)?;
+    let Some(kept) = gathered else {
         return Ok(None);
     };
+    let sure = took(effects, number);
+    if !sure {
+        return Ok(None);
+    }
+    let told = are_told(effects, kept.as_slice());
+    if !told {
+        return Ok(None);
+    }
     if !is_base(pages, &start, built, kept.as_slice()) {
         return Ok(None);
     }
@@ -145,12 +155,13 @@ fn shrink<A: Allocator + Clone + Drop>(
     files: &[FileSpec<A>],
     any_place: bool,
     history: &[Timed],
+    effects: &[bool],
     found: Core<A>,
     wanted: &[usize],
 ) -> Result<Core<A>, NoMemory>
     requires few { length files.now ≤ 16 }
-    requires shown { IsShown any_place history.now found }
-    ensures { IfOk result (λ core. IsShown any_place history.now core) }
+    requires shown { IsShownBut any_place history.now effects.now found }
+    ensures { IfOk result (λ core. IsShownBut any_place history.now effects.now core) }
 {
     let mut core = found;
     let (pages, cut) = (core.pages, core.cut);
@@ -167,6 +178,7 @@ fn shrink<A: Allocator + Clone + Drop>(
             files,
             any_place,
             history,
+            effects,
             pages,
             base,
             cut,
@@ -298,13 +310,14 @@ fn candidates<A: Allocator + Clone + Drop>(
 fn firsts<A: Allocator + Clone + Drop>(
     alloc: &A,
     history: &[Timed],
+    effects: &[bool],
     pages: PageRange,
     cut: u64,
 ) -> Result<Vec<(u64, usize), A>, NoMemory> {
     let mut latest = Vec::new(alloc.clone()?);
     for at in 0..history.len() {
         let timed = history[at];
-        if timed.end <= cut && is_reset(pages, timed.call) {
+        if timed.end <= cut && is_reset(pages, timed.call) && took(effects, at) {
             keep_latest(&mut latest, FIRSTS, timed.end, at)?;
         }
     }
@@ -355,12 +368,17 @@ fn without_pages(left: PageRange, range: PageRange) -> PageRange {
 }
 
 // The latest call until a time that maps or unmaps pages at either end of these, and those that it leaves.
-fn builder(history: &[Timed], left: PageRange, until: u64) -> Option<(usize, PageRange)> {
+fn builder(
+    history: &[Timed],
+    effects: &[bool],
+    left: PageRange,
+    until: u64,
+) -> Option<(usize, PageRange)> {
     let mut found = None;
     let mut latest = 0u64;
     for at in 0..history.len() {
         let timed = history[at];
-        if timed.end <= until && latest <= timed.end && sets(timed.call) {
+        if timed.end <= until && latest <= timed.end && sets(timed.call) && took(effects, at) {
             if let Some(range) = pages_of(timed.call) {
                 let rest = without_pages(left, range);
                 if rest != left {
@@ -379,12 +397,13 @@ fn find_behind<A: Allocator + Clone + Drop>(
     files: &[FileSpec<A>],
     any_place: bool,
     history: &[Timed],
+    effects: &[bool],
     pages: PageRange,
     base: Base,
     cut: u64,
 ) -> Result<Option<Core<A>>, NoMemory>
     requires { length files.now ≤ 16 }
-    ensures { IfOk result (λ found. IfSome found (λ core. IsShown any_place history.now core)) }
+    ensures { IfOk result (λ found. IfSome found (λ core. IsShownBut any_place history.now effects.now core)) }
 {
     let Some(first) = call_at(history, base.number) else {
         return Ok(None);
@@ -394,9 +413,11 @@ fn find_behind<A: Allocator + Clone + Drop>(
     for _ in 0..5u8 {
         let wanted = last_of(alloc, latest.as_slice(), count)?;
         let wanted = wanted.as_slice();
-        let found = attempt(alloc, files, any_place, history, pages, base, cut, wanted)?;
+        let found = attempt(
+            alloc, files, any_place, history, effects, pages, base, cut, wanted,
+        )?;
         if let Some(core) = found {
-            let core = shrink(alloc, files, any_place, history, core, wanted)?;
+            let core = shrink(alloc, files, any_place, history, effects, core, wanted)?;
             return Ok(Some(core));
         }
         if latest.len() <= count {
@@ -409,12 +430,17 @@ fn find_behind<A: Allocator + Clone + Drop>(
 }
 
 // The latest calls until a time, one behind another, that map or unmap all of these pages; and when the first of the last ones began.
-fn base_until(history: &[Timed], pages: PageRange, until: u64) -> Option<(Base, u64)> {
+fn base_until(
+    history: &[Timed],
+    effects: &[bool],
+    pages: PageRange,
+    until: u64,
+) -> Option<(Base, u64)> {
     let mut left = pages;
     let mut until = until;
     let mut last = None;
     for _ in 0..BUILDERS {
-        let (number, rest) = builder(history, left, until)?;
+        let (number, rest) = builder(history, effects, left, until)?;
         let timed = call_at(history, number)?;
         let (built, begin) = last.unwrap_or((timed.end, timed.begin));
         last = Some((built, begin));
@@ -433,18 +459,19 @@ fn find_built<A: Allocator + Clone + Drop>(
     files: &[FileSpec<A>],
     any_place: bool,
     history: &[Timed],
+    effects: &[bool],
     pages: PageRange,
     cut: u64,
 ) -> Result<Option<Core<A>>, NoMemory>
     requires { length files.now ≤ 16 }
-    ensures { IfOk result (λ found. IfSome found (λ core. IsShown any_place history.now core)) }
+    ensures { IfOk result (λ found. IfSome found (λ core. IsShownBut any_place history.now effects.now core)) }
 {
     let mut until = cut;
     for _ in 0..FIRSTS {
-        let Some((base, begin)) = base_until(history, pages, until) else {
+        let Some((base, begin)) = base_until(history, effects, pages, until) else {
             return Ok(None);
         };
-        let found = find_behind(alloc, files, any_place, history, pages, base, cut)?;
+        let found = find_behind(alloc, files, any_place, history, effects, pages, base, cut)?;
         if let Some(core) = found {
             return Ok(Some(core));
         }
@@ -459,24 +486,25 @@ fn find_in<A: Allocator + Clone + Drop>(
     files: &[FileSpec<A>],
     any_place: bool,
     history: &[Timed],
+    effects: &[bool],
     pages: PageRange,
     cut: u64,
 ) -> Result<Option<Core<A>>, NoMemory>
     requires { length files.now ≤ 16 }
-    ensures { IfOk result (λ found. IfSome found (λ core. IsShown any_place history.now core)) }
+    ensures { IfOk result (λ found. IfSome found (λ core. IsShownBut any_place history.now effects.now core)) }
 {
     if pages.end > pages.first.saturating_add(1) {
-        let built = find_built(alloc, files, any_place, history, pages, cut)?;
+        let built = find_built(alloc, files, any_place, history, effects, pages, cut)?;
         if let Some(core) = built {
             return Ok(Some(core));
         }
     }
-    let latest = firsts(alloc, history, pages, cut)?;
+    let latest = firsts(alloc, history, effects, pages, cut)?;
     let count = latest.len();
     for back in 0..count {
         if let Some((_, number)) = latest.get(count - 1 - back).copied() {
             let base = Base { number, built: 0 };
-            let found = find_behind(alloc, files, any_place, history, pages, base, cut)?;
+            let found = find_behind(alloc, files, any_place, history, effects, pages, base, cut)?;
             if let Some(core) = found {
                 return Ok(Some(core));
             }
@@ -485,15 +513,17 @@ fn find_in<A: Allocator + Clone + Drop>(
     Ok(None)
 }
 
-/// Finds a core of a history of which no order was found until the end of this call, and shows that it has none. So the history has none,
-/// whatever map it begins with. `None` says nothing. `Err` says that memory was wanting.
-pub fn find_core<A: Allocator + Clone + Drop>(
+/// Finds a core of a history of which no order was found until the end of this call, and shows that it has none, whichever of those calls
+/// took effect that may not have, as they are told. So the history has none, whatever map it begins with. `None` says nothing. `Err` says that
+/// memory was wanting.
+pub fn find_core_but<A: Allocator + Clone + Drop>(
     alloc: &A,
     any_place: bool,
     history: &[Timed],
+    effects: &[bool],
     stuck: usize,
 ) -> Result<Option<Core<A>>, NoMemory>
-    ensures { IfOk result (λ found. IfSome found (λ core. IsShown any_place history.now core)) }
+    ensures { IfOk result (λ found. IfSome found (λ core. IsShownBut any_place history.now effects.now core)) }
 {
     let files = Vec::new(alloc.clone()?);
     let Some(timed) = call_at(history, stuck) else {
@@ -508,6 +538,7 @@ pub fn find_core<A: Allocator + Clone + Drop>(
                     files.as_slice(),
                     any_place,
                     history,
+                    effects,
                     range,
                     timed.end,
                 )?;
@@ -518,4 +549,19 @@ pub fn find_core<A: Allocator + Clone + Drop>(
         }
     }
     Ok(None)
+}
+
+/// The same of a history all of whose calls took effect.
+pub fn find_core<A: Allocator + Clone + Drop>(
+    alloc: &A,
+    any_place: bool,
+    history: &[Timed],
+    stuck: usize,
+) -> Result<Option<Core<A>>, NoMemory>
+    ensures { IfOk result (λ found. IfSome found (λ core. IsShown any_place history.now core)) }
+{
+    match find_core_but(alloc, any_place, history, &[], stuck)? {
+        Some(core) => Ok(Some(core)),
+        None => Ok(None),
+    }
 }

@@ -1,6 +1,7 @@
 //! Which calls of a history a core has.
 ghost use Rattle.std.specs.Prelude.{◌≡◌, ◌<◌, ◌≤◌, IfOk, IfSome, slice_get, Some, false, true};
 ghost use Rattle.cores.specs.Cores.{AreAll, IsKeptAs, IsRole, IsStart, is_left_out};
+ghost use Rattle.cores.specs.Effects.{took};
 ghost use Rattle.cores.specs.Parts.{IsPart};
 
 use crate::kept::Kept;
@@ -45,11 +46,21 @@ fn is_left_out(pages: PageRange, first: &Timed, cut: u64, timed: &Timed) -> bool
     timed.end < first.begin || cut < timed.begin || is_aside(pages, timed.call)
 }
 
-/// Tells whether a call has surely taken effect after the first one and until the cut.
-fn is_sure(first: &Timed, cut: u64, timed: &Timed) -> bool
+/// Tells whether a call of this number took effect. One of which nothing is told did.
+pub(crate) fn took(effects: &[bool], number: usize) -> bool
+    ensures { result ≡ took effects.now number }
+{
+    match effects.get(number).copied() {
+        Some(took) => took,
+        None => true,
+    }
+}
+
+/// Tells whether a call has surely taken effect after the first one and until the cut, if it took effect.
+fn is_sure(first: &Timed, cut: u64, took: bool, timed: &Timed) -> bool
     ensures { result ≡ true → (first.now.end < timed.now.begin) × (timed.now.begin ≤ cut) × (timed.now.end ≤ cut) }
 {
-    if first.end < timed.begin && timed.begin <= cut && timed.end <= cut {
+    if took && first.end < timed.begin && timed.begin <= cut && timed.end <= cut {
         return true;
     }
     false
@@ -83,7 +94,7 @@ fn kept_as(number: usize, part: Option<Timed>, is_sure: bool) -> Role
     }
 }
 
-/// What becomes of a call of a history, if it may be wanted though it changes nothing.
+/// What becomes of a call of a history, if it may be wanted though it changes nothing, and may not have taken effect.
 fn become_of(
     pages: PageRange,
     number: usize,
@@ -91,6 +102,7 @@ fn become_of(
     cut: u64,
     is_wanted: bool,
     at: usize,
+    took: bool,
     timed: &Timed,
 ) -> Role
     ensures { IsRole pages number first.now cut at timed.now result }
@@ -102,15 +114,20 @@ fn become_of(
     if is_out && !is_wanted {
         return Role::Out;
     }
-    kept_as(at, timed_part(pages, timed), is_sure(first, cut, timed))
+    kept_as(
+        at,
+        timed_part(pages, timed),
+        is_sure(first, cut, took, timed),
+    )
 }
 
 /// The calls of a core: those that have to do with these pages, from the first one on until the cut, and of the others the wanted ones; if
-/// there is such a core.
+/// there is such a core. Those are open that may not have taken effect.
 #[tactic(auto, using(crate::proofs::Gathered::none_so_far))]
 pub(crate) fn gather<A: Allocator + Clone + Drop>(
     alloc: &A,
     history: &[Timed],
+    effects: &[bool],
     pages: PageRange,
     number: usize,
     first: &Timed,
@@ -124,7 +141,8 @@ pub(crate) fn gather<A: Allocator + Clone + Drop>(
     let mut open = 0usize;
     'calls: for at in 0..history.len() {
         let is_wanted = wanted.contains(&at);
-        match become_of(pages, number, first, cut, is_wanted, at, &history[at]) {
+        let took = took(effects, at);
+        match become_of(pages, number, first, cut, is_wanted, at, took, &history[at]) {
             Role::Out => {}
             Role::In(call) => {
                 open = open.saturating_add(usize::from(call.is_open));

@@ -2,11 +2,12 @@
 #![tactic(auto)]
 
 mod building;
+mod effects;
 mod finding;
 mod gathering;
 mod kept;
 mod parts;
 mod trying;
 
-pub use finding::{Core, find_core};
+pub use finding::{Core, find_core, find_core_but};
 pub use kept::Kept;

@@ -21,9 +21,9 @@ use Rattle.overlapping.specs.declared.judging.Shown.TheVariants as By
 use Rattle.overlapping.specs.declared.judging.Told.{Told}
 use Rattle.page_orders.specs.Explained.{IsDisorder, IsTold}
 use Rattle.page_orders.specs.Rulings.{HasNone, IsLegal}
-use Rattle.page_orders.specs.Showing.{IsCoreOf}
 use Rattle.page_orders.proofs.RuleLemmas.{all_answered, bare_told, first_of, parts_answered}
-use Rattle.no_loose_order.specs.Lagging.{HasNoneLoosely, ShowsNoneLoosely, eased}
+use Rattle.no_loose_order.specs.Easing.{AreEased}
+use Rattle.no_loose_order.specs.Shown.{HasNoneLoosely, ShowsNoneLoosely}
 use Rattle.loosely.specs.Loosely.{HasLooseOrderAmong, HasLooseOrderByPages}
 
 pub order_among : (any_place rule : Bool) (t u : Plain) (parts : List Part) (calls made : List Timed) (steps : List Step) → rule ≡ any_place
@@ -69,14 +69,14 @@ none_there history any_place files replies parts all none f same is amiss others
 pub disorder_there : {A : Type 0} (history : History A) (any_place : Bool) (files : List (FileSpec A)) (replies : List Reply) (parts all : List Part)
     (shown : Shown A) → NoneWaits history.waiting.items → files ≡ history.declaration.files.items → parts ≡ all
     → all ≡ parts_from 0 (completed (replies_in replies) (read_of history)) → ShowsNoneLoosely any_place (given_files files) parts shown
-    → IsDisorder (HasLooseOrderByPages (rule_of any_place)) eased any_place (read_of history) all shown
+    → IsDisorder (HasLooseOrderByPages (rule_of any_place)) AreEased any_place (read_of history) all shown
 disorder_there history any_place files replies parts all By.Nothing none f same is s = tt
 disorder_there history any_place files replies parts all By.All none f same is s =
     none_there history any_place files replies parts all none f same is s
 disorder_there history any_place files replies parts all (By.Few core) none f same is s = (
   none_there history any_place files replies parts all none f same is s.0,
   parts_answered history replies all none is,
-  subst (λ (ps : List Part). IsCoreOf any_place (eased ps) core) same s.1,
+  (s.1.0, subst (λ (ps : List Part). AreEased ps s.1.0) same s.1.1, s.1.2),
 )
 
 pub legal_bare : {A : Type 0} (any_place : Bool) (lines : List (List ℕ)) (history : History A) (replies : List Reply) (parts all : List Part)
@@ -84,7 +84,7 @@ pub legal_bare : {A : Type 0} (any_place : Bool) (lines : List (List ℕ)) (hist
     → n ≡ length history.calls.items → files ≡ history.declaration.files.items → parts ≡ all
     → all ≡ parts_from 0 (completed (replies_in replies) (read_of history))
     → HasLooseOrderAmong (rule_of any_place) (nothing_mapped (given_files files)) parts
-    → IsTold (HasLooseOrderByPages (rule_of any_place)) eased any_place lines (read_of history) told
+    → IsTold (HasLooseOrderByPages (rule_of any_place)) AreEased any_place lines (read_of history) told
 legal_bare any_place lines history replies parts all files told n e count f same is o =
-    bare_told (HasLooseOrderByPages (rule_of any_place)) eased any_place lines (read_of history) told (Legal n) e
+    bare_told (HasLooseOrderByPages (rule_of any_place)) AreEased any_place lines (read_of history) told (Legal n) e
     (λ ls h. legal_there any_place ls history replies parts all files n count f same is o h)

@@ -11,7 +11,7 @@ use Rattle.by_pages.specs.declared.splitting.Part.{Part}
 use Rattle.overlapping.specs.declared.judging.Ruled.{Ruled}
 use Rattle.page_orders.specs.Ends.{JudgementEnds}
 use Rattle.page_orders.specs.Explained.{IsExplained}
-use Rattle.no_loose_order.specs.Lagging.{eased}
+use Rattle.no_loose_order.specs.Easing.{AreEased}
 
 -- The calls of the parts have an order by the loose rule, whichever of those that may not have taken effect did.
 pub record HasLooseOrderAmong (rule : PlaceRule) (t : Plain) (parts : List Part) : Type 0 where
@@ -25,4 +25,4 @@ HasLooseOrderByPages rule t h = HasLooseOrderAmong rule t (parts_from 0 h)
 
 abbrev pub EndsLoosely : {A : Type 0} → Bool → List ℕ → Option (List ℕ) → Option (List ℕ) → Result (Ruled A) HistoryFault → Type 0
 EndsLoosely any_place input old new r =
-    JudgementEnds (HasLooseOrderByPages (rule_of any_place)) (IsExplained eased any_place) input old new r
+    JudgementEnds (HasLooseOrderByPages (rule_of any_place)) (IsExplained AreEased any_place) input old new r

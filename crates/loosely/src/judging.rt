@@ -11,7 +11,7 @@ ghost use Rattle.orders_text.specs.Steps.{HasPlaces, read_of};
 ghost use Rattle.by_pages.specs.Pages.{parts_from};
 ghost use Rattle.page_orders.specs.Explained.{IsDisorder, IsExplained, IsTold};
 ghost use Rattle.page_orders.specs.Rulings.{IsRuling};
-ghost use Rattle.no_loose_order.specs.Lagging.{eased};
+ghost use Rattle.no_loose_order.specs.Easing.{AreEased};
 ghost use Rattle.loosely.specs.Loosely.{HasLooseOrderAmong, HasLooseOrderByPages};
 
 use crate::searching::{Order, find};
@@ -29,6 +29,9 @@ use slot_lock::SlotMap;
 use std::alloc::Allocator;
 use trace_io::IoFault;
 use vm_base::{NoMemory, Reply};
+
+/// So many accesses that a search passed over are tried.
+const TRIES: usize = 8;
 
 // The replies of the calls that wait at a history's end, its parts, and what a search finds of them.
 #[derive(Drop)]
@@ -118,7 +121,7 @@ fn show_disorder<A: Allocator + Clone + Drop>(
     requires parts { tried.now.parts.items
         ≡ parts_from 0 (completed (replies_in tried.now.replies.items) (read_of history.now)) }
     ensures { IfOk result (λ shown.
-        IsDisorder (HasLooseOrderByPages (rule_of any_place)) eased any_place (read_of history.now)
+        IsDisorder (HasLooseOrderByPages (rule_of any_place)) AreEased any_place (read_of history.now)
         tried.now.parts.items shown) }
 {
     let waiting = history.waiting.as_slice();
@@ -145,7 +148,7 @@ fn rule_without<A: Allocator + Clone + Drop>(
     requires parts { tried.now.parts.items
         ≡ parts_from 0 (completed (replies_in tried.now.replies.items) (read_of history.now)) }
     ensures { IfOk result (λ told.
-        IsTold (HasLooseOrderByPages (rule_of any_place)) eased any_place (lines_of text.now)
+        IsTold (HasLooseOrderByPages (rule_of any_place)) AreEased any_place (lines_of text.now)
         (read_of history.now) told) }
 {
     let shown = show_disorder(alloc, history, any_place, tried, stuck)?;
@@ -153,6 +156,52 @@ fn rule_without<A: Allocator + Clone + Drop>(
     let place = call_of(parts, stuck);
     let told = tell_shown(alloc, text, history, any_place, parts, place, &shown)?;
     Ok(told)
+}
+
+// Whether an access is tried: one that isn't named right before this place, where few were tried.
+fn is_next(uses: &[Use], at: usize, tries: usize) -> bool {
+    if tries >= TRIES {
+        return false;
+    }
+    match (uses.get(at), uses.get(at.wrapping_sub(1))) {
+        (Some(now), Some(before)) => now.by != before.by,
+        _ => true,
+    }
+}
+
+// What is told where the order that was found isn't one: a search passes over accesses that may go as before a call, and these can't all have.
+#[tactic(auto, using(page_orders::proofs::RuleLemmas::undecided_bare))]
+fn rule_late<A: Allocator + Clone + Drop>(
+    alloc: &A,
+    text: &[u8],
+    history: &History<A>,
+    any_place: bool,
+    tried: &Tried<A>,
+    uses: &[Use],
+) -> Result<Told<A>, NoMemory>
+    requires few { length history.now.declaration.files.items ≤ 16 }
+    requires parts { tried.now.parts.items
+        ≡ parts_from 0 (completed (replies_in tried.now.replies.items) (read_of history.now)) }
+    ensures { IfOk result (λ told.
+        IsTold (HasLooseOrderByPages (rule_of any_place)) AreEased any_place (lines_of text.now)
+        (read_of history.now) told) }
+{
+    let mut tries = 0usize;
+    'uses: for at in 0..uses.len() {
+        let next = is_next(uses, at, tries);
+        if next {
+            tries = tries.saturating_add(1);
+            let access = uses[at].by as usize;
+            let told = rule_without(alloc, text, history, any_place, tried, access)?;
+            let none = matches!(told.ruling, Ruling::NoOrder { .. });
+            if none {
+                return Ok(told);
+            }
+        }
+    }
+    let last = history.calls.len().saturating_sub(1);
+    let line = line_at(history.lines.as_slice(), last).unwrap_or(0);
+    bare(alloc, Ruling::Undecided(line))
 }
 
 // What is told by what the search found.
@@ -170,7 +219,7 @@ fn rule_by<M: SlotMap + Drop, A: Allocator + Clone + Drop>(
     requires parts { tried.now.parts.items
         ≡ parts_from 0 (completed (replies_in tried.now.replies.items) (read_of history.now)) }
     ensures { IfOk result (λ told.
-        IsTold (HasLooseOrderByPages (rule_of any_place)) eased any_place (lines_of text.now)
+        IsTold (HasLooseOrderByPages (rule_of any_place)) AreEased any_place (lines_of text.now)
         (read_of history.now) told) }
 {
     let parts = tried.parts.as_slice();
@@ -188,9 +237,7 @@ fn rule_by<M: SlotMap + Drop, A: Allocator + Clone + Drop>(
             if is_one {
                 bare(alloc, Ruling::Legal(history.calls.len() as u64))
             } else {
-                let last = history.calls.len().saturating_sub(1);
-                let line = line_at(history.lines.as_slice(), last).unwrap_or(0);
-                bare(alloc, Ruling::Undecided(line))
+                rule_late(alloc, text, history, any_place, tried, uses)
             }
         }
         Order::None(part) => rule_without(alloc, text, history, any_place, tried, *part),
@@ -211,7 +258,7 @@ fn rule<M: SlotMap + Drop, A: Allocator + Clone + Drop>(
     requires text { IsHistory (lines_of text.now) (read_of history.now) }
     ensures ruling { IfOk result (λ ruled.
         IsRuling (HasLooseOrderByPages (rule_of any_place)) (lines_of text.now) ruled.ruling) }
-    ensures explained { IfOk result (λ ruled. IsExplained eased any_place (lines_of text.now) ruled.explanation.items) }
+    ensures explained { IfOk result (λ ruled. IsExplained AreEased any_place (lines_of text.now) ruled.explanation.items) }
 {
     let tried = search_history(alloc, history, any_place)?;
     let told = rule_by(alloc, map, text, history, any_place, &tried)?;
@@ -235,7 +282,7 @@ pub fn judge_text<M: SlotMap + Drop, A: Allocator + Clone + Drop>(
     requires new { IsNew (M.slots map) }
     ensures ok { IfOk result (λ ruled.
         IsRuling (HasLooseOrderByPages (rule_of any_place)) (lines_of text.now) ruled.ruling) }
-    ensures explained { IfOk result (λ ruled. IsExplained eased any_place (lines_of text.now) ruled.explanation.items) }
+    ensures explained { IfOk result (λ ruled. IsExplained AreEased any_place (lines_of text.now) ruled.explanation.items) }
     ensures err { IfErr result (λ f. IsAtFault (lines_of text.now) f) }
 {
     let history = match read_history(alloc, text) {

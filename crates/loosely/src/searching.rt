@@ -13,7 +13,7 @@ use page_orders::search_whole;
 use std::alloc::Allocator;
 use vm_base::NoMemory;
 
-/// Where there are more parts than this, calls are first searched as wholes, and which byte a lagging access finds isn't looked at.
+/// Where there are more parts than this, calls are first searched as wholes, and accesses lag only where none is found else.
 const FEW: usize = 1_000;
 
 /// What a search comes to.
@@ -220,8 +220,18 @@ impl<'a, A: Allocator + Clone + Drop> Search<'a, A> {
     fn search_whole(&mut self, alloc: &A, may_lag: bool) -> Result<bool, NoMemory> {
         let (objects, parts) = (self.objects, self.parts);
         let lags = &mut self.lags;
-        let found = search_whole(alloc, objects, self.any_place, parts, may_lag, lags)?;
+        let mut stuck = Vec::new(alloc.clone()?);
+        let found = search_whole(
+            alloc,
+            objects,
+            self.any_place,
+            parts,
+            may_lag,
+            lags,
+            &mut stuck,
+        )?;
         let Some(items) = found else {
+            self.stuck = Some(stuck.get(0).copied().unwrap_or(0));
             return Ok(false);
         };
         let mut group = Vec::with_capacity(alloc.clone()?, parts.len())?;
@@ -305,13 +315,14 @@ pub(crate) fn find<A: Allocator + Clone + Drop>(
     let objects = Objects::new(alloc.clone()?, again)?;
     let is_long = parts.len() > FEW;
     let mut whole = Search::new(alloc, parts, &objects, any_place)?;
-    if is_long && whole.search_whole(alloc, true)? {
+    if is_long {
+        let _is_found = whole.search_whole(alloc, true)?;
         return whole.into_order(alloc);
     }
     let groups = group(alloc, parts)?;
     let mut search = Search::new(alloc, parts, &objects, any_place)?;
     search.search_all(alloc, &groups)?;
-    if !is_long && search.stuck.is_some() && whole.search_whole(alloc, false)? {
+    if search.stuck.is_some() && whole.search_whole(alloc, false)? {
         return whole.into_order(alloc);
     }
     search.into_order(alloc)

@@ -13,7 +13,7 @@ use Rattle.loose_orders.specs.Loose.{GoesAsBefore, Leads, Loose, begun, replaced
 use Rattle.by_pages.specs.Pages.{is_done}
 use Rattle.no_loose_order.specs.Lagging.{shares}
 use Rattle.no_loose_order.proofs.Replies.{late_stays}
-use Rattle.no_loose_order.proofs.Tame.{AllTame, Tame, copies_tame, done_late, put_tame, replies_tame}
+use Rattle.no_loose_order.proofs.Tame.{AllTame, Tame, copies_file, copies_tame, done_late, put_tame, replies_file, replies_tame}
 
 -- nothing that is mapped, or was, shows a file that a store to it changes
 pub record IsTame (s : Loose) : Type 0 where
@@ -92,3 +92,10 @@ tame_on rule h (End i) s u none l tame = record {
     at : (call page : ℕ) (b : Bool) → If (cond b (λ (p : ℕ). None) (s.old call) page)
     at call page true e is = absurd cc
     at call page false e is = tame.olds call page e is
+
+-- the files stay
+pub file_on : (rule : PlaceRule) (h : List Timed) (step : Step) (s u : Loose) → Leads rule h s step u → IsTame s → u.plain.file ≡ s.plain.file
+file_on rule h (Replied i) s u l tame = replies_file rule s.plain u.plain l.0.call.core l.0.call.request l.0.call.reply tame.plain l.2
+file_on rule h (Late i) s u l tame = ap (λ (t : Plain). t.file) (late_same rule s u l.0.call tame l.2)
+file_on rule h (Copied i) s u l tame = copies_file s.plain u.plain l.0.call.request l.2
+file_on rule h (End i) s u l tame = ap (λ (t : Plain). t.file) l.0

@@ -1,7 +1,12 @@
-pub mod Replies
+pub mod Lists
 pub mod Live
 pub mod Tame
 pub mod Calm
+pub mod Replies
+pub mod Alike
+pub mod Lagged
+pub mod Moving
+pub mod Taken
+pub mod Placed
 pub mod Eased
-pub mod Lists
 pub mod Shows

@@ -72,7 +72,7 @@ copies_tame t u (Mmap addr len prot flags file off) all h = absurd h
 copies_tame t u (Munmap addr len) all h = absurd h
 copies_tame t u (Mprotect addr len prot) all h = absurd h
 
-due_tame : (t : Plain) (r : Request) → AllTame t.entry → AllTame (with_copy t (page_due t r)).entry
+pub due_tame : (t : Plain) (r : Request) → AllTame t.entry → AllTame (with_copy t (page_due t r)).entry
 due_tame t (Store addr byte) all = go (detached t (page_of addr)) refl
   where
     go : (o : Option Plain) → detached t (page_of addr) ≡ o → AllTame (with_copy t (if_copied o (page_of addr))).entry
@@ -248,3 +248,77 @@ pub done_late : (rule : PlaceRule) (t u : Plain) (core page : ℕ) (r : Request)
 done_late rule t u core page r e a all is h =
     off_access rule (with_entry t page e) u core page r a (put_tame t.entry page e is all) h (t.entry page) ∙ off_put t page e (t.entry page)
     ∙ ap (λ (f : ℕ → Option Entry). record t { entry = f }) (put_back t.entry page (t.entry page) refl)
+
+-- ---- files
+
+off_file : (page : ℕ) (t u : Plain) → Off page t u → u.file ≡ t.file
+off_file page t u off = ap (λ (x : Plain). x.file) (off None)
+
+maps_file : (t u : Plain) (o : Option PageRange) (back : Back) (prot : Prot) (y : Reply) → Maps t o back prot y u → u.file ≡ t.file
+maps_file t u None back prot y h = ap (λ (x : Plain). x.file) h.1
+maps_file t u (Some r) back prot y h = ap (λ (x : Plain). x.file) h.1
+
+protects_file : (t u : Plain) (r : PageRange) (prot : Prot) (y : Reply) → Protects t r prot y u → u.file ≡ t.file
+protects_file t u r prot y (Protects.no_page has_none e f) = ap (λ (x : Plain). x.file) f
+protects_file t u r prot y (Protects.no_write each w has_ro e f) = ap (λ (x : Plain). x.file) f
+protects_file t u r prot y (Protects.done each ro e f) = ap (λ (x : Plain). x.file) f
+
+accessed_file : (t : Plain) (addr byte : ℕ) (y : Reply) → AllTame t.entry → (accessed t addr byte y).file ≡ t.file
+accessed_file t addr byte Done all =
+    off_file (page_of addr) t (accessed t addr byte Done)
+    (off_stored t (page_of addr) (offset_of addr) byte (t.entry (page_of addr)) (all (page_of addr)))
+accessed_file t addr byte (Mapped at) all = refl
+accessed_file t addr byte (Byte b) all = refl
+accessed_file t addr byte (Refused e) all = refl
+accessed_file t addr byte (Segv code) all = refl
+accessed_file t addr byte Bus all = refl
+accessed_file t addr byte NoFrame all = refl
+accessed_file t addr byte NoMemory all = refl
+
+performs_file : (rule : PlaceRule) (t u : Plain) (core : ℕ) (r : Request) (y : Reply) → AllTame t.entry → Performs rule t core r y u → u.file ≡ t.file
+performs_file rule t u core (Mmap addr len prot flags file off) y all h = go flags.fixed h
+  where
+    go : (b : Bool)
+        → MapsAt rule b t (record { core = core; addr = addr; len = len; meta = record { back = back_at flags file off; prot = prot } }) y u
+        → u.file ≡ t.file
+    go true m = maps_file t u (Some (pages_of addr len)) (back_at flags file off) prot y m
+    go false m = maps_file t u (range_at m.0 (page_count len)) (back_at flags file off) prot y m.2
+performs_file rule t u core (Munmap addr len) y all h = ap (λ (x : Plain). x.file) h.1
+performs_file rule t u core (Mprotect addr len prot) y all h = protects_file t u (pages_of addr len) prot y h
+performs_file rule t u core (Load addr) y all h = ap (λ (x : Plain). x.file) h.1 ∙ accessed_file t addr 0 y all
+performs_file rule t u core (Store addr byte) y all h = ap (λ (x : Plain). x.file) h.1 ∙ accessed_file t addr byte y all
+performs_file rule t u core (Fetch addr) y all h = ap (λ (x : Plain). x.file) h.1 ∙ accessed_file t addr 0 y all
+
+applies_file : (rule : PlaceRule) (t u : Plain) (core : ℕ) (r : Request) (y : Reply) → AllTame t.entry → Applies rule t core r y u → u.file ≡ t.file
+applies_file rule t u core r y all h = go (refusal (λ k. mode_of (t.file k)) r) h
+  where
+    go : (o : Option Reply) → AppliesAfter rule o t core r y u → u.file ≡ t.file
+    go None a = performs_file rule t u core r y all a
+    go (Some z) a = ap (λ (x : Plain). x.file) a.1
+
+pub due_file : (t : Plain) (r : Request) → (with_copy t (page_due t r)).file ≡ t.file
+due_file t (Store addr byte) = off_file (page_of addr) t (with_copy t (page_due t (Store addr byte))) (off_due t (page_of addr))
+due_file t (Load addr) = refl
+due_file t (Fetch addr) = refl
+due_file t (Mmap addr len prot flags file off) = refl
+due_file t (Munmap addr len) = refl
+due_file t (Mprotect addr len prot) = refl
+
+-- no call changes a file
+pub replies_file : (rule : PlaceRule) (t u : Plain) (core : ℕ) (r : Request) (y : Reply) → AllTame t.entry → RepliesBy rule t core r y u → u.file ≡ t.file
+replies_file rule t u core r (Mapped at) all h = applies_file rule t u core r (Mapped at) all h
+replies_file rule t u core r Done all h = applies_file rule (with_copy t (page_due t r)) u core r Done (due_tame t r all) h ∙ due_file t r
+replies_file rule t u core r (Byte b) all h = applies_file rule t u core r (Byte b) all h
+replies_file rule t u core r (Refused e) all h = applies_file rule t u core r (Refused e) all h
+replies_file rule t u core r (Segv code) all h = applies_file rule t u core r (Segv code) all h
+replies_file rule t u core r Bus all h = applies_file rule t u core r Bus all h
+replies_file rule t u core r NoFrame all h = ap (λ (x : Plain). x.file) h.1
+replies_file rule t u core r NoMemory all h = ap (λ (x : Plain). x.file) h
+
+pub copies_file : (t u : Plain) (r : Request) → CopiesFor t r u → u.file ≡ t.file
+copies_file t u (Store addr byte) h = off_file (page_of addr) t u (off_detached t u (page_of addr) h.1)
+copies_file t u (Load addr) h = absurd h
+copies_file t u (Fetch addr) h = absurd h
+copies_file t u (Mmap addr len prot flags file off) h = absurd h
+copies_file t u (Munmap addr len) h = absurd h
+copies_file t u (Mprotect addr len prot) h = absurd h

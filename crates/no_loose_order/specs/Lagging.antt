@@ -1,19 +1,13 @@
 -- Accesses that may go as before a call
-use Rattle.std.specs.Prelude.{ℕ, ◌&&◌, ◌||◌, ◌⊎◌, not, nat_le, Bool, false, if◌then◌else◌, List, [], ◌∷◌, map, Option, None, Some}
-use Rattle.vm_base.specs.Places.{PlaceRule}
-use Rattle.vm_base.specs.Plain.{File, Plain, nothing_mapped}
+use Rattle.std.specs.Prelude.{ℕ, ◌&&◌, ◌||◌, ◌⊎◌, not, nat_le, Bool, false, List, [], ◌∷◌, Option, None, Some}
 use Rattle.vm_base.specs.declared.requests.Request.{Request}
 use Rattle.vm_base.specs.declared.requests.Request.TheVariants.{Mmap}
-use Rattle.audit.specs.Placing.{rule_of}
 use Rattle.audit.specs.declared.auditor.Call.{Call}
 use Rattle.orders.specs.declared.history.Timed.{Timed}
-use Rattle.loose_orders.specs.Loose.{HasLooseOrder, page_accessed, replaces}
-use Rattle.by_pages.specs.Pages.{AreChosen, is_done, lost}
+use Rattle.loose_orders.specs.Loose.{page_accessed, replaces}
+use Rattle.by_pages.specs.Pages.{is_done}
 use Rattle.by_pages.specs.declared.splitting.Part.{Part}
-use Rattle.overlapping.specs.declared.judging.Shown.{Shown}
-use Rattle.overlapping.specs.declared.judging.Shown.TheVariants as By
-use Rattle.page_orders.specs.Explained.{Easing}
-use Rattle.page_orders.specs.Showing.{IsCoreOf, NoneIs}
+use Rattle.page_orders.specs.Showing.{NoneIs}
 
 -- two calls were under way at a time in common: neither ended before the other began
 abbrev pub under_way_together : Timed → Timed → Bool
@@ -33,19 +27,6 @@ abbrev pub may_lag : List Part → Timed → Bool
 may_lag [] c = false
 may_lag (p ∷ ps) c = lags_behind c p.timed || may_lag ps c
 
--- A call that may go so is right at any place once it is one that found no memory, and changes nothing. A store that was done may as well have
--- taken effect at a place of its own.
-abbrev pub eased_by : Bool → Bool → Part → Part
-eased_by lags done p =
-    if lags then (if done then record p { is_sure = false } else record p { timed = lost p.timed }) else p
-
-abbrev pub eased_part : List Part → Part → Part
-eased_part ps p = eased_by (may_lag ps p.timed) (is_done p.timed.call.reply) p
-
--- So the loose rule takes parts.
-abbrev pub eased : Easing
-eased ps = map (eased_part ps) ps
-
 -- ---- stores by entries that were replaced
 
 -- a store that was done may go so
@@ -60,14 +41,3 @@ shares request = false
 -- No store that goes as before a call changes a file: there is no such store, or no such mapping.
 abbrev pub FilesStay : List Part → Type 0
 FilesStay ps = NoneIs (is_late_store ps) ps ⊎ NoneIs (λ p. shares p.timed.call.request) ps
-
--- whichever of the parts took effect that may not have, their calls have no order by the loose rule
-abbrev pub HasNoneLoosely : PlaceRule → Plain → List Part → Type 0
-HasNoneLoosely rule t ps = (calls : List Timed) → AreChosen ps calls → ¬ HasLooseOrder rule t calls
-
--- It was shown by parts that are eased that these have none by the loose rule.
-abbrev pub ShowsNoneLoosely : {A : Type 0} → Bool → (ℕ → Option File) → List Part → Shown A → Type 0
-ShowsNoneLoosely any_place files ps By.Nothing = Unit {0}
-ShowsNoneLoosely any_place files ps By.All = HasNoneLoosely (rule_of any_place) (nothing_mapped files) ps
-ShowsNoneLoosely any_place files ps (By.Few core) =
-    HasNoneLoosely (rule_of any_place) (nothing_mapped files) ps × IsCoreOf any_place (eased ps) core

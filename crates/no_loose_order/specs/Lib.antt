@@ -1,1 +1,3 @@
 pub mod Lagging
+pub mod Easing
+pub mod Shown

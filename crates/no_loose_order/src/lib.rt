@@ -2,6 +2,7 @@
 //! made ones that are right at any place.
 #![tactic(auto)]
 
+mod easing;
 mod lagging;
 mod showing;
 

@@ -48,23 +48,25 @@ pub(crate) struct Spot {
 /// All maps.
 #[derive(Drop)]
 pub(crate) struct Arena<A: Allocator> {
-    runs: Vec<Run, A>,
-    cells: Vec<Cell, A>,
+    pub runs: Vec<Run, A>,
+    pub cells: Vec<Cell, A>,
     new_runs: Vec<Run, A>,
-    new_cells: Vec<Cell, A>,
+    pub new_cells: Vec<Cell, A>,
+    /// Whether it is kept what calls replace now.
+    pub keeps_old: bool,
     most: usize,
 }
 
-// A part of a list of runs.
-fn runs_in(runs: &[Run], span: Span) -> &[Run] {
+/// A part of a list of runs.
+pub(crate) fn runs_in(runs: &[Run], span: Span) -> &[Run] {
     if span.first <= span.end && span.end <= runs.len() {
         return &runs[span.first..span.end];
     }
     &runs[0..0]
 }
 
-// A part of a list of cells.
-fn cells_in(cells: &[Cell], span: Span) -> &[Cell] {
+/// A part of a list of cells.
+pub(crate) fn cells_in(cells: &[Cell], span: Span) -> &[Cell] {
     if span.first <= span.end && span.end <= cells.len() {
         return &cells[span.first..span.end];
     }
@@ -117,8 +119,8 @@ fn cells_print(cells: &[Cell]) -> u64 {
     print
 }
 
-// What an access is answered where this is mapped.
-fn access_due<A: Allocator>(
+/// What an access is answered where this is mapped.
+pub(crate) fn access_due<A: Allocator>(
     objects: &Objects<A>,
     runs: &[Run],
     cells: &[Cell],
@@ -228,6 +230,7 @@ impl<A: Allocator + Clone + Drop> Arena<A> {
             cells: Vec::new(alloc.clone()?),
             new_runs: Vec::new(alloc.clone()?),
             new_cells: Vec::new(alloc.clone()?),
+            keeps_old: false,
             most: FEW,
         })
     }
@@ -298,8 +301,8 @@ impl<A: Allocator + Clone + Drop> Arena<A> {
         Ok(())
     }
 
-    // Appends the new cells.
-    fn keep_cells(&mut self, spot: &mut Spot) -> Result<(), NoMemory> {
+    /// Appends the new cells.
+    pub fn keep_cells(&mut self, spot: &mut Spot) -> Result<(), NoMemory> {
         let first = self.cells.len();
         self.cells.extend_from_slice(self.new_cells.as_slice())?;
         spot.cells = Span {
@@ -310,8 +313,8 @@ impl<A: Allocator + Clone + Drop> Arena<A> {
         Ok(())
     }
 
-    // The map after a change.
-    fn change(&mut self, spot: &Spot, change: Change) -> Result<Spot, NoMemory> {
+    /// The map after a change.
+    pub fn change(&mut self, spot: &Spot, change: Change) -> Result<Spot, NoMemory> {
         let mut new = *spot;
         change_runs(
             &mut self.new_runs,
@@ -345,8 +348,8 @@ impl<A: Allocator + Clone + Drop> Arena<A> {
         }
     }
 
-    // The map after a store that is done.
-    fn store(
+    /// The map after a store that is done.
+    pub fn store(
         &mut self,
         objects: &Objects<A>,
         spot: &Spot,
@@ -398,7 +401,7 @@ impl<A: Allocator + Clone + Drop> Arena<A> {
                 if !is_reply_to(change, under.reply) || refusal(objects, runs, change).is_some() {
                     return Ok(None);
                 }
-                Ok(Some(self.change(spot, change)?))
+                Ok(Some(self.replace(spot, change, under)?))
             }
             Ok(Plan::Place(place)) => {
                 let Reply::Mapped(addr) = under.reply else {
@@ -407,7 +410,7 @@ impl<A: Allocator + Clone + Drop> Arena<A> {
                 let Some(change) = placed(runs, any_place, &place, addr) else {
                     return Ok(None);
                 };
-                Ok(Some(self.change(spot, change)?))
+                Ok(Some(self.replace(spot, change, under)?))
             }
         }
     }

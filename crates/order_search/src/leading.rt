@@ -3,10 +3,9 @@
 use crate::arena::{Arena, Spot, mixed};
 use crate::configs::Config;
 use crate::seen::Seen;
-use crate::trail::Trail;
+use crate::trail::{Mark, Trail};
 use crate::under::Under;
 use backing::Objects;
-use orders::Item;
 use std::alloc::Allocator;
 use std::mem::swap;
 use vm_base::NoMemory;
@@ -33,7 +32,7 @@ pub(crate) struct Ending<'u> {
 // there, and those whose calls it may let take effect.
 #[derive(Clone, Copy, Debug, PartialEq, Eq)]
 struct Step {
-    item: Item,
+    mark: Mark,
     count: u32,
     lost: u32,
     spot: Spot,
@@ -112,13 +111,41 @@ impl<'a, A: Allocator + Clone + Drop> Ways<'a, A> {
         self.arena.holds(self.objects, self.any_place, spot, under)
     }
 
+    // The part, of a call that has taken effect and hasn't ended, before which an access may go, if it has its reply there.
+    fn behind(&self, calls: &[Under], spot: &Spot, done: u64, under: &Under) -> Option<u32> {
+        let page = under.touch()?.page;
+        for other in calls {
+            if done & other.bit != 0 && self.arena.holds_late(self.objects, spot, under, other) {
+                return Some(other.part(page));
+            }
+        }
+        None
+    }
+
+    // How a call, which changes nothing, takes effect in a map, if it can.
+    fn mark_of(&self, calls: &[Under], spot: &Spot, done: u64, under: &Under) -> Option<Mark> {
+        if self.holds(spot, under) {
+            return Some(Mark::Reply(under.number));
+        }
+        if !under.may_lag {
+            return None;
+        }
+        let behind = self.behind(calls, spot, done, under)?;
+        let access = under.number;
+        Some(Mark::Late { access, behind })
+    }
+
     /// Lets a call take effect in the configurations in which it has its reply and changes nothing.
-    pub fn settle(&mut self, configs: &mut [Config], under: &Under) -> Result<(), NoMemory> {
+    pub fn settle(
+        &mut self,
+        calls: &[Under],
+        configs: &mut [Config],
+        under: &Under,
+    ) -> Result<(), NoMemory> {
         for at in 0..configs.len() {
             let config = configs[at];
-            if self.holds(&config.spot, under) {
-                let item = Item::Reply(under.number);
-                let trail = self.trail.add(config.trail, item, under.count)?;
+            if let Some(mark) = self.mark_of(calls, &config.spot, config.done, under) {
+                let trail = self.trail.add(config.trail, mark, under.count)?;
                 configs[at].done = config.done | under.bit;
                 configs[at].trail = trail;
             }
@@ -130,8 +157,8 @@ impl<'a, A: Allocator + Clone + Drop> Ways<'a, A> {
     pub fn pass_over(&mut self, configs: &mut [Config], under: &Under) -> Result<(), NoMemory> {
         for at in 0..configs.len() {
             let config = configs[at];
-            let item = Item::Reply(under.number);
-            let trail = self.trail.add(config.trail, item, under.count)?;
+            let mark = Mark::Reply(under.number);
+            let trail = self.trail.add(config.trail, mark, under.count)?;
             configs[at].done = config.done | under.bit;
             configs[at].trail = trail;
         }
@@ -142,7 +169,10 @@ impl<'a, A: Allocator + Clone + Drop> Ways<'a, A> {
     fn settled(&self, calls: &[Under], spot: &Spot, done: u64, may: u64) -> u64 {
         let mut settled = done;
         for under in calls {
-            if !under.is_late && may & !done & under.bit != 0 && self.holds(spot, under) {
+            if !under.is_late
+                && may & !done & under.bit != 0
+                && self.mark_of(calls, spot, done, under).is_some()
+            {
                 settled |= under.bit;
             }
         }
@@ -153,6 +183,7 @@ impl<'a, A: Allocator + Clone + Drop> Ways<'a, A> {
     fn add_settled(
         &mut self,
         calls: &[Under],
+        spot: &Spot,
         node: usize,
         done: u64,
         settled: u64,
@@ -163,8 +194,10 @@ impl<'a, A: Allocator + Clone + Drop> Ways<'a, A> {
         }
         for under in calls {
             if settled & under.bit != 0 && done & under.bit == 0 {
-                let item = Item::Reply(under.number);
-                trail = self.trail.add(trail, item, under.count)?;
+                let mark = self
+                    .mark_of(calls, spot, done, under)
+                    .unwrap_or(Mark::Reply(under.number));
+                trail = self.trail.add(trail, mark, under.count)?;
             }
         }
         Ok(trail)
@@ -182,14 +215,14 @@ impl<'a, A: Allocator + Clone + Drop> Ways<'a, A> {
 
     // The way on from a node by the reply of a call that was lost, or by parts that were: their copies are no steps of their own.
     fn add_reply(&mut self, from: &Config, step: &Step, node: usize) -> Result<usize, NoMemory> {
-        match step.item {
-            Item::Copy(number) if step.done != from.done => {
-                self.trail.add(node, Item::Reply(number), step.count)
+        match step.mark {
+            Mark::Copy(number) if step.done != from.done => {
+                self.trail.add(node, Mark::Reply(number), step.count)
             }
-            Item::Reply(number) if step.lost > 0 => {
+            Mark::Reply(number) if step.lost > 0 => {
                 let next = number.wrapping_add(step.count);
-                let node = self.trail.add(node, Item::Copy(next), step.lost)?;
-                self.trail.add(node, Item::Reply(next), step.lost)
+                let node = self.trail.add(node, Mark::Copy(next), step.lost)?;
+                self.trail.add(node, Mark::Reply(next), step.lost)
             }
             _ => Ok(node),
         }
@@ -201,9 +234,9 @@ impl<'a, A: Allocator + Clone + Drop> Ways<'a, A> {
         if !self.seen.is_new(print_of(&step.spot, settled))? {
             return Ok(false);
         }
-        let trail = self.trail.add(from.trail, step.item, step.count)?;
+        let trail = self.trail.add(from.trail, step.mark, step.count)?;
         let trail = self.add_reply(from, step, trail)?;
-        let trail = self.add_settled(ending.under, trail, step.done, settled)?;
+        let trail = self.add_settled(ending.under, &step.spot, trail, step.done, settled)?;
         self.take_in(
             Config {
                 spot: step.spot,
@@ -236,7 +269,7 @@ impl<'a, A: Allocator + Clone + Drop> Ways<'a, A> {
         };
         let is_refused = under.count > 1 && !under.changes;
         let step = Step {
-            item: Item::Reply(under.number),
+            mark: Mark::Reply(under.number),
             count: if is_refused { 1 } else { under.count },
             lost: if is_refused {
                 under.count.saturating_sub(1)
@@ -253,6 +286,90 @@ impl<'a, A: Allocator + Clone + Drop> Ways<'a, A> {
         Ok(())
     }
 
+    // Adds what an access under way leads to from a configuration as it goes as before a call that hasn't ended.
+    fn lag(
+        &mut self,
+        ending: Ending<'_>,
+        from: &Config,
+        under: &Under,
+        behind: &Under,
+    ) -> Result<(), NoMemory> {
+        let Some(touch) = under.touch() else {
+            return Ok(());
+        };
+        let ends = self.arena.ends();
+        let Some(spot) = self
+            .arena
+            .apply_late(self.objects, &from.spot, under, behind)?
+        else {
+            return Ok(());
+        };
+        let step = Step {
+            mark: Mark::Late {
+                access: under.number,
+                behind: behind.part(touch.page),
+            },
+            count: 1,
+            lost: 0,
+            spot,
+            done: from.done | under.bit,
+            may: under.rivals,
+        };
+        if !self.add(ending, from, &step)? {
+            self.arena.cut(ends);
+        }
+        Ok(())
+    }
+
+    // The same before each call that has taken effect and hasn't ended.
+    fn lag_all(
+        &mut self,
+        ending: Ending<'_>,
+        from: &Config,
+        under: &Under,
+    ) -> Result<(), NoMemory> {
+        if under.may_lag && under.touch().is_some() {
+            for behind in ending.under {
+                if from.done & behind.bit != 0 && behind.keeps_old() {
+                    self.lag(ending, from, under, behind)?;
+                }
+            }
+        }
+        Ok(())
+    }
+
+    // Lets accesses that haven't taken effect go as before the call that ends, while they still may.
+    fn lag_behind(&mut self, ending: Ending<'_>) -> Result<(), NoMemory> {
+        for at in 0..LIMIT {
+            let Some(config) = self.reached.get(at).copied() else {
+                return Ok(());
+            };
+            for under in ending.under {
+                if under.may_lag && under.is_late && config.done & under.bit == 0 {
+                    for behind in ending.under {
+                        if behind.bit == ending.bit {
+                            self.lag(ending, &config, under, behind)?;
+                        }
+                    }
+                }
+            }
+            if self.reached.len() > LIMIT {
+                return Ok(());
+            }
+        }
+        Ok(())
+    }
+
+    /// A call isn't under way any more.
+    pub fn drop_olds(&mut self, configs: &mut [Config], call: &Under) -> Result<(), NoMemory> {
+        if call.keeps_old() {
+            for at in 0..configs.len() {
+                configs[at].spot = self.arena.drop_olds(&configs[at].spot, call)?;
+            }
+        }
+        Ok(())
+    }
+
     // Adds what a store under way leads to from a configuration as its page gets a copy.
     fn copy(&mut self, ending: Ending<'_>, from: &Config, under: &Under) -> Result<(), NoMemory> {
         let Some(page) = under.stores_to else {
@@ -263,7 +380,7 @@ impl<'a, A: Allocator + Clone + Drop> Ways<'a, A> {
             return Ok(());
         };
         let step = Step {
-            item: Item::Copy(under.number),
+            mark: Mark::Copy(under.number),
             count: 1,
             lost: 0,
             spot,
@@ -280,7 +397,7 @@ impl<'a, A: Allocator + Clone + Drop> Ways<'a, A> {
     fn lose(&mut self, ending: Ending<'_>, from: &Config, under: &Under) -> Result<(), NoMemory> {
         if under.is_unsure {
             let step = Step {
-                item: Item::Copy(under.number),
+                mark: Mark::Copy(under.number),
                 count: 1,
                 lost: 0,
                 spot: from.spot,
@@ -303,7 +420,7 @@ impl<'a, A: Allocator + Clone + Drop> Ways<'a, A> {
         };
         let count = 1u32.saturating_add(pages).min(under.count);
         let step = Step {
-            item: Item::Reply(under.number),
+            mark: Mark::Reply(under.number),
             count,
             lost: under.count.saturating_sub(count),
             spot,
@@ -322,6 +439,7 @@ impl<'a, A: Allocator + Clone + Drop> Ways<'a, A> {
         for under in ending.under {
             if before & under.bit != 0 {
                 self.reply(ending, from, under)?;
+                self.lag_all(ending, from, under)?;
                 self.copy(ending, from, under)?;
                 self.lose(ending, from, under)?;
                 self.refuse(ending, from, under)?;
@@ -347,8 +465,10 @@ impl<'a, A: Allocator + Clone + Drop> Ways<'a, A> {
     pub fn reach(
         &mut self,
         ending: Ending<'_>,
+        ends: &Under,
         configs: &mut Vec<Config, A>,
     ) -> Result<Reach, NoMemory> {
+        self.arena.keeps_old = ends.may_lag;
         self.begin(configs.as_slice(), ending.bit)?;
         for at in 0..LIMIT {
             let Some(config) = self.work.get(at).copied() else {
@@ -361,6 +481,9 @@ impl<'a, A: Allocator + Clone + Drop> Ways<'a, A> {
         }
         if self.reached.is_empty() {
             return Ok(Reach::Stuck);
+        }
+        if ends.keeps_old() {
+            self.lag_behind(ending)?;
         }
         swap(configs, &mut self.reached);
         Ok(Reach::Reached)
@@ -378,7 +501,7 @@ impl<'a, A: Allocator + Clone + Drop> Ways<'a, A> {
     }
 
     /// The order of a configuration, which is the only one left.
-    pub fn into_order(self, alloc: &A, config: &Config) -> Result<Vec<Item, A>, NoMemory> {
+    pub fn into_order(self, alloc: &A, config: &Config) -> Result<Vec<Mark, A>, NoMemory> {
         self.trail.into_order(alloc, config)
     }
 }

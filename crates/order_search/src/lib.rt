@@ -6,6 +6,7 @@
 mod arena;
 mod configs;
 mod leading;
+mod olds;
 mod pages;
 mod runs;
 mod search;

@@ -4,12 +4,12 @@ ghost use Rattle.order_search.specs.Founds.{IsFound};
 
 use crate::configs::Config;
 use crate::leading::{Ending, Reach, Ways};
+use crate::trail::Mark;
 use crate::under::{Mapped, Under, mapped_by};
 use backing::Objects;
 use orders::{Item, Timed, each_once};
-use slot_lock::Plan;
 use std::alloc::Allocator;
-use vm_base::{CoreSet, NoMemory, PageRange};
+use vm_base::{CoreSet, NoMemory};
 
 /// What a search comes to. That it is right isn't claimed.
 #[derive(Debug, Drop)]
@@ -55,23 +55,10 @@ struct Parts<'p> {
     count: usize,
 }
 
-// A call that changes pages.
-#[derive(Clone, Copy, Debug, PartialEq, Eq)]
-struct Recent {
-    number: u32,
-    count: u32,
-    end: u64,
-    pages: PageRange,
-}
-
 /// So many calls that no order gets to are passed over by a search of whole calls.
 const MOST_STUCK: usize = 64;
 
-/// So many calls that change pages are kept at least, before those are left out that all calls under way began after.
-const FEW_RECENT: usize = 64;
-
-// The state of a search between two begins or ends. Where accesses may lag, the calls are kept that have changed pages
-// of late.
+// The state of a search between two begins or ends.
 #[derive(Drop)]
 struct Search<'a, A: Allocator> {
     objects: &'a Objects<A>,
@@ -88,8 +75,6 @@ struct Search<'a, A: Allocator> {
     ways: Ways<'a, A>,
     under: Vec<Under, A>,
     configs: Vec<Config, A>,
-    recent: Vec<Recent, A>,
-    lags: Vec<Lag, A>,
 }
 
 // Each of so many calls is one part.
@@ -103,17 +88,6 @@ fn item_number(call: usize) -> u32 {
         call as u32
     } else {
         0xffff_ffff
-    }
-}
-
-impl Recent {
-    // The number of the part that changes this page, which is one of the call's.
-    fn part(&self, page: u64) -> u32 {
-        if self.count <= 1 {
-            return self.number;
-        }
-        let before = page.wrapping_sub(self.pages.first) & 0xffff_ffff;
-        self.number.wrapping_add(before as u32)
     }
 }
 
@@ -166,8 +140,6 @@ impl<'a, A: Allocator + Clone + Drop> Search<'a, A> {
             ways,
             under: Vec::new(alloc.clone()?),
             configs,
-            recent: Vec::new(alloc.clone()?),
-            lags: Vec::new(alloc.clone()?),
         })
     }
 
@@ -204,71 +176,17 @@ impl<'a, A: Allocator + Clone + Drop> Search<'a, A> {
         under.is_unsure = matches!(self.unsure.get(call), Some(true));
         under.may_lag = self.may_lag || matches!(self.late.get(call), Some(true));
         if !under.is_late {
-            self.ways.settle(&mut self.configs, &under)?;
+            let calls = self.under.as_slice();
+            self.ways.settle(calls, &mut self.configs, &under)?;
         }
         self.note_rivals(&mut under);
         self.under.push(under)?;
-        if self.may_lag || !self.late.is_empty() {
-            self.note_change(&under)?;
-        }
         Ok(true)
     }
 
-    // The least begin of the calls under way.
-    fn least_begin(&self) -> u64 {
-        let mut least = u64::MAX;
-        for under in self.under.as_slice() {
-            least = least.min(under.begin);
-        }
-        least
-    }
-
-    // Keeps a call that changes pages, as long as accesses under way may have begun before its end.
-    fn note_change(&mut self, under: &Under) -> Result<(), NoMemory> {
-        if !under.changes || matches!(under.plan, Ok(Plan::Touch(_))) {
-            return Ok(());
-        }
-        if self.recent.len() >= FEW_RECENT {
-            let least = self.least_begin();
-            self.recent.retain(|recent| recent.end >= least);
-        }
-        self.recent.push(Recent {
-            number: under.number,
-            count: under.count,
-            end: under.end,
-            pages: under.pages,
-        })?;
-        Ok(())
-    }
-
-    // Passes over a call that none of the configurations reaches, if it is an access that may lag: then it changes
-    // nothing in any of them.
-    fn pass_over(&mut self, under: &Under) -> Result<bool, NoMemory> {
-        let Ok(Plan::Touch(touch)) = under.plan else {
-            return Ok(false);
-        };
-        let known = self.lags.len();
-        for recent in self.recent.as_slice() {
-            if recent.end >= under.begin && recent.pages.contains(touch.page) {
-                self.lags.push(Lag {
-                    behind: recent.part(touch.page),
-                    access: under.number,
-                })?;
-            }
-        }
-        if self.lags.len() == known {
-            return Ok(false);
-        }
-        self.ways.pass_over(&mut self.configs, under)?;
-        Ok(true)
-    }
-
-    // Passes over a call that none of the configurations reaches, if it may lag, or if the search goes on behind it:
-    // what follows is no order then, but other such calls may show up.
+    // Passes over a call that none of the configurations reaches, if the search goes on behind it: what follows is no
+    // order then, but other such calls may show up.
     fn pass_by(&mut self, under: &Under) -> Result<bool, NoMemory> {
-        if under.may_lag && self.pass_over(under)? {
-            return Ok(true);
-        }
         if self.passed.len() >= self.may_pass {
             return Ok(false);
         }
@@ -353,14 +271,18 @@ impl<'a, A: Allocator + Clone + Drop> Search<'a, A> {
     // This call under way, which is at this place, ends.
     fn end(&mut self, alloc: &A, at: usize, ends: &Under) -> Result<Reach, NoMemory> {
         let bit = ends.bit;
-        if !self.is_done(bit) {
-            let under = self.under.as_slice();
-            let reach = self.ways.reach(Ending { under, bit }, &mut self.configs)?;
+        if ends.keeps_old() || !self.is_done(bit) {
+            let ending = Ending {
+                under: self.under.as_slice(),
+                bit,
+            };
+            let reach = self.ways.reach(ending, ends, &mut self.configs)?;
             if reach == Reach::Full || (reach == Reach::Stuck && !self.pass_by(ends)?) {
                 return Ok(reach);
             }
         }
         self.forget(at, bit);
+        self.ways.drop_olds(&mut self.configs, ends)?;
         self.ways.shorten(alloc, &mut self.configs)?;
         Ok(Reach::Reached)
     }
@@ -405,14 +327,26 @@ impl<'a, A: Allocator + Clone + Drop> Search<'a, A> {
     }
 
     // The order of the first configuration, and the cores whose open calls haven't taken effect in it: these stand
-    // last.
-    fn into_order(self, alloc: &A) -> Result<(Vec<Item, A>, CoreSet), NoMemory> {
+    // last. What lags is told.
+    fn into_order(
+        self,
+        alloc: &A,
+        lags: &mut Vec<Lag, A>,
+    ) -> Result<(Vec<Item, A>, CoreSet), NoMemory> {
         let Some(config) = self.configs.get(0).copied() else {
             return Ok((Vec::new(alloc.clone()?), CoreSet::empty()));
         };
         let cores = self.lost_cores(&config);
         let lost = self.lost(alloc, &config)?;
-        let mut order = self.ways.into_order(alloc, &config)?;
+        let marks = self.ways.into_order(alloc, &config)?;
+        let mut order = Vec::with_capacity(alloc.clone()?, marks.len())?;
+        for at in 0..marks.len() {
+            let mark = marks[at];
+            order.push(mark.item())?;
+            if let Mark::Late { access, behind } = mark {
+                lags.push(Lag { behind, access })?;
+            }
+        }
         order.extend_from_slice(lost.as_slice())?;
         Ok((order, cores))
     }
@@ -479,7 +413,8 @@ fn find_some<A: Allocator + Clone + Drop>(
     if let Some((reach, call)) = search.run(alloc, history)? {
         return Ok(stopped(history.len(), reach, call));
     }
-    found_by(alloc, history.len(), search.into_order(alloc)?)
+    let mut lags = Vec::new(alloc.clone()?);
+    found_by(alloc, history.len(), search.into_order(alloc, &mut lags)?)
 }
 
 /// Searches an order of the calls of a space with these files, from the map on in which nothing is mapped. The first
@@ -520,9 +455,8 @@ pub fn find_choice<A: Allocator + Clone + Drop>(
     find_some(alloc, objects, any_place, history, history.len(), unsure)
 }
 
-/// Searches as `find_choice` does, where accesses may lag: one that no order so far gets to the end of is passed over,
-/// as though it changed nothing, if a call that changes its page hadn't ended when it began. It stands among the items,
-/// and `lags` tells it, once for each such call.
+/// Searches as `find_choice` does, where accesses may lag: each may go as before a call that hasn't ended. `lags` tells
+/// which do.
 #[tactic(auto, using(crate::proofs::NoCalls::none_found))]
 pub fn find_lagging<A: Allocator + Clone + Drop>(
     alloc: &A,
@@ -545,8 +479,7 @@ pub fn find_lagging<A: Allocator + Clone + Drop>(
     if let Some((reach, call)) = search.run(alloc, history)? {
         return Ok(stopped(count, reach, call));
     }
-    lags.extend_from_slice(search.lags.as_slice())?;
-    found_by(alloc, count, search.into_order(alloc)?)
+    found_by(alloc, count, search.into_order(alloc, lags)?)
 }
 
 /// Searches as `find_choice` does, where each call takes effect as a whole, as though its parts did one behind another.
@@ -587,6 +520,5 @@ pub fn find_whole<'w, A: Allocator + Clone + Drop>(
         stuck.push(part)?;
         return Ok(stopped(count, reach, part));
     }
-    lags.extend_from_slice(search.lags.as_slice())?;
-    found_by(alloc, count, search.into_order(alloc)?)
+    found_by(alloc, count, search.into_order(alloc, lags)?)
 }

@@ -8,11 +8,42 @@ use vm_base::NoMemory;
 /// How many nodes there are at least before those that nobody needs are left out.
 const FEW: usize = 100_000;
 
-// An item behind that of another node, and the same of so many calls with the next numbers.
+/// What took effect.
+#[derive(Clone, Copy, Debug, PartialEq, Eq)]
+pub(crate) enum Mark {
+    /// This call.
+    Reply(u32),
+    /// The copy of the page of this call, a store; or this call, which is lost.
+    Copy(u32),
+    /// This access, as before a call that hadn't ended.
+    Late { access: u32, behind: u32 },
+}
+
+impl Mark {
+    /// The item of it.
+    pub fn item(self) -> Item {
+        match self {
+            Mark::Reply(call) => Item::Reply(call),
+            Mark::Copy(call) => Item::Copy(call),
+            Mark::Late { access, .. } => Item::Reply(access),
+        }
+    }
+
+    // The same of the call so many numbers on.
+    fn advanced(self, by: u32) -> Mark {
+        match self {
+            Mark::Reply(call) => Mark::Reply(call.wrapping_add(by)),
+            Mark::Copy(call) => Mark::Copy(call.wrapping_add(by)),
+            Mark::Late { .. } => self,
+        }
+    }
+}
+
+// What took effect behind another node, and the same of so many calls with the next numbers.
 #[derive(Clone, Copy, Debug, PartialEq, Eq)]
 struct Node {
     parent: usize,
-    item: Item,
+    mark: Mark,
     count: u32,
 }
 
@@ -28,22 +59,19 @@ struct Need {
 /// The items that all configurations have in front, and the tree of those behind. The first node is its root, and has no item of its own.
 #[derive(Drop)]
 pub(crate) struct Trail<A: Allocator> {
-    order: Vec<Item, A>,
+    order: Vec<Mark, A>,
     nodes: Vec<Node, A>,
     most: usize,
 }
 
-// Appends an item of so many calls with the next numbers.
+// Appends what took effect, of so many calls with the next numbers.
 fn push_all<A: Allocator>(
-    order: &mut Vec<Item, A>,
-    item: Item,
+    order: &mut Vec<Mark, A>,
+    mark: Mark,
     count: u32,
 ) -> Result<(), NoMemory> {
     for more in 0..count {
-        order.push(match item {
-            Item::Reply(call) => Item::Reply(call.wrapping_add(more)),
-            Item::Copy(call) => Item::Copy(call.wrapping_add(more)),
-        })?;
+        order.push(mark.advanced(more))?;
     }
     Ok(())
 }
@@ -54,7 +82,7 @@ impl<A: Allocator + Clone + Drop> Trail<A> {
         let mut nodes = Vec::new(alloc.clone()?);
         nodes.push(Node {
             parent: 0,
-            item: Item::Reply(0),
+            mark: Mark::Reply(0),
             count: 1,
         })?;
         Ok(Trail {
@@ -64,12 +92,12 @@ impl<A: Allocator + Clone + Drop> Trail<A> {
         })
     }
 
-    /// Adds an item of so many calls behind that of a node, and answers its node.
-    pub fn add(&mut self, parent: usize, item: Item, count: u32) -> Result<usize, NoMemory> {
+    /// Adds what took effect, of so many calls, behind a node, and answers its node.
+    pub fn add(&mut self, parent: usize, mark: Mark, count: u32) -> Result<usize, NoMemory> {
         let at = self.nodes.len();
         self.nodes.push(Node {
             parent,
-            item,
+            mark,
             count,
         })?;
         Ok(at)
@@ -134,8 +162,8 @@ impl<A: Allocator + Clone + Drop> Trail<A> {
             }
             root = need.next;
             if let Some(node) = self.nodes.get(root) {
-                let (item, count) = (node.item, node.count);
-                push_all(&mut self.order, item, count)?;
+                let (mark, count) = (node.mark, node.count);
+                push_all(&mut self.order, mark, count)?;
             }
         }
         Ok(root)
@@ -160,7 +188,7 @@ impl<A: Allocator + Clone + Drop> Trail<A> {
                     need.goes_to = goes_to;
                     nodes.push(Node {
                         parent,
-                        item: node.item,
+                        mark: node.mark,
                         count: node.count,
                     })?;
                 }
@@ -177,7 +205,7 @@ impl<A: Allocator + Clone + Drop> Trail<A> {
     }
 
     /// The order of a configuration, which is the only one left.
-    pub fn into_order(mut self, alloc: &A, config: &Config) -> Result<Vec<Item, A>, NoMemory> {
+    pub fn into_order(mut self, alloc: &A, config: &Config) -> Result<Vec<Mark, A>, NoMemory> {
         let mut one = [*config];
         self.shorten(alloc, &mut one)?;
         Ok(self.order)

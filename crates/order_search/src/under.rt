@@ -2,7 +2,7 @@
 
 use backing::Objects;
 use orders::Timed;
-use slot_lock::{Change, Plan};
+use slot_lock::{Change, Plan, Touch};
 use std::alloc::Allocator;
 use vm_base::{CoreId, Errno, PageRange, Prot, Reply, Request, page_of};
 use vm_calls::check;
@@ -37,7 +37,7 @@ pub(crate) struct Under {
     pub is_open: bool,
     /// Whether it may be lost: then it takes effect with its reply, or changes nothing.
     pub is_unsure: bool,
-    /// Whether it may be passed over where no order gets to its end, if it is an access.
+    /// Whether it may go as before a call that hasn't ended, if it is an access; or accesses as before it.
     pub may_lag: bool,
     /// Whether its reply says that it changed something. A call that is answered at its check changes nothing.
     pub changes: bool,
@@ -105,6 +105,28 @@ impl Under {
             is_late: self.is_late || count > 1,
             ..self
         }
+    }
+
+    /// Its access, if it is one.
+    pub fn touch(&self) -> Option<Touch> {
+        match self.plan {
+            Ok(Plan::Touch(touch)) => Some(touch),
+            _ => None,
+        }
+    }
+
+    /// Tells whether accesses may go as before it: it changes pages.
+    pub fn keeps_old(&self) -> bool {
+        self.may_lag && self.changes && self.touch().is_none()
+    }
+
+    /// The number of its part that changes a page.
+    pub fn part(&self, page: u64) -> u32 {
+        if self.count <= 1 {
+            return self.number;
+        }
+        let before = page.wrapping_sub(self.pages.first) & 0xffff_ffff;
+        self.number.wrapping_add(before as u32)
     }
 
     /// The range of an `mprotect` that met a page that isn't mapped, and may have changed those in front of it, and their protection then.

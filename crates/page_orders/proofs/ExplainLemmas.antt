@@ -16,7 +16,7 @@ use Rattle.overlapping.specs.declared.judging.Shown.TheVariants as By
 use Rattle.overlapping.specs.declared.judging.Told.{Told}
 use Rattle.page_orders.specs.Explained.{Easing, Explains, IsDisorder, IsExplanation, IsExplainedOf, IsTold, Says, core_lines, lines_behind, part_line}
 use Rattle.page_orders.specs.Rulings.{HasNone, IsRuling, OrderRule}
-use Rattle.page_orders.specs.Showing.{AreSure, IsCoreOf}
+use Rattle.page_orders.specs.Showing.{IsCoreOf}
 use Rattle.page_orders.proofs.RuleLemmas.{unordered_there}
 
 -- ---- lines
@@ -94,10 +94,10 @@ none_by has easing any_place lines r ps By.Nothing explanation d x = absurd x
 none_by has easing any_place lines r ps By.All explanation d x = d
 none_by has easing any_place lines r ps (By.Few core) explanation d x = d.0
 
-explanation_there : {A : Type 0} (easing : Easing) (any_place : Bool) (lines : List (List ℕ)) (r : Read) (ps : List Part) (core : Core A)
-    (explanation : List ℕ) → ps ≡ parts_from 0 r.calls → IsCoreOf any_place (easing ps) core
+explanation_there : {A : Type 0} (easing : Easing) (any_place : Bool) (lines : List (List ℕ)) (r : Read) (ps taken : List Part) (core : Core A)
+    (explanation : List ℕ) → ps ≡ parts_from 0 r.calls → easing ps taken → IsCoreOf any_place taken core
     → explanation ≡ numbered_text lines (core_lines r.lines ps core.number core.kept.items) → IsExplanation easing any_place lines r explanation
-explanation_there easing any_place lines r ps core explanation e is text = record {
+explanation_there easing any_place lines r ps taken core explanation e eases is text = record {
   pages = core.pages;
   number = core.number;
   first = core.first;
@@ -105,11 +105,13 @@ explanation_there easing any_place lines r ps core explanation e is text = recor
   built = core.built;
   cut = core.cut;
   kept = core.kept.items;
-  calls = is.calls;
-  are = subst (λ (qs : List Part). AreSure (easing qs) is.calls) e is.are;
-  is = is.shown.is;
-  files = is.shown.files;
-  alone = is.shown.alone;
+  taken = taken;
+  eases = subst (λ (qs : List Part). easing qs taken) e eases;
+  is = is.is;
+  took_effect = is.first;
+  told = is.told;
+  files = is.files;
+  alone = is.alone;
   text = text ∙ ap (λ (qs : List Part). numbered_text lines (core_lines r.lines qs core.number core.kept.items)) e;
 }
 
@@ -120,7 +122,7 @@ explained_by has easing any_place lines r ps By.Nothing explanation d x = absurd
 explained_by has easing any_place lines r ps By.All explanation d (inl none) = inl none
 explained_by has easing any_place lines r ps By.All explanation d (inr all) = inr (inl all)
 explained_by has easing any_place lines r ps (By.Few core) explanation d x =
-    inr (inr (explanation_there easing any_place lines r ps core explanation d.1 d.2 x))
+    inr (inr (explanation_there easing any_place lines r ps d.2.0 core explanation d.1 d.2.1 d.2.2 x))
 
 by_saying : {A : Type 0} (has : OrderRule) (easing : Easing) (any_place : Bool) (lines : List (List ℕ)) (r : Read) (ps : List Part) (shown : Shown A)
     (told : Told A) → IsDisorder has easing any_place r ps shown → Says any_place lines r ps shown told → IsTold has easing any_place lines r told

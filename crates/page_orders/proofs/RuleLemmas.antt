@@ -113,7 +113,7 @@ disorder_there history any_place files replies parts all By.All none f same is s
 disorder_there history any_place files replies parts all (By.Few core) none f same is s = (
   none_there history any_place files replies parts all none f same is (none_of_core any_place parts core s (given_files files)),
   parts_answered history replies all none is,
-  subst (λ (ps : List Part). IsCoreOf any_place ps core) same s,
+  (parts, same, s),
 )
 
 pub unordered_there : (has : OrderRule) (lines : List (List ℕ)) (r : Read) (number line : ℕ) (c : Timed) → HasNone has r

@@ -1,11 +1,12 @@
 -- What explains that calls have no order by pages, or by a rule that eases the calls of pages.
-use Rattle.std.specs.Prelude.{◌≡◌, ℕ, ◌==◌, ◌⊎◌, Bool, if◌then◌else◌, List, [], ◌∷◌, ◌++◌, Option, None, Some, get_or, slice_get}
+use Rattle.std.specs.Prelude.{◌≡◌, ℕ, ◌==◌, ◌⊎◌, Bool, true, if◌then◌else◌, List, [], ◌∷◌, ◌++◌, map, Option, None, Some, get_or, slice_get}
 use Rattle.vm_base.specs.declared.page.PageRange.{PageRange}
 use Rattle.vm_base.specs.Plain.{File, nothing_mapped}
 use Rattle.audit.specs.Placing.{rule_of}
 use Rattle.orders.specs.declared.history.Timed.{Timed}
 use Rattle.orders_text.specs.History.{IsHistory, Read}
 use Rattle.cores.specs.Cores.{HasNone as HasNoneOf, IsCore}
+use Rattle.cores.specs.Effects.{AreTold, took}
 use Rattle.cores.specs.declared.kept.Kept.{Kept}
 use Rattle.core_text.specs.Told.{numbered_text}
 use Rattle.by_pages.specs.Pages.{parts_from}
@@ -17,7 +18,7 @@ use Rattle.overlapping.specs.declared.judging.Shown.{Shown}
 use Rattle.overlapping.specs.declared.judging.Shown.TheVariants as By
 use Rattle.overlapping.specs.declared.judging.Told.{Told}
 use Rattle.page_orders.specs.Rulings.{HasNone, IsRuling, OrderRule}
-use Rattle.page_orders.specs.Showing.{AreSure, IsCoreOf}
+use Rattle.page_orders.specs.Showing.{IsCoreOf, is_surely, timed_of}
 
 -- ---- the lines of calls of pages
 
@@ -42,15 +43,15 @@ core_lines numbers ps first ks = part_line numbers ps first ∷ lines_behind (pa
 
 -- ---- explanations
 
--- how a rule takes the calls of pages: some are made such that are right at any place
-abbrev pub Easing : Type 0
-Easing = List Part → List Part
+-- How a rule may take the calls of pages: some as such that are right wherever those are, or more easily.
+abbrev pub Easing : Type 1
+Easing = (are taken : List Part) → Type 0
 
 abbrev pub as_they_are : Easing
-as_they_are ps = ps
+as_they_are ps qs = qs ≡ ps
 
--- The lines are those of a core of the calls of the history's pages, as the rule takes them, which has no order by itself: in its pages its
--- first calls leave nothing of what was there.
+-- The lines are those of a core of the calls of the history's pages, as the rule takes them, which has no order by itself, whichever of its open
+-- calls took effect: in its pages its first calls leave nothing of what was there.
 pub record IsExplanation (easing : Easing) (any_place : Bool) (lines : List (List ℕ)) (r : Read) (explanation : List ℕ) : Type 0 where
   pub pages : PageRange
   pub number : ℕ
@@ -59,9 +60,11 @@ pub record IsExplanation (easing : Easing) (any_place : Bool) (lines : List (Lis
   pub built : ℕ
   pub cut : ℕ
   pub kept : List Kept
-  pub calls : List Timed
-  pub are : AreSure (easing (parts_from 0 r.calls)) calls
-  pub is : IsCore calls pages number first start built cut kept
+  pub taken : List Part
+  pub eases : easing (parts_from 0 r.calls) taken
+  pub is : IsCore (map timed_of taken) pages number first start built cut kept
+  pub took_effect : took (map is_surely taken) number ≡ true
+  pub told : AreTold (map is_surely taken) kept
   pub files : ℕ → Option File
   pub alone : HasNoneOf (rule_of any_place) (nothing_mapped files) (start ∷ []) kept
   pub text : explanation ≡ numbered_text lines (core_lines r.lines (parts_from 0 r.calls) number kept)
@@ -81,7 +84,8 @@ IsExplained easing any_place lines explanation = (r : Read) × IsHistory lines r
 abbrev pub IsDisorder : {A : Type 0} → OrderRule → Easing → Bool → Read → List Part → Shown A → Type 0
 IsDisorder has easing any_place r ps By.Nothing = Unit {0}
 IsDisorder has easing any_place r ps By.All = HasNone has r
-IsDisorder has easing any_place r ps (By.Few core) = HasNone has r × (ps ≡ parts_from 0 r.calls) × IsCoreOf any_place (easing ps) core
+IsDisorder has easing any_place r ps (By.Few core) =
+    HasNone has r × (ps ≡ parts_from 0 r.calls) × ((taken : List Part) × easing ps taken × IsCoreOf any_place taken core)
 
 abbrev pub Explains : {A : Type 0} → Bool → List (List ℕ) → Read → List Part → Shown A → List ℕ → Type 0
 Explains any_place lines r ps By.Nothing explanation = ⊥

@@ -1,11 +1,11 @@
 -- By what it is shown that the calls of pages have no order
-use Rattle.std.specs.Prelude.{◌≡◌, ℕ, not, Bool, false, List, slice_get, Option, Some}
+use Rattle.std.specs.Prelude.{◌≡◌, ℕ, Bool, false, List, map, slice_get, Option, Some}
 use Rattle.vm_base.specs.Places.{PlaceRule}
 use Rattle.vm_base.specs.Plain.{File, Plain, nothing_mapped}
 use Rattle.audit.specs.Placing.{rule_of}
 use Rattle.orders.specs.declared.history.Timed.{Timed}
 use Rattle.orders.specs.Orders.{HasOrder}
-use Rattle.cores.specs.Shown.{IsShown}
+use Rattle.cores.specs.Shown.{IsShownBut}
 use Rattle.cores.specs.declared.finding.Core.{Core}
 use Rattle.by_pages.specs.Pages.{AreChosen}
 use Rattle.by_pages.specs.declared.splitting.Part.{Part}
@@ -20,16 +20,16 @@ NoneIs test ps = (k : ℕ) (p : Part) → slice_get ps k ≡ Some p → test p �
 abbrev pub HasNoneAmong : PlaceRule → Plain → List Part → Type 0
 HasNoneAmong rule t ps = (calls : List Timed) → AreChosen ps calls → ¬ HasOrder rule t calls
 
--- These are the calls of the parts: each of them took effect.
-pub record AreSure (ps : List Part) (calls : List Timed) : Type 0 where
-  pub sure : NoneIs (λ p. not p.is_sure) ps
-  pub chosen : AreChosen ps calls
+-- the call of a part, which took effect, and whether it surely did
+abbrev pub timed_of : Part → Timed
+timed_of p = p.timed
 
--- It is a core of the calls of the parts, and shows that they have no order.
-pub record IsCoreOf {A : Type 0} (any_place : Bool) (ps : List Part) (core : Core A) : Type 0 where
-  pub calls : List Timed
-  pub are : AreSure ps calls
-  pub shown : IsShown any_place calls core
+abbrev pub is_surely : Part → Bool
+is_surely p = p.is_sure
+
+-- It is a core of the calls of the parts, and shows that they have no order, whichever of those that aren't sure took effect.
+abbrev pub IsCoreOf : {A : Type 0} → Bool → List Part → Core A → Type 0
+IsCoreOf any_place ps core = IsShownBut any_place (map timed_of ps) (map is_surely ps) core
 
 abbrev pub ShowsNone : {A : Type 0} → Bool → (ℕ → Option File) → List Part → Shown A → Type 0
 ShowsNone any_place files ps By.Nothing = Unit {0}

@@ -1,15 +1,16 @@
 //! Whether the calls of pages have no order, by a few of them or by all their orders.
-ghost use Rattle.std.specs.Prelude.{◌≡◌, ◌≤◌, IfOk, IfSome, Ok, length, not, true};
+ghost use Rattle.std.specs.Prelude.{◌≡◌, ◌≤◌, IfOk, IfSome, Ok, length, map, true};
 ghost use Rattle.vm_base.specs.Plain.{nothing_mapped};
 ghost use Rattle.backing.specs.Given.{given_files};
 ghost use Rattle.audit.specs.Placing.{rule_of};
-ghost use Rattle.page_orders.specs.Showing.{HasNoneAmong, IsCoreOf, NoneIs, ShowsNone};
+ghost use Rattle.page_orders.specs.Showing.{HasNoneAmong, IsCoreOf, ShowsNone, is_surely, timed_of};
 
 use crate::choices::none_chosen;
 use backing::FileSpec;
-use by_pages::{Part, chosen};
-use cores::{Core, find_core};
+use by_pages::Part;
+use cores::{Core, find_core_but};
 use no_order::MOST;
+use orders::Timed;
 use overlapping::Shown;
 use std::alloc::Allocator;
 use vm_base::NoMemory;
@@ -31,21 +32,36 @@ fn few_unsure(parts: &[Part]) -> bool {
     true
 }
 
-// Tells whether each part took effect.
-fn all_sure(parts: &[Part]) -> bool
-    ensures { result ≡ true → NoneIs (λ p. not p.is_sure) parts.now }
+// The calls of parts, each of which took effect.
+fn calls_of<A: Allocator + Clone + Drop>(
+    alloc: &A,
+    parts: &[Part],
+) -> Result<Vec<Timed, A>, NoMemory>
+    ensures { IfOk result (λ calls. calls.items ≡ map timed_of parts.now) }
 {
+    let mut calls = Vec::with_capacity(alloc.clone()?, parts.len())?;
     'parts: for at in 0..parts.len() {
-        let unsure = !parts[at].is_sure;
-        if unsure {
-            return false;
-        }
+        calls.push(parts[at].timed)?;
     }
-    true
+    Ok(calls)
 }
 
-// A few of the parts, each of which took effect, that have no order by themselves, if such are found. None was found until the end of the part
-// at this place.
+// Which of them surely did.
+fn effects_of<A: Allocator + Clone + Drop>(
+    alloc: &A,
+    parts: &[Part],
+) -> Result<Vec<bool, A>, NoMemory>
+    ensures { IfOk result (λ effects. effects.items ≡ map is_surely parts.now) }
+{
+    let mut effects = Vec::with_capacity(alloc.clone()?, parts.len())?;
+    'parts: for at in 0..parts.len() {
+        effects.push(parts[at].is_sure)?;
+    }
+    Ok(effects)
+}
+
+// A few of the parts that have no order by themselves, whichever of those that aren't sure took effect, if such are found. None was found until
+// the end of the part at this place.
 fn core_among<A: Allocator + Clone + Drop>(
     alloc: &A,
     any_place: bool,
@@ -54,13 +70,11 @@ fn core_among<A: Allocator + Clone + Drop>(
 ) -> Result<Option<Core<A>>, NoMemory>
     ensures { IfOk result (λ found. IfSome found (λ core. IsCoreOf any_place parts.now core)) }
 {
-    let sure = all_sure(parts);
-    if !sure {
-        return Ok(None);
-    }
-    let made = chosen(alloc, parts, &[])?;
+    let made = calls_of(alloc, parts)?;
     let calls = made.as_slice();
-    match find_core(alloc, any_place, calls, stuck)? {
+    let told = effects_of(alloc, parts)?;
+    let effects = told.as_slice();
+    match find_core_but(alloc, any_place, calls, effects, stuck)? {
         Some(core) => Ok(Some(core)),
         None => Ok(None),
     }

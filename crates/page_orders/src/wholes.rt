@@ -15,22 +15,67 @@ use vm_base::{NoMemory, Reply, Request};
 /// How often a search begins anew, with more calls divided into their parts.
 const TRIES: u32 = 24;
 
-/// How far before where a search was stuck the calls are divided, as the times of their begins and ends tell, at most.
-const FAR: u64 = 5_000;
+// What is done around a part where a search was stuck: accesses may lag that are under way so far before it, as the times
+// of their begins and ends tell, and calls are divided that are.
+#[derive(Clone, Copy, Debug, PartialEq, Eq)]
+struct Width {
+    late: u64,
+    divided: Option<u64>,
+}
 
-/// So often that is farther, until it is farthest.
-const WIDTHS: u8 = 6;
+/// What is done, more each time that a search is stuck at a part again.
+const WIDTHS: [Width; 8] = [
+    Width {
+        late: 0,
+        divided: None,
+    },
+    Width {
+        late: 72,
+        divided: None,
+    },
+    Width {
+        late: 72,
+        divided: Some(0),
+    },
+    Width {
+        late: 600,
+        divided: Some(0),
+    },
+    Width {
+        late: 600,
+        divided: Some(8),
+    },
+    Width {
+        late: 600,
+        divided: Some(72),
+    },
+    Width {
+        late: 5_000,
+        divided: Some(600),
+    },
+    Width {
+        late: 5_000,
+        divided: Some(5_000),
+    },
+];
 
-/// Where calls were divided so far before an access, and none is found, the access may lag.
-const NEAR: u64 = 72;
+/// How many of these are of use only where accesses may lag.
+const LATE: usize = 2;
 
-// Which calls are divided into their parts, by their places in the history; which parts may lag; and the parts where
-// the last search was stuck, with how far around each the calls are divided.
+// A part where a search was stuck, and how often.
+#[derive(Clone, Copy, Debug, PartialEq, Eq)]
+struct Around {
+    part: usize,
+    times: usize,
+}
+
+// Which calls are divided into their parts, by their places in the history; which parts may lag, or accesses as before
+// them; and where the last search was stuck.
 #[derive(Drop)]
 struct Divided<A: Allocator> {
     calls: Vec<bool, A>,
     late: Vec<bool, A>,
-    around: Vec<(usize, u64), A>,
+    around: Vec<Around, A>,
 }
 
 // What is asked for so many pages from that of a request on.
@@ -83,11 +128,6 @@ fn has_others(parts: &[Part], at: usize) -> bool {
         || (at > 0 && of == call_of(parts, at.saturating_sub(1)))
 }
 
-// The next width.
-fn wider(width: u64) -> u64 {
-    width.saturating_mul(8).saturating_add(8).min(FAR)
-}
-
 // Tells whether a call is under way at some of these times, which ascend and have none in common.
 fn is_at(times: &[(u64, u64)], timed: &Timed) -> bool {
     let mut low = 0usize;
@@ -127,53 +167,50 @@ impl<A: Allocator + Clone + Drop> Divided<A> {
         matches!(self.calls.get(of), Some(true))
     }
 
-    // How far around a part calls were divided, if a search was stuck there before.
-    fn width_at(&self, part: usize) -> Option<u64> {
-        for (other, width) in self.around.as_slice() {
-            if *other == part {
-                return Some(*width);
+    // What was done around a part, if a search was stuck there before.
+    fn around_at(&self, part: usize) -> Option<Around> {
+        for around in self.around.as_slice() {
+            if around.part == part {
+                return Some(*around);
             }
         }
         None
     }
 
-    // Lets a part lag, and tells whether it didn't.
-    fn let_lag(&mut self, part: usize) -> bool {
-        match self.late.get_mut(part) {
-            Some(is_late) if !*is_late => {
-                *is_late = true;
-                true
-            }
-            _ => false,
-        }
-    }
-
-    // Takes the parts in where a search was stuck, each farther around than before, and tells whether one of them may
-    // newly lag: that is where calls were divided around it already, and it was stuck there again.
-    fn widen(&mut self, alloc: &A, stuck: &[usize], may_lag: bool) -> Result<bool, NoMemory> {
-        let mut around = Vec::with_capacity(alloc.clone()?, stuck.len())?;
-        let mut is_new = false;
+    // Takes the parts in where a search was stuck: more is done around each than before.
+    fn widen(&mut self, alloc: &A, stuck: &[usize], may_lag: bool) -> Result<(), NoMemory> {
+        let mut all = Vec::with_capacity(alloc.clone()?, stuck.len())?;
         for part in stuck {
-            let width = match self.width_at(*part) {
-                Some(width) if may_lag && width >= NEAR && self.let_lag(*part) => {
-                    is_new = true;
-                    width
-                }
-                Some(width) => wider(width),
-                None => 0,
+            let part = *part;
+            let times = match self.around_at(part) {
+                Some(around) => around.times.saturating_add(1),
+                None if may_lag => 0,
+                None => LATE,
             };
-            around.push((*part, width))?;
+            all.push(Around { part, times })?;
         }
-        self.around = around;
-        Ok(is_new)
+        self.around = all;
+        Ok(())
     }
 
-    // The times around these parts in ascending order, those that have some in common as one.
-    fn times(&self, alloc: &A, parts: &[Part]) -> Result<Vec<(u64, u64), A>, NoMemory> {
+    // The times around the parts in ascending order, those that have some in common as one: of those where accesses may
+    // lag, or of those where calls are divided.
+    fn times(
+        &self,
+        alloc: &A,
+        parts: &[Part],
+        may_lag: bool,
+    ) -> Result<Vec<(u64, u64), A>, NoMemory> {
         let mut times = Vec::with_capacity(alloc.clone()?, self.around.len())?;
-        for (at, width) in self.around.as_slice() {
-            if let Some(part) = parts.get(*at) {
-                times.push((part.timed.begin.saturating_sub(*width), part.timed.end))?;
+        for around in self.around.as_slice() {
+            let at = around.times.min(WIDTHS.len() - 1);
+            let far = if may_lag {
+                Some(WIDTHS[at].late)
+            } else {
+                WIDTHS[at].divided
+            };
+            if let (Some(part), Some(far)) = (parts.get(around.part), far) {
+                times.push((part.timed.begin.saturating_sub(far), part.timed.end))?;
             }
         }
         times.sort_unstable();
@@ -192,6 +229,20 @@ impl<A: Allocator + Clone + Drop> Divided<A> {
         Ok(joined)
     }
 
+    // Lets the parts lag that are under way at some of these times, and tells whether one of them didn't.
+    fn let_lag_at(&mut self, parts: &[Part], times: &[(u64, u64)]) -> bool {
+        let mut is_new = false;
+        for at in 0..parts.len() {
+            if is_at(times, &parts[at].timed) {
+                if let Some(is_late) = self.late.get_mut(at) {
+                    is_new = is_new || !*is_late;
+                    *is_late = true;
+                }
+            }
+        }
+        is_new
+    }
+
     // Divides the calls that are under way at some of these times, and tells whether one of them wasn't.
     fn divide_at(&mut self, parts: &[Part], times: &[(u64, u64)]) -> bool {
         let mut is_new = false;
@@ -206,8 +257,8 @@ impl<A: Allocator + Clone + Drop> Divided<A> {
         is_new
     }
 
-    // Divides the calls around the parts where a search was stuck, farther than before where it was stuck there before;
-    // or lets these lag. It tells whether one of the calls wasn't divided, or one of the parts didn't lag.
+    // Divides the calls around the parts where a search was stuck, and lets accesses lag there, more than before where
+    // it was stuck there before. It tells whether something is new.
     fn divide_near(
         &mut self,
         alloc: &A,
@@ -215,10 +266,15 @@ impl<A: Allocator + Clone + Drop> Divided<A> {
         stuck: &[usize],
         may_lag: bool,
     ) -> Result<bool, NoMemory> {
-        for _ in 0..WIDTHS {
-            let lags = self.widen(alloc, stuck, may_lag)?;
-            let times = self.times(alloc, parts)?;
-            if self.divide_at(parts, times.as_slice()) || lags {
+        for _ in 0..WIDTHS.len() {
+            self.widen(alloc, stuck, may_lag)?;
+            let times = self.times(alloc, parts, false)?;
+            let mut is_new = self.divide_at(parts, times.as_slice());
+            if may_lag {
+                let late = self.times(alloc, parts, true)?;
+                is_new = self.let_lag_at(parts, late.as_slice()) || is_new;
+            }
+            if is_new {
                 return Ok(true);
             }
         }
@@ -274,10 +330,10 @@ fn wholes_of<A: Allocator + Clone + Drop>(
     })
 }
 
-/// Searches an order in which the pages of each call change at one moment, if some call has several parts, and divides
-/// the calls around the places where none is found. Where that isn't enough accesses may lag, if that is wanted; `lags`
-/// tells which do. The items that it answers have each part once; whether they are an order is the caller's to judge.
-/// `Err` says that memory was wanting.
+/// Searches an order in which the pages of each call change at one moment, if some call has several parts or accesses
+/// may lag, and divides the calls around the places where none is found. Where that isn't enough accesses may lag, if
+/// that is wanted; `lags` tells which do, and `stuck` at which parts it was stuck last. The items that it answers have
+/// each part once; whether they are an order is the caller's to judge. `Err` says that memory was wanting.
 pub fn search_whole<A: Allocator + Clone + Drop>(
     alloc: &A,
     objects: &Objects<A>,
@@ -285,20 +341,24 @@ pub fn search_whole<A: Allocator + Clone + Drop>(
     parts: &[Part],
     may_lag: bool,
     lags: &mut Vec<Lag, A>,
+    stuck: &mut Vec<usize, A>,
 ) -> Result<Option<Vec<Item, A>>, NoMemory>
     ensures { IfOk result (λ found. IfSome found (λ items. EachOnce (length parts.now) items.items)) }
 {
     let mut divided = Divided::new(alloc, parts)?;
-    let mut stuck = Vec::new(alloc.clone()?);
+    let mut now = Vec::new(alloc.clone()?);
+    stuck.clear();
     'tries: for _ in 0..TRIES {
         let wholes = wholes_of(alloc, parts, &divided)?;
-        if wholes.calls.len() == parts.len() {
+        if wholes.calls.len() == parts.len() && !may_lag {
             return Ok(None);
         }
-        let found = find_whole(alloc, objects, any_place, &wholes, lags, &mut stuck)?;
+        let found = find_whole(alloc, objects, any_place, &wholes, lags, &mut now)?;
         match found {
             Found::Order(items, _lost) => return Ok(Some(items)),
             Found::Stuck(_) => {
+                stuck.clear();
+                stuck.extend_from_slice(now.as_slice())?;
                 if !divided.divide_near(alloc, parts, stuck.as_slice(), may_lag)? {
                     return Ok(None);
                 }

@@ -2,7 +2,7 @@ use Rattle.std.proofs.Common.{Err, ap, refl, sym, subst, ◌∙◌}
 use Rattle.trace_io.proofs.IoLemmas.{tells_unread, tells_want}
 use Rattle.trace_io.proofs.LineLemmas.{reads_map}
 use Rattle.page_orders.specs.Explained.{IsExplained}
-use Rattle.no_loose_order.specs.Lagging.{eased}
+use Rattle.no_loose_order.specs.Easing.{AreEased}
 use Rattle.orders_text.specs.declared.faults.HistoryFault.TheVariants.{Io}
 use Rattle.overlapping.proofs.EndLemmas.{io_back, io_of}
 use Rattle.page_orders.proofs.EndLemmas.{stopped, unmade}
@@ -19,11 +19,11 @@ returns-in-Ok-read_all-clause-ends g c =
 
 pub returns-in-Err-clause-ends : goal.returns-in-Err-clause-ends
 returns-in-Err-clause-ends g c = stopped _ _ (HasLooseOrderByPages (rule_of c.args.any_place))
-    (IsExplained eased c.args.any_place) (g.W.Sink.contents c.args.writer.now) c.in-Err.fault
+    (IsExplained AreEased c.args.any_place) (g.W.Sink.contents c.args.writer.now) c.in-Err.fault
     (λ e. c.in-Err.ensures.write (ap Err e)) c.in-Err.ensures.kept
 
 pub returns-in_default-clause-ends : goal.returns-in_default-clause-ends
-returns-in_default-clause-ends g c = unmade _ (HasLooseOrderByPages (rule_of c.args.any_place)) (IsExplained eased c.args.any_place) _
+returns-in_default-clause-ends g c = unmade _ (HasLooseOrderByPages (rule_of c.args.any_place)) (IsExplained AreEased c.args.any_place) _
 
 pub returns-in-Ok-read_all-clause-told : goal.returns-in-Ok-read_all-clause-told
 returns-in-Ok-read_all-clause-told g c =

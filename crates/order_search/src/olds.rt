@@ -1,0 +1,161 @@
+//! What calls have replaced, for accesses that go as before them: pages far from all others stand for it until the call has ended.
+
+use crate::arena::{Arena, Spot, access_due, cells_in, runs_in};
+use crate::pages::{own_key, place_of};
+use crate::runs::{meta_at, none_mapped};
+use crate::under::Under;
+use backing::Objects;
+use slot_lock::{Change, Touch};
+use std::alloc::Allocator;
+use vm_base::page::PAGE_SIZE;
+use vm_base::{Back, Meta, NoMemory, PageRange, Prot, Reply, SegvCode};
+
+/// How far the pages that stand for those that a call has replaced are behind these: so many pages for each bit below that of the call, and for
+/// its own.
+const OLDS: u64 = 0x10_0000_0000;
+
+/// What calls of more pages have replaced isn't kept.
+const MANY: u64 = 512;
+
+/// What a page is mapped to that stands for one that wasn't mapped: no file has this number.
+const UNMAPPED: Meta = Meta {
+    back: Back::Shared {
+        file: 0xffff_ffff,
+        page: 0,
+    },
+    prot: Prot {
+        read: false,
+        write: false,
+        exec: false,
+    },
+};
+
+// The page that stands for what a call has replaced on another.
+fn old_page(call: &Under, page: u64) -> u64 {
+    let mut far = OLDS;
+    for bit in 0..64u32 {
+        if call.bit == 1u64.wrapping_shl(bit) {
+            return page.wrapping_add(far);
+        }
+        far = far.wrapping_add(OLDS);
+    }
+    page.wrapping_add(far)
+}
+
+impl<A: Allocator + Clone + Drop> Arena<A> {
+    /// The map after a call has changed pages. Where accesses may go as before it, what was there is kept.
+    pub fn replace(
+        &mut self,
+        spot: &Spot,
+        change: Change,
+        under: &Under,
+    ) -> Result<Spot, NoMemory> {
+        let mut new = self.change(spot, change)?;
+        let range = change.range();
+        if self.keeps_old && under.keeps_old() && range.end.saturating_sub(range.first) <= MANY {
+            for page in range.first..range.end {
+                new = self.keep_old(spot, &new, page, old_page(under, page))?;
+            }
+        }
+        Ok(new)
+    }
+
+    // The new map, in which a page stands for what another was in the old one.
+    fn keep_old(
+        &mut self,
+        before: &Spot,
+        new: &Spot,
+        page: u64,
+        old: u64,
+    ) -> Result<Spot, NoMemory> {
+        let runs = runs_in(self.runs.as_slice(), before.runs);
+        let meta = meta_at(runs, page).unwrap_or(UNMAPPED);
+        let range = PageRange {
+            first: old,
+            end: old.saturating_add(1),
+        };
+        let mut kept = self.change(new, Change::Put { range, meta })?;
+        if meta.back != Back::Anon {
+            return Ok(kept);
+        }
+        let (first, end) = (own_key(page, 0), own_key(page.saturating_add(1), 0));
+        self.new_cells.clear();
+        self.new_cells
+            .extend_from_slice(cells_in(self.cells.as_slice(), kept.cells))?;
+        let mut is_new = false;
+        for cell in cells_in(self.cells.as_slice(), before.cells) {
+            if first <= cell.key && cell.key < end {
+                let mut moved = *cell;
+                moved.key = own_key(old, cell.key.wrapping_sub(first) % PAGE_SIZE);
+                let at = place_of(self.new_cells.as_slice(), moved.key);
+                if at <= self.new_cells.len() {
+                    self.new_cells.insert(at, moved)?;
+                    is_new = true;
+                }
+            }
+        }
+        if is_new {
+            self.keep_cells(&mut kept)?;
+        }
+        Ok(kept)
+    }
+
+    /// The map in which no page stands for what a call has replaced any more.
+    pub fn drop_olds(&mut self, spot: &Spot, call: &Under) -> Result<Spot, NoMemory> {
+        let range = PageRange {
+            first: old_page(call, call.pages.first),
+            end: old_page(call, call.pages.end),
+        };
+        if !call.keeps_old() || none_mapped(runs_in(self.runs.as_slice(), spot.runs), range) {
+            return Ok(*spot);
+        }
+        self.change(spot, Change::Clear { range })
+    }
+
+    /// Tells whether an access has its reply with what a call has replaced. Only memory that isn't a file's is looked at.
+    pub fn holds_late(
+        &self,
+        objects: &Objects<A>,
+        spot: &Spot,
+        access: &Under,
+        behind: &Under,
+    ) -> bool {
+        let Some(touch) = access.touch() else {
+            return false;
+        };
+        if !behind.keeps_old() || !behind.pages.contains(touch.page) {
+            return false;
+        }
+        let old = old_page(behind, touch.page);
+        let runs = runs_in(self.runs.as_slice(), spot.runs);
+        let cells = cells_in(self.cells.as_slice(), spot.cells);
+        match meta_at(runs, old) {
+            None => false,
+            Some(meta) if meta == UNMAPPED => access.reply == Reply::Segv(SegvCode::MapErr),
+            Some(meta) => {
+                let touch = Touch { page: old, ..touch };
+                meta.back == Back::Anon && access_due(objects, runs, cells, touch) == access.reply
+            }
+        }
+    }
+
+    /// The map after such an access: a store that is done changes what was replaced.
+    pub fn apply_late(
+        &mut self,
+        objects: &Objects<A>,
+        spot: &Spot,
+        access: &Under,
+        behind: &Under,
+    ) -> Result<Option<Spot>, NoMemory> {
+        if !self.holds_late(objects, spot, access, behind) {
+            return Ok(None);
+        }
+        match access.touch() {
+            Some(touch) if access.changes => {
+                let page = old_page(behind, touch.page);
+                self.store(objects, spot, Touch { page, ..touch })
+            }
+            _ => Ok(Some(*spot)),
+        }
+    }
+}

@@ -1,0 +1,13 @@
+use Rattle.std.proofs.Common.{◌∙◌, ◌++◌, ◌∷◌, [], ap, sym}
+use Rattle.by_pages.specs.declared.splitting.Part.{Part}
+use Rattle.page_orders.specs.Showing.{is_surely}
+use Rattle.page_orders.proofs.Sure.{mapped_all, mapped_more}
+use Rattle.page_orders.proofs.showing.effects_of.Goals as goal
+
+pub parts-preserved : goal.parts-preserved
+parts-preserved g c = mapped_more is_surely c.args.parts.now c.parts.effects.items c.push.new.self.items c.parts.at c.index-parts-at.result c.parts-test.true
+    c.index-parts-at.is
+    (c.in_ok-push.ensures.items ∙ ap (λ (p : Part). c.parts.effects.items ++ is_surely p ∷ []) (sym c.index-parts-at.is)) c.parts.invariant
+
+pub returns : goal.returns
+returns g c = mapped_all is_surely c.args.parts.now c.parts.effects.items c.parts.at c.parts-test.false c.parts.invariant
