@@ -4,7 +4,7 @@ use Rattle.trace_io.proofs.IoLemmas.{tells_want}
 use Rattle.orders_text.specs.declared.faults.HistoryFault.TheVariants.{Io}
 use Rattle.audit.specs.Placing.{rule_of}
 use Rattle.page_orders.specs.Explained.{IsExplained}
-use Rattle.no_loose_order.specs.Lagging.{eased}
+use Rattle.no_loose_order.specs.Easing.{AreEased}
 use Rattle.loosely.specs.Loosely.{HasLooseOrderByPages}
 use Rattle.overlapping.proofs.EndLemmas.{io_back, io_of}
 use Rattle.page_orders.proofs.EndLemmas.{unmade}
@@ -14,6 +14,6 @@ pub returns-in_default-clause-ends : goal.returns-in_default-clause-ends
 returns-in_default-clause-ends g c = (
   Err (Io NoMemory),
   c.refuse_history.ensures.value,
-  unmade _ (HasLooseOrderByPages (rule_of c.args.any_place)) (IsExplained eased c.args.any_place) _,
+  unmade _ (HasLooseOrderByPages (rule_of c.args.any_place)) (IsExplained AreEased c.args.any_place) _,
   tells_want Io io_of io_back _ _ refl,
 )
