@@ -326,10 +326,10 @@ an access may go as before it: it has its reply with the old entry, and stores
 to that, so that the page itself stays as it is. So munmap may still run when
 a load of the page gets segv maperr, and another one, after it, the old byte.
 Here undecided is more frequent. An access of a page of a file is not looked at
-as before a call; and that there is no order must show without those accesses
-that may go as before one. The lines behind no order are told as above: by
-themselves the calls of their pages have no order, even where each of these
-accesses may have any reply at any time.
+as before a call; and that there is no order must show where each access that
+may go as before a call may have any reply at any time, or, if it is a load or
+a fetch, may have come before that call. The lines behind no order are told as
+above: so taken, the calls of their pages have no order by themselves.
 
 Example:
   printf '%s\\n' 'vm 1 4' 'c0! mmap 0x10000 4096 rw- pfa = 0x10000' \\
