@@ -1,4 +1,5 @@
 pub mod Setups
+pub mod Packing
 pub mod Cores
 pub mod Parts
 pub mod State

@@ -25,6 +25,7 @@ pub mod setup;
 pub use ledger::forgotten::Forgotten;
 pub use ledger::kept::Kept;
 pub use ledger::logged::Logged;
+pub use ledger::logged_entries::LoggedEntries;
 pub use ledger::{Ledger, Opening};
 pub use machine::{Finished, Machine};
 pub use run_result::{Run, RunFault};

@@ -7,6 +7,7 @@ mod counted;
 use crate::at_once::starting::Started;
 use crate::engine::Engine;
 use crate::ledger::kept::Kept;
+use crate::ledger::logged_entries::LoggedEntries;
 use crate::ledger::{Ledger, Opening};
 use crate::setup::{CallLimit, Setup, SetupFault};
 use machine_model::{Event, Outcome, Phase};
@@ -101,6 +102,7 @@ impl<M: SlotMap, A: Allocator + Clone, L: Ledger> Machine<M, A, L> {
     ghost use Rattle.core_steps.specs.Finishing.{Calls, CallsAsMap, Finishes, FinishesAsMap, finish_limit};
     ghost use Rattle.core_steps.specs.Finishing.{IsCallRefused, IsRefused};
     ghost use Rattle.core_steps.specs.Machine.{state, IsLegal};
+    ghost use Rattle.core_steps.specs.Packing.{listed};
     ghost use Rattle.core_steps.specs.MapLines.{HasNoMap, IsLineStart, IsNextMap, ListsMaps};
 
     /// One event. A refusal for memory leaves the machine unchanged, and comes only at a step of a call
@@ -204,8 +206,8 @@ impl<M: SlotMap, A: Allocator + Clone, L: Ledger> Machine<M, A, L> {
     }
 
     /// The entries made so far, where the ledger keeps them, as `log` gives them.
-    pub fn kept_log(&self) -> Option<&[Entry]>
-        ensures some { IfSome result (λ entries. entries.now ≡ (state self.now).calls.log) }
+    pub fn kept_log(&self) -> Option<LoggedEntries<'_>>
+        ensures some { IfSome result (λ entries. listed entries ≡ (state self.now).calls.log) }
         ensures none { IfNone result (L.keeps ≡ false) }
         ensures legal { IsLegal (state self.now) }
     {

@@ -2,12 +2,13 @@
 ghost use Rattle.std.specs.Prelude.{◌≡◌, ◌+◌, ◌≤◌, ◌++◌, length};
 ghost use Rattle.echoes.specs.Asking.{asked_text, begins_call, call_asked, line_core};
 
+use core_steps::LoggedEntries;
 use notes_text::request_text::push_request;
 use slot_lock::MapLine;
 use trace::fault::TraceFault;
 use trace::replayer::Staged;
 use trace_text::{Action, Line, LineText, push_number, read_line};
-use vm_base::{CoreId, Entry, Request};
+use vm_base::{CoreId, Request};
 
 /// A call that began: the number of the line that asked for it, and what it asked for.
 #[derive(Clone, Copy)]
@@ -163,7 +164,7 @@ impl<R: Staged> Staged for Asking<R> {
         self.replayer.finish()
     }
 
-    fn log(&self) -> Option<&[Entry]> {
+    fn log(&self) -> Option<LoggedEntries<'_>> {
         self.replayer.log()
     }
 

@@ -4,6 +4,7 @@ ghost use Rattle.std.specs.List.{flat_map};
 ghost use Rattle.trace_io.specs.Io.{IsWritten, TellsIo, read_from, written_to};
 ghost use Rattle.trace_io.specs.Source.{Reads};
 ghost use Rattle.trace_io.specs.Window.{opening};
+ghost use Rattle.core_steps.specs.Packing.{listed};
 ghost use Rattle.core_steps.specs.Setups.{Fits};
 ghost use Rattle.core_steps.specs.declared.setup.CallLimit.{CallLimit};
 ghost use Rattle.trace.specs.Ends.{TellsFaults, fault_named};
@@ -15,7 +16,7 @@ ghost use Rattle.echoes.specs.Echo.{EchoEnds, added_text, echo, echo_limit, entr
 
 use crate::asking::{Asking, Asks};
 use arrayvec::ArrayVec;
-use core_steps::{CallLimit, Forgotten, Logged, Opening};
+use core_steps::{CallLimit, Forgotten, Logged, LoggedEntries, Opening};
 use state_changes::text_at;
 use std::alloc::Allocator;
 use trace::fault::TraceFault;
@@ -26,7 +27,6 @@ use trace_io::lines::{LineReader, line_reader};
 use trace_io::sink::{Sink, WriteFailed, write_all};
 use trace_io::source::Source;
 use trace_text::{Line, LineText, LogLines, read_line};
-use vm_base::Entry;
 use watched::Unwatched;
 
 // Room for a line of a trace, in colours, the sign after it, and a line of output.
@@ -123,16 +123,16 @@ fn write_entry<W: Sink>(writer: &mut W, line: &[u8], whose: &[u8]) -> Result<(),
 // Writes a line for each of these entries, and behind each whose it is. The lines and the text are where they are made.
 fn write_entries<W: Sink>(
     writer: &mut W,
-    entries: &[Entry],
+    entries: &LoggedEntries<'_>,
     whose: &[u8],
     lines: &mut LogLines,
     text: &mut LineText,
 ) -> Result<(), WriteFailed>
-    ensures { IsWritten result (written_to W.Sink writer.old writer.new) (flat_map (entry_line whose.now) entries.now) }
+    ensures { IsWritten result (written_to W.Sink writer.old writer.new) (flat_map (entry_line whose.now) (listed entries.now)) }
 {
     let mut at = 0;
     'entries: while at < entries.len() {
-        let entry = entries[at];
+        let entry = entries.get(at);
         lines.clear();
         lines.push(entry, text);
         if let Err(failed) = write_entry(writer, lines.as_bytes(), whose) {
@@ -167,7 +167,7 @@ fn write_added<W: Sink, R: Staged>(
     let whose = replay.asks.whose();
     if let Err(failed) = write_entries(
         writer,
-        &log[from..],
+        &log.behind(from),
         whose.as_str().as_bytes(),
         lines,
         text,

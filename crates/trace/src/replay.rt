@@ -90,7 +90,7 @@ fn close<W: Sink, R: Staged>(
     let done = match show {
         Show::Outcomes => Ok(()),
         Show::OutcomesAndLog => match replayer.log() {
-            Some(log) => write_log(writer, log, text),
+            Some(log) => write_log(writer, &log, text),
             // this never comes, since the log is kept
             None => Ok(()),
         },

@@ -3,6 +3,7 @@ ghost use Rattle.std.specs.Prelude.{◌≡◌, ◌≤◌, ◌⊎◌, ℕ, List, 
 ghost use Rattle.core_steps.specs.Setups.{Fits};
 ghost use Rattle.std.specs.Prelude.{IfErr, IfNone, IfSome, OnOk, IsSomeAnd};
 ghost use Rattle.core_steps.specs.Machine.{state};
+ghost use Rattle.core_steps.specs.Packing.{listed};
 ghost use Rattle.core_steps.specs.declared.setup.CallLimit.TheVariants.{Usual};
 ghost use Rattle.trace_text.specs.Front.{step_asked};
 ghost use Rattle.trace_text.specs.Words.{words_of};
@@ -15,7 +16,7 @@ ghost use Rattle.trace.specs.Shown.{HasNoneAt, IsNextAt, IsStartAt, log_at};
 use crate::declaration::{Declaration, FileLine};
 use crate::event_lines::{tell_asked, watch_line};
 use crate::fault::TraceFault;
-use core_steps::{CallLimit, Ledger, Machine, Opening, SetupFault};
+use core_steps::{CallLimit, Ledger, LoggedEntries, Machine, Opening, SetupFault};
 use mmu::{Cpu, Hardware};
 use radix_range::RadixMap;
 use slot_lock::{MapLine, SlotMap};
@@ -24,7 +25,7 @@ use trace_text::{
     AskedStep, Line, LineText, first_word_is_file, first_word_is_vm, is_printable_line,
     read_access, read_line, read_step,
 };
-use vm_base::{CoreId, Entry};
+use vm_base::CoreId;
 use watched::Watch;
 
 /// What acts on the lines of a trace, one at a time.
@@ -51,8 +52,8 @@ pub trait Staged {
         ensures err { IfErr result (λ f. OpenFails (stage self.now) f) };
 
     /// The log of the machine, where it is kept; up to the first event it is empty.
-    fn log(&self) -> Option<&[Entry]>
-        ensures some { IfSome result (λ log. log.now ≡ log_at (stage self.now)) }
+    fn log(&self) -> Option<LoggedEntries<'_>>
+        ensures some { IfSome result (λ log. listed log ≡ log_at (stage self.now)) }
         ensures none { IfNone result (keeps ≡ false) };
 
     /// The first mapping that begins at the page `from` or above, where none goes across
@@ -392,10 +393,10 @@ impl<A: Allocator + Clone + Drop, L: Opening<A> + Drop, X: Watch + Drop> Staged
         }
     }
 
-    fn log(&self) -> Option<&[Entry]> {
+    fn log(&self) -> Option<LoggedEntries<'_>> {
         match &self.machine {
             Some(machine) => machine.kept_log(),
-            None => Some(&[]),
+            None => Some(LoggedEntries::of(&[])),
         }
     }
 

@@ -1,6 +1,7 @@
 //! What a replay shows beside the text of each line.
 ghost use Rattle.std.specs.Prelude.{◌≡◌, ◌≤◌, ℕ, List, ◌++◌, OnErr, OnOk, length, true};
 ghost use Rattle.std.specs.Io.KnownBytes.{Appends};
+ghost use Rattle.core_steps.specs.Packing.{listed};
 ghost use Rattle.trace_io.specs.Io.{IsWritten, written_to};
 ghost use Rattle.trace_io.specs.Sink.{AppendsFront};
 ghost use Rattle.trace.specs.Shown.{told, IsBegunBehind, IsBehind};
@@ -8,9 +9,9 @@ ghost use Rattle.trace_text.specs.Lists.{log_text};
 ghost use Rattle.trace_text.specs.LogLines.{HasRoom, so_far};
 
 use crate::replayer::Staged;
+use core_steps::LoggedEntries;
 use trace_io::sink::{Sink, WriteFailed, write_all};
 use trace_text::{LineText, LogLines, write_map_line};
-use vm_base::Entry;
 
 /// What a replay writes.
 #[derive(Clone, Copy, Debug, PartialEq, Eq)]
@@ -83,10 +84,10 @@ fn make_room<W: Sink>(writer: &mut W, lines: &mut LogLines) -> Result<(), WriteF
 /// written. The text is where rare lines are made.
 pub(crate) fn write_log<W: Sink>(
     writer: &mut W,
-    log: &[Entry],
+    log: &LoggedEntries<'_>,
     text: &mut LineText,
 ) -> Result<(), WriteFailed>
-    ensures { IsWritten result (written_to W.Sink writer.old writer.new) (log_text log.now) }
+    ensures { IsWritten result (written_to W.Sink writer.old writer.new) (log_text (listed log.now)) }
 {
     let mut lines = LogLines::new();
     let mut at = 0;
@@ -94,7 +95,7 @@ pub(crate) fn write_log<W: Sink>(
         if let Err(failed) = make_room(writer, &mut lines) {
             return Err(failed);
         }
-        let entry = log[at];
+        let entry = log.get(at);
         lines.push(entry, text);
         at += 1;
     }

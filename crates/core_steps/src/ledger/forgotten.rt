@@ -1,6 +1,7 @@
 //! A ledger that keeps nothing: only clauses know the requests and entries.
 ghost use Rattle.std.specs.Prelude.{◌≡◌, ◌+◌, false, length};
 
+use crate::ledger::logged_entries::LoggedEntries;
 use crate::ledger::{Ledger, Opening};
 use ghost_list::GhostList;
 use std::alloc::AllocError;
@@ -62,7 +63,7 @@ impl Ledger for Forgotten {
         self.beyond = self.beyond.and(&entry);
     }
 
-    fn kept(&self) -> Option<&[Entry]> {
+    fn kept(&self) -> Option<LoggedEntries<'_>> {
         None
     }
 }

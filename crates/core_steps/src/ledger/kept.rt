@@ -2,6 +2,7 @@
 ghost use Rattle.std.specs.Prelude.{◌≡◌, ◌≤◌, true, vec_capacity};
 
 use crate::ledger::entries::KeptEntries;
+use crate::ledger::logged_entries::LoggedEntries;
 use crate::ledger::{Ledger, Opening};
 use std::alloc::{AllocError, Allocator};
 use vm_base::{Entry, Request};
@@ -56,8 +57,8 @@ impl<A: Allocator> Ledger for Kept<A> {
         self.entries.push_made(entry);
     }
 
-    fn kept(&self) -> Option<&[Entry]> {
-        Some(&self.entries.items)
+    fn kept(&self) -> Option<LoggedEntries<'_>> {
+        Some(LoggedEntries::of(self.entries.items.as_slice()))
     }
 }
 

@@ -1,7 +1,9 @@
 //! A ledger that keeps the entries alone: only clauses know the requests.
-ghost use Rattle.std.specs.Prelude.{◌≡◌, true, length, vec_capacity};
+ghost use Rattle.std.specs.Prelude.{◌≡◌, true, length, min, vec_capacity};
+ghost use Rattle.core_steps.specs.Packing.{unpacked};
 
-use crate::ledger::entries::KeptEntries;
+use crate::ledger::logged_entries::LoggedEntries;
+use crate::ledger::packed_entries::PackedEntries;
 use crate::ledger::{Ledger, Opening};
 use ghost_list::GhostList;
 use std::alloc::{AllocError, Allocator};
@@ -16,7 +18,7 @@ pub struct Logged<A: Allocator> {
     /// How many there may be at the most.
     calls: u64,
     /// The entries so far, and the room for them.
-    pub entries: KeptEntries<A>,
+    pub entries: PackedEntries<A>,
     ghost counted: { begun ≡ length requests.items },
 }
 
@@ -25,11 +27,11 @@ impl<A: Allocator> Ledger for Logged<A> {
 
     ghost calls = { λ log. log.calls };
 
-    ghost entries = { λ log. log.entries.items.items };
+    ghost entries = { λ log. unpacked log.entries.in_full.items log.entries.packed.items };
 
     ghost limit = { λ log. log.entries.limit };
 
-    ghost fits = { λ log. vec_capacity log.entries.items };
+    ghost fits = { λ log. min (vec_capacity log.entries.packed) (vec_capacity log.entries.in_full) };
 
     ghost keeps = { true };
 
@@ -59,14 +61,17 @@ impl<A: Allocator> Ledger for Logged<A> {
         self.entries.push_made(entry);
     }
 
-    fn kept(&self) -> Option<&[Entry]> {
-        Some(&self.entries.items)
+    fn kept(&self) -> Option<LoggedEntries<'_>> {
+        Some(LoggedEntries::of_packed(
+            self.entries.packed.as_slice(),
+            self.entries.in_full.as_slice(),
+        ))
     }
 }
 
-impl<A: Allocator> Opening<A> for Logged<A> {
+impl<A: Allocator + Clone> Opening<A> for Logged<A> {
     fn open(alloc: A, limit: u64) -> Result<Self, AllocError> {
-        let entries = KeptEntries::with_room(alloc, limit)?;
+        let entries = PackedEntries::with_room(alloc.clone()?, alloc, limit)?;
         Ok(Logged {
             requests: GhostList::new(),
             begun: 0,

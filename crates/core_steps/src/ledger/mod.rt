@@ -4,6 +4,7 @@ ghost use Rattle.std.specs.Prelude.{◌≡◌, ◌+◌, ◌<◌, ◌≤◌, ◌+
 ghost use Rattle.std.specs.Prelude.{false, true, IfOk, IfNone, IfSome, OnOk, OnErr};
 ghost use Rattle.vm_base.specs.declared.log.Entry.{Entry as EntryOf};
 ghost use Rattle.vm_base.specs.declared.requests.Request.{Request as RequestOf};
+ghost use Rattle.core_steps.specs.Packing.{listed};
 ghost use Rattle.core_steps.specs.Setups.{most_calls};
 ghost use Rattle.core_steps.specs.declared.setup.CallLimit.TheVariants.{Long, Usual};
 
@@ -11,7 +12,11 @@ pub mod entries;
 pub mod forgotten;
 pub mod kept;
 pub mod logged;
+pub mod logged_entries;
+pub mod packed_entries;
+pub mod packing;
 
+use crate::ledger::logged_entries::LoggedEntries;
 use std::alloc::AllocError;
 use vm_base::{Entry, Request};
 
@@ -82,8 +87,8 @@ pub trait Ledger {
         ensures calls { calls self.new ≡ calls self.old };
 
     /// The entries so far, in order, where they are kept.
-    fn kept(&self) -> Option<&[Entry]>
-        ensures some { IfSome result (λ log. log.now ≡ entries self.now) }
+    fn kept(&self) -> Option<LoggedEntries<'_>>
+        ensures some { IfSome result (λ log. listed log ≡ entries self.now) }
         ensures none { IfNone result (keeps ≡ false) };
 }
 

@@ -1,0 +1,2 @@
+-- what is known of ledgers
+pub mod Unpacking
