@@ -1,8 +1,8 @@
 -- Lines that are shown, one at a time.
 use Rattle.std.proofs.Common.{◌≡◌, ℕ, ◌+◌, ◌≤◌, true, false, Bool, List, [], ◌∷◌, ◌++◌, Option, Result, Ok, Err, IfErr, OnOk, length}
-use Rattle.std.proofs.lemmas.List.{drop_min, take_all}
+use Rattle.std.proofs.lemmas.List.{drop_min}
 use Rattle.std.specs.List.{flat_map}
-use Rattle.std.proofs.Common.{arith, drop, length-drop, min, suc, take, ◌-◌, refl, sym, ap, ◌∙◌, subst, append_assoc, append-nil}
+use Rattle.std.proofs.Common.{arith, drop, min, suc, refl, sym, ap, ◌∙◌, subst, append_assoc, append-nil}
 use Rattle.std.proofs.KnownBytes.{Appends-nil, Appends-trans, Appends-kept}
 use Rattle.std.specs.Io.KnownBytes.{Keeps, Appends}
 use Rattle.trace_io.specs.Lines.{lines_of}
@@ -29,15 +29,11 @@ added_same true whose n m log h = ap (λ k. added_text true whose k log) (h refl
 added_same false whose n m log h = refl
 
 -- the lines of entries that were written
-rest_of : (from : ℕ) (log : List Entry) → take (length log - from) (drop from log) ≡ drop from log
-rest_of from log = let long = length-drop from log in take_all (length log - from) (drop from log) (omega arith)
-
 pub added_is : (wanted : Bool) (whose bytes : List ℕ) (first from : ℕ) (log at : List Entry) → wanted ≡ true → bytes ≡ whose → log ≡ at
     → from ≡ min first (length log)
-    → flat_map (entry_line bytes) (take (length log - from) (drop from log)) ≡ added_text wanted whose first at
+    → flat_map (entry_line bytes) (drop from log) ≡ added_text wanted whose first at
 added_is wanted whose bytes first from log at shown same is least =
-    ap (flat_map (entry_line bytes)) (rest_of from log)
-    ∙ ap (λ k. flat_map (entry_line bytes) (drop k log)) least
+    ap (λ k. flat_map (entry_line bytes) (drop k log)) least
     ∙ ap (flat_map (entry_line bytes)) (drop_min first log)
     ∙ ap (λ b. flat_map (entry_line b) (drop first log)) same
     ∙ ap (added_text true whose first) is

@@ -3,7 +3,7 @@ use Rattle.std.proofs.Common.{◌≡◌, ◌<◌, ◌≤◌, ℕ, suc, Bool, tru
 use Rattle.std.specs.Prelude.{◌==◌}
 use Rattle.std.proofs.Math.ListN.{get_or-append}
 use Rattle.std.proofs.Math.Seq.{get_or-append_seam, take-length}
-use Rattle.std.proofs.lemmas.List.{drop-map, length-drop, length-map, map-append}
+use Rattle.std.proofs.lemmas.List.{drop-map, length-drop, map-append}
 use Rattle.std.proofs.lemmas.List.Elements.{All-append, All-cons, All-nil}
 use Rattle.vm_base.specs.declared.log.Entry.{Entry}
 use Rattle.core_steps.specs.Packing.{AreWithin, IsWithin, entry_by, entry_of, is_in_full, nothing, packed_or, place_said, unpacked}
@@ -48,10 +48,6 @@ placed_more in_full ps p e h kind at =
 pub packed_more : (in_full : List Entry) (ps : List Packed) (p : Packed) (e : Entry) → entry_of in_full p ≡ e
     → unpacked in_full (ps ++ p ∷ []) ≡ unpacked in_full ps ++ e ∷ []
 packed_more in_full ps p e is = map-append (entry_of in_full) ps (p ∷ []) ∙ ap (λ m. unpacked in_full ps ++ m ∷ []) is
-
--- how many entries there are
-pub count_unpacked : (in_full : List Entry) (ps : List Packed) → length (unpacked in_full ps) ≡ length ps
-count_unpacked in_full ps = length-map ps (entry_of in_full)
 
 all_packed : (ps : List Packed) (in_full : List Entry) → packed_or ps in_full [] ≡ unpacked in_full ps
 all_packed [] in_full = refl

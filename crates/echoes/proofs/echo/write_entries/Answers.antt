@@ -1,4 +1,5 @@
-use Rattle.std.proofs.Common.{arith, refl, subst, ap, ◌∙◌, ◌++◌, codes}
+use Rattle.std.proofs.Common.{arith, refl, subst, sym, ap, ◌∙◌, ◌++◌, codes}
+use Rattle.std.proofs.lemmas.Option.{get_or_from_slice_get}
 use Rattle.std.specs.Io.KnownBytes.{Appends}
 use Rattle.trace_io.proofs.IoLemmas.{each_front, each_wrote}
 use Rattle.trace_io.specs.Sink.{AppendsFront}
@@ -12,17 +13,17 @@ entries-init g c = record { within = omega arith; written = nothing_yet _; kept 
 
 pub entries-preserved : goal.entries-preserved
 entries-preserved g c =
-    let line = c.as_bytes.ensures ∙ c.push.ensures ∙ ap (λ l. l ++ entry_text c.index-entries-at.result) c.clear.ensures.text in
+    let line = c.as_bytes.ensures ∙ c.push.ensures ∙ ap (λ l. l ++ entry_text c.get-entry.result) c.clear.ensures.text in
     record {
-      within = omega (arith, c.entries-test.true);
-      written = each_wrote (entry_line c.args.whose.now) _ _ _ _ _ _ c.entries-test.true c.index-entries-at.is c.entries.invariant.written
+      within = omega (arith, c.entries-test.true, c.len.ensures);
+      written = each_wrote (entry_line c.args.whose.now) _ _ _ _ _ _ (omega (arith, c.entries-test.true, c.len.ensures)) (sym (get_or_from_slice_get _ _ _ _ c.get-entry.ensures)) c.entries.invariant.written
           (subst (Appends _ _) (ap (λ l. (unended l ++ c.args.whose.now) ++ codes "\n") line) c.in_default.ensures.ok);
       kept = c.in_default.ensures.kept ∙ c.entries.invariant.kept;
     }
 
 pub returns-in-Err : goal.returns-in-Err
 returns-in-Err g c =
-    let line = c.as_bytes.ensures ∙ c.push.ensures ∙ ap (λ l. l ++ entry_text c.index-entries-at.result) c.clear.ensures.text in
-    let front = each_front (entry_line c.args.whose.now) _ _ _ _ _ _ c.entries-test.true c.index-entries-at.is c.entries.invariant.written
+    let line = c.as_bytes.ensures ∙ c.push.ensures ∙ ap (λ l. l ++ entry_text c.get-entry.result) c.clear.ensures.text in
+    let front = each_front (entry_line c.args.whose.now) _ _ _ _ _ _ (omega (arith, c.entries-test.true, c.len.ensures)) (sym (get_or_from_slice_get _ _ _ _ c.get-entry.ensures)) c.entries.invariant.written
     (subst (AppendsFront _ _) (ap (λ l. (unended l ++ c.args.whose.now) ++ codes "\n") line) c.in-Err.ensures.front) in
     record { ok = tt; kept = tt; front = front; err = c.in-Err.ensures.err }

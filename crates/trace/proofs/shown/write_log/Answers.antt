@@ -1,4 +1,5 @@
-use Rattle.machine_model.proofs.Words.{arith, refl, subst, ◌∙◌, Appends}
+use Rattle.machine_model.proofs.Words.{arith, refl, subst, sym, ◌∙◌, Appends}
+use Rattle.std.proofs.lemmas.Option.{get_or_from_slice_get}
 use Rattle.trace_io.specs.Sink.{AppendsFront}
 use Rattle.trace.proofs.ShownLemmas.{handed_all, handed_front, handed_more, handed_none}
 use Rattle.trace.proofs.shown.write_log.Goals as goal
@@ -8,8 +9,9 @@ entries-init g c = record { within = omega arith; handed = handed_none _ _ c.new
 
 pub entries-preserved : goal.entries-preserved
 entries-preserved g c = record {
-  within = omega (arith, c.entries-test.true);
-  handed = handed_more _ _ _ _ _ _ _ _ _ c.entries-test.true c.index-log-at.is c.entries.invariant.handed c.in_default.ensures.ok c.push.ensures;
+  within = omega (arith, c.entries-test.true, c.len.ensures);
+  handed = handed_more _ _ _ _ _ _ _ _ _ (omega (arith, c.entries-test.true, c.len.ensures)) (sym (get_or_from_slice_get _ _ _ _ c.get-entry.ensures))
+      c.entries.invariant.handed c.in_default.ensures.ok c.push.ensures;
   kept = c.in_default.ensures.kept ∙ c.entries.invariant.kept;
 }
 
@@ -26,7 +28,7 @@ pub returns : goal.returns
 returns g c =
     let all = subst (Appends _ _) c.as_bytes.ensures c.in_default-write_all.ensures.ok in
     record {
-      ok = handed_all _ _ _ _ _ _ c.entries-test.false c.entries.invariant.handed all;
+      ok = handed_all _ _ _ _ _ _ (omega (arith, c.entries-test.false, c.len.ensures)) c.entries.invariant.handed all;
       kept = c.in_default-write_all.ensures.kept ∙ c.entries.invariant.kept;
       front = tt;
       err = tt;
