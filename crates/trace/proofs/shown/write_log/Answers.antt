@@ -1,5 +1,6 @@
 use Rattle.machine_model.proofs.Words.{arith, refl, subst, sym, ◌∙◌, Appends}
 use Rattle.std.proofs.lemmas.Option.{get_or_from_slice_get}
+use Rattle.core_steps.specs.Packing.{listed}
 use Rattle.trace_io.specs.Sink.{AppendsFront}
 use Rattle.trace.proofs.ShownLemmas.{handed_all, handed_front, handed_more, handed_none}
 use Rattle.trace.proofs.shown.write_log.Goals as goal
@@ -10,7 +11,7 @@ entries-init g c = record { within = omega arith; handed = handed_none _ _ c.new
 pub entries-preserved : goal.entries-preserved
 entries-preserved g c = record {
   within = omega (arith, c.entries-test.true, c.len.ensures);
-  handed = handed_more _ _ _ _ _ _ _ _ _ (omega (arith, c.entries-test.true, c.len.ensures)) (sym (get_or_from_slice_get _ _ _ _ c.get-entry.ensures))
+  handed = handed_more _ _ _ _ _ _ _ _ _ (omega (arith, c.entries-test.true, c.len.ensures)) (sym (get_or_from_slice_get (listed c.args.log.now) _ c.get-entry.result c.get-entry.result c.get-entry.ensures))
       c.entries.invariant.handed c.in_default.ensures.ok c.push.ensures;
   kept = c.in_default.ensures.kept ∙ c.entries.invariant.kept;
 }
