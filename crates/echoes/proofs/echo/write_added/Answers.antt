@@ -1,4 +1,4 @@
-use Rattle.std.proofs.Common.{ap, min, refl, subst, ◌∙◌}
+use Rattle.std.proofs.Common.{ap, min, subst, ◌∙◌}
 use Rattle.std.specs.Io.KnownBytes.{Appends}
 use Rattle.std.specs.List.{flat_map}
 use Rattle.trace_io.specs.Sink.{AppendsFront}
