@@ -17,7 +17,10 @@ entries-preserved g c =
     let line = c.as_bytes.ensures ∙ c.push.ensures ∙ ap (λ l. l ++ entry_text c.get-entry.result) c.clear.ensures.text in
     record {
       within = omega (arith, c.entries-test.true, c.len.ensures);
-      written = each_wrote (entry_line c.args.whose.now) _ _ _ _ _ _ (subst (λ n. c.entries.at < n) c.len.ensures c.entries-test.true) (sym (get_or_from_slice_get (listed c.args.entries.now) _ c.get-entry.result c.get-entry.result c.get-entry.ensures)) c.entries.invariant.written
+      written = each_wrote (entry_line c.args.whose.now) _ _ _ _ _ _
+          (subst (λ n. c.entries.at < n) c.len.ensures c.entries-test.true)
+          (sym (get_or_from_slice_get (listed c.args.entries.now) _ c.get-entry.result c.get-entry.result c.get-entry.ensures))
+          c.entries.invariant.written
           (subst (Appends _ _) (ap (λ l. (unended l ++ c.args.whose.now) ++ codes "\n") line) c.in_default.ensures.ok);
       kept = c.in_default.ensures.kept ∙ c.entries.invariant.kept;
     }
@@ -25,6 +28,9 @@ entries-preserved g c =
 pub returns-in-Err : goal.returns-in-Err
 returns-in-Err g c =
     let line = c.as_bytes.ensures ∙ c.push.ensures ∙ ap (λ l. l ++ entry_text c.get-entry.result) c.clear.ensures.text in
-    let front = each_front (entry_line c.args.whose.now) _ _ _ _ _ _ (subst (λ n. c.entries.at < n) c.len.ensures c.entries-test.true) (sym (get_or_from_slice_get (listed c.args.entries.now) _ c.get-entry.result c.get-entry.result c.get-entry.ensures)) c.entries.invariant.written
+    let front = each_front (entry_line c.args.whose.now) _ _ _ _ _ _
+    (subst (λ n. c.entries.at < n) c.len.ensures c.entries-test.true)
+    (sym (get_or_from_slice_get (listed c.args.entries.now) _ c.get-entry.result c.get-entry.result c.get-entry.ensures))
+    c.entries.invariant.written
     (subst (AppendsFront _ _) (ap (λ l. (unended l ++ c.args.whose.now) ++ codes "\n") line) c.in-Err.ensures.front) in
     record { ok = tt; kept = tt; front = front; err = c.in-Err.ensures.err }

@@ -11,7 +11,8 @@ entries-init g c = record { within = omega arith; handed = handed_none _ _ c.new
 pub entries-preserved : goal.entries-preserved
 entries-preserved g c = record {
   within = omega (arith, c.entries-test.true, c.len.ensures);
-  handed = handed_more _ _ _ _ _ _ _ _ _ (omega (arith, c.entries-test.true, c.len.ensures)) (sym (get_or_from_slice_get (listed c.args.log.now) _ c.get-entry.result c.get-entry.result c.get-entry.ensures))
+  handed = handed_more _ _ _ _ _ _ _ _ _ (omega (arith, c.entries-test.true, c.len.ensures))
+      (sym (get_or_from_slice_get (listed c.args.log.now) _ c.get-entry.result c.get-entry.result c.get-entry.ensures))
       c.entries.invariant.handed c.in_default.ensures.ok c.push.ensures;
   kept = c.in_default.ensures.kept ∙ c.entries.invariant.kept;
 }
