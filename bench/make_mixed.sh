@@ -81,7 +81,7 @@ function deed(core,    kind, first, many) {
 function give_back(    c, i) {
     for (c = 0; c < cores; c++) { emit("c" c " take"); emit("c" c " finish") }
     for (c = 0; c < cores; c++) for (i = 0; i < 66; i++) emit("c" c " flush")
-    for (c = 0; c < cores; c++) for (i = 0; i < 128; i++) emit("c" c " review")
+    for (c = 0; c < cores; c++) for (i = 0; i < 1024 / cores; i++) emit("c" c " review")
 }
 BEGIN {
     seed = 20131; pages = 16384; files = 8
