@@ -61,6 +61,11 @@ abbrev pub MakesOne : Bool → World → Item → Result Finished MemoryFault �
 MakesOne keeps w item (Ok finished) v = Makes w item finished v
 MakesOne keeps w item (Err _) v = IsItemRefused keeps w item v
 
+-- what C wrote is read and made, if it asks for something
+abbrev pub MakesRaw : Bool → World → RawEvent → Option (Result Finished MemoryFault) → World → Type 0
+MakesRaw keeps w raw (Some made) v = (i : Item) × (item_of raw ≡ Some i) × MakesOne keeps w i made v
+MakesRaw keeps w raw None v = (item_of raw ≡ None) × (v ≡ w)
+
 -- what C wrote is read and made, or stops the batch
 abbrev pub TakesItem : Bool → World → RawEvent → RawOutcome → Result Unit Stop → RawOutcome
     → World → Type 0

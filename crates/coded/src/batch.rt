@@ -1,16 +1,18 @@
 //! Batches: many events, or whole calls, on one machine.
 ghost use Rattle.std.specs.Prelude.{◌≡◌, ◌≤◌, length};
 ghost use Rattle.core_steps.specs.Machine.{state, IsLegal};
-ghost use Rattle.coded.specs.Batches.{Takes, MakesOne, TakesItem, RunsFirst, StopsAt, MakesUntil};
+ghost use Rattle.coded.specs.Batches.{Takes, MakesOne, MakesRaw, TakesItem, RunsFirst, StopsAt, MakesUntil};
 ghost use Rattle.coded.specs.Batches.{RunsBatch, CallsBatch, refusal_of, fault_code, stop_code, refusal_done, done_of};
 
-use crate::codes::{Item, RawEvent, RawOutcome, event_of, finished_code, item_of, outcome_code};
+use crate::codes::{
+    Item, RawEvent, RawOutcome, core_of, event_of, finished_code, item_of, outcome_code, store_of,
+};
 use crate::opening::{RawFile, RawSetup, Refusal, Space, open};
 use core_steps::{Finished, Ledger, Machine, SetupFault};
 use machine_model::Event;
 use slot_lock::SlotMap;
 use std::alloc::{Allocator, Global};
-use vm_base::NoMemory;
+use vm_base::{NoMemory, Request};
 
 /// Why a batch stopped before its end.
 #[derive(Clone, Copy, Debug, PartialEq, Eq)]
@@ -77,6 +79,15 @@ pub fn run_events<M: SlotMap, A: Allocator + Clone, L: Ledger>(
     }
 }
 
+/// The code of a load.
+const LOAD: u32 = 4;
+
+/// The code of a store.
+const STORE: u32 = 5;
+
+/// The code of a fetch.
+const FETCH: u32 = 6;
+
 // What an item does.
 #[inline(always)]
 fn make<M: SlotMap, A: Allocator + Clone, L: Ledger>(
@@ -107,6 +118,39 @@ fn step<M: SlotMap, A: Allocator + Clone, L: Ledger>(
     }
 }
 
+// What C asks for in a batch of calls is made. An access goes from the event's numbers straight to its
+// call, so that its request is never written to memory.
+#[inline(always)]
+fn make_raw<M: SlotMap, A: Allocator + Clone, L: Ledger>(
+    machine: &mut Machine<M, A, L>,
+    raw: &RawEvent,
+) -> Option<Result<Finished, NoMemory>>
+    ensures makes { MakesRaw L.keeps (state machine.old) raw.now result (state machine.new) }
+    ensures legal { IsLegal (state machine.old) → IsLegal (state machine.new) }
+{
+    let core = core_of(raw.core)?;
+    match raw.kind {
+        LOAD => {
+            let made = make(machine, Item::Call(core, Request::Load { addr: raw.at }));
+            Some(made)
+        }
+        STORE => {
+            let request = store_of(raw)?;
+            let made = make(machine, Item::Call(core, request));
+            Some(made)
+        }
+        FETCH => {
+            let made = make(machine, Item::Call(core, Request::Fetch { addr: raw.at }));
+            Some(made)
+        }
+        _ => {
+            let item = item_of(raw)?;
+            let made = make(machine, item);
+            Some(made)
+        }
+    }
+}
+
 /// One item. Where it isn't made, `told` stays as it was.
 #[inline(always)]
 pub fn take_item<M: SlotMap, A: Allocator + Clone, L: Ledger>(
@@ -118,10 +162,10 @@ pub fn take_item<M: SlotMap, A: Allocator + Clone, L: Ledger>(
         (state machine.new) }
     ensures legal { IsLegal (state machine.old) → IsLegal (state machine.new) }
 {
-    let Some(item) = item_of(raw) else {
+    let Some(made) = make_raw(machine, raw) else {
         return Err(Stop::BadEvent);
     };
-    let Ok(finished) = make(machine, item) else {
+    let Ok(finished) = made else {
         return Err(Stop::NoMemory);
     };
     *told = finished_code(finished);

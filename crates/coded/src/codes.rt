@@ -50,28 +50,6 @@ pub enum Kind {
     Finish,
 }
 
-/// All kinds, in the order of their codes.
-const KINDS: [Kind; 18] = [
-    Kind::Mmap,
-    Kind::Munmap,
-    Kind::Mprotect,
-    Kind::Load,
-    Kind::Store,
-    Kind::Fetch,
-    Kind::Go,
-    Kind::Frame,
-    Kind::Guess,
-    Kind::Whole,
-    Kind::Take,
-    Kind::Walk,
-    Kind::Evict,
-    Kind::Flush,
-    Kind::Review,
-    Kind::Fold,
-    Kind::GiveUp,
-    Kind::Finish,
-];
-
 /// An event, as C writes it.
 #[repr(C)]
 #[derive(Clone, Copy, Drop)]
@@ -123,10 +101,27 @@ pub enum Item {
 pub fn kind_of(code: u32) -> Option<Kind>
     ensures { result ≡ kind_of code }
 {
-    if code == 0 || code as usize > KINDS.len() {
-        return None;
+    match code {
+        1 => Some(Kind::Mmap),
+        2 => Some(Kind::Munmap),
+        3 => Some(Kind::Mprotect),
+        4 => Some(Kind::Load),
+        5 => Some(Kind::Store),
+        6 => Some(Kind::Fetch),
+        7 => Some(Kind::Go),
+        8 => Some(Kind::Frame),
+        9 => Some(Kind::Guess),
+        10 => Some(Kind::Whole),
+        11 => Some(Kind::Take),
+        12 => Some(Kind::Walk),
+        13 => Some(Kind::Evict),
+        14 => Some(Kind::Flush),
+        15 => Some(Kind::Review),
+        16 => Some(Kind::Fold),
+        17 => Some(Kind::GiveUp),
+        18 => Some(Kind::Finish),
+        _ => None,
     }
-    Some(KINDS[code as usize - 1])
 }
 
 /// The core of this number, if it is below 64.
@@ -166,7 +161,9 @@ fn mprotect_of(raw: &RawEvent) -> Option<Request>
     })
 }
 
-fn store_of(raw: &RawEvent) -> Option<Request>
+/// The request of a store, if its byte is one.
+#[inline(always)]
+pub fn store_of(raw: &RawEvent) -> Option<Request>
     ensures { result ≡ request_at Kind.Store raw.now }
 {
     if raw.byte >= 256 {

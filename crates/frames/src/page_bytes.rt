@@ -49,14 +49,25 @@ fn fill_page(page: &mut [u8], from: &[u8])
     zero_rest(page, from.len());
 }
 
-/// The page of these bytes, and zeros after them.
-pub fn page_of(from: &[u8]) -> Page
+/// The page of fewer bytes than a page has, or of as many, and zeros after them.
+fn short_page(from: &[u8]) -> Page
     requires { length from.now ≤ 4096 }
     ensures { page_bytes result 0 ≡ page_bytes from.now 0 }
 {
     let mut page = zero_page();
     fill_page(&mut page, from);
     page
+}
+
+/// The page of these bytes, and zeros after them. No page is cleared for bytes that fill one.
+pub fn page_of(from: &[u8]) -> Page
+    requires { length from.now ≤ 4096 }
+    ensures { page_bytes result 0 ≡ page_bytes from.now 0 }
+{
+    match Page::try_from(from) {
+        Ok(page) => page,
+        Err(_) => short_page(from),
+    }
 }
 
 /// The page that has this byte at this offset, and else zeros.
