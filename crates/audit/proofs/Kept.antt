@@ -13,7 +13,7 @@ use Rattle.slot_lock.specs.Changes.{changed}
 use Rattle.slot_lock.specs.declared.framed.Framed.{Framed}
 use Rattle.slot_lock.specs.Framed.{ListsFrames, frames_in}
 use Rattle.slot_lock.specs.Slots.{Slots, cleared, with_info}
-use Rattle.frames.specs.Parts.{FrameParts, frame_bytes, free_frames}
+use Rattle.frames.specs.Parts.{FrameParts, free_frames}
 use Rattle.audit.specs.Keeping.{IsKept, Keeps, AreTaken, freed, frame_at, frame_lost, none_cached}
 
 -- ---- fewer frames

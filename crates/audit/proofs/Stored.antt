@@ -1,8 +1,8 @@
 -- The plain page map that is kept, once a byte was stored
-use Rattle.slot_lock.proofs.Words.{◌≡◌, ◌≢◌, ℕ, ◌<◌, ◌⊎◌, inl, inr, Bool, true, false, List, Option, Some, None, is_some, refl, sym, ◌∙◌, ap, subst}
+use Rattle.slot_lock.proofs.Words.{◌≡◌, ◌≢◌, ℕ, ◌<◌, ◌⊎◌, inl, inr, Bool, true, false, List, Option, Some, None, Result, Ok, Err, OnOk, is_some, refl, sym, ◌∙◌, ap, subst}
 use Rattle.slot_lock.proofs.Words.{if◌then◌else◌, IfSome, fun_ext, Back, Anon, Shared, Private, PageInfo, Mode, Prot, put, frame_of, Bytes, Entry, File}
 use Rattle.slot_lock.proofs.Words.{Plain, bytes_of, eq_true, eq_false, put_same, put_other}
-use Rattle.std.specs.Prelude.{cond, ◌==◌, nat_lt}
+use Rattle.std.specs.Prelude.{OnErr, cond, ◌==◌, nat_lt}
 use Rattle.vm_base.specs.Plain.{bytes_in, file_bytes, zeros}
 use Rattle.vm_base.specs.Apply.{copied, detached_entry, first_own, is_uncopied, stored_back, stored_entry, with_byte}
 use Rattle.vm_base.specs.Copies.{or_else}
@@ -219,6 +219,14 @@ stored_shared s o n old mid new file page x i byte some h bytes free count k =
       plain = store_cached s n mid new file page x i byte c.kept c.at bytes ∙ ap (λ t. stored_back t (Shared file page) i byte) c.plain;
       kept = same_users (frame_at (frames_in s) (cached_in n)) mid new free count c.kept;
     }
+
+-- what is kept once such a store was done, or found no memory and left all as it was
+pub kept_by_store : {T E : Type 0} (r : Result T E) (s : Slots) (o n : List FileParts) (old new : FrameParts) (file page i byte : ℕ)
+    → OnOk r ((t : Slots) → Keeps t (cached_in o) old → IsStored t n new (stored_back (plain_kept t o old) (Shared file page) i byte))
+    → OnErr r (n ≡ o) → OnErr r (new ≡ old) → Keeps s (cached_in o) old → Keeps s (cached_in n) new
+kept_by_store (Ok v) s o n old new file page i byte ok files frames k = (ok s k).kept
+kept_by_store (Err e) s o n old new file page i byte ok files frames k =
+    subst (λ (x : List FileParts). Keeps s (cached_in x) new) (sym files) (subst (λ (f : FrameParts). Keeps s (cached_in o) f) (sym frames) k)
 
 -- ---- a store to a page's own bytes
 

@@ -3,9 +3,11 @@ ghost use Rattle.frames.specs.Parts.{FrameParts};
 ghost use Rattle.backing.specs.Files.{cached_in};
 ghost use Rattle.audit.specs.Keeping.{Keeps, NobodyHolds};
 
+use crate::bytes::file_byte;
 use crate::copying::copy_page;
 use crate::judging::{Verdict, compared, judge_plan};
 use crate::serving::is_served;
+use crate::storing::store_to_file;
 use backing::{FileSpec, Objects};
 use frames::Frames;
 use slot_lock::SlotMap;
@@ -155,6 +157,49 @@ impl<M: SlotMap, A: Allocator> Auditor<M, A> {
         ensures { IsTrue result ↔ IsServable (plain_of self.now) request }
     {
         is_served(&self.map, &self.objects, request)
+    }
+}
+
+impl<M: SlotMap, A: Allocator> Auditor<M, A> {
+    ghost use Rattle.std.specs.Prelude.{◌≡◌, ◌<◌, OnErr, OnOk, is_some, true};
+    ghost use Rattle.vm_base.specs.Apply.{stored_back};
+    ghost use Rattle.vm_base.specs.Plain.{file_bytes};
+    ghost use Rattle.vm_base.specs.declared.info.Back.TheVariants.{Shared};
+    ghost use Rattle.audit.specs.Auditor.{plain_of};
+    ghost use Rattle.audit.specs.Keeping.{byte_at};
+
+    /// The byte of a file's page at this offset, as stores have left it; none where the file has no such page, or there is no such file.
+    pub fn file_byte(&self, file: u32, page: u64, offset: u64) -> Option<u8>
+        requires offset { offset < 4096 }
+        ensures { result ≡ byte_at (file_bytes ((plain_of self.now).file file) page) offset }
+    {
+        file_byte(&self.objects, &self.frames, file, page, offset as usize)
+    }
+
+    /// Stores a byte to a file's page at this offset, as a store by a shared mapping of it does, with no mapping. The file has the page:
+    /// `file_byte` tells. What each page is mapped to stays. Where memory is refused, or bytes of more than 65,536 pages would be kept,
+    /// nothing changes.
+    pub fn store_to_file(
+        &mut self,
+        file: u32,
+        page: u64,
+        offset: u64,
+        byte: u8,
+    ) -> Result<(), NoMemory>
+        requires offset { offset < 4096 }
+        requires page { is_some (file_bytes ((plain_of self.old).file file) page) ≡ true }
+        ensures ok { OnOk result (plain_of self.new ≡ stored_back (plain_of self.old) (Shared file page) offset byte) }
+        ensures err { OnErr result (plain_of self.new ≡ plain_of self.old) }
+        ensures any_place { self.new.any_place ≡ self.old.any_place }
+    {
+        store_to_file(
+            &mut self.objects,
+            &mut self.frames,
+            file,
+            page,
+            offset,
+            byte,
+        )
     }
 }
 

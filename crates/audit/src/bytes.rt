@@ -15,7 +15,7 @@ use std::alloc::Allocator;
 use vm_base::{Access, Back, PageInfo, Reply, SegvCode, allows};
 
 /// A byte of a file's page, if there is such a page: as stores have left it.
-fn file_byte<A: Allocator>(
+pub fn file_byte<A: Allocator>(
     objects: &Objects<A>,
     frames: &Frames<A>,
     file: u32,

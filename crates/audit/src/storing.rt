@@ -81,26 +81,27 @@ fn file_frame<A: Allocator>(
 }
 
 /// Stores a byte to a file's page, which the file has. Where no frame is free nothing changes.
-fn store_shared<A: Allocator>(
+pub fn store_to_file<A: Allocator>(
     objects: &mut Objects<A>,
     frames: &mut Frames<A>,
     file: u32,
     page: u64,
-    touch: Touch,
+    offset: u64,
+    byte: u8,
 ) -> Result<(), NoMemory>
-    requires touch { IsSoundTouch touch }
+    requires offset { offset < 4096 }
     requires page { is_some (file_bytes (files_kept objects.old frames.old file) page) ≡ true }
     requires cached { AreFrames (cached_in objects.old) frames.old }
     ensures ok { OnOk result ((s : Slots) → Keeps s (cached_in objects.old) frames.old
         → IsStored s objects.new frames.new
-        (stored_back (plain_kept s objects.old frames.old) (Shared file page) touch.offset touch.byte)) }
+        (stored_back (plain_kept s objects.old frames.old) (Shared file page) offset byte)) }
     ensures err_files { OnErr result (objects.new ≡ objects.old) }
     ensures err_frames { OnErr result (frames.new ≡ frames.old) }
 {
     let Some(frame) = file_frame(objects, frames, file, page) else {
         return Err(NoMemory);
     };
-    frames.set_byte(frame, touch.offset as usize, touch.byte);
+    frames.set_byte(frame, offset as usize, byte);
     Ok(())
 }
 
@@ -191,7 +192,9 @@ pub fn store<M: SlotMap, A: Allocator>(
     ensures free { NobodyHolds (M.slots map.new) }
 {
     match info.meta.back {
-        Back::Shared { file, page } => store_shared(objects, frames, file, page, touch),
+        Back::Shared { file, page } => {
+            store_to_file(objects, frames, file, page, touch.offset, touch.byte)
+        }
         _ => store_own(map, objects, frames, info, touch),
     }
 }

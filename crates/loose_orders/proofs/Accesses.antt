@@ -1,10 +1,10 @@
 -- Replies to accesses of replaced entries
-use Rattle.slot_lock.proofs.Words.{◌≡◌, ◌==◌, ◌∙◌, ℕ, Bool, true, false, cond, Option, None, Some, ap, refl, subst, sym, put, put_same, put_other}
-use Rattle.slot_lock.proofs.Words.{Bytes, Entry, File, Plain, Request, Reply, Mapped, Done, Byte, Refused, Segv, Bus, NoFrame, NoMemory, MapErr, Access, bytes_of, entry_reply, is_page, page_of}
+use Rattle.slot_lock.proofs.Words.{◌≡◌, ◌∙◌, ℕ, Bool, true, false, cond, Option, None, Some, ap, refl, subst, sym, put, put_same}
+use Rattle.slot_lock.proofs.Words.{Shared, Prot, Bytes, Entry, File, Plain, Reply, Mapped, Done, Byte, Refused, Segv, Bus, NoFrame, NoMemory, MapErr, Access, bytes_of, entry_reply, is_page, page_of}
 use Rattle.vm_base.specs.declared.rights.Access.TheVariants as By
 use Rattle.vm_base.specs.declared.requests.Request.TheVariants.{Load, Store, Fetch}
 use Rattle.vm_base.specs.declared.replies.SegvCode.TheVariants.{AccErr}
-use Rattle.vm_base.specs.Apply.{access_reply, accessed, bytes_reply, needs_copy, stored_entry}
+use Rattle.vm_base.specs.Apply.{access_reply, accessed, bytes_reply, stored_back, stored_entry}
 use Rattle.vm_base.specs.Log.{RepliesBy, Stands}
 use Rattle.vm_base.specs.Pages.{offset_of}
 use Rattle.vm_base.specs.Places.{PlaceRule}
@@ -91,6 +91,30 @@ pub fault_replies : (rule : PlaceRule) (t : Plain) (core addr byte : ℕ) (e : O
     → entry_reply t.file e By.Store (offset_of addr) ≡ Some (Segv code)
     → RepliesBy rule (with_entry t (page_of addr) e) core (Store addr byte) (Segv code) (with_entry t (page_of addr) e)
 fault_replies rule t core addr byte e code valid due = (reply_there t addr e By.Store (Segv code) valid due, refl)
+
+pub bus_replies : (rule : PlaceRule) (t : Plain) (core addr byte : ℕ) (e : Option Entry) → is_page (page_of addr) ≡ true
+    → entry_reply t.file e By.Store (offset_of addr) ≡ Some Bus
+    → RepliesBy rule (with_entry t (page_of addr) e) core (Store addr byte) Bus (with_entry t (page_of addr) e)
+bus_replies rule t core addr byte e valid due = (reply_there t addr e By.Store Bus valid due, refl)
+
+-- one that is done to a page of a shared file changes its byte there
+pub file_store_replies : (rule : PlaceRule) (t : Plain) (core addr byte file page : ℕ) (prot : Prot) → is_page (page_of addr) ≡ true
+    → entry_reply t.file (Some (record { back = Shared file page; prot = prot; own = None })) By.Store (offset_of addr) ≡ Some Done
+    → RepliesBy rule (with_entry t (page_of addr) (Some (record { back = Shared file page; prot = prot; own = None }))) core (Store addr byte) Done
+    (stored_back (with_entry t (page_of addr) (Some (record { back = Shared file page; prot = prot; own = None }))) (Shared file page) (offset_of addr) byte)
+file_store_replies rule t core addr byte file page prot valid due =
+    subst (λ (m : Plain). Stands rule m core (Store addr byte) Done (stored_back s (Shared file page) (offset_of addr) byte))
+    (sym (store_at_once s addr byte Done reply)) (reply, sym after)
+  where
+    s : Plain
+    s = with_entry t (page_of addr) (Some (record { back = Shared file page; prot = prot; own = None }))
+
+    reply : access_reply s addr By.Store ≡ Some Done
+    reply = reply_there t addr (Some (record { back = Shared file page; prot = prot; own = None })) By.Store Done valid due
+
+    after : accessed s addr byte Done ≡ stored_back s (Shared file page) (offset_of addr) byte
+    after = ap (λ (o : Option Entry). stored_entry s (page_of addr) o (offset_of addr) byte)
+        (put_same t.entry (page_of addr) (Some (record { back = Shared file page; prot = prot; own = None })))
 
 -- one that is done changes its byte of the entry's own
 pub store_replies : (rule : PlaceRule) (t : Plain) (core addr byte : ℕ) (e : Entry) (own : Bytes) → is_page (page_of addr) ≡ true

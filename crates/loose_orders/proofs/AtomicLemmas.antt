@@ -1,5 +1,5 @@
 -- An order of calls at one moment each is one by the loose rule, in which each call ends as soon as it has taken effect
-use Rattle.slot_lock.proofs.Words.{◌≡◌, ◌≢◌, ◌∙◌, ◌⊎◌, ℕ, zero, suc, ◌+◌, ◌<◌, ◌≤◌, Bool, List, [], ◌∷◌, Option, None, Some, ap, arith, inl, inr, length, put, refl, subst, sym}
+use Rattle.slot_lock.proofs.Words.{◌≡◌, ◌∙◌, ◌⊎◌, ℕ, zero, suc, ◌<◌, ◌≤◌, Bool, List, [], ◌∷◌, Option, None, Some, ap, arith, inl, inr, length, put, refl, subst, sym}
 use Rattle.std.proofs.Common.{slice_get}
 use Rattle.vm_base.specs.Plain.{Entry, Plain}
 use Rattle.vm_base.specs.Places.{PlaceRule}

@@ -1,5 +1,5 @@
 -- Rows of the definition: what calls replace, and an unmapping under way with a load that faults, behind which another one finds the byte
-use Rattle.std.proofs.Common.{◌≡◌, ℕ, zero, suc, ◌<◌, Bool, true, false, List, [], ◌∷◌, Option, None, Some, arith, get_or, refl}
+use Rattle.std.proofs.Common.{◌≡◌, ℕ, zero, suc, Bool, true, false, List, [], ◌∷◌, None, Some, arith, get_or, refl}
 use Rattle.vm_base.specs.declared.info.Back.TheVariants.{Anon}
 use Rattle.vm_base.specs.declared.requests.Request.TheVariants.{Load, Munmap, Mprotect}
 use Rattle.vm_base.specs.declared.replies.Errno.TheVariants.{ENOMEM}
@@ -11,7 +11,6 @@ use Rattle.vm_base.specs.Functions.{put}
 use Rattle.vm_base.specs.Pages.{pages_of}
 use Rattle.vm_base.specs.Places.{IsFirstPlace}
 use Rattle.vm_base.specs.Plain.{Entry, Plain}
-use Rattle.orders.specs.declared.history.Item.{Item}
 use Rattle.orders.specs.declared.history.Item.TheVariants as Of
 use Rattle.orders.specs.declared.history.Timed.{Timed}
 use Rattle.orders.specs.Once.{AllMarked}

@@ -5,7 +5,7 @@ use Rattle.std.proofs.lemmas.List.{drop_all}
 use Rattle.std.specs.List.{filter}
 use Rattle.std.proofs.lemmas.List.Elements.{All-filter, filter_passes}
 use Rattle.loose_orders.specs.declared.keeping.Kept.{Kept}
-use Rattle.loose_orders.specs.Kept.{AllKept, IsKept, Olds}
+use Rattle.loose_orders.specs.Kept.{AllKept, IsKept}
 use Rattle.loose_orders.proofs.StepLemmas.{Forgets}
 
 -- ---- those of another call

@@ -1,5 +1,5 @@
 -- Functions that are changed at one place and back
-use Rattle.slot_lock.proofs.Words.{◌≡◌, ◌≢◌, ◌==◌, ◌∙◌, ℕ, Bool, true, false, cond, Option, Some, ap, fun_ext, refl, subst, sym, by_test, eq_true, put, put_same, put_other}
+use Rattle.slot_lock.proofs.Words.{◌≡◌, ◌==◌, ◌∙◌, ℕ, Bool, true, false, cond, Option, ap, fun_ext, refl, sym, by_test, eq_true, put}
 use Rattle.vm_base.specs.Plain.{Entry, Plain}
 use Rattle.loose_orders.specs.Loose.{with_entry}
 

@@ -1,6 +1,6 @@
 -- Steps, and what is kept behind them
-use Rattle.slot_lock.proofs.Words.{◌≡◌, ◌≢◌, ◌∙◌, ℕ, ◌+◌, ◌<◌, ◌≤◌, Bool, true, cond, List, [], ◌∷◌, ◌++◌, Option, None, Some, All, IfSome, ap, length, refl, subst, sym, take, take_all, take_more, put, put_same, put_other, get_or, arith}
-use Rattle.slot_lock.proofs.Words.{Entry, Plain, Reply}
+use Rattle.slot_lock.proofs.Words.{◌≡◌, ◌≢◌, ◌∙◌, ℕ, ◌+◌, ◌<◌, ◌≤◌, Bool, true, cond, List, [], ◌∷◌, ◌++◌, Option, None, Some, IfSome, ap, length, refl, subst, sym, take, take_all, take_more, put, put_same, put_other, get_or}
+use Rattle.slot_lock.proofs.Words.{Entry, Plain}
 use Rattle.std.proofs.Common.{slice_get}
 use Rattle.std.proofs.lemmas.List.Elements.{All-nil, All-push}
 use Rattle.vm_base.specs.Log.{RepliesBy}
@@ -97,9 +97,9 @@ ends_on rule h t call kept left f s e all = (
   f s.old (put s.old call (λ page. None)) (others s.old call (λ page. None)) all,
 )
 
-pub late_on : (any_place : Bool) (h : List Timed) (t : Plain) (call : ℕ) (c : Timed) (kept new : List Kept) → slice_get h call ≡ Some c
-    → GoesOn kept new c.call → StepsOn (rule_of any_place) h t kept (StepOf.Late call) t new
-late_on any_place h t call c kept new is g s e all = let r = g any_place s all in (r.0, (c, is, r.1), r.2 ∙ e, r.3)
+pub late_on : (any_place : Bool) (h : List Timed) (t u : Plain) (call : ℕ) (c : Timed) (kept new : List Kept) → slice_get h call ≡ Some c
+    → GoesOn t kept u new c.call → StepsOn (rule_of any_place) h t kept (StepOf.Late call) u new
+late_on any_place h t u call c kept new is g s e all = let r = g any_place s e all in (r.0, (c, is, r.1), r.2, r.3)
 
 -- ---- all steps
 

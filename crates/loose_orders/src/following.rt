@@ -28,7 +28,8 @@ fn has_each<A: Allocator + Clone + Drop>(
 
 /// Tells whether the steps are an order of the history's calls by the loose rule, from the auditor's plain page map on. The uses say which
 /// accesses may go as before which calls, by the numbers of these: only for them something of what these calls replace is kept. `false`
-/// says nothing: an access that goes as before a call is followed only where the page was anonymous memory, or not mapped. `Err` says that
+/// says nothing: a store that goes as before a call isn't followed where the page was a private one without a copy. An access of a page that
+/// showed a file's bytes finds them as they are at its own place in the order, and a store to a shared one leaves its byte there. `Err` says that
 /// memory was refused. The auditor is used up.
 pub fn follow<M: SlotMap, A: Allocator + Clone + Drop>(
     alloc: A,

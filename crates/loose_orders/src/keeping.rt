@@ -1,10 +1,12 @@
 //! What is kept of the entries that calls have replaced: as much as accesses that go as before them need.
-ghost use Rattle.std.specs.Prelude.{◌≡◌, ◌≢◌, ◌==◌, ℕ, IfOk, IfSome, Some, not, slice_get, true};
+ghost use Rattle.std.specs.Prelude.{◌≡◌, ◌≢◌, ◌==◌, ℕ, IfNone, IfOk, IfSome, Some, not, slice_get, true};
 ghost use Rattle.vm_base.specs.Apply.{access_reply};
 ghost use Rattle.vm_base.specs.Pages.{is_page, offset_of, page_of};
+ghost use Rattle.vm_base.specs.Plain.{Bytes};
 ghost use Rattle.vm_base.specs.declared.replies.Reply.TheVariants as ReplyOf;
 ghost use Rattle.vm_base.specs.declared.rights.Access.TheVariants as By;
 ghost use Rattle.audit.specs.Auditor.{plain_of};
+ghost use Rattle.audit.specs.Keeping.{entry_kept, own_kept};
 ghost use Rattle.loose_orders.specs.Kept.{AllKept, HasReplaced, IsWas, Olds};
 ghost use Rattle.loose_orders.specs.Loose.{replaces};
 
@@ -12,19 +14,40 @@ use audit::{Auditor, Verdict};
 use orders::Timed;
 use slot_lock::SlotMap;
 use std::alloc::Allocator;
-use vm_base::{Back, CoreId, NoMemory, Prot, Reply, Request, is_valid, offset_of, page_of, pages};
+use vm_base::{
+    Back, CoreId, NoMemory, PageInfo, Prot, Reply, Request, is_valid, offset_of, page_of, pages,
+};
 
 /// What a page was mapped to.
 #[derive(Clone, Copy, Debug, PartialEq, Eq)]
 pub(crate) enum Was {
     /// To nothing.
     Unmapped,
-    /// To anonymous memory with this protection, which has this byte at the offset of an access, if it is known.
-    Anon {
+    /// To memory of its own with this protection, which has this byte at the offset of an access, if it is known: to anonymous memory, or
+    /// to a private page of a file that has its copy.
+    Own {
         /// What may be done with it.
         prot: Prot,
         /// The byte.
         byte: Option<u8>,
+    },
+    /// To a page of a shared file with this protection, which shows the file's bytes of any time.
+    Shared {
+        /// The file.
+        file: u32,
+        /// The page of the file.
+        page: u64,
+        /// What may be done with it.
+        prot: Prot,
+    },
+    /// To a private page of a file with this protection, which has no copy and shows the file's bytes of any time.
+    Private {
+        /// The file.
+        file: u32,
+        /// The page of the file.
+        page: u64,
+        /// What may be done with it.
+        prot: Prot,
     },
 }
 
@@ -104,7 +127,23 @@ fn fetched<M: SlotMap, A: Allocator>(
     }
 }
 
-/// What is known of the entry of the page of an address, if it is one of which something is kept.
+/// What a page is mapped to that has this and shows a file's bytes; none if it has bytes of its own.
+fn shown(info: &PageInfo) -> Option<Was>
+    ensures some { (bytes : ℕ → Bytes) (i : ℕ) → IfSome result (IsWas (entry_kept bytes (Some info.now)) i) }
+    ensures none { (bytes : ℕ → Bytes) → IfNone result ((own : Bytes) × (own_kept bytes info.now.meta.back info.now.frame ≡ Some own)) }
+{
+    let prot = info.meta.prot;
+    match info.meta.back {
+        Back::Anon => None,
+        Back::Shared { file, page } => Some(Was::Shared { file, page, prot }),
+        Back::Private { file, page } => match info.frame {
+            Some(_) => None,
+            None => Some(Was::Private { file, page, prot }),
+        },
+    }
+}
+
+/// What is known of the entry of the page of an address, if it is a valid one.
 fn was_at<M: SlotMap, A: Allocator>(
     auditor: &mut Auditor<M, A>,
     core: CoreId,
@@ -122,16 +161,16 @@ fn was_at<M: SlotMap, A: Allocator>(
     let Some(info) = auditor.map().page(page) else {
         return Ok(Some(Was::Unmapped));
     };
-    let Back::Anon = info.meta.back else {
-        return Ok(None);
-    };
+    if let Some(was) = shown(&info) {
+        return Ok(Some(was));
+    }
     let prot = info.meta.prot;
     let byte = loaded(auditor, core, addr)?;
     if byte.is_some() {
-        return Ok(Some(Was::Anon { prot, byte }));
+        return Ok(Some(Was::Own { prot, byte }));
     }
     let byte = fetched(auditor, core, addr)?;
-    Ok(Some(Was::Anon { prot, byte }))
+    Ok(Some(Was::Own { prot, byte }))
 }
 
 /// The address that a request accesses.

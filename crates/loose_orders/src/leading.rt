@@ -111,15 +111,22 @@ fn copies<M: SlotMap, A: Allocator>(
     Ok(goes)
 }
 
-/// Tells whether a call goes as before one that hasn't ended.
-fn goes_as_before<A: Allocator>(kept: &mut Vec<Kept, A>, history: &[Timed], call: u32) -> bool
-    ensures { result ≡ true → (any_place : Bool) (t : Plain)
-        → StepsOn (rule_of any_place) history.now t kept.old.items (StepOf.Late call) t kept.new.items }
+/// Tells whether a call goes as before one that hasn't ended, and lets it.
+fn goes_as_before<M: SlotMap, A: Allocator>(
+    auditor: &mut Auditor<M, A>,
+    kept: &mut Vec<Kept, A>,
+    history: &[Timed],
+    call: u32,
+) -> Result<bool, NoMemory>
+    ensures yes { result ≡ Ok true → StepsOn (rule_of auditor.old.any_place) history.now (plain_of auditor.old) kept.old.items
+        (StepOf.Late call) (plain_of auditor.new) kept.new.items }
+    ensures any_place { auditor.new.any_place ≡ auditor.old.any_place }
 {
-    match call_at(history, call) {
-        Some(timed) => goes_late(kept, timed.call),
-        None => false,
-    }
+    let Some(timed) = call_at(history, call) else {
+        return Ok(false);
+    };
+    let goes = goes_late(auditor, kept, timed.call)?;
+    Ok(goes)
 }
 
 /// A call has ended.
@@ -146,7 +153,10 @@ fn leads<M: SlotMap, A: Allocator>(
             let goes = replies(auditor, kept, history, uses, call)?;
             Ok(goes)
         }
-        Step::Late(call) => Ok(goes_as_before(kept, history, call)),
+        Step::Late(call) => {
+            let goes = goes_as_before(auditor, kept, history, call)?;
+            Ok(goes)
+        }
         Step::Copy(call) => {
             let goes = copies(auditor, kept.as_slice(), history, call)?;
             Ok(goes)

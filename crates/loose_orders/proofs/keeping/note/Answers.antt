@@ -1,5 +1,4 @@
 use Rattle.std.proofs.Common.{◌∙◌, subst, sym}
-use Rattle.audit.specs.Auditor.{plain_of}
 use Rattle.vm_base.specs.Plain.{Plain}
 use Rattle.loose_orders.specs.Kept.{HasReplaced}
 use Rattle.loose_orders.proofs.keeping.note.Goals as goal

@@ -1,7 +1,7 @@
-use Rattle.std.proofs.Common.{Ok, ap, arith, refl, ◌∙◌}
+use Rattle.std.proofs.Common.{Ok, ap, ◌∙◌}
 use Rattle.audit.specs.Auditor.{plain_of}
 use Rattle.audit.specs.Placing.{rule_of}
-use Rattle.loose_orders.proofs.StepLemmas.{all_led, led_on, none_led}
+use Rattle.loose_orders.proofs.StepLemmas.{all_led, led_on}
 use Rattle.loose_orders.proofs.leading.all_lead.Goals as goal
 
 pub steps-preserved : goal.steps-preserved

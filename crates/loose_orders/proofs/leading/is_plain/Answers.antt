@@ -1,4 +1,4 @@
-use Rattle.slot_lock.proofs.Words.{◌≡◌, ◌≢◌, false, subst, true, NoFrame, NoMemory}
+use Rattle.slot_lock.proofs.Words.{◌≡◌, false, subst, true}
 use Rattle.audit.specs.Auditor.{plain_of}
 use Rattle.audit.specs.Judging.{Judges}
 use Rattle.audit.specs.Placing.{rule_of}

@@ -1,16 +1,9 @@
-use Rattle.std.proofs.Common.{subst, sym, true, ◌≡◌}
+use Rattle.std.proofs.Common.{subst, sym}
 use Rattle.audit.specs.Auditor.{plain_of}
 use Rattle.audit.specs.Placing.{rule_of}
 use Rattle.loose_orders.specs.Following.{StepsOn}
 use Rattle.loose_orders.specs.declared.steps.Step.{Step}
 use Rattle.loose_orders.proofs.leading.leads.Goals as goal
-
-pub returns-in-Late-clause-yes : goal.returns-in-Late-clause-yes
-returns-in-Late-clause-yes g c = λ e.
-    let t = plain_of c.args.auditor.now in
-    let goes : c.goes_as_before.result ≡ true = cc in
-    subst (λ (step : Step). StepsOn (rule_of c.args.auditor.now.any_place) c.args.history.now t c.args.kept.now.items step t c.goes_as_before.new.kept.items)
-    (sym c.in-Late.is) (c.goes_as_before.ensures goes c.args.auditor.now.any_place t)
 
 pub returns-in-End-clause-yes : goal.returns-in-End-clause-yes
 returns-in-End-clause-yes g c = λ e.

@@ -1,8 +1,5 @@
-use Rattle.std.proofs.Common.{Ok, ap, subst, sym, ◌∙◌}
-use Rattle.vm_base.specs.Log.{RepliesBy}
-use Rattle.vm_base.specs.Plain.{Plain}
+use Rattle.std.proofs.Common.{sym, ◌∙◌}
 use Rattle.audit.specs.Auditor.{plain_of}
-use Rattle.audit.specs.Placing.{rule_of}
 use Rattle.loose_orders.proofs.StepLemmas.{replies_from}
 use Rattle.loose_orders.proofs.leading.replies.Goals as goal
 
