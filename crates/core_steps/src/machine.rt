@@ -170,6 +170,7 @@ impl<M: SlotMap, A: Allocator + Clone, L: Ledger> Machine<M, A, L> {
     /// A call, and if it begins its steps until one isn't Stepped, at most 2^40: what `step` with the
     /// call's event does, and then `finish`. A call that doesn't begin has told why: Idle or Full.
     /// After a refusal for memory the steps before it stand. Slots are divided as by `step`.
+    #[inline(always)]
     pub fn call(&mut self, core: CoreId, request: Request) -> Result<Finished, NoMemory>
         ensures ends { IfOk result (λ finished. Calls (state self.old) core request finished (state self.new)) }
         ensures err { OnErr result (IsCallRefused L.keeps (state self.old) core request (state self.new)) }

@@ -54,6 +54,7 @@ impl<M: SlotMap, H: Hardware, A: Allocator, L: Ledger> Engine<M, H, A, L> {
     /// The events of an access that can begin: it begins, its arguments are checked, its page is tried,
     /// and where a frame is reached the reply is handed out. Then the core has no call, as before. A
     /// fault leads to the lock of its page, and on from there as far as `make_fault` goes.
+    #[inline(always)]
     pub fn access_at_once(&mut self, core: CoreId, request: Request, touch: Touch) -> Started
         requires { IsAccess (world M.slots self.old) core request touch }
         ensures starts { Starts (world M.slots self.old) core request result (world M.slots self.new)

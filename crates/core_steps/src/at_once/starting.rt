@@ -60,6 +60,7 @@ impl<M: SlotMap, H: Hardware, A: Allocator, L: Ledger> Engine<M, H, A, L> {
     /// The events of a call and of its first steps, made at once if it can begin: it begins, and its
     /// arguments are checked. An access tries its page too, and where the page's translation is at hand
     /// the reply is handed out. Steps divide slots as the map does.
+    #[inline(always)]
     pub fn start(&mut self, core: CoreId, request: Request) -> Started
         requires { ∥ IsReached (world M.slots self.old) ∥₁ }
         ensures starts { Starts (world M.slots self.old) core request result (world M.slots self.new) }

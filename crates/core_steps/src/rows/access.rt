@@ -33,6 +33,7 @@ pub fn tried_to(touch: Touch, reply: Option<Reply>) -> Phase
 
 impl<M: SlotMap, H: Hardware, A: Allocator, L: Ledger> Engine<M, H, A, L> {
     /// The byte is read or written in the frame. It answers what the access does.
+    #[inline(always)]
     pub fn touch_byte(&mut self, touch: Touch, frame: u32) -> Reply
         requires frame { frame < self.old.frames.count }
         requires offset { touch.offset < 4096 }
