@@ -267,6 +267,17 @@ impl<A: Allocator + Clone + Drop> Arena<A> {
         self.runs.len() > self.most || self.cells.len() > self.most
     }
 
+    /// Tells whether a change, but of a mapping that is placed, has its reply in a map.
+    pub fn is_allowed(&self, objects: &Objects<A>, spot: &Spot, under: &Under) -> bool {
+        let runs = runs_in(self.runs.as_slice(), spot.runs);
+        match under.plan {
+            Ok(Plan::Change(change)) => {
+                is_reply_to(change, under.reply) && refusal(objects, runs, change).is_none()
+            }
+            _ => false,
+        }
+    }
+
     /// Tells whether a call, which changes nothing, has its reply in a map.
     pub fn holds(&self, objects: &Objects<A>, any_place: bool, spot: &Spot, under: &Under) -> bool {
         let runs = runs_in(self.runs.as_slice(), spot.runs);

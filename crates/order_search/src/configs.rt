@@ -9,6 +9,8 @@ pub(crate) struct Config {
     pub spot: Spot,
     /// The bits of the calls under way that have taken effect.
     pub done: u64,
+    /// The bits of those that may have taken effect, unseen behind a change of all their pages, or may yet.
+    pub free: u64,
     /// The node of the last item that took effect.
     pub trail: usize,
 }

@@ -8,7 +8,7 @@ use crate::under::Under;
 use backing::Objects;
 use std::alloc::Allocator;
 use std::mem::swap;
-use vm_base::NoMemory;
+use vm_base::{NoMemory, PageRange};
 
 /// How many configurations may come into question at one end of a call.
 pub const LIMIT: usize = 300_000;
@@ -38,6 +38,7 @@ struct Step {
     spot: Spot,
     done: u64,
     may: u64,
+    hides: Option<PageRange>,
 }
 
 /// Maps, and the way to each configuration.
@@ -73,9 +74,10 @@ impl Ending<'_> {
     }
 }
 
-// A number for a map and the calls that have taken effect.
-fn print_of(spot: &Spot, done: u64) -> u64 {
-    mixed(mixed(spot.runs_print, spot.cells_print), done)
+// A number for a map, the calls that have taken effect, and those that may have.
+fn print_of(spot: &Spot, done: u64, free: u64) -> u64 {
+    let print = mixed(spot.runs_print, spot.cells_print);
+    mixed(mixed(print, done), free)
 }
 
 impl<'a, A: Allocator + Clone + Drop> Ways<'a, A> {
@@ -102,6 +104,7 @@ impl<'a, A: Allocator + Clone + Drop> Ways<'a, A> {
         Config {
             spot: self.arena.empty(),
             done: 0,
+            free: 0,
             trail: 0,
         }
     }
@@ -205,9 +208,10 @@ impl<'a, A: Allocator + Clone + Drop> Ways<'a, A> {
 
     // Takes a configuration in: one in which the call that ends has taken effect, or one to go on from.
     fn take_in(&mut self, config: Config, bit: u64) -> Result<(), NoMemory> {
-        if config.done & bit != 0 {
+        if (config.done | config.free) & bit != 0 {
             self.reached.push(config)?;
-        } else {
+        }
+        if config.done & bit == 0 {
             self.work.push(config)?;
         }
         Ok(())
@@ -228,19 +232,62 @@ impl<'a, A: Allocator + Clone + Drop> Ways<'a, A> {
         }
     }
 
+    // The bits of the calls that could as well take effect right before a step, which hides what they do.
+    fn hidden(&self, calls: &[Under], from: &Config, step: &Step) -> u64 {
+        let mut hidden = 0u64;
+        let Some(range) = step.hides else {
+            return hidden;
+        };
+        for call in calls {
+            if step.may & !step.done & call.bit != 0
+                && !call.may_lag
+                && range.first <= call.pages.first
+                && call.pages.end <= range.end
+                && self.arena.is_allowed(self.objects, &from.spot, call)
+            {
+                hidden |= call.bit;
+            }
+        }
+        hidden
+    }
+
+    // Notes that calls may have taken effect, first those that leave a page mapped if it is, since these may need one that is.
+    fn mark_hidden(
+        &mut self,
+        ending: Ending<'_>,
+        node: usize,
+        hidden: u64,
+        may_unmap: bool,
+    ) -> Result<usize, NoMemory> {
+        let mut trail = node;
+        for call in ending.under {
+            if hidden & call.bit != 0 && call.hides() == may_unmap {
+                let mark = Mark::Maybe(call.number);
+                trail = self.trail.add(trail, mark, call.count)?;
+            }
+        }
+        Ok(trail)
+    }
+
     // Adds the configuration to which a step leads from another one, if it is new.
     fn add(&mut self, ending: Ending<'_>, from: &Config, step: &Step) -> Result<bool, NoMemory> {
         let settled = self.settled(ending.under, &step.spot, step.done, step.may);
-        if !self.seen.is_new(print_of(&step.spot, settled))? {
+        let hidden = self.hidden(ending.under, from, step) & !settled;
+        let free = (from.free | hidden) & !settled;
+        if !self.seen.is_new(print_of(&step.spot, settled, free))? {
             return Ok(false);
         }
-        let trail = self.trail.add(from.trail, step.mark, step.count)?;
+        let hidden = hidden & !from.free;
+        let trail = self.mark_hidden(ending, from.trail, hidden, false)?;
+        let trail = self.mark_hidden(ending, trail, hidden, true)?;
+        let trail = self.trail.add(trail, step.mark, step.count)?;
         let trail = self.add_reply(from, step, trail)?;
         let trail = self.add_settled(ending.under, &step.spot, trail, step.done, settled)?;
         self.take_in(
             Config {
                 spot: step.spot,
                 done: settled,
+                free,
                 trail,
             },
             ending.bit,
@@ -279,6 +326,11 @@ impl<'a, A: Allocator + Clone + Drop> Ways<'a, A> {
             spot,
             done: from.done | under.bit,
             may: under.rivals,
+            hides: if under.hides() {
+                Some(under.pages)
+            } else {
+                None
+            },
         };
         if !self.add(ending, from, &step)? {
             self.arena.cut(ends);
@@ -314,6 +366,7 @@ impl<'a, A: Allocator + Clone + Drop> Ways<'a, A> {
             spot,
             done: from.done | under.bit,
             may: under.rivals,
+            hides: None,
         };
         if !self.add(ending, from, &step)? {
             self.arena.cut(ends);
@@ -386,6 +439,7 @@ impl<'a, A: Allocator + Clone + Drop> Ways<'a, A> {
             spot,
             done: from.done,
             may: under.rivals,
+            hides: None,
         };
         if !self.add(ending, from, &step)? {
             self.arena.cut(ends);
@@ -403,6 +457,7 @@ impl<'a, A: Allocator + Clone + Drop> Ways<'a, A> {
                 spot: from.spot,
                 done: from.done | under.bit,
                 may: 0,
+                hides: None,
             };
             let _is_new = self.add(ending, from, &step)?;
         }
@@ -426,6 +481,7 @@ impl<'a, A: Allocator + Clone + Drop> Ways<'a, A> {
             spot,
             done: from.done | under.bit,
             may: under.rivals,
+            hides: None,
         };
         if !self.add(ending, from, &step)? {
             self.arena.cut(ends);
@@ -454,7 +510,10 @@ impl<'a, A: Allocator + Clone + Drop> Ways<'a, A> {
         self.work.clear();
         self.reached.clear();
         for config in configs {
-            if self.seen.is_new(print_of(&config.spot, config.done))? {
+            if self
+                .seen
+                .is_new(print_of(&config.spot, config.done, config.free))?
+            {
                 self.take_in(*config, bit)?;
             }
         }
@@ -485,8 +544,53 @@ impl<'a, A: Allocator + Clone + Drop> Ways<'a, A> {
         if ends.keeps_old() {
             self.lag_behind(ending)?;
         }
+        self.prune(ending)?;
         swap(configs, &mut self.reached);
         Ok(Reach::Reached)
+    }
+
+    /// Leaves one of those out that are the same now.
+    pub fn unite(&mut self, configs: &mut Vec<Config, A>) -> Result<(), NoMemory> {
+        if configs.len() > 1 {
+            self.begin(configs.as_slice(), 0)?;
+            swap(configs, &mut self.work);
+        }
+        Ok(())
+    }
+
+    // Tells whether a configuration can do no more than another one that was reached: that one has the same map, and may still choose whether a call
+    // is lost, or when it took effect.
+    fn is_needless(&self, ending: Ending<'_>, config: &Config) -> bool {
+        for call in ending.under {
+            if call.bit == ending.bit || config.free & call.bit != 0 {
+                continue;
+            }
+            let (done, free) = (config.done & !call.bit, config.free | call.bit);
+            if self.seen.has(print_of(&config.spot, done, free)) {
+                return true;
+            }
+            let is_worse = call.is_unsure && config.done & call.bit != 0;
+            if is_worse && self.seen.has(print_of(&config.spot, done, config.free)) {
+                return true;
+            }
+        }
+        false
+    }
+
+    // Leaves out the configurations that were reached and can do no more than others.
+    fn prune(&mut self, ending: Ending<'_>) -> Result<(), NoMemory> {
+        if self.reached.len() <= 1 {
+            return Ok(());
+        }
+        self.work.clear();
+        for at in 0..self.reached.len() {
+            let config = self.reached[at];
+            if !self.is_needless(ending, &config) {
+                self.work.push(config)?;
+            }
+        }
+        swap(&mut self.reached, &mut self.work);
+        Ok(())
     }
 
     /// Leaves out what no configuration needs, where there is much of it.

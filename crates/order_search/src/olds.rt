@@ -112,7 +112,7 @@ impl<A: Allocator + Clone + Drop> Arena<A> {
         self.change(spot, Change::Clear { range })
     }
 
-    /// Tells whether an access has its reply with what a call has replaced. Only memory that isn't a file's is looked at.
+    /// Tells whether an access has its reply with what a call has replaced. A private page of a file isn't looked at.
     pub fn holds_late(
         &self,
         objects: &Objects<A>,
@@ -134,7 +134,8 @@ impl<A: Allocator + Clone + Drop> Arena<A> {
             Some(meta) if meta == UNMAPPED => access.reply == Reply::Segv(SegvCode::MapErr),
             Some(meta) => {
                 let touch = Touch { page: old, ..touch };
-                meta.back == Back::Anon && access_due(objects, runs, cells, touch) == access.reply
+                !matches!(meta.back, Back::Private { .. })
+                    && access_due(objects, runs, cells, touch) == access.reply
             }
         }
     }

@@ -225,6 +225,7 @@ impl<'a, A: Allocator + Clone + Drop> Search<'a, A> {
         }
         for at in 0..self.configs.len() {
             self.configs[at].done &= !bit;
+            self.configs[at].free &= !bit;
         }
     }
 
@@ -283,6 +284,7 @@ impl<'a, A: Allocator + Clone + Drop> Search<'a, A> {
         }
         self.forget(at, bit);
         self.ways.drop_olds(&mut self.configs, ends)?;
+        self.ways.unite(&mut self.configs)?;
         self.ways.shorten(alloc, &mut self.configs)?;
         Ok(Reach::Reached)
     }
@@ -308,7 +310,7 @@ impl<'a, A: Allocator + Clone + Drop> Search<'a, A> {
     fn lost(&self, alloc: &A, config: &Config) -> Result<Vec<Item, A>, NoMemory> {
         let mut items = Vec::new(alloc.clone()?);
         for under in self.under.as_slice() {
-            if config.done & under.bit == 0 {
+            if (config.done | config.free) & under.bit == 0 {
                 items.push(Item::Reply(under.number))?;
             }
         }
@@ -319,7 +321,7 @@ impl<'a, A: Allocator + Clone + Drop> Search<'a, A> {
     fn lost_cores(&self, config: &Config) -> CoreSet {
         let mut cores = CoreSet::empty();
         for under in self.under.as_slice() {
-            if config.done & under.bit == 0 {
+            if (config.done | config.free) & under.bit == 0 {
                 cores = cores.with(under.core);
             }
         }
@@ -339,16 +341,43 @@ impl<'a, A: Allocator + Clone + Drop> Search<'a, A> {
         let cores = self.lost_cores(&config);
         let lost = self.lost(alloc, &config)?;
         let marks = self.ways.into_order(alloc, &config)?;
+        let done = done_in(alloc, marks.as_slice())?;
         let mut order = Vec::with_capacity(alloc.clone()?, marks.len())?;
         for at in 0..marks.len() {
             let mark = marks[at];
-            order.push(mark.item())?;
+            if !is_needless(done.as_slice(), mark) {
+                order.push(mark.item())?;
+            }
             if let Mark::Late { access, behind } = mark {
                 lags.push(Lag { behind, access })?;
             }
         }
         order.extend_from_slice(lost.as_slice())?;
         Ok((order, cores))
+    }
+}
+
+// Which calls take effect where that is certain.
+fn done_in<A: Allocator + Clone + Drop>(
+    alloc: &A,
+    marks: &[Mark],
+) -> Result<Vec<bool, A>, NoMemory> {
+    let mut done = vec![in alloc.clone()?; false; marks.len()]?;
+    for at in 0..marks.len() {
+        if let Mark::Reply(call) = marks[at] {
+            if let Some(is_done) = done.get_mut(call as usize) {
+                *is_done = true;
+            }
+        }
+    }
+    Ok(done)
+}
+
+// Tells whether a mark says that a call may have taken effect that did elsewhere.
+fn is_needless(done: &[bool], mark: Mark) -> bool {
+    match mark {
+        Mark::Maybe(call) => matches!(done.get(call as usize), Some(true)),
+        _ => false,
     }
 }
 

@@ -15,6 +15,8 @@ pub(crate) enum Mark {
     Reply(u32),
     /// The copy of the page of this call, a store; or this call, which is lost.
     Copy(u32),
+    /// This call, if it doesn't take effect later.
+    Maybe(u32),
     /// This access, as before a call that hadn't ended.
     Late { access: u32, behind: u32 },
 }
@@ -23,7 +25,7 @@ impl Mark {
     /// The item of it.
     pub fn item(self) -> Item {
         match self {
-            Mark::Reply(call) => Item::Reply(call),
+            Mark::Reply(call) | Mark::Maybe(call) => Item::Reply(call),
             Mark::Copy(call) => Item::Copy(call),
             Mark::Late { access, .. } => Item::Reply(access),
         }
@@ -34,6 +36,7 @@ impl Mark {
         match self {
             Mark::Reply(call) => Mark::Reply(call.wrapping_add(by)),
             Mark::Copy(call) => Mark::Copy(call.wrapping_add(by)),
+            Mark::Maybe(call) => Mark::Maybe(call.wrapping_add(by)),
             Mark::Late { .. } => self,
         }
     }

@@ -115,6 +115,15 @@ impl Under {
         }
     }
 
+    /// Tells whether nothing shows of what its pages were before once it has taken effect.
+    pub fn hides(&self) -> bool {
+        self.changes
+            && matches!(
+                self.plan,
+                Ok(Plan::Change(Change::Put { .. } | Change::Clear { .. }))
+            )
+    }
+
     /// Tells whether accesses may go as before it: it changes pages.
     pub fn keeps_old(&self) -> bool {
         self.may_lag && self.changes && self.touch().is_none()
