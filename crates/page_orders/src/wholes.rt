@@ -10,7 +10,7 @@ use order_search::{Found, Lag, Wholes, find_whole};
 use orders::{Item, Timed};
 use std::alloc::Allocator;
 use vm_base::page::PAGE_SIZE;
-use vm_base::{NoMemory, Reply, Request};
+use vm_base::{NoMemory, Reply, Request, page_of};
 
 /// How often a search begins anew, with more calls divided into their parts.
 const TRIES: u32 = 24;
@@ -70,9 +70,10 @@ struct Around {
 }
 
 // Which calls are divided into their parts, by their places in the history; which parts may lag, or accesses as before
-// them; and where the last search was stuck.
+// them, of those of the page where a search is stuck alone or of all; and where the last search was stuck.
 #[derive(Drop)]
 struct Divided<A: Allocator> {
+    is_page: bool,
     calls: Vec<bool, A>,
     late: Vec<bool, A>,
     around: Vec<Around, A>,
@@ -128,6 +129,22 @@ fn has_others(parts: &[Part], at: usize) -> bool {
         || (at > 0 && of == call_of(parts, at.saturating_sub(1)))
 }
 
+// The page of a part.
+fn page_at(timed: &Timed) -> u64 {
+    match (timed.call.request, timed.call.reply) {
+        (Request::Mmap { .. }, Reply::Mapped(at)) => page_of(at),
+        (
+            Request::Mmap { addr, .. }
+            | Request::Munmap { addr, .. }
+            | Request::Mprotect { addr, .. }
+            | Request::Load { addr }
+            | Request::Store { addr, .. }
+            | Request::Fetch { addr },
+            _,
+        ) => page_of(addr),
+    }
+}
+
 // Tells whether a call is under way at some of these times, which ascend and have none in common.
 fn is_at(times: &[(u64, u64)], timed: &Timed) -> bool {
     let mut low = 0usize;
@@ -150,12 +167,13 @@ fn is_at(times: &[(u64, u64)], timed: &Timed) -> bool {
 
 impl<A: Allocator + Clone + Drop> Divided<A> {
     // None is divided.
-    fn new(alloc: &A, parts: &[Part]) -> Result<Divided<A>, NoMemory> {
+    fn new(alloc: &A, parts: &[Part], is_page: bool) -> Result<Divided<A>, NoMemory> {
         let count = match parts.last() {
             Some(part) => part.of.saturating_add(1),
             None => 0,
         };
         Ok(Divided {
+            is_page,
             calls: vec![in alloc.clone()?; false; count]?,
             late: vec![in alloc.clone()?; false; parts.len()]?,
             around: Vec::new(alloc.clone()?),
@@ -229,11 +247,31 @@ impl<A: Allocator + Clone + Drop> Divided<A> {
         Ok(joined)
     }
 
+    // Tells whether a part may lag that is under way at some of the times around those where a search was stuck.
+    fn is_near(&self, parts: &[Part], timed: &Timed) -> bool {
+        if !self.is_page {
+            return true;
+        }
+        for around in self.around.as_slice() {
+            let width = WIDTHS[around.times.min(WIDTHS.len() - 1)];
+            if let Some(part) = parts.get(around.part) {
+                let least = part.timed.begin.saturating_sub(width.late);
+                if least <= timed.end
+                    && timed.begin <= part.timed.end
+                    && page_at(timed) == page_at(&part.timed)
+                {
+                    return true;
+                }
+            }
+        }
+        false
+    }
+
     // Lets the parts lag that are under way at some of these times, and tells whether one of them didn't.
     fn let_lag_at(&mut self, parts: &[Part], times: &[(u64, u64)]) -> bool {
         let mut is_new = false;
         for at in 0..parts.len() {
-            if is_at(times, &parts[at].timed) {
+            if is_at(times, &parts[at].timed) && self.is_near(parts, &parts[at].timed) {
                 if let Some(is_late) = self.late.get_mut(at) {
                     is_new = is_new || !*is_late;
                     *is_late = true;
@@ -241,6 +279,16 @@ impl<A: Allocator + Clone + Drop> Divided<A> {
             }
         }
         is_new
+    }
+
+    // Tells whether one of so many parts from one on may lag.
+    fn is_late(&self, first: usize, count: usize) -> bool {
+        for at in first..first.saturating_add(count) {
+            if matches!(self.late.get(at), Some(true)) {
+                return true;
+            }
+        }
+        false
     }
 
     // Divides the calls that are under way at some of these times, and tells whether one of them wasn't.
@@ -317,7 +365,7 @@ fn wholes_of<A: Allocator + Clone + Drop>(
             calls.push(whole_of(&parts[at], count))?;
             firsts.push(at)?;
             unsure.push(count == 1 && !parts[at].is_sure)?;
-            late.push(matches!(divided.late.get(at), Some(true)))?;
+            late.push(divided.is_late(at, count))?;
             next = at.saturating_add(count);
         }
     }
@@ -330,22 +378,21 @@ fn wholes_of<A: Allocator + Clone + Drop>(
     })
 }
 
-/// Searches an order in which the pages of each call change at one moment, if some call has several parts or accesses
-/// may lag, and divides the calls around the places where none is found. Where that isn't enough accesses may lag, if
-/// that is wanted; `lags` tells which do, and `stuck` at which parts it was stuck last. The items that it answers have
-/// each part once; whether they are an order is the caller's to judge. `Err` says that memory was wanting.
-pub fn search_whole<A: Allocator + Clone + Drop>(
+// Searches an order in which the pages of each call change at one moment, and divides calls around the places where it is
+// stuck; near these accesses may lag, if that is wanted, at the page of the place alone, or at all.
+fn search_near<A: Allocator + Clone + Drop>(
     alloc: &A,
     objects: &Objects<A>,
     any_place: bool,
     parts: &[Part],
     may_lag: bool,
+    is_page: bool,
     lags: &mut Vec<Lag, A>,
     stuck: &mut Vec<usize, A>,
 ) -> Result<Option<Vec<Item, A>>, NoMemory>
     ensures { IfOk result (λ found. IfSome found (λ items. EachOnce (length parts.now) items.items)) }
 {
-    let mut divided = Divided::new(alloc, parts)?;
+    let mut divided = Divided::new(alloc, parts, is_page)?;
     let mut now = Vec::new(alloc.clone()?);
     stuck.clear();
     'tries: for _ in 0..TRIES {
@@ -367,4 +414,28 @@ pub fn search_whole<A: Allocator + Clone + Drop>(
         }
     }
     Ok(None)
+}
+
+/// Searches an order in which the pages of each call change at one moment, if some call has several parts or accesses
+/// may lag, and divides the calls around the places where none is found. Where that isn't enough accesses may lag, if
+/// that is wanted; `lags` tells which do, and `stuck` at which parts it was stuck last. The items that it answers have
+/// each part once; whether they are an order is the caller's to judge. `Err` says that memory was wanting.
+pub fn search_whole<A: Allocator + Clone + Drop>(
+    alloc: &A,
+    objects: &Objects<A>,
+    any_place: bool,
+    parts: &[Part],
+    may_lag: bool,
+    lags: &mut Vec<Lag, A>,
+    stuck: &mut Vec<usize, A>,
+) -> Result<Option<Vec<Item, A>>, NoMemory>
+    ensures { IfOk result (λ found. IfSome found (λ items. EachOnce (length parts.now) items.items)) }
+{
+    let found = search_near(
+        alloc, objects, any_place, parts, may_lag, false, lags, stuck,
+    )?;
+    if found.is_some() || !may_lag {
+        return Ok(found);
+    }
+    search_near(alloc, objects, any_place, parts, may_lag, true, lags, stuck)
 }
