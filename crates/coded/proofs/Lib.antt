@@ -1,5 +1,6 @@
-pub mod Codings
-pub mod Openings
+pub mod Accesses
 pub mod Batching
+pub mod Codings
 pub mod Holdings
 pub mod Listing
+pub mod Openings
