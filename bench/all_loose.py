@@ -2,7 +2,7 @@
 """Compares `radixvm audit --overlapping --loose` with a search of all orders by the loose rule, on short random histories of calls that overlap. Half of
 them have such an order, by a simulator in which accesses now and then go as before a call that hasn't ended; in the others one reply was changed. The
 program must never call a history legal that has no such order. Where it has one and is told undecided, that is counted, apart for histories that
-map a file: there an access isn't looked at as before a call.
+map a file: there a store to a private page isn't looked at as before a call.
 Usage: bench/all_loose.py [HISTORIES [SEED]], 400 and 0 where left out; RADIXVM_PROGRAM names the program."""
 import random
 import subprocess
