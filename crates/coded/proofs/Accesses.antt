@@ -15,7 +15,7 @@ item_of_code : (r : RawEvent) (code core : ℕ) (i : Item) → r.kind ≡ code �
     → item_of r ≡ Some i
 item_of_code r code core i k c e =
     subst (λ (n : ℕ). (if nat_lt n 64 then item_with r (kind_of n) (core_of r.core) else step_from (event_with r (kind_of (n - 64)) (core_of r.core))) ≡ Some i) (sym k)
-        (subst (λ (o : Option ℕ). (if nat_lt code 64 then item_with r (kind_of code) o else step_from (event_with r (kind_of (code - 64)) o)) ≡ Some i) (sym c) e)
+    (subst (λ (o : Option ℕ). (if nat_lt code 64 then item_with r (kind_of code) o else step_from (event_with r (kind_of (code - 64)) o)) ≡ Some i) (sym c) e)
 
 pub load_item : (r : RawEvent) (core : ℕ) → r.kind ≡ 4 → core_of r.core ≡ Some core → item_of r ≡ Some (To.Call core (Asks.Load r.at))
 load_item r core k c = item_of_code r 4 core _ k c refl
