@@ -2,7 +2,6 @@
 //! an access may still go as before it.
 #![tactic(auto)]
 
-mod grouping;
 pub mod judging;
 mod laying;
 mod searching;

@@ -1,10 +1,10 @@
 //! The maps of all configurations, each as two parts of long lists: its runs, and its bytes. A map is never changed; a new one is appended.
 
-use crate::configs::Config;
+use crate::groups::Group;
 use crate::pages::{
     Cell, add_copy, drop_pages, file_key, first_byte, is_copied, own_key, put_byte, shown_byte,
 };
-use crate::runs::{Run, all_mapped, change_runs, first_hole, least_room, meta_at, none_mapped};
+use crate::runs::{Run, all_mapped, change_runs, least_room, meta_at, none_mapped};
 use crate::under::Under;
 use backing::Objects;
 use slot_lock::{Change, Place, Plan, Touch};
@@ -45,12 +45,19 @@ pub(crate) struct Spot {
     pub cells_print: u64,
 }
 
+impl Spot {
+    /// Tells whether two maps are the same, but by chance.
+    pub fn is_like(&self, other: &Spot) -> bool {
+        self.runs_print == other.runs_print && self.cells_print == other.cells_print
+    }
+}
+
 /// All maps.
 #[derive(Drop)]
 pub(crate) struct Arena<A: Allocator> {
     pub runs: Vec<Run, A>,
     pub cells: Vec<Cell, A>,
-    new_runs: Vec<Run, A>,
+    pub new_runs: Vec<Run, A>,
     pub new_cells: Vec<Cell, A>,
     /// Whether it is kept what calls replace now.
     pub keeps_old: bool,
@@ -267,6 +274,17 @@ impl<A: Allocator + Clone + Drop> Arena<A> {
         self.runs.len() > self.most || self.cells.len() > self.most
     }
 
+    /// Tells whether a change, but of a mapping that is placed, has its reply in a map.
+    pub fn is_allowed(&self, objects: &Objects<A>, spot: &Spot, under: &Under) -> bool {
+        let runs = runs_in(self.runs.as_slice(), spot.runs);
+        match under.plan {
+            Ok(Plan::Change(change)) => {
+                is_reply_to(change, under.reply) && refusal(objects, runs, change).is_none()
+            }
+            _ => false,
+        }
+    }
+
     /// Tells whether a call, which changes nothing, has its reply in a map.
     pub fn holds(&self, objects: &Objects<A>, any_place: bool, spot: &Spot, under: &Under) -> bool {
         let runs = runs_in(self.runs.as_slice(), spot.runs);
@@ -289,8 +307,8 @@ impl<A: Allocator + Clone + Drop> Arena<A> {
         }
     }
 
-    // Appends the new runs.
-    fn keep_runs(&mut self, spot: &mut Spot) -> Result<(), NoMemory> {
+    /// Appends the new runs.
+    pub fn keep_runs(&mut self, spot: &mut Spot) -> Result<(), NoMemory> {
         let first = self.runs.len();
         self.runs.extend_from_slice(self.new_runs.as_slice())?;
         spot.runs = Span {
@@ -415,28 +433,6 @@ impl<A: Allocator + Clone + Drop> Arena<A> {
         }
     }
 
-    /// The map after the pages of a range were protected in front of the first that isn't mapped, and how many these are, if some are and
-    /// there is one.
-    pub fn protect_front(
-        &mut self,
-        spot: &Spot,
-        range: PageRange,
-        prot: Prot,
-    ) -> Result<Option<(Spot, u32)>, NoMemory> {
-        let runs = runs_in(self.runs.as_slice(), spot.runs);
-        let hole = first_hole(runs, range);
-        if hole <= range.first || hole >= range.end {
-            return Ok(None);
-        }
-        let front = PageRange {
-            first: range.first,
-            end: hole,
-        };
-        let count = (hole.wrapping_sub(range.first) & 0xffff_ffff) as u32;
-        let new = self.change(spot, Change::Protect { range: front, prot })?;
-        Ok(Some((new, count)))
-    }
-
     /// The map after a page's copy, if one is due.
     pub fn copy(
         &mut self,
@@ -465,37 +461,62 @@ impl<A: Allocator + Clone + Drop> Arena<A> {
     }
 
     /// Leaves out what no configuration needs, and tells these where their maps are.
-    pub fn shorten(&mut self, alloc: &A, configs: &mut [Config]) -> Result<(), NoMemory> {
-        let mut runs = Vec::new(alloc.clone()?);
-        let mut cells = Vec::new(alloc.clone()?);
-        let mut old = self.empty();
-        let mut new = self.empty();
-        for at in 0..configs.len() {
-            let spot = configs[at].spot;
-            if spot.runs != old.runs {
-                let first = runs.len();
-                runs.extend_from_slice(runs_in(self.runs.as_slice(), spot.runs))?;
-                new.runs = Span {
-                    first,
-                    end: runs.len(),
-                };
+    pub fn shorten(&mut self, alloc: &A, groups: &mut [Group<A>]) -> Result<(), NoMemory> {
+        let mut kept = Kept {
+            runs: Vec::new(alloc.clone()?),
+            cells: Vec::new(alloc.clone()?),
+            old: self.empty(),
+            new: self.empty(),
+        };
+        for group in 0..groups.len() {
+            for at in 0..groups[group].configs.len() {
+                let spot = groups[group].configs[at].spot;
+                groups[group].configs[at].spot = kept.take(self, &spot)?;
             }
-            if spot.cells != old.cells {
-                let first = cells.len();
-                cells.extend_from_slice(cells_in(self.cells.as_slice(), spot.cells))?;
-                new.cells = Span {
-                    first,
-                    end: cells.len(),
-                };
-            }
-            old = spot;
-            configs[at].spot.runs = new.runs;
-            configs[at].spot.cells = new.cells;
         }
-        let most = runs.len().max(cells.len());
+        let most = kept.runs.len().max(kept.cells.len());
         self.most = most.saturating_mul(2).saturating_add(FEW);
-        self.runs = runs;
-        self.cells = cells;
+        self.runs = kept.runs;
+        self.cells = kept.cells;
         Ok(())
+    }
+}
+
+// What is kept of the lists, and where the map that was taken last was and is.
+#[derive(Drop)]
+struct Kept<A: Allocator> {
+    runs: Vec<Run, A>,
+    cells: Vec<Cell, A>,
+    old: Spot,
+    new: Spot,
+}
+
+impl<A: Allocator + Clone + Drop> Kept<A> {
+    // Takes a map over, and answers where it is.
+    fn take(&mut self, arena: &Arena<A>, spot: &Spot) -> Result<Spot, NoMemory> {
+        if spot.runs != self.old.runs {
+            let first = self.runs.len();
+            self.runs
+                .extend_from_slice(runs_in(arena.runs.as_slice(), spot.runs))?;
+            self.new.runs = Span {
+                first,
+                end: self.runs.len(),
+            };
+        }
+        if spot.cells != self.old.cells {
+            let first = self.cells.len();
+            self.cells
+                .extend_from_slice(cells_in(arena.cells.as_slice(), spot.cells))?;
+            self.new.cells = Span {
+                first,
+                end: self.cells.len(),
+            };
+        }
+        self.old = *spot;
+        Ok(Spot {
+            runs: self.new.runs,
+            cells: self.new.cells,
+            ..*spot
+        })
     }
 }

@@ -9,6 +9,10 @@ pub(crate) struct Config {
     pub spot: Spot,
     /// The bits of the calls under way that have taken effect.
     pub done: u64,
-    /// The node of the last item that took effect.
-    pub trail: usize,
+    /// The bits of those that may have taken effect, unseen behind a change of all their pages; or take effect yet.
+    pub free: u64,
+    /// Where the tips of its chains begin: one for each of the group's pages.
+    pub tips: usize,
+    /// How many steps led here in the round that goes on.
+    pub depth: u64,
 }

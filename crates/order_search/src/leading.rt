@@ -2,8 +2,10 @@
 
 use crate::arena::{Arena, Spot, mixed};
 use crate::configs::Config;
+use crate::groups::{Group, position};
+use crate::pages::is_among;
 use crate::seen::Seen;
-use crate::trail::{Mark, Trail};
+use crate::trail::{Mark, Moment, Trail};
 use crate::under::Under;
 use backing::Objects;
 use std::alloc::Allocator;
@@ -21,20 +23,18 @@ pub(crate) enum Reach {
     Full,
 }
 
-/// The calls under way, and the bit of the one that ends.
+/// The pages of a group and the calls under way there, and the bit of the one that ends.
 #[derive(Clone, Copy, Debug)]
 pub(crate) struct Ending<'u> {
+    pub owners: &'u [u64],
     pub under: &'u [Under],
     pub bit: u64,
 }
 
-// One item more, of so many parts of a call, the others of which are lost: the map behind it, the cores whose calls have taken effect
-// there, and those whose calls it may let take effect.
+// One item more: the map behind it, the calls that have taken effect there, and those that it may let take effect.
 #[derive(Clone, Copy, Debug, PartialEq, Eq)]
 struct Step {
     mark: Mark,
-    count: u32,
-    lost: u32,
     spot: Spot,
     done: u64,
     may: u64,
@@ -46,7 +46,9 @@ pub(crate) struct Ways<'a, A: Allocator> {
     objects: &'a Objects<A>,
     any_place: bool,
     arena: Arena<A>,
-    trail: Trail<A>,
+    pub trail: Trail<A>,
+    // The number of the round that goes on.
+    round: u64,
     seen: Seen<A>,
     work: Vec<Config, A>,
     reached: Vec<Config, A>,
@@ -73,9 +75,17 @@ impl Ending<'_> {
     }
 }
 
-// A number for a map and the calls that have taken effect.
-fn print_of(spot: &Spot, done: u64) -> u64 {
-    mixed(mixed(spot.runs_print, spot.cells_print), done)
+// How an access takes effect as before a call that hasn't ended.
+fn late(access: &Under, behind: &Under) -> Mark {
+    Mark::Late {
+        access: access.number,
+        behind: behind.number,
+    }
+}
+
+// A number for a map, the calls that have taken effect, and those that may have.
+fn print_of(spot: &Spot, done: u64, free: u64) -> u64 {
+    mixed(mixed(mixed(spot.runs_print, spot.cells_print), done), free)
 }
 
 impl<'a, A: Allocator + Clone + Drop> Ways<'a, A> {
@@ -91,19 +101,41 @@ impl<'a, A: Allocator + Clone + Drop> Ways<'a, A> {
             any_place,
             arena: Arena::new(alloc)?,
             trail: Trail::new(alloc, calls)?,
+            round: 0,
             seen: Seen::new(alloc)?,
             work: Vec::new(alloc.clone()?),
             reached: Vec::new(alloc.clone()?),
         })
     }
 
-    /// The first configuration: nothing is mapped, and no call has taken effect.
-    pub fn first(&self) -> Config {
-        Config {
-            spot: self.arena.empty(),
-            done: 0,
-            trail: 0,
-        }
+    /// The map in which nothing is mapped.
+    pub fn first(&self) -> Spot {
+        self.arena.empty()
+    }
+
+    /// A round begins: what takes effect in it does so behind all of those before.
+    pub fn begin_round(&mut self) {
+        self.round = self.round.wrapping_add(1);
+    }
+
+    // A call takes effect in a configuration, as one step more of its round.
+    fn mark(
+        &mut self,
+        owners: &[u64],
+        config: &mut Config,
+        under: &Under,
+        mark: Mark,
+    ) -> Result<(), NoMemory> {
+        config.depth = config.depth.wrapping_add(1);
+        let moment = Moment {
+            round: self.round,
+            step: config.depth,
+        };
+        let place = position(owners, under.home);
+        config.tips = self
+            .trail
+            .add(config.tips, owners.len(), place, mark, moment)?;
+        Ok(())
     }
 
     // Tells whether a call, which changes nothing, has its reply in a map.
@@ -111,12 +143,11 @@ impl<'a, A: Allocator + Clone + Drop> Ways<'a, A> {
         self.arena.holds(self.objects, self.any_place, spot, under)
     }
 
-    // The part, of a call that has taken effect and hasn't ended, before which an access may go, if it has its reply there.
-    fn behind(&self, calls: &[Under], spot: &Spot, done: u64, under: &Under) -> Option<u32> {
-        let page = under.touch()?.page;
+    // How an access takes effect as before a call that has and hasn't ended, if it has its reply there.
+    fn behind(&self, calls: &[Under], spot: &Spot, done: u64, under: &Under) -> Option<Mark> {
         for other in calls {
             if done & other.bit != 0 && self.arena.holds_late(self.objects, spot, under, other) {
-                return Some(other.part(page));
+                return Some(late(under, other));
             }
         }
         None
@@ -125,19 +156,18 @@ impl<'a, A: Allocator + Clone + Drop> Ways<'a, A> {
     // How a call, which changes nothing, takes effect in a map, if it can.
     fn mark_of(&self, calls: &[Under], spot: &Spot, done: u64, under: &Under) -> Option<Mark> {
         if self.holds(spot, under) {
-            return Some(Mark::Reply(under.number));
+            return Some(under.mark());
         }
         if !under.may_lag {
             return None;
         }
-        let behind = self.behind(calls, spot, done, under)?;
-        let access = under.number;
-        Some(Mark::Late { access, behind })
+        self.behind(calls, spot, done, under)
     }
 
     /// Lets a call take effect in the configurations in which it has its reply and changes nothing.
     pub fn settle(
         &mut self,
+        owners: &[u64],
         calls: &[Under],
         configs: &mut [Config],
         under: &Under,
@@ -145,22 +175,11 @@ impl<'a, A: Allocator + Clone + Drop> Ways<'a, A> {
         for at in 0..configs.len() {
             let config = configs[at];
             if let Some(mark) = self.mark_of(calls, &config.spot, config.done, under) {
-                let trail = self.trail.add(config.trail, mark, under.count)?;
-                configs[at].done = config.done | under.bit;
-                configs[at].trail = trail;
+                let mut new = Config { depth: 0, ..config };
+                self.mark(owners, &mut new, under, mark)?;
+                new.done |= under.bit;
+                configs[at] = new;
             }
-        }
-        Ok(())
-    }
-
-    /// Lets a call take effect in all configurations, as though it changed nothing.
-    pub fn pass_over(&mut self, configs: &mut [Config], under: &Under) -> Result<(), NoMemory> {
-        for at in 0..configs.len() {
-            let config = configs[at];
-            let mark = Mark::Reply(under.number);
-            let trail = self.trail.add(config.trail, mark, under.count)?;
-            configs[at].done = config.done | under.bit;
-            configs[at].trail = trail;
         }
         Ok(())
     }
@@ -179,72 +198,106 @@ impl<'a, A: Allocator + Clone + Drop> Ways<'a, A> {
         settled
     }
 
-    // The way on from a node by the calls that take effect between one set of them and another.
+    // Lets the calls take effect in a configuration that do between one set of them and another.
     fn add_settled(
         &mut self,
-        calls: &[Under],
-        spot: &Spot,
-        node: usize,
+        ending: Ending<'_>,
+        config: &mut Config,
         done: u64,
-        settled: u64,
-    ) -> Result<usize, NoMemory> {
-        let mut trail = node;
-        if settled == done {
-            return Ok(trail);
+    ) -> Result<(), NoMemory> {
+        if config.done == done {
+            return Ok(());
         }
-        for under in calls {
-            if settled & under.bit != 0 && done & under.bit == 0 {
+        for under in ending.under {
+            if config.done & !done & under.bit != 0 {
                 let mark = self
-                    .mark_of(calls, spot, done, under)
-                    .unwrap_or(Mark::Reply(under.number));
-                trail = self.trail.add(trail, mark, under.count)?;
+                    .mark_of(ending.under, &config.spot, done, under)
+                    .unwrap_or(under.mark());
+                self.mark(ending.owners, config, under, mark)?;
             }
         }
-        Ok(trail)
+        Ok(())
     }
 
     // Takes a configuration in: one in which the call that ends has taken effect, or one to go on from.
     fn take_in(&mut self, config: Config, bit: u64) -> Result<(), NoMemory> {
-        if config.done & bit != 0 {
+        if (config.done | config.free) & bit != 0 {
             self.reached.push(config)?;
-        } else {
+        }
+        if config.done & bit == 0 {
             self.work.push(config)?;
         }
         Ok(())
     }
 
-    // The way on from a node by the reply of a call that was lost, or by parts that were: their copies are no steps of their own.
-    fn add_reply(&mut self, from: &Config, step: &Step, node: usize) -> Result<usize, NoMemory> {
-        match step.mark {
-            Mark::Copy(number) if step.done != from.done => {
-                self.trail.add(node, Mark::Reply(number), step.count)
-            }
-            Mark::Reply(number) if step.lost > 0 => {
-                let next = number.wrapping_add(step.count);
-                let node = self.trail.add(node, Mark::Copy(next), step.lost)?;
-                self.trail.add(node, Mark::Reply(next), step.lost)
-            }
-            _ => Ok(node),
+    // The bits of the calls that could as well take effect right before a step of a call, which hides what they do.
+    fn hidden(&self, calls: &[Under], from: &Config, under: &Under, step: &Step) -> u64 {
+        let mut hidden = 0u64;
+        if step.done == from.done || !under.hides() || matches!(step.mark, Mark::Copy(_)) {
+            return hidden;
         }
+        for call in calls {
+            if under.rivals & !from.done & call.bit != 0
+                && !call.may_lag
+                && under.pages.first <= call.pages.first
+                && call.pages.end <= under.pages.end
+                && self.arena.is_allowed(self.objects, &from.spot, call)
+            {
+                hidden |= call.bit;
+            }
+        }
+        hidden
     }
 
-    // Adds the configuration to which a step leads from another one, if it is new.
-    fn add(&mut self, ending: Ending<'_>, from: &Config, step: &Step) -> Result<bool, NoMemory> {
+    // Notes that calls may have taken effect, first those that leave a page mapped if it is, since these may need one that is.
+    fn mark_hidden(
+        &mut self,
+        ending: Ending<'_>,
+        config: &mut Config,
+        hidden: u64,
+        may_unmap: bool,
+    ) -> Result<(), NoMemory> {
+        for call in ending.under {
+            if hidden & call.bit != 0 && call.hides() == may_unmap {
+                self.mark(ending.owners, config, call, Mark::Maybe(call.number))?;
+            }
+        }
+        Ok(())
+    }
+
+    // Adds the configuration to which a step of a call leads from another one, if it is new.
+    fn add(
+        &mut self,
+        ending: Ending<'_>,
+        from: &Config,
+        under: &Under,
+        step: &Step,
+    ) -> Result<bool, NoMemory> {
         let settled = self.settled(ending.under, &step.spot, step.done, step.may);
-        if !self.seen.is_new(print_of(&step.spot, settled))? {
+        let hidden = self.hidden(ending.under, from, under, step) & !settled;
+        let free = (from.free | hidden) & !settled;
+        if !self.seen.is_new(print_of(&step.spot, settled, free))? {
             return Ok(false);
         }
-        let trail = self.trail.add(from.trail, step.mark, step.count)?;
-        let trail = self.add_reply(from, step, trail)?;
-        let trail = self.add_settled(ending.under, &step.spot, trail, step.done, settled)?;
-        self.take_in(
-            Config {
-                spot: step.spot,
-                done: settled,
-                trail,
-            },
-            ending.bit,
-        )?;
+        let owners = ending.owners;
+        let mut new = Config {
+            spot: step.spot,
+            done: settled,
+            free,
+            ..*from
+        };
+        let hidden = hidden & !from.free;
+        self.mark_hidden(ending, &mut new, hidden, false)?;
+        self.mark_hidden(ending, &mut new, hidden, true)?;
+        self.mark(owners, &mut new, under, step.mark)?;
+        if let Mark::Copy(number) = step.mark {
+            if step.done != from.done {
+                // a loss is no step of its own
+                self.mark(owners, &mut new, under, Mark::Reply(number))?;
+            }
+        }
+        self.add_settled(ending, &mut new, step.done)?;
+        self.take_in(new, ending.bit)?;
         Ok(true)
     }
 
@@ -267,20 +320,13 @@ impl<'a, A: Allocator + Clone + Drop> Ways<'a, A> {
         let Some(spot) = self.replied(from, under)? else {
             return Ok(());
         };
-        let is_refused = under.count > 1 && !under.changes;
         let step = Step {
-            mark: Mark::Reply(under.number),
-            count: if is_refused { 1 } else { under.count },
-            lost: if is_refused {
-                under.count.saturating_sub(1)
-            } else {
-                0
-            },
+            mark: under.mark(),
             spot,
             done: from.done | under.bit,
             may: under.rivals,
         };
-        if !self.add(ending, from, &step)? {
+        if !self.add(ending, from, under, &step)? {
             self.arena.cut(ends);
         }
         Ok(())
@@ -294,9 +340,6 @@ impl<'a, A: Allocator + Clone + Drop> Ways<'a, A> {
         under: &Under,
         behind: &Under,
     ) -> Result<(), NoMemory> {
-        let Some(touch) = under.touch() else {
-            return Ok(());
-        };
         let ends = self.arena.ends();
         let Some(spot) = self
             .arena
@@ -305,17 +348,12 @@ impl<'a, A: Allocator + Clone + Drop> Ways<'a, A> {
             return Ok(());
         };
         let step = Step {
-            mark: Mark::Late {
-                access: under.number,
-                behind: behind.part(touch.page),
-            },
-            count: 1,
-            lost: 0,
+            mark: late(under, behind),
             spot,
             done: from.done | under.bit,
             may: under.rivals,
         };
-        if !self.add(ending, from, &step)? {
+        if !self.add(ending, from, under, &step)? {
             self.arena.cut(ends);
         }
         Ok(())
@@ -381,13 +419,11 @@ impl<'a, A: Allocator + Clone + Drop> Ways<'a, A> {
         };
         let step = Step {
             mark: Mark::Copy(under.number),
-            count: 1,
-            lost: 0,
             spot,
             done: from.done,
             may: under.rivals,
         };
-        if !self.add(ending, from, &step)? {
+        if !self.add(ending, from, under, &step)? {
             self.arena.cut(ends);
         }
         Ok(())
@@ -398,37 +434,11 @@ impl<'a, A: Allocator + Clone + Drop> Ways<'a, A> {
         if under.is_unsure {
             let step = Step {
                 mark: Mark::Copy(under.number),
-                count: 1,
-                lost: 0,
                 spot: from.spot,
                 done: from.done | under.bit,
                 may: 0,
             };
-            let _is_new = self.add(ending, from, &step)?;
-        }
-        Ok(())
-    }
-
-    // Adds what a refusal under way leads to from a configuration, if it changed the pages in front of the one that isn't mapped.
-    fn refuse(&mut self, ending: Ending<'_>, from: &Config, under: &Under) -> Result<(), NoMemory> {
-        let Some((range, prot)) = under.refused_range() else {
-            return Ok(());
-        };
-        let ends = self.arena.ends();
-        let Some((spot, pages)) = self.arena.protect_front(&from.spot, range, prot)? else {
-            return Ok(());
-        };
-        let count = 1u32.saturating_add(pages).min(under.count);
-        let step = Step {
-            mark: Mark::Reply(under.number),
-            count,
-            lost: under.count.saturating_sub(count),
-            spot,
-            done: from.done | under.bit,
-            may: under.rivals,
-        };
-        if !self.add(ending, from, &step)? {
-            self.arena.cut(ends);
+            let _is_new = self.add(ending, from, under, &step)?;
         }
         Ok(())
     }
@@ -442,7 +452,6 @@ impl<'a, A: Allocator + Clone + Drop> Ways<'a, A> {
                 self.lag_all(ending, from, under)?;
                 self.copy(ending, from, under)?;
                 self.lose(ending, from, under)?;
-                self.refuse(ending, from, under)?;
             }
         }
         Ok(())
@@ -454,8 +463,17 @@ impl<'a, A: Allocator + Clone + Drop> Ways<'a, A> {
         self.work.clear();
         self.reached.clear();
         for config in configs {
-            if self.seen.is_new(print_of(&config.spot, config.done))? {
-                self.take_in(*config, bit)?;
+            if self
+                .seen
+                .is_new(print_of(&config.spot, config.done, config.free))?
+            {
+                self.take_in(
+                    Config {
+                        depth: 0,
+                        ..*config
+                    },
+                    bit,
+                )?;
             }
         }
         Ok(())
@@ -485,23 +503,135 @@ impl<'a, A: Allocator + Clone + Drop> Ways<'a, A> {
         if ends.keeps_old() {
             self.lag_behind(ending)?;
         }
+        self.prune(ending)?;
         swap(configs, &mut self.reached);
         Ok(Reach::Reached)
     }
 
     /// Leaves out what no configuration needs, where there is much of it.
-    pub fn shorten(&mut self, alloc: &A, configs: &mut [Config]) -> Result<(), NoMemory> {
+    pub fn shorten(&mut self, alloc: &A, groups: &mut [Group<A>]) -> Result<(), NoMemory> {
         if self.trail.is_long() {
-            self.trail.shorten(alloc, configs)?;
+            self.trail.shorten(alloc, groups)?;
         }
         if self.arena.is_long() {
-            self.arena.shorten(alloc, configs)?;
+            self.arena.shorten(alloc, groups)?;
         }
         Ok(())
     }
 
-    /// The order of a configuration, which is the only one left.
-    pub fn into_order(self, alloc: &A, config: &Config) -> Result<Vec<Mark, A>, NoMemory> {
-        self.trail.into_order(alloc, config)
+    /// Leaves one of those out that are the same now.
+    pub fn unite(&mut self, configs: &mut Vec<Config, A>) -> Result<(), NoMemory> {
+        if configs.len() > 1 {
+            self.begin(configs.as_slice(), 0)?;
+            swap(configs, &mut self.work);
+        }
+        Ok(())
+    }
+
+    // Tells whether a configuration can do no more than another one that was reached: that one has the same map, and has the choice whether a call
+    // is lost still before it; or has taken a look more.
+    fn is_needless(&self, ending: Ending<'_>, config: &Config) -> bool {
+        for call in ending.under {
+            if call.bit == ending.bit || config.free & call.bit != 0 {
+                continue;
+            }
+            let is_done = config.done & call.bit != 0;
+            let is_worse = call.is_unsure && is_done || call.is_look && !is_done;
+            let other = config.done ^ call.bit;
+            if is_worse && self.seen.has(print_of(&config.spot, other, config.free)) {
+                return true;
+            }
+            let (done, free) = (config.done & !call.bit, config.free | call.bit);
+            if self.seen.has(print_of(&config.spot, done, free)) {
+                return true;
+            }
+        }
+        false
+    }
+
+    // Leaves out the configurations that were reached and can do no more than others.
+    fn prune(&mut self, ending: Ending<'_>) -> Result<(), NoMemory> {
+        if self.reached.len() <= 1 {
+            return Ok(());
+        }
+        self.work.clear();
+        for at in 0..self.reached.len() {
+            let config = self.reached[at];
+            if !self.is_needless(ending, &config) {
+                self.work.push(config)?;
+            }
+        }
+        swap(&mut self.reached, &mut self.work);
+        Ok(())
+    }
+
+    /// The configurations that are one of the first group and one of the other at once. `false` says that there are too many.
+    pub fn join(
+        &mut self,
+        alloc: &A,
+        one: &mut Group<A>,
+        other: &Group<A>,
+    ) -> Result<bool, NoMemory> {
+        if one.configs.len().saturating_mul(other.configs.len()) > LIMIT {
+            return Ok(false);
+        }
+        let mut both = Vec::with_capacity(alloc.clone()?, one.configs.len())?;
+        for config in one.configs.as_slice() {
+            for more in other.configs.as_slice() {
+                let here = (config.tips, one.owners.as_slice());
+                let there = (more.tips, other.owners.as_slice());
+                both.push(Config {
+                    spot: self.arena.join(&config.spot, &more.spot)?,
+                    done: config.done | more.done,
+                    free: config.free | more.free,
+                    tips: self.trail.join(here, there)?,
+                    depth: 0,
+                })?;
+            }
+        }
+        one.configs = both;
+        Ok(true)
+    }
+
+    /// A number that is the same for configurations that have the same on these pages of a group's, but by chance. None else has these bits.
+    pub fn print(
+        &mut self,
+        config: &Config,
+        owners: &[u64],
+        inside: &[u64],
+        bits: u64,
+    ) -> Result<u64, NoMemory> {
+        let ends = self.arena.ends();
+        let spot = self.arena.part(&config.spot, inside)?;
+        self.arena.cut(ends);
+        let mut print = print_of(&spot, config.done & bits, config.free & bits);
+        for at in 0..owners.len() {
+            if is_among(inside, owners[at]) {
+                print = mixed(print, self.trail.tip(config.tips, at) as u64);
+            }
+        }
+        Ok(print)
+    }
+
+    /// The configuration on these pages of a group's alone. None else has these bits.
+    pub fn part(
+        &mut self,
+        config: &Config,
+        owners: &[u64],
+        inside: &[u64],
+        bits: u64,
+    ) -> Result<Config, NoMemory> {
+        Ok(Config {
+            spot: self.arena.part(&config.spot, inside)?,
+            done: config.done & bits,
+            free: config.free & bits,
+            tips: self.trail.part(config.tips, owners, inside)?,
+            depth: 0,
+        })
+    }
+
+    /// Appends which page shows which page of a file in a map, or did before a call that hasn't ended.
+    pub fn ties(&self, spot: &Spot, ties: &mut Vec<(u64, u64), A>) -> Result<(), NoMemory> {
+        self.arena.ties(spot, ties)
     }
 }

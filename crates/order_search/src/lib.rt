@@ -5,9 +5,14 @@
 
 mod arena;
 mod configs;
+mod groups;
+mod history;
+mod joining;
+mod lagging;
 mod leading;
 mod olds;
 mod pages;
+mod parting;
 mod runs;
 mod search;
 mod seen;
@@ -15,4 +20,4 @@ mod trail;
 mod under;
 
 pub use leading::LIMIT;
-pub use search::{Found, Lag, Wholes, find_choice, find_lagging, find_order, find_whole};
+pub use search::{Found, Lag, PartOrder, find_apart, find_order};

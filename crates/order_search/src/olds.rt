@@ -1,7 +1,7 @@
 //! What calls have replaced, for accesses that go as before them: pages far from all others stand for it until the call has ended.
 
 use crate::arena::{Arena, Spot, access_due, cells_in, runs_in};
-use crate::pages::{own_key, place_of};
+use crate::pages::{OLDS, own_key, place_of};
 use crate::runs::{meta_at, none_mapped};
 use crate::under::Under;
 use backing::Objects;
@@ -9,10 +9,6 @@ use slot_lock::{Change, Touch};
 use std::alloc::Allocator;
 use vm_base::page::PAGE_SIZE;
 use vm_base::{Back, Meta, NoMemory, PageRange, Prot, Reply, SegvCode};
-
-/// How far the pages that stand for those that a call has replaced are behind these: so many pages for each bit below that of the call, and for
-/// its own.
-const OLDS: u64 = 0x10_0000_0000;
 
 /// What calls of more pages have replaced isn't kept.
 const MANY: u64 = 512;
@@ -32,14 +28,8 @@ const UNMAPPED: Meta = Meta {
 
 // The page that stands for what a call has replaced on another.
 fn old_page(call: &Under, page: u64) -> u64 {
-    let mut far = OLDS;
-    for bit in 0..64u32 {
-        if call.bit == 1u64.wrapping_shl(bit) {
-            return page.wrapping_add(far);
-        }
-        far = far.wrapping_add(OLDS);
-    }
-    page.wrapping_add(far)
+    let far = u64::from(call.core.index()).saturating_add(1);
+    page.wrapping_add(far.wrapping_mul(OLDS))
 }
 
 impl<A: Allocator + Clone + Drop> Arena<A> {

@@ -21,6 +21,10 @@ const FILES: u64 = 0x2000_0000_0000_0000;
 // How far the keys of two files are apart.
 const FILE_ROOM: u64 = 0x1_0000_0000;
 
+/// How far the pages that stand for those that a call has replaced are behind these: so many pages for each core below that of the call, and for its
+/// own.
+pub(crate) const OLDS: u64 = 0x10_0000_0000;
+
 /// The key of a byte of a page's own.
 pub(crate) fn own_key(page: u64, offset: u64) -> u64 {
     page.wrapping_mul(PAGE_SIZE).wrapping_add(offset)
@@ -37,6 +41,31 @@ pub(crate) fn file_key(file: u32, page: u64, offset: u64) -> u64 {
 pub(crate) fn copy_key(page: u64) -> u64 {
     COPIES.wrapping_add(page)
 }
+
+/// The page to which the cell of this key belongs; or the page of a file, as a number that no page has. What stands for a page that a call has
+/// replaced belongs to this.
+pub(crate) fn owner_of(key: u64) -> u64 {
+    if key < COPIES {
+        return key / PAGE_SIZE % OLDS;
+    }
+    if key < FILES {
+        return (key - COPIES) % OLDS;
+    }
+    FILES.wrapping_add((key - FILES) / PAGE_SIZE)
+}
+
+/// That of the page of a file that backs a page so many pages on, if one does.
+pub(crate) fn file_owner(back: Back, by: u64) -> Option<u64> {
+    match back {
+        Back::Anon => None,
+        Back::Shared { file, page } | Back::Private { file, page } => {
+            Some(owner_of(file_key(file, page.wrapping_add(by), 0)))
+        }
+    }
+}
+
+/// The least number of a page of a file.
+pub(crate) const FILE_OWNERS: u64 = FILES;
 
 /// How many cells come before the key.
 pub(crate) fn place_of(cells: &[Cell], key: u64) -> usize {
@@ -172,4 +201,65 @@ pub(crate) fn put_byte<A: Allocator>(
         return put(new, key, None);
     }
     put(new, key, Some(byte))
+}
+
+/// Fills `new` with the cells of two maps that have no key in common.
+pub(crate) fn join_cells<A: Allocator>(
+    new: &mut Vec<Cell, A>,
+    one: &[Cell],
+    other: &[Cell],
+) -> Result<(), NoMemory> {
+    new.clear();
+    let mut next = 0usize;
+    for cell in one {
+        for at in next..other.len() {
+            if other[at].key >= cell.key {
+                break;
+            }
+            new.push(other[at])?;
+            next = at.saturating_add(1);
+        }
+        new.push(*cell)?;
+    }
+    for at in next..other.len() {
+        new.push(other[at])?;
+    }
+    Ok(())
+}
+
+/// Fills `new` with the cells that belong to these pages and pages of files, which ascend.
+pub(crate) fn part_cells<A: Allocator>(
+    new: &mut Vec<Cell, A>,
+    cells: &[Cell],
+    owners: &[u64],
+) -> Result<(), NoMemory> {
+    new.clear();
+    for cell in cells {
+        if is_among(owners, owner_of(cell.key)) {
+            new.push(*cell)?;
+        }
+    }
+    Ok(())
+}
+
+/// How many numbers, which ascend, come before this one.
+pub(crate) fn count_before(numbers: &[u64], number: u64) -> usize {
+    let mut low = 0usize;
+    let mut high = numbers.len();
+    for _ in 0..64u8 {
+        if low >= high {
+            return low;
+        }
+        let middle = low + (high - low) / 2;
+        match numbers.get(middle) {
+            Some(other) if *other < number => low = middle + 1,
+            _ => high = middle,
+        }
+    }
+    low
+}
+
+/// Tells whether a number is among these, which ascend.
+pub(crate) fn is_among(numbers: &[u64], number: u64) -> bool {
+    matches!(numbers.get(count_before(numbers, number)), Some(other) if *other == number)
 }

@@ -1,5 +1,6 @@
 //! Mappings as a sorted list of runs, each as long as it can be.
 
+use crate::pages::OLDS;
 use slot_lock::Change;
 use std::alloc::Allocator;
 use vm_base::{Back, Meta, NoMemory, PageRange, Prot};
@@ -178,13 +179,57 @@ pub(crate) fn change_runs<A: Allocator>(
     Ok(())
 }
 
+/// Fills `new` with the runs of two maps that have no page in common.
+pub(crate) fn join_runs<A: Allocator>(
+    new: &mut Vec<Run, A>,
+    one: &[Run],
+    other: &[Run],
+) -> Result<(), NoMemory> {
+    new.clear();
+    let mut next = 0usize;
+    for run in one {
+        for at in next..other.len() {
+            if other[at].first >= run.first {
+                break;
+            }
+            append(new, other[at])?;
+            next = at.saturating_add(1);
+        }
+        append(new, *run)?;
+    }
+    for at in next..other.len() {
+        append(new, other[at])?;
+    }
+    Ok(())
+}
+
+/// Fills `new` with the parts of the runs that belong to these pages, which ascend, or stand for what a call has replaced on them.
+pub(crate) fn part_runs<A: Allocator>(
+    new: &mut Vec<Run, A>,
+    runs: &[Run],
+    owners: &[u64],
+) -> Result<(), NoMemory> {
+    new.clear();
+    for run in runs {
+        let far = run.first - run.first % OLDS;
+        for owner in owners {
+            let first = far.saturating_add(*owner);
+            let end = first.saturating_add(1);
+            if let Some(run) = part(run, PageRange { first, end }) {
+                append(new, run)?;
+            }
+        }
+    }
+    Ok(())
+}
+
 /// Tells whether all pages of the range are mapped.
 pub(crate) fn all_mapped(runs: &[Run], range: PageRange) -> bool {
     first_hole(runs, range) >= range.end
 }
 
-/// The first page of the range that isn't mapped, or its end.
-pub(crate) fn first_hole(runs: &[Run], range: PageRange) -> u64 {
+// The first page of the range that isn't mapped, or its end.
+fn first_hole(runs: &[Run], range: PageRange) -> u64 {
     let mut next = range.first;
     for run in runs {
         if run.first <= next && next < run.end {

@@ -1,15 +1,18 @@
 //! The search itself.
 ghost use Rattle.std.specs.Prelude.{◌≤◌, IfOk, length};
-ghost use Rattle.order_search.specs.Founds.{IsFound};
+ghost use Rattle.order_search.specs.Founds.{IsFound, IsPartOrder};
 
-use crate::configs::Config;
+use crate::groups::Groups;
+use crate::history::History;
+use crate::lagging::Lagging;
 use crate::leading::{Ending, Reach, Ways};
 use crate::trail::Mark;
-use crate::under::{Mapped, Under, mapped_by};
+use crate::under::{Mapped, NONE_MAPPED, Under, home};
 use backing::Objects;
+use by_pages::Part;
 use orders::{Item, Timed, each_once};
 use std::alloc::Allocator;
-use vm_base::{CoreSet, NoMemory};
+use vm_base::{CoreSet, NoMemory, PageRange, Request};
 
 /// What a search comes to. That it is right isn't claimed.
 #[derive(Debug, Drop)]
@@ -32,54 +35,61 @@ pub struct Lag {
     pub access: u32,
 }
 
-/// Calls, each of which takes effect as a whole, as though its parts did one behind another.
+/// An order of the parts of calls that a search found. That it is one isn't claimed.
 #[derive(Debug, Drop)]
-pub struct Wholes<A: Allocator> {
-    /// The calls.
-    pub calls: Vec<Timed, A>,
-    /// The number of the first part of each.
-    pub firsts: Vec<usize, A>,
-    /// Whether each may be lost.
-    pub unsure: Vec<bool, A>,
-    /// Whether each may lag.
-    pub late: Vec<bool, A>,
-    /// How many parts there are.
-    pub count: usize,
+pub enum PartOrder<A: Allocator> {
+    /// The items have each part once, and copies before them. These of the parts that aren't sure are lost.
+    Of {
+        items: Vec<Item, A>,
+        losses: Vec<bool, A>,
+    },
+    /// None was found that gets to the end of this part.
+    None(usize),
 }
 
-// The parts of calls: the number of the first one of each call, and how many there are. Where no number is given each
-// call is one part.
-#[derive(Clone, Copy, Debug)]
-struct Parts<'p> {
-    firsts: &'p [usize],
-    count: usize,
-}
-
-/// So many calls that no order gets to are passed over by a search of whole calls.
+/// So many calls that no order gets to are passed over.
 const MOST_STUCK: usize = 64;
+
+/// So often a search begins anew, with more accesses that may lag.
+const TRIES: u32 = 24;
 
 // The state of a search between two begins or ends.
 #[derive(Drop)]
-struct Search<'a, A: Allocator> {
+pub(crate) struct Search<'a, A: Allocator> {
     objects: &'a Objects<A>,
-    mapped: Mapped,
-    answered: usize,
-    unsure: &'a [bool],
-    parts: Parts<'a>,
-    // Whether all accesses may lag, and which of the calls may where not all do.
-    may_lag: bool,
+    history: History<'a>,
+    pub mapped: Mapped,
+    // Which parts may lag.
     late: &'a [bool],
     // So many calls that no order gets to are passed over, and which ones were.
     may_pass: usize,
     passed: Vec<usize, A>,
-    ways: Ways<'a, A>,
-    under: Vec<Under, A>,
-    configs: Vec<Config, A>,
+    // Which looks were taken, by their calls: at this page. No page is 0.
+    looks: Vec<u64, A>,
+    pub ways: Ways<'a, A>,
+    pub groups: Groups<A>,
+    // Whether there are more configurations than the limit, or too many calls under way.
+    pub is_full: bool,
 }
 
-// Each of so many calls is one part.
-fn each_alone(count: usize) -> Parts<'static> {
-    Parts { firsts: &[], count }
+// The pages of calls, and the pages of files that they map.
+fn pages_of<A: Allocator + Clone + Drop>(
+    alloc: &A,
+    objects: &Objects<A>,
+    parts: &[Part],
+) -> Result<Vec<u64, A>, NoMemory> {
+    let mut pages = Vec::with_capacity(alloc.clone()?, parts.len())?;
+    pages.push(0)?;
+    for part in parts {
+        pages.push(home(&part.timed))?;
+        if matches!(part.timed.call.request, Request::Mmap { .. }) {
+            let under = Under::new(objects, 0, &part.timed, false, false);
+            if let Some(owner) = under.file_page() {
+                pages.push(owner)?;
+            }
+        }
+    }
+    Ok(pages)
 }
 
 // The number of a call in an order.
@@ -91,259 +101,324 @@ fn item_number(call: usize) -> u32 {
     }
 }
 
-impl Parts<'_> {
-    // The number of a call, or of its first part.
-    fn first(&self, call: usize) -> usize {
-        match self.firsts.get(call) {
-            Some(first) => *first,
-            None => call,
-        }
-    }
-
-    // How many parts a call has.
-    fn of(&self, call: usize) -> u32 {
-        if self.firsts.is_empty() {
-            return 1;
-        }
-        let end = match self.firsts.get(call.saturating_add(1)) {
-            Some(next) => *next,
-            None => self.count,
-        };
-        item_number(end.saturating_sub(self.first(call)))
-    }
-}
-
 impl<'a, A: Allocator + Clone + Drop> Search<'a, A> {
-    // Nothing has begun. So many calls end, and the others are open. Those that aren't sure may be lost.
+    // Nothing has begun. These pages are searched apart, as far as nothing joins them.
     fn new(
         alloc: &A,
         objects: &'a Objects<A>,
         any_place: bool,
-        history: &[Timed],
-        answered: usize,
-        unsure: &'a [bool],
-        parts: Parts<'a>,
+        history: History<'a>,
+        pages: &mut Vec<u64, A>,
     ) -> Result<Search<'a, A>, NoMemory> {
-        let ways = Ways::new(alloc, objects, any_place, history.len())?;
-        let mut configs = Vec::new(alloc.clone()?);
-        configs.push(ways.first())?;
+        let mut ways = Ways::new(alloc, objects, any_place, history.len())?;
+        let spot = ways.first();
+        let groups = Groups::new(alloc, pages, spot, &mut ways.trail)?;
         Ok(Search {
             objects,
-            mapped: mapped_by(history),
-            answered,
-            unsure,
-            parts,
-            may_lag: false,
+            history,
+            mapped: mapped_of(history),
             late: &[],
             may_pass: 0,
             passed: Vec::new(alloc.clone()?),
+            looks: Vec::new(alloc.clone()?),
             ways,
-            under: Vec::new(alloc.clone()?),
-            configs,
+            groups,
+            is_full: false,
         })
     }
 
-    // A bit that no call under way has: this one, if it is free.
-    fn free_bit(&self, wanted: u64) -> Option<u64> {
-        let mut taken = 0u64;
-        for under in self.under.as_slice() {
-            taken |= under.bit;
-        }
-        if taken & wanted == 0 {
-            return Some(wanted);
-        }
-        let lowest = !taken & taken.wrapping_add(1);
-        if lowest == 0 { None } else { Some(lowest) }
-    }
-
-    // A call begins. `false` says that too many are under way.
-    fn begin(&mut self, history: &[Timed], call: usize) -> Result<bool, NoMemory> {
-        let Some(timed) = history.get(call).copied() else {
-            return Ok(true);
+    // A call begins.
+    fn begin(&mut self, alloc: &A, call: usize) -> Result<(), NoMemory> {
+        let Some(timed) = self.history.get(call) else {
+            return Ok(());
         };
         let mut under = Under::new(
             self.objects,
-            item_number(self.parts.first(call)),
+            item_number(call),
             &timed,
-            call >= self.answered,
+            call >= self.history.answered(),
             self.mapped.has_copies,
-        )
-        .with_parts(self.parts.of(call));
-        let Some(bit) = self.free_bit(under.bit) else {
-            return Ok(false);
+        );
+        under.is_unsure = self.history.is_unsure(call);
+        under.may_lag = matches!(self.late.get(call), Some(true));
+        let place = self.groups.place(home(&timed));
+        match under.looks_at() {
+            Some(range) if !self.looks.is_empty() => self.begin_looks(&under, range),
+            _ => {
+                let place = self.join_for(alloc, &under, place)?;
+                self.begin_at(place, under)
+            }
+        }
+    }
+
+    // A call begins that looks at several pages: a look at each does.
+    fn begin_looks(&mut self, under: &Under, range: PageRange) -> Result<(), NoMemory> {
+        let (first, end) = self.groups.among(range);
+        for at in first..end {
+            let (place, page) = self.groups.at(at);
+            self.begin_at(place, under.look(page))?;
+        }
+        Ok(())
+    }
+
+    // A call of the pages of this group begins.
+    fn begin_at(&mut self, place: usize, under: Under) -> Result<(), NoMemory> {
+        let Some(group) = self.groups.all.get_mut(place) else {
+            return Ok(());
+        };
+        let mut under = under;
+        let Some(bit) = group.free_bit(under.bit, 0) else {
+            self.is_full = true;
+            return Ok(());
         };
         under.bit = bit;
-        under.is_unsure = matches!(self.unsure.get(call), Some(true));
-        under.may_lag = self.may_lag || matches!(self.late.get(call), Some(true));
+        self.ways.begin_round();
         if !under.is_late {
-            let calls = self.under.as_slice();
-            self.ways.settle(calls, &mut self.configs, &under)?;
+            let (owners, calls) = (group.owners.as_slice(), group.under.as_slice());
+            self.ways.settle(owners, calls, &mut group.configs, &under)?;
         }
-        self.note_rivals(&mut under);
-        self.under.push(under)?;
-        Ok(true)
+        group.push(&under, self.mapped)
     }
 
-    // Passes over a call that none of the configurations reaches, if the search goes on behind it: what follows is no
-    // order then, but other such calls may show up.
-    fn pass_by(&mut self, under: &Under) -> Result<bool, NoMemory> {
-        if self.passed.len() >= self.may_pass {
-            return Ok(false);
+    // A call ends.
+    fn end(&mut self, alloc: &A, call: usize) -> Result<Reach, NoMemory> {
+        let Some(timed) = self.history.get(call) else {
+            return Ok(Reach::Reached);
+        };
+        let number = item_number(call);
+        let place = self.groups.place(home(&timed));
+        let at = match self.groups.all.get(place) {
+            Some(group) => group.place(number, None),
+            None => None,
+        };
+        let reach = match at {
+            Some(at) if !self.is_look(place, at) => self.end_at(alloc, place, at, true)?,
+            _ => self.end_looks(alloc, &timed, number)?,
+        };
+        if reach == Reach::Stuck && self.passed.len() < self.may_pass {
+            return self.pass_by(alloc, &timed, call);
         }
-        self.passed.push(under.number as usize)?;
-        self.ways.pass_over(&mut self.configs, under)?;
-        Ok(true)
+        Ok(reach)
     }
 
-    // Notes which calls under way are a call's rivals, and it as theirs.
-    fn note_rivals(&mut self, under: &mut Under) {
-        for at in 0..self.under.len() {
-            if self.under[at].is_rival(under, self.mapped) {
-                self.under[at].rivals |= under.bit;
-                under.rivals |= self.under[at].bit;
+    // Passes over a call that no configuration gets to: what follows is no order then, but other such calls may show up.
+    fn pass_by(&mut self, alloc: &A, timed: &Timed, call: usize) -> Result<Reach, NoMemory> {
+        self.passed.push(call)?;
+        let number = item_number(call);
+        let place = self.groups.place(home(timed));
+        let at = match self.groups.all.get(place) {
+            Some(group) => group.place(number, None),
+            None => None,
+        };
+        match at {
+            Some(at) if !self.is_look(place, at) => self.end_at(alloc, place, at, false),
+            _ => self.forget_looks(alloc, timed, number),
+        }
+    }
+
+    // The looks of a call that ends don't matter any more.
+    fn forget_looks(&mut self, alloc: &A, timed: &Timed, number: u32) -> Result<Reach, NoMemory> {
+        let asked = Under::new(self.objects, number, timed, false, false);
+        let Some(range) = asked.looks_at() else {
+            return Ok(Reach::Reached);
+        };
+        let (first, end) = self.groups.among(range);
+        for at in first..end {
+            let (place, page) = self.groups.at(at);
+            if let (_, Some(look)) = self.look_at(place, number, page) {
+                let _ = self.end_at(alloc, place, look, false)?;
             }
         }
+        Ok(Reach::Reached)
     }
 
-    // Tells whether a core's call has taken effect in all configurations.
-    fn is_done(&self, bit: u64) -> bool {
-        for config in self.configs.as_slice() {
-            if config.done & bit == 0 {
-                return false;
+    // Tells whether the call under way at a place of a group is a look.
+    fn is_look(&self, place: usize, at: usize) -> bool {
+        match self.groups.all.get(place) {
+            Some(group) => matches!(group.under.get(at), Some(under) if under.is_look),
+            None => false,
+        }
+    }
+
+    // The call under way at a place of a group ends: it has to have taken effect, or it doesn't matter.
+    fn end_at(
+        &mut self,
+        alloc: &A,
+        place: usize,
+        at: usize,
+        has_to: bool,
+    ) -> Result<Reach, NoMemory> {
+        let Some(group) = self.groups.all.get_mut(place) else {
+            return Ok(Reach::Reached);
+        };
+        let Some(ends) = group.under.get(at).copied() else {
+            return Ok(Reach::Reached);
+        };
+        let (in_all, _in_one) = group.is_done(ends.bit);
+        self.ways.begin_round();
+        if has_to && (ends.keeps_old() || !in_all) {
+            let ending = Ending {
+                owners: group.owners.as_slice(),
+                under: group.under.as_slice(),
+                bit: ends.bit,
+            };
+            let reach = self.ways.reach(ending, &ends, &mut group.configs)?;
+            if reach != Reach::Reached {
+                return Ok(reach);
             }
         }
-        true
+        group.forget(at, ends.bit);
+        self.ways.drop_olds(&mut group.configs, &ends)?;
+        self.ways.unite(&mut group.configs)?;
+        self.ways.trail.settle(group)?;
+        if group.owners.len() > 1 {
+            self.part(alloc, place)?;
+        }
+        self.ways.shorten(alloc, self.groups.all.as_mut_slice())?;
+        Ok(Reach::Reached)
     }
 
-    // The call under way at this place isn't any more.
-    fn forget(&mut self, at: usize, bit: u64) {
-        if at < self.under.len() {
-            let _ = self.under.remove(at);
-        }
-        for at in 0..self.under.len() {
-            self.under[at].rivals &= !bit;
-        }
-        for at in 0..self.configs.len() {
-            self.configs[at].done &= !bit;
+    // How well a look would do: whether it has taken effect in all configurations, in some, or in none.
+    fn look_at(&self, place: usize, number: u32, page: u64) -> (usize, Option<usize>) {
+        let Some(group) = self.groups.all.get(place) else {
+            return (0, None);
+        };
+        let Some(at) = group.place(number, Some(page)) else {
+            return (0, None);
+        };
+        let Some(under) = group.under.get(at) else {
+            return (0, None);
+        };
+        match group.is_done(under.bit) {
+            (true, _) => (2, Some(at)),
+            (false, true) => (1, Some(at)),
+            (false, false) => (0, Some(at)),
         }
     }
 
-    // The place of the call under way that ends first, if it ends before this time, or if none is given. Open calls
-    // don't end.
-    fn first_end(&self, time: Option<u64>) -> Option<usize> {
-        let mut first = None;
-        let mut end = u64::MAX;
-        for at in 0..self.under.len() {
-            let under = &self.under[at];
-            if !under.is_open && (first.is_none() || under.end < end) {
-                first = Some(at);
-                end = under.end;
+    // A call ends that looks at several pages: one of the looks has to have taken effect.
+    fn end_looks(&mut self, alloc: &A, timed: &Timed, number: u32) -> Result<Reach, NoMemory> {
+        let asked = Under::new(self.objects, number, timed, false, false);
+        let Some(range) = asked.looks_at() else {
+            return Ok(Reach::Reached);
+        };
+        let (first, end) = self.groups.among(range);
+        let mut reached = Reach::Stuck;
+        for wanted in 0..3usize {
+            for at in first..end {
+                let (place, page) = self.groups.at(at);
+                let (done, found) = self.look_at(place, number, page);
+                if let Some(look) = found {
+                    if reached != Reach::Reached && done == 2usize.saturating_sub(wanted) {
+                        reached = self.end_at(alloc, place, look, true)?;
+                        if let Some(seen) = self.looks.get_mut(number as usize) {
+                            *seen = page;
+                        }
+                    }
+                }
             }
         }
-        match time {
-            Some(time) if end >= time => None,
-            _ => first,
+        if reached == Reach::Reached {
+            return self.forget_looks(alloc, timed, number);
         }
+        Ok(reached)
     }
 
-    // The calls end that end before this time, or all, if none is given. It tells the first that none of them reaches.
+    // Goes through all begins and ends, and tells the first call that isn't reached.
+    fn run(&mut self, alloc: &A) -> Result<Option<(Reach, usize)>, NoMemory> {
+        let begins = times(alloc, self.history, true)?;
+        let ends = times(alloc, self.history, false)?;
+        let mut next = 0usize;
+        for at in 0..begins.len() {
+            let (begin, call) = begins[at];
+            // at one time begins come before ends
+            let until = count_below(ends.as_slice(), next, begin);
+            if let Some(stop) = self.end_all(alloc, ends.as_slice(), next, until)? {
+                return Ok(Some(stop));
+            }
+            next = until;
+            self.begin(alloc, call)?;
+            if self.is_full {
+                return Ok(Some((Reach::Full, call)));
+            }
+        }
+        self.end_all(alloc, ends.as_slice(), next, ends.len())
+    }
+
+    // The calls end from one place of the ends to another. It tells the first that none of them reaches.
     fn end_all(
         &mut self,
         alloc: &A,
-        time: Option<u64>,
+        ends: &[(u64, usize)],
+        first: usize,
+        until: usize,
     ) -> Result<Option<(Reach, usize)>, NoMemory> {
-        for _ in 0..self.under.len() {
-            let Some(at) = self.first_end(time) else {
-                return Ok(None);
-            };
-            let Some(under) = self.under.get(at) else {
-                return Ok(None);
-            };
-            let (number, ends) = (under.number, *under);
-            let reach = self.end(alloc, at, &ends)?;
-            if reach != Reach::Reached {
-                return Ok(Some((reach, number as usize)));
+        for at in first..until {
+            if let Some((_end, call)) = ends.get(at).copied() {
+                let reach = self.end(alloc, call)?;
+                if reach != Reach::Reached {
+                    return Ok(Some((reach, call)));
+                }
             }
         }
         Ok(None)
     }
 
-    // This call under way, which is at this place, ends.
-    fn end(&mut self, alloc: &A, at: usize, ends: &Under) -> Result<Reach, NoMemory> {
-        let bit = ends.bit;
-        if ends.keeps_old() || !self.is_done(bit) {
-            let ending = Ending {
-                under: self.under.as_slice(),
-                bit,
-            };
-            let reach = self.ways.reach(ending, ends, &mut self.configs)?;
-            if reach == Reach::Full || (reach == Reach::Stuck && !self.pass_by(ends)?) {
-                return Ok(reach);
-            }
-        }
-        self.forget(at, bit);
-        self.ways.drop_olds(&mut self.configs, ends)?;
-        self.ways.shorten(alloc, &mut self.configs)?;
-        Ok(Reach::Reached)
-    }
-
-    // Goes through all begins and ends, and tells the first call that isn't reached.
-    fn run(&mut self, alloc: &A, history: &[Timed]) -> Result<Option<(Reach, usize)>, NoMemory> {
-        let begins = begins(alloc, history)?;
-        for at in 0..begins.len() {
-            let (begin, call) = begins[at];
-            // at one time begins come before ends
-            let stop = self.end_all(alloc, Some(begin))?;
-            if stop.is_some() {
-                return Ok(stop);
-            }
-            if !self.begin(history, call)? {
-                return Ok(Some((Reach::Full, self.parts.first(call))));
-            }
-        }
-        self.end_all(alloc, None)
-    }
-
-    // The items of the open calls that haven't taken effect in a configuration.
-    fn lost(&self, alloc: &A, config: &Config) -> Result<Vec<Item, A>, NoMemory> {
-        let mut items = Vec::new(alloc.clone()?);
-        for under in self.under.as_slice() {
-            if config.done & under.bit == 0 {
-                items.push(Item::Reply(under.number))?;
-            }
-        }
-        Ok(items)
-    }
-
-    // Their cores.
-    fn lost_cores(&self, config: &Config) -> CoreSet {
+    // The first configuration of each group is the one that is taken: what its chains have is sure. Its open calls that haven't taken effect are lost.
+    fn settle_all(&mut self, lost: &mut Vec<Item, A>) -> Result<CoreSet, NoMemory> {
         let mut cores = CoreSet::empty();
-        for under in self.under.as_slice() {
-            if config.done & under.bit == 0 {
-                cores = cores.with(under.core);
+        for place in 0..self.groups.all.len() {
+            let group = &mut self.groups.all[place];
+            if let Some(config) = group.configs.get(0).copied() {
+                for under in group.under.as_slice() {
+                    if (config.done | config.free) & under.bit == 0 {
+                        lost.push(Item::Reply(under.number))?;
+                        cores = cores.with(under.core);
+                    }
+                }
+                group.configs.truncate(1);
+                self.ways.trail.settle(group)?;
             }
         }
-        cores
+        Ok(cores)
     }
 
-    // The order of the first configuration, and the cores whose open calls haven't taken effect in it: these stand
-    // last. What lags is told.
+    // Tells whether a mark says that a part is lost.
+    fn is_loss(&self, mark: Mark) -> bool {
+        match mark {
+            Mark::Copy(call) => self.history.is_unsure(call as usize),
+            _ => false,
+        }
+    }
+
+    // Tells whether a mark is that of a look that wasn't taken.
+    fn is_let_go(&self, mark: Mark) -> bool {
+        match mark {
+            Mark::Look { call, page } => self.looks.get(call as usize).copied() != Some(page),
+            _ => false,
+        }
+    }
+
+    // The order of what was taken, and the cores whose open calls haven't taken effect in it: these stand last. What lags is told.
     fn into_order(
-        self,
+        mut self,
         alloc: &A,
         lags: &mut Vec<Lag, A>,
+        losses: &mut Vec<bool, A>,
     ) -> Result<(Vec<Item, A>, CoreSet), NoMemory> {
-        let Some(config) = self.configs.get(0).copied() else {
-            return Ok((Vec::new(alloc.clone()?), CoreSet::empty()));
-        };
-        let cores = self.lost_cores(&config);
-        let lost = self.lost(alloc, &config)?;
-        let marks = self.ways.into_order(alloc, &config)?;
+        let mut lost = Vec::new(alloc.clone()?);
+        let cores = self.settle_all(&mut lost)?;
+        let marks = self.ways.trail.order(alloc)?;
+        let done = done_in(alloc, self.history, marks.as_slice())?;
         let mut order = Vec::with_capacity(alloc.clone()?, marks.len())?;
         for at in 0..marks.len() {
             let mark = marks[at];
-            order.push(mark.item())?;
-            if let Mark::Late { access, behind } = mark {
+            if self.is_loss(mark) {
+                note_loss(losses, mark);
+            } else if !self.is_let_go(mark) && !is_needless(done.as_slice(), mark) {
+                order.push(mark.item())?;
+            }
+            if let Mark::Late { access, behind, .. } = mark {
                 lags.push(Lag { behind, access })?;
             }
         }
@@ -352,17 +427,81 @@ impl<'a, A: Allocator + Clone + Drop> Search<'a, A> {
     }
 }
 
-// The begins of calls by their times.
-fn begins<A: Allocator + Clone>(
+// Which calls take effect where that is certain.
+fn done_in<A: Allocator + Clone + Drop>(
     alloc: &A,
-    history: &[Timed],
-) -> Result<Vec<(u64, usize), A>, NoMemory> {
-    let mut begins = Vec::with_capacity(alloc.clone()?, history.len())?;
-    for call in 0..history.len() {
-        begins.push((history[call].begin, call))?;
+    history: History<'_>,
+    marks: &[Mark],
+) -> Result<Vec<bool, A>, NoMemory> {
+    let mut done = vec![in alloc.clone()?; false; history.len()]?;
+    for at in 0..marks.len() {
+        if let Mark::Reply(call) = marks[at] {
+            if let Some(is_done) = done.get_mut(call as usize) {
+                *is_done = true;
+            }
+        }
     }
-    begins.sort_unstable();
-    Ok(begins)
+    Ok(done)
+}
+
+// Tells whether a mark says that a call may have taken effect that did elsewhere.
+fn is_needless(done: &[bool], mark: Mark) -> bool {
+    match mark {
+        Mark::Maybe(call) => matches!(done.get(call as usize), Some(true)),
+        _ => false,
+    }
+}
+
+// Notes that a part is lost.
+fn note_loss<A: Allocator>(losses: &mut Vec<bool, A>, mark: Mark) {
+    if let Mark::Copy(call) = mark {
+        if let Some(loss) = losses.get_mut(call as usize) {
+            *loss = true;
+        }
+    }
+}
+
+// Which mappings of files the calls ask for.
+fn mapped_of(history: History<'_>) -> Mapped {
+    let mut mapped = NONE_MAPPED;
+    for call in 0..history.len() {
+        if let Some(timed) = history.get(call) {
+            mapped = mapped.with(&timed);
+        }
+    }
+    mapped
+}
+
+// The begins of calls, or their ends, in ascending order.
+fn times<A: Allocator + Clone>(
+    alloc: &A,
+    history: History<'_>,
+    are_begins: bool,
+) -> Result<Vec<(u64, usize), A>, NoMemory> {
+    let count = if are_begins {
+        history.len()
+    } else {
+        history.answered()
+    };
+    let mut times = Vec::with_capacity(alloc.clone()?, count)?;
+    for call in 0..count {
+        if let Some(timed) = history.get(call) {
+            let time = if are_begins { timed.begin } else { timed.end };
+            times.push((time, call))?;
+        }
+    }
+    times.sort_unstable();
+    Ok(times)
+}
+
+// How many of the times, from a place on, are below this one.
+fn count_below(times: &[(u64, usize)], first: usize, time: u64) -> usize {
+    for at in first..times.len() {
+        if times[at].0 >= time {
+            return at;
+        }
+    }
+    times.len()
 }
 
 // What the search comes to that went no further than a call of so many.
@@ -401,20 +540,23 @@ fn find_some<A: Allocator + Clone + Drop>(
     alloc: &A,
     objects: &Objects<A>,
     any_place: bool,
-    history: &[Timed],
+    calls: &[Timed],
     answered: usize,
-    unsure: &[bool],
 ) -> Result<Found<A>, NoMemory>
-    requires { 1 ≤ length history.now }
-    ensures { IfOk result (λ found. IsFound (length history.now) found) }
+    requires { 1 ≤ length calls.now }
+    ensures { IfOk result (λ found. IsFound (length calls.now) found) }
 {
-    let parts = each_alone(history.len());
-    let mut search = Search::new(alloc, objects, any_place, history, answered, unsure, parts)?;
-    if let Some((reach, call)) = search.run(alloc, history)? {
-        return Ok(stopped(history.len(), reach, call));
+    let mut pages = Vec::new(alloc.clone()?);
+    pages.push(0)?;
+    let history = History::Calls(calls, answered);
+    let mut search = Search::new(alloc, objects, any_place, history, &mut pages)?;
+    if let Some((reach, call)) = search.run(alloc)? {
+        return Ok(stopped(calls.len(), reach, call));
     }
     let mut lags = Vec::new(alloc.clone()?);
-    found_by(alloc, history.len(), search.into_order(alloc, &mut lags)?)
+    let mut losses = Vec::new(alloc.clone()?);
+    let found = search.into_order(alloc, &mut lags, &mut losses)?;
+    found_by(alloc, calls.len(), found)
 }
 
 /// Searches an order of the calls of a space with these files, from the map on in which nothing is mapped. The first
@@ -434,91 +576,108 @@ pub fn find_order<A: Allocator + Clone + Drop>(
     if history.is_empty() {
         return Ok(Found::Order(Vec::new(alloc.clone()?), CoreSet::empty()));
     }
-    find_some(alloc, objects, any_place, history, answered, &[])
+    find_some(alloc, objects, any_place, history, answered)
 }
 
-/// The same where all calls have their replies, but some may be lost: such a call may as well have changed nothing.
-/// Where it did, an item `Copy` of it stands right before its reply. Calls of one core may overlap.
-#[tactic(auto, using(crate::proofs::NoCalls::none_found))]
-pub fn find_choice<A: Allocator + Clone + Drop>(
+// What the search of so many parts comes to that led to these items and losses: an order, if the items have each part once.
+fn order_by<A: Allocator + Clone + Drop>(
+    alloc: &A,
+    count: usize,
+    items: Vec<Item, A>,
+    losses: Vec<bool, A>,
+) -> Result<PartOrder<A>, NoMemory>
+    requires { 1 ≤ count }
+    ensures { IfOk result (λ found. IsPartOrder count found) }
+{
+    let mut marks = vec![in alloc.clone()?; false; count]?;
+    if each_once(&mut marks, items.as_slice()) {
+        return Ok(PartOrder::Of { items, losses });
+    }
+    // (this never comes, since all parts have taken effect at their ends)
+    Ok(PartOrder::None(count - 1))
+}
+
+// Searches an order of these parts, of which there are some, where these may lag. Where none is found it is told which parts no order gets to.
+fn find_with<A: Allocator + Clone + Drop>(
     alloc: &A,
     objects: &Objects<A>,
     any_place: bool,
-    history: &[Timed],
-    unsure: &[bool],
-) -> Result<Found<A>, NoMemory>
-    ensures { IfOk result (λ found. IsFound (length history.now) found) }
-{
-    if history.is_empty() {
-        return Ok(Found::Order(Vec::new(alloc.clone()?), CoreSet::empty()));
-    }
-    find_some(alloc, objects, any_place, history, history.len(), unsure)
-}
-
-/// Searches as `find_choice` does, where accesses may lag: each may go as before a call that hasn't ended. `lags` tells
-/// which do.
-#[tactic(auto, using(crate::proofs::NoCalls::none_found))]
-pub fn find_lagging<A: Allocator + Clone + Drop>(
-    alloc: &A,
-    objects: &Objects<A>,
-    any_place: bool,
-    history: &[Timed],
-    unsure: &[bool],
-    lags: &mut Vec<Lag, A>,
-) -> Result<Found<A>, NoMemory>
-    ensures { IfOk result (λ found. IsFound (length history.now) found) }
-{
-    lags.clear();
-    if history.is_empty() {
-        return Ok(Found::Order(Vec::new(alloc.clone()?), CoreSet::empty()));
-    }
-    let count = history.len();
-    let parts = each_alone(count);
-    let mut search = Search::new(alloc, objects, any_place, history, count, unsure, parts)?;
-    search.may_lag = true;
-    if let Some((reach, call)) = search.run(alloc, history)? {
-        return Ok(stopped(count, reach, call));
-    }
-    found_by(alloc, count, search.into_order(alloc, lags)?)
-}
-
-/// Searches as `find_choice` does, where each call takes effect as a whole, as though its parts did one behind another.
-/// An `mprotect` that met a page that isn't mapped may have changed all pages in front of it: each part behind its
-/// first has an item `Copy` where it is lost. The numbers of the items are those of the parts. Some accesses may lag,
-/// as for `find_lagging`. Where no order is found, `stuck` tells the first parts that none gets to, as though those
-/// before were passed over.
-#[tactic(auto, using(crate::proofs::NoCalls::none_found))]
-pub fn find_whole<'w, A: Allocator + Clone + Drop>(
-    alloc: &A,
-    objects: &'w Objects<A>,
-    any_place: bool,
-    wholes: &'w Wholes<A>,
+    parts: &[Part],
+    late: &[bool],
     lags: &mut Vec<Lag, A>,
     stuck: &mut Vec<usize, A>,
-) -> Result<Found<A>, NoMemory>
-    ensures { IfOk result (λ found. IsFound wholes.now.count found) }
+) -> Result<PartOrder<A>, NoMemory>
+    requires { 1 ≤ length parts.now }
+    ensures { IfOk result (λ found. IsPartOrder (length parts.now) found) }
 {
+    let count = parts.len();
+    let mut pages = pages_of(alloc, objects, parts)?;
+    let history = History::Parts(parts);
+    let mut search = Search::new(alloc, objects, any_place, history, &mut pages)?;
+    search.looks = vec![in alloc.clone()?; 0u64; count]?;
+    search.late = late;
+    search.may_pass = if late.is_empty() { 0 } else { MOST_STUCK };
     lags.clear();
     stuck.clear();
-    let count = wholes.count;
-    if count == 0 {
-        return Ok(Found::Order(Vec::new(alloc.clone()?), CoreSet::empty()));
-    }
-    let calls = wholes.calls.as_slice();
-    let unsure = wholes.unsure.as_slice();
-    let firsts = wholes.firsts.as_slice();
-    let parts = Parts { firsts, count };
-    let mut search = Search::new(alloc, objects, any_place, calls, calls.len(), unsure, parts)?;
-    search.late = wholes.late.as_slice();
-    search.may_pass = MOST_STUCK;
-    let stop = search.run(alloc, calls)?;
+    let stop = search.run(alloc)?;
     stuck.extend_from_slice(search.passed.as_slice())?;
-    if let Some(part) = stuck.get(0) {
-        return Ok(stopped(count, Reach::Stuck, *part));
-    }
-    if let Some((reach, part)) = stop {
+    if let Some((_reach, part)) = stop {
         stuck.push(part)?;
-        return Ok(stopped(count, reach, part));
     }
-    found_by(alloc, count, search.into_order(alloc, lags)?)
+    if let Some(part) = stuck.get(0) {
+        return Ok(PartOrder::None((*part).min(count - 1)));
+    }
+    let mut losses = vec![in alloc.clone()?; false; count]?;
+    let (items, _lost) = search.into_order(alloc, lags, &mut losses)?;
+    order_by(alloc, count, items, losses)
+}
+
+// Searches an order of these parts, of which there are some, where those may lag that are near the places where it is stuck else.
+fn find_late<A: Allocator + Clone + Drop>(
+    alloc: &A,
+    objects: &Objects<A>,
+    any_place: bool,
+    parts: &[Part],
+    lags: &mut Vec<Lag, A>,
+) -> Result<PartOrder<A>, NoMemory>
+    requires { 1 ≤ length parts.now }
+    ensures { IfOk result (λ found. IsPartOrder (length parts.now) found) }
+{
+    let mut lagging = Lagging::new(alloc, parts)?;
+    let mut stuck = Vec::new(alloc.clone()?);
+    for _ in 0..TRIES {
+        let late = lagging.late.as_slice();
+        let found = find_with(alloc, objects, any_place, parts, late, lags, &mut stuck)?;
+        let is_found = matches!(found, PartOrder::Of { .. });
+        if is_found || !lagging.widen(alloc, parts, stuck.as_slice())? {
+            return Ok(found);
+        }
+    }
+    Ok(PartOrder::None(0))
+}
+
+/// Searches an order of parts of calls, from the map on in which nothing is mapped. Those that aren't sure may be lost. Pages that nothing joins are
+/// searched apart: an `mprotect` of several that met one that isn't mapped looks at each, and has to meet one. Accesses may lag, if that is
+/// wanted: each may go as before a part that hasn't ended. `lags` tells which do. The items that it answers have each part once; whether they are an
+/// order is the caller's to judge. `Err` says that memory was wanting.
+pub fn find_apart<A: Allocator + Clone + Drop>(
+    alloc: &A,
+    objects: &Objects<A>,
+    any_place: bool,
+    parts: &[Part],
+    may_lag: bool,
+    lags: &mut Vec<Lag, A>,
+) -> Result<PartOrder<A>, NoMemory>
+    ensures { IfOk result (λ found. IsPartOrder (length parts.now) found) }
+{
+    lags.clear();
+    if parts.is_empty() {
+        let (items, losses) = (Vec::new(alloc.clone()?), Vec::new(alloc.clone()?));
+        return Ok(PartOrder::Of { items, losses });
+    }
+    if may_lag {
+        return find_late(alloc, objects, any_place, parts, lags);
+    }
+    let mut stuck = Vec::new(alloc.clone()?);
+    find_with(alloc, objects, any_place, parts, &[], lags, &mut stuck)
 }

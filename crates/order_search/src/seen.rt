@@ -73,6 +73,23 @@ impl<A: Allocator + Clone + Drop> Seen<A> {
         false
     }
 
+    /// Tells whether a print was taken in in this round.
+    pub fn has(&self, print: u64) -> bool {
+        let mut at = print & self.mask;
+        for _ in 0..PLACES {
+            match self.seats.get(at as usize) {
+                Some(seat) if seat.round == self.round => {
+                    if seat.print == print {
+                        return true;
+                    }
+                }
+                _ => return false,
+            }
+            at = at.wrapping_add(1) & self.mask;
+        }
+        false
+    }
+
     // Uses more places.
     fn widen(&mut self) -> Result<(), NoMemory> {
         let mask = (self.mask.wrapping_mul(16) | 15).min(MOST);

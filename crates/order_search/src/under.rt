@@ -1,10 +1,12 @@
 //! Calls that are under way.
 
+use crate::pages::file_owner;
+use crate::trail::Mark;
 use backing::Objects;
 use orders::Timed;
 use slot_lock::{Change, Plan, Touch};
 use std::alloc::Allocator;
-use vm_base::{CoreId, Errno, PageRange, Prot, Reply, Request, page_of};
+use vm_base::{CoreId, Errno, PageRange, Reply, Request, page_of};
 use vm_calls::check;
 
 /// No page.
@@ -16,13 +18,10 @@ const EVERYWHERE: PageRange = PageRange {
     end: u64::MAX,
 };
 
-/// A call that is under way: its number, and what it does.
+/// A call that is under way: its number, and what it does; or its look at one of several pages.
 #[derive(Clone, Copy, Debug, PartialEq, Eq)]
 pub(crate) struct Under {
-    /// Its number, or that of its first part.
     pub number: u32,
-    /// How many parts it has, which have the next numbers.
-    pub count: u32,
     pub core: CoreId,
     /// Its bit in a set of calls under way: that of its core, if no other has it.
     pub bit: u64,
@@ -37,28 +36,51 @@ pub(crate) struct Under {
     pub is_open: bool,
     /// Whether it may be lost: then it takes effect with its reply, or changes nothing.
     pub is_unsure: bool,
+    /// Whether it is a look.
+    pub is_look: bool,
     /// Whether it may go as before a call that hasn't ended, if it is an access; or accesses as before it.
     pub may_lag: bool,
     /// Whether its reply says that it changed something. A call that is answered at its check changes nothing.
     pub changes: bool,
     /// Whether something may be lost where it takes effect as soon as it can: it changes something, or its page may get a copy before.
     pub is_late: bool,
+    /// The page at which it is sought.
+    pub home: u64,
     /// The pages on which it depends, or which it changes.
     pub pages: PageRange,
     /// The bits of the calls under way that may lead elsewhere if this one comes first.
     pub rivals: u64,
 }
 
-// The pages on which what a call does depends, or which it changes.
-fn pages_of(plan: Result<Plan, Reply>) -> PageRange {
+// The pages on which what a call does depends, or which it changes. A mapping that got the place that it asked for depends on no other.
+fn pages_of(plan: Result<Plan, Reply>, reply: Reply) -> PageRange {
     match plan {
         Err(_) => NOWHERE,
-        Ok(Plan::Place(_)) => EVERYWHERE,
+        Ok(Plan::Place(place)) => match (place.hint, reply) {
+            (Some(hint), Reply::Mapped(at)) if page_of(at) == hint.first => hint,
+            _ => EVERYWHERE,
+        },
         Ok(Plan::Change(change)) => change.range(),
         Ok(Plan::Touch(touch)) => PageRange {
             first: touch.page,
             end: touch.page.saturating_add(1),
         },
+    }
+}
+
+/// The page at which a call is sought among those under way.
+pub(crate) fn home(timed: &Timed) -> u64 {
+    match (timed.call.request, timed.call.reply) {
+        (Request::Mmap { .. }, Reply::Mapped(at)) => page_of(at),
+        (
+            Request::Mmap { addr, .. }
+            | Request::Munmap { addr, .. }
+            | Request::Mprotect { addr, .. }
+            | Request::Load { addr }
+            | Request::Store { addr, .. }
+            | Request::Fetch { addr },
+            _,
+        ) => page_of(addr),
     }
 }
 
@@ -80,7 +102,7 @@ impl Under {
         let changes = plan.is_ok() && matches!(call.reply, Reply::Done | Reply::Mapped(_));
         Under {
             number,
-            count: 1,
+            is_look: false,
             core: call.core,
             bit: 1u64.wrapping_shl(u32::from(call.core.index())),
             begin: timed.begin,
@@ -93,18 +115,42 @@ impl Under {
             may_lag: false,
             changes,
             is_late: changes || stores_to.is_some(),
-            pages: pages_of(plan),
+            home: home(timed),
+            pages: pages_of(plan, call.reply),
             rivals: 0,
         }
     }
 
-    /// The same call with so many parts.
-    pub fn with_parts(self, count: u32) -> Under {
+    /// The look at one page of a call that looks at several, one of which has to be unmapped.
+    pub fn look(self, page: u64) -> Under {
+        let range = PageRange {
+            first: page,
+            end: page.saturating_add(1),
+        };
+        let plan = match self.plan {
+            Ok(Plan::Change(Change::Protect { prot, .. })) => {
+                Ok(Plan::Change(Change::Protect { range, prot }))
+            }
+            other => other,
+        };
         Under {
-            count,
-            is_late: self.is_late || count > 1,
+            plan,
+            home: page,
+            pages: range,
+            is_look: true,
             ..self
         }
+    }
+
+    /// The mark of it where it takes effect.
+    pub fn mark(&self) -> Mark {
+        if self.is_look {
+            return Mark::Look {
+                call: self.number,
+                page: self.pages.first,
+            };
+        }
+        Mark::Reply(self.number)
     }
 
     /// Its access, if it is one.
@@ -120,22 +166,42 @@ impl Under {
         self.may_lag && self.changes && self.touch().is_none()
     }
 
-    /// The number of its part that changes a page.
-    pub fn part(&self, page: u64) -> u32 {
-        if self.count <= 1 {
-            return self.number;
-        }
-        let before = page.wrapping_sub(self.pages.first) & 0xffff_ffff;
-        self.number.wrapping_add(before as u32)
-    }
-
-    /// The range of an `mprotect` that met a page that isn't mapped, and may have changed those in front of it, and their protection then.
-    pub fn refused_range(&self) -> Option<(PageRange, Prot)> {
+    /// The pages that it looks at, if these are several, one of which has to be unmapped.
+    pub fn looks_at(&self) -> Option<PageRange> {
         match (self.reply, self.plan) {
-            (Reply::Refused(Errno::ENOMEM), Ok(Plan::Change(Change::Protect { range, prot })))
-                if self.count > 1 => { Some((range, prot)) }
+            (Reply::Refused(Errno::ENOMEM), Ok(Plan::Change(Change::Protect { range, .. })))
+                if self.is_wide() => { Some(range) }
             _ => None,
         }
+    }
+
+    /// Tells whether it is an access that is served: where its page shows one of a file, it meets that.
+    pub fn meets(&self) -> bool {
+        self.touch().is_some() && !matches!(self.reply, Reply::Segv(_))
+    }
+
+    /// Tells whether nothing shows once it has taken effect of what its pages were before.
+    pub fn hides(&self) -> bool {
+        self.changes
+            && matches!(
+                self.plan,
+                Ok(Plan::Change(Change::Put { .. } | Change::Clear { .. }))
+            )
+    }
+
+    /// Tells whether it takes effect on several pages at one moment.
+    pub fn is_wide(&self) -> bool {
+        self.pages.first.saturating_add(1) < self.pages.end
+    }
+
+    /// The page of a file that it maps, if it maps one.
+    pub fn file_page(&self) -> Option<u64> {
+        let meta = match self.plan {
+            Ok(Plan::Change(Change::Put { meta, .. })) => meta,
+            Ok(Plan::Place(place)) => place.meta,
+            _ => return None,
+        };
+        file_owner(meta.back, 0)
     }
 
     /// Tells whether these two may lead elsewhere if they change places: one of them changes something, and they have a page in common, or
@@ -164,19 +230,21 @@ pub(crate) struct Mapped {
     pub has_copies: bool,
 }
 
-/// Those of a history.
-pub(crate) fn mapped_by(history: &[Timed]) -> Mapped {
-    let mut mapped = Mapped {
-        has_files: false,
-        has_copies: false,
-    };
-    for timed in history {
-        if let Request::Mmap { flags, .. } = timed.call.request {
-            if !flags.anon {
-                mapped.has_files = true;
-                mapped.has_copies = mapped.has_copies || flags.private;
-            }
+/// No call asks for one.
+pub(crate) const NONE_MAPPED: Mapped = Mapped {
+    has_files: false,
+    has_copies: false,
+};
+
+impl Mapped {
+    /// The same with those that this call asks for.
+    pub fn with(self, timed: &Timed) -> Mapped {
+        match timed.call.request {
+            Request::Mmap { flags, .. } if !flags.anon => Mapped {
+                has_files: true,
+                has_copies: self.has_copies || flags.private,
+            },
+            _ => self,
         }
     }
-    mapped
 }

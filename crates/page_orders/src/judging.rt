@@ -16,13 +16,14 @@ ghost use Rattle.page_orders.specs.Explained.{IsDisorder, IsExplained, IsTold, a
 ghost use Rattle.page_orders.specs.Rulings.{IsRuling};
 
 use crate::explaining::{line_at, tell_shown};
-use crate::found::{Order, search_parts};
+use crate::found::search_parts;
 use crate::order_text::order_text;
 use crate::showing::show_among;
 use audit::Auditor;
 use backing::FileSpec;
 use by_pages::{Part, chosen, split};
 use no_order::files_again;
+use order_search::PartOrder;
 use orders::{Item, Timed, follow};
 use orders_text::clock::Begun;
 use orders_text::{History, HistoryFault, completed, read_history};
@@ -37,7 +38,7 @@ use vm_base::{NoMemory, Reply, Request};
 struct Tried<A: Allocator> {
     replies: Vec<Reply, A>,
     parts: Vec<Part, A>,
-    order: Order<A>,
+    order: PartOrder<A>,
 }
 
 /// Tells whether no core's call waits.
@@ -143,7 +144,8 @@ fn try_with<A: Allocator + Clone + Drop>(
     let told = replies.as_slice();
     let parts = split_history(alloc, history, told)?;
     let files = history.declaration.files.as_slice();
-    let order = search_parts(alloc, files, any_place, parts.as_slice())?;
+    let mut lags = Vec::new(alloc.clone()?);
+    let order = search_parts(alloc, files, any_place, parts.as_slice(), false, &mut lags)?;
     Ok(Tried {
         replies,
         parts,
@@ -163,7 +165,7 @@ fn search_history<A: Allocator + Clone + Drop>(
         tried.parts.items ≡ parts_from 0 (completed (replies_in tried.replies.items) (read_of history.now))) }
 {
     let tried = try_with(alloc, history, any_place, true)?;
-    if matches!(tried.order, Order::Of { .. }) || none_waits(history.waiting.as_slice()) {
+    if matches!(tried.order, PartOrder::Of { .. }) || none_waits(history.waiting.as_slice()) {
         return Ok(tried);
     }
     let other = try_with(alloc, history, any_place, false)?;
@@ -269,7 +271,7 @@ fn rule_by<M: SlotMap + Drop, A: Allocator + Clone + Drop>(
 {
     let parts = tried.parts.as_slice();
     match &tried.order {
-        Order::Of { items, losses } => {
+        PartOrder::Of { items, losses } => {
             let files = history.declaration.files.as_slice();
             let items = items.as_slice();
             let lost = losses.as_slice();
@@ -282,7 +284,7 @@ fn rule_by<M: SlotMap + Drop, A: Allocator + Clone + Drop>(
                 bare(alloc, Ruling::Undecided(line))
             }
         }
-        Order::None(part) => rule_without(alloc, text, history, any_place, tried, *part),
+        PartOrder::None(part) => rule_without(alloc, text, history, any_place, tried, *part),
     }
 }
 

@@ -1,9 +1,9 @@
 //! The text of an order of calls of pages, which `audit` judges.
 
-use crate::found::Order;
 use audit::Call;
 use audit_text::reading::read_declared;
 use by_pages::Part;
+use order_search::PartOrder;
 use orders::Item;
 use std::alloc::Allocator;
 use trace_text::{
@@ -184,10 +184,10 @@ pub(crate) fn order_text<A: Allocator + Clone + Drop>(
     text: &[u8],
     parts: &[Part],
     answered: usize,
-    order: &Order<A>,
+    order: &PartOrder<A>,
 ) -> Result<Vec<u8, A>, NoMemory> {
     let mut out = Vec::new(alloc.clone()?);
-    if let Order::Of { items, losses } = order {
+    if let PartOrder::Of { items, losses } = order {
         push_fronts(&mut out, text)?;
         for item in items.as_slice() {
             push_item(&mut out, parts, losses.as_slice(), answered, *item)?;
