@@ -7,7 +7,7 @@
    changed. Where it is 1, it serves one thread's access to a page that is being unmapped after another's was refused, once in a million
    calls or two: faults are told by the list of mappings, which munmap shortens first, and other accesses by page tables and TLBs, which it
    clears then. And once in ten million it serves a fetch by a right that mprotect gives, and then a store by one that it takes, which
-   another processor's TLB still has. So neither these four calls of Linux 6.18 have an order nor those five, and audit says undecided:
+   another processor's TLB still has. So neither these four calls of Linux 6.18 have an order nor those five, and audit says no order:
    10 11 c3! mmap 0x10000 4096 r-x sf 0 0x2000 = 0x10000        10 11 c0! mmap 0x10000 4096 rw- pfa = 0x10000
    21 66 c3! munmap 0x10000 4096 = done                         12 13 c3! store 0x10000 6 = done
    23 24 c0! store 0x10000 244 = segv maperr                    20 90 c0! mprotect 0x10000 4096 r-x = done

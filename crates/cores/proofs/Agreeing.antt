@@ -1,7 +1,6 @@
 -- Maps that agree on some pages, which are anonymous, go on so
-use Rattle.std.proofs.Common.{◌≡◌, ◌≢◌, ◌∙◌, ℕ, ◌-◌, ◌*◌, ◌⊎◌, inl, inr, ◌&&◌, ◌||◌, ◌==◌, not, nat_le, nat_lt, cond}
+use Rattle.std.proofs.Common.{◌≡◌, ◌≢◌, ◌∙◌, ℕ, ◌-◌, ◌*◌, ◌⊎◌, inl, inr, ◌&&◌, ◌||◌, ◌==◌, not, cond}
 use Rattle.std.proofs.Common.{if◌then◌else◌, Bool, true, false, Option, None, Some, ap, arith, refl, subst, sym}
-use Rattle.std.specs.Prelude.{is_some}
 use Rattle.std.proofs.lemmas.Bool.Decides.{nat_tests}
 use Rattle.vm_base.specs.declared.info.Back.{Back}
 use Rattle.vm_base.specs.declared.info.Back.TheVariants.{Anon, Shared, Private}
@@ -22,21 +21,20 @@ use Rattle.vm_base.specs.Apply.{Accesses, Applies, AppliesAfter, HasPage, Maps, 
 use Rattle.vm_base.specs.Apply.{after_mapping, after_protecting, after_unmapping, back_at, bytes_reply, copied, detached, detached_entry, entry_reply}
 use Rattle.vm_base.specs.Apply.{is_absent, is_read_only, is_read_only_back, is_uncopied, stored_back, meta_of, needs_copy, new_entry, range_at}
 use Rattle.vm_base.specs.Apply.{stored_entry, stored_own, with_prot}
-use Rattle.vm_base.specs.Copies.{if_copied, or_else, page_copied, page_due, with_copy}
-use Rattle.vm_base.specs.Functions.{across, has, over, put}
+use Rattle.vm_base.specs.Copies.{if_copied, or_else, page_copied, with_copy}
+use Rattle.vm_base.specs.Functions.{across, has, put}
 use Rattle.vm_base.specs.Info.{advance_back}
 use Rattle.vm_base.specs.Log.{RepliesBy}
-use Rattle.vm_base.specs.Pages.{are_pages, is_aligned, is_page, offset_of, page_count, page_of, pages_from, pages_of, window_of}
+use Rattle.vm_base.specs.Pages.{are_pages, is_aligned, is_page, offset_of, page_count, page_of, pages_from, pages_of}
 use Rattle.vm_base.specs.Places.{PlaceRule}
-use Rattle.vm_base.specs.Plain.{Bytes, Entry, File, Plain, back_bytes, bytes_of, is_mapped, mode_of}
+use Rattle.vm_base.specs.Plain.{Bytes, Entry, File, Plain, bytes_of, mode_of}
 use Rattle.vm_base.specs.Refusals.{answer, file_refusal, is_one_kind, mmap_refusal, refusal}
 use Rattle.vm_base.specs.Rights.{is_allowed}
-use Rattle.vm_base.proofs.Functions.{by_test, eq_true, has_in, put_other}
-use Rattle.audit.specs.Copying.{Copies}
+use Rattle.vm_base.proofs.Functions.{eq_true, put_other}
 use Rattle.audit.specs.declared.auditor.Call.{Call}
 use Rattle.orders.specs.Orders.{CopiesFor}
 use Rattle.orders.proofs.LeadLemmas.{answers_reply, reply_answers}
-use Rattle.cores.specs.Parts.{Has, IsAccess, IsMappedPart, IsMeet, IsPart, IsPartOf, IsPassed, IsReset, IsResetAt, Sets}
+use Rattle.cores.specs.Parts.{IsAccess, IsMappedPart, IsMeet, IsPart, IsPartOf, IsPassed, IsReset, IsResetAt, Sets}
 use Rattle.cores.specs.Parts.{are_apart, is_aside, is_quiet, is_told, misses, pages_put}
 
 -- ---- pages that agree
@@ -65,13 +63,13 @@ copied_anon t page e true o f = absurd cc
 copied_anon t page e false None f = refl
 copied_anon t page e false (Some bytes) f = refl
 
-uncopied_anon : (back : Back) (own : Option Bytes) → back ≡ Anon → is_uncopied back own ≡ false
+pub uncopied_anon : (back : Back) (own : Option Bytes) → back ≡ Anon → is_uncopied back own ≡ false
 uncopied_anon Anon own e = refl
 uncopied_anon (Shared file page) own e = refl
 uncopied_anon (Private file page) own e = absurd cc
 
 -- an anonymous page gets none
-none_detached : (t : Plain) (page : ℕ) → IsAnon (t.entry page) → detached t page ≡ None
+pub none_detached : (t : Plain) (page : ℕ) → IsAnon (t.entry page) → detached t page ≡ None
 none_detached t page a = go (t.entry page) a
   where
     go : (o : Option Entry) → IsAnon o → detached_entry t page o ≡ None
@@ -138,7 +136,7 @@ copy_aside t r NoFrame x a = refl
 copy_aside t r NoMemory x a = refl
 
 -- before an access of an anonymous page there is none
-no_copy : (t : Plain) (addr byte : ℕ) (y : Reply) → IsAnon (t.entry (page_of addr)) → page_copied t (Store addr byte) y ≡ None
+pub no_copy : (t : Plain) (addr byte : ℕ) (y : Reply) → IsAnon (t.entry (page_of addr)) → page_copied t (Store addr byte) y ≡ None
 no_copy t addr byte Done a = ap (λ (o : Option Plain). if_copied o (page_of addr)) (none_detached t (page_of addr) a)
 no_copy t addr byte (Mapped at) a = refl
 no_copy t addr byte (Byte b) a = refl
@@ -148,7 +146,7 @@ no_copy t addr byte Bus a = refl
 no_copy t addr byte NoFrame a = refl
 no_copy t addr byte NoMemory a = refl
 
-no_copy_load : (t : Plain) (addr : ℕ) (y : Reply) → page_copied t (Load addr) y ≡ None
+pub no_copy_load : (t : Plain) (addr : ℕ) (y : Reply) → page_copied t (Load addr) y ≡ None
 no_copy_load t addr Done = refl
 no_copy_load t addr (Mapped at) = refl
 no_copy_load t addr (Byte b) = refl
@@ -158,7 +156,7 @@ no_copy_load t addr Bus = refl
 no_copy_load t addr NoFrame = refl
 no_copy_load t addr NoMemory = refl
 
-no_copy_fetch : (t : Plain) (addr : ℕ) (y : Reply) → page_copied t (Fetch addr) y ≡ None
+pub no_copy_fetch : (t : Plain) (addr : ℕ) (y : Reply) → page_copied t (Fetch addr) y ≡ None
 no_copy_fetch t addr Done = refl
 no_copy_fetch t addr (Mapped at) = refl
 no_copy_fetch t addr (Byte b) = refl
@@ -242,10 +240,10 @@ accesses_same p t s u addr a byte y in_p same h = (
   subst (λ (m : Plain). Agrees p m (accessed s addr byte y)) (sym h.1) (accessed_same p t s addr byte y in_p same),
 )
 
-told_memory : (y : Reply) → is_told y ≡ true → y ≢ NoMemory
+pub told_memory : (y : Reply) → is_told y ≡ true → y ≢ NoMemory
 told_memory y e n = let wrong : is_told NoMemory ≡ true = subst (λ (z : Reply). is_told z ≡ true) n e in absurd cc
 
-told_frame : (y : Reply) → is_told y ≡ true → y ≢ NoFrame
+pub told_frame : (y : Reply) → is_told y ≡ true → y ≢ NoFrame
 told_frame y e n = let wrong : is_told NoFrame ≡ true = subst (λ (z : Reply). is_told z ≡ true) n e in absurd cc
 
 -- of an access
@@ -306,7 +304,7 @@ munmap_goes rule p t s u core addr len a l whole part meet h =
           (λ x i old. changed_at p (pages_of addr len) (pages_of a l) t s (λ (x : ℕ). None) (λ (x : ℕ). None) x meet i (λ j. (refl, tt)) old),
     )
 
-read_only_anon : (files : ℕ → Option File) (o : Option Entry) → IsAnon o → is_read_only files o ≡ false
+pub read_only_anon : (files : ℕ → Option File) (o : Option Entry) → IsAnon o → is_read_only files o ≡ false
 read_only_anon files None a = refl
 read_only_anon files (Some e) a = go e.back a
   where
@@ -364,7 +362,7 @@ no_file : (b : Bool) (x y : Option Reply) → b ≡ true → (if b then None els
 no_file true x y e = refl
 no_file false x y e = absurd cc
 
-refusal_same : (f g : ℕ → Option Mode) (addr len : ℕ) (prot : Prot) (flags : Flags) (file off : ℕ) → flags.anon ≡ true
+pub refusal_same : (f g : ℕ → Option Mode) (addr len : ℕ) (prot : Prot) (flags : Flags) (file off : ℕ) → flags.anon ≡ true
     → mmap_refusal f addr len prot flags file off ≡ mmap_refusal g addr len prot flags file off
 refusal_same f g addr len prot flags file off anon =
     ap (λ (rest : Option Reply).
@@ -384,7 +382,7 @@ back_anon flags file off e = go flags.anon e
     go false e = absurd cc
 
 -- where it was put
-maps_put : (rule : PlaceRule) (fixed : Bool) (t u : Plain) (core addr len at : ℕ) (back : Back) (prot : Prot)
+pub maps_put : (rule : PlaceRule) (fixed : Bool) (t u : Plain) (core addr len at : ℕ) (back : Back) (prot : Prot)
     → MapsAt rule fixed t (record { core = core; addr = addr; len = len; meta = record { back = back; prot = prot } }) (Mapped at) u
     → u ≡ after_mapping t (pages_put fixed addr len at) back prot
 maps_put rule true t u core addr len at back prot h = h.1

@@ -1,15 +1,12 @@
 -- Which calls of a core have taken effect in an order
-use Rattle.std.proofs.Common.{◌≡◌, ◌≢◌, ◌∙◌, ℕ, zero, suc, ◌+◌, ◌<◌, ◌≤◌, ◌⊎◌, inl, inr, ◌==◌, ◌||◌, cond, Bool, true, false, List, [], ◌∷◌, ◌++◌, Option}
-use Rattle.std.proofs.Common.{None, Some, ap, arith, length, map, refl, slice_get, subst, sym}
-use Rattle.std.specs.Prelude.{option_map}
+use Rattle.std.proofs.Common.{◌≡◌, ◌∙◌, ℕ, zero, suc, ◌<◌, ◌≤◌, inl, inr, ◌==◌, ◌||◌, Bool, true, false, List, [], ◌∷◌, ◌++◌}
+use Rattle.std.proofs.Common.{Some, ap, arith, refl, slice_get, subst, sym}
 use Rattle.std.proofs.lemmas.Bool.Decides.{nat_tests}
-use Rattle.std.proofs.lemmas.Option.{slice_get-map}
 use Rattle.vm_base.proofs.Functions.{eq_true}
 use Rattle.orders.specs.declared.history.Item.{Item}
 use Rattle.orders.specs.declared.history.Item.TheVariants.{Reply, Copy}
-use Rattle.orders.proofs.Lists.{get_within}
 use Rattle.cores.specs.declared.kept.Kept.{Kept}
-use Rattle.cores.specs.Cores.{IsAmong, IsChoice, Rises}
+use Rattle.cores.specs.Cores.{IsChoice, Rises}
 
 -- ---- replies among items
 

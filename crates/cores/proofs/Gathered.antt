@@ -1,10 +1,10 @@
 -- The calls that are gathered so far
-use Rattle.std.proofs.Common.{◌≡◌, ◌∙◌, ℕ, zero, suc, ◌+◌, ◌<◌, ◌≤◌, ◌⊎◌, inl, inr, Bool, true, false, List, [], ◌∷◌, ◌++◌, Option, None, Some, ap, arith}
-use Rattle.std.proofs.Common.{get_or, length, refl, slice_get, subst, sym}
+use Rattle.std.proofs.Common.{◌≡◌, ◌∙◌, ℕ, zero, suc, ◌+◌, ◌<◌, ◌≤◌, ◌⊎◌, inl, inr, true, List, [], ◌∷◌, ◌++◌, Some, ap, arith}
+use Rattle.std.proofs.Common.{get_or, length, slice_get, subst, sym}
 use Rattle.vm_base.specs.declared.page.PageRange.{PageRange}
 use Rattle.orders.specs.declared.history.Timed.{Timed}
 use Rattle.orders.proofs.Lists.{below, get_here, get_within}
-use Rattle.no_order.proofs.Fronts.{get_back, get_front, get_seam}
+use Rattle.no_order.proofs.Fronts.{get_front, get_seam}
 use Rattle.cores.specs.declared.kept.Kept.{Kept}
 use Rattle.cores.specs.Cores.{AreAll, IsAmong, IsKept, IsKeptCall, Rises, is_left_out}
 use Rattle.cores.proofs.Choosing.{rises_push}

@@ -1,5 +1,5 @@
 -- Where the items of a core's calls lead
-use Rattle.std.proofs.Common.{◌≡◌, ◌∙◌, ℕ, zero, suc, ◌+◌, ◌<◌, ◌≤◌, ◌⊎◌, inl, inr, nat_le, Bool, true, false, List, [], ◌∷◌, Option, None, Some}
+use Rattle.std.proofs.Common.{◌≡◌, ◌∙◌, ℕ, zero, suc, ◌<◌, ◌≤◌, ◌⊎◌, inl, inr, nat_le, true, false, List, [], ◌∷◌, Option, None, Some}
 use Rattle.std.proofs.Common.{ap, arith, refl, slice_get, subst, sym}
 use Rattle.std.proofs.lemmas.Bool.Decides.{nat_tests}
 use Rattle.vm_base.specs.declared.page.PageRange.{PageRange}

@@ -6,3 +6,5 @@ pub mod Leading
 pub mod Refuting
 pub mod Gathered
 pub mod Sparing
+pub mod Dimming
+pub mod Forgetting

@@ -1,5 +1,5 @@
 -- Some calls of an order, by new numbers
-use Rattle.std.proofs.Common.{◌≡◌, ◌≢◌, ◌∙◌, ℕ, zero, suc, ◌+◌, ◌<◌, ◌≤◌, ◌⊎◌, inl, inr, ◌==◌, cond, Bool, true, false, List, [], ◌∷◌, Option, None, Some}
+use Rattle.std.proofs.Common.{◌≡◌, ◌∙◌, ℕ, zero, suc, ◌+◌, ◌<◌, ◌⊎◌, inl, inr, ◌==◌, cond, Bool, true, false, List, [], ◌∷◌, Option, None, Some}
 use Rattle.std.proofs.Common.{ap, arith, length, refl, slice_get, subst, sym}
 use Rattle.std.specs.Prelude.{option_map}
 use Rattle.vm_base.proofs.Functions.{eq_false, eq_true}

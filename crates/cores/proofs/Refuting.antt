@@ -1,5 +1,5 @@
 -- A core without an order shows that its history has none
-use Rattle.std.proofs.Common.{◌≡◌, ◌≢◌, ◌∙◌, ℕ, zero, suc, ◌+◌, ◌<◌, ◌≤◌, ◌⊎◌, inl, inr, ◌||◌, cond, nat_le, nat_lt, Bool, true, false}
+use Rattle.std.proofs.Common.{◌≡◌, ◌∙◌, ℕ, zero, suc, ◌+◌, ◌<◌, ◌≤◌, ◌⊎◌, inl, inr, ◌||◌, cond, nat_le, nat_lt, Bool, true, false}
 use Rattle.std.proofs.Common.{List, [], ◌∷◌, ◌++◌, Option, None, Some, ap, arith, length, map, refl, slice_get, subst, sym}
 use Rattle.std.specs.Prelude.{option_map}
 use Rattle.std.proofs.lemmas.Bool.Decides.{nat_tests}
@@ -7,11 +7,11 @@ use Rattle.std.proofs.lemmas.Option.{slice_get-map}
 use Rattle.vm_base.specs.declared.page.PageRange.{PageRange}
 use Rattle.vm_base.specs.Log.{RepliesBy}
 use Rattle.vm_base.specs.Places.{PlaceRule}
-use Rattle.vm_base.specs.Plain.{Entry, Plain}
+use Rattle.vm_base.specs.Plain.{Plain}
 use Rattle.orders.specs.declared.history.Item.{Item}
-use Rattle.orders.specs.declared.history.Item.TheVariants.{Reply, Copy}
+use Rattle.orders.specs.declared.history.Item.TheVariants.{Reply}
 use Rattle.orders.specs.declared.history.Timed.{Timed}
-use Rattle.orders.specs.Orders.{CopiesFor, EachOnce, HasOrder, IsOf, IsOrder, KeepsTime, LeadAll, Leads, call_of}
+use Rattle.orders.specs.Orders.{HasOrder, IsOf, IsOrder, LeadAll, Leads, call_of}
 use Rattle.orders.proofs.Lists.{get_within}
 use Rattle.no_order.proofs.Fronts.{front_leads, get_front}
 use Rattle.audit.specs.Placing.{rule_of}
@@ -19,12 +19,12 @@ use Rattle.vm_base.specs.Plain.{File, nothing_mapped}
 use Rattle.cores.specs.declared.kept.Kept.{Kept}
 use Rattle.cores.specs.declared.finding.Core.{Core}
 use Rattle.cores.specs.Shown.{IsShown}
-use Rattle.cores.specs.Cores.{AreAll, AreTimely, HasNone, IsAmong, IsBase, IsBuilt, IsBuiltBy, IsChoice, IsCore, IsKept, IsStart, IsTimely}
-use Rattle.cores.specs.Cores.{Rises, is_left_out, timed_of}
+use Rattle.cores.specs.Cores.{AreTimely, HasNone, IsAmong, IsBase, IsBuilt, IsBuiltBy, IsChoice, IsCore, IsKept, IsTimely}
+use Rattle.cores.specs.Cores.{is_left_out, timed_of}
 use Rattle.cores.specs.Parts.{IsPart, IsResetAt, is_aside}
 use Rattle.cores.proofs.Agreeing.{reset_goes}
-use Rattle.cores.proofs.Leading.{AgreesOn, Follows, Grows, IsTimelyCall, WillReset, lead_grow, lead_on}
-use Rattle.cores.proofs.Choosing.{WasThere, at_stands, choose, choose_in, choose_of, choose_rises, is_choice, rises_distinct, stands, stands_at}
+use Rattle.cores.proofs.Leading.{Follows, Grows, IsTimelyCall, WillReset, lead_grow, lead_on}
+use Rattle.cores.proofs.Choosing.{at_stands, choose, choose_in, choose_of, choose_rises, is_choice, rises_distinct, stands, stands_at}
 use Rattle.cores.proofs.Picking.{AreDistinct, Stay, number_at, number_got, number_in, number_there, pick, add, stay_once, stay_time}
 
 -- ---- items until the cut

@@ -1,17 +1,16 @@
 -- What is a core of a history is one, too, where calls did not take effect that may not have
-use Rattle.std.proofs.Common.{◌≡◌, ◌∙◌, ℕ, zero, suc, ◌⊎◌, inl, inr, ◌||◌, nat_le, nat_lt, Bool, true, false, List, [], ◌∷◌, Option, Some, ap, refl, slice_get, subst, sym}
+use Rattle.std.proofs.Common.{◌≡◌, ◌∙◌, ℕ, ◌⊎◌, inl, inr, ◌||◌, nat_lt, Bool, true, false, List, [], ◌∷◌, Option, Some, ap, refl, slice_get, subst, sym}
 use Rattle.std.specs.Prelude.{not}
 use Rattle.vm_base.specs.declared.page.PageRange.{PageRange}
-use Rattle.vm_base.specs.Plain.{File, Plain, nothing_mapped}
+use Rattle.vm_base.specs.Plain.{File, nothing_mapped}
 use Rattle.audit.specs.Placing.{rule_of}
 use Rattle.orders.specs.declared.history.Timed.{Timed}
-use Rattle.orders.specs.Orders.{HasOrder}
 use Rattle.cores.specs.declared.finding.Core.{Core}
 use Rattle.cores.specs.declared.kept.Kept.{Kept}
-use Rattle.cores.specs.Cores.{AreAll, AreTimely, HasNone, IsAmong, IsBase, IsBuilt, IsBuiltBy, IsChoice, IsCore, IsKept, IsStart, IsTimely, is_left_out}
-use Rattle.cores.specs.Effects.{AreTold, IsMade, IsSpared, took}
-use Rattle.cores.specs.Parts.{IsResetAt, is_aside, is_quiet, misses}
-use Rattle.cores.specs.Shown.{IsShown, IsShownBut}
+use Rattle.cores.specs.Cores.{AreAll, AreTimely, HasNone, IsAmong, IsBase, IsBuiltBy, IsChoice, IsCore, IsKept, IsStart, is_left_out}
+use Rattle.cores.specs.Effects.{AreTold, IsMade, took}
+use Rattle.cores.specs.Parts.{IsResetAt, is_quiet, misses}
+use Rattle.cores.specs.Shown.{IsShown, IsShownBut, IsShownOf}
 use Rattle.cores.proofs.Choosing.{choose, choose_in, choose_of, choose_rises, put_if}
 use Rattle.cores.proofs.Refuting.{closed_if, core_refutes}
 
@@ -164,7 +163,7 @@ core_made h effects made m p number first start built cut ks core sure told = re
 pub shown_but : {A : Type 0} (any_place : Bool) (files : ℕ → Option File) (h : List Timed) (effects : List Bool) (core : Core A) (front : List Timed)
     → Some core.first ≡ slice_get h core.number → IsStart core.pages core.first core.start → IsBase core.pages core.start core.built core.kept.items
     → AreAll h core.pages core.number core.first core.cut core.kept.items → took effects core.number ≡ true → AreTold effects core.kept.items
-    → front ≡ core.start ∷ [] → HasNone (rule_of any_place) (nothing_mapped files) front core.kept.items → IsShownBut any_place h effects core
+    → front ≡ core.start ∷ [] → HasNone (rule_of any_place) (nothing_mapped files) front core.kept.items → IsShownOf any_place h effects core
 shown_but any_place files h effects core front at start base all sure told is none =
     let i : IsCore h core.pages core.number core.first core.start core.built core.cut core.kept.items =
     record { at = sym at; starts = start; base = base; all = all } in
@@ -192,4 +191,4 @@ all_took h = record {
 }
 
 pub shown_all : {A : Type 0} (any_place : Bool) (h : List Timed) (core : Core A) → IsShownBut any_place h [] core → IsShown any_place h core
-shown_all any_place h core s = record { is = s.is; files = s.files; alone = s.alone; none = λ t. s.none t h (all_took h) }
+shown_all any_place h core s = record { seen = s.seen; sees = s.sees; shown = s.shown; none = λ t. s.none t h (all_took h) }

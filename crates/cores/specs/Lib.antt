@@ -2,3 +2,4 @@ pub mod Parts
 pub mod Cores
 pub mod Effects
 pub mod Shown
+pub mod Byteless

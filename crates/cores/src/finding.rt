@@ -1,8 +1,9 @@
 //! A core of a history of which no order was found. Which one is tried is nobody's belief: each is shown to have no order.
 ghost use Rattle.std.specs.Prelude.{◌≡◌, ◌≤◌, IfOk, IfSome, Some, length, slice_get};
-ghost use Rattle.cores.specs.Shown.{IsShown, IsShownBut};
+ghost use Rattle.cores.specs.Shown.{IsShown, IsShownBut, IsShownOf};
 
 use crate::building::is_base;
+use crate::byteless::without_bytes;
 use crate::effects::are_told;
 use crate::gathering::{gather, start_of, took};
 use crate::kept::Kept;
@@ -78,7 +79,7 @@ fn attempt<A: Allocator + Clone + Drop>(
     wanted: &[usize],
 ) -> Result<Option<Core<A>>, NoMemory>
     requires { length files.now ≤ 16 }
-    ensures { IfOk result (λ found. IfSome found (λ core. IsShownBut any_place history.now effects.now core)) }
+    ensures { IfOk result (λ found. IfSome found (λ core. IsShownOf any_place history.now effects.now core)) }
 {
     let (number, built) = (base.number, base.built);
     let Some(first) = call_at(history, number) else {
@@ -160,8 +161,8 @@ fn shrink<A: Allocator + Clone + Drop>(
     wanted: &[usize],
 ) -> Result<Core<A>, NoMemory>
     requires few { length files.now ≤ 16 }
-    requires shown { IsShownBut any_place history.now effects.now found }
-    ensures { IfOk result (λ core. IsShownBut any_place history.now effects.now core) }
+    requires shown { IsShownOf any_place history.now effects.now found }
+    ensures { IfOk result (λ core. IsShownOf any_place history.now effects.now core) }
 {
     let mut core = found;
     let (pages, cut) = (core.pages, core.cut);
@@ -403,7 +404,7 @@ fn find_behind<A: Allocator + Clone + Drop>(
     cut: u64,
 ) -> Result<Option<Core<A>>, NoMemory>
     requires { length files.now ≤ 16 }
-    ensures { IfOk result (λ found. IfSome found (λ core. IsShownBut any_place history.now effects.now core)) }
+    ensures { IfOk result (λ found. IfSome found (λ core. IsShownOf any_place history.now effects.now core)) }
 {
     let Some(first) = call_at(history, base.number) else {
         return Ok(None);
@@ -464,7 +465,7 @@ fn find_built<A: Allocator + Clone + Drop>(
     cut: u64,
 ) -> Result<Option<Core<A>>, NoMemory>
     requires { length files.now ≤ 16 }
-    ensures { IfOk result (λ found. IfSome found (λ core. IsShownBut any_place history.now effects.now core)) }
+    ensures { IfOk result (λ found. IfSome found (λ core. IsShownOf any_place history.now effects.now core)) }
 {
     let mut until = cut;
     for _ in 0..FIRSTS {
@@ -491,7 +492,7 @@ fn find_in<A: Allocator + Clone + Drop>(
     cut: u64,
 ) -> Result<Option<Core<A>>, NoMemory>
     requires { length files.now ≤ 16 }
-    ensures { IfOk result (λ found. IfSome found (λ core. IsShownBut any_place history.now effects.now core)) }
+    ensures { IfOk result (λ found. IfSome found (λ core. IsShownOf any_place history.now effects.now core)) }
 {
     if pages.end > pages.first.saturating_add(1) {
         let built = find_built(alloc, files, any_place, history, effects, pages, cut)?;
@@ -513,17 +514,15 @@ fn find_in<A: Allocator + Clone + Drop>(
     Ok(None)
 }
 
-/// Finds a core of a history of which no order was found until the end of this call, and shows that it has none, whichever of those calls
-/// took effect that may not have, as they are told. So the history has none, whatever map it begins with. `None` says nothing. `Err` says that
-/// memory was wanting.
-pub fn find_core_but<A: Allocator + Clone + Drop>(
+// A core around this call.
+fn find_around<A: Allocator + Clone + Drop>(
     alloc: &A,
     any_place: bool,
     history: &[Timed],
     effects: &[bool],
     stuck: usize,
 ) -> Result<Option<Core<A>>, NoMemory>
-    ensures { IfOk result (λ found. IfSome found (λ core. IsShownBut any_place history.now effects.now core)) }
+    ensures { IfOk result (λ found. IfSome found (λ core. IsShownOf any_place history.now effects.now core)) }
 {
     let files = Vec::new(alloc.clone()?);
     let Some(timed) = call_at(history, stuck) else {
@@ -549,6 +548,40 @@ pub fn find_core_but<A: Allocator + Clone + Drop>(
         }
     }
     Ok(None)
+}
+
+// Tells whether some call mapped a file.
+fn has_files(history: &[Timed]) -> bool {
+    history.iter().any(
+        |timed| matches!(timed.call.request, Request::Mmap { flags, .. } if !flags.anon),
+    )
+}
+
+/// Finds a core of a history of which no order was found until the end of this call, and shows that it has none, whichever of those calls
+/// took effect that may not have, as they are told. So the history has none, whatever map it begins with. Where no core is found that has to do
+/// with no file, one may be that has no order whatever bytes there are. `None` says nothing. `Err` says that memory was wanting.
+pub fn find_core_but<A: Allocator + Clone + Drop>(
+    alloc: &A,
+    any_place: bool,
+    history: &[Timed],
+    effects: &[bool],
+    stuck: usize,
+) -> Result<Option<Core<A>>, NoMemory>
+    ensures { IfOk result (λ found. IfSome found (λ core. IsShownBut any_place history.now effects.now core)) }
+{
+    if let Some(core) = find_around(alloc, any_place, history, effects, stuck)? {
+        return Ok(Some(core));
+    }
+    if !has_files(history) {
+        return Ok(None);
+    }
+    let Some(left) = without_bytes(alloc, history)? else {
+        return Ok(None);
+    };
+    match find_around(alloc, any_place, left.as_slice(), effects, stuck)? {
+        Some(core) => Ok(Some(core)),
+        None => Ok(None),
+    }
 }
 
 /// The same of a history all of whose calls took effect.

@@ -2,6 +2,7 @@
 #![tactic(auto)]
 
 mod building;
+mod byteless;
 mod effects;
 mod finding;
 mod gathering;

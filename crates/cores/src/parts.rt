@@ -25,7 +25,7 @@ fn are_apart(range: PageRange, of: PageRange) -> bool
 }
 
 /// The pages of a mapping that was put at this address.
-fn pages_put(fixed: bool, addr: u64, len: u64, at: u64) -> PageRange
+pub(crate) fn pages_put(fixed: bool, addr: u64, len: u64, at: u64) -> PageRange
     ensures { result ≡ pages_put fixed addr len at }
 {
     if fixed {
@@ -122,7 +122,7 @@ fn asked(range: PageRange, of: PageRange) -> Option<(u64, u64)>
 }
 
 /// Tells whether the test of a request's arguments refuses it where there are no files.
-fn is_passed(request: Request) -> bool
+pub(crate) fn is_passed(request: Request) -> bool
     ensures { result ≡ true → IsPassed request }
 {
     refusal(None, request).is_none()

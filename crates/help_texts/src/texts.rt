@@ -287,14 +287,15 @@ not, and isn't counted. It writes one of these:
                        no order has these replies, and none was found that
                        gets to the end of line N's call. Behind it stand the
                        lines of some calls, each with its number, which have
-                       none by themselves: the first maps or unmaps pages of
-                       no file, and the others have changed them since, or
-                       tell of them. Where no such calls are found, all orders
-                       are tried of at most 64 calls; after 10,000 beginnings
-                       that is given up. Then behind it stand the mappings
-                       that the first calls left, as help maps says, and the
-                       lines of all others, if these are at most 12. It isn't
-                       told where a call waits
+                       none by themselves: the first maps or unmaps some
+                       pages, and the others have changed them since, or tell
+                       of them. Where one maps a file, they have none whatever
+                       bytes these pages show. Where no such calls are found,
+                       all orders are tried of at most 64 calls; after 10,000
+                       beginnings that is given up. Then behind it stand the
+                       mappings that the first calls left, as help maps says,
+                       and the lines of all others, if these are at most 12.
+                       It isn't told where a call waits
   undecided N          no order was found that gets to the end of line N's
                        call, or the search met its limit there: 300,000
                        configurations. There may be an order
@@ -325,11 +326,12 @@ call that was done keeps what it replaced on its page until it has ended, and
 an access may go as before it: it has its reply with the old entry, and stores
 to that, so that the page itself stays as it is. So munmap may still run when
 a load of the page gets segv maperr, and another one, after it, the old byte.
-Here undecided is more frequent. An access of a page of a file is not looked at
-as before a call; and that there is no order must show where each access that
-may go as before a call may have any reply at any time, or, if it is a load or
-a fetch, may have come before that call. The lines behind no order are told as
-above: so taken, the calls of their pages have no order by themselves.
+Here undecided is more frequent. A store is not looked at as before a call if
+it makes the copy of a private page of a file; and that there is no order must
+show where each access that may go as before a call may have any reply at any
+time, or, if it is a load or a fetch, may have come before that call. The lines
+behind no order are told as above: so taken, the calls of their pages have no
+order by themselves.
 
 Example:
   printf '%s\\n' 'vm 1 4' 'c0! mmap 0x10000 4096 rw- pfa = 0x10000' \\

@@ -1,5 +1,5 @@
 use Rattle.std.proofs.Common.{◌∙◌, List, Ok, [], ◌∷◌, ◌++◌, ap, subst, sym}
-use Rattle.std.specs.Prelude.{IfSome, Option}
+use Rattle.std.specs.Prelude.{IfSome}
 use Rattle.vm_base.specs.Plain.{nothing_mapped}
 use Rattle.backing.specs.Given.{given_files}
 use Rattle.audit.specs.Placing.{rule_of}

@@ -1,4 +1,4 @@
-use Rattle.std.proofs.Common.{Bool, List, [], IfSome, Option, subst}
+use Rattle.std.proofs.Common.{[], IfSome, Option, subst}
 use Rattle.cores.specs.Shown.{IsShownBut}
 use Rattle.cores.specs.declared.finding.Core.{Core}
 use Rattle.cores.proofs.Sparing.{shown_all}
