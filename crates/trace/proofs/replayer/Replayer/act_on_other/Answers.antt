@@ -33,13 +33,13 @@ returns-in-Act g c =
     let i : is_event (Some c.in-Some-said.said) ≡ true = search rules in
     let e = sym c.in-Some-said.is ∙ c.read_line-said.ensures in
     record {
-      ok = on_ok_weaker c.act_on_event-in-Act.result (λ h. event_acts _ _ c.args.line.now _ (Some c.in-Some-said.said) p e i h)
-          c.act_on_event-in-Act.ensures.ok;
-      seen = on_ok_weaker c.act_on_event-in-Act.result (λ h first lines before s. event_line_grows g.X.Watch.after first.watch c.args.self.now.watch
-          c.act_on_event-in-Act.new.self.watch _ _ lines c.args.line.now before c.act_on_event-in-Act.new.text.bytes (Some c.in-Some-said.said) e h s)
-          c.act_on_event-in-Act.ensures.seen;
-      err = event_failed g.L.Ledger.keeps c.act_on_event-in-Act.result _ c.args.number c.args.line.now
-          (Some c.in-Some-said.said) p e i c.act_on_event-in-Act.ensures.err;
+      ok = on_ok_weaker c.act_on_event.result (λ h. event_acts _ _ c.args.line.now _ (Some c.in-Some-said.said) p e i h)
+          c.act_on_event.ensures.ok;
+      seen = on_ok_weaker c.act_on_event.result (λ h first lines before s. event_line_grows g.X.Watch.after first.watch c.args.self.now.watch
+          c.act_on_event.new.self.watch _ _ lines c.args.line.now before c.act_on_event.new.text.bytes (Some c.in-Some-said.said) e h s)
+          c.act_on_event.ensures.seen;
+      err = event_failed g.L.Ledger.keeps c.act_on_event.result _ c.args.number c.args.line.now
+          (Some c.in-Some-said.said) p e i c.act_on_event.ensures.err;
     }
 
 pub returns-in-Some : goal.returns-in-Some
