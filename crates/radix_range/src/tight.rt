@@ -218,7 +218,6 @@ fn opened<A: Allocator>(
 }
 
 // Forgets of each what is no longer known since the pages of the range were unmapped.
-#[inline(never)]
 fn forget<A: Allocator>(
     tights: &[Tight],
     root: &Node<A>,
@@ -249,6 +248,23 @@ fn forget<A: Allocator>(
     rest
 }
 
+// The same in place. It stands by itself, so that a change where there is none clears no room for others.
+#[inline(never)]
+fn forget_opened<A: Allocator>(
+    tights: &mut Tights,
+    root: &Node<A>,
+    full: PageRange,
+    range: PageRange,
+)
+    requires tree { IsRadix root.now }
+    requires full { IsMappedRun (tree_slots root.now) full }
+    requires tights { All (IsTightBeside (tree_slots root.now) range) tights.old.items }
+    requires range { IsPageRange range }
+    ensures { All (IsTight (tree_slots root.now)) tights.new.items }
+{
+    *tights = forget(tights.as_slice(), root, full, range);
+}
+
 /// Keeps in mind what is known after a change. Room was last looked for from the first page of
 /// `sought` on, and found at its end.
 #[inline(always)]
@@ -274,7 +290,7 @@ pub(crate) fn note_change<A: Allocator>(
         }
         Change::Clear { range } => {
             if !tights.is_empty() {
-                *tights = forget(tights.as_slice(), root, full, range);
+                forget_opened(tights, root, full, range);
             }
         }
         Change::Protect { .. } => {}

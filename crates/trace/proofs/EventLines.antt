@@ -1,5 +1,5 @@
 -- What the steps of a line of an event give
-use Rattle.machine_model.proofs.Words.{◌≡◌, ℕ, Bool, List, Option, Some, None, false, inl, inr, Result, Ok, Err, refl, sym, ap, ◌∙◌, subst, IsSomeAnd, IfErr}
+use Rattle.machine_model.proofs.Words.{◌≡◌, ℕ, Bool, List, Option, Some, None, false, true, inl, inr, Result, Ok, Err, refl, sym, ap, ◌∙◌, subst, IsSomeAnd, IfErr, if◌then◌else◌}
 use Rattle.machine_model.proofs.Words.{World, Made, new_world, Slots, IsNew, Request}
 use Rattle.machine_model.specs.declared.event.Outcome.{Outcome}
 use Rattle.machine_model.specs.declared.event.Outcome.TheVariants.{Stepped, Wait, Idle, Answered, Full}
@@ -15,6 +15,9 @@ use Rattle.trace.specs.declared.fault.TraceFault.TheVariants as By
 use Rattle.trace.specs.Stage.{Stage, Start, Declared, Running, CanOpen, EventActs, EventFails, EventWants, Opens, stage_of}
 use Rattle.trace_text.specs.declared.line.Line.{Line}
 use Rattle.trace_text.specs.declared.line.Line.TheVariants.{Now}
+use Rattle.trace_text.specs.Front.{access_asked}
+use Rattle.trace_text.specs.declared.access_line.AskedAccess.{AskedAccess}
+use Rattle.vm_base.specs.declared.requests.Request.TheVariants.{Load, Store}
 use Rattle.core_steps.specs.declared.machine.Finished.{Finished}
 use Rattle.core_steps.specs.Finishing.{Calls, FinishesAfter as CallGoesOn}
 use Rattle.trace.specs.OutcomeText.{finished_text}
@@ -36,6 +39,13 @@ goes_on Full m v core f text g t = (g.0, t ∙ ap finished_text g.1)
 pub called : (CanFold : Slots → ℕ → Type 0) (Folds : Slots → Slots → ℕ → Type 0) (w v : World) (core : ℕ) (request : Request) (f : Finished) (text : List ℕ)
     → Calls w core request f v → text ≡ finished_text f → Gives CanFold Folds w (Now core request) v text
 called CanFold Folds w v core request f text c t = (c.0, c.1, c.2, goes_on c.0 c.1 v core f text c.3 t)
+
+-- an access is asked for by one of two requests
+pub store_asked : (access : AskedAccess) → access.is_store ≡ true → Store access.addr access.byte ≡ access_asked access
+store_asked access is = subst (λ b. Store access.addr access.byte ≡ (if b then Store access.addr access.byte else Load access.addr)) (sym is) refl
+
+pub load_asked : (access : AskedAccess) → access.is_store ≡ false → Load access.addr ≡ access_asked access
+load_asked access is = subst (λ b. Load access.addr ≡ (if b then Store access.addr access.byte else Load access.addr)) (sym is) refl
 
 -- the line is this one, and what it asks for is done
 pub line_gives : {U : Type 0} (line : Option Line) (l : Line) (r : Result U NoMemory) (u : U) (P : Line → Type 0) → line ≡ Some l → r ≡ Ok u → OnOk r (P l)

@@ -6,7 +6,8 @@ ghost use Rattle.trace.specs.Events.{event_of};
 ghost use Rattle.trace.specs.Gives.{Gives, Wants, WantsFinish, is_event, TellsFinish, TellsFold, TellsStep};
 ghost use Rattle.trace.specs.EventRuns.{Asks, AsksFinish, AsksOne};
 ghost use Rattle.trace.specs.Seen.{Sees};
-ghost use Rattle.trace_text.specs.Front.{step_asked};
+ghost use Rattle.trace_text.specs.Front.{access_asked, step_asked};
+ghost use Rattle.vm_base.specs.declared.requests.Request.TheVariants.{Load, Store};
 
 use crate::fault::TraceFault;
 use crate::outcome_text::{write_finished, write_outcome};
@@ -14,7 +15,7 @@ use core_steps::{Ledger, Machine};
 use machine_model::{Event, Outcome};
 use slot_lock::SlotMap;
 use std::alloc::Allocator;
-use trace_text::{Action, AskedStep, Line, LineText};
+use trace_text::{Action, AskedAccess, AskedStep, Line, LineText};
 use vm_base::{CoreId, NoMemory, Request};
 use watched::{Unwatched, Watch};
 
@@ -128,9 +129,9 @@ fn tell_finish<M: SlotMap, A: Allocator + Clone, L: Ledger, X: Watch>(
     Ok(())
 }
 
-// A call, which is finished if it could begin.
+/// A call, which is finished if it could begin.
 #[inline(never)]
-fn tell_call<M: SlotMap, A: Allocator + Clone, L: Ledger, X: Watch>(
+pub(crate) fn tell_call<M: SlotMap, A: Allocator + Clone, L: Ledger, X: Watch>(
     machine: &mut Machine<M, A, L>,
     watch: &mut X,
     core: CoreId,
@@ -146,6 +147,69 @@ fn tell_call<M: SlotMap, A: Allocator + Clone, L: Ledger, X: Watch>(
     let finished = watch.call(machine, core, request)?;
     write_finished(text, finished);
     Ok(())
+}
+
+// A load, which is finished if it could begin. It stands by itself, as a store does: each is compiled with no more than it needs of
+// what a call may be.
+#[inline(never)]
+fn tell_load<M: SlotMap, A: Allocator + Clone, L: Ledger, X: Watch>(
+    machine: &mut Machine<M, A, L>,
+    watch: &mut X,
+    core: CoreId,
+    addr: u64,
+    text: &mut LineText,
+) -> Result<(), NoMemory>
+    ensures ok { OnOk result (Gives M.can_fold M.folds (state machine.old) (Line.Now core (Load addr))
+        (state machine.new) text.new.bytes) }
+    ensures seen { OnOk result (Sees X.after watch.old (state machine.old) (Asks (Line.Now core (Load addr)))
+        (state machine.new) watch.new text.new.bytes) }
+    ensures err { OnErr result (Wants L.keeps (state machine.old) (Line.Now core (Load addr))) }
+{
+    let finished = watch.call(machine, core, Request::Load { addr })?;
+    write_finished(text, finished);
+    Ok(())
+}
+
+// A store, which is finished if it could begin.
+#[inline(never)]
+fn tell_store<M: SlotMap, A: Allocator + Clone, L: Ledger, X: Watch>(
+    machine: &mut Machine<M, A, L>,
+    watch: &mut X,
+    core: CoreId,
+    addr: u64,
+    byte: u8,
+    text: &mut LineText,
+) -> Result<(), NoMemory>
+    ensures ok { OnOk result (Gives M.can_fold M.folds (state machine.old) (Line.Now core (Store addr byte))
+        (state machine.new) text.new.bytes) }
+    ensures seen { OnOk result (Sees X.after watch.old (state machine.old) (Asks (Line.Now core (Store addr byte)))
+        (state machine.new) watch.new text.new.bytes) }
+    ensures err { OnErr result (Wants L.keeps (state machine.old) (Line.Now core (Store addr byte))) }
+{
+    let finished = watch.call(machine, core, Request::Store { addr, byte })?;
+    write_finished(text, finished);
+    Ok(())
+}
+
+/// A load or a store, known by its numbers, which no line is made of.
+#[inline(always)]
+pub(crate) fn tell_access<M: SlotMap, A: Allocator + Clone, L: Ledger, X: Watch>(
+    machine: &mut Machine<M, A, L>,
+    watch: &mut X,
+    core: CoreId,
+    access: AskedAccess,
+    text: &mut LineText,
+) -> Result<(), NoMemory>
+    ensures ok { OnOk result (Gives M.can_fold M.folds (state machine.old) (Line.Now core (access_asked access))
+        (state machine.new) text.new.bytes) }
+    ensures seen { OnOk result (Sees X.after watch.old (state machine.old) (Asks (Line.Now core (access_asked access)))
+        (state machine.new) watch.new text.new.bytes) }
+    ensures err { OnErr result (Wants L.keeps (state machine.old) (Line.Now core (access_asked access))) }
+{
+    if access.is_store {
+        return tell_store(machine, watch, core, access.addr, access.byte, text);
+    }
+    tell_load(machine, watch, core, access.addr, text)
 }
 
 /// Moves the machine as the line says, beside one who watches its steps, and replaces the text by what it gives. A line

@@ -5,7 +5,7 @@ ghost use Rattle.std.specs.Prelude.{IfErr, IfNone, IfSome, OnOk, IsSomeAnd};
 ghost use Rattle.core_steps.specs.Machine.{state};
 ghost use Rattle.core_steps.specs.Packing.{listed};
 ghost use Rattle.core_steps.specs.declared.setup.CallLimit.TheVariants.{Usual};
-ghost use Rattle.trace_text.specs.Front.{step_asked};
+ghost use Rattle.trace_text.specs.Front.{access_asked, step_asked};
 ghost use Rattle.trace_text.specs.Words.{words_of};
 ghost use Rattle.trace.specs.Stage.{Stage, Start, Declared, stage_of, Opens, OpenFails, CanOpen, Acts};
 ghost use Rattle.trace.specs.Stage.{BadFails, EventActs, EventFails, EventWants, FileFails, LateFails};
@@ -14,7 +14,7 @@ ghost use Rattle.trace.specs.Seen.{Grows, SeesAll, SeesEvent};
 ghost use Rattle.trace.specs.Shown.{HasNoneAt, IsNextAt, IsStartAt, log_at};
 
 use crate::declaration::{Declaration, FileLine};
-use crate::event_lines::{tell_asked, watch_line};
+use crate::event_lines::{tell_access, tell_asked, tell_call, watch_line};
 use crate::fault::TraceFault;
 use core_steps::{CallLimit, Ledger, LoggedEntries, Machine, Opening, SetupFault};
 use mmu::{Cpu, Hardware};
@@ -22,10 +22,10 @@ use radix_range::RadixMap;
 use slot_lock::{MapLine, SlotMap};
 use std::alloc::Allocator;
 use trace_text::{
-    AskedStep, Line, LineText, first_word_is_file, first_word_is_vm, is_printable_line,
-    read_access, read_line, read_step,
+    AskedAccess, AskedStep, Line, LineText, first_word_is_file, first_word_is_vm,
+    is_printable_line, read_access, read_call, read_line, read_step,
 };
-use vm_base::CoreId;
+use vm_base::{CoreId, Request};
 use watched::Watch;
 
 /// What acts on the lines of a trace, one at a time.
@@ -304,6 +304,66 @@ impl<A: Allocator + Clone + Drop, L: Opening<A> + Drop, X: Watch + Drop> Replaye
         }
     }
 
+    // Acts on the line of a load or a store.
+    #[inline(always)]
+    fn act_on_access(
+        &mut self,
+        number: u64,
+        core: CoreId,
+        access: AskedAccess,
+        text: &mut LineText,
+    ) -> Result<(), TraceFault>
+        ensures ok { OnOk result (EventActs (⟦<Self as Staged>⟧.stage self.old) (Line.Now core (access_asked access))
+            (⟦<Self as Staged>⟧.stage self.new) text.new.bytes) }
+        ensures seen { OnOk result (SeesEvent X.after (⟦<Self as Staged>⟧.stage self.old) self.old.watch
+            (Line.Now core (access_asked access)) (⟦<Self as Staged>⟧.stage self.new) self.new.watch text.new.bytes) }
+        ensures err { IfErr result
+            (λ f. ((f ≡ TraceFault.NoMemory) × EventWants L.keeps (⟦<Self as Staged>⟧.stage self.old)
+            (Line.Now core (access_asked access)))
+            ⊎ EventFails (⟦<Self as Staged>⟧.stage self.old) number (Some (Line.Now core (access_asked access))) f) }
+    {
+        match &mut self.machine {
+            Some(machine) => match tell_access(machine, &mut self.watch, core, access, text) {
+                Ok(()) => Ok(()),
+                Err(_) => Err(TraceFault::NoMemory),
+            },
+            None => {
+                let line = Line::Now(core, access.request());
+                self.act_on_first_event(number, Some(line), text)
+            }
+        }
+    }
+
+    // Acts on the line of another call.
+    #[inline(always)]
+    fn act_on_call(
+        &mut self,
+        number: u64,
+        core: CoreId,
+        request: Request,
+        text: &mut LineText,
+    ) -> Result<(), TraceFault>
+        ensures ok { OnOk result (EventActs (⟦<Self as Staged>⟧.stage self.old) (Line.Now core request)
+            (⟦<Self as Staged>⟧.stage self.new) text.new.bytes) }
+        ensures seen { OnOk result (SeesEvent X.after (⟦<Self as Staged>⟧.stage self.old) self.old.watch
+            (Line.Now core request) (⟦<Self as Staged>⟧.stage self.new) self.new.watch text.new.bytes) }
+        ensures err { IfErr result
+            (λ f. ((f ≡ TraceFault.NoMemory) × EventWants L.keeps (⟦<Self as Staged>⟧.stage self.old)
+            (Line.Now core request))
+            ⊎ EventFails (⟦<Self as Staged>⟧.stage self.old) number (Some (Line.Now core request)) f) }
+    {
+        match &mut self.machine {
+            Some(machine) => match tell_call(machine, &mut self.watch, core, request, text) {
+                Ok(()) => Ok(()),
+                Err(_) => Err(TraceFault::NoMemory),
+            },
+            None => {
+                let line = Line::Now(core, request);
+                self.act_on_first_event(number, Some(line), text)
+            }
+        }
+    }
+
     // Acts on a line that tells a core one step by its word.
     #[inline(always)]
     fn act_on_step(
@@ -333,26 +393,24 @@ impl<A: Allocator + Clone + Drop, L: Opening<A> + Drop, X: Watch + Drop> Replaye
             }
         }
     }
-}
 
-impl<A: Allocator + Clone + Drop, L: Opening<A> + Drop, X: Watch + Drop> Staged
-    for Replayer<A, L, X> {
-    ghost stage = { λ r. stage_of r.limit r.declaration (option_map state r.machine) };
-
-    ghost keeps = { L.keeps };
-
-    ghost saw = { λ first now lines text. SeesAll X.after first.watch
-        (stage_of now.limit now.declaration (option_map state now.machine)) lines text now.watch };
-
-    // It is inlined although several words replay: a call for each line costs a tenth of a hit.
-    #[inline(always)]
-    fn act(&mut self, number: u64, line: &[u8], text: &mut LineText) -> Result<(), TraceFault> {
-        if let Some(begun) = read_access(line) {
-            let request = begun.1.request();
-            return self.act_on_event(number, Some(Line::Now(begun.0, request)), text);
-        }
-        if let Some(told) = read_step(line) {
-            return self.act_on_step(number, told.0, told.1, text);
+    // Acts on a line that is neither a load nor a store nor one step, or that is written in a rarer form. It stands by itself,
+    // so that the commonest lines have no room for what any line may say.
+    #[inline(never)]
+    fn act_on_other(
+        &mut self,
+        number: u64,
+        line: &[u8],
+        text: &mut LineText,
+    ) -> Result<(), TraceFault>
+        ensures ok { OnOk result (Acts (⟦<Self as Staged>⟧.stage self.old) line.now (⟦<Self as Staged>⟧.stage self.new) text.new.bytes) }
+        ensures seen { OnOk result (Grows (⟦<Self as Staged>⟧.saw) self.old line.now self.new text.new.bytes) }
+        ensures err { IfErr result (λ f.
+            ((f ≡ TraceFault.NoMemory) × LineWants L.keeps (⟦<Self as Staged>⟧.stage self.old) line.now)
+            ⊎ LineFails (⟦<Self as Staged>⟧.stage self.old) number line.now f) }
+    {
+        if let Some(begun) = read_call(line) {
+            return self.act_on_call(number, begun.0, begun.1, text);
         }
         let said = read_line(line);
         if !is_printable_line(line, &said) {
@@ -381,6 +439,28 @@ impl<A: Allocator + Clone + Drop, L: Opening<A> + Drop, X: Watch + Drop> Staged
                 self.act_on_event(number, Some(said), text)
             }
         }
+    }
+}
+
+impl<A: Allocator + Clone + Drop, L: Opening<A> + Drop, X: Watch + Drop> Staged
+    for Replayer<A, L, X> {
+    ghost stage = { λ r. stage_of r.limit r.declaration (option_map state r.machine) };
+
+    ghost keeps = { L.keeps };
+
+    ghost saw = { λ first now lines text. SeesAll X.after first.watch
+        (stage_of now.limit now.declaration (option_map state now.machine)) lines text now.watch };
+
+    // It is inlined although several words replay: a call for each line costs a tenth of a hit.
+    #[inline(always)]
+    fn act(&mut self, number: u64, line: &[u8], text: &mut LineText) -> Result<(), TraceFault> {
+        if let Some(begun) = read_access(line) {
+            return self.act_on_access(number, begun.0, begun.1, text);
+        }
+        if let Some(told) = read_step(line) {
+            return self.act_on_step(number, told.0, told.1, text);
+        }
+        self.act_on_other(number, line, text)
     }
 
     fn finish(&self) -> Result<(), TraceFault> {

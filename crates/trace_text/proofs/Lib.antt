@@ -16,3 +16,4 @@ pub mod ValueLemmas
 pub mod DigitTable
 pub mod HalvesLemmas
 pub mod LogLineLemmas
+pub mod PairTable

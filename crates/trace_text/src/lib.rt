@@ -4,6 +4,7 @@
 
 pub mod access_line;
 pub mod action;
+pub mod call_line;
 pub mod core_line;
 pub mod file_line;
 pub mod grammar;
@@ -21,6 +22,7 @@ pub mod words;
 
 pub use access_line::{AskedAccess, read_access};
 pub use action::Action;
+pub use call_line::read_call;
 pub use line::{
     Line, first_word_is_file, first_word_is_vm, is_printable, is_printable_line, read_line,
     read_words,

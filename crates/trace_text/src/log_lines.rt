@@ -2,7 +2,7 @@
 //!
 //! Steps and calls are numbered in order, so that most numbers begin as the one before: the digits
 //! before the last two are kept, and copied as this many bytes whatever their number is.
-ghost use Rattle.std.specs.Prelude.{◌≡◌, ◌+◌, ◌≤◌, ◌++◌, decimal, length, take};
+ghost use Rattle.std.specs.Prelude.{◌≡◌, ◌+◌, ◌*◌, ◌/◌, ◌%◌, ◌<◌, ◌≤◌, [], ◌∷◌, ◌++◌, decimal, length, take};
 ghost use Rattle.trace_text.specs.Printing.{text_of};
 
 use crate::lists::write_detach;
@@ -17,6 +17,19 @@ const LONGEST_LINE: usize = 256;
 
 /// How many digits a number has at the most.
 const MOST_DIGITS: usize = 20;
+
+// The two decimal digits of each number below 100, one number behind another.
+const PAIRS: [u8; 200] = [
+    48, 48, 48, 49, 48, 50, 48, 51, 48, 52, 48, 53, 48, 54, 48, 55, 48, 56, 48, 57, 49, 48, 49, 49,
+    49, 50, 49, 51, 49, 52, 49, 53, 49, 54, 49, 55, 49, 56, 49, 57, 50, 48, 50, 49, 50, 50, 50, 51,
+    50, 52, 50, 53, 50, 54, 50, 55, 50, 56, 50, 57, 51, 48, 51, 49, 51, 50, 51, 51, 51, 52, 51, 53,
+    51, 54, 51, 55, 51, 56, 51, 57, 52, 48, 52, 49, 52, 50, 52, 51, 52, 52, 52, 53, 52, 54, 52, 55,
+    52, 56, 52, 57, 53, 48, 53, 49, 53, 50, 53, 51, 53, 52, 53, 53, 53, 54, 53, 55, 53, 56, 53, 57,
+    54, 48, 54, 49, 54, 50, 54, 51, 54, 52, 54, 53, 54, 54, 54, 55, 54, 56, 54, 57, 55, 48, 55, 49,
+    55, 50, 55, 51, 55, 52, 55, 53, 55, 54, 55, 55, 55, 56, 55, 57, 56, 48, 56, 49, 56, 50, 56, 51,
+    56, 52, 56, 53, 56, 54, 56, 55, 56, 56, 56, 57, 57, 48, 57, 49, 57, 50, 57, 51, 57, 52, 57, 53,
+    57, 54, 57, 55, 57, 56, 57, 57,
+];
 
 // Writes the piece at the place, and answers the place after it.
 #[inline(always)]
@@ -48,39 +61,75 @@ fn put_byte(bytes: &mut [u8], at: usize, byte: u8) -> usize
     }
 }
 
-// A number's digits, at the front of an array that is copied whole.
+// Writes the two decimal digits of a number below 100.
+#[inline(always)]
+fn put_pair(bytes: &mut [u8], at: usize, number: u64) -> usize
+    requires room { at + 2 ≤ length bytes.old }
+    requires below { number < 100 }
+    ensures text { take result bytes.new ≡ take at bytes.old ++ (48 + number / 10) ∷ (48 + number % 10) ∷ [] }
+    ensures end { result ≡ at + 2 }
+{
+    let pair = 2 * number as usize;
+    let tens = PAIRS[pair];
+    let ones = PAIRS[pair + 1];
+    bytes[at] = tens;
+    bytes[at + 1] = ones;
+    at + 2
+}
+
+// The digits of numbers before their last two, at the front of an array that is copied whole.
 #[derive(Clone, Copy)]
 struct Leading {
     number: u64,
+    /// The least number that has these before its last two.
+    first: u64,
     digits: [u8; MOST_DIGITS],
     len: usize,
+    ghost hundreds: { first ≡ 100 * number },
     ghost fits: { len ≤ 20 },
     ghost spelled: { take len digits ≡ decimal number },
 }
 
 impl Leading {
-    fn new(number: u64) -> Leading
-        ensures { result.number ≡ number }
+    // Those of this number.
+    fn of(whole: u64) -> Leading
+        ensures { result.number ≡ whole / 100 }
     {
+        let number = whole / 100;
         let mut buffer = itoa::Buffer::new();
         let text = buffer.format(number);
         let mut digits = [0; MOST_DIGITS];
         let len = put(&mut digits, 0, text.as_bytes());
         Leading {
             number,
+            first: 100 * number,
             digits,
             len,
         }
     }
 
-    // Has the digits of this number from now on.
-    #[inline(always)]
-    fn turn_to(&mut self, number: u64)
-        ensures { self.new.number ≡ number }
+    // Has those of this number from now on.
+    #[inline(never)]
+    fn renew(&mut self, whole: u64)
+        ensures { self.new.number ≡ whole / 100 }
     {
-        if self.number != number {
-            *self = Leading::new(number);
+        *self = Leading::of(whole);
+    }
+
+    // Has those of this number from now on, which may begin as the one before, and answers what its last two digits say. That
+    // one test is enough takes a number above those.
+    #[inline(always)]
+    fn last_two(&mut self, whole: u64) -> u64
+        requires { 100 ≤ whole }
+        ensures leading { self.new.number ≡ whole / 100 }
+        ensures last { result ≡ whole % 100 }
+    {
+        let last = whole.wrapping_sub(self.first);
+        if last < 100 {
+            return last;
         }
+        self.renew(whole);
+        whole - self.first
     }
 
     // Writes the digits, and whatever follows them in the array.
@@ -105,11 +154,9 @@ fn put_number(bytes: &mut [u8], at: usize, leading: &mut Leading, number: u64) -
     if number < 100 {
         return put_byte(bytes, at, number as u8);
     }
-    leading.turn_to(number / 100);
+    let last = leading.last_two(number);
     let end = leading.put_into(bytes, at);
-    let rest = (number % 100) as u8;
-    let digits = [b'0' + rest / 10, b'0' + rest % 10];
-    put(bytes, end, &digits)
+    put_pair(bytes, end, last)
 }
 
 // Writes a reply that isn't looked for first.
@@ -168,8 +215,8 @@ impl LogLines {
         LogLines {
             bytes: blank(),
             len: 0,
-            steps: Leading::new(0),
-            calls: Leading::new(0),
+            steps: Leading::of(0),
+            calls: Leading::of(0),
         }
     }
 

@@ -1,7 +1,5 @@
 use Rattle.radix_range.specs.Tree.{tree_slots}
 use Rattle.radix_range.proofs.NoRoom.{after_put, put_mapped, after_clear, after_protect}
-use Rattle.std.proofs.lemmas.List.Elements.{All-same}
-use Rattle.radix_range.specs.Tight.{IsTightBeside}
 use Rattle.radix_range.proofs.tight.note_change.Goals as goal
 
 pub note_room-requires-clause-tights : goal.note_room-requires-clause-tights
@@ -13,11 +11,10 @@ pub note_room-requires-clause-mapped : goal.note_room-requires-clause-mapped
 note_room-requires-clause-mapped g c =
     put_mapped c.requires.before.0 (tree_slots c.args.root.now) c.args.change c.in-Put.range c.in-Put.meta c.in-Put.is c.requires.before.1
 
-pub forget-requires-clause-tights : goal.forget-requires-clause-tights
-forget-requires-clause-tights g c =
-    All-same (IsTightBeside (tree_slots c.args.root.now) c.in-Clear.range) c.as_slice.result.now c.args.tights.now.items c.as_slice.ensures.value
-    (after_clear c.requires.before.0 (tree_slots c.args.root.now) c.args.change c.in-Clear.range c.args.tights.now.items c.in-Clear.is
-    c.requires.before.1 c.requires.before.2)
+pub forget_opened-requires-clause-tights : goal.forget_opened-requires-clause-tights
+forget_opened-requires-clause-tights g c =
+    after_clear c.requires.before.0 (tree_slots c.args.root.now) c.args.change c.in-Clear.range c.args.tights.now.items c.in-Clear.is
+    c.requires.before.1 c.requires.before.2
 
 pub returns-else-sought-range : goal.returns-else-sought-range
 returns-else-sought-range g c =
