@@ -102,6 +102,14 @@ fn way_at(number: usize, may_lag: bool) -> Option<Way> {
     Some(Way { late, division })
 }
 
+// Tells whether a way looks at stores of what was found.
+fn looks_at_stores(way: Option<Way>) -> bool {
+    match way {
+        Some(way) => way.late == Late::SinceStored,
+        None => false,
+    }
+}
+
 // A store of the byte that a load or fetch found: at this offset of a page, since this time.
 #[derive(Clone, Copy, Debug, PartialEq, Eq)]
 struct Stored {
@@ -240,18 +248,21 @@ fn joined<A: Allocator + Clone + Drop>(
 
 // Where in its page a load or fetch found a byte, and which, if the call is one.
 fn found_at(call: Call) -> Option<(u64, u8)> {
-    match (call.request, call.reply) {
-        (Request::Load { addr } | Request::Fetch { addr }, Reply::Byte(byte)) => {
-            Some((addr % PAGE_SIZE, byte))
-        }
+    let Reply::Byte(byte) = call.reply else {
+        return None;
+    };
+    match call.request {
+        Request::Load { addr } | Request::Fetch { addr } => Some((addr % PAGE_SIZE, byte)),
         _ => None,
     }
 }
 
 // Where in its page a store put a byte, and which, if the call is one that was done.
 fn stored_at(call: Call) -> Option<(u64, u8)> {
-    match (call.request, call.reply) {
-        (Request::Store { addr, byte }, Reply::Done) => Some((addr % PAGE_SIZE, byte)),
+    match call.request {
+        Request::Store { addr, byte } if call.reply == Reply::Done => {
+            Some((addr % PAGE_SIZE, byte))
+        }
         _ => None,
     }
 }
@@ -351,14 +362,14 @@ impl Around {
 
     // The next way is tried at this place; one that looks at stores only where there is one of what was found.
     fn go_on(&mut self, may_lag: bool) {
-        for _ in 0..2u8 {
-            self.number = self.number.saturating_add(1);
-            self.way = way_at(self.number, may_lag);
-            let looks = matches!(self.way, Some(way) if way.late == Late::SinceStored);
-            if !looks || self.stored.is_some() {
-                break;
-            }
+        let mut number = self.number.saturating_add(1);
+        let mut way = way_at(number, may_lag);
+        if self.stored.is_none() && looks_at_stores(way) {
+            number = number.saturating_add(1);
+            way = way_at(number, may_lag);
         }
+        self.number = number;
+        self.way = way;
         self.first = u64::MAX;
         self.last = 0;
     }
@@ -471,8 +482,8 @@ impl<A: Allocator + Clone + Drop> Divided<A> {
         let times = self.times(alloc, parts)?;
         let mut cuts = vec![in alloc.clone()?; false; parts.len()]?;
         let mut late = vec![in alloc.clone()?; false; parts.len()]?;
-        core::mem::swap(&mut cuts, &mut self.cuts);
-        core::mem::swap(&mut late, &mut self.late);
+        std::mem::swap(&mut cuts, &mut self.cuts);
+        std::mem::swap(&mut late, &mut self.late);
         for at in 0..parts.len() {
             if !is_at(times.as_slice(), &parts[at].timed) {
                 continue;
