@@ -3,7 +3,9 @@
 processor time (user and system) in milliseconds, all on one line. Every run has to end well, and all have to write the same
 text, byte for byte; with --own-texts each command has its own.
 
-Usage: measure.py [--own-texts] RUNS INPUT COMMAND.. [-- COMMAND..]..
+With --least it prints the least in place of the median: what else runs on the computer only adds to a time.
+
+Usage: measure.py [--least] [--own-texts] RUNS INPUT COMMAND.. [-- COMMAND..]..
 """
 
 import filecmp
@@ -43,8 +45,9 @@ def run(command, input_path, output_path):
 
 
 def main(words):
-    has_own_texts = words[0] == "--own-texts"
-    runs, input_path, *rest = words[has_own_texts:]
+    flags = [word for word in words[:2] if word in ("--least", "--own-texts")]
+    has_own_texts, told = "--own-texts" in flags, min if "--least" in flags else statistics.median
+    runs, input_path, *rest = words[len(flags):]
     commands = split_commands(rest)
     times = [[] for _ in commands]
     with tempfile.TemporaryDirectory() as folder:
@@ -56,7 +59,7 @@ def main(words):
                     continue
                 if not filecmp.cmp(output_path, os.path.join(folder, "0"), shallow=False):
                     sys.exit(f"measure.py: {' '.join(command)} writes another text than {' '.join(commands[0])}")
-    print(*(f"{statistics.median(each):.1f}" for each in times))
+    print(*(f"{told(each):.1f}" for each in times))
 
 
 main(sys.argv[1:])
