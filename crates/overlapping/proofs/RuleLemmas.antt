@@ -138,9 +138,11 @@ unordered_by any_place lines r told number line c core e text shown at is = reco
     built = core.built;
     cut = core.cut;
     kept = core.kept.items;
-    is = shown.1.is;
-    files = shown.1.files;
-    alone = shown.1.alone;
+    seen = shown.1.seen;
+    sees = shown.1.sees;
+    is = shown.1.shown.is;
+    files = shown.1.shown.files;
+    alone = shown.1.shown.alone;
     text = text;
   }));
 }

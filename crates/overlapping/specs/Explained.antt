@@ -8,7 +8,7 @@ use Rattle.orders.specs.declared.history.Timed.{Timed}
 use Rattle.orders.specs.Orders.{HasOrder}
 use Rattle.orders_text.specs.History.{IsHistory, Read}
 use Rattle.cores.specs.Cores.{HasNone as HasNoneOf, IsCore}
-use Rattle.cores.specs.Shown.{IsShown}
+use Rattle.cores.specs.Shown.{IsSeen, IsShown}
 use Rattle.cores.specs.declared.kept.Kept.{Kept}
 use Rattle.core_text.specs.Told.{core_text}
 use Rattle.overlapping.specs.Story.{IsStory}
@@ -17,7 +17,8 @@ use Rattle.overlapping.specs.declared.judging.Shown.{Shown}
 use Rattle.overlapping.specs.declared.judging.Shown.TheVariants as By
 use Rattle.overlapping.specs.declared.judging.Told.{Told}
 
--- The lines are those of a core of the history, which has no order by itself: in its pages its first calls leave nothing of what was there.
+-- The lines are those of a core of the history, or of the history without its bytes, which has no order by itself: in its pages its first calls
+-- leave nothing of what was there.
 pub record IsExplanation (any_place : Bool) (lines : List (List ℕ)) (r : Read) (explanation : List ℕ) : Type 0 where
   pub pages : PageRange
   pub number : ℕ
@@ -26,7 +27,9 @@ pub record IsExplanation (any_place : Bool) (lines : List (List ℕ)) (r : Read)
   pub built : ℕ
   pub cut : ℕ
   pub kept : List Kept
-  pub is : IsCore r.calls pages number first start built cut kept
+  pub seen : List Timed
+  pub sees : IsSeen r.calls seen
+  pub is : IsCore seen pages number first start built cut kept
   pub files : ℕ → Option File
   pub alone : HasNoneOf (rule_of any_place) (nothing_mapped files) (start ∷ []) kept
   pub text : explanation ≡ core_text lines r.lines number kept

@@ -107,11 +107,13 @@ explanation_there easing any_place lines r ps taken core explanation e eases is 
   kept = core.kept.items;
   taken = taken;
   eases = subst (λ (qs : List Part). easing qs taken) e eases;
-  is = is.is;
-  took_effect = is.first;
-  told = is.told;
-  files = is.files;
-  alone = is.alone;
+  seen = is.seen;
+  sees = is.sees;
+  is = is.shown.is;
+  took_effect = is.shown.first;
+  told = is.shown.told;
+  files = is.shown.files;
+  alone = is.shown.alone;
   text = text ∙ ap (λ (qs : List Part). numbered_text lines (core_lines r.lines qs core.number core.kept.items)) e;
 }
 

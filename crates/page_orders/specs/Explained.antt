@@ -7,6 +7,7 @@ use Rattle.orders.specs.declared.history.Timed.{Timed}
 use Rattle.orders_text.specs.History.{IsHistory, Read}
 use Rattle.cores.specs.Cores.{HasNone as HasNoneOf, IsCore}
 use Rattle.cores.specs.Effects.{AreTold, took}
+use Rattle.cores.specs.Shown.{IsSeen}
 use Rattle.cores.specs.declared.kept.Kept.{Kept}
 use Rattle.core_text.specs.Told.{numbered_text}
 use Rattle.by_pages.specs.Pages.{parts_from}
@@ -50,8 +51,8 @@ Easing = (are taken : List Part) → Type 0
 abbrev pub as_they_are : Easing
 as_they_are ps qs = qs ≡ ps
 
--- The lines are those of a core of the calls of the history's pages, as the rule takes them, which has no order by itself, whichever of its open
--- calls took effect: in its pages its first calls leave nothing of what was there.
+-- The lines are those of a core of the calls of the history's pages, as the rule takes them, or of these without their bytes. It has no order by
+-- itself, whichever of its open calls took effect: in its pages its first calls leave nothing of what was there.
 pub record IsExplanation (easing : Easing) (any_place : Bool) (lines : List (List ℕ)) (r : Read) (explanation : List ℕ) : Type 0 where
   pub pages : PageRange
   pub number : ℕ
@@ -62,7 +63,9 @@ pub record IsExplanation (easing : Easing) (any_place : Bool) (lines : List (Lis
   pub kept : List Kept
   pub taken : List Part
   pub eases : easing (parts_from 0 r.calls) taken
-  pub is : IsCore (map timed_of taken) pages number first start built cut kept
+  pub seen : List Timed
+  pub sees : IsSeen (map timed_of taken) seen
+  pub is : IsCore seen pages number first start built cut kept
   pub took_effect : took (map is_surely taken) number ≡ true
   pub told : AreTold (map is_surely taken) kept
   pub files : ℕ → Option File
