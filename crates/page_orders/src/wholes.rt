@@ -16,8 +16,8 @@ use vm_base::{NoMemory, Reply, Request, page_of};
 /// How often a search begins anew, with more done around the places where it was stuck.
 const TRIES: u32 = 60;
 
-// How calls are divided that are under way so far before a place: each into all of its parts, or one that has the page of
-// the place into that page, those in front of it and those behind it.
+// How calls are divided that are under way so far before a place: each into all of its parts, or one that has the page
+// of the place into that page, those in front of it and those behind it.
 #[derive(Clone, Copy, Debug, PartialEq, Eq)]
 enum Division {
     No,
@@ -25,8 +25,8 @@ enum Division {
     Whole(u64),
 }
 
-// Which accesses may lag around a place: those that are under way so far before it, of all pages or of its own; or, where
-// a byte was found there, all since a store of that byte, but stores elsewhere.
+// Which accesses may lag around a place: those that are under way so far before it, of all pages or of its own; or,
+// where a byte was found there, all since a store of that byte, but stores elsewhere.
 #[derive(Clone, Copy, Debug, PartialEq, Eq)]
 enum Late {
     All(u64),
@@ -44,8 +44,8 @@ struct Way {
 /// So soon behind a part at which a search was stuck others at which it was may be so for that.
 const SOON: u64 = 5_000;
 
-/// A call that is under way for longer has so many moments at which it may take effect that accesses don't lag behind it
-/// long before a place.
+/// A call that is under way for longer has so many moments at which it may take effect that accesses don't lag behind
+/// it long before a place.
 const SHORT: u64 = 200;
 
 /// A store that came longer before a load or fetch isn't looked at.
@@ -69,7 +69,8 @@ fn division_at(number: usize) -> Option<Division> {
     }
 }
 
-// What is tried, one way after another, where a search is stuck at a part again, or has too many configurations near it.
+// What is tried, one way after another, where a search is stuck at a part again, or has too many configurations
+// near it.
 fn way_at(number: usize, may_lag: bool) -> Option<Way> {
     if !may_lag {
         let division = division_at(number)?;
@@ -117,8 +118,8 @@ struct Stored {
     since: u64,
 }
 
-// A part where a search was stuck, the latest store of the byte that it found, the way that is tried there, and the times
-// at which calls are under way for which something is done.
+// A part where a search was stuck, the latest store of the byte that it found, the way that is tried there, and the
+// times at which calls are under way for which something is done.
 #[derive(Clone, Copy, Debug, PartialEq, Eq)]
 struct Around {
     part: usize,
@@ -316,7 +317,8 @@ impl Around {
         late.min(place.begin.saturating_sub(divided))
     }
 
-    // Tells whether a call may lag since a store of what was found: any access but a store elsewhere, behind any short call.
+    // Tells whether a call may lag since a store of what was found: any access but a store elsewhere, behind any short
+    // call.
     fn is_since_stored(&self, place: &Timed, timed: &Timed) -> bool {
         let Some(stored) = self.stored else {
             return false;
@@ -411,8 +413,8 @@ impl<A: Allocator + Clone + Drop> Divided<A> {
         Ok(())
     }
 
-    // Another way is tried at the parts where a search was stuck; but not at those soon behind another, since they may have
-    // replies again where that has.
+    // Another way is tried at the parts where a search was stuck; but not at those soon behind another, since they may
+    // have replies again where that has.
     fn go_on_stuck_all(&mut self, parts: &[Part], stuck: &[usize]) -> Result<(), NoMemory> {
         let mut next = 0u64;
         for part in stuck {
@@ -591,9 +593,9 @@ fn wholes_of<A: Allocator + Clone + Drop>(
 }
 
 /// Searches an order in which the pages of each call change at one moment, if some call has several parts or accesses
-/// may lag, and divides the calls around the places where none is found. There accesses may lag, too, if that is wanted;
-/// `lags` tells which do, and `stuck` at which parts it was stuck last. The items that it answers have each part once;
-/// whether they are an order is the caller's to judge. `Err` says that memory was wanting.
+/// may lag, and divides the calls around the places where none is found. There accesses may lag, too, if that is
+/// wanted; `lags` tells which do, and `stuck` at which parts it was stuck last. The items that it answers have each part
+/// once; whether they are an order is the caller's to judge. `Err` says that memory was wanting.
 pub fn search_whole<A: Allocator + Clone + Drop>(
     alloc: &A,
     objects: &Objects<A>,
