@@ -5,63 +5,117 @@ use clap::{Arg, ArgAction, Command, value_parser};
 use help_texts::{OVERVIEW, TOPICS, Topic, USAGE, VERSION, page};
 use std::alloc::{AllocError, Global};
 
-// A word that may stand or not.
-fn flag<'a>(alloc: Global, name: &'static str) -> Arg<'a> {
-    Arg::new(alloc, name).long(name).action(ArgAction::SetTrue)
+// What stands behind a choice.
+#[derive(Clone, Copy)]
+enum Value {
+    Nothing,
+    Number,
+    Name,
 }
 
-// A word after which a number stands.
-fn number<'a>(alloc: Global, name: &'static str) -> Arg<'a> {
-    Arg::new(alloc, name)
-        .long(name)
-        .value_parser(value_parser!(u64))
+// What may stand after a word: where none of `rivals` does and, if one is given, only where `needed` does.
+#[derive(Clone, Copy)]
+struct Choice {
+    name: &'static str,
+    value: Value,
+    rivals: &'static [&'static str],
+    needed: Option<&'static str>,
 }
 
-// A word after which a name stands.
-fn name<'a>(alloc: Global, name: &'static str) -> Arg<'a> {
-    Arg::new(alloc, name).long(name)
-}
-
-// The same where none of these stands.
-fn without<'a>(arg: Arg<'a>, names: &[&'static str]) -> Result<Arg<'a>, AllocError> {
-    let mut arg = arg;
-    for name in names {
-        arg = arg.conflicts_with(*name)?;
+impl Choice {
+    // The choice of this name, whatever else stands.
+    fn new(name: &'static str, value: Value) -> Choice {
+        Choice {
+            name,
+            value,
+            rivals: &[],
+            needed: None,
+        }
     }
-    Ok(arg)
+
+    // The same where none of these stands.
+    fn without(self, rivals: &'static [&'static str]) -> Choice {
+        Choice { rivals, ..self }
+    }
+
+    // The same where this stands.
+    fn beside(self, needed: &'static str) -> Choice {
+        let needed = Some(needed);
+        Choice { needed, ..self }
+    }
+
+    // The choice as the parser takes it.
+    fn arg<'a>(self, alloc: Global) -> Result<Arg<'a>, AllocError> {
+        let arg = Arg::new(alloc, self.name).long(self.name);
+        let arg = match self.value {
+            Value::Nothing => arg.action(ArgAction::SetTrue),
+            Value::Number => arg.value_parser(value_parser!(u64)),
+            Value::Name => arg,
+        };
+        let mut arg = match self.needed {
+            Some(needed) => arg.requires_arg(needed)?,
+            None => arg,
+        };
+        for rival in self.rivals {
+            arg = arg.conflicts_with(*rival)?;
+        }
+        Ok(arg)
+    }
 }
 
-// A word of the program with one more that may stand after it.
-fn with_arg<'a>(
-    command: Command<'a>,
-    arg: Result<Arg<'a>, AllocError>,
-) -> Result<Command<'a>, AllocError> {
-    command.arg(arg?)
+// A choice behind which nothing stands.
+fn flag(name: &'static str) -> Choice {
+    Choice::new(name, Value::Nothing)
 }
 
-// A word of the program that reads a text.
+// A choice behind which a number stands.
+fn number(name: &'static str) -> Choice {
+    Choice::new(name, Value::Number)
+}
+
+// A choice behind which a name stands.
+fn name(name: &'static str) -> Choice {
+    Choice::new(name, Value::Name)
+}
+
+// A word of the program that reads a text, with what may stand after it.
 fn reading<'a>(
     alloc: Global,
     name: &'static str,
     topic: Topic,
     usage: &'static str,
+    choices: &[Choice],
 ) -> Result<Command<'a>, AllocError> {
-    reading_from(alloc, name, topic, usage, Arg::new(alloc, "FILE"))
+    reading_from(alloc, name, topic, usage, Arg::new(alloc, "FILE"), choices)
 }
 
-// A word of the program that reads what these words name.
+// A word of the program that reads what `file` names, with what may stand after it.
 fn reading_from<'a>(
     alloc: Global,
     name: &'static str,
     topic: Topic,
     usage: &'static str,
     file: Arg<'a>,
+    choices: &[Choice],
 ) -> Result<Command<'a>, AllocError> {
-    Command::new(alloc, name)
+    let command = Command::new(alloc, name)
         .override_help(page(topic))
-        .override_usage(usage)
-        .arg(flag(alloc, "explain"))?
-        .arg(file)
+        .override_usage(usage);
+    let command = with_choices(alloc, command, &[flag("explain")])?;
+    with_choices(alloc, command.arg(file)?, choices)
+}
+
+// The same word with these choices more.
+fn with_choices<'a>(
+    alloc: Global,
+    command: Command<'a>,
+    choices: &[Choice],
+) -> Result<Command<'a>, AllocError> {
+    let mut command = command;
+    for choice in choices {
+        command = command.arg(choice.arg(alloc)?)?;
+    }
+    Ok(command)
 }
 
 const RUN_USAGE: &str =
@@ -92,123 +146,106 @@ const PICTURE_USAGE: &str =
 
 // The word `run` with what may stand after it.
 fn run_word<'a>(alloc: Global) -> Result<Command<'a>, AllocError> {
-    let command = reading(alloc, "run", Topic::Run, RUN_USAGE)?
-        .arg(flag(alloc, "log"))?
-        .arg(flag(alloc, "echo"))?;
-    let command = with_arg(command, flag(alloc, "state").conflicts_with("long"))?;
-    let command = with_arg(
-        command,
-        without(flag(alloc, "summary"), &["log", "echo", "state"]),
-    )?;
-    with_arg(command, flag(alloc, "long").conflicts_with("log"))
+    let choices = [
+        flag("log"),
+        flag("echo"),
+        flag("state").without(&["long"]),
+        flag("summary").without(&["log", "echo", "state"]),
+        flag("long").without(&["log"]),
+    ];
+    reading(alloc, "run", Topic::Run, RUN_USAGE, &choices)
 }
 
 // The word `maps` with what may stand after it.
 fn maps_word<'a>(alloc: Global) -> Result<Command<'a>, AllocError> {
-    reading(alloc, "maps", Topic::Maps, MAPS_USAGE)?
-        .arg(flag(alloc, "names"))?
-        .arg(flag(alloc, "long"))
+    let choices = [flag("names"), flag("long")];
+    reading(alloc, "maps", Topic::Maps, MAPS_USAGE, &choices)
 }
 
 // The word `state` with what may stand after it.
 fn state_word<'a>(alloc: Global) -> Result<Command<'a>, AllocError> {
-    reading(alloc, "state", Topic::State, STATE_USAGE)?
-        .arg(number(alloc, "at"))?
-        .arg(flag(alloc, "json"))
+    let choices = [number("at"), flag("json")];
+    reading(alloc, "state", Topic::State, STATE_USAGE, &choices)
 }
 
 // The word `live` with what may stand after it.
 fn live_word<'a>(alloc: Global) -> Result<Command<'a>, AllocError> {
-    let command = reading(alloc, "live", Topic::Threads, LIVE_USAGE)?.arg(flag(alloc, "certify"))?;
-    let command = with_arg(command, flag(alloc, "history").conflicts_with("certify"))?;
-    let command = with_arg(
-        command,
-        without(flag(alloc, "shared"), &["certify", "history"]),
-    )?;
-    with_arg(command, flag(alloc, "summary").conflicts_with("shared"))
+    let choices = [
+        flag("certify"),
+        flag("history").without(&["certify"]),
+        flag("shared").without(&["certify", "history"]),
+        flag("summary").without(&["shared"]),
+    ];
+    reading(alloc, "live", Topic::Threads, LIVE_USAGE, &choices)
 }
 
 // The word `import` with what may stand after it.
 fn import_word<'a>(alloc: Global) -> Result<Command<'a>, AllocError> {
     let files = Arg::new(alloc, "FILE").num_args(0..);
-    let command = reading_from(alloc, "import", Topic::Import, IMPORT_USAGE, files)?
-        .arg(number(alloc, "pid"))?
-        .arg(flag(alloc, "one-process"))?
-        .arg(name(alloc, "maps"))?;
-    let command = with_arg(
-        command,
-        without(name(alloc, "all"), &["pid", "one-process", "maps"]),
-    )?;
-    with_arg(
-        command,
-        without(
-            flag(alloc, "lackey"),
-            &["pid", "one-process", "maps", "all"],
-        ),
+    let choices = [
+        number("pid"),
+        flag("one-process"),
+        name("maps"),
+        name("all").without(&["pid", "one-process", "maps"]),
+        flag("lackey").without(&["pid", "one-process", "maps", "all"]),
+    ];
+    reading_from(
+        alloc,
+        "import",
+        Topic::Import,
+        IMPORT_USAGE,
+        files,
+        &choices,
     )
 }
 
-// The word `audit` with the rules that orders of calls may have.
-fn with_rules<'a>(alloc: Global, command: Command<'a>) -> Result<Command<'a>, AllocError> {
-    let by_pages = flag(alloc, "by-pages").requires_arg("overlapping")?;
-    let command = with_arg(command, by_pages.conflicts_with("given"))?;
-    let loose = flag(alloc, "loose").requires_arg("overlapping")?;
-    with_arg(command, without(loose, &["by-pages", "given", "order"]))
+// The word `audit` with what may stand after it. The parser doesn't ask for `overlapping` beside a choice that rules it out, so what only
+// orders have names those itself.
+fn audit_word<'a>(alloc: Global) -> Result<Command<'a>, AllocError> {
+    let choices = [
+        flag("any-place"),
+        flag("strict"),
+        flag("all"),
+        flag("overlapping").without(&["strict", "all"]),
+        of_orders(name("given"), &["strict", "all"]),
+        of_orders(name("order"), &["strict", "all"]),
+        of_orders(flag("by-pages"), &["strict", "all", "given"]),
+        of_orders(
+            flag("loose"),
+            &["strict", "all", "by-pages", "given", "order"],
+        ),
+    ];
+    reading(alloc, "audit", Topic::Audit, AUDIT_USAGE, &choices)
 }
 
-// The word `audit` with what may stand after it.
-fn audit_word<'a>(alloc: Global) -> Result<Command<'a>, AllocError> {
-    let command = reading(alloc, "audit", Topic::Audit, AUDIT_USAGE)?
-        .arg(flag(alloc, "any-place"))?
-        .arg(flag(alloc, "strict"))?
-        .arg(flag(alloc, "all"))?;
-    let command = with_arg(
-        command,
-        without(flag(alloc, "overlapping"), &["strict", "all"]),
-    )?;
-    let command = with_arg(command, name(alloc, "given").requires_arg("overlapping"))?;
-    let command = with_arg(command, name(alloc, "order").requires_arg("overlapping"))?;
-    with_rules(alloc, command)
+// A choice that only orders of calls have, where none of these stands.
+fn of_orders(choice: Choice, rivals: &'static [&'static str]) -> Choice {
+    choice.beside("overlapping").without(rivals)
 }
 
 // The word `picture` with what may stand after it.
 fn picture_word<'a>(alloc: Global) -> Result<Command<'a>, AllocError> {
-    let command = reading(alloc, "picture", Topic::Picture, PICTURE_USAGE)?
-        .arg(number(alloc, "from"))?
-        .arg(number(alloc, "to"))?;
-    let command = with_arg(command, flag(alloc, "steps").conflicts_with("lives"))?;
-    with_arg(command, without(flag(alloc, "lives"), &["from", "to"]))
-}
-
-// The word `litmus` with what compares a test with threads and with other systems.
-fn with_others<'a>(alloc: Global, command: Command<'a>) -> Result<Command<'a>, AllocError> {
-    let command = with_arg(
-        command,
-        without(name(alloc, "observed"), &["list", "witness", "picture"]),
-    )?;
-    let live = without(
-        number(alloc, "live"),
-        &["list", "witness", "picture", "observed"],
-    );
-    let command = with_arg(command, live)?;
-    let program = without(
-        flag(alloc, "to-c"),
-        &["live", "limit", "list", "witness", "picture", "observed"],
-    );
-    with_arg(command, program)
+    let choices = [
+        number("from"),
+        number("to"),
+        flag("steps").without(&["lives"]),
+        flag("lives").without(&["from", "to"]),
+    ];
+    reading(alloc, "picture", Topic::Picture, PICTURE_USAGE, &choices)
 }
 
 // The word `litmus` with what may stand after it.
 fn litmus_word<'a>(alloc: Global) -> Result<Command<'a>, AllocError> {
-    let command = reading(alloc, "litmus", Topic::Litmus, LITMUS_USAGE)?
-        .arg(number(alloc, "limit"))?
-        .arg(number(alloc, "witness"))?;
-    let command = with_arg(
-        command,
-        without(number(alloc, "picture"), &["list", "witness"]),
-    )?;
-    let command = with_arg(command, flag(alloc, "list").conflicts_with("witness"))?;
-    with_others(alloc, command)
+    let choices = [
+        number("limit"),
+        number("witness"),
+        number("picture").without(&["list", "witness"]),
+        flag("list").without(&["witness"]),
+        name("observed").without(&["list", "witness", "picture"]),
+        number("live").without(&["list", "witness", "picture", "observed"]),
+        flag("to-c").without(&["live", "limit", "list", "witness", "picture", "observed"]),
+    ];
+    reading(alloc, "litmus", Topic::Litmus, LITMUS_USAGE, &choices)
 }
 
 // The word `help` with what may stand after it.
@@ -219,42 +256,63 @@ fn help_word<'a>(alloc: Global) -> Result<Command<'a>, AllocError> {
         .arg(Arg::new(alloc, "TOPIC").value_parser(TOPICS))
 }
 
-// The program before its words.
-fn wordless<'a>(alloc: Global) -> Command<'a> {
-    Command::new(alloc, "radixvm")
-        .override_help(OVERVIEW)
-        .override_usage(USAGE)
-        .version(VERSION)
-        .disable_help_subcommand(true)
-        .subcommand_required(true)
+// The words of the program.
+#[derive(Clone, Copy)]
+enum Word {
+    Run,
+    Maps,
+    State,
+    Page,
+    Certify,
+    Live,
+    Import,
+    Audit,
+    Picture,
+    Litmus,
+    Help,
 }
 
-// The program with one word more.
-fn with_word<'a>(
-    program: Command<'a>,
-    word: Result<Command<'a>, AllocError>,
-) -> Result<Command<'a>, AllocError> {
-    program.subcommand(word?)
-}
+const WORDS: [Word; 11] = [
+    Word::Run,
+    Word::Maps,
+    Word::State,
+    Word::Page,
+    Word::Certify,
+    Word::Live,
+    Word::Import,
+    Word::Audit,
+    Word::Picture,
+    Word::Litmus,
+    Word::Help,
+];
 
-// The program with its words that make a machine.
-fn machine_words<'a>(alloc: Global) -> Result<Command<'a>, AllocError> {
-    let program = with_word(wordless(alloc), run_word(alloc))?;
-    let program = with_word(program, maps_word(alloc))?;
-    let program = with_word(program, state_word(alloc))?;
-    let program = with_word(program, reading(alloc, "page", Topic::Page, PAGE_USAGE))?;
-    let program = with_word(
-        program,
-        reading(alloc, "certify", Topic::Notes, CERTIFY_USAGE),
-    )?;
-    with_word(program, live_word(alloc))
+// A word with what may stand after it.
+fn command<'a>(alloc: Global, word: Word) -> Result<Command<'a>, AllocError> {
+    match word {
+        Word::Run => run_word(alloc),
+        Word::Maps => maps_word(alloc),
+        Word::State => state_word(alloc),
+        Word::Page => reading(alloc, "page", Topic::Page, PAGE_USAGE, &[]),
+        Word::Certify => reading(alloc, "certify", Topic::Notes, CERTIFY_USAGE, &[]),
+        Word::Live => live_word(alloc),
+        Word::Import => import_word(alloc),
+        Word::Audit => audit_word(alloc),
+        Word::Picture => picture_word(alloc),
+        Word::Litmus => litmus_word(alloc),
+        Word::Help => help_word(alloc),
+    }
 }
 
 /// The program's words, with what may stand after each.
 pub fn grammar<'a>(alloc: Global) -> Result<Command<'a>, AllocError> {
-    let program = with_word(machine_words(alloc)?, import_word(alloc))?;
-    let program = with_word(program, audit_word(alloc))?;
-    let program = with_word(program, picture_word(alloc))?;
-    let program = with_word(program, litmus_word(alloc))?;
-    with_word(program, help_word(alloc))
+    let mut program = Command::new(alloc, "radixvm")
+        .override_help(OVERVIEW)
+        .override_usage(USAGE)
+        .version(VERSION)
+        .disable_help_subcommand(true)
+        .subcommand_required(true);
+    for word in WORDS {
+        program = program.subcommand(command(alloc, word)?)?;
+    }
+    Ok(program)
 }
