@@ -60,7 +60,7 @@ fn call_at(history: &[Timed], number: usize) -> Option<Timed>
 }
 
 /// The number of the call that a core begins with, and until when it and others build the map.
-#[derive(Clone, Copy, Debug)]
+#[derive(Clone, Copy)]
 struct Base {
     number: usize,
     built: u64,

@@ -13,7 +13,7 @@ use trace_text::number::read_number;
 use vm_base::{Flags, Prot, Request};
 
 // The calls that are looked at.
-#[derive(Clone, Copy, Debug, PartialEq, Eq)]
+#[derive(Clone, Copy, PartialEq, Eq)]
 enum Call {
     // `mmap`, and `mmap2` of programs of 32 bits.
     Mmap,
@@ -61,7 +61,7 @@ pub enum Lost {
 }
 
 // What stands after the sign of equality.
-#[derive(Clone, Copy, Debug, PartialEq, Eq)]
+#[derive(Clone, Copy, PartialEq, Eq)]
 enum Outcome {
     Gives(u64),
     // -1, and why.

@@ -43,7 +43,7 @@ pub enum Heard {
 }
 
 // The calls that are looked at.
-#[derive(Clone, Copy, Debug, PartialEq, Eq)]
+#[derive(Clone, Copy, PartialEq, Eq)]
 enum Call {
     Mmap,
     Munmap,
@@ -56,7 +56,7 @@ enum Call {
 }
 
 // How a call ended.
-#[derive(Clone, Copy, Debug, PartialEq, Eq)]
+#[derive(Clone, Copy, PartialEq, Eq)]
 enum Outcome {
     Gives(u64),
     Fails,

@@ -156,7 +156,7 @@ fn put_half(
 }
 
 /// Room for the text of a call, and for the name that it shows.
-#[derive(Debug, Drop)]
+#[derive(Drop)]
 pub(crate) struct Room {
     text: Vec<u8>,
     /// The name.

@@ -8,7 +8,7 @@ use import_forms::speech::{begun, returned};
 use vm_base::Request;
 
 /// What is kept of a line's text.
-#[derive(Clone, Copy, Debug)]
+#[derive(Clone, Copy)]
 pub(crate) struct Line<'a> {
     /// Whether it is of half of a call.
     pub(crate) half: bool,

@@ -33,7 +33,7 @@ pub struct Choice {
 }
 
 /// A thread, and its process.
-#[derive(Clone, Copy, Debug, PartialEq, Eq)]
+#[derive(Clone, Copy, PartialEq, Eq)]
 pub(crate) struct Known {
     pub(crate) thread: u64,
     pub(crate) process: u64,

@@ -7,7 +7,7 @@ use std::alloc::{AllocError, Global};
 use std::marker::Model;
 
 /// What is kept of a line beside its entry.
-#[derive(Clone, Copy, Debug, PartialEq, Eq)]
+#[derive(Clone, Copy, PartialEq, Eq)]
 pub(crate) struct Seldom {
     half: bool,
     said: Said,
@@ -15,7 +15,7 @@ pub(crate) struct Seldom {
 }
 
 /// What is kept of such lines, in order.
-#[derive(Debug, Drop)]
+#[derive(Drop)]
 pub(crate) struct Rares {
     list: Vec<Seldom>,
     texts: Vec<u8>,

@@ -28,7 +28,7 @@ pub struct Telling {
 }
 
 /// What lines tell.
-#[derive(Debug, Drop)]
+#[derive(Drop)]
 pub(crate) struct Heard {
     /// The threads that they say were made, in order.
     pub(crate) tellings: Vec<Telling>,

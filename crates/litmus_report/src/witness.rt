@@ -92,7 +92,7 @@ fn ends_before(core: CoreId, events: &[Event], place: usize) -> bool
 }
 
 // A part, and the place of the event behind those for which it stands.
-#[derive(Clone, Copy, Debug)]
+#[derive(Clone, Copy)]
 struct Piece {
     part: Part,
     next: usize,

@@ -43,7 +43,7 @@ pub struct Term {
 }
 
 // What follows a fact.
-#[derive(Clone, Copy, Debug)]
+#[derive(Clone, Copy)]
 enum Next<'a> {
     // Nothing.
     End,

@@ -19,7 +19,7 @@ use vm_base::{
 };
 
 /// What a page was mapped to.
-#[derive(Clone, Copy, Debug, PartialEq, Eq)]
+#[derive(Clone, Copy, PartialEq, Eq)]
 pub(crate) enum Was {
     /// To nothing.
     Unmapped,
@@ -52,7 +52,7 @@ pub(crate) enum Was {
 }
 
 /// What is known of the entry that a call has replaced on a page.
-#[derive(Clone, Copy, Debug, PartialEq, Eq)]
+#[derive(Clone, Copy, PartialEq, Eq)]
 pub(crate) struct Kept {
     /// The call.
     pub call: u32,

@@ -17,7 +17,7 @@ use vm_base::NoMemory;
 const FEW: usize = 1_000;
 
 /// What a search comes to.
-#[derive(Debug, Drop)]
+#[derive(Drop)]
 pub(crate) enum Order<A: Allocator> {
     /// The steps may be an order, in which these accesses may go as before these calls, where these of the parts that aren't sure are lost.
     Of {

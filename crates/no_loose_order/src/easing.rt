@@ -19,7 +19,7 @@ pub(crate) const MANY: usize = 8_192;
 const BESIDE: usize = 2_000;
 
 /// Which accesses are looked at: those of some pages at some places. Of others nothing is told of what they found.
-#[derive(Clone, Copy, Debug)]
+#[derive(Clone, Copy)]
 pub(crate) struct Near {
     first: usize,
     end: usize,

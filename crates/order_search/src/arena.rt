@@ -30,19 +30,32 @@ const META: u64 = 0x85eb_ca77_c2b2_ae63;
 const BACK: u64 = 0x27d4_eb2f_1656_67c5;
 
 /// A part of a list.
-#[derive(Clone, Copy, Debug, PartialEq, Eq)]
+#[derive(Clone, Copy, PartialEq, Eq)]
 pub(crate) struct Span {
     pub first: usize,
     pub end: usize,
 }
 
 /// Where a map is, and numbers that two maps share only by chance.
-#[derive(Clone, Copy, Debug, PartialEq, Eq)]
+#[derive(Clone, Copy, PartialEq, Eq)]
 pub(crate) struct Spot {
     pub runs: Span,
     pub cells: Span,
     pub runs_print: u64,
     pub cells_print: u64,
+}
+
+impl Spot {
+    /// Where the empty map is.
+    pub fn empty() -> Spot {
+        let nowhere = Span { first: 0, end: 0 };
+        Spot {
+            runs: nowhere,
+            cells: nowhere,
+            runs_print: 1,
+            cells_print: 2,
+        }
+    }
 }
 
 /// All maps.
@@ -233,17 +246,6 @@ impl<A: Allocator + Clone + Drop> Arena<A> {
             keeps_old: false,
             most: FEW,
         })
-    }
-
-    /// Where the empty map is.
-    pub fn empty(&self) -> Spot {
-        let nowhere = Span { first: 0, end: 0 };
-        Spot {
-            runs: nowhere,
-            cells: nowhere,
-            runs_print: 1,
-            cells_print: 2,
-        }
     }
 
     /// How long the lists are.
@@ -475,38 +477,56 @@ impl<A: Allocator + Clone + Drop> Arena<A> {
         Ok(Some(new))
     }
 
-    /// Leaves out what no configuration needs, and tells these where their maps are.
-    pub fn shorten(&mut self, alloc: &A, configs: &mut [Config]) -> Result<(), NoMemory> {
+    // Leaves out the runs that no configuration needs, and tells these where theirs are.
+    fn shorten_runs(&mut self, alloc: &A, configs: &mut [Config]) -> Result<(), NoMemory> {
         let mut runs = Vec::new(alloc.clone()?);
-        let mut cells = Vec::new(alloc.clone()?);
-        let mut old = self.empty();
-        let mut new = self.empty();
+        let mut old = Span { first: 0, end: 0 };
+        let mut new = old;
         for at in 0..configs.len() {
-            let spot = configs[at].spot;
-            if spot.runs != old.runs {
+            let span = configs[at].spot.runs;
+            if span != old {
                 let first = runs.len();
-                runs.extend_from_slice(runs_in(self.runs.as_slice(), spot.runs))?;
-                new.runs = Span {
+                runs.extend_from_slice(runs_in(self.runs.as_slice(), span))?;
+                new = Span {
                     first,
                     end: runs.len(),
                 };
             }
-            if spot.cells != old.cells {
+            old = span;
+            configs[at].spot.runs = new;
+        }
+        self.runs = runs;
+        Ok(())
+    }
+
+    // The same of cells.
+    fn shorten_cells(&mut self, alloc: &A, configs: &mut [Config]) -> Result<(), NoMemory> {
+        let mut cells = Vec::new(alloc.clone()?);
+        let mut old = Span { first: 0, end: 0 };
+        let mut new = old;
+        for at in 0..configs.len() {
+            let span = configs[at].spot.cells;
+            if span != old {
                 let first = cells.len();
-                cells.extend_from_slice(cells_in(self.cells.as_slice(), spot.cells))?;
-                new.cells = Span {
+                cells.extend_from_slice(cells_in(self.cells.as_slice(), span))?;
+                new = Span {
                     first,
                     end: cells.len(),
                 };
             }
-            old = spot;
-            configs[at].spot.runs = new.runs;
-            configs[at].spot.cells = new.cells;
+            old = span;
+            configs[at].spot.cells = new;
         }
-        let most = runs.len().max(cells.len());
-        self.most = most.saturating_mul(2).saturating_add(FEW);
-        self.runs = runs;
         self.cells = cells;
+        Ok(())
+    }
+
+    /// Leaves out what no configuration needs, and tells these where their maps are.
+    pub fn shorten(&mut self, alloc: &A, configs: &mut [Config]) -> Result<(), NoMemory> {
+        self.shorten_runs(alloc, configs)?;
+        self.shorten_cells(alloc, configs)?;
+        let most = self.runs.len().max(self.cells.len());
+        self.most = most.saturating_mul(2).saturating_add(FEW);
         Ok(())
     }
 }

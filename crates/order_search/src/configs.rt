@@ -3,7 +3,7 @@
 use crate::arena::Spot;
 
 /// A configuration.
-#[derive(Clone, Copy, Debug, PartialEq, Eq)]
+#[derive(Clone, Copy, PartialEq, Eq)]
 pub(crate) struct Config {
     /// Where its map is.
     pub spot: Spot,
@@ -13,4 +13,16 @@ pub(crate) struct Config {
     pub free: u64,
     /// The node of the last item that took effect.
     pub trail: usize,
+}
+
+impl Config {
+    /// The first one: nothing is mapped, and no call has taken effect.
+    pub fn first() -> Config {
+        Config {
+            spot: Spot::empty(),
+            done: 0,
+            free: 0,
+            trail: 0,
+        }
+    }
 }

@@ -14,7 +14,7 @@ use vm_base::{NoMemory, PageRange};
 pub const LIMIT: usize = 300_000;
 
 /// What the end of a call comes to.
-#[derive(Clone, Copy, Debug, PartialEq, Eq)]
+#[derive(Clone, Copy, PartialEq, Eq)]
 pub(crate) enum Reach {
     Reached,
     Stuck,
@@ -22,7 +22,7 @@ pub(crate) enum Reach {
 }
 
 /// The calls under way, and the bit of the one that ends.
-#[derive(Clone, Copy, Debug)]
+#[derive(Clone, Copy)]
 pub(crate) struct Ending<'u> {
     pub under: &'u [Under],
     pub bit: u64,
@@ -30,7 +30,7 @@ pub(crate) struct Ending<'u> {
 
 // One item more, of so many parts of a call, the others of which are lost: the map behind it, the cores whose calls have taken effect
 // there, and those whose calls it may let take effect.
-#[derive(Clone, Copy, Debug, PartialEq, Eq)]
+#[derive(Clone, Copy, PartialEq, Eq)]
 struct Step {
     mark: Mark,
     count: u32,
@@ -97,16 +97,6 @@ impl<'a, A: Allocator + Clone + Drop> Ways<'a, A> {
             work: Vec::new(alloc.clone()?),
             reached: Vec::new(alloc.clone()?),
         })
-    }
-
-    /// The first configuration: nothing is mapped, and no call has taken effect.
-    pub fn first(&self) -> Config {
-        Config {
-            spot: self.arena.empty(),
-            done: 0,
-            free: 0,
-            trail: 0,
-        }
     }
 
     // Tells whether a call, which changes nothing, has its reply in a map.
@@ -605,7 +595,7 @@ impl<'a, A: Allocator + Clone + Drop> Ways<'a, A> {
     }
 
     /// The order of a configuration, which is the only one left.
-    pub fn into_order(self, alloc: &A, config: &Config) -> Result<Vec<Mark, A>, NoMemory> {
-        self.trail.into_order(alloc, config)
+    pub fn order_of(&mut self, alloc: &A, config: &Config) -> Result<&[Mark], NoMemory> {
+        self.trail.order_of(alloc, config)
     }
 }

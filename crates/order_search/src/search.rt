@@ -49,7 +49,7 @@ pub struct Wholes<A: Allocator> {
 
 // The parts of calls: the number of the first one of each call, and how many there are. Where no number is given each
 // call is one part.
-#[derive(Clone, Copy, Debug)]
+#[derive(Clone, Copy)]
 struct Parts<'p> {
     firsts: &'p [usize],
     count: usize,
@@ -124,9 +124,11 @@ impl<'a, A: Allocator + Clone + Drop> Search<'a, A> {
         unsure: &'a [bool],
         parts: Parts<'a>,
     ) -> Result<Search<'a, A>, NoMemory> {
-        let ways = Ways::new(alloc, objects, any_place, history.len())?;
         let mut configs = Vec::new(alloc.clone()?);
-        configs.push(ways.first())?;
+        configs.push(Config::first())?;
+        let passed = Vec::new(alloc.clone()?);
+        let under = Vec::new(alloc.clone()?);
+        let ways = Ways::new(alloc, objects, any_place, history.len())?;
         Ok(Search {
             objects,
             mapped: mapped_by(history),
@@ -136,9 +138,9 @@ impl<'a, A: Allocator + Clone + Drop> Search<'a, A> {
             may_lag: false,
             late: &[],
             may_pass: 0,
-            passed: Vec::new(alloc.clone()?),
+            passed,
             ways,
-            under: Vec::new(alloc.clone()?),
+            under,
             configs,
         })
     }
@@ -306,15 +308,14 @@ impl<'a, A: Allocator + Clone + Drop> Search<'a, A> {
         self.end_all(alloc, None)
     }
 
-    // The items of the open calls that haven't taken effect in a configuration.
-    fn lost(&self, alloc: &A, config: &Config) -> Result<Vec<Item, A>, NoMemory> {
-        let mut items = Vec::new(alloc.clone()?);
+    // Appends the items of the open calls that haven't taken effect in a configuration.
+    fn push_lost(&self, config: &Config, order: &mut Vec<Item, A>) -> Result<(), NoMemory> {
         for under in self.under.as_slice() {
             if (config.done | config.free) & under.bit == 0 {
-                items.push(Item::Reply(under.number))?;
+                order.push(Item::Reply(under.number))?;
             }
         }
-        Ok(items)
+        Ok(())
     }
 
     // Their cores.
@@ -330,31 +331,79 @@ impl<'a, A: Allocator + Clone + Drop> Search<'a, A> {
 
     // The order of the first configuration, and the cores whose open calls haven't taken effect in it: these stand
     // last. What lags is told.
-    fn into_order(
-        self,
+    fn order(
+        &mut self,
         alloc: &A,
         lags: &mut Vec<Lag, A>,
     ) -> Result<(Vec<Item, A>, CoreSet), NoMemory> {
         let Some(config) = self.configs.get(0).copied() else {
             return Ok((Vec::new(alloc.clone()?), CoreSet::empty()));
         };
-        let cores = self.lost_cores(&config);
-        let lost = self.lost(alloc, &config)?;
-        let marks = self.ways.into_order(alloc, &config)?;
-        let done = done_in(alloc, marks.as_slice())?;
-        let mut order = Vec::with_capacity(alloc.clone()?, marks.len())?;
-        for at in 0..marks.len() {
-            let mark = marks[at];
-            if !is_needless(done.as_slice(), mark) {
-                order.push(mark.item())?;
-            }
-            if let Mark::Late { access, behind } = mark {
-                lags.push(Lag { behind, access })?;
-            }
-        }
-        order.extend_from_slice(lost.as_slice())?;
-        Ok((order, cores))
+        let mut order = items_of(alloc, self.ways.order_of(alloc, &config)?, lags)?;
+        self.push_lost(&config, &mut order)?;
+        Ok((order, self.lost_cores(&config)))
     }
+
+    // Goes through these calls, of so many parts, and tells what that comes to. What lags is told.
+    fn find(
+        &mut self,
+        alloc: &A,
+        history: &[Timed],
+        count: usize,
+        lags: &mut Vec<Lag, A>,
+    ) -> Result<Found<A>, NoMemory>
+        requires { 1 ≤ count }
+        ensures { IfOk result (λ found. IsFound count found) }
+    {
+        if let Some((reach, call)) = self.run(alloc, history)? {
+            return Ok(stopped(count, reach, call));
+        }
+        found_by(alloc, count, self.order(alloc, lags)?)
+    }
+
+    // The same where calls that no order gets to are passed over: `stuck` tells their first parts, and that of a call
+    // behind which the search didn't go.
+    fn find_passing(
+        &mut self,
+        alloc: &A,
+        history: &[Timed],
+        count: usize,
+        lags: &mut Vec<Lag, A>,
+        stuck: &mut Vec<usize, A>,
+    ) -> Result<Found<A>, NoMemory>
+        requires { 1 ≤ count }
+        ensures { IfOk result (λ found. IsFound count found) }
+    {
+        let stop = self.run(alloc, history)?;
+        stuck.extend_from_slice(self.passed.as_slice())?;
+        if let Some(part) = stuck.get(0) {
+            return Ok(stopped(count, Reach::Stuck, *part));
+        }
+        if let Some((reach, part)) = stop {
+            stuck.push(part)?;
+            return Ok(stopped(count, reach, part));
+        }
+        found_by(alloc, count, self.order(alloc, lags)?)
+    }
+}
+
+// The items of marks, but of those that say what isn't needed. What lags is told.
+fn items_of<A: Allocator + Clone + Drop>(
+    alloc: &A,
+    marks: &[Mark],
+    lags: &mut Vec<Lag, A>,
+) -> Result<Vec<Item, A>, NoMemory> {
+    let done = done_in(alloc, marks)?;
+    let mut items = Vec::with_capacity(alloc.clone()?, marks.len())?;
+    for mark in marks {
+        if !is_needless(done.as_slice(), *mark) {
+            items.push(mark.item())?;
+        }
+        if let Mark::Late { access, behind } = *mark {
+            lags.push(Lag { behind, access })?;
+        }
+    }
+    Ok(items)
 }
 
 // Which calls take effect where that is certain.
@@ -438,12 +487,9 @@ fn find_some<A: Allocator + Clone + Drop>(
     ensures { IfOk result (λ found. IsFound (length history.now) found) }
 {
     let parts = each_alone(history.len());
-    let mut search = Search::new(alloc, objects, any_place, history, answered, unsure, parts)?;
-    if let Some((reach, call)) = search.run(alloc, history)? {
-        return Ok(stopped(history.len(), reach, call));
-    }
     let mut lags = Vec::new(alloc.clone()?);
-    found_by(alloc, history.len(), search.into_order(alloc, &mut lags)?)
+    let mut search = Search::new(alloc, objects, any_place, history, answered, unsure, parts)?;
+    search.find(alloc, history, history.len(), &mut lags)
 }
 
 /// Searches an order of the calls of a space with these files, from the map on in which nothing is mapped. The first
@@ -505,10 +551,7 @@ pub fn find_lagging<A: Allocator + Clone + Drop>(
     let parts = each_alone(count);
     let mut search = Search::new(alloc, objects, any_place, history, count, unsure, parts)?;
     search.may_lag = true;
-    if let Some((reach, call)) = search.run(alloc, history)? {
-        return Ok(stopped(count, reach, call));
-    }
-    found_by(alloc, count, search.into_order(alloc, lags)?)
+    search.find(alloc, history, count, lags)
 }
 
 /// Searches as `find_choice` does, where each call takes effect as a whole, as though its parts did one behind another.
@@ -540,14 +583,5 @@ pub fn find_whole<'w, A: Allocator + Clone + Drop>(
     let mut search = Search::new(alloc, objects, any_place, calls, calls.len(), unsure, parts)?;
     search.late = wholes.late.as_slice();
     search.may_pass = MOST_STUCK;
-    let stop = search.run(alloc, calls)?;
-    stuck.extend_from_slice(search.passed.as_slice())?;
-    if let Some(part) = stuck.get(0) {
-        return Ok(stopped(count, Reach::Stuck, *part));
-    }
-    if let Some((reach, part)) = stop {
-        stuck.push(part)?;
-        return Ok(stopped(count, reach, part));
-    }
-    found_by(alloc, count, search.into_order(alloc, lags)?)
+    search.find_passing(alloc, calls, count, lags, stuck)
 }

@@ -9,7 +9,7 @@ use vm_base::NoMemory;
 const FEW: usize = 100_000;
 
 /// What took effect.
-#[derive(Clone, Copy, Debug, PartialEq, Eq)]
+#[derive(Clone, Copy, PartialEq, Eq)]
 pub(crate) enum Mark {
     /// This call.
     Reply(u32),
@@ -43,7 +43,7 @@ impl Mark {
 }
 
 // What took effect behind another node, and the same of so many calls with the next numbers.
-#[derive(Clone, Copy, Debug, PartialEq, Eq)]
+#[derive(Clone, Copy, PartialEq, Eq)]
 struct Node {
     parent: usize,
     mark: Mark,
@@ -51,7 +51,7 @@ struct Node {
 }
 
 // What is known of a node: whether a configuration needs it, how many nodes behind it are needed, one of these, and where it goes.
-#[derive(Clone, Copy, Debug, PartialEq, Eq)]
+#[derive(Clone, Copy, PartialEq, Eq)]
 struct Need {
     is_needed: bool,
     behind: u32,
@@ -172,15 +172,11 @@ impl<A: Allocator + Clone + Drop> Trail<A> {
         Ok(root)
     }
 
-    /// Leaves out the nodes that no configuration needs, and tells these their new ones.
-    pub fn shorten(&mut self, alloc: &A, configs: &mut [Config]) -> Result<(), NoMemory> {
-        let mut needs = self.needs(alloc, configs)?;
-        let root = self.advance(needs.as_slice())?;
+    // The nodes from the new root on that are needed, each of which is told where it goes.
+    fn needed(&self, alloc: &A, needs: &mut [Need], root: usize) -> Result<Vec<Node, A>, NoMemory> {
         let mut nodes = Vec::new(alloc.clone()?);
         for at in root..self.nodes.len() {
-            let Some(node) = self.nodes.get(at).copied() else {
-                return Ok(());
-            };
+            let node = self.nodes[at];
             let parent = match needs.get(node.parent) {
                 Some(need) if at != root => need.goes_to,
                 _ => 0,
@@ -189,28 +185,31 @@ impl<A: Allocator + Clone + Drop> Trail<A> {
             if let Some(need) = needs.get_mut(at) {
                 if need.is_needed {
                     need.goes_to = goes_to;
-                    nodes.push(Node {
-                        parent,
-                        mark: node.mark,
-                        count: node.count,
-                    })?;
+                    nodes.push(Node { parent, ..node })?;
                 }
             }
         }
+        Ok(nodes)
+    }
+
+    /// Leaves out the nodes that no configuration needs, and tells these their new ones.
+    pub fn shorten(&mut self, alloc: &A, configs: &mut [Config]) -> Result<(), NoMemory> {
+        let mut needs = self.needs(alloc, configs)?;
+        let root = self.advance(needs.as_slice())?;
+        self.nodes = self.needed(alloc, &mut needs, root)?;
+        self.most = self.nodes.len().saturating_mul(2).saturating_add(FEW);
         for at in 0..configs.len() {
             if let Some(need) = needs.get(configs[at].trail) {
                 configs[at].trail = need.goes_to;
             }
         }
-        self.most = nodes.len().saturating_mul(2).saturating_add(FEW);
-        self.nodes = nodes;
         Ok(())
     }
 
     /// The order of a configuration, which is the only one left.
-    pub fn into_order(mut self, alloc: &A, config: &Config) -> Result<Vec<Mark, A>, NoMemory> {
+    pub fn order_of(&mut self, alloc: &A, config: &Config) -> Result<&[Mark], NoMemory> {
         let mut one = [*config];
         self.shorten(alloc, &mut one)?;
-        Ok(self.order)
+        Ok(self.order.as_slice())
     }
 }

@@ -22,7 +22,7 @@ pub enum OutcomesFault {
 }
 
 /// Why nothing is listed of a declaration without fault.
-#[derive(Clone, Copy, Debug, PartialEq, Eq)]
+#[derive(Clone, Copy, PartialEq, Eq)]
 pub(crate) enum Late {
     /// The opening leaves a call of this core open.
     Open(CoreId),

@@ -17,7 +17,7 @@ const CORES: usize = 64;
 
 /// An order that may be one of a history, with the replies that each core's call may have that waits at its end, and the line that is told
 /// where it is none; or just that line.
-#[derive(Debug, Drop)]
+#[derive(Drop)]
 pub(crate) enum Order<A: Allocator> {
     Of {
         items: Vec<Item, A>,

@@ -14,7 +14,7 @@ use vm_base::{CoreId, CoreSet, NoMemory, Reply, Request, page_of};
 const CORES: usize = 64;
 
 // A call as its text tells it: its core's word and its request, and behind its line's sign, or that of another line, its reply.
-#[derive(Clone, Copy, Debug)]
+#[derive(Clone, Copy)]
 struct Call<'a> {
     request: &'a [u8],
     reply: &'a [u8],

@@ -16,7 +16,7 @@ const FILES: u64 = 0x8000_0000_0000_0000;
 const FILE_ROOM: u64 = 0x10_0000_0000_0000;
 
 // What a call takes effect on.
-#[derive(Clone, Copy, Debug)]
+#[derive(Clone, Copy)]
 struct Reach {
     pages: PageRange,
     file: Option<u64>,
