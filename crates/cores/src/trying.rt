@@ -14,7 +14,7 @@ use std::alloc::Allocator;
 use vm_base::NoMemory;
 
 /// So many beginnings of orders are tried at most.
-const BEGINNINGS: u32 = 4000;
+const BEGINNINGS: u32 = 40_000;
 
 /// These calls, and one more behind them.
 pub(crate) fn followed_by<A: Allocator + Clone + Drop>(
