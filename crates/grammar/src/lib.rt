@@ -1,6 +1,10 @@
 //! The words of the command line: what they are, and what may stand after each.
 #![tactic(auto)]
 
+ghost use Rattle.std.specs.Prelude.{◌≡◌, IfOk, codes};
+ghost use Rattle.clap.specs.Words.{app_of, subcommand_names};
+ghost use Rattle.grammar.specs.Names.{name_of, names};
+
 use clap::{Arg, ArgAction, Command, value_parser};
 use help_texts::{OVERVIEW, TOPICS, Topic, USAGE, VERSION, page};
 use std::alloc::{AllocError, Global};
@@ -85,7 +89,9 @@ fn reading<'a>(
     topic: Topic,
     usage: &'static str,
     choices: &[Choice],
-) -> Result<Command<'a>, AllocError> {
+) -> Result<Command<'a>, AllocError>
+    ensures { IfOk result (λ c. (app_of c).top.name ≡ name.now) }
+{
     reading_from(alloc, name, topic, usage, Arg::new(alloc, "FILE"), choices)
 }
 
@@ -97,7 +103,9 @@ fn reading_from<'a>(
     usage: &'static str,
     file: Arg<'a>,
     choices: &[Choice],
-) -> Result<Command<'a>, AllocError> {
+) -> Result<Command<'a>, AllocError>
+    ensures { IfOk result (λ c. (app_of c).top.name ≡ name.now) }
+{
     let command = Command::new(alloc, name)
         .override_help(page(topic))
         .override_usage(usage);
@@ -108,11 +116,13 @@ fn reading_from<'a>(
 // The same word with these choices more.
 fn with_choices<'a>(
     alloc: Global,
-    command: Command<'a>,
+    word: Command<'a>,
     choices: &[Choice],
-) -> Result<Command<'a>, AllocError> {
-    let mut command = command;
-    for choice in choices {
+) -> Result<Command<'a>, AllocError>
+    ensures { IfOk result (λ c. (app_of c).top.name ≡ (app_of word.entry).top.name) }
+{
+    let mut command = word;
+    'choices: for choice in choices {
         command = command.arg(choice.arg(alloc)?)?;
     }
     Ok(command)
@@ -145,7 +155,9 @@ const PICTURE_USAGE: &str =
     "radixvm picture [--lives | [--steps] [--from N] [--to N]] [--explain] [FILE]";
 
 // The word `run` with what may stand after it.
-fn run_word<'a>(alloc: Global) -> Result<Command<'a>, AllocError> {
+fn run_word<'a>(alloc: Global) -> Result<Command<'a>, AllocError>
+    ensures { IfOk result (λ c. (app_of c).top.name ≡ codes "run") }
+{
     let choices = [
         flag("log"),
         flag("echo"),
@@ -157,19 +169,25 @@ fn run_word<'a>(alloc: Global) -> Result<Command<'a>, AllocError> {
 }
 
 // The word `maps` with what may stand after it.
-fn maps_word<'a>(alloc: Global) -> Result<Command<'a>, AllocError> {
+fn maps_word<'a>(alloc: Global) -> Result<Command<'a>, AllocError>
+    ensures { IfOk result (λ c. (app_of c).top.name ≡ codes "maps") }
+{
     let choices = [flag("names"), flag("long")];
     reading(alloc, "maps", Topic::Maps, MAPS_USAGE, &choices)
 }
 
 // The word `state` with what may stand after it.
-fn state_word<'a>(alloc: Global) -> Result<Command<'a>, AllocError> {
+fn state_word<'a>(alloc: Global) -> Result<Command<'a>, AllocError>
+    ensures { IfOk result (λ c. (app_of c).top.name ≡ codes "state") }
+{
     let choices = [number("at"), flag("json")];
     reading(alloc, "state", Topic::State, STATE_USAGE, &choices)
 }
 
 // The word `live` with what may stand after it.
-fn live_word<'a>(alloc: Global) -> Result<Command<'a>, AllocError> {
+fn live_word<'a>(alloc: Global) -> Result<Command<'a>, AllocError>
+    ensures { IfOk result (λ c. (app_of c).top.name ≡ codes "live") }
+{
     let choices = [
         flag("certify"),
         flag("history").without(&["certify"]),
@@ -180,7 +198,9 @@ fn live_word<'a>(alloc: Global) -> Result<Command<'a>, AllocError> {
 }
 
 // The word `import` with what may stand after it.
-fn import_word<'a>(alloc: Global) -> Result<Command<'a>, AllocError> {
+fn import_word<'a>(alloc: Global) -> Result<Command<'a>, AllocError>
+    ensures { IfOk result (λ c. (app_of c).top.name ≡ codes "import") }
+{
     let files = Arg::new(alloc, "FILE").num_args(0..);
     let choices = [
         number("pid"),
@@ -201,7 +221,9 @@ fn import_word<'a>(alloc: Global) -> Result<Command<'a>, AllocError> {
 
 // The word `audit` with what may stand after it. The parser doesn't ask for `overlapping` beside a choice that rules it out, so what only
 // orders have names those itself.
-fn audit_word<'a>(alloc: Global) -> Result<Command<'a>, AllocError> {
+fn audit_word<'a>(alloc: Global) -> Result<Command<'a>, AllocError>
+    ensures { IfOk result (λ c. (app_of c).top.name ≡ codes "audit") }
+{
     let choices = [
         flag("any-place"),
         flag("strict"),
@@ -224,7 +246,9 @@ fn of_orders(choice: Choice, rivals: &'static [&'static str]) -> Choice {
 }
 
 // The word `picture` with what may stand after it.
-fn picture_word<'a>(alloc: Global) -> Result<Command<'a>, AllocError> {
+fn picture_word<'a>(alloc: Global) -> Result<Command<'a>, AllocError>
+    ensures { IfOk result (λ c. (app_of c).top.name ≡ codes "picture") }
+{
     let choices = [
         number("from"),
         number("to"),
@@ -235,7 +259,9 @@ fn picture_word<'a>(alloc: Global) -> Result<Command<'a>, AllocError> {
 }
 
 // The word `litmus` with what may stand after it.
-fn litmus_word<'a>(alloc: Global) -> Result<Command<'a>, AllocError> {
+fn litmus_word<'a>(alloc: Global) -> Result<Command<'a>, AllocError>
+    ensures { IfOk result (λ c. (app_of c).top.name ≡ codes "litmus") }
+{
     let choices = [
         number("limit"),
         number("witness"),
@@ -249,7 +275,9 @@ fn litmus_word<'a>(alloc: Global) -> Result<Command<'a>, AllocError> {
 }
 
 // The word `help` with what may stand after it.
-fn help_word<'a>(alloc: Global) -> Result<Command<'a>, AllocError> {
+fn help_word<'a>(alloc: Global) -> Result<Command<'a>, AllocError>
+    ensures { IfOk result (λ c. (app_of c).top.name ≡ codes "help") }
+{
     Command::new(alloc, "help")
         .override_help(OVERVIEW)
         .override_usage("radixvm help [TOPIC]")
@@ -287,7 +315,9 @@ const WORDS: [Word; 11] = [
 ];
 
 // A word with what may stand after it.
-fn command<'a>(alloc: Global, word: Word) -> Result<Command<'a>, AllocError> {
+fn command<'a>(alloc: Global, word: Word) -> Result<Command<'a>, AllocError>
+    ensures { IfOk result (λ c. (app_of c).top.name ≡ name_of word) }
+{
     match word {
         Word::Run => run_word(alloc),
         Word::Maps => maps_word(alloc),
@@ -303,16 +333,18 @@ fn command<'a>(alloc: Global, word: Word) -> Result<Command<'a>, AllocError> {
     }
 }
 
-/// The program's words, with what may stand after each.
-pub fn grammar<'a>(alloc: Global) -> Result<Command<'a>, AllocError> {
+/// The program's words in their order, with what may stand after each. `Err` says that memory was wanting.
+pub fn grammar<'a>(alloc: Global) -> Result<Command<'a>, AllocError>
+    ensures { IfOk result (λ program. subcommand_names program ≡ names) }
+{
     let mut program = Command::new(alloc, "radixvm")
         .override_help(OVERVIEW)
         .override_usage(USAGE)
         .version(VERSION)
         .disable_help_subcommand(true)
         .subcommand_required(true);
-    for word in WORDS {
-        program = program.subcommand(command(alloc, word)?)?;
+    'words: for at in 0..WORDS.len() {
+        program = program.subcommand(command(alloc, WORDS[at])?)?;
     }
     Ok(program)
 }
