@@ -2,7 +2,8 @@
 # Prints what `rt ci` from nothing costs in a clean clone: how many edits it tries, real minutes, processor minutes (user and system), and
 # for each crate its processor seconds. With --every-edit the edits that are tried by hand, those of edits/, stand in the gate too: the same
 # tree as if none had left it. With --at COMMIT it is that commit's gate, else HEAD's; with crates it is that of these and of those below
-# them, so that two commits are compared in half of the time: all other crates are taken out of the clone. Nothing else should run beside it.
+# them: all other crates are taken out of the clone. Nothing else should run beside it, but another one: two at once, each with RT_JOBS=2, compare
+# two commits under the same load.
 # Usage: bench/gate_whole.sh [--every-edit] [--at COMMIT] [CRATE..]
 set -euo pipefail
 top=$(cd "$(dirname "$0")/.." && pwd)
