@@ -3,7 +3,7 @@
 
 ghost use Rattle.std.specs.Prelude.{◌≡◌, IfOk, codes};
 ghost use Rattle.clap.specs.Words.{app_of, subcommand_names};
-ghost use Rattle.grammar.specs.Names.{name_of, names};
+ghost use Rattle.grammar.specs.Names.{name_of_word, program_words};
 
 use clap::{Arg, ArgAction, Command, value_parser};
 use help_texts::{OVERVIEW, TOPICS, Topic, USAGE, VERSION, page};
@@ -219,8 +219,8 @@ fn import_word<'a>(alloc: Global) -> Result<Command<'a>, AllocError>
     )
 }
 
-// The word `audit` with what may stand after it. The parser doesn't ask for `overlapping` beside a choice that rules it out, so what only
-// orders have names those itself.
+// The word `audit` with what may stand after it. The parser doesn't ask for `overlapping` beside a choice that rules it
+// out, so what only orders have names those itself.
 fn audit_word<'a>(alloc: Global) -> Result<Command<'a>, AllocError>
     ensures { IfOk result (λ c. (app_of c).top.name ≡ codes "audit") }
 {
@@ -316,7 +316,7 @@ const WORDS: [Word; 11] = [
 
 // A word with what may stand after it.
 fn command<'a>(alloc: Global, word: Word) -> Result<Command<'a>, AllocError>
-    ensures { IfOk result (λ c. (app_of c).top.name ≡ name_of word) }
+    ensures { IfOk result (λ c. (app_of c).top.name ≡ name_of_word word) }
 {
     match word {
         Word::Run => run_word(alloc),
@@ -335,7 +335,7 @@ fn command<'a>(alloc: Global, word: Word) -> Result<Command<'a>, AllocError>
 
 /// The program's words in their order, with what may stand after each. `Err` says that memory was wanting.
 pub fn grammar<'a>(alloc: Global) -> Result<Command<'a>, AllocError>
-    ensures { IfOk result (λ program. subcommand_names program ≡ names) }
+    ensures { IfOk result (λ program. subcommand_names program ≡ program_words) }
 {
     let mut program = Command::new(alloc, "radixvm")
         .override_help(OVERVIEW)

@@ -86,6 +86,14 @@ pub(crate) fn cells_in(cells: &[Cell], span: Span) -> &[Cell] {
     &cells[0..0]
 }
 
+// Appends a part, and tells where it is.
+fn append<T: Copy, A: Allocator>(list: &mut Vec<T, A>, part: &[T]) -> Result<Span, NoMemory> {
+    let first = list.len();
+    list.extend_from_slice(part)?;
+    let end = list.len();
+    Ok(Span { first, end })
+}
+
 // A number many times.
 fn scaled(number: u64, by: u64) -> u64 {
     number.wrapping_mul(by)
@@ -304,24 +312,14 @@ impl<A: Allocator + Clone + Drop> Arena<A> {
 
     // Appends the new runs.
     fn keep_runs(&mut self, spot: &mut Spot) -> Result<(), NoMemory> {
-        let first = self.runs.len();
-        self.runs.extend_from_slice(self.new_runs.as_slice())?;
-        spot.runs = Span {
-            first,
-            end: self.runs.len(),
-        };
+        spot.runs = append(&mut self.runs, self.new_runs.as_slice())?;
         spot.runs_print = runs_print(self.new_runs.as_slice());
         Ok(())
     }
 
     /// Appends the new cells.
     pub fn keep_cells(&mut self, spot: &mut Spot) -> Result<(), NoMemory> {
-        let first = self.cells.len();
-        self.cells.extend_from_slice(self.new_cells.as_slice())?;
-        spot.cells = Span {
-            first,
-            end: self.cells.len(),
-        };
+        spot.cells = append(&mut self.cells, self.new_cells.as_slice())?;
         spot.cells_print = cells_print(self.new_cells.as_slice());
         Ok(())
     }
@@ -485,12 +483,7 @@ impl<A: Allocator + Clone + Drop> Arena<A> {
         for at in 0..configs.len() {
             let span = configs[at].spot.runs;
             if span != old {
-                let first = runs.len();
-                runs.extend_from_slice(runs_in(self.runs.as_slice(), span))?;
-                new = Span {
-                    first,
-                    end: runs.len(),
-                };
+                new = append(&mut runs, runs_in(self.runs.as_slice(), span))?;
             }
             old = span;
             configs[at].spot.runs = new;
@@ -507,12 +500,7 @@ impl<A: Allocator + Clone + Drop> Arena<A> {
         for at in 0..configs.len() {
             let span = configs[at].spot.cells;
             if span != old {
-                let first = cells.len();
-                cells.extend_from_slice(cells_in(self.cells.as_slice(), span))?;
-                new = Span {
-                    first,
-                    end: cells.len(),
-                };
+                new = append(&mut cells, cells_in(self.cells.as_slice(), span))?;
             }
             old = span;
             configs[at].spot.cells = new;

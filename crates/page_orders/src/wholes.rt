@@ -594,8 +594,8 @@ fn wholes_of<A: Allocator + Clone + Drop>(
 
 /// Searches an order in which the pages of each call change at one moment, if some call has several parts or accesses
 /// may lag, and divides the calls around the places where none is found. There accesses may lag, too, if that is
-/// wanted; `lags` tells which do, and `stuck` at which parts it was stuck last. The items that it answers have each part
-/// once; whether they are an order is the caller's to judge. `Err` says that memory was wanting.
+/// wanted; `lags` tells which do, and `stuck` at which parts it was stuck last. The items that it answers have each
+/// part once; whether they are an order is the caller's to judge. `Err` says that memory was wanting.
 pub fn search_whole<A: Allocator + Clone + Drop>(
     alloc: &A,
     objects: &Objects<A>,
