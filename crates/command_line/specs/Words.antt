@@ -2,8 +2,8 @@
 use Rattle.std.specs.Prelude.{◌≡◌, ℕ, Bool}
 use Rattle.litmus_word.specs.Litmus.{TellsTest}
 use Rattle.litmus_word.specs.Witness.{PicturesWitness}
-use Rattle.words.specs.declared.Work.{Work}
-use Rattle.words.specs.declared.Work.TheVariants as For
+use Rattle.words.specs.declared.asking.Work.{Work}
+use Rattle.words.specs.declared.asking.Work.TheVariants as For
 use Rattle.slot_lock.specs.Slots.{Slots}
 use Rattle.trace_io.specs.Io.{ReadFrom, WrittenTo}
 use Rattle.vm_base.specs.declared.page.PageRange.{PageRange}

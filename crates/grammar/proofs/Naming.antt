@@ -6,7 +6,7 @@ use Rattle.std.proofs.lemmas.List.{map-append}
 use Rattle.clap.specs.Words.{AddsSubcommand, app_of, names_in, subcommand_names}
 use Rattle.clap.specs.declared.builder.command.Command.{Command}
 use Rattle.grammar.specs.Names.{name_of_word}
-use Rattle.grammar.specs.declared.Word.{Word}
+use Rattle.grammar.specs.declared.commands.Word.{Word}
 
 names_append : (xs ys : List Command) → names_in (xs ++ ys) ≡ names_in xs ++ names_in ys
 names_append [] ys = refl

@@ -1,6 +1,6 @@
 use Rattle.std.proofs.Common.{◌≡◌}
 use Rattle.clap.specs.Words.{app_of}
-use Rattle.grammar.proofs.with_choices.Given as goal
+use Rattle.grammar.proofs.commands.with_choices.Given as goal
 
 -- the word has its name
 abbrev pub invariant-choices : goal.invariant-choices
