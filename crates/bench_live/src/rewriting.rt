@@ -1,5 +1,7 @@
 //! Notes that are read, and written in order of their tickets, as those of threads are.
 use notes_text::collecting::collect;
+use notes_text::kept_notes::KeptNotes;
+use notes_text::noted_line::NoteLines;
 use notes_text::{Script, read_script, write_notes};
 use seats::{NoteList, Noted};
 use std::alloc::Global;
@@ -21,8 +23,9 @@ fn script_of(alloc: Global, declared: &Declaration) -> Option<Script<Global>> {
 /// Reads notes of a space without files, and writes them. Tells whether that went well.
 pub fn rewrite<R: Read + Drop, W: Write + Drop>(alloc: Global, input: R, output: W) -> bool {
     let mut reader = Counted::new(input);
-    let notes: NoteList<Global> = NoteList::new(alloc, alloc);
-    let Ok(collected) = collect::<Noted, NoteList<Global>, Global, _>(alloc, notes, &mut reader)
+    let list: NoteList<Global> = NoteList::new(alloc, alloc);
+    let notes = KeptNotes { list };
+    let Ok(collected) = collect::<NoteLines, Noted, KeptNotes<Global>, Global, _>(alloc, notes, &mut reader)
     else {
         return false;
     };
@@ -36,6 +39,6 @@ pub fn rewrite<R: Read + Drop, W: Write + Drop>(alloc: Global, input: R, output:
         return false;
     };
     let mut writer = sink::Noted::new(buffer);
-    let notes = collected.items().notes();
+    let notes = collected.items().list.notes();
     write_notes(&script, &[notes], &mut writer).is_ok()
 }

@@ -36,7 +36,7 @@ use std::sync::Wait;
 use std::thread::Threads;
 use std::{env, io};
 use trace::fault::{TraceFault, status_of_fault};
-use trace::shown::Show;
+use trace::show::Show;
 use trace_io::sink::Sink;
 use trace_io::source::{Counted, Source};
 use word_parts::asked::{Drawing, WitnessPicture};

@@ -14,7 +14,7 @@ use Rattle.trace.specs.declared.fault.TraceFault.{TraceFault}
 use Rattle.trace.specs.declared.fault.TraceFault.TheVariants.{TooLong, ReadFailed, WriteFailed}
 use Rattle.trace.specs.Stage.{Stage, Start, LineFails, LineWants, CanOpen, OpenFails, Acts}
 use Rattle.trace.specs.Turns.{Scene, Advances, IsOver, Fails, read_fails, unsent, too_long, no_memory, refused, unwritten}
-use Rattle.trace.proofs.RunLemmas.{lines-first, long_first, HasTaken, none_taken, line_taken, all_taken}
+use Rattle.trace_io.proofs.TakenLemmas.{lines-first, long_first, HasTaken, none_taken, line_taken, all_taken}
 use Rattle.trace.proofs.TurnLemmas as Own
 use Rattle.state_changes.specs.Behind.{text_at}
 use Rattle.trace.specs.Shown.{log_at}

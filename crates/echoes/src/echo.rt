@@ -7,7 +7,7 @@ ghost use Rattle.trace_io.specs.Window.{opening};
 ghost use Rattle.core_steps.specs.Packing.{listed};
 ghost use Rattle.core_steps.specs.Setups.{Fits};
 ghost use Rattle.core_steps.specs.declared.setup.CallLimit.{CallLimit};
-ghost use Rattle.trace.specs.Ends.{TellsFaults, fault_named};
+ghost use Rattle.trace.specs.Faults.{TellsFaults, fault_named};
 ghost use Rattle.trace.specs.Shown.{log_at};
 ghost use Rattle.trace.specs.Stage.{Start};
 ghost use Rattle.state_changes.specs.Behind.{texts_of};

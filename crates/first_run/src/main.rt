@@ -4,7 +4,8 @@
 
 ghost use Rattle.std.specs.Prelude.{◌≡◌, ◌≤◌, Result, Some, codes, option_map};
 ghost use Rattle.core_steps.specs.declared.setup.CallLimit.TheVariants.{Usual};
-ghost use Rattle.trace.specs.Ends.{Ends, TellsFaults};
+ghost use Rattle.trace.specs.Ends.{Ends};
+ghost use Rattle.trace.specs.Faults.{TellsFaults};
 ghost use Rattle.trace.specs.Status.{fault_status, status_of};
 ghost use Rattle.trace.specs.declared.fault.TraceFault.{TraceFault};
 ghost use Rattle.trace_io.specs.Io.{read_from, written_to};
@@ -17,7 +18,7 @@ use std::io::{BufWriter, Write};
 use std::process::ExitCode;
 use trace::fault::{TraceFault, status_of_fault};
 use trace::replay::replay_telling;
-use trace::shown::Show;
+use trace::show::Show;
 use trace_io::sink::{Noted, Sink};
 use trace_io::source::{Counted, Source};
 

@@ -5,7 +5,7 @@ ghost use Rattle.trace_io.specs.Io.{IsWritten, written_to};
 ghost use Rattle.history_text.specs.Text.{call_text, history_text};
 
 use crate::line::put_call;
-use notes_text::writing::write_declaration;
+use notes_text::declaring::write_declaration;
 use orders::Timed;
 use trace::declaration::Declaration;
 use trace_io::sink::{Sink, WriteFailed, write_all};

@@ -25,7 +25,7 @@ use Rattle.notes_text.specs.Ordered.{AreInOrder}
 use Rattle.notes_text.specs.Scripts.{ReadWhole, Scripted}
 use Rattle.notes_text.specs.TextLaws.{FitsLine, SaysNotes, WaitsGoing}
 use Rattle.notes_text.specs.WrittenLaws.{FitsEvent, FitsOutcome}
-use Rattle.notes_text.specs.Written.{notes_text}
+use Rattle.notes_text.specs.NotesWritten.{notes_text}
 use Rattle.notes_text.specs.declared.script.Task.{Task}
 use Rattle.notes_text.specs.declared.script.Task.TheVariants.{Call, Flush, Review}
 use Rattle.notes_text.proofs.FitsLemmas.{scripts_declare}

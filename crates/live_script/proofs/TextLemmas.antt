@@ -20,7 +20,7 @@ use Rattle.notes_text.specs.Ordered.{AreInOrder}
 use Rattle.notes_text.specs.Scripts.{ReadWhole, Scripted, Unread, unread_text, unmade, wanting}
 use Rattle.notes_text.specs.Verdicts.{verdict_text}
 use Rattle.notes_text.specs.WriteEnds.{Writes}
-use Rattle.notes_text.specs.Written.{notes_text}
+use Rattle.notes_text.specs.NotesWritten.{notes_text}
 use Rattle.notes_text.proofs.CollectLemmas.{stops_own}
 use Rattle.live_script.specs.Certified.{notes_in}
 use Rattle.live_script.specs.Runs.{Fails, RunsAll}

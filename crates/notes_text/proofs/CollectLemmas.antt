@@ -9,14 +9,14 @@ use Rattle.trace_text.specs.Words.{Word}
 use Rattle.trace.specs.declared.fault.TraceFault.{TraceFault}
 use Rattle.trace.specs.declared.fault.TraceFault.TheVariants.{BadLine, TooLong, ReadFailed, NoVmLine, NoMemory, Setup, WriteFailed}
 use Rattle.trace.specs.Declarations.{Asked, asked_fault}
-use Rattle.trace.specs.Ends.{AreRead}
-use Rattle.trace.proofs.TurnLemmas.{is_own}
-use Rattle.trace.proofs.RunLemmas.{lines-first, long_first, HasTaken, none_taken, line_taken, all_taken, taken_more, known_read}
+use Rattle.trace_io.specs.Taken.{AreRead}
+use Rattle.trace.proofs.OwnFaults.{is_own}
+use Rattle.trace_io.proofs.TakenLemmas.{lines-first, long_first, HasTaken, none_taken, line_taken, all_taken, taken_more, known_read}
 use Rattle.trace_text.specs.Words.{words_of}
 use Rattle.trace_text.specs.Line.{are_printable, line_of}
 use Rattle.trace_text.specs.declared.line.Line.TheVariants.{Blank, Space, File}
 use Rattle.trace.specs.Declarations.{is_next, with_file, asks_for}
-use Rattle.trace.specs.Stage.{Kind, OfSpace, OfFile, OfEvents, kind_of}
+use Rattle.trace.specs.Kinds.{Kind, OfSpace, OfFile, OfEvents, kind_of}
 use Rattle.notes_text.specs.Collected.{Collected, nothing, Takes, TakesAll, Refuses, Wants, space, item, file, late, fault_of}
 use Rattle.core_steps.specs.declared.setup.SetupFault.{SetupFault}
 use Rattle.notes_text.specs.Turns.{Scene, Advances, IsOver, IsHeld, Fails, read_fails, too_long, no_memory, refused}

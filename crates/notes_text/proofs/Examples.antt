@@ -6,7 +6,7 @@ use Rattle.seats.specs.Notes.{noted}
 use Rattle.seats.specs.declared.noted.Noted.{Noted}
 use Rattle.trace.specs.Declarations.{Asked, asks_for}
 use Rattle.notes_text.specs.TextLaws.{FitsLine, IsDeclared, SaysNotes}
-use Rattle.notes_text.specs.Written.{notes_text}
+use Rattle.notes_text.specs.NotesWritten.{notes_text}
 use Rattle.notes_text.proofs.ShortLines.{lines_are_short}
 use Rattle.notes_text.proofs.TextOnce.{says_one}
 use Rattle.notes_text.proofs.TextWritten.{written_is_said}

@@ -17,3 +17,4 @@ pub mod TextWritten
 pub mod FitsLemmas
 pub mod ShortLines
 mod Examples
+pub mod FilePieces

@@ -20,7 +20,8 @@ use Rattle.trace_text.specs.declared.line.Line.TheVariants.{Act, Fold}
 use Rattle.trace.specs.Events.{event_of}
 use Rattle.notes_text.specs.Grammar.{NamesEvent, NamesOutcome}
 use Rattle.notes_text.specs.Verdicts.{unended}
-use Rattle.notes_text.specs.Written.{core_word, event_words, note_head, note_text, request_words, spaced}
+use Rattle.notes_text.specs.Written.{core_word, event_words, request_words, spaced}
+use Rattle.notes_text.specs.NotesWritten.{note_head, note_text}
 use Rattle.notes_text.specs.WrittenLaws.{FitsEvent, FitsOutcome, WritesWhatIsRead}
 use Rattle.notes_text.proofs.PrintableLemmas.{cores_printable, decimal_printable, reply_printable}
 use Rattle.trace_text.proofs.BytesLemmas.{address_number, decimal_has, decimal_number}

@@ -17,7 +17,8 @@ use Rattle.trace_text.specs.Printing.{address_of, core_text, cores_text, text_of
 use Rattle.trace_text.specs.Spelling.{rights_text}
 use Rattle.trace_text.proofs.Choices.{of_four, of_three}
 use Rattle.trace_text.proofs.PrintingLemmas.{address_digits}
-use Rattle.notes_text.specs.Written.{event_words, flags_text, note_head, note_text, request_words, spaced}
+use Rattle.notes_text.specs.Written.{event_words, flags_text, request_words, spaced}
+use Rattle.notes_text.specs.NotesWritten.{note_head, note_text}
 use Rattle.seats.specs.Fitting.{FitsReply, FitsRequest}
 use Rattle.notes_text.specs.WrittenLaws.{FitsEvent, FitsNote, FitsOutcome}
 use Rattle.notes_text.specs.TextLaws.{LinesAreShort, WaitsGoing}

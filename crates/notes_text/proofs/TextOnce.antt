@@ -9,7 +9,7 @@ use Rattle.trace_text.specs.declared.line.Line.TheVariants.{Blank, Space, File, 
 use Rattle.trace.specs.declared.fault.TraceFault.{TraceFault}
 use Rattle.trace.specs.declared.fault.TraceFault.TheVariants.{NoMemory, ReadFailed}
 use Rattle.trace.specs.Declarations.{Asked, asked_fault, asks_for, with_file}
-use Rattle.trace.specs.Stage.{OfFile, OfEvents}
+use Rattle.trace.specs.Kinds.{OfFile, OfEvents}
 use Rattle.notes_text.specs.Grammar.{NamesNote}
 use Rattle.notes_text.specs.Collected.{Collected, nothing, Says, TakesAll, blank, space, file, item}
 use Rattle.notes_text.specs.Ends.{Collects, Front, CannotMake, Stops, reading, unmade, wanting, overlong, refusing, unopened}

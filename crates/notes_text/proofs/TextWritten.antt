@@ -25,11 +25,12 @@ use Rattle.trace_text.proofs.WordLemmas.{IsWord}
 use Rattle.trace_text.proofs.SpellingLemmas.{reads_printed}
 use Rattle.trace.specs.declared.declaration.FileLine.{FileLine}
 use Rattle.trace.specs.Declarations.{Asked, asked_fault, asks_for, has_long, is_next, with_file}
-use Rattle.trace.specs.Stage.{OfEvents, kind_of}
-use Rattle.trace.proofs.RunLemmas.{lines-first}
+use Rattle.trace.specs.Kinds.{OfEvents, kind_of}
+use Rattle.trace_io.proofs.TakenLemmas.{lines-first}
 use Rattle.notes_text.specs.Grammar.{NamesNote}
 use Rattle.notes_text.specs.Collected.{Collected, nothing, Takes, TakesAll}
-use Rattle.notes_text.specs.Written.{event_words, file_text, files_text, note_head, note_text, notes_text, space_text, spaced}
+use Rattle.notes_text.specs.Written.{event_words, file_text, files_text, space_text, spaced}
+use Rattle.notes_text.specs.NotesWritten.{note_head, note_text, notes_text}
 use Rattle.notes_text.specs.WrittenLaws.{FitsNote}
 use Rattle.notes_text.specs.TextLaws.{FitsLine, IsDeclared, WrittenIsSaid}
 use Rattle.notes_text.proofs.CollectLemmas.{file_taken, item_taken, space_taken}

@@ -9,7 +9,7 @@ use Rattle.trace_text.specs.declared.line.Line.TheVariants.{Blank, Space, File}
 use Rattle.trace.specs.declared.fault.TraceFault.{TraceFault}
 use Rattle.trace.specs.declared.fault.TraceFault.TheVariants.{BadLine, NoVmLine, Setup}
 use Rattle.trace.specs.Declarations.{Asked, asks_for, is_next, with_file, asked_fault}
-use Rattle.trace.specs.Stage.{Kind, OfSpace, OfFile, OfEvents, kind_of}
+use Rattle.trace.specs.Kinds.{Kind, OfSpace, OfFile, OfEvents, kind_of}
 
 -- what the vm line and the file lines ask for, once there is a vm line, and what the other lines name
 pub record Collected (T : Type 0) : Type 0 where

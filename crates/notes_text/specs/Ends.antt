@@ -6,7 +6,7 @@ use Rattle.core_steps.specs.declared.setup.SetupFault.{SetupFault}
 use Rattle.trace.specs.declared.fault.TraceFault.{TraceFault}
 use Rattle.trace.specs.declared.fault.TraceFault.TheVariants.{TooLong, ReadFailed, NoVmLine, NoMemory, Setup}
 use Rattle.trace.specs.Declarations.{Asked, asked_fault}
-use Rattle.trace.specs.Ends.{AreRead}
+use Rattle.trace_io.specs.Taken.{AreRead}
 use Rattle.notes_text.specs.Collected.{Collected, nothing, TakesAll, Refuses, Wants}
 
 -- all lines were taken, and a space can be made

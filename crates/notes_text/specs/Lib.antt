@@ -14,3 +14,4 @@ pub mod Merged
 pub mod WriteEnds
 pub mod Scripts
 pub mod TextLaws
+pub mod NotesWritten

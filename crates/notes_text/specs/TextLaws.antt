@@ -13,7 +13,7 @@ use Rattle.notes_text.specs.Grammar.{NamesNote}
 use Rattle.notes_text.specs.Ends.{Collects, Stops}
 use Rattle.notes_text.specs.Scripts.{NamesTask}
 use Rattle.notes_text.specs.declared.script.ScriptLine.{ScriptLine}
-use Rattle.notes_text.specs.Written.{note_text, notes_text}
+use Rattle.notes_text.specs.NotesWritten.{note_text, notes_text}
 use Rattle.notes_text.specs.WrittenLaws.{FitsNote}
 
 -- the lines of the text declare this, and name these notes, in their order

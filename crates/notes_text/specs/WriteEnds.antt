@@ -7,7 +7,7 @@ use Rattle.trace.specs.declared.fault.TraceFault.{TraceFault}
 use Rattle.trace.specs.declared.fault.TraceFault.TheVariants.{NoMemory, WriteFailed}
 use Rattle.trace.specs.Declarations.{Asked}
 use Rattle.notes_text.specs.Ordered.{AreInOrder}
-use Rattle.notes_text.specs.Written.{notes_text}
+use Rattle.notes_text.specs.NotesWritten.{notes_text}
 
 -- The text of the notes in order was written; after a failed write or flush a front of it, and where memory was wanting
 -- nothing.

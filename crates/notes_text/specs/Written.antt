@@ -1,19 +1,16 @@
--- What notes and their declaration are written as: words, each behind a space.
+-- What a declaration, a request and an event are written as: words, each behind a space.
 use Rattle.std.specs.Prelude.{ℕ, suc, ◌||◌, List, [], ◌∷◌, ◌++◌, codes, decimal, if◌then◌else◌}
-use Rattle.std.specs.List.{flat_map}
 use Rattle.vm_base.specs.declared.requests.Flags.{Flags}
 use Rattle.vm_base.specs.declared.requests.Request.{Request}
 use Rattle.vm_base.specs.declared.requests.Request.TheVariants.{Mmap, Munmap, Mprotect, Load, Store, Fetch}
 use Rattle.machine_model.specs.declared.event.Event.{Event}
 use Rattle.machine_model.specs.declared.event.Event.TheVariants as Ev
-use Rattle.seats.specs.declared.noted.Noted.{Noted}
 use Rattle.trace_text.specs.Words.{Word}
 use Rattle.trace_text.specs.Printing.{address_of}
 use Rattle.trace_text.specs.Lists.{start_of}
 use Rattle.trace_text.specs.Spelling.{letter, mode_text, rights_text}
 use Rattle.trace.specs.declared.declaration.FileLine.{FileLine}
 use Rattle.trace.specs.Declarations.{Asked}
-use Rattle.trace.specs.OutcomeText.{outcome_text}
 
 -- words, each behind a space
 abbrev pub spaced : List Word → List ℕ
@@ -57,16 +54,6 @@ event_words (Ev.Review core) = core_word core ∷ codes "review" ∷ []
 event_words (Ev.Fold page) = codes "fold" ∷ start_of page ∷ []
 event_words (Ev.GiveUp core) = core_word core ∷ codes "giveup" ∷ []
 
--- ---- notes
-
--- what stands before the outcome
-abbrev pub note_head : Noted → List ℕ
-note_head note = decimal note.ticket ++ spaced (event_words note.event) ++ codes " = "
-
--- `TICKET EVENT = OUTCOME`
-abbrev pub note_text : Noted → List ℕ
-note_text note = note_head note ++ outcome_text note.outcome
-
 -- ---- what is declared
 
 abbrev pub space_text : Asked → List ℕ
@@ -83,7 +70,3 @@ files_text n (file ∷ files) = file_text n file ++ files_text (suc n) files
 -- the vm line and the file lines
 abbrev pub declared_text : Asked → List ℕ
 declared_text asked = space_text asked ++ files_text 0 asked.files
-
--- those, and a line of each note
-abbrev pub notes_text : Asked → List Noted → List ℕ
-notes_text asked notes = declared_text asked ++ flat_map note_text notes

@@ -9,7 +9,7 @@ use Rattle.seats.specs.declared.noted.Noted.{Noted}
 use Rattle.trace_text.specs.Words.{words_of}
 use Rattle.notes_text.specs.Grammar.{NamesNote}
 use Rattle.notes_text.specs.Verdicts.{unended}
-use Rattle.notes_text.specs.Written.{note_text}
+use Rattle.notes_text.specs.NotesWritten.{note_text}
 
 -- ---- what fits its types
 

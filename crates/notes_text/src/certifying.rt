@@ -7,13 +7,15 @@ ghost use Rattle.seats.specs.Packing.{shown};
 ghost use Rattle.trace_io.specs.Io.{read_from, written_to};
 ghost use Rattle.trace_io.specs.Source.{HasStopped, Reads};
 ghost use Rattle.trace.specs.Declarations.{Asked, asked_fault, made_by};
-ghost use Rattle.trace.specs.Ends.{TellsFaults};
+ghost use Rattle.trace.specs.Faults.{TellsFaults};
 ghost use Rattle.trace.specs.declared.fault.TraceFault.TheVariants.{ReadFailed, WriteFailed};
 ghost use Rattle.notes_text.specs.CertifyEnds.{Certifies, FindsVerdict};
 ghost use Rattle.notes_text.specs.Verdicts.{Judges};
 
 use crate::collecting::collect;
 use crate::collector::Collector;
+use crate::kept_notes::KeptNotes;
+use crate::noted_line::NoteLines;
 use crate::verdict::{Verdict, write_verdict};
 use certifier::order::{Standing, standings};
 use certifier::{CertifyFault, certify_standing};
@@ -104,7 +106,7 @@ fn judge_declared<A: Allocator + Clone + Drop>(
 // The result of certifying the collected notes.
 fn judge_collected<A: Allocator + Clone + Drop>(
     alloc: A,
-    collected: &Collector<Noted, NoteList<A>>,
+    collected: &Collector<Noted, KeptNotes<A>>,
 ) -> Result<Verdict, TraceFault>
     requires { IsSomeAnd collected.now.asked (λ asked. asked_fault asked ≡ None) }
     ensures ok { IfOk result (λ verdict. IsSomeAnd collected.now.asked (λ asked. Judges A
@@ -116,7 +118,7 @@ fn judge_collected<A: Allocator + Clone + Drop>(
     let Some(declaration) = collected.declaration() else {
         return Err(TraceFault::NoMemory);
     };
-    let notes = collected.items().notes();
+    let notes = collected.items().list.notes();
     match judge_declared(alloc, declaration, &notes) {
         Ok(verdict) => Ok(verdict),
         Err(_) => Err(TraceFault::NoMemory),
@@ -142,8 +144,9 @@ fn find_verdict<A: Allocator + Clone + Drop, S: Source>(
     let Ok(for_full) = alloc.clone() else {
         return Err(TraceFault::NoMemory);
     };
-    let notes = NoteList::new(for_notes, for_full);
-    let collected = match collect(for_text, notes, reader) {
+    let list = NoteList::new(for_notes, for_full);
+    let notes = KeptNotes { list };
+    let collected = match collect::<NoteLines, Noted, KeptNotes<A>, A, S>(for_text, notes, reader) {
         Ok(collected) => collected,
         Err(fault) => return Err(fault),
     };

@@ -17,7 +17,7 @@ use trace_io::sink::Nowhere;
 use trace_io::source::Source;
 
 // Takes in the next line, or answers false where there is none.
-fn turn<T: LineOf + Drop, K: Kept<T> + Drop, A: Allocator, S: Source>(
+fn turn<L: LineOf<T>, T: Copy + Drop, K: Kept<T> + Drop, A: Allocator, S: Source>(
     lines: &mut LineReader<A>,
     reader: &mut S,
     nowhere: &mut Nowhere,
@@ -25,7 +25,7 @@ fn turn<T: LineOf + Drop, K: Kept<T> + Drop, A: Allocator, S: Source>(
     number: u64,
 ) -> Result<bool, TraceFault>
     requires few { number + 1 < 2 ^ 64 }
-    ensures turns { Reads (S.stream reader.old) (S.stream reader.new) (λ xs ys. Turns T.needs_calls T.names
+    ensures turns { Reads (S.stream reader.old) (S.stream reader.new) (λ xs ys. Turns L.needs_calls L.names
         (record { left = left xs lines.old; unread = xs; collected = collector.old })
         (record { left = left ys lines.new; unread = ys; collected = collector.new })
         number result) }
@@ -40,7 +40,7 @@ fn turn<T: LineOf + Drop, K: Kept<T> + Drop, A: Allocator, S: Source>(
         Ok(Found::End) => Ok(false),
         Ok(Found::TooLong) => Err(TraceFault::TooLong(number + 1)),
         Ok(Found::Line) => {
-            if let Err(fault) = collector.take(number + 1, lines.line()) {
+            if let Err(fault) = collector.take::<L>(number + 1, lines.line()) {
                 return Err(fault);
             }
             Ok(true)
@@ -49,7 +49,7 @@ fn turn<T: LineOf + Drop, K: Kept<T> + Drop, A: Allocator, S: Source>(
 }
 
 // Takes in the lines until the text ends.
-fn collect_lines<T: LineOf + Drop, K: Kept<T> + Drop, A: Allocator, S: Source>(
+fn collect_lines<L: LineOf<T>, T: Copy + Drop, K: Kept<T> + Drop, A: Allocator, S: Source>(
     lines: &mut LineReader<A>,
     reader: &mut S,
     collector: &mut Collector<T, K>,
@@ -57,16 +57,16 @@ fn collect_lines<T: LineOf + Drop, K: Kept<T> + Drop, A: Allocator, S: Source>(
     requires fresh { lines.old ≡ opening }
     requires start { collector.old ≡ nothing }
     ensures ok { IfOk result (λ done. Reads (S.stream reader.old) (S.stream reader.new) (λ input unread. (asked : Asked)
-        × (collector.new.asked ≡ Some asked) × Collects T.needs_calls T.names input asked collector.new.items)) }
+        × (collector.new.asked ≡ Some asked) × Collects L.needs_calls L.names input asked collector.new.items)) }
     ensures sound { OnOk result (IsSomeAnd collector.new.asked (λ asked. asked_fault asked ≡ None)) }
     ensures err { IfErr result (λ f. Reads (S.stream reader.old) (S.stream reader.new) (λ input unread.
-        Stops T.needs_calls T.names input unread f)) }
+        Stops L.needs_calls L.names input unread f)) }
     ensures read { result ≡ Err ReadFailed → HasStopped (S.failed reader.new) (S.reads reader.new) }
 {
     let mut number = 0u64;
     let mut nowhere = Nowhere::new();
     'lines: loop {
-        match turn(lines, reader, &mut nowhere, collector, number) {
+        match turn::<L, T, K, A, S>(lines, reader, &mut nowhere, collector, number) {
             Ok(true) => number += 1,
             Ok(false) => return collector.finish(),
             Err(fault) => return Err(fault),
@@ -77,24 +77,24 @@ fn collect_lines<T: LineOf + Drop, K: Kept<T> + Drop, A: Allocator, S: Source>(
 /// What the text declares and names, in order of its lines, in the list, which is empty at first. Where it can't be read whole,
 /// the first fault is told: a line can't be taken, no space can be made of the declaration, a read failed, or memory was
 /// refused. 64 KiB for a chunk of lines are taken before anything is read.
-pub fn collect<T: LineOf + Drop, K: Kept<T> + Drop, A: Allocator + Clone, S: Source>(
+pub fn collect<L: LineOf<T>, T: Copy + Drop, K: Kept<T> + Drop, A: Allocator + Clone, S: Source>(
     alloc: A,
     items: K,
     reader: &mut S,
 ) -> Result<Collector<T, K>, TraceFault>
     requires { K.kept items ≡ [] }
     ensures ok { IfOk result (λ collected. Reads (S.stream reader.old) (S.stream reader.new) (λ input unread. (asked : Asked)
-        × (collected.asked ≡ Some asked) × Collects T.needs_calls T.names input asked collected.items)) }
+        × (collected.asked ≡ Some asked) × Collects L.needs_calls L.names input asked collected.items)) }
     ensures sound { IfOk result (λ collected. IsSomeAnd collected.asked (λ asked. asked_fault asked ≡ None)) }
     ensures err { IfErr result (λ f. Reads (S.stream reader.old) (S.stream reader.new) (λ input unread.
-        Stops T.needs_calls T.names input unread f)) }
+        Stops L.needs_calls L.names input unread f)) }
     ensures read { result ≡ Err ReadFailed → HasStopped (S.failed reader.new) (S.reads reader.new) }
 {
     let Some(mut lines) = line_reader(&alloc) else {
         return Err(TraceFault::NoMemory);
     };
     let mut collector = Collector::new(items);
-    match collect_lines(&mut lines, reader, &mut collector) {
+    match collect_lines::<L, T, K, A, S>(&mut lines, reader, &mut collector) {
         Ok(()) => Ok(collector),
         Err(fault) => Err(fault),
     }

@@ -5,7 +5,7 @@ ghost use Rattle.trace_text.specs.Words.{Word, words_of};
 ghost use Rattle.trace_text.specs.Line.{are_printable, line_of};
 ghost use Rattle.trace_text.specs.declared.line.Line.TheVariants.{Blank};
 ghost use Rattle.trace.specs.Declarations.{asked_fault};
-ghost use Rattle.trace.specs.Stage.{OfSpace, OfFile, OfEvents, kind_of};
+ghost use Rattle.trace.specs.Kinds.{OfSpace, OfFile, OfEvents, kind_of};
 ghost use Rattle.notes_text.specs.Collected.{Collected, nothing, late, Takes, Refuses, Wants};
 
 use crate::kept::Kept;
@@ -17,7 +17,7 @@ use trace_text::words::next_word;
 use trace_text::{Line, first_word_is_file, first_word_is_vm, is_printable_line, read_line};
 
 /// What a line after the declaration names.
-pub trait LineOf: Copy {
+pub trait LineOf<T> {
     ghost use Rattle.std.specs.Prelude.{◌≡◌, ℕ, List, Bool, IfSome, IfNone};
     ghost use Rattle.trace_text.specs.Words.{Word, words_of};
 
@@ -25,16 +25,16 @@ pub trait LineOf: Copy {
     ghost needs_calls: { Bool };
 
     /// The words of a line name this, in a space of this many cores.
-    ghost names: { ℕ → Self → List Word → Type 0 };
+    ghost names: { ℕ → T → List Word → Type 0 };
 
     /// Tells whether the `vm` line has to say how many calls may begin.
     fn needs_calls() -> bool
         ensures { result ≡ needs_calls };
 
     /// What the line names in a space of this many cores, `None` where it names nothing.
-    fn read(cores: u64, line: &[u8]) -> Option<Self>
+    fn read(cores: u64, line: &[u8]) -> Option<T>
         ensures some { IfSome result (λ item. names cores item (words_of line.now)) }
-        ensures none { IfNone result ((item : Self) → names cores item (words_of line.now) → ⊥) };
+        ensures none { IfNone result ((item : T) → names cores item (words_of line.now) → ⊥) };
 }
 
 /// What the lines so far declare, and what they name.
@@ -68,11 +68,11 @@ fn has_four_words(line: &[u8]) -> bool
 }
 
 // Tells whether the `vm` line says how many calls may begin, where it has to.
-fn says_enough<T: LineOf>(line: &[u8]) -> bool
-    ensures yes { result ≡ true → T.needs_calls ≡ true → length (words_of line.now) ≡ 4 }
-    ensures no { result ≡ false → (T.needs_calls ≡ true) × (length (words_of line.now) ≢ 4) }
+fn says_enough<T, L: LineOf<T>>(line: &[u8]) -> bool
+    ensures yes { result ≡ true → L.needs_calls ≡ true → length (words_of line.now) ≡ 4 }
+    ensures no { result ≡ false → (L.needs_calls ≡ true) × (length (words_of line.now) ≢ 4) }
 {
-    if T::needs_calls() {
+    if L::needs_calls() {
         return has_four_words(line);
     }
     true
@@ -88,12 +88,12 @@ fn late_fault(declaration: &Declaration, number: u64) -> TraceFault
     }
 }
 
-impl<T: LineOf + Drop, K: Kept<T> + Drop> Collector<T, K> {
+impl<T: Copy + Drop, K: Kept<T> + Drop> Collector<T, K> {
     ghost use Rattle.std.specs.Prelude.{◌≡◌, ◌≢◌, ◌⊎◌, [], Some, None, OnOk, IfErr, IfOk, OnErr};
     ghost use Rattle.trace_text.specs.Words.{words_of};
     ghost use Rattle.trace_text.specs.Line.{are_printable, line_of};
     ghost use Rattle.trace_text.specs.declared.line.Line.TheVariants.{Blank};
-    ghost use Rattle.trace.specs.Stage.{OfSpace, OfFile, OfEvents, kind_of};
+    ghost use Rattle.trace.specs.Kinds.{OfSpace, OfFile, OfEvents, kind_of};
     ghost use Rattle.notes_text.specs.Collected.{nothing, Takes, Refuses, Wants};
     ghost use Rattle.notes_text.specs.Ends.{CannotMake};
     ghost use Rattle.std.specs.Prelude.{option_map, IsSomeAnd};
@@ -111,13 +111,18 @@ impl<T: LineOf + Drop, K: Kept<T> + Drop> Collector<T, K> {
     }
 
     // Takes in the `vm` line.
-    fn take_space(&mut self, number: u64, line: &[u8], said: Option<Line>) -> Result<(), TraceFault>
+    fn take_space<L: LineOf<T>>(
+        &mut self,
+        number: u64,
+        line: &[u8],
+        said: Option<Line>,
+    ) -> Result<(), TraceFault>
         requires printable { are_printable line.now ≡ true }
         requires said { said ≡ line_of line.now }
         requires some { said ≢ Some Blank }
         requires kind { kind_of (words_of line.now) ≡ OfSpace }
-        ensures ok { OnOk result (Takes T.needs_calls T.names self.old line.now self.new) }
-        ensures err { IfErr result (λ f. Refuses T.needs_calls T.names self.old number line.now f) }
+        ensures ok { OnOk result (Takes L.needs_calls L.names self.old line.now self.new) }
+        ensures err { IfErr result (λ f. Refuses L.needs_calls L.names self.old number line.now f) }
     {
         if let Some(declaration) = &self.declaration {
             return Err(late_fault(declaration, number));
@@ -133,7 +138,7 @@ impl<T: LineOf + Drop, K: Kept<T> + Drop> Collector<T, K> {
         else {
             return Err(TraceFault::BadLine(number));
         };
-        if says_enough::<T>(line) {
+        if says_enough::<T, L>(line) {
             self.declaration = Some(Declaration::new(cores, frames, calls));
             return Ok(());
         }
@@ -141,13 +146,18 @@ impl<T: LineOf + Drop, K: Kept<T> + Drop> Collector<T, K> {
     }
 
     // Takes in the line of a file.
-    fn take_file(&mut self, number: u64, line: &[u8], said: Option<Line>) -> Result<(), TraceFault>
+    fn take_file<L: LineOf<T>>(
+        &mut self,
+        number: u64,
+        line: &[u8],
+        said: Option<Line>,
+    ) -> Result<(), TraceFault>
         requires printable { are_printable line.now ≡ true }
         requires said { said ≡ line_of line.now }
         requires some { said ≢ Some Blank }
         requires kind { kind_of (words_of line.now) ≡ OfFile }
-        ensures ok { OnOk result (Takes T.needs_calls T.names self.old line.now self.new) }
-        ensures err { IfErr result (λ f. Refuses T.needs_calls T.names self.old number line.now f) }
+        ensures ok { OnOk result (Takes L.needs_calls L.names self.old line.now self.new) }
+        ensures err { IfErr result (λ f. Refuses L.needs_calls L.names self.old number line.now f) }
     {
         let is_first = self.items.has_none();
         let Some(declaration) = &mut self.declaration else {
@@ -172,14 +182,14 @@ impl<T: LineOf + Drop, K: Kept<T> + Drop> Collector<T, K> {
     }
 
     // Takes in the line of an item.
-    fn take_item(&mut self, number: u64, line: &[u8]) -> Result<(), TraceFault>
+    fn take_item<L: LineOf<T>>(&mut self, number: u64, line: &[u8]) -> Result<(), TraceFault>
         requires printable { are_printable line.now ≡ true }
         requires some { line_of line.now ≢ Some Blank }
         requires kind { kind_of (words_of line.now) ≡ OfEvents }
-        ensures ok { OnOk result (Takes T.needs_calls T.names self.old line.now self.new) }
+        ensures ok { OnOk result (Takes L.needs_calls L.names self.old line.now self.new) }
         ensures err { IfErr result (λ f.
-            ((f ≡ TraceFault.NoMemory) × Wants T.needs_calls T.names self.old line.now)
-            ⊎ Refuses T.needs_calls T.names self.old number line.now f) }
+            ((f ≡ TraceFault.NoMemory) × Wants L.needs_calls L.names self.old line.now)
+            ⊎ Refuses L.needs_calls L.names self.old number line.now f) }
     {
         let Some(declaration) = &self.declaration else {
             return Err(TraceFault::NoVmLine);
@@ -187,7 +197,7 @@ impl<T: LineOf + Drop, K: Kept<T> + Drop> Collector<T, K> {
         if let Some(fault) = declaration.fault() {
             return Err(TraceFault::Setup(fault));
         }
-        let Some(item) = T::read(declaration.cores(), line) else {
+        let Some(item) = L::read(declaration.cores(), line) else {
             return Err(TraceFault::BadLine(number));
         };
         if self.items.keep(item).is_err() {
@@ -198,11 +208,11 @@ impl<T: LineOf + Drop, K: Kept<T> + Drop> Collector<T, K> {
 
     /// Takes in the line with this number. A fault that isn't want of memory says why the line can't be taken;
     /// nothing changes then. After want of memory no other line is taken.
-    pub fn take(&mut self, number: u64, line: &[u8]) -> Result<(), TraceFault>
-        ensures ok { OnOk result (Takes T.needs_calls T.names self.old line.now self.new) }
+    pub fn take<L: LineOf<T>>(&mut self, number: u64, line: &[u8]) -> Result<(), TraceFault>
+        ensures ok { OnOk result (Takes L.needs_calls L.names self.old line.now self.new) }
         ensures err { IfErr result (λ f.
-            ((f ≡ TraceFault.NoMemory) × Wants T.needs_calls T.names self.old line.now)
-            ⊎ Refuses T.needs_calls T.names self.old number line.now f) }
+            ((f ≡ TraceFault.NoMemory) × Wants L.needs_calls L.names self.old line.now)
+            ⊎ Refuses L.needs_calls L.names self.old number line.now f) }
     {
         let said = read_line(line);
         if !is_printable_line(line, &said) {
@@ -212,12 +222,12 @@ impl<T: LineOf + Drop, K: Kept<T> + Drop> Collector<T, K> {
             return Ok(());
         }
         if first_word_is_vm(line) {
-            return self.take_space(number, line, said);
+            return self.take_space::<L>(number, line, said);
         }
         if first_word_is_file(line) {
-            return self.take_file(number, line, said);
+            return self.take_file::<L>(number, line, said);
         }
-        self.take_item(number, line)
+        self.take_item::<L>(number, line)
     }
 
     /// Tells whether a space can be made of what was declared, and why not.

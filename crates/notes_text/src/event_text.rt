@@ -31,7 +31,7 @@ fn push_page(text: &mut LineText, page: u64)
 }
 
 /// Appends the words of the event, each after a space, as a line of a trace has them; a page by its address.
-pub(crate) fn push_event(text: &mut LineText, event: Event)
+pub fn push_event(text: &mut LineText, event: Event)
     requires { length text.old.bytes + 129 ≤ 256 }
     ensures bytes { text.new.bytes ≡ text.old.bytes ++ spaced (event_words event) }
     ensures short { length text.new.bytes ≤ length text.old.bytes + 129 }

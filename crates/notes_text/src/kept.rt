@@ -1,7 +1,6 @@
-//! What the items of a text are kept in: a vector, or packed notes.
+//! What the items of a text are kept in: a vector, or a list that another crate has.
 ghost use Rattle.std.specs.Prelude.{◌≡◌, ◌++◌, ◌∷◌, ◌==◌, [], List, OnErr, OnOk, length};
 
-use seats::{NoteList, Noted};
 use std::alloc::Allocator;
 use vm_base::NoMemory;
 
@@ -30,20 +29,5 @@ impl<T: Drop, A: Allocator> Kept<T> for Vec<T, A> {
     fn keep(&mut self, item: T) -> Result<(), NoMemory> {
         self.push(item)?;
         Ok(())
-    }
-}
-
-impl<A: Allocator> Kept<Noted> for NoteList<A> {
-    ghost kept = { λ list. list.notes };
-
-    fn has_none(&self) -> bool {
-        self.len() == 0
-    }
-
-    fn keep(&mut self, item: Noted) -> Result<(), NoMemory> {
-        match self.push(item) {
-            Ok(()) => Ok(()),
-            Err(_) => Err(NoMemory),
-        }
     }
 }

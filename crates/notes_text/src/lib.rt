@@ -4,12 +4,14 @@
 pub mod certifying;
 pub mod collecting;
 pub mod collector;
-mod event_text;
+pub mod declaring;
+pub mod event_text;
 pub mod grammar;
 pub mod kept;
+pub mod kept_notes;
 mod merging;
 pub mod note_line;
-mod noted_line;
+pub mod noted_line;
 mod ordering;
 pub mod outcome_words;
 pub mod request_text;

@@ -6,7 +6,10 @@ use crate::collector::LineOf;
 use crate::note_line::read_note;
 use seats::Noted;
 
-impl LineOf for Noted {
+/// The lines of notes.
+pub struct NoteLines;
+
+impl LineOf<Noted> for NoteLines {
     ghost needs_calls = { true };
 
     ghost names = { λ cores note words. NamesNote note words };

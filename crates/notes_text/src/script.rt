@@ -84,7 +84,7 @@ fn read_task(cores: u64, words: &[u8]) -> Option<ScriptLine>
     task_said(cores, line)
 }
 
-impl LineOf for ScriptLine {
+impl LineOf<ScriptLine> for ScriptLine {
     ghost needs_calls = { false };
 
     ghost names = { λ cores line words. NamesTask cores line words };
@@ -181,8 +181,8 @@ impl<A: Allocator> Script<A> {
         }
     }
 
-    // The allocator from which the script took its memory.
-    pub(crate) fn allocator(&self) -> &A {
+    /// The allocator from which the script took its memory.
+    pub fn allocator(&self) -> &A {
         &self.alloc
     }
 }
@@ -234,7 +234,9 @@ pub fn read_script<A: Allocator + Clone + Drop, S: Source>(
         return Err(TraceFault::NoMemory);
     };
     let lines: Vec<ScriptLine, A> = Vec::new(for_lines);
-    let collected = match collect(for_text, lines, reader) {
+    let collected = match collect::<ScriptLine, ScriptLine, Vec<ScriptLine, A>, A, S>(
+        for_text, lines, reader,
+    ) {
         Ok(collected) => collected,
         Err(fault) => return Err(fault),
     };

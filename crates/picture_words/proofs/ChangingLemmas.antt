@@ -4,7 +4,7 @@ use Rattle.core_steps.specs.declared.setup.CallLimit.TheVariants.{Usual}
 use Rattle.state_changes.specs.Behind.{SaysSteps}
 use Rattle.state_changes.proofs.Walking.{changes_said}
 use Rattle.trace.specs.declared.fault.TraceFault.{TraceFault}
-use Rattle.trace.specs.declared.shown.Show.TheVariants.{Outcomes}
+use Rattle.trace.specs.declared.show.Show.TheVariants.{Outcomes}
 use Rattle.trace_io.proofs.LineLemmas.{reads_map}
 use Rattle.trace_io.specs.Lines.{lines_of}
 use Rattle.trace_io.specs.Source.{Stream, Reads}

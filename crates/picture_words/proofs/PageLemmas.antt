@@ -7,7 +7,7 @@ use Rattle.trace_io.proofs.LineLemmas.{reads_map}
 use Rattle.trace.specs.Ends.{Ends}
 use Rattle.trace.specs.declared.fault.TraceFault.{TraceFault}
 use Rattle.trace.specs.declared.fault.TraceFault.TheVariants.{NoMemory, WriteFailed}
-use Rattle.trace.specs.declared.shown.Show.TheVariants.{Outcomes, OutcomesAndLog}
+use Rattle.trace.specs.declared.show.Show.TheVariants.{Outcomes, OutcomesAndLog}
 use Rattle.core_steps.specs.declared.setup.CallLimit.TheVariants.{Usual}
 use Rattle.trace_page.specs.Recorded.{IsFresh, Recorded, Records}
 use Rattle.trace_page.proofs.Lines.{states_shown}

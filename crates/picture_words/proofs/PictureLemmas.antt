@@ -14,8 +14,9 @@ use Rattle.machine_model.specs.declared.event.Event.{Event}
 use Rattle.machine_model.specs.declared.event.Outcome.{Outcome}
 use Rattle.trace.specs.declared.fault.TraceFault.{TraceFault}
 use Rattle.trace.specs.declared.fault.TraceFault.TheVariants.{BadLine, TooLong, NoVmLine, Setup, NoMemory, ReadFailed, WriteFailed}
-use Rattle.trace.specs.declared.shown.Show.TheVariants.{Maps, Outcomes}
-use Rattle.trace.specs.Ends.{Ends, Stops, TellsFaults, fault_named}
+use Rattle.trace.specs.declared.show.Show.TheVariants.{Maps, Outcomes}
+use Rattle.trace.specs.Ends.{Ends, Stops}
+use Rattle.trace.specs.Faults.{TellsFaults, fault_named}
 use Rattle.trace.specs.Seen.{IsSeen}
 use Rattle.word_parts.specs.declared.asked.Drawing.{Drawing}
 use Rattle.word_parts.specs.declared.asked.Drawing.TheVariants.{Lines, Steps, Lives, State, Objects, Page, Changes, Listing}

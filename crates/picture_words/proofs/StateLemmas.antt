@@ -5,7 +5,7 @@ use Rattle.trace_io.specs.Lines.{lines_of}
 use Rattle.trace_io.specs.Sink.{AppendsFront}
 use Rattle.trace.specs.declared.fault.TraceFault.{TraceFault}
 use Rattle.trace.specs.declared.fault.TraceFault.TheVariants.{NoMemory, WriteFailed}
-use Rattle.trace.specs.declared.shown.Show.TheVariants.{Maps}
+use Rattle.trace.specs.declared.show.Show.TheVariants.{Maps}
 use Rattle.core_steps.specs.declared.setup.CallLimit.TheVariants.{Usual}
 use Rattle.machine_model.specs.World.{World}
 use Rattle.frame_counts.specs.declared.texts.Form.TheVariants.{Json as AsJson}

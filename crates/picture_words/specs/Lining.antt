@@ -9,7 +9,7 @@ use Rattle.recorder.specs.Recording.{nothing_recorded}
 use Rattle.state_text.specs.Fronts.{IsFront, lacking_line}
 use Rattle.trace.specs.declared.fault.TraceFault.{TraceFault}
 use Rattle.trace.specs.declared.fault.TraceFault.TheVariants.{NoMemory, ReadFailed}
-use Rattle.trace.specs.declared.shown.Show.TheVariants.{Outcomes}
+use Rattle.trace.specs.declared.show.Show.TheVariants.{Outcomes}
 use Rattle.trace.specs.Ends.{Stops}
 use Rattle.trace.specs.Seen.{IsSeen}
 use Rattle.trace_io.specs.Lines.{lines_of}

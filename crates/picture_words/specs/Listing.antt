@@ -4,7 +4,7 @@ use Rattle.core_steps.specs.declared.setup.CallLimit.{CallLimit}
 use Rattle.std.specs.declared.alloc.Global.{Global}
 use Rattle.trace.specs.declared.fault.TraceFault.{TraceFault}
 use Rattle.trace.specs.declared.fault.TraceFault.TheVariants.{NoMemory, ReadFailed}
-use Rattle.trace.specs.declared.shown.Show.TheVariants.{Maps}
+use Rattle.trace.specs.declared.show.Show.TheVariants.{Maps}
 use Rattle.trace.specs.Ends.{Completes, Stops}
 
 -- the replay of the trace lists these mappings at its end

@@ -21,7 +21,7 @@ use Rattle.recorder.specs.Looking.{recorded}
 use Rattle.recorder.specs.Recording.{Recording, nothing_recorded}
 use Rattle.trace.specs.declared.fault.TraceFault.{TraceFault}
 use Rattle.trace.specs.declared.fault.TraceFault.TheVariants.{BadLine, TooLong, NoVmLine, Setup, NoMemory, ReadFailed, WriteFailed}
-use Rattle.trace.specs.declared.shown.Show.TheVariants.{Outcomes}
+use Rattle.trace.specs.declared.show.Show.TheVariants.{Outcomes}
 use Rattle.trace.specs.Ends.{Stops}
 use Rattle.trace.specs.Seen.{IsSeen}
 use Rattle.state_text.specs.Traces.{IsTold, told_text}

@@ -16,7 +16,7 @@ use Rattle.picture_words.specs.declared.stating.Form.TheVariants.{Text, Objects}
 use Rattle.picture_words.specs.declared.stating.Sight.{Sight}
 use Rattle.trace.specs.declared.fault.TraceFault.{TraceFault}
 use Rattle.trace.specs.declared.fault.TraceFault.TheVariants.{NoMemory, ReadFailed}
-use Rattle.trace.specs.declared.shown.Show.TheVariants.{Maps}
+use Rattle.trace.specs.declared.show.Show.TheVariants.{Maps}
 use Rattle.trace.specs.Ends.{Stops}
 use Rattle.trace.specs.Seen.{IsSeenWith}
 

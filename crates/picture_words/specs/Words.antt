@@ -1,7 +1,7 @@
 -- What the words that show a trace do: how they end, what is read and written by then, and the status.
 use Rattle.picture_words.specs.Picture.{PictureEnds, pictured_text}
 use Rattle.word_parts.specs.declared.asked.Drawing.{Drawing}
-use Rattle.trace.specs.Ends.{TellsFaults}
+use Rattle.trace.specs.Faults.{TellsFaults}
 use Rattle.trace_io.specs.Io.{ReadFrom, WrittenTo}
 use Rattle.word_parts.specs.Ends.{EndsInOneWay}
 use Rattle.std.specs.Prelude.{ℕ, Option, None, Some, Result, Ok, Err}

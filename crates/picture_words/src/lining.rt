@@ -7,7 +7,7 @@ ghost use Rattle.picture_words.specs.Picture.{ShowsText, TextEnds};
 ghost use Rattle.note_lines.specs.Notes.{traced_text};
 ghost use Rattle.trace.specs.declared.fault.TraceFault.TheVariants as Of;
 ghost use Rattle.trace_io.specs.Lines.{lines_of};
-ghost use Rattle.trace.specs.Ends.{fault_named};
+ghost use Rattle.trace.specs.Faults.{fault_named};
 ghost use Rattle.trace_io.specs.Io.{TellsIo, read_from, written_to};
 ghost use Rattle.trace_io.specs.Sink.{AppendsFront};
 ghost use Rattle.trace_io.specs.Source.{Reads};

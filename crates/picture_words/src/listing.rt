@@ -14,7 +14,7 @@ use named_lists::lists::put_named;
 use std::alloc::Global;
 use trace::fault::TraceFault;
 use trace::replay::replay_telling;
-use trace::shown::Show;
+use trace::show::Show;
 use trace_io::sink::{Sink, write_all};
 use trace_io::source::Counted;
 

@@ -13,7 +13,7 @@ use core_steps::CallLimit;
 use std::alloc::{AllocError, Global};
 use trace::fault::TraceFault;
 use trace::replay::replay_telling;
-use trace::shown::Show;
+use trace::show::Show;
 use trace_io::sink::{Sink, write_all};
 use trace_io::source::Counted;
 use trace_page::StateRecorder;

@@ -9,7 +9,8 @@ use Rattle.live_script.specs.Texts.{EndsText, IsSummedText, IsVerdictText, Tells
 use Rattle.notes_text.specs.CertifyEnds.{Certifies}
 use Rattle.shared_script.specs.Texts.{EndsShared, TellsShared}
 use Rattle.slot_lock.specs.Slots.{Slots}
-use Rattle.trace.specs.Ends.{Ends, TellsFaults}
+use Rattle.trace.specs.Ends.{Ends}
+use Rattle.trace.specs.Faults.{TellsFaults}
 use Rattle.trace.specs.Shown.{limit_for}
 use Rattle.trace.specs.Status.{status_of}
 use Rattle.trace_io.specs.Io.{ReadFrom, WrittenTo}

@@ -15,7 +15,7 @@ use Rattle.trace_io.specs.Io.{ReadFrom, TellsSent, WrittenTo}
 use Rattle.trace_io.specs.Sink.{AppendsFront}
 use Rattle.trace_text.specs.Printing.{reply_text}
 use Rattle.trace.specs.Declarations.{Asked}
-use Rattle.trace.specs.Ends.{fault_named}
+use Rattle.trace.specs.Faults.{fault_named}
 use Rattle.trace.specs.declared.fault.TraceFault.{TraceFault}
 use Rattle.trace.specs.declared.fault.TraceFault.TheVariants as Of
 use Rattle.notes_text.specs.Scripts.{ReadWhole, Scripted, Unread}

@@ -9,7 +9,7 @@ ghost use Rattle.shared_script.specs.Texts.{call_line, entry_line, shared_text, 
 use crate::logged::Logged;
 use crate::running::Ran;
 use notes_text::request_text::push_request;
-use notes_text::writing::write_declaration;
+use notes_text::declaring::write_declaration;
 use shared::Replied;
 use trace::declaration::Declaration;
 use trace_io::sink::{Sink, WriteFailed, write_all};

@@ -4,7 +4,7 @@ use Rattle.machine_model.specs.declared.event.Event.{Event}
 use Rattle.machine_model.specs.declared.event.Outcome.{Outcome}
 use Rattle.radix_range.specs.Tree.{new_tree}
 use Rattle.trace_io.specs.Lines.{lines_of}
-use Rattle.trace.specs.declared.shown.Show.TheVariants.{Maps}
+use Rattle.trace.specs.declared.show.Show.TheVariants.{Maps}
 use Rattle.trace.specs.Listing.{maps_text}
 use Rattle.trace.specs.Shown.{IsBehind}
 use Rattle.radix_range.proofs.New.{new_tree_new}

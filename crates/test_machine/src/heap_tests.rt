@@ -12,7 +12,7 @@ use std::test::Fail;
 use test_support::setups::declared;
 use trace::fault::TraceFault;
 use trace::replay::replay;
-use trace::shown::Show;
+use trace::show::Show;
 use trace_io::sink::Noted;
 use trace_io::source::Counted;
 use vm_base::{CoreId, Flags, NoMemory, Prot, Request};

@@ -13,7 +13,7 @@ use test_support::setups::declared;
 use trace::declaration::Declaration;
 use trace::outcome_text::write_outcome;
 use trace::replay::replay;
-use trace::shown::Show;
+use trace::show::Show;
 use trace_io::sink::Noted;
 use trace_io::source::Counted;
 use trace_text::{

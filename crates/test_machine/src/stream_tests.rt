@@ -4,7 +4,7 @@ use std::io;
 use std::io::{ErrorKind, Read, Write};
 use trace::fault::TraceFault;
 use trace::replay::replay;
-use trace::shown::Show;
+use trace::show::Show;
 use trace_io::sink::Noted;
 use trace_io::source::Counted;
 

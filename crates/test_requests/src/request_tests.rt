@@ -7,7 +7,7 @@ use std::test::Fail;
 use test_support::oracle::Oracle;
 use test_support::random::Random;
 use trace::replay::replay;
-use trace::shown::Show;
+use trace::show::Show;
 use trace_io::sink::Noted;
 use trace_io::source::Counted;
 use trace_text::{Line, LineText, push_reply, read_line};

@@ -12,7 +12,7 @@ use std::alloc::Global;
 use std::sync::Wait;
 use std::test::Fail;
 use std::thread::Threads;
-use trace::shown::Show;
+use trace::show::Show;
 use trace_io::sink::Noted;
 use trace_io::source::Counted;
 use word_parts::asked::Shows;

@@ -14,7 +14,8 @@ use Rattle.trace.specs.declared.fault.TraceFault.{TraceFault}
 use Rattle.trace.specs.declared.fault.TraceFault.TheVariants.{BadLine, NoMemory, NoVmLine}
 use Rattle.trace.specs.Declarations.{Asked, asks_for}
 use Rattle.trace.specs.Gives.{is_event}
-use Rattle.trace.specs.Stage.{Stage, stage_of, Acts, EventActs, Opens, OpenFails, Kind, OfSpace, OfFile, OfEvents, kind_of, LateFails, BadFails}
+use Rattle.trace.specs.Stage.{Stage, stage_of, Acts, EventActs, Opens, OpenFails, LateFails, BadFails}
+use Rattle.trace.specs.Kinds.{Kind, OfSpace, OfFile, OfEvents, kind_of}
 use Rattle.trace.specs.Stage.{BytesFail, EventFails, EventWants, LineActs, LineFails, LineWants, SaidFails, SpaceFails}
 
 -- ---- at which a machine is to be made

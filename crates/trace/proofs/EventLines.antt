@@ -20,7 +20,7 @@ use Rattle.trace_text.specs.declared.access_line.AskedAccess.{AskedAccess}
 use Rattle.vm_base.specs.declared.requests.Request.TheVariants.{Load, Store}
 use Rattle.core_steps.specs.declared.machine.Finished.{Finished}
 use Rattle.core_steps.specs.Finishing.{Calls, FinishesAfter as CallGoesOn}
-use Rattle.trace.specs.OutcomeText.{finished_text}
+use Rattle.trace.specs.FinishedText.{finished_text}
 use Rattle.trace.specs.Gives.{Gives, Wants, is_event, TellsCall}
 
 pub on_err : {U : Type 0} (r : Result U NoMemory) (P : Type 0) → P → OnErr r P

@@ -14,3 +14,4 @@ pub mod PlainTextLemmas
 pub mod Declaring
 mod Examples
 pub mod Seeing
+pub mod OwnFaults

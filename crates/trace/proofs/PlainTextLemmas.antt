@@ -27,12 +27,13 @@ use Rattle.trace_text.specs.declared.action.Action.TheVariants as By
 use Rattle.trace_text.specs.declared.line.Line.{Line}
 use Rattle.trace_text.specs.declared.line.Line.TheVariants.{Blank, Space, File, Act, Fold, Finish, Now}
 use Rattle.trace.specs.declared.declaration.FileLine.{FileLine}
-use Rattle.trace.specs.declared.shown.Show.{Show}
-use Rattle.trace.specs.declared.shown.Show.TheVariants.{Outcomes, OutcomesAndLog, Maps}
+use Rattle.trace.specs.declared.show.Show.{Show}
+use Rattle.trace.specs.declared.show.Show.TheVariants.{Outcomes, OutcomesAndLog, Maps}
 use Rattle.core_steps.specs.declared.setup.CallLimit.{CallLimit}
 use Rattle.trace.specs.Declarations.{Asked, asked_fault_within, made_by}
 use Rattle.trace.specs.Events.{event_of}
-use Rattle.trace.specs.OutcomeText.{outcome_text, finished_text}
+use Rattle.trace.specs.OutcomeText.{outcome_text}
+use Rattle.trace.specs.FinishedText.{finished_text}
 use Rattle.radix_range.specs.Folds.{CanFold, FoldsNode}
 use Rattle.trace.specs.Gives.{Gives, TellsFinish, TellsCall}
 use Rattle.trace.specs.Stage.{Stage, Start, Declared, Running, CanOpen, Opens, LineActs, EventActs}

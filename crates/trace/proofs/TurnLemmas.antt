@@ -11,21 +11,13 @@ use Rattle.trace_text.specs.declared.line.Line.TheVariants.{Blank, Space, File, 
 use Rattle.core_steps.specs.declared.setup.SetupFault.{SetupFault}
 use Rattle.trace.specs.declared.fault.TraceFault.{TraceFault}
 use Rattle.trace.specs.declared.fault.TraceFault.TheVariants.{BadLine, TooLong, ReadFailed, NoVmLine, NoMemory, Setup, WriteFailed}
-use Rattle.trace.specs.Stage.{Stage, Start, Declared, Running, SetupFails, OpenFails, LineWants, Kind, OfSpace, OfFile, OfEvents, kind_of}
+use Rattle.trace.specs.Stage.{Stage, Start, Declared, Running, SetupFails, OpenFails, LineWants}
+use Rattle.trace.specs.Kinds.{Kind, OfSpace, OfFile, OfEvents, kind_of}
 use Rattle.trace.specs.Stage.{LateFails, BadFails, SpaceFails, FileFails, SaidFails, BytesFail, LineFails, Acts}
 use Rattle.core_steps.specs.declared.setup.CallLimit.{CallLimit}
 use Rattle.trace.specs.Declarations.{Asked, asked_fault_within}
 use Rattle.trace.specs.Turns.{Scene, Advances, IsHeld, Fails, no_memory, refused, unwritten}
-
--- neither the reader's fault nor the writer's
-unfoldable pub is_own : TraceFault → Bool
-is_own (BadLine n) = true
-is_own (TooLong n) = true
-is_own ReadFailed = false
-is_own NoVmLine = true
-is_own NoMemory = true
-is_own (Setup s) = true
-is_own WriteFailed = false
+use Rattle.trace.proofs.OwnFaults.{is_own}
 
 own_setup : (a : Asked) (o : Option SetupFault) (f : TraceFault) → SetupFails a o f → is_own f ≡ true
 unfolding is_own

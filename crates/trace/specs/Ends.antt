@@ -1,18 +1,15 @@
 -- How a replay of a whole text ends.
-use Rattle.std.specs.Prelude.{◌≡◌, ℕ, ◌+◌, ◌<◌, ◌≤◌, ◌⊎◌, true, List, [], ◌∷◌, ◌++◌, Option}
+use Rattle.std.specs.Prelude.{◌≡◌, ℕ, ◌+◌, ◌<◌, ◌≤◌, List, [], ◌∷◌, ◌++◌, Option}
 use Rattle.std.specs.Prelude.{Result, Ok, Err, length}
 use Rattle.std.specs.Io.KnownBytes.{Appends}
 use Rattle.core_steps.specs.declared.setup.CallLimit.{CallLimit}
-use Rattle.trace_io.specs.Io.{ReadFrom, WrittenTo}
 use Rattle.trace_io.specs.Lines.{lines_of, IsUnbroken}
 use Rattle.trace_io.specs.Sink.{AppendsFront}
-use Rattle.trace_io.specs.Source.{HasStopped}
-use Rattle.trace_io.specs.declared.fault.IoFault.{IoFault}
-use Rattle.trace_io.specs.declared.fault.IoFault.TheVariants as Io
+use Rattle.trace_io.specs.Taken.{AreRead}
 use Rattle.trace.specs.declared.fault.TraceFault.{TraceFault}
 use Rattle.trace.specs.declared.fault.TraceFault.TheVariants.{TooLong, ReadFailed, NoMemory}
 use Rattle.trace.specs.declared.fault.TraceFault.TheVariants.{WriteFailed}
-use Rattle.trace.specs.declared.shown.Show.{Show}
+use Rattle.trace.specs.declared.show.Show.{Show}
 use Rattle.trace.specs.Stage.{Stage, Start, LineFails, LineWants, CanOpen, OpenFails}
 use Rattle.trace.specs.Runs.{Runs}
 use Rattle.trace.specs.Shown.{keeps_log, told, IsBehind, IsBegunBehind}
@@ -39,15 +36,6 @@ pub record Front (limit : CallLimit) (input : List ℕ) : Type 0 where
   pub text : List ℕ
   pub lines : lines_of input ≡ done ++ more
   pub runs : Runs (Start limit) done stage text
-
--- these lines were read, and behind them what the reader has given besides, at most a chunk of
--- 65,536 bytes
-pub record AreRead (input unread : List ℕ) (done : List (List ℕ)) : Type 0 where
-  pub whole : List ℕ
-  pub held : List ℕ
-  pub bytes : input ≡ whole ++ held ++ unread
-  pub lines : lines_of whole ≡ done
-  pub few : length held ≤ 65536
 
 -- After a fault the text of the lines before it has gone out, where it is shown, and nothing comes
 -- behind it. After a failed write a front of the text has, or, where all lines were acted on, a front
@@ -83,17 +71,3 @@ abbrev pub Ends : {T : Type 0} → CallLimit → Show → List ℕ → List ℕ 
     → Result T TraceFault → Type 0
 Ends limit show input unread old new (Ok x) = Completes limit show input old new
 Ends limit show input unread old new (Err f) = Stops limit show input unread old new f
-
--- as what a fault of reading and writing is told
-abbrev pub fault_named : IoFault → TraceFault
-fault_named Io.ReadFailed = ReadFailed
-fault_named Io.NoMemory = NoMemory
-fault_named Io.WriteFailed = WriteFailed
-
--- `read failed` is told only of a read that failed or was one too many, and `write failed` only
--- where a write or a flush failed; where it isn't told, none failed, and all that was written has
--- gone out.
-pub record TellsFaults {T : Type 0} (r : Result T TraceFault) (text : ReadFrom) (sink : WrittenTo) : Type 0 where
-  pub read : r ≡ Err ReadFailed → HasStopped text.failed text.reads
-  pub write : r ≡ Err WriteFailed → sink.failed ≡ true
-  pub out : (r ≡ Err WriteFailed) ⊎ ((sink.failed ≡ sink.had_failed) × (sink.is_flushed ≡ true))

@@ -18,7 +18,8 @@ use Rattle.trace_text.specs.declared.line.Line.{Line}
 use Rattle.trace_text.specs.declared.line.Line.TheVariants.{Blank, Space, File, Act, Fold, Finish, Now}
 use Rattle.trace.specs.Declarations.{Asked}
 use Rattle.trace.specs.Events.{event_of}
-use Rattle.trace.specs.OutcomeText.{outcome_text, finished_text}
+use Rattle.trace.specs.OutcomeText.{outcome_text}
+use Rattle.trace.specs.FinishedText.{finished_text}
 use Rattle.trace.specs.Stage.{Start, Running, new_machine}
 use Rattle.trace.specs.Runs.{Runs}
 

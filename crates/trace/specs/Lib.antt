@@ -13,3 +13,6 @@ pub mod Listing
 pub mod Shown
 pub mod Status
 pub mod Seen
+pub mod Kinds
+pub mod Faults
+pub mod FinishedText

@@ -3,8 +3,6 @@ use Rattle.std.specs.Prelude.{ℕ, List, ◌++◌, codes, decimal}
 use Rattle.machine_model.specs.declared.event.Blocker.TheVariants.{Slot, Acks}
 use Rattle.machine_model.specs.declared.event.Outcome.{Outcome}
 use Rattle.machine_model.specs.declared.event.Outcome.TheVariants.{Stepped, Wait, Idle, Answered, Full}
-use Rattle.core_steps.specs.declared.machine.Finished.{Finished}
-use Rattle.core_steps.specs.declared.machine.Finished.TheVariants.{Last, Stuck}
 use Rattle.trace_text.specs.Printing.{acks_text, full_text, idle_text, reply_text, step_text}
 
 abbrev pub outcome_text : Outcome → List ℕ
@@ -14,7 +12,3 @@ outcome_text (Wait (Acks set)) = acks_text set
 outcome_text Idle = idle_text
 outcome_text (Answered reply) = reply_text reply
 outcome_text Full = full_text
-
-abbrev pub finished_text : Finished → List ℕ
-finished_text (Last outcome) = outcome_text outcome
-finished_text Stuck = codes "stuck\n"

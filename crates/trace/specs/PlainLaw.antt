@@ -2,7 +2,7 @@
 use Rattle.std.specs.Prelude.{ℕ, ◌<◌, List}
 use Rattle.machine_model.specs.Step.{event_limit}
 use Rattle.core_steps.specs.declared.setup.CallLimit.{CallLimit}
-use Rattle.trace.specs.declared.shown.Show.{Show}
+use Rattle.trace.specs.declared.show.Show.{Show}
 use Rattle.trace.specs.PlainText.{AllAnswer, IsPlainBehind, nothing_reached}
 use Rattle.trace.specs.Runs.{Runs}
 use Rattle.trace.specs.Shown.{IsBehind, log_at}

@@ -23,8 +23,8 @@ use Rattle.trace_text.specs.declared.action.Action.{Action}
 use Rattle.trace_text.specs.declared.action.Action.TheVariants as By
 use Rattle.trace_text.specs.declared.line.Line.{Line}
 use Rattle.trace_text.specs.declared.line.Line.TheVariants.{Blank, Space, File, Act, Fold, Finish, Now}
-use Rattle.trace.specs.declared.shown.Show.{Show}
-use Rattle.trace.specs.declared.shown.Show.TheVariants.{Outcomes, OutcomesAndLog, Maps}
+use Rattle.trace.specs.declared.show.Show.{Show}
+use Rattle.trace.specs.declared.show.Show.TheVariants.{Outcomes, OutcomesAndLog, Maps}
 use Rattle.trace.specs.Listing.{maps_text}
 use Rattle.vm_base.specs.Places.{IsFirstPlace}
 

@@ -8,7 +8,7 @@ use Rattle.machine_model.specs.World.{World}
 use Rattle.trace_io.specs.Lines.{lines_of}
 use Rattle.trace_text.specs.declared.line.Line.{Line}
 use Rattle.watched.specs.Watching.{Watches}
-use Rattle.trace.specs.declared.shown.Show.{Show}
+use Rattle.trace.specs.declared.show.Show.{Show}
 use Rattle.trace.specs.Declarations.{Asked}
 use Rattle.trace.specs.EventRuns.{Asks, AllAsk}
 use Rattle.trace.specs.Stage.{Stage, Start, Declared, Running, CanOpen, Opens, new_machine}

@@ -14,8 +14,8 @@ use Rattle.trace_text.specs.Lists.{log_text}
 use Rattle.trace.specs.Listing.{maps_text}
 use Rattle.trace.specs.declared.fault.TraceFault.{TraceFault}
 use Rattle.trace.specs.declared.fault.TraceFault.TheVariants.{WriteFailed}
-use Rattle.trace.specs.declared.shown.Show.{Show}
-use Rattle.trace.specs.declared.shown.Show.TheVariants.{Outcomes, OutcomesAndLog, Maps}
+use Rattle.trace.specs.declared.show.Show.{Show}
+use Rattle.trace.specs.declared.show.Show.TheVariants.{Outcomes, OutcomesAndLog, Maps}
 use Rattle.trace.specs.Stage.{Stage, Start, Declared, Running, CanOpen, OpenFails}
 
 -- what is written of the text of outcomes

@@ -1,14 +1,14 @@
 -- How far a trace has come, and what one line does to it.
 use Rattle.std.specs.Prelude.{◌≡◌, ◌≢◌, ℕ, ◌⊎◌, List, [], Bool, true, false, Option, None, Some}
-use Rattle.std.specs.Prelude.{if◌then◌else◌, IsSomeAnd, ⊤}
+use Rattle.std.specs.Prelude.{IsSomeAnd, ⊤}
 use Rattle.radix_range.specs.Tree.{new_tree}
 use Rattle.radix_range.specs.Folds.{CanFold, FoldsNode}
 use Rattle.machine_model.specs.World.{World, new_world}
 use Rattle.core_steps.specs.declared.setup.CallLimit.{CallLimit}
 use Rattle.core_steps.specs.declared.setup.SetupFault.{SetupFault}
 use Rattle.core_steps.specs.declared.setup.SetupFault.TheVariants as Of
-use Rattle.trace_text.specs.Words.{Word, words_of}
-use Rattle.trace_text.specs.Line.{are_printable, begins_with_file, begins_with_vm, line_of}
+use Rattle.trace_text.specs.Words.{words_of}
+use Rattle.trace_text.specs.Line.{are_printable, line_of}
 use Rattle.trace_text.specs.declared.line.Line.{Line}
 use Rattle.trace_text.specs.declared.line.Line.TheVariants.{Blank, Space, File, Act, Fold, Finish, Now}
 use Rattle.trace.specs.declared.fault.TraceFault.{TraceFault}
@@ -16,6 +16,7 @@ use Rattle.trace.specs.declared.fault.TraceFault.TheVariants as By
 use Rattle.trace.specs.Declarations.{Asked, asks_for, is_next, with_file, made_by}
 use Rattle.trace.specs.Declarations.{asked_fault_within}
 use Rattle.trace.specs.Gives.{Gives, Wants, is_event}
+use Rattle.trace.specs.Kinds.{Kind, OfSpace, OfFile, OfEvents, kind_of}
 
 -- No line with words yet; the vm line, and the file lines behind it; a machine. Up to the machine
 -- there is a limit of the calls that may be asked for.
@@ -57,17 +58,6 @@ abbrev pub OpenFails : Stage → TraceFault → Type 0
 OpenFails (Start limit) f = f ≡ By.NoVmLine
 OpenFails (Declared limit a) f = SetupFails a (asked_fault_within limit a) f
 OpenFails (Running w) f = ⊥
-
--- the first word of a line is `vm`, it is `file`, or the line is of events
-pub data Kind : Type 0 where
-  OfSpace : Kind
-  OfFile : Kind
-  OfEvents : Kind
-
--- a line declares a space, or a file, or says an event
-abbrev pub kind_of : List Word → Kind
-kind_of words =
-    if begins_with_vm words then OfSpace else if begins_with_file words then OfFile else OfEvents
 
 -- The setup's fault comes before that of a line at which a machine is to be made.
 abbrev pub LateFails : CallLimit → Asked → ℕ → TraceFault → Type 0

@@ -10,7 +10,8 @@ ghost use Rattle.trace_text.specs.Front.{access_asked, step_asked};
 ghost use Rattle.vm_base.specs.declared.requests.Request.TheVariants.{Load, Store};
 
 use crate::fault::TraceFault;
-use crate::outcome_text::{write_finished, write_outcome};
+use crate::finished_text::write_finished;
+use crate::outcome_text::write_outcome;
 use core_steps::{Ledger, Machine};
 use machine_model::{Event, Outcome};
 use slot_lock::SlotMap;

@@ -4,12 +4,14 @@
 pub mod declaration;
 pub mod event_lines;
 pub mod fault;
+pub mod finished_text;
 pub mod laws;
 pub mod outcome_text;
 pub mod replay;
 pub mod replayer;
+pub mod show;
 pub mod shown;
 pub mod standing;
 
 pub use fault::TraceFault;
-pub use shown::Show;
+pub use show::Show;

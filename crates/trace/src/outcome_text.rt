@@ -1,10 +1,9 @@
 //! The text of an outcome: one line, in a buffer of fixed size.
 ghost use Rattle.std.specs.Prelude.{◌≡◌, ◌+◌, ◌<◌, ◌≤◌, ◌++◌, [], cond, codes, decimal, length};
 ghost use Rattle.vm_base.specs.Cores.{members};
-ghost use Rattle.trace.specs.OutcomeText.{finished_text, outcome_text};
+ghost use Rattle.trace.specs.OutcomeText.{outcome_text};
 ghost use Rattle.trace_text.specs.Printing.{core_text, cores_text};
 
-use core_steps::Finished;
 use machine_model::{Blocker, Outcome};
 use trace_text::{LineText, number_text, push_reply};
 use vm_base::{CoreId, CoreSet, Reply};
@@ -32,7 +31,8 @@ fn push_cores(text: &mut LineText, cores: CoreSet)
     }
 }
 
-fn write_word(text: &mut LineText, word: &str)
+/// Replaces the text by the word and a newline.
+pub fn write_word(text: &mut LineText, word: &str)
     requires { length word.now ≤ 255 }
     ensures { text.new.bytes ≡ word.now ++ codes "\n" }
 {
@@ -58,8 +58,9 @@ fn write_wait(text: &mut LineText, blocker: Blocker)
     text.push_str("\n");
 }
 
+/// Replaces the text by that of a reply, with its newline.
 #[inline(always)]
-fn write_reply(text: &mut LineText, reply: Reply)
+pub fn write_reply(text: &mut LineText, reply: Reply)
     ensures { text.new.bytes ≡ outcome_text (Outcome.Answered reply) }
 {
     text.clear();
@@ -77,17 +78,5 @@ pub fn write_outcome(text: &mut LineText, outcome: Outcome)
         Outcome::Idle => write_word(text, "idle"),
         Outcome::Answered(reply) => write_reply(text, reply),
         Outcome::Full => write_word(text, "full"),
-    }
-}
-
-/// Replaces the text by that of a finished call, with its newline: its last outcome, or `stuck`.
-#[inline(always)]
-pub fn write_finished(text: &mut LineText, finished: Finished)
-    ensures { text.new.bytes ≡ finished_text finished }
-{
-    match finished {
-        Finished::Last(Outcome::Answered(reply)) => write_reply(text, reply),
-        Finished::Last(outcome) => write_outcome(text, outcome),
-        Finished::Stuck => write_word(text, "stuck"),
     }
 }

@@ -9,7 +9,8 @@ ghost use Rattle.trace_text.specs.Front.{access_asked, step_asked};
 ghost use Rattle.trace_text.specs.Words.{words_of};
 ghost use Rattle.trace.specs.Stage.{Stage, Start, Declared, stage_of, Opens, OpenFails, CanOpen, Acts};
 ghost use Rattle.trace.specs.Stage.{BadFails, EventActs, EventFails, EventWants, FileFails, LateFails};
-ghost use Rattle.trace.specs.Stage.{LineActs, LineFails, LineWants, SpaceFails, kind_of};
+ghost use Rattle.trace.specs.Stage.{LineActs, LineFails, LineWants, SpaceFails};
+ghost use Rattle.trace.specs.Kinds.{kind_of};
 ghost use Rattle.trace.specs.Seen.{Grows, SeesAll, SeesEvent};
 ghost use Rattle.trace.specs.Shown.{HasNoneAt, IsNextAt, IsStartAt, log_at};
 

@@ -9,22 +9,10 @@ ghost use Rattle.trace_text.specs.Lists.{log_text};
 ghost use Rattle.trace_text.specs.LogLines.{HasRoom, so_far};
 
 use crate::replayer::Staged;
+use crate::show::Show;
 use core_steps::LoggedEntries;
 use trace_io::sink::{Sink, WriteFailed, write_all};
 use trace_text::{LineText, LogLines, write_map_line};
-
-/// What a replay writes.
-#[derive(Clone, Copy, Debug, PartialEq, Eq)]
-pub enum Show {
-    /// The outcome of each line of an event.
-    Outcomes,
-    /// That, and at the end of the trace the log: a line for each reply and for each page
-    /// that got a copy of its own, in order.
-    OutcomesAndLog,
-    /// No outcome, and at the end of the trace the list of mappings: a line for each
-    /// range of neighbouring pages, in order.
-    Maps,
-}
 
 /// What a replay shows of a line.
 pub trait Showing {

@@ -4,14 +4,15 @@ ghost use Rattle.core_steps.specs.Machine.{state};
 ghost use Rattle.core_steps.specs.declared.setup.CallLimit.TheVariants.{Usual};
 ghost use Rattle.trace_io.specs.Io.{TellsIo, read_from, written_to};
 ghost use Rattle.trace_io.specs.Source.{Reads};
-ghost use Rattle.trace.specs.Ends.{Ends, fault_named};
+ghost use Rattle.trace.specs.Ends.{Ends};
+ghost use Rattle.trace.specs.Faults.{fault_named};
 ghost use Rattle.trace.specs.Seen.{IsSeenWith};
-ghost use Rattle.trace.specs.declared.shown.Show.TheVariants.{Maps};
+ghost use Rattle.trace.specs.declared.show.Show.TheVariants.{Maps};
 
 use crate::fault::TraceFault;
 use crate::replay::replay_lines;
 use crate::replayer::Replayer;
-use crate::shown::Show;
+use crate::show::Show;
 use core_steps::{Forgotten, Machine};
 use mmu::{Cpu, Hardware};
 use radix_range::RadixMap;

@@ -5,3 +5,4 @@ pub mod Window
 pub mod Scans
 pub mod Founds
 pub mod Io
+pub mod Taken

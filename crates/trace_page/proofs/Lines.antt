@@ -17,7 +17,7 @@ use Rattle.trace_io.specs.Lines.{lines_of}
 use Rattle.trace_text.specs.Line.{line_of}
 use Rattle.trace_text.specs.declared.line.Line.{Line}
 use Rattle.trace_text.specs.declared.line.Line.TheVariants.{Blank, Space, File, Act, Fold, Finish, Now}
-use Rattle.trace.specs.declared.shown.Show.{Show}
+use Rattle.trace.specs.declared.show.Show.{Show}
 use Rattle.trace.specs.Declarations.{Asked, made_by}
 use Rattle.trace.specs.EventRuns.{Asks, AllAsk, AsksCall, AsksFinish}
 use Rattle.trace.specs.Seen.{IsSeen, SeesAll}

@@ -15,7 +15,7 @@ use help_texts::Topic;
 use import_text::processes::Choice;
 use litmus::{View, Wanted};
 use std::alloc::{AllocError, Allocator, Global};
-use trace::shown::Show;
+use trace::show::Show;
 use word_parts::asked::{Drawing, Echoed, Lines, Overlaps, Shows, Steps, WitnessPicture};
 
 /// What has to be done with a text.

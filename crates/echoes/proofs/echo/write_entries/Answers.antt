@@ -3,7 +3,7 @@ use Rattle.std.proofs.lemmas.Option.{get_or_from_slice_get}
 use Rattle.std.specs.Io.KnownBytes.{Appends}
 use Rattle.trace_io.proofs.IoLemmas.{each_front, each_wrote}
 use Rattle.trace_io.specs.Sink.{AppendsFront}
-use Rattle.notes_text.proofs.PieceLemmas.{nothing_yet}
+use Rattle.notes_text.proofs.FilePieces.{nothing_yet}
 use Rattle.core_steps.specs.Packing.{listed}
 use Rattle.trace_text.specs.Lists.{entry_text}
 use Rattle.echoes.specs.Echo.{entry_line, unended}

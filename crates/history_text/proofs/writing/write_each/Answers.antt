@@ -2,7 +2,7 @@ use Rattle.std.proofs.Common.{arith, refl, subst, ◌∙◌}
 use Rattle.std.specs.Io.KnownBytes.{Appends}
 use Rattle.trace_io.proofs.IoLemmas.{each_front, each_wrote}
 use Rattle.trace_io.specs.Sink.{AppendsFront}
-use Rattle.notes_text.proofs.PieceLemmas.{nothing_yet}
+use Rattle.notes_text.proofs.FilePieces.{nothing_yet}
 use Rattle.history_text.specs.Text.{call_text}
 use Rattle.history_text.proofs.writing.write_each.Goals as goal
 

@@ -8,7 +8,7 @@ use Rattle.notes_text.proofs.collecting.collect_lines.Given as goal
 abbrev pub invariant-lines : goal.invariant-lines
 invariant-lines g l = record {
   budget : l.number + budget (g.S.Source.reads l.reader) l.lines ≤ 65536 * 2 ^ 32;
-  ran : Reads (g.S.Source.stream l.initial.reader) (g.S.Source.stream l.reader) (λ input unread. HasCollected g.T.LineOf.needs_calls g.T.LineOf.names input
+  ran : Reads (g.S.Source.stream l.initial.reader) (g.S.Source.stream l.reader) (λ input unread. HasCollected g.L.LineOf.needs_calls g.L.LineOf.names input
       (record {
         left = left unread l.lines;
         unread = unread;

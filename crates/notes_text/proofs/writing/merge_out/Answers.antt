@@ -1,6 +1,6 @@
 use Rattle.machine_model.proofs.Words.{◌∙◌, flat_map, Appends-trans}
 use Rattle.trace_io.proofs.IoLemmas.{front_longer, written_flushed, written_then}
-use Rattle.notes_text.specs.Written.{note_text}
+use Rattle.notes_text.specs.NotesWritten.{note_text}
 use Rattle.notes_text.proofs.MergeLemmas.{order_of}
 use Rattle.notes_text.proofs.writing.merge_out.Goals as goal
 

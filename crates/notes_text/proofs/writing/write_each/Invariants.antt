@@ -1,5 +1,5 @@
 use Rattle.machine_model.proofs.Words.{length, take, ◌-◌, ◌≡◌, ◌≤◌, flat_map, Appends}
-use Rattle.notes_text.specs.Written.{note_text}
+use Rattle.notes_text.specs.NotesWritten.{note_text}
 use Rattle.notes_text.proofs.writing.write_each.Given as goal
 
 -- the lines of the first notes were written

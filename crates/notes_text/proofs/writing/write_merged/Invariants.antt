@@ -2,7 +2,7 @@ use Rattle.machine_model.proofs.Words.{◌≡◌, List, length, map, flat_map, A
 use Rattle.seats.specs.declared.noted.Noted.{Noted}
 use Rattle.certifier.specs.Order.{all_notes}
 use Rattle.seats.specs.Packing.{shown}
-use Rattle.notes_text.specs.Written.{note_text}
+use Rattle.notes_text.specs.NotesWritten.{note_text}
 use Rattle.notes_text.proofs.MergeLemmas.{IsMerged}
 use Rattle.notes_text.proofs.writing.write_merged.Given as goal
 

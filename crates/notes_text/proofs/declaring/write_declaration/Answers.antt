@@ -3,7 +3,7 @@ use Rattle.trace_io.proofs.IoLemmas.{front_longer, written_then}
 use Rattle.trace_io.specs.Io.{IsWritten}
 use Rattle.trace_io.specs.Sink.{AppendsFront}
 use Rattle.notes_text.specs.Written.{files_text}
-use Rattle.notes_text.proofs.writing.write_declaration.Goals as goal
+use Rattle.notes_text.proofs.declaring.write_declaration.Goals as goal
 
 pub returns-in-Err : goal.returns-in-Err
 returns-in-Err g c =

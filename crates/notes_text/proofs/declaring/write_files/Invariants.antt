@@ -1,6 +1,6 @@
 use Rattle.machine_model.proofs.Words.{length, take, ◌-◌, ◌≡◌, ◌≤◌, Appends}
 use Rattle.notes_text.specs.Written.{files_text}
-use Rattle.notes_text.proofs.writing.write_files.Given as goal
+use Rattle.notes_text.proofs.declaring.write_files.Given as goal
 
 -- the lines of the first files were written
 abbrev pub invariant-files : goal.invariant-files

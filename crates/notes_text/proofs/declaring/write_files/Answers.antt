@@ -1,7 +1,7 @@
 use Rattle.machine_model.proofs.Words.{arith, refl, subst, ◌∙◌, Appends}
 use Rattle.trace_io.specs.Sink.{AppendsFront}
-use Rattle.notes_text.proofs.PieceLemmas.{files_front, files_wrote, nothing_yet}
-use Rattle.notes_text.proofs.writing.write_files.Goals as goal
+use Rattle.notes_text.proofs.FilePieces.{files_front, files_wrote, nothing_yet}
+use Rattle.notes_text.proofs.declaring.write_files.Goals as goal
 
 pub files-init : goal.files-init
 files-init g c = record { within = omega arith; written = nothing_yet _; kept = refl }
