@@ -14,7 +14,7 @@ use trace_io::sink::{Sink, WriteFailed, write_all};
 use trace_text::{LineText, LogLines, write_map_line};
 
 /// What a replay writes.
-#[derive(Clone, Copy, Debug, PartialEq, Eq)]
+#[derive(Clone, Copy)]
 pub enum Show {
     /// The outcome of each line of an event.
     Outcomes,
