@@ -16,7 +16,7 @@ use vm_base::{CoreId, NoMemory, Reply, Request};
 use vm_calls::check;
 
 /// A request of a core, and what it was answered.
-#[derive(Clone, Copy, Debug, PartialEq, Eq)]
+#[derive(Clone, Copy, PartialEq, Eq)]
 pub struct Call {
     /// Who asked.
     pub core: CoreId,

@@ -23,7 +23,7 @@ use vm_base::{NoMemory, PageRange, Reply, SegvCode};
 use vm_calls::{Decision, decide, decide_page};
 
 /// What is judged of a reply.
-#[derive(Clone, Copy, Debug, PartialEq, Eq)]
+#[derive(Clone, Copy, PartialEq, Eq)]
 pub enum Verdict {
     /// It is the plain page map's.
     Legal,

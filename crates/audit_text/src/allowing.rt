@@ -5,7 +5,7 @@ ghost use Rattle.audit_text.specs.Allowed.{is_given_up, is_lack, is_lacking, is_
 use vm_base::{Reply, Request};
 
 /// By what replies are judged.
-#[derive(Clone, Copy, Debug, PartialEq, Eq)]
+#[derive(Clone, Copy)]
 pub struct Terms {
     /// A mapping without `MAP_FIXED` may have any place, and not just the first one.
     pub any_place: bool,

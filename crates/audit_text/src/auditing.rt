@@ -23,7 +23,7 @@ use std::alloc::Allocator;
 use trace_io::IoFault;
 
 /// A verdict, and the mappings around the page of the reply or the copy that is illegal.
-#[derive(Debug, Drop)]
+#[derive(Drop)]
 pub struct Judged<A: Allocator> {
     pub verdict: Verdict,
     pub around: Vec<MapLine, A>,

@@ -27,7 +27,7 @@ use trace_io::source::{Source, read_all};
 use trace_text::LineText;
 
 /// The result of judging all replies of a text.
-#[derive(Debug, Drop)]
+#[derive(Drop)]
 pub struct Review<A: Allocator> {
     /// The wrong ones, in their order.
     pub found: Vec<Verdict, A>,

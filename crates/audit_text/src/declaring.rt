@@ -26,7 +26,7 @@ pub struct Declaration<A: Allocator> {
 }
 
 /// What a line is to a declaration.
-#[derive(Clone, Copy, Debug, PartialEq, Eq)]
+#[derive(Clone, Copy)]
 pub enum Declares {
     /// It says a part of it, or nothing.
     Part,
@@ -37,7 +37,7 @@ pub enum Declares {
 }
 
 /// What follows a declaration.
-#[derive(Clone, Copy, Debug)]
+#[derive(Clone, Copy)]
 pub struct Behind<'a> {
     /// What the first line says that is no part of it, if there is one.
     pub said: Option<Said>,

@@ -15,7 +15,7 @@ use vm_base::{CoreId, NoMemory, Reply, Request};
 const CORES: usize = 64;
 
 /// The result of hearing a line.
-#[derive(Clone, Copy, Debug, PartialEq, Eq)]
+#[derive(Clone, Copy)]
 pub enum Turn {
     /// It may stand here, and a reply that it tells is the plain page map's.
     Legal,

@@ -11,7 +11,7 @@ use trace_io::IoFault;
 pub const LINE_LIMIT: usize = 512;
 
 /// Why a text could not be judged. Lines are numbered from 1.
-#[derive(Clone, Copy, Debug, PartialEq, Eq, Error)]
+#[derive(Clone, Copy, Debug, Error)]
 pub enum AuditFault {
     /// The line says nothing that may stand at this place.
     #[error("line {0}: bad line")]

@@ -6,7 +6,7 @@ use crate::around::page_asked;
 use audit::Call;
 
 /// What is judged, one after another.
-#[derive(Clone, Copy, Debug, PartialEq, Eq)]
+#[derive(Clone, Copy)]
 pub enum Item {
     /// A call, and what it was answered.
     Answer(Call),

@@ -17,7 +17,7 @@ use trace_io::lines::front_line;
 use vm_base::Reply;
 
 /// The result of judging the replies of a text.
-#[derive(Clone, Copy, Debug, PartialEq, Eq)]
+#[derive(Clone, Copy)]
 pub enum Verdict {
     /// They are the plain page map's.
     Legal {

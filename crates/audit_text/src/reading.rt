@@ -15,7 +15,7 @@ use trace_text::{Action, Line, is_printable, read_line, read_words};
 use vm_base::{CoreId, Mode, Reply, Request};
 
 /// What a line of an audited text says.
-#[derive(Clone, Copy, Debug, PartialEq, Eq)]
+#[derive(Clone, Copy)]
 pub enum Said {
     /// Nothing: no word, or a comment.
     Blank,

@@ -5,7 +5,7 @@ use std::marker::Model;
 
 /// The frame that caches one page of a file, if one does. It takes no memory. A clause sees it as
 /// the frame's number or none.
-#[derive(Clone, Copy, Debug, PartialEq, Eq)]
+#[derive(Clone, Copy)]
 pub struct CachedFrame {
     number: Option<u32>,
 }

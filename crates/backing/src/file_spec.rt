@@ -12,7 +12,7 @@ pub struct FileSpec<A: Allocator> {
 }
 
 /// Whether stores to the pages of a mapping change the file (POSIX.1-2017, mmap).
-#[derive(Clone, Copy, Debug, PartialEq, Eq)]
+#[derive(Clone, Copy)]
 pub enum Sharing {
     /// `MAP_PRIVATE`: they don't.
     Private,

@@ -7,7 +7,7 @@ use vm_base::page::{PAGE_LIMIT, PAGE_SIZE, pages};
 use vm_base::{Errno, Flags, Reply, Request};
 
 /// The pages of a call that change each for itself: from an address on, so many.
-#[derive(Clone, Copy, Debug, PartialEq, Eq)]
+#[derive(Clone, Copy)]
 pub struct Stretch {
     /// The address of the first.
     pub start: u64,

@@ -11,7 +11,7 @@ use vm_base::NoMemory;
 pub const MOST: usize = 0x200_0000;
 
 /// A call of a history by pages.
-#[derive(Clone, Copy, Debug, PartialEq, Eq)]
+#[derive(Clone, Copy)]
 pub struct Part {
     /// The call, with the begin and the end of the one that it is a part of.
     pub timed: Timed,

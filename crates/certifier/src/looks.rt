@@ -19,7 +19,7 @@ use vm_base::page::PAGE_LIMIT;
 use vm_base::{Back, PageInfo};
 
 /// How far a slot was looked at.
-#[derive(Clone, Copy, Debug, PartialEq, Eq)]
+#[derive(Clone, Copy)]
 pub struct Look {
     /// How many of its changes were applied.
     pub applied: usize,

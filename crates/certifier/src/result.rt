@@ -4,7 +4,7 @@ use machine_model::Outcome;
 use thiserror::Error;
 
 /// What certifying notes that are a run of the machine answers.
-#[derive(Clone, Copy, Debug, PartialEq, Eq)]
+#[derive(Clone, Copy, PartialEq, Eq)]
 pub struct Certified {
     /// How many calls were answered.
     pub calls: u64,

@@ -1,6 +1,6 @@
 //! A part of a difference.
 /// What becomes of the next bytes of a text.
-#[derive(Clone, Copy, Debug, PartialEq, Eq)]
+#[derive(Clone, Copy)]
 pub enum Part {
     /// So many of them stay.
     Keep(usize),

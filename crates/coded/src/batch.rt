@@ -15,7 +15,7 @@ use std::alloc::{Allocator, Global};
 use vm_base::{NoMemory, Request};
 
 /// Why a batch stopped before its end.
-#[derive(Clone, Copy, Debug, PartialEq, Eq)]
+#[derive(Clone, Copy)]
 pub enum Stop {
     /// The next event is none: its kind, its core, a bit or a byte is out of range.
     BadEvent,
@@ -24,7 +24,7 @@ pub enum Stop {
 }
 
 /// How far a batch went.
-#[derive(Clone, Copy, Debug, PartialEq, Eq)]
+#[derive(Clone, Copy)]
 pub struct Ended {
     /// Why it stopped, where it did.
     pub stop: Option<Stop>,

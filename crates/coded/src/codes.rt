@@ -10,7 +10,7 @@ use machine_model::{Blocker, Event, Outcome};
 use vm_base::{CoreId, Errno, Reply, Request, SegvCode};
 
 /// What an event is. In a batch its code is its place here, from 1 on.
-#[derive(Clone, Copy, Debug, PartialEq, Eq)]
+#[derive(Clone, Copy)]
 pub enum Kind {
     /// The core calls `mmap`: `at`, `len`, `prot`, `flags`, `file` and `off` are read.
     Mmap,
@@ -86,7 +86,7 @@ pub struct RawOutcome {
 }
 
 /// What an event of a batch of calls asks for.
-#[derive(Clone, Copy, Debug, PartialEq, Eq)]
+#[derive(Clone, Copy)]
 pub enum Item {
     /// A whole call.
     Call(CoreId, Request),

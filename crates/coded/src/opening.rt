@@ -45,7 +45,7 @@ pub struct RawFile {
 }
 
 /// Why no machine is made.
-#[derive(Clone, Copy, Debug, PartialEq, Eq)]
+#[derive(Clone, Copy)]
 pub enum Refusal {
     /// One of the buffers is said to have more than 2^32 items.
     TooLong,
@@ -64,7 +64,7 @@ pub enum Refusal {
 }
 
 /// Why a file isn't opened.
-#[derive(Clone, Copy, Debug, PartialEq, Eq)]
+#[derive(Clone, Copy)]
 pub enum FileFault {
     /// Its mode is none, or its bytes don't lie in the buffer.
     NotThere,

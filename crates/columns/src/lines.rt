@@ -8,7 +8,7 @@ use trace_io::lines::front_line;
 use trace_text::{Line, read_line};
 
 /// A line that asks for steps.
-#[derive(Clone, Copy, Debug, PartialEq, Eq)]
+#[derive(Clone, Copy)]
 pub struct Asking {
     /// Its number in the trace, from 1 on.
     pub number: u64,

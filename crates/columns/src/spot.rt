@@ -8,7 +8,7 @@ use machine_model::{Blocker, Event, Outcome};
 use vm_base::CoreId;
 
 /// What the last step was.
-#[derive(Clone, Copy, Debug, PartialEq, Eq)]
+#[derive(Clone, Copy)]
 pub enum Last {
     /// No step of a call, or its last one.
     Nothing,
@@ -19,7 +19,7 @@ pub enum Last {
 }
 
 /// How far a trace has come.
-#[derive(Clone, Copy, Debug, PartialEq, Eq)]
+#[derive(Clone, Copy)]
 pub struct Spot {
     /// How many lines that ask for steps have begun.
     pub begun: usize,

@@ -2,7 +2,7 @@
 use vm_base::{CoreId, Request};
 
 /// A call of a core's list. A list of them has the lists of all cores: each core makes its own in their order.
-#[derive(Clone, Copy, Debug, PartialEq, Eq)]
+#[derive(Clone, Copy)]
 pub struct Asked {
     /// Who asks.
     pub core: CoreId,

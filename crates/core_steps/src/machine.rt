@@ -20,7 +20,7 @@ use vm_base::{CoreId, CoreSet, Entry, NoMemory, PageInfo, PageRange, Request};
 const FINISH_LIMIT: u64 = 1 << 40;
 
 /// The result of finishing a call.
-#[derive(Clone, Copy, Debug, PartialEq, Eq)]
+#[derive(Clone, Copy)]
 pub enum Finished {
     /// The outcome that ended it.
     Last(Outcome),

@@ -20,7 +20,7 @@ where
 }
 
 /// Why a run ended early.
-#[derive(Clone, Copy, Debug, PartialEq, Eq)]
+#[derive(Clone, Copy, PartialEq, Eq)]
 pub enum RunFault {
     /// The setup makes no machine.
     Setup(SetupFault),

@@ -8,7 +8,7 @@ use std::fmt;
 use vm_base::limits::{FILE_BYTES, FILE_COUNT};
 
 /// How many calls a setup may ask for at the most.
-#[derive(Clone, Copy, Debug, PartialEq, Eq)]
+#[derive(Clone, Copy)]
 pub enum CallLimit {
     /// 1,048,576.
     Usual,

@@ -34,7 +34,7 @@ const WIDEST: u64 = 64;
 const BUILDERS: u8 = 8;
 
 /// A core that has no order: what its first call does within some pages, and its other calls until the cut.
-#[derive(Debug, Drop)]
+#[derive(Drop)]
 pub struct Core<A: Allocator> {
     /// The pages.
     pub pages: PageRange,

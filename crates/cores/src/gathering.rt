@@ -17,7 +17,7 @@ const MOST: usize = 60;
 const OPEN: usize = 6;
 
 /// What becomes of a call.
-#[derive(Clone, Copy, PartialEq, Eq)]
+#[derive(Clone, Copy)]
 pub(crate) enum Role {
     /// It is left out.
     Out,

@@ -3,7 +3,7 @@
 use orders::Timed;
 
 /// A call of a core.
-#[derive(Clone, Copy, Debug, PartialEq, Eq)]
+#[derive(Clone, Copy)]
 pub struct Kept {
     /// Its number in the history.
     pub number: usize,

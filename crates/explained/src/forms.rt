@@ -6,7 +6,7 @@ use trace_text::read_line;
 use word_parts::pointing::{Text, behind, front, word_at, word_start, words_in};
 
 /// Which lines a text has.
-#[derive(Clone, Copy, PartialEq, Eq)]
+#[derive(Clone, Copy)]
 pub enum Kind {
     /// Those of a trace.
     Trace,

@@ -14,7 +14,7 @@ use std::alloc::{AllocError, Allocator};
 use vm_base::CoreId;
 
 /// How the counts are written.
-#[derive(Clone, Copy, Debug, PartialEq, Eq)]
+#[derive(Clone, Copy)]
 pub enum Form {
     /// A line of words for each.
     Text,

@@ -11,14 +11,14 @@ use std::alloc::{AllocError, Allocator};
 use vm_base::{CoreId, NoMemory, Reply, Request};
 
 /// A call that begins.
-#[derive(Clone, Copy, Debug, PartialEq, Eq)]
+#[derive(Clone, Copy)]
 pub struct Begun {
     pub core: CoreId,
     pub request: Request,
 }
 
 /// An answer, and the ticket of its note.
-#[derive(Clone, Copy, Debug, PartialEq, Eq)]
+#[derive(Clone, Copy)]
 pub struct Ended {
     pub ticket: u64,
     pub reply: Reply,

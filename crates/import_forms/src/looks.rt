@@ -5,7 +5,7 @@ ghost use Rattle.import_forms.specs.Looks.{is_access, is_control, are_text, look
 use crate::tokens::{begins, next_token};
 
 /// What a line looks like.
-#[derive(Clone, Copy, Debug, PartialEq, Eq)]
+#[derive(Clone, Copy)]
 pub enum Looks {
     /// A line of valgrind's lackey.
     Lackey,

@@ -13,7 +13,7 @@ use trace_text::number::read_number;
 use vm_base::{Flags, Prot, Request};
 
 // The calls that are looked at.
-#[derive(Clone, Copy, PartialEq, Eq)]
+#[derive(Clone, Copy)]
 enum Call {
     // `mmap`, and `mmap2` of programs of 32 bits.
     Mmap,
@@ -40,7 +40,7 @@ enum Call {
 }
 
 /// What changes an address space in a way that no trace has.
-#[derive(Clone, Copy, Debug, PartialEq, Eq)]
+#[derive(Clone, Copy)]
 pub enum Lost {
     /// `shmat`: shared memory of a size that the log doesn't say is attached.
     Attach,
@@ -61,7 +61,7 @@ pub enum Lost {
 }
 
 // What stands after the sign of equality.
-#[derive(Clone, Copy, PartialEq, Eq)]
+#[derive(Clone, Copy)]
 enum Outcome {
     Gives(u64),
     // -1, and why.
@@ -70,7 +70,7 @@ enum Outcome {
 }
 
 /// What the text of a call says.
-#[derive(Clone, Copy, Debug, PartialEq, Eq)]
+#[derive(Clone, Copy)]
 pub enum Said {
     /// `mmap`, `munmap` or `mprotect`, as it stands: a mapping where the kernel placed it, and of file 0.
     Asks(Request),

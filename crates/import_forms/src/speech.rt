@@ -9,7 +9,7 @@ use std::alloc::{AllocError, Global};
 use trace_io::lines::front_line;
 
 /// What a line says, and of which thread.
-#[derive(Clone, Copy, Debug)]
+#[derive(Clone, Copy)]
 pub struct Speech<'a> {
     /// The thread's number, 0 where the line names none.
     pub thread: u64,

@@ -10,7 +10,7 @@ use trace_text::number::read_number;
 use vm_base::{Flags, Prot, Request};
 
 /// How memory is accessed.
-#[derive(Clone, Copy, Debug, PartialEq, Eq)]
+#[derive(Clone, Copy)]
 pub enum Access {
     /// An instruction is read.
     Fetch,
@@ -23,7 +23,7 @@ pub enum Access {
 }
 
 /// An access of some bytes.
-#[derive(Clone, Copy, Debug, PartialEq, Eq)]
+#[derive(Clone, Copy)]
 pub struct Touch {
     /// How they are accessed.
     pub access: Access,
@@ -34,7 +34,7 @@ pub struct Touch {
 }
 
 /// What a line says.
-#[derive(Clone, Copy, Debug, PartialEq, Eq)]
+#[derive(Clone, Copy)]
 pub enum Heard {
     /// An access.
     Touches(Touch),
@@ -43,7 +43,7 @@ pub enum Heard {
 }
 
 // The calls that are looked at.
-#[derive(Clone, Copy, PartialEq, Eq)]
+#[derive(Clone, Copy)]
 enum Call {
     Mmap,
     Munmap,
@@ -56,7 +56,7 @@ enum Call {
 }
 
 // How a call ended.
-#[derive(Clone, Copy, PartialEq, Eq)]
+#[derive(Clone, Copy)]
 enum Outcome {
     Gives(u64),
     Fails,

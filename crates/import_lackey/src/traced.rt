@@ -21,7 +21,7 @@ use trace_io::source::{Source, read_all};
 pub const FRAMES: u64 = 65_536;
 
 /// What is said about an import of a log of lackey.
-#[derive(Clone, Copy, Debug, PartialEq, Eq)]
+#[derive(Clone, Copy)]
 pub struct Told {
     /// How it ended: there is a trace, or nothing.
     pub ending: Ending,

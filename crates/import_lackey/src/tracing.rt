@@ -23,7 +23,7 @@ const THREAD: u64 = 1;
 const PAGE: u64 = 4096;
 
 /// A range that the trace has mapped.
-#[derive(Clone, Copy, Debug, PartialEq, Eq)]
+#[derive(Clone, Copy)]
 pub struct Mapped {
     /// Its first address.
     pub addr: u64,
@@ -32,7 +32,7 @@ pub struct Mapped {
 }
 
 /// What was taken of the lines so far.
-#[derive(Debug, Drop)]
+#[derive(Drop)]
 pub struct Traced {
     /// The requests, the files and the heap's end.
     pub taken: Taken,
@@ -41,7 +41,7 @@ pub struct Traced {
 }
 
 /// What was taken of a log, and how many of its lines became what.
-#[derive(Debug, Drop)]
+#[derive(Drop)]
 pub struct Traces {
     /// What was taken.
     pub traced: Traced,

@@ -3,7 +3,7 @@ ghost use Rattle.std.specs.Prelude.{◌≡◌, ◌+◌, ◌<◌, ◌^◌};
 ghost use Rattle.import_maps.specs.Entries.{counted, left_entries, no_entries, total};
 
 /// What becomes of a line of a list.
-#[derive(Clone, Copy, Debug, PartialEq, Eq)]
+#[derive(Clone, Copy)]
 pub enum Entered {
     /// It is a mapping, with its numbers.
     Kept,
@@ -19,7 +19,7 @@ pub enum Entered {
 }
 
 /// How many lines were kept, changed and left out, and why.
-#[derive(Clone, Copy, Debug, PartialEq, Eq)]
+#[derive(Clone, Copy)]
 pub struct Entries {
     /// Kept with their numbers.
     pub kept: u64,

@@ -6,7 +6,7 @@ use import_forms::tokens::{begins, has, next_token, read_hexadecimal, split_last
 use vm_base::Prot;
 
 /// What a line says.
-#[derive(Clone, Copy, Debug)]
+#[derive(Clone, Copy)]
 pub struct Listed<'a> {
     /// The first address.
     pub start: u64,
@@ -23,7 +23,7 @@ pub struct Listed<'a> {
 }
 
 /// What a mapping is of.
-#[derive(Clone, Copy, Debug, PartialEq, Eq)]
+#[derive(Clone, Copy)]
 pub enum Kind {
     /// The kernel's own pages, which it maps into each program: `[vvar]`, `[vdso]`.
     Kernel,

@@ -19,7 +19,7 @@ use trace_io::sink::Sink;
 use trace_io::source::{Source, read_all};
 
 /// What is said about an import.
-#[derive(Debug, Drop)]
+#[derive(Drop)]
 pub struct Told {
     /// How many lines of the list became what.
     pub entries: Entries,

@@ -20,7 +20,7 @@ use vm_base::{CoreId, Flags, Request};
 const ADDRESS_START: u64 = 4096;
 
 /// What is mapped at the start, and how many lines of the list became what.
-#[derive(Debug, Drop)]
+#[derive(Drop)]
 pub struct Start {
     /// What is mapped.
     pub taken: Taken,

@@ -6,7 +6,7 @@ use crate::losses::Losses;
 use crate::taking::{Change, Fate, Reason};
 
 /// How many lines were kept, changed and left out, and why.
-#[derive(Clone, Copy, Debug, PartialEq, Eq)]
+#[derive(Clone, Copy)]
 pub struct Counts {
     /// Kept with their numbers.
     pub kept: u64,

@@ -29,7 +29,7 @@ use trace_io::IoFault;
 use trace_io::source::Source;
 
 /// What comes of a log for one of its processes.
-#[derive(Debug, Drop)]
+#[derive(Drop)]
 pub struct Part {
     /// The process.
     pub process: Process,

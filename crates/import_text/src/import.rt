@@ -20,7 +20,7 @@ use import_forms::speech::begun;
 use std::alloc::{AllocError, Global};
 
 /// How an import of a log ended.
-#[derive(Clone, Copy, Debug, PartialEq, Eq)]
+#[derive(Clone, Copy)]
 pub enum Ending {
     /// There is a trace.
     Written,
@@ -31,7 +31,7 @@ pub enum Ending {
 }
 
 /// What is said about an import of a log.
-#[derive(Debug, Drop)]
+#[derive(Drop)]
 pub struct Report {
     /// How it ended.
     pub ending: Ending,
@@ -48,7 +48,7 @@ pub struct Report {
 }
 
 /// What is taken of a log, and what is said about that.
-#[derive(Debug, Drop)]
+#[derive(Drop)]
 pub struct Imported {
     /// What is taken.
     pub taken: Taken,

@@ -16,7 +16,7 @@ use std::marker::Model;
 use vm_base::{Flags, Prot, Request};
 
 /// What a line says, and so what is kept of it.
-#[derive(Clone, Copy, PartialEq, Eq)]
+#[derive(Clone, Copy)]
 pub(crate) enum Kind {
     /// `mmap` of no file: address, length, rights and flags.
     Pages,
@@ -37,7 +37,7 @@ pub(crate) enum Kind {
 }
 
 /// What is kept of a line.
-#[derive(Clone, Copy, PartialEq, Eq)]
+#[derive(Clone, Copy)]
 pub(crate) struct Entry {
     thread: u64,
     first: u64,

@@ -5,7 +5,7 @@ ghost use Rattle.import_text.specs.Losses.{lost_lines, no_losses, with_lost};
 use import_forms::said::Lost;
 
 /// How many calls are left out that change the address space, of each kind.
-#[derive(Clone, Copy, Debug, PartialEq, Eq)]
+#[derive(Clone, Copy)]
 pub struct Losses {
     /// `shmat` of memory whose size the log doesn't say.
     pub attach: u64,

@@ -13,7 +13,7 @@ use std::collections::HashMap;
 use std::marker::Model;
 
 /// One thread that another made.
-#[derive(Clone, Copy, Debug, PartialEq, Eq)]
+#[derive(Clone, Copy)]
 pub struct Making {
     /// Its number.
     pub child: u64,
@@ -29,7 +29,7 @@ pub struct Making {
 }
 
 /// The threads that others made, each once, and found by their numbers.
-#[derive(Debug, Drop)]
+#[derive(Drop)]
 pub struct Made {
     list: Vec<Making>,
     index: HashMap<u64, Making>,

@@ -7,7 +7,7 @@ pub trait Meter {
 }
 
 /// Nobody is told.
-#[derive(Clone, Copy, Debug)]
+#[derive(Clone, Copy)]
 pub struct Unmetered;
 
 impl Meter for Unmetered {

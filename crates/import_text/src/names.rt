@@ -13,7 +13,7 @@ pub const NAME: usize = 200;
 pub const NAME_OF_RANGE: usize = 180;
 
 /// Where a name stands among several, one after another.
-#[derive(Clone, Copy, Debug, PartialEq, Eq)]
+#[derive(Clone, Copy)]
 pub struct Name {
     /// How many bytes stand before it.
     pub from: usize,

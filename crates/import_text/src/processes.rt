@@ -15,7 +15,7 @@ use std::collections::HashMap;
 use std::marker::Model;
 
 /// A process of a log.
-#[derive(Clone, Copy, Debug, PartialEq, Eq)]
+#[derive(Clone, Copy)]
 pub struct Process {
     /// The number of its first thread.
     pub number: u64,
@@ -24,7 +24,7 @@ pub struct Process {
 }
 
 /// What is taken of a log.
-#[derive(Clone, Copy, Debug, PartialEq, Eq)]
+#[derive(Clone, Copy)]
 pub struct Choice {
     /// A thread of the process, if one was named; else it is the process with the most requests.
     pub thread: Option<u64>,
@@ -33,7 +33,7 @@ pub struct Choice {
 }
 
 /// A thread, and its process.
-#[derive(Clone, Copy, PartialEq, Eq)]
+#[derive(Clone, Copy)]
 pub(crate) struct Known {
     pub(crate) thread: u64,
     pub(crate) process: u64,

@@ -18,7 +18,7 @@ use std::collections::HashMap;
 const SHOWN: usize = 80;
 
 /// The file of a program, as it is shown.
-#[derive(Debug, Drop)]
+#[derive(Drop)]
 pub struct Program {
     /// The file's name, nothing where it isn't known.
     pub name: Vec<u8>,

@@ -6,7 +6,7 @@ use std::alloc::{AllocError, Global};
 use trace_text::number_text;
 
 /// A piece of shared memory, or a mapping of one.
-#[derive(Clone, Copy, Debug, PartialEq, Eq)]
+#[derive(Clone, Copy)]
 pub struct Piece {
     /// Its number, or where it is mapped.
     pub key: u64,

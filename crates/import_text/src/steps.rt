@@ -8,7 +8,7 @@ use std::marker::Model;
 use vm_base::{CoreId, Flags, Prot, Request};
 
 /// A request of a trace, and the core whose it is.
-#[derive(Clone, Copy, Debug, PartialEq, Eq)]
+#[derive(Clone, Copy)]
 pub struct Step {
     /// The core that makes it.
     pub core: CoreId,
@@ -19,7 +19,7 @@ pub struct Step {
 }
 
 /// What a request asks for, and so which numbers are kept of it.
-#[derive(Clone, Copy, Debug, PartialEq, Eq)]
+#[derive(Clone, Copy)]
 pub(crate) enum Kind {
     /// `mmap` of file 0 from its start, or of no file: address and length.
     Pages,
@@ -38,7 +38,7 @@ pub(crate) enum Kind {
 }
 
 /// What is kept of a request, but its core and its numbers.
-#[derive(Clone, Copy, Debug, PartialEq, Eq)]
+#[derive(Clone, Copy)]
 pub(crate) struct Shape {
     kind: Kind,
     // Whether it has a name. All numbers are kept then.
@@ -50,14 +50,14 @@ pub(crate) struct Shape {
 }
 
 /// A request without its numbers.
-#[derive(Clone, Copy, Debug, PartialEq, Eq)]
+#[derive(Clone, Copy)]
 pub(crate) struct Head {
     core: CoreId,
     shape: Shape,
 }
 
 /// Requests, in order. A clause sees them as a list.
-#[derive(Debug, Drop)]
+#[derive(Drop)]
 pub struct Steps {
     heads: Vec<Head>,
     numbers: Vec<u64>,

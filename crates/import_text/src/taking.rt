@@ -20,7 +20,7 @@ use vm_base::{CoreId, Flags, Prot, Request};
 pub const ADDRESS_END: u64 = 140_737_488_355_328;
 
 /// A file that mappings name.
-#[derive(Debug, Drop)]
+#[derive(Drop)]
 pub struct FileUse {
     /// Its path, or its descriptor.
     pub name: Vec<u8>,
@@ -29,7 +29,7 @@ pub struct FileUse {
 }
 
 /// What was taken of the lines so far.
-#[derive(Debug, Drop)]
+#[derive(Drop)]
 pub struct Taken {
     /// The threads that made a request, in the order of their first.
     pub threads: Vec<u64>,
@@ -48,7 +48,7 @@ pub struct Taken {
 }
 
 /// A mapping that a line asks for, where the kernel placed it.
-#[derive(Clone, Copy, Debug, PartialEq, Eq)]
+#[derive(Clone, Copy)]
 pub struct Mapping {
     /// Its first address.
     pub addr: u64,
@@ -63,7 +63,7 @@ pub struct Mapping {
 }
 
 /// How a line is changed.
-#[derive(Clone, Copy, Debug, PartialEq, Eq)]
+#[derive(Clone, Copy)]
 pub enum Change {
     /// `brk`, as `mmap` or `munmap` of the pages between.
     Heap,
@@ -79,7 +79,7 @@ pub enum Change {
 }
 
 /// Why a line is left out.
-#[derive(Clone, Copy, Debug, PartialEq, Eq)]
+#[derive(Clone, Copy)]
 pub enum Reason {
     /// The other half of a call: it acts in another line, or is none of those that are looked at.
     Half,
@@ -100,7 +100,7 @@ pub enum Reason {
 }
 
 /// What becomes of a line.
-#[derive(Clone, Copy, Debug, PartialEq, Eq)]
+#[derive(Clone, Copy)]
 pub enum Fate {
     /// It is a request, with its numbers.
     Kept,

@@ -17,7 +17,7 @@ use std::alloc::AllocError;
 use vm_base::{Back, CoreId, CoreSet, Reply, Request};
 
 /// A bit of what a shape is written as: of any picture, or by how words stand.
-#[derive(Clone, Copy, Debug, PartialEq, Eq)]
+#[derive(Clone, Copy)]
 pub enum Bit<'a> {
     /// A piece.
     Plain(Piece<'a>),

@@ -8,7 +8,7 @@ use std::alloc::{AllocError, Global};
 use vm_base::{CoreId, CoreSet};
 
 /// A span in which a core may use translations that it was told to drop.
-#[derive(Clone, Copy, Debug, PartialEq, Eq)]
+#[derive(Clone, Copy)]
 pub struct Danger {
     /// The core.
     pub core: CoreId,

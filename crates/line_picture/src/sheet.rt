@@ -7,7 +7,7 @@ use crate::cores::count_members;
 use vm_base::{CoreId, CoreSet};
 
 /// How the words of a call stand in its bar.
-#[derive(Clone, Copy, Debug, PartialEq, Eq)]
+#[derive(Clone, Copy)]
 pub enum Form {
     /// In lines below each other.
     Wide,
@@ -18,7 +18,7 @@ pub enum Form {
 }
 
 /// What a picture is of, and how it is laid out.
-#[derive(Clone, Copy, Debug, PartialEq, Eq)]
+#[derive(Clone, Copy)]
 pub struct Sheet {
     /// The cores that have a lane.
     pub cores: CoreSet,

@@ -3,7 +3,7 @@
 use vm_base::{CoreId, CoreSet};
 
 /// What a call waits for.
-#[derive(Clone, Copy, Debug, PartialEq, Eq)]
+#[derive(Clone, Copy)]
 pub enum Cause {
     /// This core's call holds a slot of its pages.
     Lock(CoreId),
@@ -12,7 +12,7 @@ pub enum Cause {
 }
 
 /// A call that waits in a column.
-#[derive(Clone, Copy, Debug, PartialEq, Eq)]
+#[derive(Clone, Copy)]
 pub struct Waited {
     /// The column.
     pub column: u64,

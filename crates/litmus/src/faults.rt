@@ -8,7 +8,7 @@ use thiserror::Error;
 use trace_io::IoFault;
 
 /// Why nothing is told of a litmus test.
-#[derive(Clone, Copy, Debug, PartialEq, Eq, Error)]
+#[derive(Clone, Copy, Debug, Error)]
 pub enum RunFault {
     /// The text is none.
     #[error("{0}")]

@@ -27,7 +27,7 @@ use std::thread::Threads;
 use vm_base::NoMemory;
 
 /// What is written of a litmus test.
-#[derive(Clone, Copy, Debug, PartialEq, Eq)]
+#[derive(Clone, Copy)]
 pub enum View {
     /// Its outcomes, and what its clauses come to.
     Report,
@@ -38,7 +38,7 @@ pub enum View {
 }
 
 /// What is asked for of a litmus test.
-#[derive(Clone, Copy, Debug, PartialEq, Eq)]
+#[derive(Clone, Copy)]
 pub enum Wanted {
     /// Its outcomes, or a witness of one.
     Outcomes(View),

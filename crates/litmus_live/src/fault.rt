@@ -4,7 +4,7 @@ use thiserror::Error;
 use vm_base::NoMemory;
 
 /// Why runs of a litmus test weren't counted.
-#[derive(Clone, Copy, Debug, PartialEq, Eq, Error)]
+#[derive(Clone, Copy, Debug, Error)]
 pub enum LiveTestFault {
     /// A call couldn't begin.
     #[error("live {0}")]

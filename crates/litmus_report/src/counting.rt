@@ -15,7 +15,7 @@ use trace_io::lines::front_line;
 use vm_base::NoMemory;
 
 /// What a line is among counts of outcomes.
-#[derive(Clone, Copy, Debug, PartialEq, Eq)]
+#[derive(Clone, Copy)]
 pub enum Mark {
     /// It is empty, or a comment.
     Passed,

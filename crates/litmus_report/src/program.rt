@@ -15,7 +15,7 @@ use vm_base::{Mode, NoMemory};
 
 /// What a litmus test's program has: its files, the calls of the opening in their order, those of the lists, one core's after another's,
 /// and the final addresses.
-#[derive(Clone, Copy, Debug)]
+#[derive(Clone, Copy)]
 pub struct Program<'a> {
     pub files: &'a [FileLine],
     pub opening: &'a [Asked],

@@ -14,7 +14,7 @@ use slot_lock::MapLine;
 use vm_base::{CoreId, Errno, Reply, SegvCode};
 
 /// What a clause comes to.
-#[derive(Clone, Copy, Debug, PartialEq, Eq)]
+#[derive(Clone, Copy)]
 pub enum Verdict {
     /// It is so.
     Holds,
@@ -51,7 +51,7 @@ pub trait Ended {
 
 /// What an outcome tells of, and what the facts of a clause are about: the calls of the lists, and the final addresses; and whether
 /// the mappings in the end belong to an outcome.
-#[derive(Clone, Copy, Debug)]
+#[derive(Clone, Copy)]
 pub struct Named<'a> {
     pub calls: &'a [Asked],
     pub addrs: &'a [u64],

@@ -17,7 +17,7 @@ use vm_base::{CoreId, NoMemory, Request};
 const COMMENT: usize = 250;
 
 /// What a line of a witness stands for.
-#[derive(Clone, Copy, Debug, PartialEq, Eq)]
+#[derive(Clone, Copy)]
 pub enum Part {
     /// `cC! REQ`: a call and all its steps.
     Now(CoreId, Request),

@@ -18,7 +18,7 @@ use vm_base::{CoreId, NoMemory, Reply, SegvCode};
 pub const TERM_LIMIT: usize = 32;
 
 /// What is so or not in an outcome.
-#[derive(Clone, Copy, Debug, PartialEq, Eq)]
+#[derive(Clone, Copy)]
 pub enum Fact {
     /// `cC.N = REPLY`: the core's call with this number, from 1, has this reply.
     Has(CoreId, u64, Reply),
@@ -29,14 +29,14 @@ pub enum Fact {
 }
 
 /// What stands between facts. `and` binds closer than `or`.
-#[derive(Clone, Copy, Debug, PartialEq, Eq)]
+#[derive(Clone, Copy)]
 pub enum Joint {
     And,
     Or,
 }
 
 /// A fact, and the joint in front of it. The first of a clause has `or`.
-#[derive(Clone, Copy, Debug, PartialEq, Eq)]
+#[derive(Clone, Copy)]
 pub struct Term {
     pub joint: Joint,
     pub fact: Fact,

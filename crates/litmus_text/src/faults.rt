@@ -4,7 +4,7 @@ use thiserror::Error;
 use trace_io::IoFault;
 
 /// Why a text is no litmus test, or could not be read. Lines are numbered from 1.
-#[derive(Clone, Copy, Debug, PartialEq, Eq, Error)]
+#[derive(Clone, Copy, Debug, Error)]
 pub enum LitmusFault {
     /// The line says nothing that may stand at this place.
     #[error("line {0}: bad line")]

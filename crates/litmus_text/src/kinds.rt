@@ -8,7 +8,7 @@ use trace_io::lines::front_line;
 use trace_text::words::next_word;
 
 /// Of which outcomes a clause speaks.
-#[derive(Clone, Copy, Debug, PartialEq, Eq)]
+#[derive(Clone, Copy)]
 pub enum Quantifier {
     /// There is an outcome of which the condition holds.
     Exists,
@@ -19,7 +19,7 @@ pub enum Quantifier {
 }
 
 /// What a line is, by its first word.
-#[derive(Clone, Copy, Debug, PartialEq, Eq)]
+#[derive(Clone, Copy)]
 pub enum Kind {
     /// `vm CORES FRAMES CALLS`
     Space,

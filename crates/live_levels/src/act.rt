@@ -7,7 +7,7 @@ ghost use Rattle.live_levels.specs.Slots.{Suits};
 use vm_base::{Back, CoreId, CoreSet, Meta, PageInfo, Prot};
 
 /// What a step does to a slot's pages. A slot that is unmapped stays so except for `Put`.
-#[derive(Clone, Copy, Debug, PartialEq, Eq)]
+#[derive(Clone, Copy)]
 pub enum Act {
     /// The pages are mapped anew, the first as said, without frames and without recorded cores.
     Put(Meta),
@@ -24,7 +24,7 @@ pub enum Act {
 }
 
 /// A change of a slot, under the ticket of its step.
-#[derive(Clone, Copy, Debug, PartialEq, Eq)]
+#[derive(Clone, Copy)]
 pub struct SlotChange {
     pub ticket: u64,
     pub act: Act,

@@ -6,7 +6,7 @@ use vm_base::PageInfo;
 
 /// Slots side by side that can be one: their pages from `first` up to `end`, and what the first
 /// page has.
-#[derive(Clone, Copy, Debug)]
+#[derive(Clone, Copy)]
 pub struct Joint {
     pub first: u64,
     pub end: u64,

@@ -50,7 +50,7 @@ pub enum Next<'a, A: Allocator> {
 }
 
 /// The result of a try to cut a slot.
-#[derive(Clone, Copy, Debug)]
+#[derive(Clone, Copy)]
 pub enum SlotCut {
     /// The slot was divided, which was noted: threads reach its parts in its place.
     Cut(Division),

@@ -14,7 +14,7 @@ pub const SLOTS: usize = 512;
 
 /// A slot that is divided: its first page, and what that page has. The owner is the core that is to
 /// lock its parts first, and the ticket that of the step which divides it.
-#[derive(Clone, Copy, Debug)]
+#[derive(Clone, Copy)]
 pub struct Divided {
     pub first: u64,
     pub content: Option<PageInfo>,

@@ -15,7 +15,7 @@ use vm_base::{CoreId, PageRange};
 
 /// A slot that was divided. It is told only by what shows that the level with its parts was
 /// published, and so only here.
-#[derive(Clone, Copy, Debug)]
+#[derive(Clone, Copy)]
 pub struct Division {
     divided: Divided,
 }

@@ -18,7 +18,7 @@ use std::alloc::Allocator;
 use std::sync::{Mutex, Wait};
 
 /// The result of the search for a free frame.
-#[derive(Clone, Copy, Debug, PartialEq, Eq)]
+#[derive(Clone, Copy)]
 pub enum Wanted {
     /// This frame was taken.
     Taken(u32),

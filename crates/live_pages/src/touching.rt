@@ -26,7 +26,7 @@ use std::sync::Wait;
 use vm_base::{Access, Reply};
 
 /// The result of the try of an access.
-#[derive(Clone, Copy, Debug, PartialEq, Eq)]
+#[derive(Clone, Copy)]
 pub enum Tried {
     /// The byte was read or written, and this is the answer, which is noted too.
     Served(Reply),

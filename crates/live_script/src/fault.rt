@@ -4,7 +4,7 @@ use live_space::fault::LiveFault;
 use thiserror::Error;
 
 /// Why a script wasn't run, or not to its end.
-#[derive(Clone, Copy, Debug, PartialEq, Eq, Error)]
+#[derive(Clone, Copy, Debug, Error)]
 pub enum RunFault {
     /// What the script declares makes no space.
     #[error("setup {0}")]

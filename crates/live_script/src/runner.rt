@@ -27,7 +27,7 @@ pub trait Runner<A: Allocator + Clone> {
 }
 
 /// Each core's tasks on a thread of its own, or one core after another where no thread can be made.
-#[derive(Clone, Copy, Debug)]
+#[derive(Clone, Copy)]
 pub struct OnThreads;
 
 impl Runner<Global> for OnThreads {
@@ -42,7 +42,7 @@ impl Runner<Global> for OnThreads {
 }
 
 /// One core after another, over any allocator.
-#[derive(Clone, Copy, Debug)]
+#[derive(Clone, Copy)]
 pub struct InTurn;
 
 impl<A: Allocator + Clone> Runner<A> for InTurn {

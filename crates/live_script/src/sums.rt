@@ -12,7 +12,7 @@ use vm_base::{Reply, Request, SegvCode};
 use watched::Replies;
 
 /// How many calls asked for what.
-#[derive(Clone, Copy, Debug, PartialEq, Eq)]
+#[derive(Clone, Copy)]
 pub struct Requests {
     pub mmap: u64,
     pub munmap: u64,
@@ -23,7 +23,7 @@ pub struct Requests {
 }
 
 /// How many accesses got SIGSEGV, and why.
-#[derive(Clone, Copy, Debug, PartialEq, Eq)]
+#[derive(Clone, Copy)]
 pub struct Segvs {
     /// The page wasn't mapped.
     pub maperr: u64,
@@ -32,7 +32,7 @@ pub struct Segvs {
 }
 
 /// The numbers of notes. A number that would pass 2^64 - 1 stays there.
-#[derive(Clone, Copy, Debug, PartialEq, Eq)]
+#[derive(Clone, Copy)]
 pub struct Sums {
     /// The calls that began, by request.
     pub requests: Requests,

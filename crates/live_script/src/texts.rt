@@ -28,7 +28,7 @@ use trace_io::sink::{Sink, WriteFailed};
 use trace_io::source::Source;
 
 /// Why a script's text wasn't run, or what came of it wasn't written.
-#[derive(Clone, Copy, Debug, PartialEq, Eq, Error)]
+#[derive(Clone, Copy, Debug, Error)]
 pub enum TextFault {
     /// The text can't be read, it makes no space, memory is refused, or a write failed.
     #[error("{0}")]
@@ -115,7 +115,7 @@ pub fn run_text<
 // ---- certificates
 
 /// What certifying a run came to, and the numbers of what its seats noted.
-#[derive(Clone, Copy, Debug, PartialEq, Eq)]
+#[derive(Clone, Copy)]
 pub struct Judgement {
     pub verdict: Verdict,
     pub sums: Sums,

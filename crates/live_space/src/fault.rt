@@ -7,7 +7,7 @@ use std::alloc::Allocator;
 use thiserror::Error;
 
 /// Why nothing was begun. The first that holds is reported, in this order.
-#[derive(Clone, Copy, Debug, PartialEq, Eq, Error)]
+#[derive(Clone, Copy, Debug, Error)]
 pub enum LiveFault {
     /// The seat has begun its share of calls.
     #[error("V1")]

@@ -3,7 +3,7 @@ use std::sync::Wait;
 use vm_base::CoreId;
 
 /// How far a call has come.
-#[derive(Clone, Copy, Debug, PartialEq, Eq)]
+#[derive(Clone, Copy)]
 pub enum Point {
     /// It has begun, and holds nothing.
     Begun,
@@ -26,7 +26,7 @@ pub trait Gate {
 }
 
 /// A gate that holds no call.
-#[derive(Clone, Copy, Debug, Drop)]
+#[derive(Clone, Copy, Drop)]
 pub struct Open;
 
 impl Gate for Open {

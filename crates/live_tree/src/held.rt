@@ -35,7 +35,7 @@ use vm_base::{CoreId, NoMemory};
 pub(crate) type Guards<'a, A> = SmallVec<Option<MutexGuard<'a, SlotState<A>>>, 4, &'a A>;
 
 /// The result of a step towards holding pages.
-#[derive(Clone, Copy, Debug, PartialEq, Eq)]
+#[derive(Clone, Copy, PartialEq, Eq)]
 pub enum Got {
     /// One slot more is held, which was noted.
     Locked,

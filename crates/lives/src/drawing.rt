@@ -34,7 +34,7 @@ rect{stroke-width:.5px}svg svg rect{stroke-width:.02px}
 ";
 
 /// What a picture of lives is of.
-#[derive(Clone, Copy, Debug, PartialEq, Eq)]
+#[derive(Clone, Copy)]
 pub struct Chart {
     /// How many steps the run has.
     pub steps: u64,

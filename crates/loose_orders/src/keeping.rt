@@ -19,7 +19,7 @@ use vm_base::{
 };
 
 /// What a page was mapped to.
-#[derive(Clone, Copy, PartialEq, Eq)]
+#[derive(Clone, Copy)]
 pub(crate) enum Was {
     /// To nothing.
     Unmapped,
@@ -52,7 +52,7 @@ pub(crate) enum Was {
 }
 
 /// What is known of the entry that a call has replaced on a page.
-#[derive(Clone, Copy, PartialEq, Eq)]
+#[derive(Clone, Copy)]
 pub(crate) struct Kept {
     /// The call.
     pub call: u32,
@@ -65,7 +65,7 @@ pub(crate) struct Kept {
 }
 
 /// An access that may go as before a call, by the numbers of both.
-#[derive(Clone, Copy, Debug, PartialEq, Eq)]
+#[derive(Clone, Copy)]
 pub struct Use {
     /// The call.
     pub of: u32,

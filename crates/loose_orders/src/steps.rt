@@ -7,7 +7,7 @@ use std::alloc::Allocator;
 use vm_base::NoMemory;
 
 /// What an order of a history's calls, counted from 0, has at one place.
-#[derive(Clone, Copy, Debug, PartialEq, Eq)]
+#[derive(Clone, Copy)]
 pub enum Step {
     /// This call takes effect.
     Reply(u32),

@@ -3,7 +3,7 @@ use slot_lock::{Change, Goal, Place, Target, Touch};
 use vm_base::{CoreSet, PageRange, Reply, Request};
 
 /// Where the call of a core stands: what its next step is.
-#[derive(Clone, Copy, Debug, PartialEq, Eq)]
+#[derive(Clone, Copy, PartialEq, Eq)]
 pub enum Phase {
     /// The core has no call.
     Free,

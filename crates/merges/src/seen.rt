@@ -5,7 +5,7 @@ ghost use Rattle.merges.specs.Seen.{byte_with, fresh, seen_protected, seen_with}
 use vm_base::{Back, Meta, Prot};
 
 /// What a mapped page has, and its own byte at one place, if it has own bytes.
-#[derive(Clone, Copy, PartialEq, Eq)]
+#[derive(Clone, Copy)]
 pub(crate) struct Seen {
     /// What backs it.
     pub back: Back,
@@ -16,7 +16,7 @@ pub(crate) struct Seen {
 }
 
 /// A place of a page.
-#[derive(Clone, Copy, PartialEq, Eq)]
+#[derive(Clone, Copy)]
 pub(crate) struct Spot {
     /// The page's number.
     pub page: u64,

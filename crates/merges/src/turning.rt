@@ -22,7 +22,7 @@ use vm_calls::check;
 
 /// What the turn of a request comes to: its reply, or none where its page is copied first, and the step that this
 /// makes, if it makes one.
-#[derive(Clone, Copy, PartialEq, Eq)]
+#[derive(Clone, Copy)]
 pub(crate) struct Turn {
     /// The reply.
     pub reply: Option<Reply>,

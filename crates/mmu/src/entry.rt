@@ -12,7 +12,7 @@ const FRAMES: u64 = 1 << 32;
 const NO_EXECUTE: u64 = 1 << 63;
 
 /// What a present entry gives: a frame, and what may be done with it. Each entry permits loads.
-#[derive(Clone, Copy, Debug, Default, PartialEq, Eq)]
+#[derive(Clone, Copy, Default, PartialEq, Eq)]
 pub struct Translation {
     pub frame: u32,
     pub write: bool,

@@ -25,7 +25,7 @@ const DROPPED: u8 = 64;
 const FEW_PAGES: u64 = 16;
 
 /// A cached translation of a page.
-#[derive(Clone, Copy, Debug, Default, PartialEq, Eq)]
+#[derive(Clone, Copy, Default)]
 pub struct TlbEntry {
     pub page: u64,
     pub translation: Translation,

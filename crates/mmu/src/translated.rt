@@ -1,7 +1,7 @@
 //! What the translation of an access came to.
 
 /// How an access was translated, with the frame.
-#[derive(Clone, Copy, Debug, PartialEq, Eq)]
+#[derive(Clone, Copy)]
 pub enum Translated {
     /// By the TLB.
     Hit(u32),

@@ -13,7 +13,7 @@ use std::alloc::Allocator;
 use vm_base::NoMemory;
 
 /// What a search of all orders comes to.
-#[derive(Clone, Copy, Debug, PartialEq, Eq)]
+#[derive(Clone, Copy)]
 pub enum Answer {
     /// The calls have no order.
     NoOrder,

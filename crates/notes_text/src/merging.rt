@@ -9,7 +9,7 @@ ghost use Rattle.notes_text.specs.Merged.{IsBest, is_before};
 use seats::Notes;
 
 /// A list among others, and the ticket with which it begins.
-#[derive(Clone, Copy, PartialEq, Eq)]
+#[derive(Clone, Copy)]
 pub(crate) struct Head {
     pub(crate) at: usize,
     pub(crate) ticket: u64,

@@ -17,7 +17,7 @@ use trace_text::{Action, Line, read_words};
 use vm_base::{CoreId, NoMemory, Request};
 
 /// What a core is to do.
-#[derive(Clone, Copy, Debug, PartialEq, Eq)]
+#[derive(Clone, Copy, Debug)]
 pub enum Task {
     /// `cC! REQ`: it makes this call.
     Call(Request),
@@ -28,7 +28,7 @@ pub enum Task {
 }
 
 /// A line of a script: this core is to do this.
-#[derive(Clone, Copy, Debug, PartialEq, Eq)]
+#[derive(Clone, Copy)]
 pub struct ScriptLine {
     pub core: CoreId,
     pub task: Task,

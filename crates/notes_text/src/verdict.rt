@@ -10,7 +10,7 @@ use trace_io::sink::{Sink, WriteFailed, write_all};
 use trace_text::{LineText, push_number};
 
 /// The result of certifying the notes of a text.
-#[derive(Clone, Copy, Debug, PartialEq, Eq)]
+#[derive(Clone, Copy)]
 pub enum Verdict {
     /// They are certified, with this many answered calls.
     Certified(u64),

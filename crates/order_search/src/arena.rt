@@ -37,7 +37,7 @@ pub(crate) struct Span {
 }
 
 /// Where a map is, and numbers that two maps share only by chance.
-#[derive(Clone, Copy, PartialEq, Eq)]
+#[derive(Clone, Copy)]
 pub(crate) struct Spot {
     pub runs: Span,
     pub cells: Span,

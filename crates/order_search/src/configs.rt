@@ -3,7 +3,7 @@
 use crate::arena::Spot;
 
 /// A configuration.
-#[derive(Clone, Copy, PartialEq, Eq)]
+#[derive(Clone, Copy)]
 pub(crate) struct Config {
     /// Where its map is.
     pub spot: Spot,

@@ -14,7 +14,7 @@ use vm_base::{NoMemory, PageRange};
 pub const LIMIT: usize = 300_000;
 
 /// What the end of a call comes to.
-#[derive(Clone, Copy, PartialEq, Eq)]
+#[derive(Clone, Copy)]
 pub(crate) enum Reach {
     Reached,
     Stuck,
@@ -30,7 +30,7 @@ pub(crate) struct Ending<'u> {
 
 // One item more, of so many parts of a call, the others of which are lost: the map behind it, the cores whose calls have taken effect
 // there, and those whose calls it may let take effect.
-#[derive(Clone, Copy, PartialEq, Eq)]
+#[derive(Clone, Copy)]
 struct Step {
     mark: Mark,
     count: u32,

@@ -6,7 +6,7 @@ use vm_base::page::PAGE_SIZE;
 use vm_base::{Back, NoMemory, PageRange};
 
 /// A byte that isn't what it was at first, or the mark of a page that has a copy of its own.
-#[derive(Clone, Copy, PartialEq, Eq)]
+#[derive(Clone, Copy)]
 pub(crate) struct Cell {
     pub key: u64,
     pub byte: u8,

@@ -5,7 +5,7 @@ use std::alloc::Allocator;
 use vm_base::{Back, Meta, NoMemory, PageRange, Prot};
 
 /// Pages that are mapped alike, one file page after another.
-#[derive(Clone, Copy, PartialEq, Eq)]
+#[derive(Clone, Copy)]
 pub(crate) struct Run {
     pub first: u64,
     pub end: u64,

@@ -12,7 +12,7 @@ use std::alloc::Allocator;
 use vm_base::{CoreSet, NoMemory};
 
 /// What a search comes to. That it is right isn't claimed.
-#[derive(Debug, Drop)]
+#[derive(Drop)]
 pub enum Found<A: Allocator> {
     /// An order of the calls: each of them once, and copies before them. The open calls of these cores, which stand
     /// last, don't have their replies in it, but found no memory.
@@ -24,7 +24,7 @@ pub enum Found<A: Allocator> {
 }
 
 /// An access that may have gone as before a call that hadn't ended, by the numbers of both.
-#[derive(Clone, Copy, Debug, PartialEq, Eq)]
+#[derive(Clone, Copy)]
 pub struct Lag {
     /// The call.
     pub behind: u32,
@@ -33,7 +33,7 @@ pub struct Lag {
 }
 
 /// Calls, each of which takes effect as a whole, as though its parts did one behind another.
-#[derive(Debug, Drop)]
+#[derive(Drop)]
 pub struct Wholes<A: Allocator> {
     /// The calls.
     pub calls: Vec<Timed, A>,

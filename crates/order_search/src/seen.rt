@@ -15,7 +15,7 @@ const MOST: u64 = (1 << 20) - 1;
 const FREE: Seat = Seat { round: 0, print: 0 };
 
 // A place: the round in which it was taken, and by which print.
-#[derive(Clone, Copy, PartialEq, Eq)]
+#[derive(Clone, Copy)]
 struct Seat {
     round: u64,
     print: u64,

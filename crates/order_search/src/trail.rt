@@ -9,7 +9,7 @@ use vm_base::NoMemory;
 const FEW: usize = 100_000;
 
 /// What took effect.
-#[derive(Clone, Copy, PartialEq, Eq)]
+#[derive(Clone, Copy)]
 pub(crate) enum Mark {
     /// This call.
     Reply(u32),
@@ -43,7 +43,7 @@ impl Mark {
 }
 
 // What took effect behind another node, and the same of so many calls with the next numbers.
-#[derive(Clone, Copy, PartialEq, Eq)]
+#[derive(Clone, Copy)]
 struct Node {
     parent: usize,
     mark: Mark,
@@ -51,7 +51,7 @@ struct Node {
 }
 
 // What is known of a node: whether a configuration needs it, how many nodes behind it are needed, one of these, and where it goes.
-#[derive(Clone, Copy, PartialEq, Eq)]
+#[derive(Clone, Copy)]
 struct Need {
     is_needed: bool,
     behind: u32,

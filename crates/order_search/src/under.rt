@@ -17,7 +17,7 @@ const EVERYWHERE: PageRange = PageRange {
 };
 
 /// A call that is under way: its number, and what it does.
-#[derive(Clone, Copy, PartialEq, Eq)]
+#[derive(Clone, Copy)]
 pub(crate) struct Under {
     /// Its number, or that of its first part.
     pub number: u32,
@@ -165,7 +165,7 @@ impl Under {
 }
 
 /// Which mappings of files calls ask for.
-#[derive(Clone, Copy, PartialEq, Eq)]
+#[derive(Clone, Copy)]
 pub(crate) struct Mapped {
     /// Whether pages may show files: some mapping isn't anonymous.
     pub has_files: bool,

@@ -6,7 +6,7 @@ use audit::Call;
 
 /// A call, and when it was under way. Both times are of one clock. A call ended before another began only where its end is below
 /// the other's begin: at a time in common they overlap.
-#[derive(Clone, Copy, Debug, PartialEq, Eq)]
+#[derive(Clone, Copy)]
 pub struct Timed {
     /// A time at which it had not taken effect yet.
     pub begin: u64,
@@ -17,7 +17,7 @@ pub struct Timed {
 }
 
 /// What an order of a history's calls, counted from 0, has at one place.
-#[derive(Clone, Copy, Debug, PartialEq, Eq)]
+#[derive(Clone, Copy)]
 pub enum Item {
     /// This call takes effect.
     Reply(u32),

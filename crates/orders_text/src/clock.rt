@@ -14,7 +14,7 @@ const CORES: usize = 64;
 const LINES: u64 = 0x4000_0000_0000_0000;
 
 /// By which clock the calls of a text have their times.
-#[derive(Clone, Copy, Debug, PartialEq, Eq)]
+#[derive(Clone, Copy)]
 pub enum Clock {
     /// No call or event came so far.
     Unset,
@@ -54,7 +54,7 @@ impl Clock {
 }
 
 /// A call that waits for its reply: the number of the line in which it began, and what it asks for.
-#[derive(Clone, Copy, Debug, PartialEq, Eq)]
+#[derive(Clone, Copy)]
 pub struct Begun {
     pub line: u64,
     pub request: Request,

@@ -6,7 +6,7 @@ use trace_io::IoFault;
 pub const LINE_LIMIT: usize = 512;
 
 /// Why a text is that of no history, or could not be read. Lines are numbered from 1.
-#[derive(Clone, Copy, Debug, PartialEq, Eq, Error)]
+#[derive(Clone, Copy, Debug, Error)]
 pub enum HistoryFault {
     /// The line says nothing that may stand at this place.
     #[error("line {0}: bad line")]

@@ -14,7 +14,7 @@ use trace_text::sign::halves;
 use trace_text::{Line, is_printable, read_words};
 
 /// What a line of a history says.
-#[derive(Clone, Copy, Debug, PartialEq, Eq)]
+#[derive(Clone, Copy)]
 pub enum Told {
     /// A line of an audited text that tells no call.
     Part(Said),

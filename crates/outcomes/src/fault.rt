@@ -7,7 +7,7 @@ use std::alloc::{AllocError, AllocFailed};
 use vm_base::{CoreId, NoMemory};
 
 /// Why nothing is listed.
-#[derive(Clone, Copy, Debug, PartialEq, Eq)]
+#[derive(Clone, Copy)]
 pub enum OutcomesFault {
     /// One of the calls leaves its place open.
     Placed,
@@ -22,7 +22,7 @@ pub enum OutcomesFault {
 }
 
 /// Why nothing is listed of a declaration without fault.
-#[derive(Clone, Copy, PartialEq, Eq)]
+#[derive(Clone, Copy)]
 pub(crate) enum Late {
     /// The opening leaves a call of this core open.
     Open(CoreId),

@@ -5,7 +5,7 @@ use std::alloc::Allocator;
 use vm_base::{CoreId, Reply, Request};
 
 /// One line of the opening.
-#[derive(Clone, Copy, Debug, PartialEq, Eq)]
+#[derive(Clone, Copy)]
 pub enum Opened {
     /// One event.
     Step(Event),

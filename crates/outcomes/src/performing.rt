@@ -13,7 +13,7 @@ use std::alloc::Allocator;
 use vm_base::{CoreId, NoMemory, Reply, Request};
 
 /// How far a call is.
-#[derive(Clone, Copy, PartialEq, Eq)]
+#[derive(Clone, Copy)]
 pub(crate) enum Stage {
     /// It hasn't begun.
     Ahead,
@@ -24,7 +24,7 @@ pub(crate) enum Stage {
 }
 
 /// A call that is to be performed with a reply.
-#[derive(Clone, Copy, PartialEq, Eq)]
+#[derive(Clone, Copy)]
 pub(crate) struct Due {
     /// Who asks.
     pub core: CoreId,

@@ -36,7 +36,7 @@ const BEGINNINGS: u32 = 10_000;
 const FEW: usize = 12;
 
 /// What is told of a history.
-#[derive(Clone, Copy, Debug, PartialEq, Eq)]
+#[derive(Clone, Copy)]
 pub enum Ruling {
     /// The calls that were answered, which are this many, have an order, with those that wait at the end as far as they took effect.
     Legal(u64),
@@ -47,7 +47,7 @@ pub enum Ruling {
 }
 
 /// How an order is come by.
-#[derive(Clone, Copy, Debug)]
+#[derive(Clone, Copy)]
 pub enum By<'a> {
     /// It is searched.
     Search,
@@ -56,7 +56,7 @@ pub enum By<'a> {
 }
 
 /// A ruling, the text of the order that it rests on, and lines that explain it.
-#[derive(Debug, Drop)]
+#[derive(Drop)]
 pub struct Ruled<A: Allocator> {
     pub ruling: Ruling,
     pub order: Vec<u8, A>,
@@ -149,7 +149,7 @@ fn lacks_all<A: Allocator + Clone + Drop>(
 }
 
 /// By what it was shown that calls have no order.
-#[derive(Debug, Drop)]
+#[derive(Drop)]
 pub enum Shown<A: Allocator> {
     Nothing,
     All,
@@ -201,7 +201,7 @@ fn show_disorder<A: Allocator + Clone + Drop>(
 }
 
 /// A ruling, and what explains it: nothing, or the lines of some calls that have no order by themselves.
-#[derive(Debug, Drop)]
+#[derive(Drop)]
 pub struct Told<A: Allocator> {
     pub ruling: Ruling,
     pub explanation: Vec<u8, A>,

@@ -19,14 +19,14 @@ use trace_io::IoFault;
 use vm_base::NoMemory;
 
 /// How many calls were answered, and how many of them found no frame or no memory.
-#[derive(Clone, Copy, Debug, PartialEq, Eq)]
+#[derive(Clone, Copy)]
 pub struct Counts {
     pub calls: u64,
     pub lacking: u64,
 }
 
 /// What is told of the replies of a text.
-#[derive(Clone, Copy, Debug, PartialEq, Eq)]
+#[derive(Clone, Copy)]
 pub enum Judgement {
     /// What was found in the order of their lines.
     InOrder(Verdict),
@@ -51,7 +51,7 @@ impl Judgement {
 }
 
 /// A judgement, and the mappings around the page of the reply or the copy that isn't legal.
-#[derive(Debug, Drop)]
+#[derive(Drop)]
 pub struct JudgedReplies<A: Allocator> {
     pub judgement: Judgement,
     pub around: Vec<MapLine, A>,

@@ -18,7 +18,7 @@ const TRIES: u32 = 60;
 
 // How calls are divided that are under way so far before a place: each into all of its parts, or one that has the page
 // of the place into that page, those in front of it and those behind it.
-#[derive(Clone, Copy, PartialEq, Eq)]
+#[derive(Clone, Copy)]
 enum Division {
     No,
     AtPage(u64),
@@ -35,7 +35,7 @@ enum Late {
 }
 
 // What is done around a part where a search was stuck. How far before it is told in times as those of begins and ends.
-#[derive(Clone, Copy, PartialEq, Eq)]
+#[derive(Clone, Copy)]
 struct Way {
     late: Late,
     division: Division,
@@ -112,7 +112,7 @@ fn looks_at_stores(way: Option<Way>) -> bool {
 }
 
 // A store of the byte that a load or fetch found: at this offset of a page, since this time.
-#[derive(Clone, Copy, PartialEq, Eq)]
+#[derive(Clone, Copy)]
 struct Stored {
     offset: u64,
     since: u64,
@@ -120,7 +120,7 @@ struct Stored {
 
 // A part where a search was stuck, the latest store of the byte that it found, the way that is tried there, and the
 // times at which calls are under way for which something is done.
-#[derive(Clone, Copy, PartialEq, Eq)]
+#[derive(Clone, Copy)]
 struct Around {
     part: usize,
     stored: Option<Stored>,
@@ -293,7 +293,7 @@ fn is_before(place: &Timed, timed: &Timed, far: u64) -> bool {
 }
 
 // What is done with a part.
-#[derive(Clone, Copy, PartialEq, Eq)]
+#[derive(Clone, Copy)]
 struct Marks {
     may_lag: bool,
     is_divided: bool,

@@ -11,7 +11,7 @@ use trace_text::{LineText, address_text, number_text, push_reply, push_rights, p
 use vm_base::{CoreId, Prot, Reply};
 
 /// Where a rectangle lies.
-#[derive(Clone, Copy, Debug, PartialEq, Eq)]
+#[derive(Clone, Copy)]
 pub struct Place {
     /// Its left edge.
     pub x: u64,
@@ -24,7 +24,7 @@ pub struct Place {
 }
 
 /// Where a line begins and ends.
-#[derive(Clone, Copy, Debug, PartialEq, Eq)]
+#[derive(Clone, Copy)]
 pub struct Way {
     /// Where it begins, from the left.
     pub x1: u64,
@@ -37,7 +37,7 @@ pub struct Way {
 }
 
 /// A piece of a text.
-#[derive(Clone, Copy, Debug, PartialEq, Eq)]
+#[derive(Clone, Copy)]
 pub enum Piece<'a> {
     /// These words.
     Words(&'a str),

@@ -6,7 +6,7 @@ ghost use Rattle.picture.specs.Moments.{next_change, tells};
 use vm_base::{Back, CoreId, CoreSet, PageRange, Prot, Reply, Request};
 
 /// Which take of a message it is.
-#[derive(Clone, Copy, Debug, PartialEq, Eq)]
+#[derive(Clone, Copy)]
 pub enum Pass {
     /// The first, which clears the tables.
     First,
@@ -15,7 +15,7 @@ pub enum Pass {
 }
 
 /// What a core did in a step that belongs to no message.
-#[derive(Clone, Copy, Debug, PartialEq, Eq)]
+#[derive(Clone, Copy)]
 pub enum Deed {
     /// Its call waits for another core.
     Wait,
@@ -32,7 +32,7 @@ pub enum Deed {
 }
 
 /// One thing that happened.
-#[derive(Clone, Copy, Debug, PartialEq, Eq)]
+#[derive(Clone, Copy)]
 pub enum Moment {
     /// A call begins. Calls are numbered as in the log.
     Begins {
@@ -90,7 +90,7 @@ pub enum Moment {
 }
 
 /// A moment, and the number of the step in which it was.
-#[derive(Clone, Copy, Debug, PartialEq, Eq)]
+#[derive(Clone, Copy)]
 pub struct Recorded {
     /// The step's number.
     pub step: u64,
@@ -99,7 +99,7 @@ pub struct Recorded {
 }
 
 /// The step in which a call was answered, and the reply.
-#[derive(Clone, Copy, Debug, PartialEq, Eq)]
+#[derive(Clone, Copy)]
 pub struct Answer {
     /// The step's number.
     pub step: u64,

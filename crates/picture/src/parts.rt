@@ -14,7 +14,7 @@ use std::alloc::AllocError;
 use vm_base::{Back, CoreId, Prot, Reply, Request};
 
 /// A part of what a shape is written as.
-#[derive(Clone, Copy, Debug, PartialEq, Eq)]
+#[derive(Clone, Copy)]
 pub enum Part<'a> {
     /// A piece.
     Plain(Piece<'a>),

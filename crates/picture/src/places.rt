@@ -7,7 +7,7 @@ use crate::shapes::{Arrow, Bar, Course, Stretch};
 use vm_base::CoreId;
 
 /// What a picture is of: cores, and a range of steps.
-#[derive(Clone, Copy, Debug, PartialEq, Eq)]
+#[derive(Clone, Copy)]
 pub struct View {
     /// How many cores have a lane.
     pub cores: u8,

@@ -7,7 +7,7 @@ use std::alloc::{AllocError, Global};
 use vm_base::{Back, CoreId, PageRange, Prot, Request};
 
 /// A call, from its begin to its answer.
-#[derive(Clone, Copy, Debug, PartialEq, Eq)]
+#[derive(Clone, Copy)]
 pub struct Bar {
     /// The core that asked.
     pub core: CoreId,
@@ -20,7 +20,7 @@ pub struct Bar {
 }
 
 /// What an arrow stands for.
-#[derive(Clone, Copy, Debug, PartialEq, Eq)]
+#[derive(Clone, Copy)]
 pub enum Course {
     /// A message, up to its first take.
     Message,
@@ -29,7 +29,7 @@ pub enum Course {
 }
 
 /// A message between two cores, or its acknowledgement.
-#[derive(Clone, Copy, Debug, PartialEq, Eq)]
+#[derive(Clone, Copy)]
 pub struct Arrow {
     /// Which of the two.
     pub course: Course,
@@ -44,7 +44,7 @@ pub struct Arrow {
 }
 
 /// What a mark stands for.
-#[derive(Clone, Copy, Debug, PartialEq, Eq)]
+#[derive(Clone, Copy)]
 pub enum Sign {
     /// A take of a message.
     Take,
@@ -53,7 +53,7 @@ pub enum Sign {
 }
 
 /// Something that a core did in one step.
-#[derive(Clone, Copy, Debug, PartialEq, Eq)]
+#[derive(Clone, Copy)]
 pub struct Mark {
     /// The core.
     pub core: CoreId,
@@ -64,7 +64,7 @@ pub struct Mark {
 }
 
 /// Pages that are mapped with one protection over some steps.
-#[derive(Clone, Copy, Debug, PartialEq, Eq)]
+#[derive(Clone, Copy)]
 pub struct Stretch {
     /// The row in which they are shown.
     pub row: u16,

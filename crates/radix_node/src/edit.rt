@@ -12,7 +12,7 @@ use std::alloc::Allocator;
 use vm_base::{PageInfo, Prot};
 
 /// What a change makes of the pages of a range.
-#[derive(Clone, Copy, Debug)]
+#[derive(Clone, Copy)]
 pub enum Edit {
     /// The first page has this, and each later page goes on from it.
     Put(Option<PageInfo>),

@@ -13,7 +13,7 @@ use vm_base::CoreId;
 
 /// The result of an attempt to lock the slot of a page, which has to begin at the page and to have
 /// at most so many pages.
-#[derive(Clone, Copy, Debug, PartialEq, Eq)]
+#[derive(Clone, Copy)]
 pub enum Lock {
     /// A core holds the slot.
     Held(CoreId),

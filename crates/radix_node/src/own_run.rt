@@ -12,7 +12,7 @@ use std::alloc::Allocator;
 use vm_base::CoreId;
 
 /// Whose slots get another owner, and which.
-#[derive(Clone, Copy, Debug, PartialEq, Eq)]
+#[derive(Clone, Copy)]
 pub struct Handover {
     /// The owner of the slots.
     pub from: Option<CoreId>,
@@ -21,7 +21,7 @@ pub struct Handover {
 }
 
 /// Neighbouring slots of one node.
-#[derive(Clone, Copy, Debug, PartialEq, Eq)]
+#[derive(Clone, Copy)]
 pub struct OwnedRun {
     /// How many slots they are.
     pub slots: u64,

@@ -6,7 +6,7 @@ ghost use Rattle.radix_node.specs.Run.{width_of};
 pub const SLOTS: usize = 512;
 
 /// The slot of a node that has a page, and how many of the slot's pages lie before that page.
-#[derive(Clone, Copy, Debug)]
+#[derive(Clone, Copy)]
 pub struct Place {
     pub slot: usize,
     pub rest: u64,
@@ -39,7 +39,7 @@ pub(crate) fn place_of(level: u8, page: u64) -> Place
 }
 
 /// The slots of a node that have some page of a range: from one up to another.
-#[derive(Clone, Copy, Debug)]
+#[derive(Clone, Copy)]
 pub struct SlotSpan {
     pub from: usize,
     pub to: usize,
@@ -65,7 +65,7 @@ pub(crate) fn slots_of(level: u8, first: u64, end: u64) -> SlotSpan
 }
 
 /// Pages of a slot, counted from the slot's first.
-#[derive(Clone, Copy, Debug)]
+#[derive(Clone, Copy)]
 pub struct Part {
     pub first: u64,
     pub end: u64,

@@ -12,7 +12,7 @@ use crate::edit::Edit;
 use vm_base::{Back, CoreId, CoreSet, Meta, PageInfo, Prot, goes_on, info_from, is_leaf};
 
 /// What backs the pages of a slot.
-#[derive(Clone, Copy, Debug)]
+#[derive(Clone, Copy)]
 pub enum Kind {
     /// Nothing is mapped.
     Unmapped,
@@ -26,7 +26,7 @@ pub enum Kind {
 
 /// A slot that is no child: what its pages have, and the core that holds it. Its parts lie side by
 /// side, in 32 bytes, since a node has 512 slots.
-#[derive(Clone, Copy, Debug)]
+#[derive(Clone, Copy)]
 pub struct SlotState {
     // the file page of the first page, where a file backs it
     file_page: u64,

@@ -15,7 +15,7 @@ use std::alloc::Allocator;
 use vm_base::CoreSet;
 
 /// What a search for a run of free pages found in a range.
-#[derive(Clone, Copy, Debug)]
+#[derive(Clone, Copy)]
 pub enum FreeRun {
     /// The run begins at this page.
     Found(u64),

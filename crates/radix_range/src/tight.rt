@@ -25,7 +25,7 @@ const FEW_PAGES: u64 = 32;
 const FAR: u64 = 64;
 
 /// Pages at which no `n` unmapped pages begin.
-#[derive(Clone, Copy, Debug, Default)]
+#[derive(Clone, Copy, Default)]
 pub(crate) struct Tight {
     /// How many pages.
     pub(crate) n: u64,

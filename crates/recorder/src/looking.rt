@@ -13,7 +13,7 @@ use std::alloc::Allocator;
 use vm_base::{CoreId, CoreSet};
 
 /// What is seen before a step.
-#[derive(Clone, Copy, Debug, PartialEq, Eq)]
+#[derive(Clone, Copy)]
 pub struct Before {
     /// Of a call that goes on: where it stands.
     pub phase: Phase,

@@ -13,7 +13,7 @@ use vm_base::{CoreId, CoreSet, Reply, Request};
 const ROOM: usize = 16064;
 
 /// A call that isn't answered yet.
-#[derive(Clone, Copy, Debug, PartialEq, Eq)]
+#[derive(Clone, Copy)]
 pub struct Pending {
     /// Its number.
     pub call: u64,

@@ -24,7 +24,7 @@ fn has_all(flushed: CoreSet, cores: u8) -> bool
 }
 
 /// The present epoch, and the cores that have flushed in it.
-#[derive(Debug, Drop)]
+#[derive(Drop)]
 pub struct Epochs {
     cores: u8,
     number: u64,

@@ -11,7 +11,7 @@ ghost use Rattle.refcache.specs.Steps.{IsDelta, IsInTheWay};
 pub const PLACES: usize = 64;
 
 /// A core's delta of an object.
-#[derive(Clone, Copy, Debug, PartialEq, Eq)]
+#[derive(Clone, Copy)]
 pub struct Entry {
     pub object: u32,
     pub delta: i64,

@@ -2,7 +2,7 @@
 use machine_model::{Event, Outcome};
 
 /// A step as a thread took it: its ticket, its event and its outcome.
-#[derive(Clone, Copy, Debug, PartialEq, Eq)]
+#[derive(Clone, Copy)]
 pub struct Noted {
     pub ticket: u64,
     pub event: Event,

@@ -10,7 +10,7 @@ use machine_model::{Event, Outcome};
 use vm_base::{CoreId, Errno, Reply, Request, SegvCode};
 
 /// What a packed note is of.
-#[derive(Clone, Copy, Debug, PartialEq, Eq)]
+#[derive(Clone, Copy)]
 pub enum Kind {
     /// The core begins a load, a store or a fetch.
     Load,
@@ -47,7 +47,7 @@ pub enum Kind {
 }
 
 /// What a packed note says except for its ticket.
-#[derive(Clone, Copy, Debug, PartialEq, Eq)]
+#[derive(Clone, Copy)]
 pub struct Brief {
     pub kind: Kind,
     pub core: CoreId,
@@ -56,7 +56,7 @@ pub struct Brief {
 }
 
 /// A note in sixteen bytes. Where its kind is `InFull` the word is a place in the list of notes that stand in full.
-#[derive(Clone, Copy, Debug, PartialEq, Eq)]
+#[derive(Clone, Copy)]
 pub struct Packed {
     pub word: u64,
     /// The ticket, by its lower 32 bits and the 8 above.

@@ -11,7 +11,7 @@ use std::alloc::Allocator;
 use vm_base::CoreId;
 
 /// An event of a core that is no part of a call.
-#[derive(Clone, Copy, Debug, PartialEq, Eq)]
+#[derive(Clone, Copy)]
 pub enum Aside {
     /// Its TLB gets the page's translation from its tables.
     Walk(u64),

@@ -9,7 +9,7 @@ pub struct History {
 }
 
 /// A call that was replied, with its reply.
-#[derive(Clone, Copy, Debug, PartialEq, Eq)]
+#[derive(Clone, Copy)]
 pub struct Replied {
     pub request: Request,
     pub reply: Reply,

@@ -49,7 +49,7 @@ impl Tell for Reply {
 }
 
 /// Why a series of calls ended.
-#[derive(Clone, Copy, Debug, PartialEq, Eq)]
+#[derive(Clone, Copy, PartialEq, Eq)]
 pub enum Stop {
     /// All calls were made.
     Done,
@@ -64,7 +64,7 @@ pub enum Stop {
 }
 
 /// How far a series of calls went.
-#[derive(Clone, Copy, Debug, PartialEq, Eq)]
+#[derive(Clone, Copy, PartialEq, Eq)]
 pub struct Series {
     /// How many calls were made, and told.
     pub made: usize,

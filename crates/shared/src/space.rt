@@ -49,7 +49,7 @@ pub struct Known<S> {
 }
 
 /// What a call is answered.
-#[derive(Clone, Copy, Debug, PartialEq, Eq)]
+#[derive(Clone, Copy, PartialEq, Eq)]
 pub enum Answer {
     /// It was made, and has this reply.
     Reply(Reply),
@@ -60,7 +60,7 @@ pub enum Answer {
 }
 
 /// The outcome of an aside.
-#[derive(Clone, Copy, Debug, PartialEq, Eq)]
+#[derive(Clone, Copy, PartialEq, Eq)]
 pub enum Passed {
     /// The machine's outcome: it was made (Stepped), there was nothing to do (Idle), or the limit of
     /// events is reached (Full).
@@ -70,7 +70,7 @@ pub enum Passed {
 }
 
 /// The result of a series of calls.
-#[derive(Clone, Copy, Debug, PartialEq, Eq)]
+#[derive(Clone, Copy, PartialEq, Eq)]
 pub enum Calls {
     /// This many were made.
     Made(Series),
@@ -161,7 +161,7 @@ pub struct Space<S: Whole> {
 }
 
 /// Why a machine can't be shared.
-#[derive(Clone, Copy, Debug, PartialEq, Eq)]
+#[derive(Clone, Copy)]
 pub enum Refusal {
     /// There was no memory.
     NoMemory,

@@ -10,7 +10,7 @@ use machine_model::Outcome;
 use vm_base::{CoreId, Reply, Request};
 
 /// The result of a whole call.
-#[derive(Clone, Copy, Debug, PartialEq, Eq)]
+#[derive(Clone, Copy)]
 pub enum Ended {
     /// It was made, and has this reply.
     Reply(Reply),

@@ -3,7 +3,7 @@ use thiserror::Error;
 use trace::fault::TraceFault;
 
 /// Why a script's text wasn't run to its end, or what came of it wasn't written.
-#[derive(Clone, Copy, Debug, PartialEq, Eq, Error)]
+#[derive(Clone, Copy, Debug, Error)]
 pub enum SharedFault {
     /// The text can't be read, it makes no machine, memory is refused, or a write failed.
     #[error("{0}")]

@@ -3,7 +3,7 @@ use vm_base::{CoreId, PageRange};
 
 /// What a core is asked to do with the pages of a range: first to clear its table entries, then to
 /// invalidate its TLB.
-#[derive(Clone, Copy, Debug, PartialEq, Eq)]
+#[derive(Clone, Copy)]
 pub struct Message {
     /// The core that waits for it to be done.
     pub from: CoreId,
@@ -13,7 +13,7 @@ pub struct Message {
 }
 
 /// What a core has to do for the oldest message of its inbox.
-#[derive(Clone, Copy, Debug, PartialEq, Eq)]
+#[derive(Clone, Copy)]
 pub enum Took {
     /// Clear the table entries of the range.
     Clear(PageRange),

@@ -9,7 +9,7 @@ use crate::slot_map::{Got, SlotMap};
 use vm_base::{CoreId, NoMemory};
 
 /// How far the pages of a footprint are locked.
-#[derive(Clone, Copy, Debug)]
+#[derive(Clone, Copy)]
 pub struct Acquire {
     pub footprint: Footprint,
     /// The pages of the footprint below it are locked.

@@ -6,7 +6,7 @@ ghost use Rattle.slot_lock.specs.Footprint.{IsFootprint, one_range, both, end_at
 use vm_base::PageRange;
 
 /// One or two ranges of pages, from left to right, with a gap between.
-#[derive(Clone, Copy, Debug, PartialEq, Eq)]
+#[derive(Clone, Copy)]
 pub struct Footprint {
     pub first: PageRange,
     pub second: Option<PageRange>,

@@ -5,7 +5,7 @@ use arrayvec::ArrayVec;
 const PLACES: usize = 32;
 
 /// A page, and the frame that it has.
-#[derive(Clone, Copy, Debug, Default, PartialEq, Eq)]
+#[derive(Clone, Copy, Default)]
 pub struct Framed {
     pub page: u64,
     pub frame: u32,

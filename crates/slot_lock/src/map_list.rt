@@ -17,7 +17,7 @@ use vm_base::page::PAGE_LIMIT;
 use vm_base::{Back, Meta, NoMemory, PageInfo, PageRange, Prot};
 
 /// Neighbouring pages with the same protection, whose backing goes on from page to page.
-#[derive(Clone, Copy, Debug, PartialEq, Eq)]
+#[derive(Clone, Copy, PartialEq, Eq)]
 pub struct MapLine {
     /// The pages.
     pub range: PageRange,

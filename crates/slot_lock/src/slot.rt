@@ -17,7 +17,7 @@ use vm_base::info::{goes_on, info_from, protected};
 use vm_base::{CoreId, NoMemory, PageInfo, is_leaf};
 
 /// A slot: the pages from `start` up to the next slot's.
-#[derive(Clone, Copy, Debug)]
+#[derive(Clone, Copy)]
 pub struct Slot {
     pub start: u64,
     pub owner: Option<CoreId>,

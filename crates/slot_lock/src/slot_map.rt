@@ -28,7 +28,7 @@ use crate::survey::Survey;
 use vm_base::{CoreId, CoreSet, Meta, NoMemory, PageInfo, PageRange, Prot};
 
 /// What one step of an acquisition did.
-#[derive(Clone, Copy, Debug, PartialEq, Eq)]
+#[derive(Clone, Copy)]
 pub enum Got {
     /// Some slot was divided.
     Split,
@@ -39,7 +39,7 @@ pub enum Got {
 }
 
 /// What one step of a cut did.
-#[derive(Clone, Copy, Debug, PartialEq, Eq)]
+#[derive(Clone, Copy)]
 pub enum Fit {
     /// Some slot was divided.
     Cut,
@@ -48,7 +48,7 @@ pub enum Fit {
 }
 
 /// Slots that were locked, or unlocked, one after another.
-#[derive(Clone, Copy, Debug, PartialEq, Eq)]
+#[derive(Clone, Copy)]
 pub struct SlotRun {
     /// How many slots they are.
     pub slots: u64,
@@ -57,7 +57,7 @@ pub struct SlotRun {
 }
 
 /// A page that is a slot of its own, which nobody holds.
-#[derive(Clone, Copy, Debug, PartialEq, Eq)]
+#[derive(Clone, Copy)]
 pub struct FreePage {
     /// What the page has, if it is mapped.
     pub info: Option<PageInfo>,

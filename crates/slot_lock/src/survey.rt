@@ -6,7 +6,7 @@ ghost use Rattle.slot_lock.specs.Surveys.{IsSurvey};
 use vm_base::CoreSet;
 
 /// What the slots of a range have together.
-#[derive(Clone, Copy, Debug, PartialEq, Eq)]
+#[derive(Clone, Copy)]
 pub struct Survey {
     /// How many slots begin in the range.
     pub slots: u64,

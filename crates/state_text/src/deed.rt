@@ -4,7 +4,7 @@ use slot_lock::Touch;
 use vm_base::{CoreId, CoreSet, PageRange};
 
 /// What a step does to TLBs and inboxes, where it is made.
-#[derive(Clone, Copy, Debug, PartialEq, Eq)]
+#[derive(Clone, Copy)]
 pub enum Deed {
     /// Nothing.
     Nothing,

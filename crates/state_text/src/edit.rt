@@ -2,7 +2,7 @@
 use vm_base::{CoreId, PageRange};
 
 /// What a step does to the tables of its core, where it is made.
-#[derive(Clone, Copy, Debug, PartialEq, Eq)]
+#[derive(Clone, Copy)]
 pub enum Edit {
     /// Nothing.
     Nothing,

@@ -9,7 +9,7 @@ use slot_lock::{Change, Goal};
 use vm_base::{Access, PageRange, Request};
 
 /// Where a call is at work.
-#[derive(Clone, Copy, Debug, PartialEq, Eq)]
+#[derive(Clone, Copy)]
 pub enum Spot {
     /// Nowhere yet, or no more.
     Nowhere,

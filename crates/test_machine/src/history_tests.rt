@@ -48,14 +48,14 @@ impl Stepper for Dealer {
 }
 
 /// What a change of a page does.
-#[derive(Clone, Copy, Debug, PartialEq, Eq)]
+#[derive(Clone, Copy)]
 enum Does {
     Maps,
     Unmaps,
 }
 
 /// A change of a page under a ticket.
-#[derive(Clone, Copy, Debug, PartialEq, Eq)]
+#[derive(Clone, Copy)]
 struct PageChange {
     page: u64,
     does: Does,

@@ -144,7 +144,7 @@ impl<M: SlotMap, A: Allocator + Clone> Moves for Space<M, A> {
 }
 
 /// Over which slot map a machine is.
-#[derive(Clone, Copy, PartialEq, Eq)]
+#[derive(Clone, Copy)]
 pub enum Over {
     /// The tree, as the program's.
     Tree,

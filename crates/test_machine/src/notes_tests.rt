@@ -13,7 +13,7 @@ use trace_text::LineText;
 use vm_base::NoMemory;
 
 /// What is wrong with the notes, whose tickets are their places.
-#[derive(Clone, Copy, Debug, PartialEq, Eq)]
+#[derive(Clone, Copy)]
 enum Spoiled {
     /// Nothing is.
     Nothing,
@@ -143,7 +143,7 @@ fn text_of_seats(alloc: Global, trace: &str, notes: &[Noted]) -> Result<String<G
 }
 
 /// How often notes were spoiled, and how often just that was told.
-#[derive(Clone, Copy, Debug, PartialEq, Eq)]
+#[derive(Clone, Copy)]
 struct Count {
     notes: u64,
     tried: u64,

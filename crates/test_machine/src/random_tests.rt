@@ -146,7 +146,7 @@ fn lone_calls(alloc: Global, seed: u64) -> Result<String<Global>, NoMemory> {
 }
 
 /// What the logs of lone calls have.
-#[derive(Clone, Copy, Debug, PartialEq, Eq)]
+#[derive(Clone, Copy)]
 struct Logged {
     /// Replies that are the plain page map's.
     same: u64,

@@ -19,7 +19,7 @@ use vm_base::NoMemory;
 pub const AMPLE: usize = 1_500_000;
 
 /// Whether a text tells which of its lines were refused first, or only that one was.
-#[derive(Clone, Copy, PartialEq, Eq)]
+#[derive(Clone, Copy)]
 pub enum Marks {
     Told,
     Untold,

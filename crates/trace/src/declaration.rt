@@ -16,7 +16,7 @@ use vm_base::limits::FILE_BYTES;
 const KEPT: usize = 17;
 
 /// A file as its line asks for it.
-#[derive(Clone, Copy, Debug, PartialEq, Eq)]
+#[derive(Clone, Copy)]
 pub struct FileLine {
     /// For what it is open.
     pub mode: Mode,

@@ -1,7 +1,7 @@
 //! What a replay may write of a trace.
 
 /// What a replay writes.
-#[derive(Clone, Copy, Debug, PartialEq, Eq)]
+#[derive(Clone, Copy)]
 pub enum Show {
     /// The outcome of each line of an event.
     Outcomes,

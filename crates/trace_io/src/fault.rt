@@ -2,7 +2,7 @@
 use thiserror::Error;
 
 /// Why a text wasn't read to its end, or what comes of it wasn't written whole.
-#[derive(Clone, Copy, Debug, PartialEq, Eq, Error)]
+#[derive(Clone, Copy, Debug, Error)]
 pub enum IoFault {
     /// A read failed, or one more than `READ_LIMIT` was due.
     #[error("read failed")]

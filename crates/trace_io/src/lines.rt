@@ -20,7 +20,7 @@ const CHUNK: usize = 65_536;
 
 // What the bytes held begin with: a line and its newline, more bytes without one than a line may
 // have, or neither.
-#[derive(Clone, Copy, Debug, PartialEq, Eq)]
+#[derive(Clone, Copy)]
 enum Scan {
     Line,
     TooLong,
@@ -28,7 +28,7 @@ enum Scan {
 }
 
 /// What the text goes on with.
-#[derive(Clone, Copy, Debug, PartialEq, Eq)]
+#[derive(Clone, Copy, PartialEq, Eq)]
 pub enum Found {
     /// A line of at most `LINE_LIMIT` bytes. The last line need not have a newline.
     Line,
@@ -39,7 +39,7 @@ pub enum Found {
 }
 
 /// Why the next line wasn't found.
-#[derive(Clone, Copy, Debug, PartialEq, Eq)]
+#[derive(Clone, Copy, PartialEq, Eq)]
 pub enum NoLine {
     /// A read failed, or one more than `READ_LIMIT` was due.
     ReadFailed,

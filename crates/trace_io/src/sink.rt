@@ -13,7 +13,7 @@ use std::io::{BufWriter, Write};
 use std::snapshot::Snapshot;
 
 /// A write or a flush failed, or a write took no byte.
-#[derive(Clone, Copy, Debug, PartialEq, Eq)]
+#[derive(Clone, Copy, PartialEq, Eq)]
 pub struct WriteFailed;
 
 /// A writer that tells what it took, whether all of it has gone out, and whether a write or a

@@ -17,7 +17,7 @@ const CHUNK: usize = 65_536;
 pub const READ_LIMIT: u64 = 4_294_967_296;
 
 /// A read failed, or one more than `READ_LIMIT` was asked for. The bytes to come are unchanged.
-#[derive(Clone, Copy, Debug, PartialEq, Eq)]
+#[derive(Clone, Copy, PartialEq, Eq)]
 pub struct ReadFailed;
 
 /// A reader that tells what it has given, how often it was read, and whether a read has failed.

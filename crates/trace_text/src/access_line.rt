@@ -13,7 +13,7 @@ use crate::request::{behind_load, behind_store};
 use vm_base::{CoreId, Request};
 
 /// A load or a store that a line asks for.
-#[derive(Clone, Copy, Debug, PartialEq, Eq)]
+#[derive(Clone, Copy)]
 pub struct AskedAccess {
     pub is_store: bool,
     pub addr: u64,

@@ -10,7 +10,7 @@ use crate::line::front_core;
 use vm_base::CoreId;
 
 /// A step that a line tells a core to make, by one word.
-#[derive(Clone, Copy, Debug, PartialEq, Eq)]
+#[derive(Clone, Copy)]
 pub enum AskedStep {
     /// `take`: act on the oldest message.
     Take,

@@ -15,7 +15,7 @@ use vm_base::page::is_valid;
 use vm_base::{CoreSet, PageInfo, PageRange};
 
 /// What a used page has.
-#[derive(Clone, Copy, Debug, PartialEq, Eq)]
+#[derive(Clone, Copy)]
 pub struct Used {
     /// Its frame, if it has one.
     pub frame: Option<u32>,

@@ -10,7 +10,7 @@ use crate::rights::Prot;
 
 /// What backs a page. Files are counted from 0 in the order in which they were opened, and a file's
 /// pages of 4096 bytes from 0 too.
-#[derive(Clone, Copy, Debug, PartialEq, Eq)]
+#[derive(Clone, Copy, PartialEq, Eq)]
 pub enum Back {
     /// Zero bytes. POSIX.1-2017 has no `MAP_ANONYMOUS`; it is a common extension. With one address
     /// space, shared and private anonymous pages are alike.
@@ -33,7 +33,7 @@ pub enum Back {
 
 /// A mapping of the first of some neighbouring pages. Each later page has the next file page, and
 /// the same protection.
-#[derive(Clone, Copy, Debug, PartialEq, Eq)]
+#[derive(Clone, Copy, PartialEq, Eq)]
 pub struct Meta {
     /// What backs the first page.
     pub back: Back,
@@ -42,7 +42,7 @@ pub struct Meta {
 }
 
 /// What a mapped page has.
-#[derive(Clone, Copy, Debug, PartialEq, Eq)]
+#[derive(Clone, Copy)]
 pub struct PageInfo {
     /// Its mapping.
     pub meta: Meta,

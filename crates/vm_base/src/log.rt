@@ -3,7 +3,7 @@ use crate::cores::CoreId;
 use crate::replies::Reply;
 
 /// An entry of the log.
-#[derive(Clone, Copy, Debug, PartialEq, Eq)]
+#[derive(Clone, Copy, PartialEq, Eq)]
 pub enum Entry {
     /// The call with this number, from 1, has this reply from the event with the number `step` on,
     /// from 1.

@@ -19,7 +19,7 @@ use vm_base::info::recorded_cores;
 use vm_base::{Back, CoreSet, Errno, PageInfo, PageRange, Prot};
 
 /// What a call does, once it holds its pages.
-#[derive(Clone, Copy, Debug, PartialEq, Eq)]
+#[derive(Clone, Copy)]
 pub enum Decision {
     /// It is refused, and changes nothing.
     Refuse(Errno),

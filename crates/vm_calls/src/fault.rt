@@ -7,7 +7,7 @@ ghost use Rattle.vm_calls.specs.Settling.{settled, source, is_private_store, IsS
 use vm_base::{Access, Back, PageInfo, allows};
 
 /// What an access finds at its page, whose slot its call holds: a fault, or where the frame comes from.
-#[derive(Clone, Copy, Debug, PartialEq, Eq)]
+#[derive(Clone, Copy)]
 pub enum Settled {
     /// Nothing is mapped: `SIGSEGV` with `SEGV_MAPERR`.
     MapErr,

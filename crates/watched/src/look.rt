@@ -12,7 +12,7 @@ use std::alloc::Allocator;
 use vm_base::{CoreId, CoreSet};
 
 /// How far the core's call has come with an access, where that is counted.
-#[derive(Clone, Copy, Debug, PartialEq, Eq)]
+#[derive(Clone, Copy)]
 pub enum Stand {
     /// The access is tried.
     Trying,
@@ -27,7 +27,7 @@ pub enum Stand {
 }
 
 /// What is looked at before and after a step, of the core that takes it and of the frames.
-#[derive(Clone, Copy, Debug, PartialEq, Eq)]
+#[derive(Clone, Copy)]
 pub struct Sight {
     /// How far its call has come.
     pub stand: Stand,

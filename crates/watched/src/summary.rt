@@ -7,7 +7,7 @@ use machine_model::Outcome;
 use vm_base::Reply;
 
 /// How many calls were answered so.
-#[derive(Clone, Copy, Debug, PartialEq, Eq)]
+#[derive(Clone, Copy)]
 pub struct Replies {
     /// A mapping's address.
     pub mapped: u64,
@@ -28,7 +28,7 @@ pub struct Replies {
 }
 
 /// The numbers of a run. A number that would pass 2^64 - 1 stays there.
-#[derive(Clone, Copy, Debug, PartialEq, Eq)]
+#[derive(Clone, Copy)]
 pub struct Summary {
     /// The calls that were answered, by reply.
     pub replies: Replies,

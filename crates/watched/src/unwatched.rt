@@ -9,7 +9,7 @@ use std::alloc::Allocator;
 use vm_base::{CoreId, NoMemory, Request};
 
 /// Nobody watches: the machine makes as many steps at once as it can.
-#[derive(Clone, Copy, Debug, PartialEq, Eq)]
+#[derive(Clone, Copy)]
 pub struct Unwatched;
 
 impl Watch for Unwatched {

@@ -12,7 +12,7 @@ const MOST: usize = 262_144;
 const LAST: usize = 131_072;
 
 /// How much of a text is kept.
-#[derive(Clone, Copy, PartialEq, Eq)]
+#[derive(Clone, Copy)]
 pub enum Keeps {
     /// Nothing.
     Nothing,

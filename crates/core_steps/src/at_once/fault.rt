@@ -38,7 +38,7 @@ use vm_calls::Settled;
 pub const MOST_STEPS: u64 = 8;
 
 /// Where the frame of a page comes from that is shown at once.
-#[derive(Clone, Copy, Debug, PartialEq, Eq)]
+#[derive(Clone, Copy)]
 pub(crate) enum Source {
     /// The page has it.
     Own(u32),

@@ -20,7 +20,7 @@ use vm_base::{CoreId, Request};
 const MOST_EVENTS: u64 = 3 + MOST_STEPS + 1;
 
 /// How far a call has come that was begun.
-#[derive(Clone, Copy, Debug, PartialEq, Eq)]
+#[derive(Clone, Copy)]
 pub(crate) enum Started {
     /// It began, and this many plain steps of it were made.
     Begun { steps: u64 },

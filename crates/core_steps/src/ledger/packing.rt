@@ -7,7 +7,7 @@ ghost use Rattle.core_steps.specs.Packing.{reply_said, short_by};
 use vm_base::{CoreId, Entry, Errno, Reply, SegvCode};
 
 /// What a packed entry is of.
-#[derive(Clone, Copy, Debug, PartialEq, Eq)]
+#[derive(Clone, Copy)]
 pub enum Kind {
     /// A reply.
     Mapped,
@@ -30,7 +30,7 @@ pub enum Kind {
 }
 
 /// What a packed entry says beside its step, its call and its core.
-#[derive(Clone, Copy, Debug, PartialEq, Eq)]
+#[derive(Clone, Copy)]
 struct Brief {
     kind: Kind,
     /// A page by its lower 32 bits and the 8 above, or a byte in those.
@@ -40,7 +40,7 @@ struct Brief {
 
 /// An entry in sixteen bytes. Where its kind is `InFull` the step and the call are the lower and the
 /// upper half of a place in the list of entries that stand in full.
-#[derive(Clone, Copy, Debug, PartialEq, Eq)]
+#[derive(Clone, Copy)]
 pub struct Packed {
     /// The step, by its lower 32 bits and the 8 above.
     pub step: u32,

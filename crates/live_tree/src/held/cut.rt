@@ -19,7 +19,7 @@ use std::sync::{MutexGuard, Wait};
 use vm_base::{CoreId, PageRange};
 
 /// The result of a step towards held slots that cross no edge of a range.
-#[derive(Clone, Copy, Debug, PartialEq, Eq)]
+#[derive(Clone, Copy)]
 pub enum Cutting {
     /// A slot was cut, which was noted.
     Cut,
