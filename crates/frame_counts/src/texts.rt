@@ -7,7 +7,7 @@ ghost use Rattle.frame_counts.specs.Texts.{core_counts, counts_at, counts_text, 
 ghost use Rattle.frame_counts.specs.Texts.{flushed_text, frame_counts, frame_line, minus, queue_line, queue_object, queue_words, sign, used_text};
 
 use core_steps::{Ledger, Machine};
-use picture::elements::{Piece, put_all};
+use picture::pieces::{Piece, put_all};
 use refcache::Queued;
 use slot_lock::SlotMap;
 use std::alloc::{AllocError, Allocator};

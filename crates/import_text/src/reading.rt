@@ -1,16 +1,13 @@
 //! The lines of a text, of any length, heard one after another as they are read.
 ghost use Rattle.std.specs.Prelude.{◌≡◌, ◌≢◌, ◌+◌, ◌^◌, ◌<◌, ◌≤◌, ◌++◌, ℕ, Err, IfOk, List, OnErr, OnOk, drop, length};
 ghost use Rattle.trace_io.specs.Lines.{lines_of};
-ghost use Rattle.trace_io.specs.Source.{Gives, HasEnded, HasStopped, Reads, read_bytes};
+ghost use Rattle.trace_io.specs.Source.{HasStopped, Reads};
 ghost use Rattle.import_text.specs.Reading.{HearsMore, IsBreak};
 
 use std::alloc::{AllocError, Global};
 use trace_io::IoFault;
 use trace_io::lines::front_line;
-use trace_io::source::{ReadFailed, Source};
-
-/// How much is read at once at the most.
-const CHUNK: usize = 65536;
+use trace_io::source::{Source, new_chunk, read_chunk};
 
 /// Who hears lines.
 pub trait Listener {
@@ -50,29 +47,6 @@ fn hear_text<L: Listener>(listener: &mut L, text: &[u8]) -> Result<(), AllocErro
         rest = more;
     }
     Ok(())
-}
-
-// Room for what one read gives.
-fn new_chunk(alloc: Global) -> Result<Vec<u8>, AllocError>
-    ensures { IfOk result (λ chunk. length chunk.items ≡ 65536) }
-{
-    let chunk = vec![in alloc; 0u8; CHUNK]?;
-    Ok(chunk)
-}
-
-// Reads into the chunk.
-fn read_chunk<S: Source>(chunk: &mut Vec<u8>, reader: &mut S) -> Result<usize, ReadFailed>
-    requires { 0 < length chunk.old.items }
-    ensures same { length chunk.new.items ≡ length chunk.old.items }
-    ensures room { IfOk result (λ n. n ≤ length chunk.new.items) }
-    ensures bytes { Gives (S.stream reader.old) (S.stream reader.new)
-        (read_bytes result (drop 0 chunk.new.items)) }
-    ensures end { IfOk result (λ n. n ≡ 0 → HasEnded (S.stream reader.new)) }
-    ensures count { OnOk result (S.reads reader.new ≡ S.reads reader.old + 1) }
-    ensures limit { OnOk result (S.reads reader.old < 2 ^ 32) }
-    ensures stopped { OnErr result (HasStopped (S.failed reader.new) (S.reads reader.new)) }
-{
-    reader.read(&mut chunk[0..])
 }
 
 // Hears all whole lines of what is held and of these bytes behind it, and holds the others.

@@ -1,14 +1,11 @@
 //! A text that is read up to one of its lines.
-ghost use Rattle.std.specs.Prelude.{◌≡◌, ◌≢◌, ◌≤◌, ◌+◌, ◌<◌, ◌^◌, Err, IfOk, OnErr, OnOk, drop, length};
+ghost use Rattle.std.specs.Prelude.{◌≡◌, ◌≢◌, Err, IfOk, OnErr};
 ghost use Rattle.line_fronts.specs.Reading.{IsEnough, newlines};
-ghost use Rattle.trace_io.specs.Source.{Gives, HasEnded, HasStopped, Reads, read_bytes};
+ghost use Rattle.trace_io.specs.Source.{HasStopped, Reads};
 
-use std::alloc::{AllocError, Allocator};
+use std::alloc::Allocator;
 use trace_io::IoFault;
-use trace_io::source::{ReadFailed, Source};
-
-/// How much is read at once at the most.
-const CHUNK: usize = 65536;
+use trace_io::source::{Source, new_chunk, read_chunk};
 
 // How many newlines there are.
 fn newlines(bytes: &[u8]) -> u64
@@ -23,32 +20,6 @@ fn newlines(bytes: &[u8]) -> u64
         at += 1;
     }
     count
-}
-
-// Room for what one read gives.
-fn new_chunk<A: Allocator>(alloc: A) -> Result<Vec<u8, A>, AllocError>
-    ensures { IfOk result (λ chunk. length chunk.items ≡ 65536) }
-{
-    let chunk = vec![in alloc; 0u8; CHUNK]?;
-    Ok(chunk)
-}
-
-// Reads into the chunk.
-fn read_chunk<A: Allocator, S: Source>(
-    chunk: &mut Vec<u8, A>,
-    reader: &mut S,
-) -> Result<usize, ReadFailed>
-    requires { 0 < length chunk.old.items }
-    ensures same { length chunk.new.items ≡ length chunk.old.items }
-    ensures room { IfOk result (λ n. n ≤ length chunk.new.items) }
-    ensures bytes { Gives (S.stream reader.old) (S.stream reader.new)
-        (read_bytes result (drop 0 chunk.new.items)) }
-    ensures end { IfOk result (λ n. n ≡ 0 → HasEnded (S.stream reader.new)) }
-    ensures count { OnOk result (S.reads reader.new ≡ S.reads reader.old + 1) }
-    ensures limit { OnOk result (S.reads reader.old < 2 ^ 32) }
-    ensures stopped { OnErr result (HasStopped (S.failed reader.new) (S.reads reader.new)) }
-{
-    reader.read(&mut chunk[0..])
 }
 
 /// Reads until so many lines are read or the input ends. Where a read fails, or there is no memory, some of it was read.

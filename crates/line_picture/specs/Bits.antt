@@ -4,7 +4,8 @@ use Rattle.std.specs.List.{concat, flat_map}
 use Rattle.vm_base.specs.Cores.{members}
 use Rattle.trace_text.specs.Printing.{text_of}
 use Rattle.picture.specs.Backing.{backing_words}
-use Rattle.picture.specs.Elements.{line_text, piece_text, rect_text, text_front}
+use Rattle.picture.specs.Elements.{line_text, rect_text, text_front}
+use Rattle.picture.specs.Pieces.{piece_text}
 use Rattle.picture.specs.Parts.{arguments_of, reply_class}
 use Rattle.picture.specs.declared.moments.Answer.{Answer}
 use Rattle.line_picture.specs.Cores.{count_members}

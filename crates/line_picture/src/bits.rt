@@ -10,9 +10,10 @@ use crate::places::words_y;
 use crate::sheet::{Form, Sheet, column};
 use crate::waits::Cause;
 use picture::backing::put_backing;
-use picture::elements::{Piece, Place, Way, put, put_all, put_line, put_piece, put_rect, put_text};
+use picture::elements::{Place, Way, put_line, put_rect, put_text};
 use picture::moments::Answer;
 use picture::parts::{Part, put_parts};
+use picture::pieces::{Piece, put, put_all, put_piece};
 use std::alloc::AllocError;
 use vm_base::{Back, CoreId, CoreSet, Reply, Request};
 

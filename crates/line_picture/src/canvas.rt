@@ -12,9 +12,10 @@ use crate::drawing::{put_arrow, put_bar, put_danger, put_mark, put_stretch, put_
 use crate::sheet::{Form, Sheet, across, lane, lanes_of, pitch, row_y, rows_y, sheet_of, wide};
 use crate::style::{LEGEND, STYLE};
 use crate::waits::Waited;
-use picture::elements::{Piece, Way, put, put_all, put_text};
+use picture::elements::{Way, put_text};
 use picture::moments::Recorded;
 use picture::parts::{Part, put_parts};
+use picture::pieces::{Piece, put, put_all};
 use picture::rows::{edges_of, rows_of, stretches_of};
 use picture::shapes::{Arrow, Bar, Stretch, arrows_of, bars_of};
 use std::alloc::{AllocError, Global};

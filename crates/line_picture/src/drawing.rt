@@ -10,8 +10,8 @@ use crate::places::{arrow_way, bar_place, danger_place, mark_place, middle, stre
 use crate::sheet::{Form, Sheet, lane, pitch, row_y, wide};
 use crate::waits::Waited;
 use picture::drawing::prot_class;
-use picture::elements::Piece;
 use picture::moments::{Deed, Moment, Pass, Recorded};
+use picture::pieces::Piece;
 use picture::shapes::{Arrow, Bar, Course, Stretch};
 use std::alloc::AllocError;
 use vm_base::{CoreId, Request};

@@ -9,7 +9,7 @@ use machine_model::Event;
 use notes_text::{ScriptLine, Task};
 use outcomes::Opened;
 use std::alloc::Allocator;
-use trace::event_lines::event_of;
+use trace::events::event_of;
 use trace_text::{Action, Line};
 use vm_base::{CoreId, NoMemory, Request};
 

@@ -8,3 +8,4 @@ pub mod Places
 pub mod Rows
 pub mod Shapes
 pub mod Style
+pub mod Pieces

@@ -9,7 +9,8 @@ use Rattle.vm_base.specs.declared.rights.Prot.{Prot}
 use Rattle.trace_text.specs.Printing.{address_of, text_of}
 use Rattle.trace_text.specs.Spelling.{rights_text}
 use Rattle.picture.specs.Backing.{backing_words}
-use Rattle.picture.specs.Elements.{circle_text, line_text, piece_text, rect_text, text_front}
+use Rattle.picture.specs.Elements.{circle_text, line_text, rect_text, text_front}
+use Rattle.picture.specs.Pieces.{piece_text}
 use Rattle.picture.specs.Places.{column, lane, reply_y}
 use Rattle.picture.specs.declared.moments.Answer.{Answer}
 use Rattle.picture.specs.declared.parts.Part.{Part}

@@ -4,7 +4,7 @@ ghost use Rattle.std.specs.List.{flat_map};
 ghost use Rattle.picture.specs.Backing.{backing_words, name_behind, name_words, shown};
 ghost use Rattle.trace_text.specs.Lists.{back_text, file_text};
 
-use crate::elements::{Piece, put, put_all};
+use crate::pieces::{Piece, put, put_all};
 use file_names::names::name_of;
 use std::alloc::AllocError;
 use vm_base::Back;

@@ -6,9 +6,10 @@ ghost use Rattle.picture.specs.Canvas.{lane_text, lanes_text, legend_text, pictu
 ghost use Rattle.picture.specs.Drawing.{arrow_text, bar_text, mark_text, stretch_text};
 
 use crate::drawing::{LEGEND, LEGEND_MORE, STYLE, put_arrow, put_bar, put_mark, put_stretch};
-use crate::elements::{Piece, Way, put, put_all, put_text};
+use crate::elements::{Way, put_text};
 use crate::moments::Recorded;
 use crate::parts::{Part, put_parts};
+use crate::pieces::{Piece, put, put_all};
 use crate::places::{View, row_y, rows_y};
 use crate::rows::{edges_of, rows_of, stretches_of};
 use crate::shapes::{Arrow, Bar, Mark, Stretch, arrows_of, bars_of, marks_of};

@@ -3,9 +3,9 @@ ghost use Rattle.std.specs.Prelude.{◌≡◌, ◌++◌, OnOk};
 ghost use Rattle.picture.specs.Drawing.{arrow_text, bar_text, course_class, course_words, mark_text, prot_class, request_name};
 ghost use Rattle.picture.specs.Drawing.{sign_class, sign_word, stretch_text};
 
-use crate::elements::Piece;
 use crate::moments::Deed;
 use crate::parts::{Part, put_parts};
+use crate::pieces::Piece;
 use crate::places::{View, arrow_way, bar_place, column, lane, row_y, stretch_place};
 use crate::shapes::{Arrow, Bar, Course, Mark, Sign, Stretch};
 use std::alloc::AllocError;

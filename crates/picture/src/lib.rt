@@ -7,6 +7,7 @@ pub mod drawing;
 pub mod elements;
 pub mod moments;
 pub mod parts;
+pub mod pieces;
 pub mod places;
 pub mod rows;
 pub mod shapes;

@@ -5,10 +5,9 @@ ghost use Rattle.picture.specs.Parts.{arguments_of, change_words, label_text, ou
 ghost use Rattle.picture.specs.Parts.{span_text, target_words};
 
 use crate::backing::put_backing;
-use crate::elements::{
-    Piece, Place, Way, put_all, put_circle, put_line, put_piece, put_rect, put_text,
-};
+use crate::elements::{Place, Way, put_circle, put_line, put_rect, put_text};
 use crate::moments::Answer;
+use crate::pieces::{Piece, put_all, put_piece};
 use crate::places::{View, column, lane, reply_y};
 use std::alloc::AllocError;
 use vm_base::{Back, CoreId, Prot, Reply, Request};

@@ -15,7 +15,7 @@ use machine_model::Phase;
 use mmu::entry::Translation;
 use mmu::tlb::TlbEntry;
 use page_list::{OfPage, PageList};
-use picture::elements::{Piece, put, put_all};
+use picture::pieces::{Piece, put, put_all};
 use shootdown::Message;
 use state_text::held::Held;
 use state_text::mirror::Mirror;

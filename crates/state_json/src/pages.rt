@@ -9,7 +9,7 @@ ghost use Rattle.state_json.specs.Pages.{used_object};
 ghost use Rattle.vm_base.specs.Cores.{members};
 
 use page_list::{OfPage, PageList};
-use picture::elements::{Piece, put, put_all};
+use picture::pieces::{Piece, put, put_all};
 use std::alloc::{AllocError, Allocator};
 use trace_io::lines::front_line;
 use used_pages::Used;

@@ -16,7 +16,7 @@ use machine_model::Phase;
 use mmu::entry::Translation;
 use mmu::tlb::TlbEntry;
 use page_list::{OfPage, PageList};
-use picture::elements::{Piece, put, put_all};
+use picture::pieces::{Piece, put, put_all};
 use shootdown::Message;
 use std::alloc::{AllocError, Allocator};
 use used_pages::texts::put_pages;

@@ -9,6 +9,7 @@ ghost use Rattle.trace.specs.Seen.{Sees};
 ghost use Rattle.trace_text.specs.Front.{access_asked, step_asked};
 ghost use Rattle.vm_base.specs.declared.requests.Request.TheVariants.{Load, Store};
 
+use crate::events::event_of;
 use crate::fault::TraceFault;
 use crate::finished_text::write_finished;
 use crate::outcome_text::write_outcome;
@@ -19,25 +20,6 @@ use std::alloc::Allocator;
 use trace_text::{Action, AskedAccess, AskedStep, Line, LineText};
 use vm_base::{CoreId, NoMemory, Request};
 use watched::{Unwatched, Watch};
-
-/// The event that the core's action is.
-pub fn event_of(core: CoreId, action: Action) -> Event
-    ensures { result ≡ event_of core action }
-{
-    match action {
-        Action::Call(request) => Event::Call(core, request),
-        Action::Go => Event::Go(core),
-        Action::Take => Event::Take(core),
-        Action::Flush => Event::Flush(core),
-        Action::Review => Event::Review(core),
-        Action::GiveUp => Event::GiveUp(core),
-        Action::Frame(frame) => Event::Frame(core, frame),
-        Action::Guess(page) => Event::Guess(core, page),
-        Action::Whole => Event::Whole(core),
-        Action::Walk(page) => Event::Walk(core, page),
-        Action::Evict(page) => Event::Evict(core, page),
-    }
-}
 
 // One step.
 fn tell_step<M: SlotMap, A: Allocator + Clone, L: Ledger, X: Watch>(

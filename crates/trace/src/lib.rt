@@ -3,6 +3,7 @@
 
 pub mod declaration;
 pub mod event_lines;
+pub mod events;
 pub mod fault;
 pub mod finished_text;
 pub mod laws;

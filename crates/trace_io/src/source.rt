@@ -107,16 +107,16 @@ impl<R: Read> Source for Counted<R> {
     }
 }
 
-// Room for what one read gives.
-fn new_chunk<A: Allocator>(alloc: A) -> Result<Vec<u8, A>, AllocError>
+/// Room for what one read gives.
+pub fn new_chunk<A: Allocator>(alloc: A) -> Result<Vec<u8, A>, AllocError>
     ensures { IfOk result (λ chunk. length chunk.items ≡ 65536) }
 {
     let chunk = vec![in alloc; 0u8; CHUNK]?;
     Ok(chunk)
 }
 
-// Reads into the chunk.
-fn read_chunk<A: Allocator, S: Source>(
+/// Reads into the chunk.
+pub fn read_chunk<A: Allocator, S: Source>(
     chunk: &mut Vec<u8, A>,
     reader: &mut S,
 ) -> Result<usize, ReadFailed>

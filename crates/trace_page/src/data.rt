@@ -9,7 +9,7 @@ use crate::json::put_string;
 use crate::recorder::{Moment, StateRecorder};
 use crate::spans::span_of;
 use changes::{Difference, Part};
-use picture::elements::{Piece, put, put_all};
+use picture::pieces::{Piece, put, put_all};
 use std::alloc::{AllocError, Global};
 use trace_io::lines::front_line;
 

@@ -7,7 +7,7 @@ ghost use Rattle.used_pages.specs.Texts.{cores_text, entry_line, frame_text, mem
 
 use crate::used::Used;
 use page_list::{OfPage, PageList};
-use picture::elements::{Piece, put, put_all};
+use picture::pieces::{Piece, put, put_all};
 use std::alloc::{AllocError, Allocator};
 use vm_base::{CoreId, CoreSet};
 

@@ -1,7 +1,7 @@
 use Rattle.std.proofs.Common.{length, ◌-◌, ◌≡◌, ◌++◌, take}
 use Rattle.std.specs.List.{flat_map}
-use Rattle.picture.specs.Elements.{piece_text}
-use Rattle.picture.proofs.elements.put_all.Given as goal
+use Rattle.picture.specs.Pieces.{piece_text}
+use Rattle.picture.proofs.pieces.put_all.Given as goal
 
 abbrev pub invariant-pieces : goal.invariant-pieces
 invariant-pieces l = l.out.items ≡ l.initial.out.items ++ flat_map piece_text (take l.at l.pieces)
