@@ -1,10 +1,11 @@
 -- What callers learn of counts that a run reached, and of one more step.
-use Rattle.std.proofs.Common.{◌≡◌, ℕ, refl, ap, ◌∙◌, ℤ, inl, inr}
+use Rattle.std.proofs.Common.{◌≡◌, ℕ, ◌<◌, length, refl, ap, ◌∙◌, ℤ, pos, ◌<ℤ◌, inl, inr, subst}
 use Rattle.refcache.specs.declared.reports.Flush.TheVariants as flush
 use Rattle.refcache.specs.declared.reports.Review.{Review}
 use Rattle.refcache.specs.declared.reports.Review.TheVariants as review
-use Rattle.refcache.specs.Counts.{Counts, no_counts, drained, evicted}
-use Rattle.refcache.specs.Steps.{Begin, Inc, Dec, Flushing, Reviewing, MakesRoom, Reviews, Takes}
+use Rattle.refcache.specs.Counts.{Counts, no_counts, added, drained, evicted, true_count}
+use Rattle.refcache.specs.Parts.{Parts, counts_of}
+use Rattle.refcache.specs.Steps.{Adds, Begin, Inc, Dec, Flushing, Reviewing, MakesRoom, Reviews, Takes}
 use Rattle.refcache.specs.Steps.{CountStep}
 use Rattle.refcache.specs.Laws.{StepsReach, FreedIsUnused, UnusedAtFirst, SizesStay, IsSameSize, ReachedIsOrderly, epoch_after}
 use Rattle.refcache.proofs.Queues.{by_notice, later}
@@ -56,3 +57,12 @@ reached_is_orderly v reached = record {
   entries = λ c o has. ((known v reached).held.rows c).inside o has;
   fronts = λ c o since rest front. (front_below v c (record { object = o; epoch = since }) rest reached front, queued_front v c o since rest reached front);
 }
+
+-- what a count made of counts that are known under another name, by a core that is known by its number
+pub adds_again : (p v q : Parts) (c k o : ℕ) (by : ℤ) → p ≡ v → k ≡ c → c < length v.cores → o < length v.objects
+    → pos 0 <ℤ true_count (counts_of v) o → (m : Counts) × MakesRoom (counts_of p) k o by m × (counts_of q ≡ added k o by m)
+    → Adds (counts_of v) c o by (counts_of q)
+adds_again p v q c k o by same e core object used h =
+    let here = subst (λ (u : Parts). (m : Counts) × MakesRoom (counts_of u) k o by m × (counts_of q ≡ added k o by m)) same h in
+    let there = subst (λ (i : ℕ). (m : Counts) × MakesRoom (counts_of v) i o by m × (counts_of q ≡ added i o by m)) e here in
+    (core, used, there.0, there.1, there.2, object)

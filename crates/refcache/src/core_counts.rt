@@ -164,7 +164,6 @@ impl<A: Allocator> CoreCounts<A> {
 
     /// Evicts the entry of an object: its delta goes into the object's count, and the object is
     /// queued in this epoch where its count is then 0 and it was in no queue.
-    #[tactic(auto, using(crate::proofs::Way::own_place, crate::proofs::Way::small_delta))]
     pub fn evict(&mut self, count: &mut ObjectCount, object: u32, epoch: u64)
         requires entry { entries self.old.places object ≢ None }
         requires room { length self.old.queue < self.old.room }

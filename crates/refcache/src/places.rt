@@ -96,7 +96,6 @@ fn is_delta(delta: i64) -> bool
 }
 
 /// The object whose entry must go before the delta of `object` changes by `by`.
-#[tactic(auto, using(crate::proofs::Way::own_way))]
 pub(crate) fn in_the_way(places: &[Option<Entry>], object: u32, by: i64) -> Option<u32>
     requires places { ArePlaces places.now }
     requires one { (neg_ℤ (pos 1) ≤ℤ by) × (by ≤ℤ pos 1) }

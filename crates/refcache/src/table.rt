@@ -44,7 +44,6 @@ impl<A: Allocator> CountTable<A> {
     ghost use Rattle.refcache.specs.Parts.{Parts, counts_of, core_at, rooms, CanEvict};
 
     /// All counts 0, in epoch 0; each core's queue has room for every object and one more.
-    #[tactic(auto, using(crate::proofs::PartsOf::whole_opened))]
     pub(crate) fn new(alloc: A, cores: u8, objects: u32) -> Result<Self, AllocError>
     where
         A: Clone,
@@ -79,7 +78,6 @@ impl<A: Allocator> CountTable<A> {
     }
 
     /// A core evicts its entry of an object.
-    #[tactic(auto, using(crate::proofs::PartsOf::whole_evicted))]
     fn evict(&mut self, core: usize, object: u32)
         requires { CanEvict self.old core object }
         ensures counts { counts_of self.new ≡ evicted core object (counts_of self.old) }
@@ -92,7 +90,6 @@ impl<A: Allocator> CountTable<A> {
     }
 
     /// A core without entries flushes.
-    #[tactic(auto, using(crate::proofs::PartsOf::whole_marked))]
     fn mark(&mut self, core: CoreId) -> Flush
         requires marks { self.old.epochs.cores ≡ length self.old.cores }
         requires clear { IsClear (counts_of self.old) core }
@@ -122,7 +119,6 @@ impl<A: Allocator> CountTable<A> {
     }
 
     /// Looks at the front of a core's queue.
-    #[tactic(auto, using(crate::proofs::PartsOf::whole_reviewed))]
     pub(crate) fn review(&mut self, core: usize) -> Review
         requires core { core < length self.old.cores }
         requires object { (x : Queued) (rest : List Queued)
@@ -140,7 +136,6 @@ impl<A: Allocator> CountTable<A> {
     }
 
     /// Adds to a core's delta of an object, where nothing is in the way.
-    #[tactic(auto, using(crate::proofs::PartsOf::whole_added))]
     fn add(&mut self, core: usize, object: u32, by: i64)
         requires core { core < length self.old.cores }
         requires one { (neg_ℤ (pos 1) ≤ℤ by) × (by ≤ℤ pos 1) }
@@ -154,7 +149,6 @@ impl<A: Allocator> CountTable<A> {
     }
 
     /// Evicts what is in the way of an object's delta.
-    #[tactic(auto, using(crate::proofs::PartsOf::way_cleared))]
     fn make_room(&mut self, core: usize, object: u32, by: i64)
         requires core { core < length self.old.cores }
         requires one { (neg_ℤ (pos 1) ≤ℤ by) × (by ≤ℤ pos 1) }
@@ -233,7 +227,19 @@ fn empty_cores<A: Allocator + Clone>(
 {
     let mut parts = Vec::with_capacity(alloc.clone()?, usize::from(cores))?;
     'cores: for _core in 0..cores {
-        parts.push(CoreCounts::new(alloc.clone()?, objects)?)?;
+        let core = match empty_core(&alloc, objects) {
+            Ok(core) => core,
+            Err(e) => return Err(e),
+        };
+        parts.push(core)?;
     }
     Ok(parts)
+}
+
+/// A core without entries, whose queue has room for this many objects and one more.
+fn empty_core<A: Allocator + Clone>(alloc: &A, objects: u32) -> Result<CoreCounts<A>, AllocError>
+    ensures { IfOk result (IsNewCore (objects + 1)) }
+{
+    let own = alloc.clone()?;
+    CoreCounts::new(own, objects)
 }

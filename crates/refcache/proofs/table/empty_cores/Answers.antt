@@ -10,5 +10,5 @@ cores-preserved g c =
     let before = c.cores.invariant.0 in (
       omega (arith, len, before),
       subst (All (IsNewCore (c.args.objects + 1))) (sym c.in_ok-push.ensures.items)
-          (All-push (IsNewCore (c.args.objects + 1)) c.cores.parts.items c.in_ok-new.field-0 c.cores.invariant.1 c.in_ok-new.ensures),
+          (All-push (IsNewCore (c.args.objects + 1)) c.cores.parts.items c.in-Ok.core c.cores.invariant.1 c.in-Ok.ensures),
     )

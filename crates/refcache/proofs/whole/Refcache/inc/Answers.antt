@@ -1,17 +1,45 @@
-use Rattle.std.proofs.Common.{rules}
+use Rattle.std.proofs.Common.{◌<◌, length, pos, sym, subst}
 use Rattle.refcache.specs.Steps.{Inc, Takes}
 use Rattle.refcache.specs.Parts.{counts_of}
-use Rattle.refcache.proofs.Sound.{sound_on}
-use Rattle.refcache.proofs.Reached.{same_size}
+use Rattle.refcache.proofs.Sound.{ready, sound_on}
+use Rattle.refcache.proofs.Reached.{adds_again, same_size}
 use Rattle.refcache.proofs.whole.Refcache.inc.Goals as goal
+
+pub count-requires-clause-ready : goal.count-requires-clause-ready
+count-requires-clause-ready g c =
+    let p = c.self.inside.table in
+    let at : c.args.core < length p.cores = subst (λ v. c.args.core < length v.cores) (sym c.self.view_is) c.requires.core in
+    λ o has. ready p c.index.result o c.self.invariant (subst (λ k. k < length p.cores) (sym c.index.ensures.value) at) has
 
 pub invariant_of-self : goal.invariant_of-self
 invariant_of-self g c =
     let p = c.self.inside.table in
-    let takes : Takes (counts_of p) (Inc c.args.core c.args.object) (counts_of c.count.new.self) = search rules in
-    sound_on p c.count.new.self (Inc c.args.core c.args.object) c.self.invariant takes c.count.ensures.room c.count.ensures.epochs
+    let v = c.args.self.now in
+    let step = Inc c.args.core c.args.object in
+    let takes : Takes (counts_of v) step (counts_of c.count.new.self) = (
+      c.requires.few,
+      adds_again p v c.count.new.self c.args.core c.index.result c.args.object (pos 1) c.self.view_is c.index.ensures.value
+          c.requires.core c.requires.object c.requires.used c.count.ensures.counts,
+    ) in
+    sound_on p c.count.new.self step c.self.invariant (subst (λ u. Takes (counts_of u) step (counts_of c.count.new.self)) (sym c.self.view_is) takes)
+    c.count.ensures.room c.count.ensures.epochs
+
+pub returns-clause-step : goal.returns-clause-step
+returns-clause-step g c =
+    let p = c.self.inside.table in
+    let v = c.args.self.now in (
+      c.requires.few,
+      adds_again p v c.count.new.self c.args.core c.index.result c.args.object (pos 1) c.self.view_is c.index.ensures.value
+          c.requires.core c.requires.object c.requires.used c.count.ensures.counts,
+    )
 
 pub returns-clause-size : goal.returns-clause-size
 returns-clause-size g c =
-    let takes : Takes (counts_of c.args.self.now) (Inc c.args.core c.args.object) (counts_of c.count.new.self) = search rules in
-    same_size (counts_of c.args.self.now) (Inc c.args.core c.args.object) (counts_of c.count.new.self) takes
+    let p = c.self.inside.table in
+    let v = c.args.self.now in
+    same_size (counts_of v) (Inc c.args.core c.args.object) (counts_of c.count.new.self)
+    ((
+      c.requires.few,
+      adds_again p v c.count.new.self c.args.core c.index.result c.args.object (pos 1) c.self.view_is c.index.ensures.value
+          c.requires.core c.requires.object c.requires.used c.count.ensures.counts,
+    ))
