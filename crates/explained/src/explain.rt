@@ -206,7 +206,7 @@ fn long_file(text: &[u8]) -> Option<&[u8]> {
 // of it were asked for.
 fn explain_first<E: Write>(manner: Manner, text: &[u8], errors: &mut E) {
     for line in text.split(|byte| *byte == b'\n') {
-        if read_line(line) != Some(Line::Blank) {
+        if !matches!(read_line(line), Some(Line::Blank)) {
             if first_word_is_vm(line) {
                 expect(
                     "the vm line, or one behind it: no machine is there before it",

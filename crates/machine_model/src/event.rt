@@ -6,7 +6,7 @@ use vm_base::{CoreId, CoreSet, Reply, Request};
 
 /// One step. Frames and pages are numbers of which some don't exist; an event that names such a one
 /// is not possible.
-#[derive(Clone, Copy, PartialEq, Eq)]
+#[derive(Clone, Copy)]
 pub enum Event {
     /// The core begins a call.
     Call(CoreId, Request),

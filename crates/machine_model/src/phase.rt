@@ -1,9 +1,12 @@
 //! Where the call of a core stands.
+ghost use Rattle.std.specs.Prelude.{◌≡◌, ◌↔◌, IsTrue};
+ghost use Rattle.machine_model.specs.declared.phase.Phase.TheVariants.{Free};
+
 use slot_lock::{Change, Goal, Place, Target, Touch};
 use vm_base::{CoreSet, PageRange, Reply, Request};
 
 /// Where the call of a core stands: what its next step is.
-#[derive(Clone, Copy, PartialEq, Eq)]
+#[derive(Clone, Copy)]
 pub enum Phase {
     /// The core has no call.
     Free,
@@ -83,4 +86,13 @@ pub enum Phase {
     Install(Touch),
     /// The page's slot has to be unlocked.
     Release(Touch),
+}
+
+impl Phase {
+    /// Tells whether the core has no call.
+    pub fn is_free(self) -> bool
+        ensures { IsTrue result ↔ (self ≡ Free) }
+    {
+        matches!(self, Phase::Free)
+    }
 }

@@ -10,7 +10,7 @@ ghost use Rattle.outcomes.specs.Opening.{AreAlike, IsCalm, IsRun};
 use crate::fault::Late;
 use crate::same::is_same_request;
 use core_steps::{Kept, Machine, Run, Setup, run};
-use machine_model::{Event, Outcome, Phase};
+use machine_model::{Event, Outcome};
 use radix_range::RadixMap;
 use slot_lock::SlotMap;
 use std::alloc::Allocator;
@@ -71,7 +71,7 @@ fn has_call<M: SlotMap, A: Allocator + Clone>(
         return false;
     }
     let phase = machine.phase(core);
-    phase != Phase::Free
+    !phase.is_free()
 }
 
 // The first core that has a call.

@@ -8,7 +8,7 @@ ghost use Rattle.shared.specs.Calling.{TakesPast, Wants, ended_by, is_answered};
 
 use crate::whole::Ended;
 use core_steps::{Finished, Ledger, Machine};
-use machine_model::{Event, Outcome, Phase};
+use machine_model::{Event, Outcome};
 use slot_lock::SlotMap;
 use std::alloc::Allocator;
 use vm_base::{CoreId, CoreSet, Request};
@@ -48,7 +48,7 @@ fn call_settled<M: SlotMap, A: Allocator + Clone, L: Ledger>(
     if is_answered(&finished) {
         return ended_by(finished);
     }
-    if machine.phase(core) == Phase::Free {
+    if machine.phase(core).is_free() {
         return Ended::Refused;
     }
     call_waited(machine, core)

@@ -7,7 +7,7 @@ use crate::asides::{Aside, step_aside};
 use crate::calling::call_whole;
 use crate::whole::{Ended, Whole};
 use core_steps::{Ledger, Machine};
-use machine_model::{Outcome, Phase};
+use machine_model::Outcome;
 use slot_lock::SlotMap;
 use std::alloc::Allocator;
 use vm_base::{CoreId, Request};
@@ -24,7 +24,7 @@ impl<M: SlotMap, A: Allocator + Clone, L: Ledger> Whole for Machine<M, A, L> {
     fn is_calm(&self) -> bool {
         let count = self.cores();
         'all: for index in 0..count {
-            if self.phase(CoreId::new(index as u8)) != Phase::Free {
+            if !self.phase(CoreId::new(index as u8)).is_free() {
                 return false;
             }
         }

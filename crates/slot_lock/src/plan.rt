@@ -7,7 +7,7 @@ use vm_base::{Access, Meta, PageRange, Prot};
 
 /// A mapping of `count` pages whose place is still to be found: at the hint, which is given if all
 /// its pages are valid, or else in the window.
-#[derive(Clone, Copy, PartialEq, Eq)]
+#[derive(Clone, Copy)]
 pub struct Place {
     pub hint: Option<PageRange>,
     pub window: PageRange,
@@ -27,7 +27,7 @@ pub enum Change {
 }
 
 /// An access of one byte of a page, at an offset in bytes. Only a store has a byte to write.
-#[derive(Clone, Copy, PartialEq, Eq)]
+#[derive(Clone, Copy)]
 pub struct Touch {
     pub page: u64,
     pub offset: u64,
@@ -46,7 +46,7 @@ pub enum Plan {
 /// Which pages a placed mapping has locked, or is to lock: those of its hint, those of a run of its
 /// window that it guessed to be free, or its window. They are one range, and a mapping has one
 /// target at a time.
-#[derive(Clone, Copy, PartialEq, Eq)]
+#[derive(Clone, Copy)]
 pub enum Target {
     Hint(PageRange),
     Run(PageRange),
@@ -54,7 +54,7 @@ pub enum Target {
 }
 
 /// What a call locks its pages for.
-#[derive(Clone, Copy, PartialEq, Eq)]
+#[derive(Clone, Copy)]
 pub enum Goal {
     /// The mapping has to be placed, if its target has room.
     Place { place: Place, target: Target },

@@ -174,7 +174,8 @@ fn begun_from(notes: &[Noted], from: usize) -> Option<usize> {
         if let Event::Call(core, _) = notes[at].event
             && notes[at].outcome == Outcome::Stepped
             && at + 1 < notes.len()
-            && notes[at + 1].event == Event::Go(core)
+            && let Event::Go(next) = notes[at + 1].event
+            && next == core
         {
             return Some(at);
         }

@@ -12,7 +12,7 @@ use crate::words::next_word;
 use vm_base::{Request, page_of};
 
 /// What a core is to do in one step.
-#[derive(Clone, Copy, Debug, PartialEq, Eq)]
+#[derive(Clone, Copy, Debug)]
 pub enum Action {
     /// `call REQ`: begin a call.
     Call(Request),

@@ -14,7 +14,7 @@ use crate::words::next_word;
 use vm_base::{CoreId, Mode, Request};
 
 /// What a line says.
-#[derive(Clone, Copy, Debug, PartialEq, Eq)]
+#[derive(Clone, Copy, Debug)]
 pub enum Line {
     /// Nothing: no word, or a comment.
     Blank,

@@ -7,8 +7,8 @@ pub returns-then-is_answered-clause-ends : goal.returns-then-is_answered-clause-
 returns-then-is_answered-clause-ends g c =
     settled_answered _ c.args.core c.args.finished _ (sym c.is_answered.ensures ∙ c.if-is_answered.true) c.ended_by.ensures
 
-pub returns-then-eq-clause-ends : goal.returns-then-eq-clause-ends
-returns-then-eq-clause-ends g c =
+pub returns-then-is_free-clause-ends : goal.returns-then-is_free-clause-ends
+returns-then-is_free-clause-ends g c =
     let free : c.phase.result ≡ Free = search rules in
     settled_free _ c.args.core c.args.finished (sym c.is_answered.ensures ∙ c.if-is_answered.false) (sym c.phase.ensures ∙ free)
 
