@@ -16,7 +16,7 @@ use Rattle.trace.specs.Stage.{Stage, Start, LineFails, LineWants, CanOpen, OpenF
 use Rattle.trace.specs.Turns.{Scene, Advances, IsOver, Fails, read_fails, unsent, too_long, no_memory, refused, unwritten}
 use Rattle.trace_io.proofs.TakenLemmas.{lines-first, long_first, HasTaken, none_taken, line_taken, all_taken}
 use Rattle.trace.proofs.TurnLemmas as Own
-use Rattle.state_changes.specs.Behind.{text_at}
+use Rattle.state_changes.specs.Numbered.{text_at}
 use Rattle.trace.specs.Shown.{log_at}
 use Rattle.echoes.specs.Asking.{NotesLine, asks_after, at_next, nothing_asked, whose_text}
 use Rattle.echoes.specs.declared.asking.Asks.{Asks}

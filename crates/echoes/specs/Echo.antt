@@ -9,7 +9,7 @@ use Rattle.trace_text.specs.Line.{line_of}
 use Rattle.trace_text.specs.Lists.{entry_text}
 use Rattle.trace_text.specs.declared.line.Line.{Line}
 use Rattle.trace_text.specs.declared.line.Line.TheVariants.{Blank, Space, File, Act, Fold, Finish, Now}
-use Rattle.state_changes.specs.Behind.{text_at}
+use Rattle.state_changes.specs.Numbered.{text_at}
 use Rattle.echoes.specs.Asking.{asks_after, at_next, nothing_asked, whose_text}
 use Rattle.echoes.specs.declared.asking.Asks.{Asks}
 use Rattle.core_steps.specs.declared.setup.CallLimit.{CallLimit}

@@ -10,14 +10,14 @@ ghost use Rattle.core_steps.specs.declared.setup.CallLimit.{CallLimit};
 ghost use Rattle.trace.specs.Faults.{TellsFaults, fault_named};
 ghost use Rattle.trace.specs.Shown.{log_at};
 ghost use Rattle.trace.specs.Stage.{Start};
-ghost use Rattle.state_changes.specs.Behind.{texts_of};
+ghost use Rattle.state_changes.specs.Numbered.{texts_of};
 ghost use Rattle.echoes.specs.Asking.{nothing_asked, whose_text};
 ghost use Rattle.echoes.specs.Echo.{EchoEnds, added_text, echo, echo_limit, entry_line, shaded, unended};
 
 use crate::asking::{Asking, Asks};
 use arrayvec::ArrayVec;
 use core_steps::{CallLimit, Forgotten, Logged, LoggedEntries, Opening};
-use state_changes::text_at;
+use state_changes::numbered::text_at;
 use std::alloc::Allocator;
 use trace::fault::TraceFault;
 use trace::replay::{Replayed, turn};

@@ -1,5 +1,5 @@
 //! The lines of a text, of any length, heard one after another as they are read.
-ghost use Rattle.std.specs.Prelude.{◌≡◌, ◌≢◌, ◌+◌, ◌^◌, ◌<◌, ◌≤◌, ◌++◌, ℕ, Err, IfOk, List, OnErr, OnOk, drop, length};
+ghost use Rattle.std.specs.Prelude.{◌≡◌, ◌≢◌, ◌++◌, ℕ, Err, List, OnErr, OnOk};
 ghost use Rattle.trace_io.specs.Lines.{lines_of};
 ghost use Rattle.trace_io.specs.Source.{HasStopped, Reads};
 ghost use Rattle.import_text.specs.Reading.{HearsMore, IsBreak};

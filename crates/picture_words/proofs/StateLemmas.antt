@@ -12,7 +12,8 @@ use Rattle.frame_counts.specs.declared.texts.Form.TheVariants.{Json as AsJson}
 use Rattle.state_text.specs.Fronts.{IsFront, lacking_line, lines_to}
 use Rattle.state_text.specs.Shown.{Follows, IsNothing, Seen}
 use Rattle.state_text.specs.Texts.{seen_text}
-use Rattle.state_text.specs.Traces.{IsTold, Told}
+use Rattle.state_text.specs.Traces.{Told}
+use Rattle.state_text.specs.Leads.{IsTold}
 use Rattle.state_text.proofs.Traces.{seen_as, seen_state}
 use Rattle.state_json.specs.Objects.{seen_json, state_json}
 use Rattle.state_json.proofs.Shown.{objects_shown}

@@ -24,7 +24,8 @@ use Rattle.trace.specs.declared.fault.TraceFault.TheVariants.{BadLine, TooLong, 
 use Rattle.trace.specs.declared.show.Show.TheVariants.{Outcomes}
 use Rattle.trace.specs.Ends.{Stops}
 use Rattle.trace.specs.Seen.{IsSeen}
-use Rattle.state_text.specs.Traces.{IsTold, told_text}
+use Rattle.state_text.specs.Traces.{told_text}
+use Rattle.state_text.specs.Leads.{IsTold}
 use Rattle.state_json.specs.Objects.{told_json}
 use Rattle.state_text.specs.Fronts.{lines_to}
 use Rattle.picture_words.specs.Stepping.{Paged, lacking_page, page_written}

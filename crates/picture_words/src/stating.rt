@@ -4,7 +4,7 @@ ghost use Rattle.std.specs.Io.KnownBytes.{Keeps};
 ghost use Rattle.picture_words.specs.Picture.{ShowsText, TextEnds};
 ghost use Rattle.picture_words.specs.State.{FailsTo, SeesState, counts_form, lacking_state, seen_in, sight_text, told_in};
 ghost use Rattle.state_text.specs.Fronts.{lines_to};
-ghost use Rattle.state_text.specs.Traces.{IsTold};
+ghost use Rattle.state_text.specs.Leads.{IsTold};
 ghost use Rattle.trace.specs.declared.fault.TraceFault.TheVariants as Of;
 ghost use Rattle.trace_io.specs.Lines.{lines_of};
 ghost use Rattle.trace_io.specs.Sink.{AppendsFront};

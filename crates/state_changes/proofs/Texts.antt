@@ -1,7 +1,7 @@
 -- Texts by their numbers
 use Rattle.std.proofs.Common.{◌≡◌, ℕ, zero, suc, ◌<◌, ◌≤◌, List, [], ◌∷◌, Vec, arith, ap, get_or, length, refl, sym}
 use Rattle.std.specs.declared.alloc.Global.{Global}
-use Rattle.state_changes.specs.Behind.{text_at, texts_of}
+use Rattle.state_changes.specs.Numbered.{text_at, texts_of}
 
 pub text_of_number : (texts : List (Vec ℕ Global)) (n : ℕ) (text : Vec ℕ Global) → n < length texts → text ≡ get_or texts n text
     → text.items ≡ text_at n (texts_of texts)

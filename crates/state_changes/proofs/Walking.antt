@@ -7,7 +7,8 @@ use Rattle.state_text.specs.Traces.{told_text}
 use Rattle.trace_page.specs.Pages.{ShowsStates, all_changed, text_behind}
 use Rattle.trace_page.specs.Recorded.{MomentOf, Recorded}
 use Rattle.trace_page.specs.Spans.{span_of}
-use Rattle.state_changes.specs.Behind.{SaysChanges, SaysSteps, text_at, texts_of}
+use Rattle.state_changes.specs.Behind.{SaysChanges, SaysSteps}
+use Rattle.state_changes.specs.Numbered.{text_at, texts_of}
 use Rattle.state_changes.specs.Marks.{SaysDifference}
 
 -- a text for each line so far, and what is left of lines and steps

@@ -1,6 +1,7 @@
 //! What each line of a trace changes in the text of the state.
 ghost use Rattle.std.specs.Prelude.{◌≡◌, IfOk};
-ghost use Rattle.state_changes.specs.Behind.{SaysSteps, text_at, texts_of};
+ghost use Rattle.state_changes.specs.Behind.{SaysSteps};
+ghost use Rattle.state_changes.specs.Numbered.{texts_of};
 ghost use Rattle.trace_io.specs.Lines.{lines_of};
 ghost use Rattle.trace_page.specs.Pages.{all_changed};
 
@@ -9,18 +10,6 @@ use std::alloc::{AllocError, Global};
 use trace_io::lines::front_line;
 use trace_page::spans::span_of;
 use trace_page::{Moment, StateRecorder};
-
-/// The text with this number, counted from 0; none behind the last.
-#[tactic(auto, using(crate::proofs::Texts::text_of_number, crate::proofs::Texts::text_of_none))]
-pub fn text_at(texts: &[Vec<u8>], number: u64) -> &[u8]
-    ensures { result.now ≡ text_at number (texts_of texts.now) }
-{
-    let at = number as usize;
-    if at < texts.len() {
-        return texts[at].as_slice();
-    }
-    &[]
-}
 
 // What the steps make of the text, one after another.
 fn text_after(alloc: Global, text: &[u8], moments: &[Moment]) -> Result<Vec<u8>, AllocError>

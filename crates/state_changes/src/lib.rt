@@ -3,5 +3,7 @@
 
 pub mod behind;
 mod marks;
+pub mod numbered;
 
-pub use behind::{changes_of, text_at};
+pub use behind::changes_of;
+pub use numbered::text_at;

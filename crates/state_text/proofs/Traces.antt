@@ -18,7 +18,8 @@ use Rattle.frame_counts.specs.Texts.{counts_at, counts_text}
 use Rattle.frame_counts.proofs.New.{none_at_first}
 use Rattle.state_text.specs.Shown.{Follows, IsNothing, IsShown, Seen}
 use Rattle.state_text.specs.Texts.{seen_text, state_text}
-use Rattle.state_text.specs.Traces.{ComesTo, IsTold, Told, told_text}
+use Rattle.state_text.specs.Traces.{Told, told_text}
+use Rattle.state_text.specs.Leads.{ComesTo, IsTold}
 use Rattle.state_text.specs.Laws.{Knows}
 use Rattle.state_text.proofs.Watched.{opening, run_of, text_shown, watched}
 

@@ -7,3 +7,4 @@ pub mod Shown
 pub mod Texts
 pub mod Traces
 pub mod Words
+pub mod Leads

@@ -1,6 +1,7 @@
 -- What a page shows
 use Rattle.std.specs.Prelude.{◌≡◌, ℕ, List, [], ◌∷◌, take, drop, zero, suc}
-use Rattle.state_text.specs.Traces.{IsTold, Told, told_text}
+use Rattle.state_text.specs.Traces.{Told, told_text}
+use Rattle.state_text.specs.Leads.{IsTold}
 use Rattle.trace_page.specs.Recorded.{MomentOf, Recorded, changed}
 use Rattle.trace_page.specs.Spans.{span_of}
 

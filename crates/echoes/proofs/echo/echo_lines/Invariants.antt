@@ -2,7 +2,7 @@ use Rattle.std.proofs.Common.{◌≡◌, ◌+◌, ◌*◌, ◌^◌, ◌≤◌, l
 use Rattle.trace_io.specs.Source.{Reads}
 use Rattle.trace_io.specs.Window.{left, budget}
 use Rattle.core_steps.specs.declared.setup.CallLimit.{CallLimit}
-use Rattle.state_changes.specs.Behind.{texts_of}
+use Rattle.state_changes.specs.Numbered.{texts_of}
 use Rattle.trace.specs.Shown.{log_at}
 use Rattle.trace.specs.Stage.{Start}
 use Rattle.trace.specs.Turns.{scene}
