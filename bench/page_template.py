@@ -1,11 +1,11 @@
 #!/usr/bin/env python3
-"""Writes crates/trace_page/src/template.rt: page.html with page.css and page.js in it, as the texts before and behind a page's data.
+"""Writes crates/state_changes/src/template.rt: page.html with page.css and page.js in it, as the texts before and behind a page's data.
 Usage: bench/page_template.py [--check] (with --check nothing is written, and the status is 1 where the file is another)
 """
 import pathlib
 import sys
 
-CRATE = pathlib.Path(__file__).resolve().parent.parent / "crates/trace_page"
+CRATE = pathlib.Path(__file__).resolve().parent.parent / "crates/state_changes"
 TEMPLATE = CRATE / "src/template.rt"
 
 
@@ -31,7 +31,7 @@ def main():
     if not sys.argv[1:]:
         TEMPLATE.write_text(template())
     elif TEMPLATE.read_text() != template():
-        sys.exit("bench/page_template.py: crates/trace_page/src/template.rt isn't what page.html, page.css and page.js come to")
+        sys.exit("bench/page_template.py: crates/state_changes/src/template.rt isn't what page.html, page.css and page.js come to")
 
 
 if __name__ == "__main__":

@@ -6,7 +6,7 @@ import re
 import sys
 
 TOP = pathlib.Path(__file__).resolve().parent.parent
-SOURCES = "".join(path.read_text() for path in sorted((TOP / "crates/help_texts/src").glob("*.rt")))
+SOURCES = "".join(path.read_text() for path in sorted((TOP / "crates/word_help/src").glob("*.rt")))
 # Topics whose text is that of another name, as the program has it.
 SAME = {"certify": "NOTES", "live": "THREADS", "help": "OVERVIEW"}
 

@@ -13,7 +13,7 @@ use Rattle.slot_lock.specs.Changes.{changed}
 use Rattle.slot_lock.specs.Framed.{frames_in}
 use Rattle.slot_lock.specs.Slots.{Slots, IsNew}
 use Rattle.frames.specs.Parts.{FrameParts, frame_bytes}
-use Rattle.backing.specs.Files.{FileParts, files_of, cached_in}
+use Rattle.frames.specs.Files.{FileParts, files_of, cached_in}
 use Rattle.vm_calls.specs.Checks.{HasModes}
 use Rattle.vm_calls.specs.Decisions.{entries, entry_of}
 use Rattle.vm_calls.specs.Plainly.{IsShown, ShowsPage, left_by}

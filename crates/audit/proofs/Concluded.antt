@@ -18,7 +18,7 @@ use Rattle.slot_lock.specs.Plan.{range_of}
 use Rattle.slot_lock.specs.Changes.{changed}
 use Rattle.slot_lock.specs.Slots.{Slots}
 use Rattle.frames.specs.Parts.{FrameParts, frame_bytes}
-use Rattle.backing.specs.Files.{FileParts, cached_in, files_of}
+use Rattle.frames.specs.Files.{FileParts, cached_in, files_of}
 use Rattle.vm_calls.specs.declared.decision.Decision.TheVariants.{Refuse, Act}
 use Rattle.vm_calls.specs.Checks.{checked}
 use Rattle.vm_calls.specs.Decisions.{Decides, entries}

@@ -8,7 +8,7 @@ use Rattle.vm_base.specs.Apply.{copied, detached, detached_entry, is_uncopied}
 use Rattle.vm_base.specs.Copies.{or_else}
 use Rattle.vm_base.specs.Log.{CanAccess}
 use Rattle.vm_base.specs.Pages.{IsPage, is_page}
-use Rattle.backing.specs.Files.{FileParts, cached_in}
+use Rattle.frames.specs.Files.{FileParts, cached_in}
 use Rattle.frames.specs.Parts.{FrameParts, frame_bytes}
 use Rattle.slot_lock.specs.Slots.{IsSlotMap, Slots}
 use Rattle.audit.specs.Copying.{Copies, is_copy_due}

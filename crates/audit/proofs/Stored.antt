@@ -10,7 +10,7 @@ use Rattle.slot_lock.specs.declared.plan.Touch.{Touch}
 use Rattle.slot_lock.specs.Framed.{frames_in}
 use Rattle.slot_lock.specs.Slots.{Slots}
 use Rattle.frames.specs.Parts.{FrameParts, frame_bytes, free_frames}
-use Rattle.backing.specs.Files.{FileParts, files_of, cached_in}
+use Rattle.frames.specs.Files.{FileParts, files_of, cached_in}
 use Rattle.audit.specs.Judging.{copied_first, stored}
 use Rattle.audit.specs.Keeping.{IsKept, Keeps, TakesFrame, entry_kept, file_kept, files_kept, frame_at, own_kept, plain_kept}
 use Rattle.audit.specs.Storing.{CachesPage, GetsFrame, HasBytes, IsStored, is_shared_back}

@@ -15,7 +15,7 @@ use Rattle.slot_lock.specs.declared.framed.Framed.{Framed}
 use Rattle.slot_lock.specs.Slots.{Slots, cleared}
 use Rattle.slot_lock.specs.Framed.{frames_in}
 use Rattle.frames.specs.Parts.{FrameParts, frame_bytes, free_frames}
-use Rattle.backing.specs.Files.{FileParts, files_of, cached_in}
+use Rattle.frames.specs.Files.{FileParts, files_of, cached_in}
 
 -- ---- the plain map that is kept
 

@@ -8,7 +8,7 @@ use Rattle.vm_base.specs.Plain.{Plain, bytes_of, file_bytes}
 use Rattle.vm_base.specs.Apply.{first_own}
 use Rattle.slot_lock.specs.Slots.{Slots}
 use Rattle.frames.specs.Parts.{FrameParts, frame_bytes}
-use Rattle.backing.specs.Files.{FileParts, files_of, cached_in}
+use Rattle.frames.specs.Files.{FileParts, files_of, cached_in}
 use Rattle.audit.specs.Keeping.{Keeps, TakesFrame, files_kept, own_kept, plain_kept}
 
 -- a shared page of a file

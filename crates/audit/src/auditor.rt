@@ -1,6 +1,6 @@
 //! An audit: the replies of an implementation, one after another, beside a plain page map.
 ghost use Rattle.frames.specs.Parts.{FrameParts};
-ghost use Rattle.backing.specs.Files.{cached_in};
+ghost use Rattle.frames.specs.Files.{cached_in};
 ghost use Rattle.audit.specs.Keeping.{Keeps, NobodyHolds};
 
 use crate::bytes::file_byte;
@@ -8,7 +8,7 @@ use crate::copying::copy_page;
 use crate::judging::{Verdict, compared, judge_plan};
 use crate::serving::is_served;
 use crate::storing::store_to_file;
-use backing::{FileSpec, Objects};
+use frames::{FileSpec, Objects};
 use frames::Frames;
 use slot_lock::SlotMap;
 use std::alloc::Allocator;
@@ -54,7 +54,7 @@ impl<M: SlotMap + Drop, A: Allocator + Clone + Drop> Auditor<M, A> {
     ghost use Rattle.std.specs.Prelude.{◌≡◌, ◌≤◌, IfOk, length};
     ghost use Rattle.vm_base.specs.Plain.{nothing_mapped};
     ghost use Rattle.slot_lock.specs.Slots.{IsNew};
-    ghost use Rattle.backing.specs.Given.{given_files};
+    ghost use Rattle.frames.specs.Given.{given_files};
     ghost use Rattle.audit.specs.Auditor.{plain_of};
 
     /// Begins with nothing mapped and these files, whose bytes are moved, not copied. A mapping without

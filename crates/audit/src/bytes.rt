@@ -3,12 +3,12 @@ ghost use Rattle.std.specs.Prelude.{◌≡◌, ◌<◌, IfSome, Some};
 ghost use Rattle.vm_base.specs.Apply.{byte_reply, entry_reply};
 ghost use Rattle.vm_base.specs.Plain.{bytes_of, file_bytes};
 ghost use Rattle.slot_lock.specs.Plan.{IsSoundTouch};
-ghost use Rattle.backing.specs.Files.{cached_in};
+ghost use Rattle.frames.specs.Files.{cached_in};
 ghost use Rattle.frames.specs.Parts.{frame_bytes};
 ghost use Rattle.audit.specs.Judging.{after_copy};
 ghost use Rattle.audit.specs.Keeping.{AreFrames, byte_at, entry_kept, files_kept, own_kept};
 
-use backing::Objects;
+use frames::Objects;
 use frames::Frames;
 use slot_lock::Touch;
 use std::alloc::Allocator;

@@ -1,13 +1,13 @@
 //! Copies of private pages.
 ghost use Rattle.std.specs.Prelude.{◌≡◌, ◌↔◌, IfSome, IsTrue, OnErr, Ok, Some, false, true};
-ghost use Rattle.backing.specs.Files.{cached_in};
+ghost use Rattle.frames.specs.Files.{cached_in};
 ghost use Rattle.frames.specs.Parts.{FrameParts, frame_bytes};
 ghost use Rattle.audit.specs.Copying.{Copies, is_copy_due};
 ghost use Rattle.audit.specs.Keeping.{AreFrames, Keeps, NobodyHolds, entry_kept, files_kept, plain_kept};
 ghost use Rattle.vm_base.specs.Plain.{Plain};
 
 use crate::storing::own_frame;
-use backing::Objects;
+use frames::Objects;
 use frames::Frames;
 use slot_lock::SlotMap;
 use std::alloc::Allocator;

@@ -6,7 +6,7 @@ ghost use Rattle.slot_lock.specs.declared.plan.Goal.TheVariants as GoalOf;
 ghost use Rattle.vm_calls.specs.Plainly.{answer_to};
 ghost use Rattle.slot_lock.specs.Plan.{range_of};
 ghost use Rattle.slot_lock.specs.Slots.{IsFreePage};
-ghost use Rattle.backing.specs.Files.{cached_in};
+ghost use Rattle.frames.specs.Files.{cached_in};
 ghost use Rattle.audit.specs.Keeping.{Keeps, NobodyHolds, plain_kept};
 ghost use Rattle.audit.specs.Judging.{Compares, GivesPlan, JudgesPlan};
 
@@ -14,7 +14,7 @@ use crate::bytes::access_reply;
 use crate::changing::{change_alone, free_alone, make_change};
 use crate::placing::{first_place, is_allowed, place_said, reply_at};
 use crate::storing::store;
-use backing::Objects;
+use frames::Objects;
 use frames::Frames;
 use slot_lock::{Change, FreePage, Goal, Place, Plan, SlotMap, Touch};
 use std::alloc::Allocator;

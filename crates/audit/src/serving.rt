@@ -5,7 +5,7 @@ ghost use Rattle.vm_base.specs.Plain.{bytes_of};
 ghost use Rattle.audit.specs.Keeping.{entry_kept, files_kept, own_kept, plain_kept};
 ghost use Rattle.audit.specs.Serving.{can_access, is_served};
 
-use backing::Objects;
+use frames::Objects;
 use slot_lock::SlotMap;
 use std::alloc::Allocator;
 use vm_base::page::is_valid;

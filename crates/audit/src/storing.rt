@@ -8,14 +8,14 @@ ghost use Rattle.vm_base.specs.Pages.{IsPage};
 ghost use Rattle.vm_base.specs.declared.info.Back.TheVariants.{Shared};
 ghost use Rattle.slot_lock.specs.Plan.{IsSoundTouch};
 ghost use Rattle.slot_lock.specs.Slots.{Slots};
-ghost use Rattle.backing.specs.Files.{cached_in, files_of};
+ghost use Rattle.frames.specs.Files.{cached_in, files_of};
 ghost use Rattle.frames.specs.Parts.{frame_bytes, free_frames};
 ghost use Rattle.audit.specs.Judging.{stored};
 ghost use Rattle.audit.specs.Keeping.{AreFrames, Keeps, NobodyHolds, TakesFrame, files_kept, plain_kept};
 ghost use Rattle.audit.specs.Storing.{CachesPage, GetsFrame, HasBytes, IsStored, is_shared_back};
 
 use crate::holding::{only_core, set_apart};
-use backing::Objects;
+use frames::Objects;
 use frames::Frames;
 use slot_lock::{SlotMap, Touch};
 use std::alloc::Allocator;

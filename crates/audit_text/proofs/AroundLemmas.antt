@@ -7,7 +7,7 @@ use Rattle.vm_base.specs.declared.info.Meta.{Meta}
 use Rattle.vm_base.specs.declared.info.PageInfo.{PageInfo}
 use Rattle.slot_lock.specs.Slots.{Slots}
 use Rattle.frames.specs.Parts.{FrameParts, frame_bytes}
-use Rattle.backing.specs.Files.{FileParts}
+use Rattle.frames.specs.Files.{FileParts}
 use Rattle.slot_lock.specs.MapList.{IsNextLine, ListsLines, entry_meta, plain_metas}
 use Rattle.slot_lock.proofs.MapLists.{lists_more}
 use Rattle.slot_lock.specs.MapWalks.{info_meta, slot_metas}

@@ -3,8 +3,8 @@ use Rattle.std.proofs.Common.{◌≡◌, List, map, Option, Some, None, refl, sy
 use Rattle.std.specs.Prelude.{option_map}
 use Rattle.std.proofs.lemmas.Option.{slice_get-map}
 use Rattle.std.proofs.Math.Path.{fun_ext}
-use Rattle.backing.specs.declared.file_spec.FileSpec.{FileSpec}
-use Rattle.backing.specs.Given.{given_file, given_files}
+use Rattle.frames.specs.declared.file_spec.FileSpec.{FileSpec}
+use Rattle.frames.specs.Given.{given_file, given_files}
 use Rattle.audit_text.specs.Steps.{file_of}
 
 given_as : {A : Type 0} (o : Option (FileSpec A)) → given_file o ≡ option_map file_of o

@@ -3,7 +3,7 @@ use Rattle.std.specs.Prelude.{◌≡◌, ℕ, suc, ◌+◌, ◌≤◌, Bool, tru
 use Rattle.std.specs.Prelude.{if◌then◌else◌}
 use Rattle.slot_lock.specs.declared.slot_map.SlotMap.{Ghosts as MapGhosts}
 use Rattle.slot_lock.specs.declared.slot_map.SlotRead.{Ghosts as ReadGhosts}
-use Rattle.backing.specs.declared.file_spec.FileSpec.{FileSpec}
+use Rattle.frames.specs.declared.file_spec.FileSpec.{FileSpec}
 use Rattle.vm_base.specs.declared.replies.Reply.{Reply}
 use Rattle.vm_base.specs.Plain.{File, Plain, file_with}
 use Rattle.audit_text.specs.Allowed.{Allows, IsAllowed, IsDue, MayBe}

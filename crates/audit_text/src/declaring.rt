@@ -8,7 +8,7 @@ ghost use Rattle.audit_text.specs.declared.allowing.Terms.{Terms};
 
 use crate::input::{AuditFault, said_at};
 use crate::reading::Said;
-use backing::FileSpec;
+use frames::FileSpec;
 use std::alloc::Allocator;
 use trace_io::IoFault;
 use trace_io::lines::front_line;

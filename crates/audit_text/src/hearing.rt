@@ -5,7 +5,7 @@ use crate::allowing::{Terms, is_lacking, is_let, may_copy};
 use crate::item::Item;
 use crate::reading::Said;
 use audit::{Auditor, Call, Verdict};
-use backing::FileSpec;
+use frames::FileSpec;
 use ghost_list::GhostList;
 use slot_lock::SlotMap;
 use std::alloc::{AllocError, Allocator};
@@ -64,7 +64,7 @@ impl<M: SlotMap + Drop, A: Allocator + Clone + Drop> Hearing<M, A> {
     ghost use Rattle.std.specs.Prelude.{◌≡◌, ◌+◌, ◌≤◌, IfOk, length};
     ghost use Rattle.vm_base.specs.Plain.{nothing_mapped};
     ghost use Rattle.slot_lock.specs.Slots.{IsNew};
-    ghost use Rattle.backing.specs.Given.{given_files};
+    ghost use Rattle.frames.specs.Given.{given_files};
     ghost use Rattle.audit.specs.Auditor.{plain_of};
     ghost use Rattle.audit_text.specs.Heard.{nothing};
     ghost use Rattle.audit_text.specs.Steps.{IsCounted, count_of, heard_of, terms_of};

@@ -16,7 +16,7 @@ mod threads;
 
 use crate::parts::{time_draws, time_mutexes, time_tree};
 use crate::scripts::{time_apart, time_machine, time_notes, time_shared};
-use notes_text::{Script, read_script};
+use trace_words::{Script, read_script};
 use std::alloc::Global;
 use std::rt::Clock;
 use std::sync::Wait;

@@ -1,12 +1,13 @@
 //! Notes that are read, and written in order of their tickets, as those of threads are.
-use notes_text::collecting::collect;
+use trace_words::collecting::collect;
 use notes_text::kept_notes::KeptNotes;
 use notes_text::noted_line::NoteLines;
-use notes_text::{Script, read_script, write_notes};
+use trace_words::{Script, read_script};
+use notes_text::write_notes;
 use seats::{NoteList, Noted};
 use std::alloc::Global;
 use std::io::{BufWriter, Read, Write};
-use trace::declaration::Declaration;
+use trace_words::declaration::Declaration;
 use trace_io::sink;
 use trace_io::source::Counted;
 

@@ -2,10 +2,12 @@
 //! itself, and how long it takes to certify what threads noted.
 use crate::threads::{Worker, since, slowest};
 use certifier::certify;
-use core_steps::{Finished, Forgotten, Machine, Setup, run};
+use core_steps::{Finished, Machine, run};
+use machine_log::Forgotten;
+use machine_model::Setup;
 use live_script::{Ran, begin, certify_ran, finish_in_turn, finish_side_by_side, run_script};
 use machine_model::{Event, Outcome};
-use notes_text::{Script, Task};
+use trace_words::{Script, Task};
 use radix_range::RadixMap;
 use seats::Notes;
 use std::alloc::Global;

@@ -6,10 +6,10 @@ use Rattle.std.specs.Prelude.{count_by}
 use Rattle.live_levels.specs.declared.close.SlotHistory.{SlotHistory}
 use Rattle.machine_model.proofs.Bracketed.{bracketed}
 use Rattle.machine_model.proofs.SoundKept.{runs_sound}
-use Rattle.core_steps.specs.declared.setup.Setup.{Setup}
+use Rattle.machine_model.specs.declared.setup.Setup.{Setup}
 use Rattle.core_steps.specs.Changing.{may_change}
 use Rattle.core_steps.specs.Running.{RunsAsMap}
-use Rattle.core_steps.specs.Setups.{made_of}
+use Rattle.machine_model.specs.Setups.{made_of}
 use Rattle.core_steps.proofs.Keeping.{keeps}
 use Rattle.core_steps.proofs.Reached.{few_cores}
 use Rattle.core_steps.proofs.Runs.{plainly}

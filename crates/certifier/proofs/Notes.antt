@@ -9,11 +9,11 @@ use Rattle.std.specs.Prelude.{count_by, IfErr, IfNone, Result, Ok, Err}
 use Rattle.std.proofs.lemmas.List.{map-append, length-append}
 use Rattle.std.proofs.lemmas.List.Sums.{length-filter}
 use Rattle.machine_model.proofs.SoundKept.{run_more}
-use Rattle.core_steps.specs.declared.setup.Setup.{Setup}
+use Rattle.machine_model.specs.declared.setup.Setup.{Setup}
 use Rattle.core_steps.specs.Dividing.{DividesAsMap}
 use Rattle.core_steps.specs.Moving.{JoinsAsMap}
 use Rattle.core_steps.specs.Running.{RunsAsMap}
-use Rattle.core_steps.specs.Setups.{fault_of, made_of}
+use Rattle.machine_model.specs.Setups.{fault_of, made_of}
 use Rattle.core_steps.proofs.Runs.{as_map_more}
 use Rattle.seats.specs.declared.noted.Noted.{Noted}
 use Rattle.certifier.specs.declared.order.Place.{Place}

@@ -11,9 +11,9 @@ use Rattle.radix_range.specs.Folds.{CanFold, FoldsNode}
 use Rattle.radix_range.specs.Found.{in_512}
 use Rattle.machine_model.specs.Sound.{IsReached}
 use Rattle.machine_model.proofs.SoundKept.{reached_fine, reached_opening, reached_step}
-use Rattle.core_steps.specs.declared.setup.Setup.{Setup}
+use Rattle.machine_model.specs.declared.setup.Setup.{Setup}
 use Rattle.core_steps.specs.Running.{RunsAsMap}
-use Rattle.core_steps.specs.Setups.{fault_of, made_of}
+use Rattle.machine_model.specs.Setups.{fault_of, made_of}
 use Rattle.core_steps.proofs.Reached.{few_cores}
 use Rattle.seats.specs.declared.noted.Noted.{Noted}
 use Rattle.certifier.specs.declared.result.CertifyFault.TheVariants as By

@@ -22,7 +22,7 @@ use Rattle.refcache.specs.declared.reports.Flush.{Flush}
 use Rattle.refcache.specs.declared.reports.Flush.TheVariants as flush
 use Rattle.refcache.specs.declared.reports.Review.{Review}
 use Rattle.refcache.specs.declared.reports.Review.TheVariants as review
-use Rattle.shootdown.specs.declared.message.Took.TheVariants as took
+use Rattle.mmu.specs.declared.message.Took.TheVariants as took
 use Rattle.slot_lock.proofs.Facts.{two}
 use Rattle.slot_lock.specs.declared.plan.Goal.TheVariants as To
 use Rattle.slot_lock.specs.declared.plan.Target.TheVariants.{Run}

@@ -3,7 +3,7 @@ use Rattle.std.specs.Prelude.{◌≡◌, ◌≢◌, ℕ, ◌+◌, ◌<◌, Bool,
 use Rattle.vm_base.specs.declared.log.Entry.{Entry}
 use Rattle.vm_base.specs.declared.requests.Request.{Request}
 use Rattle.vm_base.specs.Plain.{File}
-use Rattle.backing.specs.Given.{given_files}
+use Rattle.frames.specs.Given.{given_files}
 use Rattle.slot_lock.specs.Slots.{Slots, IsNew}
 use Rattle.machine_model.specs.declared.event.Event.{Event}
 use Rattle.machine_model.specs.declared.event.Outcome.{Outcome}
@@ -12,12 +12,12 @@ use Rattle.machine_model.specs.World.{World, new_world}
 use Rattle.machine_model.specs.Step.{Run, Step}
 use Rattle.machine_model.specs.Brackets.{IsBracketed}
 use Rattle.machine_model.specs.Sound.{SoundRun}
-use Rattle.core_steps.specs.declared.setup.Setup.{Setup}
+use Rattle.machine_model.specs.declared.setup.Setup.{Setup}
 use Rattle.vm_base.specs.declared.page.PageRange.{PageRange}
 use Rattle.core_steps.specs.Dividing.{DividesAsMap}
 use Rattle.core_steps.specs.Moving.{JoinsAsMap}
 use Rattle.core_steps.specs.Running.{LogsPlainly, RunsAsMap}
-use Rattle.core_steps.specs.Setups.{fault_of, made_of}
+use Rattle.machine_model.specs.Setups.{fault_of, made_of}
 use Rattle.seats.specs.declared.noted.Noted.{Noted}
 use Rattle.certifier.specs.declared.result.CertifyFault.{CertifyFault}
 use Rattle.certifier.specs.declared.result.CertifyFault.TheVariants as By

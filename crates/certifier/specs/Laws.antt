@@ -7,9 +7,9 @@ use Rattle.machine_model.specs.declared.event.Event.{Event}
 use Rattle.machine_model.specs.declared.event.Outcome.{Outcome}
 use Rattle.machine_model.specs.World.{World, new_world}
 use Rattle.machine_model.specs.Sound.{IsReached}
-use Rattle.core_steps.specs.declared.setup.Setup.{Setup}
+use Rattle.machine_model.specs.declared.setup.Setup.{Setup}
 use Rattle.core_steps.specs.Running.{RunsAsMap}
-use Rattle.core_steps.specs.Setups.{fault_of, made_of}
+use Rattle.machine_model.specs.Setups.{fault_of, made_of}
 use Rattle.seats.specs.declared.noted.Noted.{Noted}
 use Rattle.live_levels.specs.declared.close.SlotHistory.{SlotHistory}
 use Rattle.certifier.specs.declared.result.CertifyFault.{CertifyFault}

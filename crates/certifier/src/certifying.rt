@@ -1,7 +1,7 @@
 //! The face of the crate: whether the notes of all seats are a run of the machine.
 ghost use Rattle.std.specs.Prelude.{◌≡◌, IfOk, IfErr, None, map, option_copied};
-ghost use Rattle.backing.specs.Given.{given_files};
-ghost use Rattle.core_steps.specs.Setups.{fault_of};
+ghost use Rattle.frames.specs.Given.{given_files};
+ghost use Rattle.machine_model.specs.Setups.{fault_of};
 ghost use Rattle.seats.specs.Packing.{shown};
 ghost use Rattle.certifier.specs.Following.{ComesNumbered, IsCertified, Fails, ReadPlainly, slots_in};
 ghost use Rattle.certifier.specs.Histories.{AreInOrder};
@@ -12,7 +12,8 @@ ghost use Rattle.certifier.specs.Standings.{AreStandings};
 use crate::following::follow;
 use crate::order::{Standing, first_amiss, standings};
 use crate::result::{Certified, CertifyFault};
-use core_steps::{Forgotten, Setup};
+use machine_log::Forgotten;
+use machine_model::Setup;
 use live_levels::close::SlotHistory;
 use live_tree::histories::Histories;
 use radix_range::RadixMap;

@@ -10,7 +10,8 @@ ghost use Rattle.core_steps.specs.Machine.{state};
 ghost use Rattle.certifier.specs.Histories.{AreDated, HasContent, IsPageOf, ticket_at};
 ghost use Rattle.certifier.specs.Looks.{AreApplied, IsCaughtUp, IsLooked, IsSeen};
 
-use core_steps::{Ledger, Machine};
+use machine_log::Ledger;
+use core_steps::Machine;
 use live_levels::act::{SlotChange, after};
 use live_levels::close::SlotHistory;
 use slot_lock::SlotMap;

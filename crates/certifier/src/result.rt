@@ -1,5 +1,5 @@
 //! The result of certifying notes.
-use core_steps::SetupFault;
+use machine_model::SetupFault;
 use machine_model::Outcome;
 use thiserror::Error;
 

@@ -12,7 +12,8 @@ ghost use Rattle.certifier.specs.Histories.{AllGoAlong, AreInOrder, IsFirstAstra
 ghost use Rattle.certifier.specs.Looks.{AreLooked, IsCaughtUp, IsFirstMarked, NoneMarked};
 
 use crate::looks::{Look, are_dated, look_at};
-use core_steps::{Ledger, Machine};
+use machine_log::Ledger;
+use core_steps::Machine;
 use live_levels::close::SlotHistory;
 use machine_model::Event;
 use slot_lock::SlotMap;

@@ -4,12 +4,12 @@ use Rattle.machine_model.proofs.Words.{◌||◌, slice_get-get_or, given_files, 
 use Rattle.std.specs.Prelude.{◌<◌, get_or, None, slice_get}
 use Rattle.std.specs.List.{list_any}
 use Rattle.std.proofs.lemmas.List.{length-take-le, length-drop}
-use Rattle.backing.specs.declared.file_spec.FileSpec.{FileSpec}
-use Rattle.core_steps.specs.declared.setup.Setup.{Setup}
-use Rattle.core_steps.specs.declared.setup.CallLimit.{CallLimit}
-use Rattle.core_steps.specs.declared.setup.SetupFault.{SetupFault}
-use Rattle.core_steps.specs.Setups.{is_too_long, has_long, made_of, first_fault_within, fault_within, IsFirstWithin}
-use Rattle.core_steps.proofs.Setups.{few_cores_within}
+use Rattle.frames.specs.declared.file_spec.FileSpec.{FileSpec}
+use Rattle.machine_model.specs.declared.setup.Setup.{Setup}
+use Rattle.machine_model.specs.declared.setup.CallLimit.{CallLimit}
+use Rattle.machine_model.specs.declared.setup.SetupFault.{SetupFault}
+use Rattle.machine_model.specs.Setups.{is_too_long, has_long, made_of, first_fault_within, fault_within, IsFirstWithin}
+use Rattle.machine_model.proofs.Setups.{few_cores_within}
 use Rattle.coded.specs.declared.opening.RawSetup.{RawSetup}
 use Rattle.coded.specs.declared.opening.Refusal.TheVariants as By
 use Rattle.coded.specs.declared.opening.RawFile.{RawFile}

@@ -11,8 +11,8 @@ use Rattle.machine_model.specs.Brackets.{IsBracketed}
 use Rattle.machine_model.specs.Sound.{SoundRun}
 use Rattle.core_steps.specs.declared.machine.Finished.{Finished}
 use Rattle.core_steps.specs.declared.machine.Finished.TheVariants.{Last, Stuck}
-use Rattle.core_steps.specs.declared.setup.SetupFault.{SetupFault}
-use Rattle.core_steps.specs.declared.setup.SetupFault.TheVariants as Fault
+use Rattle.machine_model.specs.declared.setup.SetupFault.{SetupFault}
+use Rattle.machine_model.specs.declared.setup.SetupFault.TheVariants as Fault
 use Rattle.core_steps.specs.Finishing.{Calls, Finishes, IsCallRefused, IsRefused}
 use Rattle.core_steps.specs.Machine.{IsLegal}
 use Rattle.core_steps.specs.Moving.{MayWant}

@@ -5,13 +5,13 @@ use Rattle.std.specs.List.{list_any}
 use Rattle.vm_base.specs.declared.rights.Mode.{Mode}
 use Rattle.vm_base.specs.declared.rights.Mode.TheVariants.{R, W, RW}
 use Rattle.vm_base.specs.Plain.{File, file_with}
-use Rattle.backing.specs.declared.file_spec.FileSpec.{FileSpec}
+use Rattle.frames.specs.declared.file_spec.FileSpec.{FileSpec}
 use Rattle.slot_lock.specs.Slots.{Slots, IsNew}
-use Rattle.core_steps.specs.declared.setup.CallLimit.{CallLimit}
-use Rattle.core_steps.specs.declared.setup.CallLimit.TheVariants.{Usual, Long}
-use Rattle.core_steps.specs.declared.setup.SetupFault.{SetupFault}
-use Rattle.core_steps.specs.declared.setup.SetupFault.TheVariants as Fault
-use Rattle.core_steps.specs.Setups.{first_fault_within, is_too_long}
+use Rattle.machine_model.specs.declared.setup.CallLimit.{CallLimit}
+use Rattle.machine_model.specs.declared.setup.CallLimit.TheVariants.{Usual, Long}
+use Rattle.machine_model.specs.declared.setup.SetupFault.{SetupFault}
+use Rattle.machine_model.specs.declared.setup.SetupFault.TheVariants as Fault
+use Rattle.machine_model.specs.Setups.{first_fault_within, is_too_long}
 use Rattle.machine_model.specs.World.{World, Made, new_world}
 use Rattle.coded.specs.declared.opening.RawSetup.{RawSetup}
 use Rattle.coded.specs.declared.opening.RawFile.{RawFile}

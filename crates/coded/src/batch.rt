@@ -8,7 +8,9 @@ use crate::codes::{
     Item, RawEvent, RawOutcome, core_of, event_of, finished_code, item_of, outcome_code, store_of,
 };
 use crate::opening::{RawFile, RawSetup, Refusal, Space, open};
-use core_steps::{Finished, Ledger, Machine, SetupFault};
+use core_steps::{Finished, Machine};
+use machine_log::Ledger;
+use machine_model::SetupFault;
 use machine_model::Event;
 use slot_lock::SlotMap;
 use std::alloc::{Allocator, Global};

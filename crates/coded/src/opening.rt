@@ -2,16 +2,16 @@
 ghost use Rattle.std.specs.Prelude.{◌≡◌, None, IfOk, IfErr, length};
 ghost use Rattle.std.specs.List.{list_any};
 ghost use Rattle.core_steps.specs.Machine.{state};
-ghost use Rattle.core_steps.specs.Setups.{is_too_long, Fits};
+ghost use Rattle.machine_model.specs.Setups.{is_too_long, Fits};
 ghost use Rattle.coded.specs.Opening.{mode_of, AreFiles, IsFile, IsNoFile, RefusesFiles, OpensAs};
 ghost use Rattle.coded.specs.Opening.{Refuses, fault_of, limit_of};
 ghost use Rattle.coded.specs.declared.opening.FileFault.TheVariants as Why;
 ghost use Rattle.coded.specs.declared.opening.RawFile.{RawFile as RawFileOf};
 
-use backing::FileSpec;
-use core_steps::{
-    CallLimit, Forgotten, Kept, Machine, Opening, Setup, SetupFault, first_fault_within,
-};
+use frames::FileSpec;
+use machine_model::{CallLimit, Setup, SetupFault, first_fault_within};
+use machine_log::{Forgotten, Kept, Opening};
+use core_steps::Machine;
 use radix_range::RadixMap;
 use std::alloc::Global;
 use vm_base::Mode;

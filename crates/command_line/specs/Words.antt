@@ -1,16 +1,16 @@
 -- What each word of the command line does: how it ends, what is read and written by then, and the status.
 use Rattle.std.specs.Prelude.{◌≡◌, ℕ, Bool}
-use Rattle.litmus_word.specs.Litmus.{TellsTest}
-use Rattle.litmus_word.specs.Witness.{PicturesWitness}
-use Rattle.words.specs.declared.asking.Work.{Work}
-use Rattle.words.specs.declared.asking.Work.TheVariants as For
+use Rattle.word_runs.specs.Litmus.{TellsTest}
+use Rattle.word_runs.specs.Witness.{PicturesWitness}
+use Rattle.word_grammar.specs.declared.asking.Work.{Work}
+use Rattle.word_grammar.specs.declared.asking.Work.TheVariants as For
 use Rattle.slot_lock.specs.Slots.{Slots}
 use Rattle.trace_io.specs.Io.{ReadFrom, WrittenTo}
 use Rattle.vm_base.specs.declared.page.PageRange.{PageRange}
-use Rattle.run_words.specs.Words.{ReplaysTrace, EchoesTrace, CertifiesNotes, RunsScript, WritesHistory, CertifiesRun, SharesScript}
-use Rattle.import_word.specs.Words.{ImportsLog, ImportsEach, ImportsAccesses}
-use Rattle.audit_word.specs.Words.{AuditsReplies, ReviewsReplies, JudgesOrGivesUp, JudgesByPages, JudgesLoosely}
-use Rattle.picture_words.specs.Words.{PicturesTrace}
+use Rattle.word_runs.specs.Words.{ReplaysTrace, EchoesTrace, CertifiesNotes, RunsScript, WritesHistory, CertifiesRun, SharesScript}
+use Rattle.word_import.specs.Words.{ImportsLog, ImportsEach, ImportsAccesses}
+use Rattle.word_audit.specs.Words.{AuditsReplies, ReviewsReplies, JudgesOrGivesUp, JudgesByPages, JudgesLoosely}
+use Rattle.word_pictures.specs.Words.{PicturesTrace}
 
 -- what the words ask for: an import reads a list besides, a litmus test counts, and the others nothing
 abbrev pub DoesWork : Type 0 → (PageRange → ℕ → ℕ → Bool) → (Slots → ℕ → Type 0) → (Slots → Slots → ℕ → Type 0)

@@ -1,19 +1,19 @@
 //! What is said about words that can't be acted on, and of files that can't be read.
 ghost use Rattle.std.specs.Prelude.{◌≡◌, ◌≤◌};
 ghost use Rattle.std.specs.Io.KnownBytes.{Appends};
-ghost use Rattle.help_texts.specs.Help.{page_of};
+ghost use Rattle.word_help.specs.Help.{page_of};
 ghost use Rattle.command_line.specs.Status.{words_status};
-ghost use Rattle.help_texts.specs.declared.Topic.{Topic};
+ghost use Rattle.word_help.specs.declared.Topic.{Topic};
 
 use clap::Error;
 use clap::error::ErrorKind;
-use help_texts::page;
+use word_help::page;
 use std::alloc::Global;
 use std::io;
 use std::io::Write;
 use trace_io::sink::{Sink, write_all};
 use word_parts::pointing::tell as tell_line;
-use words::Told;
+use word_grammar::Told;
 
 // Prints a text on standard output, and answers the status.
 fn show<W: Sink, E: Write>(text: &str, out: &mut W, errors: &mut E) -> u8

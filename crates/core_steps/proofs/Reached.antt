@@ -11,14 +11,14 @@ use Rattle.core_steps.specs.declared.machine.Finished.TheVariants.{Last}
 use Rattle.machine_model.specs.Invariant.{IsWellFormed}
 use Rattle.machine_model.specs.Sound.{IsReached, IsSoundStep}
 use Rattle.machine_model.proofs.SoundKept.{reached_fine, reached_opening, reached_sound, reached_step, steps_sound}
-use Rattle.core_steps.specs.declared.setup.Setup.{Setup}
+use Rattle.machine_model.specs.declared.setup.Setup.{Setup}
 use Rattle.core_steps.specs.Finishing.{Finishes, IsRefused, finish_limit}
 use Rattle.core_steps.specs.Machine.{IsLegal}
 use Rattle.core_steps.specs.Moving.{MayWant, Tries}
-use Rattle.core_steps.specs.declared.setup.CallLimit.{CallLimit}
-use Rattle.core_steps.specs.declared.setup.CallLimit.TheVariants.{Usual}
-use Rattle.core_steps.specs.Setups.{fault_of, fault_within, made_of}
-use Rattle.core_steps.proofs.Setups.{few_cores_within}
+use Rattle.machine_model.specs.declared.setup.CallLimit.{CallLimit}
+use Rattle.machine_model.specs.declared.setup.CallLimit.TheVariants.{Usual}
+use Rattle.machine_model.specs.Setups.{fault_of, fault_within, made_of}
+use Rattle.machine_model.proofs.Setups.{few_cores_within}
 
 pub well : (w : World) → ∥ IsReached w ∥₁ → ∥ IsWellFormed w ∥₁
 well w t = ∥∥₁_map t (reached_fine w)

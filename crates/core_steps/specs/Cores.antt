@@ -2,8 +2,8 @@
 use Rattle.std.specs.Prelude.{◌≡◌, ℕ, List, [], length, map, Option, None, slice_index_or}
 use Rattle.mmu.specs.declared.entry.Translation.{Translation}
 use Rattle.mmu.specs.declared.tlb.TlbEntry.{TlbEntry}
-use Rattle.shootdown.specs.Messages.{InboxOf}
-use Rattle.shootdown.specs.Inboxes.{inbox}
+use Rattle.mmu.specs.Messages.{InboxOf}
+use Rattle.mmu.specs.Inboxes.{inbox}
 use Rattle.machine_model.specs.World.{Hardware}
 
 -- what is read of each core, and this beyond the last

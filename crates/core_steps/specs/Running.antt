@@ -3,7 +3,7 @@ use Rattle.std.specs.Prelude.{◌≡◌, ℕ, ◌<◌, ◌⊎◌, Bool, [], ◌�
 use Rattle.std.specs.Prelude.{None, Some}
 use Rattle.core_steps.specs.declared.run_result.RunFault.{RunFault}
 use Rattle.core_steps.specs.declared.run_result.RunFault.TheVariants as By
-use Rattle.core_steps.specs.declared.setup.Setup.{Setup}
+use Rattle.machine_model.specs.declared.setup.Setup.{Setup}
 use Rattle.machine_model.specs.declared.event.Event.{Event}
 use Rattle.machine_model.specs.declared.event.Outcome.{Outcome}
 use Rattle.machine_model.specs.World.{World}
@@ -14,7 +14,7 @@ use Rattle.vm_base.specs.Plain.{File, Plain, nothing_mapped}
 use Rattle.vm_base.specs.declared.log.Entry.{Entry}
 use Rattle.machine_model.specs.Brackets.{calls_of, requests_of}
 use Rattle.vm_base.specs.Log.{Replays}
-use Rattle.core_steps.specs.Setups.{IsFirstFault, fault_of}
+use Rattle.machine_model.specs.Setups.{IsFirstFault, fault_of}
 use Rattle.core_steps.specs.Moving.{MayWant, JoinsAsMap}
 use Rattle.core_steps.specs.Dividing.{DividesAsMap}
 

@@ -1,7 +1,7 @@
 -- Which state of the abstract machine an engine has
 use Rattle.std.specs.Prelude.{ℕ, List, length, slice_index, slice_index_or}
 use Rattle.slot_lock.specs.Slots.{Slots}
-use Rattle.backing.specs.Files.{FileParts, files_of, cached_in}
+use Rattle.frames.specs.Files.{FileParts, files_of, cached_in}
 use Rattle.frames.specs.Parts.{FrameParts, frame_bytes, free_frames}
 use Rattle.refcache.specs.Counts.{Counts}
 use Rattle.refcache.specs.Parts.{counts_of}
@@ -10,7 +10,7 @@ use Rattle.machine_model.specs.declared.phase.Phase.TheVariants.{Free}
 use Rattle.machine_model.specs.World.{World, Hardware, Calls}
 use Rattle.core_steps.specs.declared.engine.calls.CallTable.{CallTable}
 use Rattle.core_steps.specs.declared.engine.Engine.{Engine}
-use Rattle.core_steps.specs.declared.ledger.Ledger.{Ghosts as LedgerGhosts}
+use Rattle.machine_log.specs.declared.ledger.Ledger.{Ghosts as LedgerGhosts}
 use Rattle.core_steps.specs.Parts.{parts}
 
 -- ---- the calls

@@ -6,10 +6,10 @@ mod counted;
 
 use crate::at_once::starting::Started;
 use crate::engine::Engine;
-use crate::ledger::kept::Kept;
-use crate::ledger::logged_entries::LoggedEntries;
-use crate::ledger::{Ledger, Opening};
-use crate::setup::{CallLimit, Setup, SetupFault};
+use machine_log::ledger::kept::Kept;
+use machine_log::ledger::logged_entries::LoggedEntries;
+use machine_log::ledger::{Ledger, Opening};
+use machine_model::setup::{CallLimit, Setup, SetupFault};
 use machine_model::{Event, Outcome, Phase};
 use mmu::{Cpu, Hardware};
 use slot_lock::{MapLine, SlotMap, all_lines, next_line};
@@ -43,8 +43,8 @@ impl<M: SlotMap + Drop, A: Allocator + Clone + Drop, L: Opening<A> + Drop> Machi
     ghost use Rattle.std.specs.Prelude.{◌≡◌, IfOk, IfErr, OnErr, None};
     ghost use Rattle.slot_lock.specs.Slots.{IsNew};
     ghost use Rattle.machine_model.specs.World.{new_world};
-    ghost use Rattle.core_steps.specs.Setups.{fault_of, fault_within, made_of};
-    ghost use Rattle.core_steps.specs.Setups.{IsFirstFault, IsFirstWithin, Fits};
+    ghost use Rattle.machine_model.specs.Setups.{fault_of, fault_within, made_of};
+    ghost use Rattle.machine_model.specs.Setups.{IsFirstFault, IsFirstWithin, Fits};
     ghost use Rattle.core_steps.specs.Machine.{state};
 
     /// A machine over a new slot map, of a setup that may ask for 1,048,576 calls. Its ledger has room
@@ -86,7 +86,7 @@ impl<M: SlotMap + Drop, A: Allocator + Clone + Drop, L: Opening<A> + Drop> Machi
 impl<M: SlotMap, A: Allocator + Clone, L: Ledger> Machine<M, A, L> {
     ghost use Rattle.std.specs.Prelude.{◌≡◌, ◌≤◌, ◌<◌, false, true, IfOk, OnErr, IfSome, IfNone};
     ghost use Rattle.frames.specs.Bits.{count_below};
-    ghost use Rattle.shootdown.specs.Inboxes.{awaited};
+    ghost use Rattle.mmu.specs.Inboxes.{awaited};
     ghost use Rattle.vm_base.specs.Cores.{members};
     ghost use Rattle.vm_base.specs.Functions.{has};
     ghost use Rattle.vm_base.specs.Pages.{is_page};
@@ -102,7 +102,7 @@ impl<M: SlotMap, A: Allocator + Clone, L: Ledger> Machine<M, A, L> {
     ghost use Rattle.core_steps.specs.Finishing.{Calls, CallsAsMap, Finishes, FinishesAsMap, finish_limit};
     ghost use Rattle.core_steps.specs.Finishing.{IsCallRefused, IsRefused};
     ghost use Rattle.core_steps.specs.Machine.{state, IsLegal};
-    ghost use Rattle.core_steps.specs.Packing.{listed};
+    ghost use Rattle.machine_log.specs.Packing.{listed};
     ghost use Rattle.core_steps.specs.MapLines.{HasNoMap, IsLineStart, IsNextMap, ListsMaps};
 
     /// One event. A refusal for memory leaves the machine unchanged, and comes only at a step of a call

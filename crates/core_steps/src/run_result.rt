@@ -1,7 +1,7 @@
 //! The result of running a list of events.
-use crate::ledger::Ledger;
+use machine_log::ledger::Ledger;
 use crate::machine::Machine;
-use crate::setup::SetupFault;
+use machine_model::setup::SetupFault;
 use machine_model::Outcome;
 use mmu::{Cpu, Hardware};
 use slot_lock::SlotMap;

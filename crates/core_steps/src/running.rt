@@ -6,14 +6,14 @@ ghost use Rattle.machine_model.specs.Step.{Run as RunsTo};
 ghost use Rattle.machine_model.specs.Brackets.{IsBracketed};
 ghost use Rattle.machine_model.specs.Sound.{SoundRun};
 ghost use Rattle.core_steps.specs.Machine.{state};
-ghost use Rattle.core_steps.specs.Setups.{IsFirstFault, made_of};
+ghost use Rattle.machine_model.specs.Setups.{IsFirstFault, made_of};
 ghost use Rattle.core_steps.specs.Running.{Fails, IsRefusedAt, LogsPlainly, RunsAsMap};
-ghost use Rattle.backing.specs.Given.{given_files};
+ghost use Rattle.frames.specs.Given.{given_files};
 
-use crate::ledger::{Ledger, Opening};
+use machine_log::ledger::{Ledger, Opening};
 use crate::machine::Machine;
 use crate::run_result::{Run, RunFault};
-use crate::setup::{Setup, SetupFault};
+use machine_model::setup::{Setup, SetupFault};
 use machine_model::{Event, Outcome};
 use slot_lock::SlotMap;
 use std::alloc::Allocator;

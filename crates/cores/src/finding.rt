@@ -10,7 +10,7 @@ use crate::kept::Kept;
 use crate::parts::{is_aside, is_reset, part_of, sets};
 use crate::trying::{followed_by, none_of};
 use audit::Call;
-use backing::FileSpec;
+use frames::FileSpec;
 use orders::Timed;
 use std::alloc::Allocator;
 use vm_base::{NoMemory, PageRange, Reply, Request, page_count, page_of, pages};

@@ -1,13 +1,13 @@
 //! Whether a core has an order, whichever of its calls have taken effect.
 ghost use Rattle.std.specs.Prelude.{◌≡◌, ◌≤◌, ◌++◌, ◌∷◌, [], IfOk, Ok, length, true};
 ghost use Rattle.vm_base.specs.Plain.{nothing_mapped};
-ghost use Rattle.backing.specs.Given.{given_files};
+ghost use Rattle.frames.specs.Given.{given_files};
 ghost use Rattle.audit.specs.Placing.{rule_of};
 ghost use Rattle.orders.specs.Orders.{HasOrder};
 ghost use Rattle.cores.specs.Cores.{HasNone};
 
 use crate::kept::Kept;
-use backing::FileSpec;
+use frames::FileSpec;
 use no_order::{Answer, search_all};
 use orders::Timed;
 use std::alloc::Allocator;

@@ -3,22 +3,22 @@
 #![tactic(auto)]
 
 ghost use Rattle.std.specs.Prelude.{◌≡◌, ◌≤◌, Result, Some, codes, option_map};
-ghost use Rattle.core_steps.specs.declared.setup.CallLimit.TheVariants.{Usual};
+ghost use Rattle.machine_model.specs.declared.setup.CallLimit.TheVariants.{Usual};
 ghost use Rattle.trace.specs.Ends.{Ends};
-ghost use Rattle.trace.specs.Faults.{TellsFaults};
-ghost use Rattle.trace.specs.Status.{fault_status, status_of};
-ghost use Rattle.trace.specs.declared.fault.TraceFault.{TraceFault};
+ghost use Rattle.trace_words.specs.Faults.{TellsFaults};
+ghost use Rattle.trace_words.specs.Status.{fault_status, status_of};
+ghost use Rattle.trace_words.specs.declared.fault.TraceFault.{TraceFault};
 ghost use Rattle.trace_io.specs.Io.{read_from, written_to};
 ghost use Rattle.trace_io.specs.Source.{Reads};
 
-use core_steps::CallLimit;
+use machine_model::CallLimit;
 use std::alloc::Allocator;
 use std::env;
 use std::io::{BufWriter, Write};
 use std::process::ExitCode;
-use trace::fault::{TraceFault, status_of_fault};
+use trace_words::fault::{TraceFault, status_of_fault};
 use trace::replay::replay_telling;
-use trace::show::Show;
+use trace_words::show::Show;
 use trace_io::sink::{Noted, Sink};
 use trace_io::source::{Counted, Source};
 

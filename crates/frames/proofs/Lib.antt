@@ -1,5 +1,6 @@
 pub mod BitSets
-pub mod Counting
+mod Cached
 pub mod Counted
+pub mod Counting
 pub mod PageLists
 pub mod Stored

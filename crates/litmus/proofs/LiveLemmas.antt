@@ -4,7 +4,7 @@ use Rattle.std.specs.Prelude.{◌&&◌}
 use Rattle.std.specs.declared.alloc.Global.{Global}
 use Rattle.trace_io.specs.Lines.{lines_of}
 use Rattle.litmus_text.specs.Scripts.{Read, litmus_of}
-use Rattle.outcomes.specs.declared.outcome.Outcomes.{Outcomes}
+use Rattle.litmus_outcomes.specs.declared.outcome.Outcomes.{Outcomes}
 use Rattle.litmus.specs.Kernels.{Judges}
 use Rattle.litmus.specs.Live.{CountsLive, FailsLive, IsUnrun, TellsLive}
 use Rattle.litmus.specs.Tells.{Lists}

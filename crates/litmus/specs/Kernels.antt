@@ -1,7 +1,7 @@
 -- A litmus test beside what another system does.
 use Rattle.std.specs.Prelude.{◌≡◌, ◌⊎◌, ◌&&◌, ℕ, Bool, true, false, not, List, Some, Ok, Err}
 use Rattle.std.specs.List.{flat_map, list_all}
-use Rattle.trace.specs.Declarations.{Asked}
+use Rattle.trace_words.specs.Declarations.{Asked}
 use Rattle.trace_io.specs.declared.fault.IoFault.TheVariants as IoOf
 use Rattle.litmus_text.specs.Scripts.{Read, litmus_of}
 use Rattle.litmus_text.specs.declared.faults.LitmusFault.{LitmusFault}
@@ -9,7 +9,7 @@ use Rattle.litmus_text.specs.declared.faults.LitmusFault.TheVariants as TextOf
 use Rattle.litmus_report.specs.Counts.{bad_line, counts_status, counts_text}
 use Rattle.litmus_report.specs.Program.{program_text}
 use Rattle.litmus_report.specs.declared.reporting.Searched.{Searched}
-use Rattle.outcomes.specs.declared.outcome.Outcomes.{Outcomes}
+use Rattle.litmus_outcomes.specs.declared.outcome.Outcomes.{Outcomes}
 use Rattle.litmus.specs.Opening.{calls_of, is_called}
 use Rattle.litmus.specs.Tells.{IsLate, Lists, known_with}
 use Rattle.litmus.specs.declared.faults.RunFault.{RunFault}

@@ -2,13 +2,13 @@
 use Rattle.std.specs.Prelude.{◌≡◌, ◌⊎◌, ℕ, true, false, List, Some, Ok}
 use Rattle.std.specs.List.{flat_map, list_all}
 use Rattle.std.specs.declared.alloc.Global.{Global}
-use Rattle.combinations.specs.Finals.{loads_by}
-use Rattle.trace.specs.Declarations.{Asked}
+use Rattle.litmus_merges.specs.Finals.{loads_by}
+use Rattle.trace_words.specs.Declarations.{Asked}
 use Rattle.trace_io.specs.Lines.{lines_of}
 use Rattle.litmus_text.specs.Scripts.{Read, litmus_of}
-use Rattle.outcomes.specs.declared.outcome.Outcomes.{Outcomes}
-use Rattle.litmus_live.specs.Runs.{CountsRuns}
-use Rattle.litmus_live.specs.declared.fault.LiveTestFault.{LiveTestFault}
+use Rattle.litmus_outcomes.specs.declared.outcome.Outcomes.{Outcomes}
+use Rattle.litmus.specs.Runs.{CountsRuns}
+use Rattle.litmus.specs.declared.fault.LiveTestFault.{LiveTestFault}
 use Rattle.litmus.specs.Kernels.{IsUnread, IsWant, Judges}
 use Rattle.litmus.specs.Opening.{calls_of, is_called}
 use Rattle.litmus.specs.Tells.{IsLate, Lists}

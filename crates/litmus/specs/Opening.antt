@@ -1,13 +1,13 @@
 -- The lines of an opening, as the machine is given them.
 use Rattle.std.specs.Prelude.{Bool, true, false, List, [], ◌∷◌}
-use Rattle.combinations.specs.declared.asked.Asked.{Asked}
+use Rattle.litmus_merges.specs.declared.asked.Asked.{Asked}
 use Rattle.machine_model.specs.declared.event.Event.TheVariants as Ev
-use Rattle.trace.specs.Events.{event_of}
+use Rattle.trace_words.specs.Events.{event_of}
 use Rattle.trace_text.specs.declared.action.Action.TheVariants.{Flush, Review}
 use Rattle.trace_text.specs.declared.line.Line.{Line}
 use Rattle.trace_text.specs.declared.line.Line.TheVariants.{Act, Fold, Finish, Now}
-use Rattle.outcomes.specs.declared.outcome.Opened.{Opened}
-use Rattle.outcomes.specs.declared.outcome.Opened.TheVariants as Of
+use Rattle.litmus_outcomes.specs.declared.outcome.Opened.{Opened}
+use Rattle.litmus_outcomes.specs.declared.outcome.Opened.TheVariants as Of
 
 -- a line that is no event's gives nothing
 abbrev pub opened_of : Line → List Opened

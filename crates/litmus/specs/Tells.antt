@@ -2,7 +2,7 @@
 use Rattle.std.specs.Prelude.{◌≡◌, ◌⊎◌, ℕ, ◌+◌, Bool, false, List, map, slice_get, is_some, Some, Vec, Ok, Err}
 use Rattle.std.specs.List.{flat_map}
 use Rattle.machine_model.specs.declared.event.Event.{Event}
-use Rattle.trace.specs.Declarations.{Asked, made_by}
+use Rattle.trace_words.specs.Declarations.{Asked, made_by}
 use Rattle.trace_io.specs.declared.fault.IoFault.TheVariants as IoOf
 use Rattle.litmus_text.specs.Scripts.{Read, litmus_of}
 use Rattle.litmus_text.specs.declared.faults.LitmusFault.{LitmusFault}
@@ -11,9 +11,9 @@ use Rattle.litmus_report.specs.Reports.{AreSorted, Known, report_text, row_text,
 use Rattle.litmus_report.specs.Verdicts.{Outcome as Ended}
 use Rattle.litmus_report.specs.Witness.{IsTrace}
 use Rattle.litmus_report.specs.declared.reporting.Searched.{Searched}
-use Rattle.outcomes.specs.Outcomes.{AreLines, AreOutcomes}
-use Rattle.outcomes.specs.declared.outcome.Outcome.{Outcome}
-use Rattle.outcomes.specs.declared.outcome.Outcomes.{Outcomes}
+use Rattle.litmus_outcomes.specs.Outcomes.{AreLines, AreOutcomes}
+use Rattle.litmus_outcomes.specs.declared.outcome.Outcome.{Outcome}
+use Rattle.litmus_outcomes.specs.declared.outcome.Outcomes.{Outcomes}
 use Rattle.litmus.specs.Lists.{row_line}
 use Rattle.litmus.specs.Opening.{opened_of}
 use Rattle.litmus.specs.declared.faults.RunFault.{RunFault}

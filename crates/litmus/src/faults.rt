@@ -1,9 +1,9 @@
 //! Why nothing is told of a litmus test.
 ghost use Rattle.litmus.specs.Tells.{IsLate};
 
-use litmus_live::LiveTestFault;
+use crate::LiveTestFault;
 use litmus_text::LitmusFault;
-use outcomes::OutcomesFault;
+use litmus_outcomes::OutcomesFault;
 use thiserror::Error;
 use trace_io::IoFault;
 

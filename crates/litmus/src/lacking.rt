@@ -1,5 +1,5 @@
 //! Whether a call may find no frame.
-use combinations::Asked;
+use litmus_merges::Asked;
 use trace_text::{Action, Line};
 use vm_base::{CoreId, Request, page_of};
 

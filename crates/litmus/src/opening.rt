@@ -1,15 +1,15 @@
 //! The lines of an opening, as the machine is given them.
 ghost use Rattle.std.specs.Prelude.{◌≡◌, ◌++◌, IfOk, OnOk};
 ghost use Rattle.std.specs.List.{flat_map, list_all};
-ghost use Rattle.combinations.specs.Finals.{loads_by};
+ghost use Rattle.litmus_merges.specs.Finals.{loads_by};
 ghost use Rattle.litmus.specs.Opening.{calls_of, is_called, opened_of};
 
-use combinations::Asked;
+use litmus_merges::Asked;
 use machine_model::Event;
-use notes_text::{ScriptLine, Task};
-use outcomes::Opened;
+use trace_words::{ScriptLine, Task};
+use litmus_outcomes::Opened;
 use std::alloc::Allocator;
-use trace::events::event_of;
+use trace_words::events::event_of;
 use trace_text::{Action, Line};
 use vm_base::{CoreId, NoMemory, Request};
 

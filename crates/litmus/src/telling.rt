@@ -14,13 +14,13 @@ use crate::faults::{NO_MEMORY, RunFault, fault_by};
 use crate::lacking::may_lack;
 use crate::lists::list_text;
 use crate::opening::{are_called, calls_of, loads_of, opening_of, tasks_of};
-use litmus_live::{TestRun, count_runs};
+use crate::{TestRun, count_runs};
 use litmus_report::{
     Named, Program, Row, Searched, bad_count, in_order, judge_counts, program_of, report,
     status_of, trace_of,
 };
 use litmus_text::{LitmusFault, Script, read_litmus};
-use outcomes::{Outcome, Outcomes, list_outcomes};
+use litmus_outcomes::{Outcome, Outcomes, list_outcomes};
 use std::alloc::{Allocator, Global};
 use std::sync::Wait;
 use std::thread::Threads;

@@ -3,7 +3,7 @@ use Rattle.std.proofs.Common.{◌≡◌, ℕ, suc, ◌+◌, ◌<◌, ◌≤◌, 
 use Rattle.std.proofs.Common.{append_assoc, arith}
 use Rattle.std.proofs.lemmas.List.{drop_more, drop_all}
 use Rattle.vm_base.specs.declared.replies.Reply.{Reply}
-use Rattle.combinations.specs.declared.asked.Asked.{Asked}
+use Rattle.litmus_merges.specs.declared.asked.Asked.{Asked}
 use Rattle.trace_text.specs.Printing.{text_of}
 use Rattle.litmus_report.specs.Texts.{final_text, finals_text, lead_in, replies_text}
 

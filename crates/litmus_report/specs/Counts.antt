@@ -3,7 +3,7 @@ use Rattle.std.specs.Prelude.{ℕ, suc, ◌&&◌, not, Bool, true, false, List, 
 use Rattle.std.specs.Prelude.{if◌then◌else◌, ◌==◌, nat_lt}
 use Rattle.std.specs.List.{flat_map, list_any}
 use Rattle.std.specs.Str.{bytes_eq}
-use Rattle.combinations.specs.declared.asked.Asked.{Asked}
+use Rattle.litmus_merges.specs.declared.asked.Asked.{Asked}
 use Rattle.litmus_report.specs.Reports.{Known, are_reached, end_text}
 use Rattle.litmus_report.specs.Texts.{finals_text, if_mapped, replies_text}
 use Rattle.litmus_report.specs.Verdicts.{Outcome}

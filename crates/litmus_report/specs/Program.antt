@@ -1,9 +1,9 @@
 -- A litmus test as a program for a kernel that has POSIX threads.
 use Rattle.std.specs.Prelude.{ℕ, List, ◌++◌, codes, decimal}
 use Rattle.std.specs.List.{flat_map}
-use Rattle.combinations.specs.declared.asked.Asked.{Asked}
-use Rattle.notes_text.specs.Written.{request_words, spaced}
-use Rattle.trace.specs.declared.declaration.FileLine.{FileLine}
+use Rattle.litmus_merges.specs.declared.asked.Asked.{Asked}
+use Rattle.trace_words.specs.Written.{request_words, spaced}
+use Rattle.trace_words.specs.declared.declaration.FileLine.{FileLine}
 use Rattle.trace_text.specs.Printing.{address_of}
 use Rattle.trace_text.specs.Spelling.{mode_text}
 use Rattle.litmus_report.specs.declared.program_text.TheConstants as Text

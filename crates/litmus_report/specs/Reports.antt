@@ -5,7 +5,7 @@ use Rattle.std.specs.Prelude.{IsPermutation, IsSorted}
 use Rattle.std.specs.Ordering.{nat_cmp}
 use Rattle.std.specs.List.{flat_map, list_all, list_any}
 use Rattle.std.specs.Cmp.Lexicographic.{slice_cmp}
-use Rattle.combinations.specs.declared.asked.Asked.{Asked}
+use Rattle.litmus_merges.specs.declared.asked.Asked.{Asked}
 use Rattle.litmus_text.specs.Scripts.{Claim}
 use Rattle.litmus_report.specs.Texts.{clause_text, observation_text, outcome_text, verdict_text}
 use Rattle.litmus_report.specs.Verdicts.{Outcome, condition_holds, count_so, is_so, judged}

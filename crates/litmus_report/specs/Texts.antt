@@ -4,10 +4,10 @@ use Rattle.std.specs.Prelude.{if◌then◌else◌, ◌==◌, IsPermutation}
 use Rattle.std.specs.List.{list_all}
 use Rattle.vm_base.specs.declared.replies.Reply.{Reply}
 use Rattle.slot_lock.specs.declared.map_list.MapLine.{MapLine}
-use Rattle.trace.specs.Listing.{mapping_text}
-use Rattle.combinations.specs.declared.asked.Asked.{Asked}
+use Rattle.trace_text.specs.Listing.{mapping_text}
+use Rattle.litmus_merges.specs.declared.asked.Asked.{Asked}
 use Rattle.trace_text.specs.Printing.{address_of, text_of}
-use Rattle.notes_text.specs.Written.{core_word}
+use Rattle.trace_words.specs.Written.{core_word}
 use Rattle.litmus_text.specs.Scripts.{Claim}
 use Rattle.litmus_report.specs.Verdicts.{Outcome, condition_holds, count_so, is_so, judged}
 use Rattle.litmus_text.specs.declared.facts.Fact.{Fact}

@@ -9,7 +9,7 @@ use Rattle.vm_base.specs.declared.replies.SegvCode.TheVariants.{MapErr, AccErr}
 use Rattle.vm_base.specs.declared.replies.Reply.{Reply}
 use Rattle.slot_lock.specs.declared.map_list.MapLine.{MapLine}
 use Rattle.vm_base.specs.declared.replies.Reply.TheVariants.{Mapped, Done, Byte, Refused, Segv, Bus, NoFrame, NoMemory}
-use Rattle.combinations.specs.declared.asked.Asked.{Asked}
+use Rattle.litmus_merges.specs.declared.asked.Asked.{Asked}
 use Rattle.litmus_text.specs.Places.{call_at}
 use Rattle.litmus_text.specs.declared.facts.Fact.{Fact}
 use Rattle.litmus_text.specs.declared.facts.Fact.TheVariants.{Has, Lacks, Shows}

@@ -5,7 +5,7 @@ use Rattle.trace_text.specs.Lists.{start_of}
 use Rattle.std.specs.List.{flat_map}
 use Rattle.machine_model.specs.declared.event.Event.{Event}
 use Rattle.machine_model.specs.declared.event.Event.TheVariants as Ev
-use Rattle.notes_text.specs.Written.{core_word, request_words, spaced}
+use Rattle.trace_words.specs.Written.{core_word, request_words, spaced}
 use Rattle.litmus_report.specs.declared.witness.Part.{Part}
 use Rattle.litmus_report.specs.declared.witness.Piece.{Piece}
 use Rattle.litmus_report.specs.declared.witness.Part.TheVariants.{Now, Finish, One}

@@ -2,7 +2,7 @@
 ghost use Rattle.std.specs.Prelude.{is_some};
 
 use crate::verdict::Ended;
-use outcomes::Outcome;
+use litmus_outcomes::Outcome;
 use slot_lock::MapLine;
 use std::alloc::Allocator;
 use vm_base::Reply;

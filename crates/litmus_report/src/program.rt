@@ -8,9 +8,9 @@ ghost use Rattle.litmus_report.specs.Program.{call_row, file_row, final_row, lis
 use crate::program_text::{END, FINALS, FRONT, LISTS, OPENING};
 use crate::texts::{add_address, add_number, add_text};
 use crate::witness::add_request;
-use combinations::Asked;
+use litmus_merges::Asked;
 use std::alloc::Allocator;
-use trace::declaration::FileLine;
+use trace_words::declaration::FileLine;
 use vm_base::{Mode, NoMemory};
 
 /// What a litmus test's program has: its files, the calls of the opening in their order, those of the lists, one core's after another's,

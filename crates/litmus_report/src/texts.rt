@@ -1,6 +1,6 @@
 //! What is written of an outcome and of a clause.
 ghost use Rattle.std.specs.Prelude.{◌≡◌, ◌+◌, ◌≤◌, ◌++◌, IfOk, OnOk, codes, decimal, length};
-ghost use Rattle.notes_text.specs.Written.{core_word};
+ghost use Rattle.trace_words.specs.Written.{core_word};
 ghost use Rattle.trace_text.specs.Printing.{address_of, text_of};
 ghost use Rattle.litmus_text.specs.Scripts.{claim_of};
 ghost use Rattle.litmus_report.specs.Texts.{call_text, clause_text, counts_text, fact_text, final_text, finals_text, joint_text, lead_in, more_text};
@@ -10,7 +10,7 @@ ghost use Rattle.litmus_report.specs.Texts.{observation_text, outcome_text, quan
 
 use crate::mappings::add_if_mapped;
 use crate::verdict::{Ended, Named, Verdict};
-use combinations::Asked;
+use litmus_merges::Asked;
 use litmus_text::facts::{Fact, Joint, Term};
 use litmus_text::kinds::Quantifier;
 use litmus_text::script::Clause;

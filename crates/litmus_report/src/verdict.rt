@@ -1,12 +1,12 @@
 //! What clauses come to, by the outcomes of a litmus test.
 ghost use Rattle.std.specs.Prelude.{◌≡◌, ◌&&◌, ◌≤◌, Bool, List, filter, length, map, not};
 ghost use Rattle.std.specs.List.{list_any};
-ghost use Rattle.combinations.specs.declared.asked.Asked.{Asked as AskedOf};
+ghost use Rattle.litmus_merges.specs.declared.asked.Asked.{Asked as AskedOf};
 ghost use Rattle.litmus_report.specs.Verdicts.{Outcome, at_place, condition_holds, count_so, existence, fact_holds, is_code, is_errno, is_given, is_reply};
 ghost use Rattle.litmus_report.specs.Verdicts.{is_or, is_so, judged, opposite, place_of, reply_to};
 ghost use Rattle.litmus_text.specs.declared.facts.Term.{Term as TermOf};
 
-use combinations::Asked;
+use litmus_merges::Asked;
 use litmus_text::facts::{Fact, Joint, Term};
 use litmus_text::kinds::Quantifier;
 use litmus_text::places::call_at;

@@ -2,13 +2,13 @@
 ghost use Rattle.std.specs.Prelude.{◌≡◌, ◌+◌, ◌≤◌, ◌++◌, ◌<◌, IfOk, OnOk, Some, codes, decimal, drop, false, length, min, replicate, slice_get, take, true};
 ghost use Rattle.std.specs.List.{flat_map};
 ghost use Rattle.machine_model.specs.declared.event.Event.TheVariants.{Call, Go};
-ghost use Rattle.notes_text.specs.Written.{request_words, spaced};
+ghost use Rattle.trace_words.specs.Written.{request_words, spaced};
 ghost use Rattle.trace_text.specs.Lists.{start_of};
 ghost use Rattle.litmus_report.specs.Witness.{IsPiece, IsTrace, StandFor, core_line, event_line, goes_on, part_line, part_text};
 
 use crate::texts::{add_core, add_number, add_text};
 use machine_model::Event;
-use notes_text::request_text::push_request;
+use trace_words::request_text::push_request;
 use std::alloc::Allocator;
 use trace_text::{LineText, push_start};
 use vm_base::{CoreId, NoMemory, Request};

@@ -1,7 +1,7 @@
 -- The calls of one core after another.
 use Rattle.std.proofs.Common.{◌≡◌, ℕ, suc, ◌+◌, List, [], ◌∷◌, ◌++◌, sym, ap, refl, ◌∙◌, arith, append-nil, append_assoc}
 use Rattle.std.specs.List.{flat_map, range_with_len}
-use Rattle.trace.proofs.TextLemmas.{range_more}
+use Rattle.trace_words.proofs.TextLemmas.{range_more}
 
 flat-append : {X Y : Type 0} (f : X → List Y) (xs ys : List X) → flat_map f (xs ++ ys) ≡ flat_map f xs ++ flat_map f ys
 flat-append f [] ys = refl

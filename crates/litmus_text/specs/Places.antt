@@ -1,6 +1,6 @@
 -- Where in the lists a call stands.
 use Rattle.std.specs.Prelude.{ℕ, suc, ◌-◌, List, [], ◌∷◌, Option, None, Some, option_map, if◌then◌else◌, ◌==◌}
-use Rattle.combinations.specs.declared.asked.Asked.{Asked}
+use Rattle.litmus_merges.specs.declared.asked.Asked.{Asked}
 
 -- the place among the calls of the core's call with this number, from 1
 abbrev pub call_at : List Asked → ℕ → ℕ → Option ℕ

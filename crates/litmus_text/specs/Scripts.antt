@@ -4,15 +4,15 @@ use Rattle.std.specs.Prelude.{Option, None, Some, Result, Ok, Err, option_map, i
 use Rattle.std.specs.List.{flat_map, list_any, range_with_len}
 use Rattle.vm_base.specs.declared.requests.Request.{Request}
 use Rattle.vm_base.specs.Requests.{is_placed}
-use Rattle.combinations.specs.declared.asked.Asked.{Asked as Call}
-use Rattle.core_steps.specs.declared.setup.SetupFault.{SetupFault}
+use Rattle.litmus_merges.specs.declared.asked.Asked.{Asked as Call}
+use Rattle.machine_model.specs.declared.setup.SetupFault.{SetupFault}
 use Rattle.trace_io.specs.declared.fault.IoFault.TheVariants.{NoMemory}
 use Rattle.trace_text.specs.Action.{number_alone}
 use Rattle.trace_text.specs.Line.{are_printable, line_of}
 use Rattle.trace_text.specs.Words.{Word, words_of}
 use Rattle.trace_text.specs.declared.line.Line.{Line}
 use Rattle.trace_text.specs.declared.line.Line.TheVariants as Of
-use Rattle.trace.specs.Declarations.{Asked, asks_for, is_next, with_file, asked_fault}
+use Rattle.trace_words.specs.Declarations.{Asked, asks_for, is_next, with_file, asked_fault}
 use Rattle.litmus_text.specs.Facts.{terms_of}
 use Rattle.litmus_text.specs.Kinds.{args_of, has_none, has_together, is_maps, kind_of}
 use Rattle.litmus_text.specs.Places.{call_at}

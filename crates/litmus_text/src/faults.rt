@@ -1,5 +1,5 @@
 //! Why a text is no litmus test.
-use core_steps::SetupFault;
+use machine_model::SetupFault;
 use thiserror::Error;
 use trace_io::IoFault;
 

@@ -4,7 +4,7 @@ ghost use Rattle.std.specs.Prelude.{◌++◌, IfOk, OnOk};
 ghost use Rattle.litmus_text.specs.Places.{call_at};
 ghost use Rattle.litmus_text.specs.Scripts.{by_core, calls_of};
 
-use combinations::Asked;
+use litmus_merges::Asked;
 use std::alloc::Allocator;
 use vm_base::{CoreId, NoMemory};
 

@@ -1,7 +1,7 @@
 -- The take of a core's oldest message, as the machine has it
 use Rattle.std.proofs.Common.{◌≡◌, ℕ}
-use Rattle.shootdown.specs.declared.message.Took.{Took}
-use Rattle.shootdown.specs.declared.message.Took.TheVariants.{Clear, Invalidate, Idle}
+use Rattle.mmu.specs.declared.message.Took.{Took}
+use Rattle.mmu.specs.declared.message.Took.TheVariants.{Clear, Invalidate, Idle}
 use Rattle.machine_model.specs.declared.event.Outcome.TheVariants.{Stepped}
 use Rattle.machine_model.specs.World.{World}
 use Rattle.machine_model.specs.Translating.{TakesMessage, with_hardware}

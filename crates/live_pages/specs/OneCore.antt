@@ -2,10 +2,10 @@
 use Rattle.std.specs.Prelude.{ℕ, List, Option}
 use Rattle.mmu.specs.declared.entry.Translation.{Translation}
 use Rattle.mmu.specs.declared.tlb.TlbEntry.{TlbEntry}
-use Rattle.shootdown.specs.declared.message.Message.{Message}
-use Rattle.shootdown.specs.declared.message.Took.{Took}
-use Rattle.shootdown.specs.declared.message.Took.TheVariants.{Clear, Invalidate, Idle}
-use Rattle.shootdown.specs.Messages.{InboxOf, remaining}
+use Rattle.mmu.specs.declared.message.Message.{Message}
+use Rattle.mmu.specs.declared.message.Took.{Took}
+use Rattle.mmu.specs.declared.message.Took.TheVariants.{Clear, Invalidate, Idle}
+use Rattle.mmu.specs.Messages.{InboxOf, remaining}
 use Rattle.machine_model.specs.World.{Hardware}
 use Rattle.machine_model.specs.Translating.{tables_cleared, tlb_invalidated, with_inbox}
 

@@ -10,8 +10,8 @@ use Rattle.mmu.specs.declared.cpu.Cpu.{Cpu}
 use Rattle.mmu.specs.declared.entry.Translation.{Translation}
 use Rattle.mmu.specs.declared.tlb.TlbEntry.{TlbEntry}
 use Rattle.refcache.specs.Pieces.{Core}
-use Rattle.shootdown.specs.declared.message.Message.{Message}
-use Rattle.shootdown.specs.Messages.{InboxOf, message_of, oldest_of}
+use Rattle.mmu.specs.declared.message.Message.{Message}
+use Rattle.mmu.specs.Messages.{InboxOf, message_of, oldest_of}
 use Rattle.machine_model.specs.Translating.{after_shot}
 use Rattle.live_pages.specs.OneCore.{OneCore, one_core, after_on}
 use Rattle.live_pages.specs.declared.pieces.CoreState.{CoreState}

@@ -2,11 +2,11 @@
 ghost use Rattle.std.specs.Prelude.{◌≡◌, ◌≤◌, ◌^◌, is_some, length, true};
 ghost use Rattle.vm_base.specs.Plain.{file_bytes, page_bytes, zeros};
 ghost use Rattle.frames.specs.Parts.{cell_bytes};
-ghost use Rattle.backing.specs.Files.{files_of};
+ghost use Rattle.frames.specs.Files.{files_of};
 ghost use Rattle.live_pages.specs.Counts.{Begins, BeginsFrom};
 
 use crate::pieces::FrameState;
-use backing::Objects;
+use frames::Objects;
 use frames::FrameCell;
 use std::alloc::Allocator;
 

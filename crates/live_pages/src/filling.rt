@@ -2,7 +2,7 @@
 //! with the bytes of its file page.
 ghost use Rattle.std.specs.Prelude.{◌≡◌, ◌≢◌, None, Some, All, IfSome, is_some, pos, true};
 ghost use Rattle.vm_base.specs.Plain.{file_bytes, zeros};
-ghost use Rattle.backing.specs.Files.{files_of};
+ghost use Rattle.frames.specs.Files.{files_of};
 ghost use Rattle.live_levels.specs.declared.act.Act.TheVariants.{Frame};
 ghost use Rattle.seats.specs.Notes.{CanNote};
 ghost use Rattle.machine_model.specs.Files.{back_of};
@@ -19,7 +19,7 @@ use crate::frames_held::{FramesHeld, Place, lock_frame, lock_these};
 use crate::free_frames::FreeFrames;
 use crate::pieces::{CoreState, Pieces, lock_core, number_of};
 use crate::settling::place_of;
-use backing::{CachedFrame, Objects};
+use frames::{CachedFrame, Objects};
 use live_levels::act::Act;
 use live_levels::level::Stepper;
 use live_tree::held::Held;

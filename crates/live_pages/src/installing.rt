@@ -13,7 +13,7 @@ ghost use Rattle.live_pages.specs.Steps.{Stays, StepsWith};
 
 use crate::pieces::{CoreState, Pieces, lock_core};
 use crate::settling::{frame_in, lock_cached};
-use backing::CachedFrame;
+use frames::CachedFrame;
 use live_levels::act::Act;
 use live_levels::level::Stepper;
 use live_tree::held::Held;

@@ -1,6 +1,6 @@
 //! What an access finds at its page, and the frame that caches its file page.
 ghost use Rattle.std.specs.Prelude.{◌≡◌, ℕ, Option, is_some, option_copied};
-ghost use Rattle.backing.specs.Files.{files_of};
+ghost use Rattle.frames.specs.Files.{files_of};
 ghost use Rattle.machine_model.specs.Accesses.{is_past_end};
 ghost use Rattle.machine_model.specs.Files.{back_of};
 ghost use Rattle.vm_calls.specs.Settling.{settled};
@@ -9,7 +9,7 @@ ghost use Rattle.live_pages.specs.Cached.{cached_in, place_in};
 ghost use Rattle.live_pages.specs.Steps.{StepsOnce};
 
 use crate::pieces::Pieces;
-use backing::CachedFrame;
+use frames::CachedFrame;
 use live_levels::level::Stepper;
 use machine_model::answers::{back_of, is_past_end};
 use seats::Seat;

@@ -4,15 +4,15 @@ use Rattle.std.specs.Prelude.{None}
 use Rattle.vm_base.specs.declared.page.PageRange.{PageRange}
 use Rattle.slot_lock.specs.Slots.{Slots}
 use Rattle.live_levels.specs.declared.close.SlotHistory.{SlotHistory}
-use Rattle.core_steps.specs.declared.setup.Setup.{Setup}
-use Rattle.core_steps.specs.Setups.{fault_of, made_of}
+use Rattle.machine_model.specs.declared.setup.Setup.{Setup}
+use Rattle.machine_model.specs.Setups.{fault_of, made_of}
 use Rattle.seats.specs.declared.noted.Noted.{Noted}
 use Rattle.certifier.specs.declared.result.CertifyFault.{CertifyFault}
 use Rattle.certifier.specs.declared.result.CertifyFault.TheVariants.{Setup as OfSetup, Ticket, Differs, Slot, NoMemory}
 use Rattle.certifier.specs.Following.{IsCertified, Fails}
-use Rattle.trace.specs.Declarations.{Asked, asked_fault, made_by}
+use Rattle.trace_words.specs.Declarations.{Asked, asked_fault, made_by}
 use Rattle.notes_text.specs.Verdicts.{Made}
-use Rattle.notes_text.specs.Scripts.{Scripted}
+use Rattle.trace_words.specs.Scripts.{Scripted}
 use Rattle.notes_text.specs.declared.verdict.Verdict.{Verdict}
 use Rattle.live_tree.specs.Named.{AreOf}
 use Rattle.live_tree.specs.declared.histories.Histories.{Histories}

@@ -22,12 +22,12 @@ use Rattle.seats.specs.declared.noted.Noted.{Noted}
 use Rattle.certifier.specs.Order.{all_notes, with_ticket}
 use Rattle.live_space.specs.Space.{LiveView}
 use Rattle.notes_text.specs.Ordered.{AreInOrder}
-use Rattle.notes_text.specs.Scripts.{ReadWhole, Scripted}
+use Rattle.trace_words.specs.Scripts.{ReadWhole, Scripted}
 use Rattle.notes_text.specs.TextLaws.{FitsLine, SaysNotes, WaitsGoing}
 use Rattle.notes_text.specs.WrittenLaws.{FitsEvent, FitsOutcome}
 use Rattle.notes_text.specs.NotesWritten.{notes_text}
-use Rattle.notes_text.specs.declared.script.Task.{Task}
-use Rattle.notes_text.specs.declared.script.Task.TheVariants.{Call, Flush, Review}
+use Rattle.trace_words.specs.declared.script.Task.{Task}
+use Rattle.trace_words.specs.declared.script.Task.TheVariants.{Call, Flush, Review}
 use Rattle.notes_text.proofs.FitsLemmas.{scripts_declare}
 use Rattle.notes_text.proofs.ShortLines.{lines_are_short}
 use Rattle.notes_text.proofs.TextWritten.{written_is_said}

@@ -12,9 +12,9 @@ use Rattle.seats.specs.Growing.{IsSame, NotesIf}
 use Rattle.seats.specs.Notes.{SeatView}
 use Rattle.live_space.specs.Space.{LiveView}
 use Rattle.live_space.specs.declared.fault.LiveFault.{LiveFault}
-use Rattle.notes_text.specs.Scripts.{Scripted}
-use Rattle.notes_text.specs.declared.script.Task.{Task}
-use Rattle.notes_text.specs.declared.script.Task.TheVariants.{Call, Flush, Review}
+use Rattle.trace_words.specs.Scripts.{Scripted}
+use Rattle.trace_words.specs.declared.script.Task.{Task}
+use Rattle.trace_words.specs.declared.script.Task.TheVariants.{Call, Flush, Review}
 use Rattle.live_script.specs.declared.lane.Lane.{Lane}
 use Rattle.live_script.specs.Tasks.{Does, DoesAll, EndsAs}
 use Rattle.live_script.specs.Runs.{EndEach, IsBegun, RanView}

@@ -4,16 +4,16 @@ use Rattle.std.proofs.Common.{arith, refl, sym, ap, ◌∙◌, subst}
 use Rattle.std.proofs.lemmas.List.{drop_all, get_or-map, length-map, map-append, take_all}
 use Rattle.std.proofs.lemmas.List.Elements.{All-append}
 use Rattle.std.specs.Prelude.{All, Option, None, Some}
-use Rattle.core_steps.specs.declared.setup.Setup.{Setup}
-use Rattle.core_steps.specs.Setups.{made_of}
+use Rattle.machine_model.specs.declared.setup.Setup.{Setup}
+use Rattle.machine_model.specs.Setups.{made_of}
 use Rattle.machine_model.specs.World.{Made}
 use Rattle.seats.specs.Notes.{SeatView}
 use Rattle.seats.specs.declared.noted.Noted.{Noted}
 use Rattle.live_space.proofs.Own.{fresh_own}
 use Rattle.live_space.specs.Space.{AreFresh, IsFresh, IsMade, IsOf, LiveView}
 use Rattle.live_space.specs.declared.fault.LiveFault.{LiveFault}
-use Rattle.trace.specs.Declarations.{Asked, asked_fault, made_by}
-use Rattle.notes_text.specs.Scripts.{Scripted}
+use Rattle.trace_words.specs.Declarations.{Asked, asked_fault, made_by}
+use Rattle.trace_words.specs.Scripts.{Scripted}
 use Rattle.live_script.specs.declared.lane.Lane.{Lane}
 use Rattle.live_script.specs.Certified.{AreRising}
 use Rattle.live_script.specs.Tasks.{EndsAs}

@@ -8,7 +8,7 @@ use Rattle.std.proofs.lemmas.List.Sums.{length-filter, sum_by-cons}
 use Rattle.vm_base.specs.declared.page.PageRange.{PageRange}
 use Rattle.slot_lock.specs.Slots.{Slots}
 use Rattle.live_levels.specs.declared.close.SlotHistory.{SlotHistory}
-use Rattle.core_steps.specs.declared.setup.Setup.{Setup}
+use Rattle.machine_model.specs.declared.setup.Setup.{Setup}
 use Rattle.seats.specs.Gathered.{AreWhole, tickets_in}
 use Rattle.seats.specs.Notes.{ticket_of}
 use Rattle.seats.specs.Tickets.{count_in, once_below, times, times_in}

@@ -5,7 +5,7 @@ use Rattle.seats.specs.Notes.{SeatView}
 use Rattle.live_space.specs.Calls.{IsIdle}
 use Rattle.live_space.specs.Space.{LiveView}
 use Rattle.live_space.specs.declared.fault.LiveFault.{LiveFault}
-use Rattle.notes_text.specs.declared.script.Task.{Task}
+use Rattle.trace_words.specs.declared.script.Task.{Task}
 use Rattle.live_script.specs.Tasks.{Does, DoesAll, Lacks, Stops}
 
 -- one task more was done

@@ -10,18 +10,18 @@ use Rattle.seats.specs.Notes.{SeatView}
 use Rattle.seats.specs.declared.noted.Noted.{Noted}
 use Rattle.certifier.specs.Order.{all_notes}
 use Rattle.live_space.specs.Space.{LiveView}
-use Rattle.trace.specs.Declarations.{Asked, asked_fault}
-use Rattle.trace.specs.declared.fault.TraceFault.{TraceFault}
-use Rattle.trace.specs.declared.fault.TraceFault.TheVariants as Of
+use Rattle.trace_words.specs.Declarations.{Asked, asked_fault}
+use Rattle.trace_words.specs.declared.fault.TraceFault.{TraceFault}
+use Rattle.trace_words.specs.declared.fault.TraceFault.TheVariants as Of
 use Rattle.seats.specs.Fitting.{FitsTypes}
 use Rattle.seats.specs.Packing.{shown}
 use Rattle.seats.specs.declared.note_list.Notes.{Notes}
 use Rattle.notes_text.specs.Ordered.{AreInOrder}
-use Rattle.notes_text.specs.Scripts.{ReadWhole, Scripted, Unread, unread_text, unmade, wanting}
+use Rattle.trace_words.specs.Scripts.{ReadWhole, Scripted, Unread, unread_text, unmade, wanting}
 use Rattle.notes_text.specs.Verdicts.{verdict_text}
 use Rattle.notes_text.specs.WriteEnds.{Writes}
 use Rattle.notes_text.specs.NotesWritten.{notes_text}
-use Rattle.notes_text.proofs.CollectLemmas.{stops_own}
+use Rattle.trace_words.proofs.CollectLemmas.{stops_own}
 use Rattle.live_script.specs.Certified.{notes_in}
 use Rattle.live_script.specs.Runs.{Fails, RunsAll}
 use Rattle.live_script.specs.Sums.{sums_of}

@@ -4,7 +4,7 @@ use Rattle.std.proofs.lemmas.List.{get_or_default, get_or-set_same, get_or-set_o
 use Rattle.std.specs.Prelude.{All}
 use Rattle.refcache.proofs.Sums.{same_or_not}
 use Rattle.live_space.specs.Space.{LiveView}
-use Rattle.notes_text.specs.declared.script.Task.{Task}
+use Rattle.trace_words.specs.declared.script.Task.{Task}
 use Rattle.live_script.specs.declared.lane.Lane.{Lane}
 use Rattle.live_script.specs.Tasks.{EndsAs}
 use Rattle.live_script.specs.Runs.{EndEach}

@@ -10,7 +10,7 @@ use Rattle.certifier.specs.declared.result.CertifyFault.{CertifyFault}
 use Rattle.certifier.specs.declared.result.CertifyFault.TheVariants.{NoMemory, Setup, Ticket}
 use Rattle.certifier.specs.Following.{IsCertified, Fails}
 use Rattle.certifier.specs.Order.{all_notes}
-use Rattle.trace.specs.Declarations.{Asked, asked_fault}
+use Rattle.trace_words.specs.Declarations.{Asked, asked_fault}
 use Rattle.notes_text.specs.Verdicts.{Made}
 
 -- all that the seats noted

@@ -1,6 +1,9 @@
 pub mod Certified
+pub mod Ends
+pub mod History
 pub mod ReadBack
 pub mod Runs
 pub mod Sums
 pub mod Tasks
+pub mod Text
 pub mod Texts

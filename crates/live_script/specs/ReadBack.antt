@@ -1,6 +1,6 @@
 -- What is written of a script is read as the notes.
 use Rattle.std.specs.Prelude.{ℕ, List}
-use Rattle.notes_text.specs.Scripts.{ReadWhole, Scripted}
+use Rattle.trace_words.specs.Scripts.{ReadWhole, Scripted}
 use Rattle.notes_text.specs.TextLaws.{SaysNotes}
 use Rattle.live_script.specs.Texts.{IsNotesText}
 

@@ -1,13 +1,13 @@
 -- What running a script comes to
 use Rattle.std.specs.Prelude.{◌≡◌, ℕ, ◌<◌, ◌/◌, ◌⊎◌, List, [], ◌∷◌, length, get_or, Option, None, Some}
-use Rattle.backing.specs.Files.{files_of}
-use Rattle.core_steps.specs.declared.setup.SetupFault.TheVariants as Wrong
+use Rattle.frames.specs.Files.{files_of}
+use Rattle.machine_model.specs.declared.setup.SetupFault.TheVariants as Wrong
 use Rattle.seats.specs.Notes.{SeatView}
 use Rattle.live_space.specs.Space.{AreFresh, IsFresh, LiveView}
 use Rattle.live_space.specs.declared.fault.LiveFault.{LiveFault}
-use Rattle.trace.specs.Declarations.{Asked, asked_fault, file_at}
-use Rattle.notes_text.specs.Scripts.{Scripted}
-use Rattle.notes_text.specs.declared.script.Task.{Task}
+use Rattle.trace_words.specs.Declarations.{Asked, asked_fault, file_at}
+use Rattle.trace_words.specs.Scripts.{Scripted}
+use Rattle.trace_words.specs.declared.script.Task.{Task}
 use Rattle.live_script.specs.declared.fault.RunFault.{RunFault}
 use Rattle.live_script.specs.declared.fault.RunFault.TheVariants.{Setup, Live, NoMemory}
 use Rattle.live_script.specs.declared.lane.Lane.{Lane}

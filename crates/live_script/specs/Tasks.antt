@@ -1,7 +1,7 @@
 -- What becomes of a seat that does the tasks of its core
 use Rattle.std.specs.Prelude.{◌≡◌, ℕ, ◌+◌, Bool, List, [], ◌∷◌, ◌++◌, Option, None, Some}
 use Rattle.vm_base.specs.Plain.{mode_of}
-use Rattle.backing.specs.Files.{files_of}
+use Rattle.frames.specs.Files.{files_of}
 use Rattle.vm_base.specs.declared.replies.Reply.{Reply}
 use Rattle.machine_model.specs.declared.event.Event.TheVariants as EventOf
 use Rattle.seats.specs.Notes.{SeatView}
@@ -11,8 +11,8 @@ use Rattle.live_space.specs.Calls.{IsIdle, LacksCall, LacksRoom, MayBegin}
 use Rattle.live_space.specs.Counting.{NotesOneIf}
 use Rattle.live_space.specs.Space.{LiveView}
 use Rattle.live_space.specs.declared.fault.LiveFault.{LiveFault}
-use Rattle.notes_text.specs.declared.script.Task.{Task}
-use Rattle.notes_text.specs.declared.script.Task.TheVariants.{Call, Flush, Review}
+use Rattle.trace_words.specs.declared.script.Task.{Task}
+use Rattle.trace_words.specs.declared.script.Task.TheVariants.{Call, Flush, Review}
 
 -- a call that could begin was begun, and noted whole with a reply of its request; a flush or a review was noted, or
 -- found nothing to do

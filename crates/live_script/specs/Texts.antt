@@ -14,13 +14,13 @@ use Rattle.certifier.specs.declared.result.CertifyFault.TheVariants as By
 use Rattle.live_space.specs.Space.{LiveView}
 use Rattle.trace_io.specs.Sink.{AppendsFront}
 use Rattle.trace_io.specs.Io.{ReadFrom, TellsSent, WrittenTo}
-use Rattle.trace.specs.Declarations.{Asked}
-use Rattle.trace.specs.Faults.{fault_named}
-use Rattle.trace.specs.declared.fault.TraceFault.{TraceFault}
-use Rattle.trace.specs.declared.fault.TraceFault.TheVariants as Of
+use Rattle.trace_words.specs.Declarations.{Asked}
+use Rattle.trace_words.specs.Faults.{fault_named}
+use Rattle.trace_words.specs.declared.fault.TraceFault.{TraceFault}
+use Rattle.trace_words.specs.declared.fault.TraceFault.TheVariants as Of
 use Rattle.notes_text.specs.Ordered.{AreInOrder}
 use Rattle.notes_text.specs.TextLaws.{FitsLine}
-use Rattle.notes_text.specs.Scripts.{ReadWhole, Scripted, Unread}
+use Rattle.trace_words.specs.Scripts.{ReadWhole, Scripted, Unread}
 use Rattle.notes_text.specs.Verdicts.{verdict_text}
 use Rattle.notes_text.specs.NotesWritten.{notes_text}
 use Rattle.notes_text.specs.declared.verdict.Verdict.{Verdict}

@@ -6,7 +6,7 @@ ghost use Rattle.live_script.specs.Certified.{IsCertifiedRun, IsNoTicket, FailsR
 
 use certifier::{Certified, CertifyFault, certify};
 use live_tree::histories::Histories;
-use notes_text::Script;
+use trace_words::Script;
 use radix_range::RadixMap;
 use seats::Notes;
 use slot_lock::SlotMap;

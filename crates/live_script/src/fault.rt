@@ -1,5 +1,5 @@
 //! Why a script wasn't run to its end.
-use core_steps::SetupFault;
+use machine_model::SetupFault;
 use live_space::fault::LiveFault;
 use thiserror::Error;
 

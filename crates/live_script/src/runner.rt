@@ -6,7 +6,7 @@ ghost use Rattle.live_script.specs.Runs.{Fails, RunsAll};
 use crate::fault::RunFault;
 use crate::ran::Ran;
 use crate::running::{run_in_turn, run_script};
-use notes_text::Script;
+use trace_words::Script;
 use std::alloc::{Allocator, Global};
 use std::sync::Wait;
 use std::thread::Threads;

@@ -8,7 +8,7 @@ use crate::lane::Lane;
 use live_space::fault::LiveFault;
 use live_space::gate::Open;
 use live_space::space::Live;
-use notes_text::Task;
+use trace_words::Task;
 use seats::Seat;
 use std::alloc::Allocator;
 use std::sync::Wait;

@@ -2,8 +2,8 @@
 ghost use Rattle.std.specs.Prelude.{◌≡◌, ◌⊎◌, Err, IfErr, IfOk, None, OnOk, true};
 ghost use Rattle.trace_io.specs.Io.{IsWritten, read_from, written_to};
 ghost use Rattle.trace_io.specs.Source.{Reads};
-ghost use Rattle.trace.specs.Declarations.{asked_fault};
-ghost use Rattle.notes_text.specs.Scripts.{ReadsScript, Unread, ReadWhole};
+ghost use Rattle.trace_words.specs.Declarations.{asked_fault};
+ghost use Rattle.trace_words.specs.Scripts.{ReadsScript, Unread, ReadWhole};
 ghost use Rattle.notes_text.specs.Verdicts.{verdict_text};
 ghost use Rattle.live_script.specs.Runs.{Fails};
 ghost use Rattle.live_script.specs.Texts.{EndsText, IsSummedText, IsVerdictText, JudgedNotes, TellsText, Yields, fault_of_run};
@@ -16,14 +16,15 @@ use crate::sums::{Sums, sums_of};
 use certifier::CertifyFault;
 use live_space::fault::LiveFault;
 use notes_text::verdict::{Verdict, write_verdict};
-use notes_text::{Script, read_script, write_notes};
+use trace_words::{Script, read_script};
+use notes_text::write_notes;
 use radix_range::RadixMap;
 use slot_lock::SlotMap;
 use std::alloc::Allocator;
 use std::sync::Wait;
 use std::thread::Threads;
 use thiserror::Error;
-use trace::fault::TraceFault;
+use trace_words::fault::TraceFault;
 use trace_io::sink::{Sink, WriteFailed};
 use trace_io::source::Source;
 

@@ -1,11 +1,11 @@
 -- What a clause sees of a space that threads share, and how it begins
 use Rattle.std.specs.Prelude.{◌≡◌, ℕ, ◌<◌, ◌/◌, List, [], length, get_or, None}
 use Rattle.atomic_table.specs.Seated.{TableId}
-use Rattle.backing.specs.Files.{FileParts, files_of}
-use Rattle.backing.specs.Given.{given_files}
+use Rattle.frames.specs.Files.{FileParts, files_of}
+use Rattle.frames.specs.Given.{given_files}
 use Rattle.machine_model.specs.declared.event.Event.TheVariants.{Go}
-use Rattle.core_steps.specs.declared.setup.Setup.{Setup}
-use Rattle.core_steps.specs.Setups.{fault_of}
+use Rattle.machine_model.specs.declared.setup.Setup.{Setup}
+use Rattle.machine_model.specs.Setups.{fault_of}
 use Rattle.seats.specs.Gathered.{AreAll}
 use Rattle.seats.specs.Notes.{SeatView}
 

@@ -6,7 +6,7 @@ ghost use Rattle.live_pages.specs.Targets.{count_below};
 ghost use Rattle.slot_lock.specs.Plan.{IsSoundTouch};
 ghost use Rattle.live_space.specs.declared.ending.Ending.TheVariants.{GiveUp};
 ghost use Rattle.live_space.specs.Endings.{HoldsNone, RunsTo};
-ghost use Rattle.backing.specs.Files.{files_of};
+ghost use Rattle.frames.specs.Files.{files_of};
 ghost use Rattle.live_levels.specs.declared.act.Act.TheVariants.{Record};
 ghost use Rattle.live_space.specs.InFlight.{GoesOn, HasStepsLeft, HoldsJust};
 ghost use Rattle.live_space.specs.Answering.{IsFault};

@@ -1,7 +1,7 @@
 //! A change of the pages that its request names: a mapping with `MAP_FIXED`, an munmap or an mprotect.
 ghost use Rattle.std.specs.Prelude.{◌≡◌, ◌+◌, ◌*◌, length, IfSome, IsTrue};
 ghost use Rattle.slot_lock.specs.Plan.{IsSoundChange, range_of};
-ghost use Rattle.backing.specs.Files.{files_of};
+ghost use Rattle.frames.specs.Files.{files_of};
 ghost use Rattle.live_tree.specs.Held.{AreAlike, Covers};
 ghost use Rattle.live_tree.specs.Shown.{shown};
 ghost use Rattle.live_pages.specs.Targets.{count_below};

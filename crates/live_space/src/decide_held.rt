@@ -3,14 +3,14 @@ ghost use Rattle.std.specs.Prelude.{◌≡◌, ◌+◌, ◌++◌, IfSome, IsTrue
 ghost use Rattle.std.specs.Prelude.{option_to_list};
 ghost use Rattle.slot_lock.specs.declared.plan.Change.TheVariants as ChangeOf;
 ghost use Rattle.slot_lock.specs.Plan.{IsSoundChange, IsSoundGoal, range_of};
-ghost use Rattle.backing.specs.Files.{files_of};
+ghost use Rattle.frames.specs.Files.{files_of};
 ghost use Rattle.vm_calls.specs.Decisions.{Decides, IsNoAccess, IsSoundAct};
 ghost use Rattle.machine_model.specs.Counting.{frame_lost};
 ghost use Rattle.live_tree.specs.Held.{Covers};
 ghost use Rattle.live_tree.specs.Shown.{shown};
 ghost use Rattle.live_space.specs.Losing.{DecidesHeld};
 
-use backing::Objects;
+use frames::Objects;
 use live_tree::held::Held;
 use live_tree::held::losses::Losses;
 use slot_lock::{Change, Goal, SlotMap};

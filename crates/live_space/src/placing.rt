@@ -18,7 +18,7 @@ use crate::ending::Ending;
 use crate::gate::{Gate, Point};
 use crate::in_call::InCall;
 use crate::space::Live;
-use backing::Objects;
+use frames::Objects;
 use live_levels::level::Stepper;
 use live_tree::held::cut::Cutting;
 use machine_model::{Event, Outcome};

@@ -2,7 +2,7 @@
 ghost use Rattle.std.specs.Prelude.{◌≡◌, length};
 ghost use Rattle.live_space.specs.Space.{LiveView};
 
-use backing::{CachedFrame, Objects};
+use frames::{CachedFrame, Objects};
 use crossbeam_utils::CachePadded;
 use live_pages::free_frames::FreeFrames;
 use live_pages::pieces::{CoreState, FrameState, Pieces};

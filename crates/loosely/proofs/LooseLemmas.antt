@@ -2,8 +2,8 @@
 use Rattle.std.proofs.Common.{◌≡◌, ◌∙◌, ℕ, Bool, List, [], ap, length, subst, sym}
 use Rattle.vm_base.specs.declared.replies.Reply.{Reply}
 use Rattle.vm_base.specs.Plain.{Plain, nothing_mapped}
-use Rattle.backing.specs.declared.file_spec.FileSpec.{FileSpec}
-use Rattle.backing.specs.Given.{given_files}
+use Rattle.frames.specs.declared.file_spec.FileSpec.{FileSpec}
+use Rattle.frames.specs.Given.{given_files}
 use Rattle.audit.specs.Placing.{rule_of}
 use Rattle.audit_text.specs.Legal.{first_map}
 use Rattle.orders.specs.declared.history.Timed.{Timed}
@@ -12,8 +12,8 @@ use Rattle.orders_text.specs.Steps.{read_of}
 use Rattle.orders_text.specs.declared.reading.History.{History}
 use Rattle.loose_orders.specs.declared.steps.Step.{Step}
 use Rattle.loose_orders.specs.Loose.{HasLooseOrder, IsLooseOrder}
-use Rattle.by_pages.specs.Pages.{AreChosen, parts_from}
-use Rattle.by_pages.specs.declared.splitting.Part.{Part}
+use Rattle.orders.specs.Pages.{AreChosen, parts_from}
+use Rattle.orders.specs.declared.splitting.Part.{Part}
 use Rattle.overlapping.specs.Waiting.{NoneWaits}
 use Rattle.overlapping.specs.declared.judging.Ruling.TheVariants.{Legal}
 use Rattle.overlapping.specs.declared.judging.Shown.{Shown}
@@ -22,8 +22,8 @@ use Rattle.overlapping.specs.declared.judging.Told.{Told}
 use Rattle.page_orders.specs.Explained.{IsDisorder, IsTold}
 use Rattle.page_orders.specs.Rulings.{HasNone, IsLegal}
 use Rattle.page_orders.proofs.RuleLemmas.{all_answered, bare_told, first_of, parts_answered}
-use Rattle.no_loose_order.specs.Easing.{AreEased}
-use Rattle.no_loose_order.specs.Shown.{HasNoneLoosely, ShowsNoneLoosely}
+use Rattle.loosely.specs.Easing.{AreEased}
+use Rattle.loosely.specs.Shown.{HasNoneLoosely, ShowsNoneLoosely}
 use Rattle.loosely.specs.Loosely.{HasLooseOrderAmong, HasLooseOrderByPages}
 
 pub order_among : (any_place rule : Bool) (t u : Plain) (parts : List Part) (calls made : List Timed) (steps : List Step) → rule ≡ any_place

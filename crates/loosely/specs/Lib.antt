@@ -1,1 +1,4 @@
+pub mod Easing
+pub mod Lagging
 pub mod Loosely
+pub mod Shown

@@ -6,12 +6,12 @@ use Rattle.audit.specs.Placing.{rule_of}
 use Rattle.orders.specs.declared.history.Timed.{Timed}
 use Rattle.orders_text.specs.declared.faults.HistoryFault.{HistoryFault}
 use Rattle.loose_orders.specs.Loose.{HasLooseOrder}
-use Rattle.by_pages.specs.Pages.{AreChosen, parts_from}
-use Rattle.by_pages.specs.declared.splitting.Part.{Part}
+use Rattle.orders.specs.Pages.{AreChosen, parts_from}
+use Rattle.orders.specs.declared.splitting.Part.{Part}
 use Rattle.overlapping.specs.declared.judging.Ruled.{Ruled}
 use Rattle.page_orders.specs.Ends.{JudgementEnds}
 use Rattle.page_orders.specs.Explained.{IsExplained}
-use Rattle.no_loose_order.specs.Easing.{AreEased}
+use Rattle.loosely.specs.Easing.{AreEased}
 
 -- The calls of the parts have an order by the loose rule, whichever of those that may not have taken effect did.
 pub record HasLooseOrderAmong (rule : PlaceRule) (t : Plain) (parts : List Part) : Type 0 where

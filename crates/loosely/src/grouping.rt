@@ -1,6 +1,6 @@
 //! Groups of the calls of pages that are searched together.
 
-use by_pages::Part;
+use orders::Part;
 use page_orders::Joins;
 use std::alloc::Allocator;
 use vm_base::NoMemory;

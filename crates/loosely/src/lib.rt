@@ -2,10 +2,14 @@
 //! an access may still go as before it.
 #![tactic(auto)]
 
+mod easing;
 mod grouping;
 pub mod judging;
+mod lagging;
 mod laying;
 mod searching;
+mod showing;
 pub mod telling;
 
+pub use showing::show_loosely;
 pub use telling::judge_loosely;

@@ -3,8 +3,8 @@ ghost use Rattle.std.specs.Prelude.{◌≤◌, length};
 
 use crate::grouping::{Groups, group};
 use crate::laying::lay;
-use backing::{FileSpec, Objects};
-use by_pages::Part;
+use frames::{FileSpec, Objects};
+use orders::Part;
 use loose_orders::{Step, Use};
 use no_order::files_again;
 use order_search::{Found, Lag, find_lagging};

@@ -10,7 +10,7 @@ use Rattle.refcache.specs.declared.reports.Flush.TheVariants as FlushOf
 use Rattle.refcache.specs.declared.reports.Flush.{Flush as FlushReport}
 use Rattle.refcache.specs.declared.reports.Review.{Review as ReviewReport}
 use Rattle.refcache.specs.declared.reports.Review.TheVariants as ReviewOf
-use Rattle.shootdown.specs.declared.message.Took.TheVariants as TookOf
+use Rattle.mmu.specs.declared.message.Took.TheVariants as TookOf
 use Rattle.machine_model.specs.declared.event.Event.TheVariants.{Frame, Guess, Take, Walk, Evict, Review, Fold}
 use Rattle.machine_model.specs.Coherent.{AreAsked}
 use Rattle.machine_model.proofs.SoundKept.{reached_fine}

@@ -9,7 +9,7 @@ use Rattle.slot_lock.specs.declared.plan.Goal.TheVariants as To
 use Rattle.mmu.specs.declared.translated.Translated.TheVariants as By
 use Rattle.mmu.specs.Tables.{tlb_after}
 use Rattle.mmu.specs.Tlb.{is_at}
-use Rattle.shootdown.specs.declared.message.Took.TheVariants as took
+use Rattle.mmu.specs.declared.message.Took.TheVariants as took
 use Rattle.machine_model.specs.Translating.{with_tlb}
 use Rattle.machine_model.specs.Orderly.{IsOrderly}
 use Rattle.machine_model.proofs.Shapes.{GoesBy, moves, divides, cuts, fits, owns, lets_go, answers, posts, commits, takes, zeroes, first_copies, caches, shares}

@@ -4,7 +4,7 @@ use Rattle.machine_model.proofs.Words.{◌++◌, if◌then◌else◌, PageInfo, 
 use Rattle.machine_model.proofs.Words.{eq_true, Translation, TlbEntry, tlb_without, Message, message_of, posted, asked, remaining, Phase, awaits_in}
 use Rattle.machine_model.proofs.Words.{entry_of_page, Hardware}
 use Rattle.mmu.specs.Tlb.{tlb_filled}
-use Rattle.shootdown.specs.declared.message.Took.TheVariants.{Clear, Invalidate}
+use Rattle.mmu.specs.declared.message.Took.TheVariants.{Clear, Invalidate}
 use Rattle.machine_model.specs.Coherent.{Every, AllowsSome, IsBacked, Mirrors, IsSoundEntry, AreAsked, IsTableClear, IsTlbClear, HasDropped, IsCoherent}
 use Rattle.machine_model.proofs.Lists.{every_map, every_both, every_left, every_kept, none_left, every_filled}
 use Rattle.machine_model.proofs.Lists.{asked_still, posted_other, posted_own, asked_more}

@@ -1,65 +1,66 @@
-pub mod Words
-pub mod Numbered
-pub mod OpenCalls
-pub mod Deciding
-pub mod Shapes
-pub mod Moves
-pub mod Slots
-pub mod Changed
-pub mod Counted
-pub mod Owned
+pub mod Accesses
+pub mod Aiming
+mod AloneExamples
+pub mod Apart
 pub mod Asked
-pub mod Opening
-pub mod Going
-pub mod Locking
-pub mod Paging
-pub mod Kept
-pub mod Effects
+mod Awaiting
+pub mod Beside
 pub mod Bracketed
-mod Examples
-pub mod Lists
-pub mod Cores
-pub mod CoherenceSteps
-pub mod CoherenceKept
+pub mod Changed
 mod CoherenceExamples
-pub mod Pages
-pub mod CountsKept
+pub mod CoherenceKept
+pub mod CoherenceSteps
+mod Commits
+pub mod Cores
+pub mod Counted
 pub mod CountingDown
 mod CountsExamples
-pub mod Logs
-pub mod Replies
-pub mod OneMap
-pub mod SoundPages
-pub mod SoundMoves
-pub mod Reaching
-mod Freeing
-mod Resting
-mod Commits
-pub mod Stores
-pub mod Fills
-pub mod Accesses
-pub mod SoundOpening
-pub mod Sound
-pub mod SoundKept
-mod SoundExamples
-mod Run
-mod PlacedRun
-mod TakenRun
-mod AloneExamples
-mod Rank
-mod Storing
-mod Framed
-mod Rows
-pub mod Telling
-pub mod Using
-pub mod Aiming
-pub mod First
-pub mod Used
-mod Seeking
-mod Noting
-pub mod Taking
-mod Awaiting
-pub mod Serving
+pub mod CountsKept
+pub mod Deciding
+pub mod Effects
 pub mod Ending
-pub mod Beside
-pub mod Apart
+mod Examples
+pub mod Fills
+pub mod First
+mod Framed
+mod Freeing
+pub mod Going
+pub mod Kept
+pub mod Lists
+pub mod Locking
+pub mod Logs
+pub mod Moves
+mod Noting
+pub mod Numbered
+pub mod OneMap
+pub mod OpenCalls
+pub mod Opening
+pub mod Owned
+pub mod Pages
+pub mod Paging
+mod PlacedRun
+mod Rank
+pub mod Reaching
+pub mod Replies
+mod Resting
+mod Rows
+mod Run
+mod Seeking
+pub mod Serving
+pub mod Setups
+pub mod Shapes
+pub mod Slots
+pub mod Sound
+mod SoundExamples
+pub mod SoundKept
+pub mod SoundMoves
+pub mod SoundOpening
+pub mod SoundPages
+pub mod Stores
+mod Storing
+mod TakenRun
+pub mod Taking
+pub mod Telling
+pub mod Used
+pub mod Using
+pub mod Words

@@ -10,7 +10,7 @@ use Rattle.refcache.specs.declared.reports.Flush.{Flush as FlushReport}
 use Rattle.refcache.specs.declared.reports.Flush.TheVariants as flush
 use Rattle.refcache.specs.declared.reports.Review.{Review as ReviewReport}
 use Rattle.refcache.specs.declared.reports.Review.TheVariants as review
-use Rattle.shootdown.specs.declared.message.Took.TheVariants as took
+use Rattle.mmu.specs.declared.message.Took.TheVariants as took
 use Rattle.machine_model.specs.declared.event.Event.TheVariants.{Frame, Guess, Take, Walk, Evict, Review, Fold}
 use Rattle.machine_model.specs.declared.phase.Phase.TheVariants.{Guess as Guessing}
 use Rattle.machine_model.specs.GivingUp.{GivesUpCopy}

@@ -8,7 +8,7 @@ use Rattle.vm_base.specs.declared.requests.Request.{Request}
 use Rattle.vm_base.specs.Cores.{members}
 use Rattle.vm_base.specs.Functions.{put}
 use Rattle.slot_lock.specs.Slots.{IsUser}
-use Rattle.shootdown.specs.declared.message.Message.{Message}
+use Rattle.mmu.specs.declared.message.Message.{Message}
 use Rattle.vm_base.specs.Log.{nth, RepliesBy}
 use Rattle.machine_model.specs.Holding.{awaits_in, can_give_up}
 use Rattle.vm_base.specs.Copies.{page_copied}

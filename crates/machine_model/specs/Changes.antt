@@ -19,7 +19,7 @@ use Rattle.vm_calls.specs.declared.decision.Decision.TheVariants.{Refuse, Act, A
 use Rattle.vm_calls.specs.Checks.{checked}
 use Rattle.vm_calls.specs.Decisions.{Decides}
 use Rattle.vm_calls.specs.Plainly.{answer_to}
-use Rattle.shootdown.specs.Inboxes.{awaited}
+use Rattle.mmu.specs.Inboxes.{awaited}
 use Rattle.refcache.specs.Counts.{Counts}
 use Rattle.machine_model.specs.declared.event.Blocker.TheVariants as WaitsFor
 use Rattle.machine_model.specs.declared.event.Outcome.{Outcome}

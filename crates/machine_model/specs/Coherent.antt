@@ -8,8 +8,8 @@ use Rattle.vm_base.specs.Info.{frame_of, is_recorded}
 use Rattle.mmu.specs.declared.entry.Translation.{Translation}
 use Rattle.mmu.specs.declared.tlb.TlbEntry.{TlbEntry}
 use Rattle.mmu.specs.Entry.{has_right}
-use Rattle.shootdown.specs.declared.message.Message.{Message}
-use Rattle.shootdown.specs.Messages.{message_of}
+use Rattle.mmu.specs.declared.message.Message.{Message}
+use Rattle.mmu.specs.Messages.{message_of}
 use Rattle.slot_lock.specs.Slots.{Slots}
 use Rattle.machine_model.specs.declared.event.Event.{Event}
 use Rattle.machine_model.specs.declared.event.Outcome.{Outcome}

@@ -15,10 +15,10 @@ use Rattle.mmu.specs.declared.translated.Translated.TheVariants as By
 use Rattle.mmu.specs.Entry.{translation_of}
 use Rattle.mmu.specs.Tables.{translated, tlb_after, tlb_walked}
 use Rattle.mmu.specs.Tlb.{tlb_at, tlb_without, is_at}
-use Rattle.shootdown.specs.declared.message.Message.{Message}
-use Rattle.shootdown.specs.declared.message.Took.{Took}
-use Rattle.shootdown.specs.declared.message.Took.TheVariants.{Clear, Invalidate, Idle}
-use Rattle.shootdown.specs.Messages.{remaining, posted}
+use Rattle.mmu.specs.declared.message.Message.{Message}
+use Rattle.mmu.specs.declared.message.Took.{Took}
+use Rattle.mmu.specs.declared.message.Took.TheVariants.{Clear, Invalidate, Idle}
+use Rattle.mmu.specs.Messages.{remaining, posted}
 use Rattle.machine_model.specs.declared.event.Outcome.{Outcome}
 use Rattle.machine_model.specs.World.{World, Hardware}
 use Rattle.machine_model.specs.Files.{prot_installed}

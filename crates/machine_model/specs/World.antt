@@ -5,7 +5,7 @@ use Rattle.vm_base.specs.Plain.{Bytes, File, zeros}
 use Rattle.slot_lock.specs.Slots.{Slots}
 use Rattle.mmu.specs.declared.entry.Translation.{Translation}
 use Rattle.mmu.specs.declared.tlb.TlbEntry.{TlbEntry}
-use Rattle.shootdown.specs.declared.message.Message.{Message}
+use Rattle.mmu.specs.declared.message.Message.{Message}
 use Rattle.refcache.specs.Counts.{Counts, no_counts}
 use Rattle.vm_base.specs.declared.log.Entry.{Entry}
 use Rattle.machine_model.specs.declared.phase.Phase.{Phase}

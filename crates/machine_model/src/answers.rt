@@ -2,13 +2,13 @@
 ghost use Rattle.std.specs.Prelude.{◌≡◌, ◌*◌, ℕ, Option};
 ghost use Rattle.vm_base.specs.Apply.{byte_reply};
 ghost use Rattle.slot_lock.specs.Plan.{IsSoundChange, IsSoundTouch};
-ghost use Rattle.backing.specs.Files.{files_of};
+ghost use Rattle.frames.specs.Files.{files_of};
 ghost use Rattle.machine_model.specs.Accesses.{is_past_end};
 ghost use Rattle.machine_model.specs.Changes.{reply_to};
 ghost use Rattle.machine_model.specs.Files.{back_of, file_frame, prot_installed};
 ghost use Rattle.machine_model.specs.Holding.{page_of_touch};
 
-use backing::Objects;
+use frames::Objects;
 use slot_lock::{Change, Touch};
 use std::alloc::Allocator;
 use vm_base::page::PAGE_SIZE;

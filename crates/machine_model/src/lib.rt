@@ -6,6 +6,8 @@ pub mod answers;
 pub mod event;
 pub mod laws;
 pub mod phase;
+pub mod setup;
 
 pub use event::{Blocker, Event, Outcome};
 pub use phase::Phase;
+pub use setup::{CallLimit, Setup, SetupFault, first_fault, first_fault_within};

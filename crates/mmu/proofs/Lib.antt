@@ -1,8 +1,11 @@
-pub mod Empty
-pub mod Distinct
-pub mod Orders
-pub mod Filings
-pub mod MovedUp
 pub mod Clearing
-pub mod Valid
+pub mod Distinct
+pub mod Empty
+pub mod Filings
 pub mod LastTable
+pub mod MovedUp
+pub mod Orders
+pub mod Senders
+pub mod Targets
+pub mod Valid
+pub mod Waits

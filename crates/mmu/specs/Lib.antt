@@ -1,4 +1,6 @@
 pub mod Entry
-pub mod Tlb
 pub mod Fills
+pub mod Inboxes
+pub mod Messages
 pub mod Tables
+pub mod Tlb

@@ -4,12 +4,18 @@
 
 pub mod cpu;
 pub mod entry;
+pub mod inbox;
+pub mod inboxes;
 pub mod level;
+pub mod message;
 mod place_sets;
 pub mod tlb;
 pub mod translated;
 
 pub use cpu::{Cpu, Hardware};
 pub use entry::{Translation, has_right, indices};
+pub use inbox::Inbox;
+pub use inboxes::Inboxes;
+pub use message::{Message, Took};
 pub use tlb::TlbEntry;
 pub use translated::Translated;

@@ -6,8 +6,8 @@ use Rattle.std.proofs.lemmas.Option.{slice_get-map}
 use Rattle.std.proofs.Math.Path.{fun_ext}
 use Rattle.vm_base.specs.declared.rights.Mode.{Mode}
 use Rattle.vm_base.specs.Plain.{File, file_with}
-use Rattle.backing.specs.declared.file_spec.FileSpec.{FileSpec}
-use Rattle.backing.specs.Given.{given_file, given_files}
+use Rattle.frames.specs.declared.file_spec.FileSpec.{FileSpec}
+use Rattle.frames.specs.Given.{given_file, given_files}
 
 -- the file that is asked for
 abbrev pub file_of : {A : Type 0} → FileSpec A → File

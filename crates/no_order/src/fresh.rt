@@ -1,13 +1,13 @@
 //! Whether items lead from the map on in which nothing is mapped.
 ghost use Rattle.std.specs.Prelude.{◌≡◌, ◌≤◌, IfOk, Ok, false, length, true};
 ghost use Rattle.vm_base.specs.Plain.{Plain, nothing_mapped};
-ghost use Rattle.backing.specs.Given.{given_files};
+ghost use Rattle.frames.specs.Given.{given_files};
 ghost use Rattle.audit.specs.Placing.{rule_of};
 ghost use Rattle.orders.specs.Orders.{LeadAll};
 ghost use Rattle.no_order.specs.Beginnings.{LeadsSomewhere};
 
 use audit::Auditor;
-use backing::FileSpec;
+use frames::FileSpec;
 use orders::{Item, Timed, lead_all};
 use radix_range::RadixMap;
 use std::alloc::Allocator;

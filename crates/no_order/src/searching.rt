@@ -1,13 +1,13 @@
 //! The search.
 ghost use Rattle.std.specs.Prelude.{◌≡◌, ◌≤◌, IfOk, length};
 ghost use Rattle.vm_base.specs.Plain.{nothing_mapped};
-ghost use Rattle.backing.specs.Given.{given_files};
+ghost use Rattle.frames.specs.Given.{given_files};
 ghost use Rattle.audit.specs.Placing.{rule_of};
 ghost use Rattle.no_order.specs.Answers.{IsAnswer, IsAnswerBehind};
 
 use crate::fresh::leads;
 use crate::placing::{followed_by, is_amiss, is_whole, item_at};
-use backing::FileSpec;
+use frames::FileSpec;
 use orders::{Item, Timed};
 use std::alloc::Allocator;
 use vm_base::NoMemory;

@@ -4,7 +4,7 @@ use Rattle.machine_model.specs.declared.event.Event.TheVariants.{Flush}
 use Rattle.machine_model.specs.declared.event.Outcome.TheVariants.{Idle}
 use Rattle.seats.specs.Notes.{noted}
 use Rattle.seats.specs.declared.noted.Noted.{Noted}
-use Rattle.trace.specs.Declarations.{Asked, asks_for}
+use Rattle.trace_words.specs.Declarations.{Asked, asks_for}
 use Rattle.notes_text.specs.TextLaws.{FitsLine, IsDeclared, SaysNotes}
 use Rattle.notes_text.specs.NotesWritten.{notes_text}
 use Rattle.notes_text.proofs.ShortLines.{lines_are_short}

@@ -23,15 +23,15 @@ use Rattle.trace_text.specs.declared.line.Line.{Line}
 use Rattle.trace_text.specs.declared.line.Line.TheVariants.{Blank, File, Act, Fold}
 use Rattle.trace_text.proofs.Choices.{chosen}
 use Rattle.trace_text.proofs.LineLemmas.{read_is_said}
-use Rattle.trace.specs.declared.declaration.FileLine.{FileLine}
-use Rattle.trace.specs.Declarations.{Asked, has_long, with_file}
-use Rattle.trace.specs.Events.{event_of}
+use Rattle.trace_words.specs.declared.declaration.FileLine.{FileLine}
+use Rattle.trace_words.specs.Declarations.{Asked, has_long, with_file}
+use Rattle.trace_words.specs.Events.{event_of}
 use Rattle.notes_text.specs.Grammar.{Ascend, NamesNote, NamesOutcome, NamesReply, event_said, with_cores}
-use Rattle.notes_text.specs.Collected.{Collected, nothing, Says as SaysLine, TakesAll, blank, space, file as of_file, item}
-use Rattle.notes_text.specs.Ends.{Collects}
+use Rattle.trace_words.specs.Collected.{Collected, nothing, Says as SaysLine, TakesAll, blank, space, file as of_file, item}
+use Rattle.trace_words.specs.Ends.{Collects}
 use Rattle.seats.specs.Fitting.{FitsReply, FitsRequest}
 use Rattle.notes_text.specs.WrittenLaws.{FitsEvent, FitsOutcome}
-use Rattle.notes_text.specs.Scripts.{NamesTask}
+use Rattle.trace_words.specs.Scripts.{NamesTask}
 use Rattle.notes_text.specs.TextLaws.{IsDeclared, NamedFits, NotesDeclare, ScriptsDeclare}
 use Rattle.notes_text.proofs.OutcomeWritten.{power_same, with_one}
 use Rattle.notes_text.proofs.TextWritten.{none_found}

@@ -1,20 +1,16 @@
-pub mod OutcomeLemmas
-pub mod SplitLemmas
-pub mod NoteLemmas
-pub mod CollectLemmas
-pub mod VerdictLemmas
-pub mod OrderLemmas
-pub mod WrittenLemmas
-pub mod OutcomeWritten
-pub mod ScriptLemmas
-pub mod NoteWritten
-pub mod PieceLemmas
+mod Examples
+pub mod FitsLemmas
 pub mod MergeLemmas
-pub mod TaskLemmas
+pub mod NoteLemmas
+pub mod NoteWritten
+pub mod OrderLemmas
+pub mod OutcomeLemmas
+pub mod OutcomeWritten
+pub mod PieceLemmas
 pub mod PrintableLemmas
+pub mod ShortLines
+pub mod SplitLemmas
 pub mod TextOnce
 pub mod TextWritten
-pub mod FitsLemmas
-pub mod ShortLines
-mod Examples
-pub mod FilePieces
+pub mod VerdictLemmas
+pub mod WrittenLemmas

@@ -7,7 +7,7 @@ use Rattle.machine_model.specs.declared.event.Outcome.{Outcome}
 use Rattle.machine_model.specs.declared.event.Outcome.TheVariants.{Stepped, Wait, Idle, Answered, Full}
 use Rattle.machine_model.specs.declared.event.Event.TheVariants as Ev
 use Rattle.machine_model.specs.declared.event.Blocker.TheVariants.{Acks}
-use Rattle.trace.specs.OutcomeText.{outcome_text}
+use Rattle.trace_words.specs.OutcomeText.{outcome_text}
 use Rattle.trace_text.specs.Words.{Word, words_of}
 use Rattle.trace_text.specs.Line.{are_printable}
 use Rattle.trace_text.specs.Lists.{start_of}
@@ -17,10 +17,10 @@ use Rattle.trace_text.specs.Grammar.{Does}
 use Rattle.trace_text.specs.declared.action.Action.{Action}
 use Rattle.trace_text.specs.declared.action.Action.TheVariants as Do
 use Rattle.trace_text.specs.declared.line.Line.TheVariants.{Act, Fold}
-use Rattle.trace.specs.Events.{event_of}
+use Rattle.trace_words.specs.Events.{event_of}
 use Rattle.notes_text.specs.Grammar.{NamesEvent, NamesOutcome}
 use Rattle.notes_text.specs.Verdicts.{unended}
-use Rattle.notes_text.specs.Written.{core_word, event_words, request_words, spaced}
+use Rattle.trace_words.specs.Written.{core_word, event_words, request_words, spaced}
 use Rattle.notes_text.specs.NotesWritten.{note_head, note_text}
 use Rattle.notes_text.specs.WrittenLaws.{FitsEvent, FitsOutcome, WritesWhatIsRead}
 use Rattle.notes_text.proofs.PrintableLemmas.{cores_printable, decimal_printable, reply_printable}

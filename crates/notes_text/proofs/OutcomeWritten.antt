@@ -10,7 +10,7 @@ use Rattle.vm_base.proofs.CoreSets.{members-or, members-same}
 use Rattle.trace_text.specs.Words.{words_of}
 use Rattle.trace_text.specs.Printing.{hexadecimal, text_of, core_text, cores_text}
 use Rattle.trace_text.proofs.SpellingLemmas.{decimal_is, hexadecimal_is}
-use Rattle.notes_text.specs.Written.{spaced}
+use Rattle.trace_words.specs.Written.{spaced}
 use Rattle.notes_text.specs.Grammar.{NamesReply, NamesAcks, Ascend, with_cores}
 use Rattle.seats.specs.Fitting.{FitsReply}
 use Rattle.trace_text.proofs.WordLemmas.{words_join}

@@ -4,8 +4,8 @@ use Rattle.machine_model.proofs.Words.{subst}
 use Rattle.machine_model.proofs.Words.{Appends, Keeps}
 use Rattle.trace_io.specs.Sink.{AppendsFront}
 use Rattle.trace_io.proofs.IoLemmas.{keeps_same}
-use Rattle.trace.specs.Declarations.{Asked}
-use Rattle.trace.specs.declared.fault.TraceFault.TheVariants.{NoMemory, WriteFailed}
+use Rattle.trace_words.specs.Declarations.{Asked}
+use Rattle.trace_words.specs.declared.fault.TraceFault.TheVariants.{NoMemory, WriteFailed}
 use Rattle.seats.specs.declared.noted.Noted.{Noted}
 use Rattle.notes_text.specs.Ordered.{AreInOrder}
 use Rattle.notes_text.specs.NotesWritten.{notes_text}

@@ -12,12 +12,12 @@ use Rattle.std.specs.Int.Digits.{digits_of}
 use Rattle.machine_model.specs.declared.event.Event.TheVariants as Ev
 use Rattle.machine_model.specs.declared.event.Blocker.TheVariants.{Acks}
 use Rattle.seats.specs.declared.noted.Noted.{Noted}
-use Rattle.trace.specs.OutcomeText.{outcome_text}
+use Rattle.trace_words.specs.OutcomeText.{outcome_text}
 use Rattle.trace_text.specs.Printing.{address_of, core_text, cores_text, text_of}
 use Rattle.trace_text.specs.Spelling.{rights_text}
 use Rattle.trace_text.proofs.Choices.{of_four, of_three}
 use Rattle.trace_text.proofs.PrintingLemmas.{address_digits}
-use Rattle.notes_text.specs.Written.{event_words, flags_text, request_words, spaced}
+use Rattle.trace_words.specs.Written.{event_words, flags_text, request_words, spaced}
 use Rattle.notes_text.specs.NotesWritten.{note_head, note_text}
 use Rattle.seats.specs.Fitting.{FitsReply, FitsRequest}
 use Rattle.notes_text.specs.WrittenLaws.{FitsEvent, FitsNote, FitsOutcome}

@@ -6,13 +6,13 @@ use Rattle.trace_text.specs.Words.{Word, words_of}
 use Rattle.trace_text.specs.Line.{line_of}
 use Rattle.trace_text.specs.declared.line.Line.{Line}
 use Rattle.trace_text.specs.declared.line.Line.TheVariants.{Blank, Space, File, Act, Fold, Finish, Now}
-use Rattle.trace.specs.declared.fault.TraceFault.{TraceFault}
-use Rattle.trace.specs.declared.fault.TraceFault.TheVariants.{NoMemory, ReadFailed}
-use Rattle.trace.specs.Declarations.{Asked, asked_fault, asks_for, with_file}
-use Rattle.trace.specs.Kinds.{OfFile, OfEvents}
+use Rattle.trace_words.specs.declared.fault.TraceFault.{TraceFault}
+use Rattle.trace_words.specs.declared.fault.TraceFault.TheVariants.{NoMemory, ReadFailed}
+use Rattle.trace_words.specs.Declarations.{Asked, asked_fault, asks_for, with_file}
+use Rattle.trace_words.specs.Kinds.{OfFile, OfEvents}
 use Rattle.notes_text.specs.Grammar.{NamesNote}
-use Rattle.notes_text.specs.Collected.{Collected, nothing, Says, TakesAll, blank, space, file, item}
-use Rattle.notes_text.specs.Ends.{Collects, Front, CannotMake, Stops, reading, unmade, wanting, overlong, refusing, unopened}
+use Rattle.trace_words.specs.Collected.{Collected, nothing, Says, TakesAll, blank, space, file, item}
+use Rattle.trace_words.specs.Ends.{Collects, Front, CannotMake, Stops, reading, unmade, wanting, overlong, refusing, unopened}
 use Rattle.notes_text.specs.TextLaws.{SaysOne, SaidIsNotRefused}
 use Rattle.notes_text.proofs.NoteLemmas.{notes_one}
 

@@ -7,8 +7,8 @@ use Rattle.std.specs.List.{AllByRecursion}
 use Rattle.std.specs.Str.{bytes_eq}
 use Rattle.std.proofs.lemmas.Slice.Eq.{bytes_eq-Decides}
 use Rattle.vm_base.specs.declared.rights.Mode.TheVariants.{R, W, RW}
-use Rattle.core_steps.specs.declared.setup.SetupFault.TheVariants.{Cores, Frames, TooManyFiles, FileTooLong, Calls}
-use Rattle.core_steps.specs.Setups.{is_too_long}
+use Rattle.machine_model.specs.declared.setup.SetupFault.TheVariants.{Cores, Frames, TooManyFiles, FileTooLong, Calls}
+use Rattle.machine_model.specs.Setups.{is_too_long}
 use Rattle.seats.specs.declared.noted.Noted.{Noted}
 use Rattle.trace_io.specs.Lines.{lines_of}
 use Rattle.trace_text.specs.Words.{Word, words_of}
@@ -23,17 +23,17 @@ use Rattle.trace_text.proofs.BytesLemmas.{append_has, decimal_number}
 use Rattle.trace_text.proofs.PrintableLemmas.{read_is_printable}
 use Rattle.trace_text.proofs.WordLemmas.{IsWord}
 use Rattle.trace_text.proofs.SpellingLemmas.{reads_printed}
-use Rattle.trace.specs.declared.declaration.FileLine.{FileLine}
-use Rattle.trace.specs.Declarations.{Asked, asked_fault, asks_for, has_long, is_next, with_file}
-use Rattle.trace.specs.Kinds.{OfEvents, kind_of}
+use Rattle.trace_words.specs.declared.declaration.FileLine.{FileLine}
+use Rattle.trace_words.specs.Declarations.{Asked, asked_fault, asks_for, has_long, is_next, with_file}
+use Rattle.trace_words.specs.Kinds.{OfEvents, kind_of}
 use Rattle.trace_io.proofs.TakenLemmas.{lines-first}
 use Rattle.notes_text.specs.Grammar.{NamesNote}
-use Rattle.notes_text.specs.Collected.{Collected, nothing, Takes, TakesAll}
-use Rattle.notes_text.specs.Written.{event_words, file_text, files_text, space_text, spaced}
+use Rattle.trace_words.specs.Collected.{Collected, nothing, Takes, TakesAll}
+use Rattle.trace_words.specs.Written.{event_words, file_text, files_text, space_text, spaced}
 use Rattle.notes_text.specs.NotesWritten.{note_head, note_text, notes_text}
 use Rattle.notes_text.specs.WrittenLaws.{FitsNote}
 use Rattle.notes_text.specs.TextLaws.{FitsLine, IsDeclared, WrittenIsSaid}
-use Rattle.notes_text.proofs.CollectLemmas.{file_taken, item_taken, space_taken}
+use Rattle.trace_words.proofs.CollectLemmas.{file_taken, item_taken, space_taken}
 use Rattle.notes_text.proofs.NoteWritten.{IsLine, IsWritten, event_written, line_words, outcome_line}
 use Rattle.notes_text.proofs.PrintableLemmas.{decimal_printable, printable, printable_unbroken}
 use Rattle.notes_text.proofs.WrittenLemmas.{AreWords, decimal_word, word_before, words_spaced}

@@ -6,22 +6,22 @@ use Rattle.std.proofs.Common.{IfOk, IfErr}
 use Rattle.std.proofs.KnownBytes.{Keeps-trans}
 use Rattle.trace_io.specs.Sink.{AppendsFront}
 use Rattle.trace_io.proofs.IoLemmas.{front_kept, whole_front}
-use Rattle.core_steps.specs.declared.setup.Setup.{Setup}
-use Rattle.core_steps.specs.Setups.{made_of}
+use Rattle.machine_model.specs.declared.setup.Setup.{Setup}
+use Rattle.machine_model.specs.Setups.{made_of}
 use Rattle.seats.specs.declared.noted.Noted.{Noted}
 use Rattle.certifier.specs.Order.{all_notes, AreNumbered, IsFirstAmiss}
 use Rattle.certifier.specs.Following.{IsCertified, DiffersAt}
-use Rattle.trace.specs.Declarations.{Asked, made_by, asked_fault}
-use Rattle.trace.specs.declared.fault.TraceFault.{TraceFault}
-use Rattle.trace.specs.declared.fault.TraceFault.TheVariants.{NoMemory, WriteFailed}
+use Rattle.trace_words.specs.Declarations.{Asked, made_by, asked_fault}
+use Rattle.trace_words.specs.declared.fault.TraceFault.{TraceFault}
+use Rattle.trace_words.specs.declared.fault.TraceFault.TheVariants.{NoMemory, WriteFailed}
 use Rattle.notes_text.specs.Grammar.{NamesNote}
-use Rattle.notes_text.specs.Collected.{Collected}
-use Rattle.notes_text.specs.Ends.{Collects}
+use Rattle.trace_words.specs.Collected.{Collected}
+use Rattle.trace_words.specs.Ends.{Collects}
 use Rattle.notes_text.specs.Verdicts.{Made, Judges, verdict_text}
 use Rattle.notes_text.specs.CertifyEnds.{Judged, Unjudged, unread_text, unmade, wanting, FindsVerdict, Certifies}
 use Rattle.notes_text.specs.declared.verdict.Verdict.{Verdict}
 use Rattle.notes_text.specs.declared.verdict.Verdict.TheVariants.{Certified, Ticket, Differs}
-use Rattle.notes_text.proofs.CollectLemmas.{stops_own}
+use Rattle.trace_words.proofs.CollectLemmas.{stops_own}
 
 -- ---- what certifying says
 

@@ -9,7 +9,7 @@ use Rattle.trace_text.specs.Grammar.{Asks}
 use Rattle.trace_text.proofs.BytesLemmas.{address_number, decimal_number, number_has}
 use Rattle.trace_text.proofs.Choices.{of_four, of_three}
 use Rattle.trace_text.proofs.WordLemmas.{IsWord, one_word, unspaced, words_join}
-use Rattle.notes_text.specs.Written.{spaced, flags_text, request_words}
+use Rattle.trace_words.specs.Written.{spaced, flags_text, request_words}
 use Rattle.seats.specs.Fitting.{FitsRequest}
 
 -- ---- words without spaces

@@ -5,11 +5,11 @@ use Rattle.vm_base.specs.declared.page.PageRange.{PageRange}
 use Rattle.slot_lock.specs.Slots.{Slots}
 use Rattle.seats.specs.declared.noted.Noted.{Noted}
 use Rattle.trace_io.specs.Sink.{AppendsFront}
-use Rattle.trace.specs.declared.fault.TraceFault.{TraceFault}
-use Rattle.trace.specs.declared.fault.TraceFault.TheVariants.{NoMemory, WriteFailed}
-use Rattle.trace.specs.Declarations.{Asked}
+use Rattle.trace_words.specs.declared.fault.TraceFault.{TraceFault}
+use Rattle.trace_words.specs.declared.fault.TraceFault.TheVariants.{NoMemory, WriteFailed}
+use Rattle.trace_words.specs.Declarations.{Asked}
 use Rattle.notes_text.specs.Grammar.{NamesNote}
-use Rattle.notes_text.specs.Ends.{Collects, Stops}
+use Rattle.trace_words.specs.Ends.{Collects, Stops}
 use Rattle.notes_text.specs.Verdicts.{Judges, verdict_text, is_certified}
 use Rattle.notes_text.specs.declared.verdict.Verdict.{Verdict}
 

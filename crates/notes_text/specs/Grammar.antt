@@ -12,7 +12,7 @@ use Rattle.machine_model.specs.declared.event.Blocker.TheVariants.{Slot, Acks}
 use Rattle.machine_model.specs.declared.event.Outcome.{Outcome}
 use Rattle.machine_model.specs.declared.event.Outcome.TheVariants.{Stepped, Wait, Idle, Answered, Full}
 use Rattle.seats.specs.declared.noted.Noted.{Noted}
-use Rattle.trace.specs.Events.{event_of}
+use Rattle.trace_words.specs.Events.{event_of}
 use Rattle.trace_text.specs.Words.{Word}
 use Rattle.trace_text.specs.Printing.{refusal_of}
 use Rattle.trace_text.specs.Spelling.{SpellsIn, SpellsNumber}

@@ -2,9 +2,9 @@
 use Rattle.std.specs.Prelude.{ℕ, List, ◌++◌, codes, decimal}
 use Rattle.std.specs.List.{flat_map}
 use Rattle.seats.specs.declared.noted.Noted.{Noted}
-use Rattle.trace.specs.Declarations.{Asked}
-use Rattle.trace.specs.OutcomeText.{outcome_text}
-use Rattle.notes_text.specs.Written.{declared_text, event_words, spaced}
+use Rattle.trace_words.specs.Declarations.{Asked}
+use Rattle.trace_words.specs.OutcomeText.{outcome_text}
+use Rattle.trace_words.specs.Written.{declared_text, event_words, spaced}
 
 -- what stands before the outcome
 abbrev pub note_head : Noted → List ℕ

@@ -6,13 +6,13 @@ use Rattle.machine_model.specs.declared.event.Event.TheVariants.{Go}
 use Rattle.machine_model.specs.declared.event.Outcome.TheVariants.{Wait}
 use Rattle.seats.specs.declared.noted.Noted.{Noted}
 use Rattle.trace_text.specs.Words.{Word}
-use Rattle.trace.specs.declared.fault.TraceFault.{TraceFault}
-use Rattle.trace.specs.declared.fault.TraceFault.TheVariants.{NoMemory, ReadFailed}
-use Rattle.trace.specs.Declarations.{Asked, asked_fault}
+use Rattle.trace_words.specs.declared.fault.TraceFault.{TraceFault}
+use Rattle.trace_words.specs.declared.fault.TraceFault.TheVariants.{NoMemory, ReadFailed}
+use Rattle.trace_words.specs.Declarations.{Asked, asked_fault}
 use Rattle.notes_text.specs.Grammar.{NamesNote}
-use Rattle.notes_text.specs.Ends.{Collects, Stops}
-use Rattle.notes_text.specs.Scripts.{NamesTask}
-use Rattle.notes_text.specs.declared.script.ScriptLine.{ScriptLine}
+use Rattle.trace_words.specs.Ends.{Collects, Stops}
+use Rattle.trace_words.specs.Scripts.{NamesTask}
+use Rattle.trace_words.specs.declared.script.ScriptLine.{ScriptLine}
 use Rattle.notes_text.specs.NotesWritten.{note_text, notes_text}
 use Rattle.notes_text.specs.WrittenLaws.{FitsNote}
 

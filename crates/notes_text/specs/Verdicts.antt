@@ -3,13 +3,13 @@ use Rattle.std.specs.Prelude.{◌≡◌, ℕ, ◌-◌, Bool, true, false, List, 
 use Rattle.vm_base.specs.declared.page.PageRange.{PageRange}
 use Rattle.slot_lock.specs.Slots.{Slots}
 use Rattle.machine_model.specs.declared.event.Outcome.{Outcome}
-use Rattle.core_steps.specs.declared.setup.Setup.{Setup}
-use Rattle.core_steps.specs.Setups.{made_of}
+use Rattle.machine_model.specs.declared.setup.Setup.{Setup}
+use Rattle.machine_model.specs.Setups.{made_of}
 use Rattle.seats.specs.declared.noted.Noted.{Noted}
 use Rattle.certifier.specs.Order.{AreNumbered, IsFirstAmiss}
 use Rattle.certifier.specs.Following.{IsCertified, DiffersAt}
-use Rattle.trace.specs.Declarations.{Asked, made_by}
-use Rattle.trace.specs.OutcomeText.{outcome_text}
+use Rattle.trace_words.specs.Declarations.{Asked, made_by}
+use Rattle.trace_words.specs.OutcomeText.{outcome_text}
 use Rattle.notes_text.specs.declared.verdict.Verdict.{Verdict}
 use Rattle.notes_text.specs.declared.verdict.Verdict.TheVariants.{Certified, Ticket, Differs, Slot}
 

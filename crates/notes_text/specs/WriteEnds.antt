@@ -3,9 +3,9 @@ use Rattle.std.specs.Prelude.{◌≡◌, ℕ, ◌⊎◌, List, Option, Result, O
 use Rattle.std.specs.Io.KnownBytes.{Keeps, Appends}
 use Rattle.seats.specs.declared.noted.Noted.{Noted}
 use Rattle.trace_io.specs.Sink.{AppendsFront}
-use Rattle.trace.specs.declared.fault.TraceFault.{TraceFault}
-use Rattle.trace.specs.declared.fault.TraceFault.TheVariants.{NoMemory, WriteFailed}
-use Rattle.trace.specs.Declarations.{Asked}
+use Rattle.trace_words.specs.declared.fault.TraceFault.{TraceFault}
+use Rattle.trace_words.specs.declared.fault.TraceFault.TheVariants.{NoMemory, WriteFailed}
+use Rattle.trace_words.specs.Declarations.{Asked}
 use Rattle.notes_text.specs.Ordered.{AreInOrder}
 use Rattle.notes_text.specs.NotesWritten.{notes_text}
 

@@ -1,7 +1,7 @@
 //! Packed notes, as the items of a text are kept in them.
 ghost use Rattle.std.specs.Prelude.{◌≡◌, ◌++◌, ◌∷◌, ◌==◌, [], List, OnErr, OnOk, length};
 
-use crate::kept::Kept;
+use trace_words::kept::Kept;
 use seats::{NoteList, Noted};
 use std::alloc::Allocator;
 use vm_base::NoMemory;

@@ -8,7 +8,7 @@ ghost use Rattle.notes_text.specs.Halves.{event_named, note_of};
 use crate::outcome_words::read_outcome;
 use machine_model::Event;
 use seats::Noted;
-use trace::events::event_of;
+use trace_words::events::event_of;
 use trace_text::number::next_number;
 use trace_text::sign::halves;
 use trace_text::{Line, read_words};

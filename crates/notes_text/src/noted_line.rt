@@ -2,7 +2,7 @@
 ghost use Rattle.std.specs.Prelude.{true};
 ghost use Rattle.notes_text.specs.Grammar.{NamesNote};
 
-use crate::collector::LineOf;
+use trace_words::collector::LineOf;
 use crate::note_line::read_note;
 use seats::Noted;
 

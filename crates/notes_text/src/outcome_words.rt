@@ -1,4 +1,4 @@
-//! What the words of an outcome say, as `trace::outcome_text` writes them.
+//! What the words of an outcome say, as `trace_words::outcome_text` writes them.
 ghost use Rattle.std.specs.Prelude.{◌≡◌};
 ghost use Rattle.trace_text.specs.Request.{ended};
 ghost use Rattle.trace_text.specs.Words.{words_of};

@@ -1,11 +1,11 @@
 //! The result of certifying a text of notes, and the line that tells it.
 ghost use Rattle.std.specs.Prelude.{◌≡◌, ◌++◌, ◌≤◌, codes, decimal, length};
 ghost use Rattle.trace_io.specs.Io.{IsWritten, written_to};
-ghost use Rattle.trace.specs.OutcomeText.{outcome_text};
+ghost use Rattle.trace_words.specs.OutcomeText.{outcome_text};
 ghost use Rattle.notes_text.specs.Verdicts.{differs_head, differs_text, is_certified, unended, verdict_text};
 
 use machine_model::Outcome;
-use trace::outcome_text::write_outcome;
+use trace_words::outcome_text::write_outcome;
 use trace_io::sink::{Sink, WriteFailed, write_all};
 use trace_text::{LineText, push_number};
 

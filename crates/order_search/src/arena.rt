@@ -6,7 +6,7 @@ use crate::pages::{
 };
 use crate::runs::{Run, all_mapped, change_runs, first_hole, least_room, meta_at, none_mapped};
 use crate::under::Under;
-use backing::Objects;
+use frames::Objects;
 use slot_lock::{Change, Place, Plan, Touch};
 use std::alloc::Allocator;
 use vm_base::page::{PAGE_LIMIT, PAGE_SIZE, is_page_start};

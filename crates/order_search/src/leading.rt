@@ -5,7 +5,7 @@ use crate::configs::Config;
 use crate::seen::Seen;
 use crate::trail::{Mark, Trail};
 use crate::under::Under;
-use backing::Objects;
+use frames::Objects;
 use std::alloc::Allocator;
 use std::mem::swap;
 use vm_base::{NoMemory, PageRange};

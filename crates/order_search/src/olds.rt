@@ -4,7 +4,7 @@ use crate::arena::{Arena, Spot, access_due, cells_in, runs_in};
 use crate::pages::{own_key, place_of};
 use crate::runs::{meta_at, none_mapped};
 use crate::under::Under;
-use backing::Objects;
+use frames::Objects;
 use slot_lock::{Change, Touch};
 use std::alloc::Allocator;
 use vm_base::page::PAGE_SIZE;

@@ -1,6 +1,6 @@
 //! Bytes that stores have left, as a sorted list. A byte that is as it was at first isn't in it.
 
-use backing::Objects;
+use frames::Objects;
 use std::alloc::Allocator;
 use vm_base::page::PAGE_SIZE;
 use vm_base::{Back, NoMemory, PageRange};

@@ -6,7 +6,7 @@ use crate::configs::Config;
 use crate::leading::{Ending, Reach, Ways};
 use crate::trail::Mark;
 use crate::under::{Mapped, Under, mapped_by};
-use backing::Objects;
+use frames::Objects;
 use orders::{Item, Timed, each_once};
 use std::alloc::Allocator;
 use vm_base::{CoreSet, NoMemory};

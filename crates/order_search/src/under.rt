@@ -1,6 +1,6 @@
 //! Calls that are under way.
 
-use backing::Objects;
+use frames::Objects;
 use orders::Timed;
 use slot_lock::{Change, Plan, Touch};
 use std::alloc::Allocator;

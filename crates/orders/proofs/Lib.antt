@@ -1,5 +1,6 @@
+mod Examples
+pub mod LeadLemmas
 pub mod Lists
 pub mod OnceLemmas
+pub mod PartLemmas
 pub mod TimeLemmas
-pub mod LeadLemmas
-mod Examples

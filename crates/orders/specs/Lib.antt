@@ -1,2 +1,4 @@
-pub mod Orders
+pub mod ByPages
 pub mod Once
+pub mod Orders
+pub mod Pages

@@ -3,8 +3,8 @@ use Rattle.std.proofs.Common.{◌≡◌, ◌∙◌, ℕ, zero, suc, ◌+◌, ◌
 use Rattle.vm_base.specs.declared.replies.Reply.{Reply}
 use Rattle.vm_base.specs.Plain.{Plain, nothing_mapped}
 use Rattle.vm_base.specs.Places.{PlaceRule}
-use Rattle.backing.specs.declared.file_spec.FileSpec.{FileSpec}
-use Rattle.backing.specs.Given.{given_files}
+use Rattle.frames.specs.declared.file_spec.FileSpec.{FileSpec}
+use Rattle.frames.specs.Given.{given_files}
 use Rattle.audit.specs.Placing.{rule_of}
 use Rattle.audit_text.specs.Legal.{first_map}
 use Rattle.audit_text.proofs.FileLemmas.{same_files}

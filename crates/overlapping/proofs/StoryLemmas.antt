@@ -7,7 +7,7 @@ use Rattle.slot_lock.specs.MapList.{IsMapList}
 use Rattle.slot_lock.specs.MapWalks.{slot_metas}
 use Rattle.slot_lock.specs.declared.map_list.MapLine.{MapLine}
 use Rattle.frames.specs.Parts.{FrameParts}
-use Rattle.backing.specs.Files.{FileParts}
+use Rattle.frames.specs.Files.{FileParts}
 use Rattle.audit.specs.Judging.{AreReplies}
 use Rattle.audit.specs.Keeping.{plain_kept}
 use Rattle.audit.specs.Placing.{rule_of}

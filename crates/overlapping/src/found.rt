@@ -4,7 +4,7 @@ ghost use Rattle.std.specs.Prelude.{IfNone};
 ghost use Rattle.orders_text.specs.Steps.{HasPlaces};
 ghost use Rattle.overlapping.specs.Waiting.{NoneWaits};
 
-use backing::{FileSpec, Objects};
+use frames::{FileSpec, Objects};
 use order_search::{Found, find_order};
 use orders::Item;
 use orders_text::clock::Begun;

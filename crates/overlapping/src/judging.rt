@@ -3,7 +3,7 @@ ghost use Rattle.std.specs.Prelude.{◌≡◌, ◌≤◌, ◌⊎◌, ℕ, List, 
 ghost use Rattle.trace_io.specs.Lines.{lines_of};
 ghost use Rattle.slot_lock.specs.Slots.{IsNew};
 ghost use Rattle.vm_base.specs.Plain.{nothing_mapped};
-ghost use Rattle.backing.specs.Given.{given_files};
+ghost use Rattle.frames.specs.Given.{given_files};
 ghost use Rattle.audit.specs.Placing.{rule_of};
 ghost use Rattle.audit_text.specs.Legal.{first_map};
 ghost use Rattle.orders.specs.Orders.{HasOrder, IsOrder};
@@ -18,7 +18,7 @@ use crate::given::given_order;
 use crate::order_text::order_text;
 use crate::story::story;
 use audit::Auditor;
-use backing::FileSpec;
+use frames::FileSpec;
 use core_text::core_text;
 use cores::{Core, find_core};
 use no_order::{Answer, search_all};

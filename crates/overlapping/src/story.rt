@@ -2,14 +2,14 @@
 ghost use Rattle.std.specs.Prelude.{◌≡◌, ◌≤◌, ◌++◌, IfOk, IfSome, OnOk, length, true};
 ghost use Rattle.trace_io.specs.Lines.{lines_of};
 ghost use Rattle.vm_base.specs.Plain.{nothing_mapped};
-ghost use Rattle.backing.specs.Given.{given_files};
+ghost use Rattle.frames.specs.Given.{given_files};
 ghost use Rattle.audit.specs.Auditor.{plain_of};
 ghost use Rattle.audit.specs.Placing.{rule_of};
 ghost use Rattle.overlapping.specs.Story.{BeganAfter, HasMappings, IsFront, IsStory, mappings_text, without_times};
 ghost use Rattle.core_text.specs.Told.{numbered_text};
 
 use audit::{Auditor, Call};
-use backing::FileSpec;
+use frames::FileSpec;
 use core_text::push_numbered;
 use no_order::files_again;
 use orders::Timed;

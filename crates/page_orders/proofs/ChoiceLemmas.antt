@@ -3,8 +3,8 @@ use Rattle.std.proofs.Common.{◌≡◌, ◌∙◌, ℕ, ◌+◌, ◌<◌, ◌�
 use Rattle.std.proofs.Common.{get_or, length, refl, subst, sym}
 use Rattle.std.proofs.lemmas.List.{drop_all, drop_more, length-append}
 use Rattle.orders.specs.declared.history.Timed.{Timed}
-use Rattle.by_pages.specs.Pages.{AreChosen, IsChosen, lost}
-use Rattle.by_pages.specs.declared.splitting.Part.{Part}
+use Rattle.orders.specs.Pages.{AreChosen, IsChosen, lost}
+use Rattle.orders.specs.declared.splitting.Part.{Part}
 
 -- whatever calls are chosen of the parts behind these, it doesn't hold of all
 abbrev pub NoneBehind : (List Timed → Type 0) → List Part → List Timed → Type 0

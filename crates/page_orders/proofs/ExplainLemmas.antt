@@ -6,8 +6,8 @@ use Rattle.orders_text.specs.History.{IsHistory, Read}
 use Rattle.cores.specs.declared.finding.Core.{Core}
 use Rattle.cores.specs.declared.kept.Kept.{Kept}
 use Rattle.core_text.specs.Told.{numbered_text}
-use Rattle.by_pages.specs.Pages.{parts_from}
-use Rattle.by_pages.specs.declared.splitting.Part.{Part}
+use Rattle.orders.specs.Pages.{parts_from}
+use Rattle.orders.specs.declared.splitting.Part.{Part}
 use Rattle.overlapping.specs.Explained.{IsWhole}
 use Rattle.overlapping.specs.declared.judging.Ruling.{Ruling}
 use Rattle.overlapping.specs.declared.judging.Ruling.TheVariants.{NoOrder, Undecided}

@@ -3,8 +3,8 @@ use Rattle.std.proofs.Common.{◌≡◌, ◌∙◌, inl, ℕ, zero, suc, ◌+◌
 use Rattle.std.proofs.Common.{Option, Some, refl, slice_get, subst, sym}
 use Rattle.vm_base.specs.declared.replies.Reply.{Reply}
 use Rattle.vm_base.specs.Plain.{Plain, nothing_mapped}
-use Rattle.backing.specs.declared.file_spec.FileSpec.{FileSpec}
-use Rattle.backing.specs.Given.{given_files}
+use Rattle.frames.specs.declared.file_spec.FileSpec.{FileSpec}
+use Rattle.frames.specs.Given.{given_files}
 use Rattle.audit.specs.Placing.{rule_of}
 use Rattle.audit_text.specs.Legal.{first_map}
 use Rattle.audit_text.proofs.FileLemmas.{same_files}
@@ -17,9 +17,9 @@ use Rattle.orders_text.specs.declared.clock.Begun.{Begun}
 use Rattle.orders_text.specs.declared.reading.History.{History}
 use Rattle.overlapping.specs.Waiting.{NoneWaits}
 use Rattle.overlapping.proofs.RuleLemmas.{none_open}
-use Rattle.by_pages.specs.ByPages.{HasOrderAmong, HasOrderByPages}
-use Rattle.by_pages.specs.Pages.{AreChosen, parts_from}
-use Rattle.by_pages.specs.declared.splitting.Part.{Part}
+use Rattle.orders.specs.ByPages.{HasOrderAmong, HasOrderByPages}
+use Rattle.orders.specs.Pages.{AreChosen, parts_from}
+use Rattle.orders.specs.declared.splitting.Part.{Part}
 use Rattle.page_orders.specs.Effects.{waiting_reply}
 use Rattle.overlapping.specs.declared.judging.Ruling.{Ruling}
 use Rattle.overlapping.specs.declared.judging.Ruling.TheVariants.{Legal, Undecided}

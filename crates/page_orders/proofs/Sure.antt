@@ -9,8 +9,8 @@ use Rattle.cores.specs.declared.finding.Core.{Core}
 use Rattle.cores.specs.Effects.{IsMade, IsSpared, took}
 use Rattle.cores.specs.Parts.{is_quiet}
 use Rattle.cores.specs.Shown.{IsShownBut}
-use Rattle.by_pages.specs.Pages.{AreChosen, IsChosen}
-use Rattle.by_pages.specs.declared.splitting.Part.{Part}
+use Rattle.orders.specs.Pages.{AreChosen, IsChosen}
+use Rattle.orders.specs.declared.splitting.Part.{Part}
 use Rattle.page_orders.specs.Showing.{HasNoneAmong, IsCoreOf, NoneIs, is_surely, timed_of}
 
 -- ---- whether one of them is such

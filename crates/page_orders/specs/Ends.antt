@@ -11,7 +11,7 @@ use Rattle.overlapping.specs.Ends.{ruling_text}
 use Rattle.overlapping.specs.declared.judging.Ruled.{Ruled}
 use Rattle.overlapping.specs.declared.judging.Ruling.{Ruling}
 use Rattle.audit.specs.Placing.{rule_of}
-use Rattle.by_pages.specs.ByPages.{HasOrderByPages}
+use Rattle.orders.specs.ByPages.{HasOrderByPages}
 use Rattle.page_orders.specs.Explained.{IsExplained, as_they_are}
 use Rattle.page_orders.specs.Rulings.{IsRuling, OrderRule}
 

@@ -10,8 +10,8 @@ use Rattle.cores.specs.Effects.{AreTold, took}
 use Rattle.cores.specs.Shown.{IsSeen}
 use Rattle.cores.specs.declared.kept.Kept.{Kept}
 use Rattle.core_text.specs.Told.{numbered_text}
-use Rattle.by_pages.specs.Pages.{parts_from}
-use Rattle.by_pages.specs.declared.splitting.Part.{Part}
+use Rattle.orders.specs.Pages.{parts_from}
+use Rattle.orders.specs.declared.splitting.Part.{Part}
 use Rattle.overlapping.specs.Explained.{IsWhole}
 use Rattle.overlapping.specs.declared.judging.Ruling.{Ruling}
 use Rattle.overlapping.specs.declared.judging.Ruling.TheVariants.{NoOrder, Undecided}

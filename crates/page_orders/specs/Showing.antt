@@ -7,8 +7,8 @@ use Rattle.orders.specs.declared.history.Timed.{Timed}
 use Rattle.orders.specs.Orders.{HasOrder}
 use Rattle.cores.specs.Shown.{IsShownBut}
 use Rattle.cores.specs.declared.finding.Core.{Core}
-use Rattle.by_pages.specs.Pages.{AreChosen}
-use Rattle.by_pages.specs.declared.splitting.Part.{Part}
+use Rattle.orders.specs.Pages.{AreChosen}
+use Rattle.orders.specs.declared.splitting.Part.{Part}
 use Rattle.overlapping.specs.declared.judging.Shown.{Shown}
 use Rattle.overlapping.specs.declared.judging.Shown.TheVariants as By
 

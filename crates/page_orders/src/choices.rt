@@ -1,13 +1,13 @@
 //! Whether the calls of pages have no order, whichever of those that aren't sure took effect.
 ghost use Rattle.std.specs.Prelude.{◌≡◌, ◌≤◌, ◌++◌, List, [], ◌∷◌, IfOk, Ok, drop, length, true};
 ghost use Rattle.vm_base.specs.Plain.{nothing_mapped};
-ghost use Rattle.backing.specs.Given.{given_files};
+ghost use Rattle.frames.specs.Given.{given_files};
 ghost use Rattle.audit.specs.Placing.{rule_of};
 ghost use Rattle.orders.specs.Orders.{HasOrder};
-ghost use Rattle.by_pages.specs.Pages.{AreChosen};
+ghost use Rattle.orders.specs.Pages.{AreChosen};
 
-use backing::FileSpec;
-use by_pages::{Part, lost};
+use frames::FileSpec;
+use orders::{Part, lost};
 use no_order::{Answer, MOST, search_all};
 use orders::Timed;
 use std::alloc::Allocator;

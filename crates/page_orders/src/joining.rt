@@ -4,7 +4,7 @@
 ghost use Rattle.std.specs.Prelude.{◌≡◌, length};
 
 use audit::Call;
-use by_pages::{Part, stretch_of};
+use orders::{Part, stretch_of};
 use std::alloc::Allocator;
 use vm_base::page::{PAGE_SIZE, pages};
 use vm_base::{Errno, NoMemory, PageRange, Reply, Request, page_of};

@@ -3,7 +3,7 @@
 use crate::found::Order;
 use audit::Call;
 use audit_text::reading::read_declared;
-use by_pages::Part;
+use orders::Part;
 use orders::Item;
 use std::alloc::Allocator;
 use trace_text::{

@@ -1,13 +1,13 @@
 //! Whether the calls of pages have no order, by a few of them or by all their orders.
 ghost use Rattle.std.specs.Prelude.{◌≡◌, ◌≤◌, IfOk, IfSome, Ok, length, map, true};
 ghost use Rattle.vm_base.specs.Plain.{nothing_mapped};
-ghost use Rattle.backing.specs.Given.{given_files};
+ghost use Rattle.frames.specs.Given.{given_files};
 ghost use Rattle.audit.specs.Placing.{rule_of};
 ghost use Rattle.page_orders.specs.Showing.{HasNoneAmong, IsCoreOf, ShowsNone, is_surely, timed_of};
 
 use crate::choices::none_chosen;
-use backing::FileSpec;
-use by_pages::Part;
+use frames::FileSpec;
+use orders::Part;
 use cores::{Core, find_core_but};
 use no_order::MOST;
 use orders::Timed;

@@ -5,8 +5,8 @@ ghost use Rattle.std.specs.Prelude.{◌≡◌, IfOk, IfSome, length};
 ghost use Rattle.orders.specs.Orders.{EachOnce};
 
 use audit::Call;
-use backing::Objects;
-use by_pages::Part;
+use frames::Objects;
+use orders::Part;
 use order_search::{Found, Lag, Wholes, find_whole};
 use orders::{Item, Timed};
 use std::alloc::Allocator;

@@ -13,7 +13,7 @@ use Rattle.machine_model.specs.declared.event.Blocker.TheVariants as On
 use Rattle.machine_model.specs.Events.{core_of as core_that_takes}
 use Rattle.core_steps.specs.declared.machine.Finished.{Finished}
 use Rattle.core_steps.specs.declared.machine.Finished.TheVariants.{Last, Stuck}
-use Rattle.core_steps.specs.declared.setup.SetupFault.TheVariants as Fault
+use Rattle.machine_model.specs.declared.setup.SetupFault.TheVariants as Fault
 use Rattle.coded.specs.declared.codes.RawOutcome.{RawOutcome}
 use Rattle.coded.specs.declared.codes.Item.{Item}
 use Rattle.coded.specs.declared.codes.Item.TheVariants as To

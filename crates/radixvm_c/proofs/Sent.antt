@@ -5,17 +5,17 @@ use denote.Param.Send.{IsSend, EachSend, recorded_send, enum_send, sendable}
 use Rattle.std.proofs.Crossing.{crosses}
 use Rattle.arrayvec.proofs.array_vec.ArrayVec.TheSendSync as arrayvec_arrayvec
 use Rattle.arrayvec.proofs.cells.Cells.TheSendSync as arrayvec_cells
-use Rattle.backing.proofs.cached_frame.CachedFrame.TheSendSync as backing_cachedframe
-use Rattle.backing.proofs.file_object.FileObject.TheSendSync as backing_fileobject
-use Rattle.backing.proofs.objects.Objects.TheSendSync as backing_objects
+use Rattle.frames.proofs.cached_frame.CachedFrame.TheSendSync as backing_cachedframe
+use Rattle.frames.proofs.file_object.FileObject.TheSendSync as backing_fileobject
+use Rattle.frames.proofs.objects.Objects.TheSendSync as backing_objects
 use Rattle.core.proofs.option.Option.TheSendSync as core_option
 use Rattle.core.proofs.rt.Memory.TheSendSync as core_memory
 use Rattle.core_steps.proofs.engine.Engine.TheSendSync as core_steps_engine
 use Rattle.core_steps.proofs.engine.calls.CallTable.TheSendSync as core_steps_calltable
 use Rattle.core_steps.proofs.engine.cores.Cores.TheSendSync as core_steps_cores
-use Rattle.core_steps.proofs.ledger.entries.KeptEntries.TheSendSync as core_steps_keptentries
-use Rattle.core_steps.proofs.ledger.forgotten.Forgotten.TheSendSync as core_steps_forgotten
-use Rattle.core_steps.proofs.ledger.kept.Kept.TheSendSync as core_steps_kept
+use Rattle.machine_log.proofs.ledger.entries.KeptEntries.TheSendSync as core_steps_keptentries
+use Rattle.machine_log.proofs.ledger.forgotten.Forgotten.TheSendSync as core_steps_forgotten
+use Rattle.machine_log.proofs.ledger.kept.Kept.TheSendSync as core_steps_kept
 use Rattle.core_steps.proofs.machine.Machine.TheSendSync as core_steps_machine
 use Rattle.frames.proofs.byte_store.ByteStore.TheSendSync as frames_bytestore
 use Rattle.frames.proofs.frames.Frames.TheSendSync as frames_frames
@@ -39,9 +39,9 @@ use Rattle.refcache.proofs.places.Entry.TheSendSync as refcache_entry
 use Rattle.refcache.proofs.reports.Queued.TheSendSync as refcache_queued
 use Rattle.refcache.proofs.table.CountTable.TheSendSync as refcache_counttable
 use Rattle.refcache.proofs.whole.Refcache.TheSendSync as refcache_refcache
-use Rattle.shootdown.proofs.inbox.Inbox.TheSendSync as shootdown_inbox
-use Rattle.shootdown.proofs.inboxes.Inboxes.TheSendSync as shootdown_inboxes
-use Rattle.shootdown.proofs.message.Message.TheSendSync as shootdown_message
+use Rattle.mmu.proofs.inbox.Inbox.TheSendSync as shootdown_inbox
+use Rattle.mmu.proofs.inboxes.Inboxes.TheSendSync as shootdown_inboxes
+use Rattle.mmu.proofs.message.Message.TheSendSync as shootdown_message
 use Rattle.slot_lock.proofs.plan.Change.TheSendSync as slot_lock_change
 use Rattle.slot_lock.proofs.plan.Goal.TheSendSync as slot_lock_goal
 use Rattle.slot_lock.proofs.plan.Place.TheSendSync as slot_lock_place

@@ -6,7 +6,7 @@ use crate::handle::Handle;
 use coded::batch::refusal_of;
 use coded::holding::open_held;
 use coded::opening::{RawFile, RawSetup, Refusal};
-use core_steps::SetupFault;
+use machine_model::SetupFault;
 use std::alloc::Global;
 
 /// A new machine in an empty handle. After a refusal the handle is as it was.

@@ -7,7 +7,8 @@ ghost use Rattle.shared.specs.Calling.{ComesTo, EndsFrom, Halts, HaltsTo, IsLetG
 ghost use Rattle.shared.specs.Calling.{TakesPast, Wants, ended_by, is_answered};
 
 use crate::whole::Ended;
-use core_steps::{Finished, Ledger, Machine};
+use core_steps::{Finished, Machine};
+use machine_log::Ledger;
 use machine_model::{Event, Outcome};
 use slot_lock::SlotMap;
 use std::alloc::Allocator;

@@ -6,12 +6,12 @@ use Rattle.std.proofs.lemmas.Option.{slice_get-get_or}
 use Rattle.std.specs.Prelude.{Option, None, Some, IfNone, IfSome, Bool}
 use Rattle.atomic_table.specs.Seated.{TableId}
 use Rattle.machine_model.specs.World.{World, Made}
-use Rattle.core_steps.specs.Setups.{first_fault_within}
-use Rattle.core_steps.specs.declared.setup.CallLimit.{CallLimit}
-use Rattle.core_steps.specs.declared.setup.CallLimit.TheVariants.{Usual}
-use Rattle.trace.specs.Declarations.{Asked, asked_fault, has_long, made_by}
-use Rattle.notes_text.specs.Scripts.{Scripted}
-use Rattle.notes_text.specs.declared.script.Task.{Task}
+use Rattle.machine_model.specs.Setups.{first_fault_within}
+use Rattle.machine_model.specs.declared.setup.CallLimit.{CallLimit}
+use Rattle.machine_model.specs.declared.setup.CallLimit.TheVariants.{Usual}
+use Rattle.trace_words.specs.Declarations.{Asked, asked_fault, has_long, made_by}
+use Rattle.trace_words.specs.Scripts.{Scripted}
+use Rattle.trace_words.specs.declared.script.Task.{Task}
 use Rattle.shared.specs.Cores.{Agrees, CoreView, IsTold, history_first, made_of, new_core, told_of}
 use Rattle.shared.specs.Histories.{history_of, replied_by, replied_in}
 use Rattle.shared.specs.declared.history.Replied.{Replied}

@@ -4,8 +4,8 @@ use Rattle.std.proofs.lemmas.List.{append_assoc, map-append, take_more}
 use Rattle.vm_base.specs.declared.requests.Request.{Request}
 use Rattle.vm_base.specs.declared.replies.Reply.{Reply}
 use Rattle.machine_model.specs.World.{World, Made}
-use Rattle.notes_text.specs.declared.script.Task.{Task}
-use Rattle.notes_text.specs.declared.script.Task.TheVariants.{Call, Flush, Review}
+use Rattle.trace_words.specs.declared.script.Task.{Task}
+use Rattle.trace_words.specs.declared.script.Task.TheVariants.{Call, Flush, Review}
 use Rattle.machine_model.specs.declared.event.Outcome.{Outcome}
 use Rattle.machine_model.specs.declared.event.Outcome.TheVariants.{Full}
 use Rattle.shared.specs.declared.asides.Aside.{Aside}

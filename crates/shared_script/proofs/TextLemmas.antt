@@ -5,13 +5,13 @@ use Rattle.std.proofs.Common.{Result, Ok, Err, map, Vec, Global}
 use Rattle.std.proofs.lemmas.List.{get_or_default, get_or-map, length-map, take-append-drop}
 use Rattle.machine_model.specs.World.{World}
 use Rattle.shared.specs.Histories.{history_of}
-use Rattle.trace.specs.Declarations.{Asked}
+use Rattle.trace_words.specs.Declarations.{Asked}
 use Rattle.trace_io.specs.Sink.{AppendsFront}
 use Rattle.trace_io.proofs.IoLemmas.{each_front, front_longer, front_more}
-use Rattle.trace.specs.declared.fault.TraceFault.{TraceFault}
-use Rattle.trace.specs.declared.fault.TraceFault.TheVariants as Of
-use Rattle.notes_text.specs.Scripts.{ReadWhole, Scripted, Unread, unread_text, unmade, wanting}
-use Rattle.notes_text.proofs.CollectLemmas.{stops_own}
+use Rattle.trace_words.specs.declared.fault.TraceFault.{TraceFault}
+use Rattle.trace_words.specs.declared.fault.TraceFault.TheVariants as Of
+use Rattle.trace_words.specs.Scripts.{ReadWhole, Scripted, Unread, unread_text, unmade, wanting}
+use Rattle.trace_words.proofs.CollectLemmas.{stops_own}
 use Rattle.shared.specs.declared.history.Replied.{Replied}
 use Rattle.shared_script.specs.Runs.{Fails, IsRun}
 use Rattle.shared_script.specs.Texts.{EndsShared, IsSharedText, Yields, shared_text, told_line, told_lines}

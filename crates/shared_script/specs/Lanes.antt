@@ -2,7 +2,7 @@
 use Rattle.std.specs.Prelude.{◌≡◌, ℕ, suc, ◌-◌, ◌<◌, ◌≤◌, List, [], ◌∷◌, length, get_or, Option, None, Some, IfNone, IfSome}
 use Rattle.atomic_table.specs.Seated.{TableId}
 use Rattle.machine_model.specs.World.{World, Made}
-use Rattle.notes_text.specs.declared.script.Task.{Task}
+use Rattle.trace_words.specs.declared.script.Task.{Task}
 use Rattle.shared.specs.Cores.{made_of, new_core}
 use Rattle.shared_script.specs.Runs.{Fails}
 use Rattle.shared_script.specs.Tasks.{ArePassed, IsMade, asked_in, calls_of}

@@ -2,12 +2,12 @@
 use Rattle.std.specs.Prelude.{◌≡◌, ℕ, ◌<◌, List, [], length, get_or}
 use Rattle.machine_model.specs.World.{World}
 use Rattle.core_steps.specs.Machine.{IsLegal}
-use Rattle.core_steps.specs.declared.setup.SetupFault.TheVariants as Wrong
+use Rattle.machine_model.specs.declared.setup.SetupFault.TheVariants as Wrong
 use Rattle.shared.specs.Histories.{history_of, replied_by}
 use Rattle.shared.specs.declared.history.Replied.{Replied}
-use Rattle.trace.specs.Declarations.{made_by}
-use Rattle.trace.specs.declared.fault.TraceFault.TheVariants.{NoMemory, Setup}
-use Rattle.notes_text.specs.Scripts.{Scripted}
+use Rattle.trace_words.specs.Declarations.{made_by}
+use Rattle.trace_words.specs.declared.fault.TraceFault.TheVariants.{NoMemory, Setup}
+use Rattle.trace_words.specs.Scripts.{Scripted}
 use Rattle.shared_script.specs.Tasks.{ArePassed, asked_in, calls_of}
 use Rattle.shared_script.specs.declared.fault.SharedFault.{SharedFault}
 use Rattle.shared_script.specs.declared.fault.SharedFault.TheVariants.{Text, Full}

@@ -1,8 +1,8 @@
 -- What a core does of a script on a machine that others share
 use Rattle.std.specs.Prelude.{◌≡◌, ℕ, List, [], ◌∷◌, ◌++◌, map}
 use Rattle.vm_base.specs.declared.requests.Request.{Request}
-use Rattle.notes_text.specs.declared.script.Task.{Task}
-use Rattle.notes_text.specs.declared.script.Task.TheVariants.{Call, Flush, Review}
+use Rattle.trace_words.specs.declared.script.Task.{Task}
+use Rattle.trace_words.specs.declared.script.Task.TheVariants.{Call, Flush, Review}
 use Rattle.machine_model.specs.World.{World, Made}
 use Rattle.machine_model.specs.declared.event.Outcome.{Outcome}
 use Rattle.core_steps.specs.Machine.{IsLegal}

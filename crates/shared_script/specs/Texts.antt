@@ -14,12 +14,12 @@ use Rattle.shared.specs.declared.history.Replied.{Replied}
 use Rattle.trace_io.specs.Io.{ReadFrom, TellsSent, WrittenTo}
 use Rattle.trace_io.specs.Sink.{AppendsFront}
 use Rattle.trace_text.specs.Printing.{reply_text}
-use Rattle.trace.specs.Declarations.{Asked}
-use Rattle.trace.specs.Faults.{fault_named}
-use Rattle.trace.specs.declared.fault.TraceFault.{TraceFault}
-use Rattle.trace.specs.declared.fault.TraceFault.TheVariants as Of
-use Rattle.notes_text.specs.Scripts.{ReadWhole, Scripted, Unread}
-use Rattle.notes_text.specs.Written.{declared_text, request_words, spaced}
+use Rattle.trace_words.specs.Declarations.{Asked}
+use Rattle.trace_words.specs.Faults.{fault_named}
+use Rattle.trace_words.specs.declared.fault.TraceFault.{TraceFault}
+use Rattle.trace_words.specs.declared.fault.TraceFault.TheVariants as Of
+use Rattle.trace_words.specs.Scripts.{ReadWhole, Scripted, Unread}
+use Rattle.trace_words.specs.Written.{declared_text, request_words, spaced}
 use Rattle.shared_script.specs.Runs.{Fails, IsRun}
 use Rattle.shared_script.specs.declared.fault.SharedFault.{SharedFault}
 use Rattle.shared_script.specs.declared.fault.SharedFault.TheVariants.{Text}

@@ -1,6 +1,6 @@
 //! Why a script wasn't run on a machine that threads share.
 use thiserror::Error;
-use trace::fault::TraceFault;
+use trace_words::fault::TraceFault;
 
 /// Why a script's text wasn't run to its end, or what came of it wasn't written.
 #[derive(Clone, Copy, Debug, Error)]

@@ -1,7 +1,8 @@
 //! Machines whose log is kept, which threads may share.
 ghost use Rattle.std.specs.Prelude.{◌≡◌};
 
-use core_steps::{Kept, Machine};
+use machine_log::Kept;
+use core_steps::Machine;
 use machine_model::Outcome;
 use radix_range::RadixMap;
 use shared::{Aside, Ended, Whole};

@@ -1,6 +1,6 @@
 //! The running of a script on threads over one machine.
 ghost use Rattle.std.specs.Prelude.{◌≡◌, ◌-◌, ◌<◌, [], IfErr, IfOk, List, None, map};
-ghost use Rattle.trace.specs.Declarations.{made_by};
+ghost use Rattle.trace_words.specs.Declarations.{made_by};
 ghost use Rattle.shared.specs.Cores.{made_of, new_core};
 ghost use Rattle.shared_script.specs.Lanes.{AreCores, AreOf, EndEach, EndsAs, IsDone, IsFresh, last_stop};
 ghost use Rattle.shared_script.specs.Runs.{Fails, IsRun};
@@ -8,12 +8,12 @@ ghost use Rattle.shared_script.specs.Runs.{Fails, IsRun};
 use crate::fault::SharedFault;
 use crate::lane::Lane;
 use crate::tasks::run_lane;
-use notes_text::Script;
+use trace_words::Script;
 use shared::{Core, Replied, Space, Whole};
 use std::alloc::Global;
 use std::sync::Wait;
 use std::thread::{self, Threads};
-use trace::fault::TraceFault;
+use trace_words::fault::TraceFault;
 use vm_base::NoMemory;
 
 /// A machine on which a script was run, and the calls of each core with the replies that its thread was told.

@@ -3,7 +3,7 @@ ghost use Rattle.std.specs.Prelude.{◌≡◌, ◌⊎◌, [], Err, IfErr, IfOk, 
 ghost use Rattle.core_steps.specs.Machine.{state};
 ghost use Rattle.trace_io.specs.Io.{read_from, written_to};
 ghost use Rattle.trace_io.specs.Source.{Reads};
-ghost use Rattle.trace.specs.Declarations.{asked_fault, made_by};
+ghost use Rattle.trace_words.specs.Declarations.{asked_fault, made_by};
 ghost use Rattle.shared_script.specs.Runs.{Fails, IsRun};
 ghost use Rattle.shared_script.specs.Texts.{EndsShared, TellsShared, Yields};
 
@@ -11,13 +11,14 @@ use crate::fault::SharedFault;
 use crate::logged::Tree;
 use crate::running::{Ran, run_shared};
 use crate::writing::write_ran;
-use core_steps::{Machine, SetupFault};
-use notes_text::{Script, read_script};
+use core_steps::Machine;
+use machine_model::SetupFault;
+use trace_words::{Script, read_script};
 use radix_range::RadixMap;
 use std::alloc::Global;
 use std::sync::Wait;
 use std::thread::Threads;
-use trace::fault::TraceFault;
+use trace_words::fault::TraceFault;
 use trace_io::sink::Sink;
 use trace_io::source::Source;
 

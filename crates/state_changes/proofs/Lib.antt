@@ -1,3 +1,6 @@
+pub mod Lines
+pub mod Made
 pub mod Marking
-pub mod Texts
+pub mod Parts
+pub mod Traces
 pub mod Walking

@@ -1,14 +1,14 @@
 -- The changes of lines, one after another
 use Rattle.std.proofs.Common.{◌≡◌, ℕ, zero, suc, ◌+◌, ◌<◌, List, [], ◌∷◌, ◌++◌, ◌⊎◌, inl, inr, arith, length, length-append, map, refl, sym, ap, subst, ◌∙◌, take, drop, drop-cons, get_or, Vec}
 use Rattle.std.specs.declared.alloc.Global.{Global}
-use Rattle.changes.specs.Applied.{Differs, applied}
+use Rattle.state_changes.specs.Applied.{Differs, applied}
 use Rattle.trace_io.specs.Lines.{lines_of}
 use Rattle.state_text.specs.Traces.{told_text}
-use Rattle.trace_page.specs.Pages.{ShowsStates, all_changed, text_behind}
-use Rattle.trace_page.specs.Recorded.{MomentOf, Recorded}
-use Rattle.trace_page.specs.Spans.{span_of}
+use Rattle.state_changes.specs.Pages.{ShowsStates, all_changed, text_behind}
+use Rattle.state_changes.specs.Recorded.{MomentOf, Recorded}
+use Rattle.state_changes.specs.Spans.{span_of}
 use Rattle.state_changes.specs.Behind.{SaysChanges, SaysSteps}
-use Rattle.state_changes.specs.Numbered.{text_at, texts_of}
+use Rattle.trace.specs.Numbered.{text_at, texts_of}
 use Rattle.state_changes.specs.Marks.{SaysDifference}
 
 -- a text for each line so far, and what is left of lines and steps

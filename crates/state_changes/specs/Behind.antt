@@ -1,11 +1,11 @@
 -- What each line of a trace changes in the text of the state
 use Rattle.std.specs.Prelude.{◌≡◌, ℕ, suc, ◌<◌, List, length, take}
 use Rattle.state_text.specs.Traces.{Told, told_text}
-use Rattle.state_text.specs.Leads.{IsTold}
+use Rattle.state_changes.specs.Leads.{IsTold}
 use Rattle.state_changes.specs.Marks.{SaysDifference}
-use Rattle.state_changes.specs.Numbered.{text_at}
-use Rattle.trace_page.specs.Pages.{text_behind}
-use Rattle.trace_page.specs.Recorded.{Recorded}
+use Rattle.trace.specs.Numbered.{text_at}
+use Rattle.state_changes.specs.Pages.{text_behind}
+use Rattle.state_changes.specs.Recorded.{Recorded}
 
 -- a text for each line, which says what its steps change in the text of the state
 pub record SaysSteps (lines : List (List ℕ)) (r : Recorded) (texts : List (List ℕ)) : Type 0 where

@@ -1,3 +1,9 @@
+pub mod Applied
 pub mod Behind
+pub mod Data
+pub mod Json
+pub mod Leads
 pub mod Marks
-pub mod Numbered
+pub mod Pages
+pub mod Recorded
+pub mod Spans

@@ -1,15 +1,15 @@
 //! What each line of a trace changes in the text of the state.
 ghost use Rattle.std.specs.Prelude.{◌≡◌, IfOk};
 ghost use Rattle.state_changes.specs.Behind.{SaysSteps};
-ghost use Rattle.state_changes.specs.Numbered.{texts_of};
+ghost use Rattle.trace.specs.Numbered.{texts_of};
 ghost use Rattle.trace_io.specs.Lines.{lines_of};
-ghost use Rattle.trace_page.specs.Pages.{all_changed};
+ghost use Rattle.state_changes.specs.Pages.{all_changed};
 
 use crate::marks::difference_text;
 use std::alloc::{AllocError, Global};
 use trace_io::lines::front_line;
-use trace_page::spans::span_of;
-use trace_page::{Moment, StateRecorder};
+use crate::spans::span_of;
+use crate::{Moment, StateRecorder};
 
 // What the steps make of the text, one after another.
 fn text_after(alloc: Global, text: &[u8], moments: &[Moment]) -> Result<Vec<u8>, AllocError>

@@ -8,34 +8,34 @@ use Rattle.machine_model.specs.declared.event.Outcome.TheVariants.{Stepped, Full
 use Rattle.machine_model.specs.declared.phase.Phase.{Phase}
 use Rattle.machine_model.specs.declared.phase.Phase.TheVariants.{Free}
 use Rattle.std.specs.List.{flat_map}
-use Rattle.shootdown.specs.declared.message.Took.{Took}
-use Rattle.shootdown.specs.declared.message.Took.TheVariants as took
+use Rattle.mmu.specs.declared.message.Took.{Took}
+use Rattle.mmu.specs.declared.message.Took.TheVariants as took
 use Rattle.watched.specs.Watching.{Watches}
-use Rattle.state_text.specs.declared.deed.Deed.{Deed}
-use Rattle.state_text.specs.declared.deed.Deed.TheVariants.{Nothing, Translate, Shoot, Take, Walk, Evict}
+use Rattle.state_seen.specs.declared.deed.Deed.{Deed}
+use Rattle.state_seen.specs.declared.deed.Deed.TheVariants.{Nothing, Translate, Shoot, Take, Walk, Evict}
 use Rattle.vm_base.specs.Functions.{across, over}
-use Rattle.state_text.specs.Deeds.{deed_of}
-use Rattle.state_text.specs.declared.edit.Edit.{Edit}
-use Rattle.state_text.specs.declared.edit.Edit.TheVariants as to
-use Rattle.state_text.specs.Edits.{after_edit, edit_of, edited, table_at, taken_from}
-use Rattle.state_text.specs.Held.{Holds, done, held, own_part, told}
+use Rattle.state_seen.specs.Deeds.{deed_of}
+use Rattle.state_seen.specs.declared.edit.Edit.{Edit}
+use Rattle.state_seen.specs.declared.edit.Edit.TheVariants as to
+use Rattle.state_seen.specs.Edits.{after_edit, edit_of, edited, table_at, taken_from}
+use Rattle.state_seen.specs.Held.{Holds, done, held, own_part, told}
 use Rattle.state_text.specs.Laws.{Knows}
-use Rattle.state_text.specs.Shown.{Follows, IsNothing, IsShown, Seen, after_step, holds_of, inboxes, is_core, phase_at, phase_in}
+use Rattle.state_seen.specs.Shown.{Follows, IsNothing, IsShown, Seen, after_step, holds_of, inboxes, is_core, phase_at, phase_in}
 use Rattle.core_steps.specs.Changing.{may_change}
 use Rattle.core_steps.proofs.Keeping.{keeps}
 use Rattle.machine_model.specs.Holding.{some_has}
-use Rattle.page_list.specs.Lists.{at_page}
-use Rattle.page_list.specs.Texts.{pages_text, texts_below}
-use Rattle.page_list.proofs.Texts.{pages_same, texts_same}
-use Rattle.used_pages.specs.declared.used.Used.{Used}
-use Rattle.used_pages.specs.Texts.{used_line}
-use Rattle.used_pages.specs.Used.{used_in, used_of}
+use Rattle.state_seen.specs.Lists.{at_page}
+use Rattle.state_seen.specs.PageTexts.{pages_text, texts_below}
+use Rattle.state_seen.proofs.PageTexts.{pages_same, texts_same}
+use Rattle.state_seen.specs.declared.used.Used.{Used}
+use Rattle.state_text.specs.PageTexts.{used_line}
+use Rattle.state_seen.specs.Used.{used_in, used_of}
 use Rattle.slot_lock.specs.Slots.{IsNew}
 use Rattle.state_text.specs.Texts.{core_text, epoch_line, message_line, seen_core, seen_text, state_text, table_line, table_text}
 use Rattle.state_text.specs.Texts.{tlb_line, work_text}
-use Rattle.state_text.proofs.Phases.{step_stays}
-use Rattle.state_text.proofs.Steps.{step_kept}
-use Rattle.state_text.proofs.TableSteps.{tables_kept}
+use Rattle.state_seen.proofs.Phases.{step_stays}
+use Rattle.state_seen.proofs.Steps.{step_kept}
+use Rattle.state_seen.proofs.TableSteps.{tables_kept}
 
 -- ---- of cores that hold the same, below 64
 

@@ -6,7 +6,7 @@ use Rattle.machine_model.specs.declared.event.Outcome.{Outcome}
 use Rattle.slot_lock.specs.Slots.{IsNew, Slots}
 use Rattle.machine_model.specs.Sound.{IsReached}
 use Rattle.watched.specs.Watching.{Watches}
-use Rattle.state_text.specs.Shown.{Follows, IsNothing, IsShown, Seen}
+use Rattle.state_seen.specs.Shown.{Follows, IsNothing, IsShown, Seen}
 use Rattle.state_text.specs.Texts.{seen_text, state_text}
 use Rattle.state_text.specs.Words.{held_spot, spot_has}
 

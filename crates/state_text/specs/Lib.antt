@@ -1,10 +1,11 @@
-pub mod Deeds
-pub mod Edits
+pub mod CountLaws
+pub mod Counts
 pub mod Fronts
-pub mod Held
+pub mod JsonLaws
 pub mod Laws
-pub mod Shown
+pub mod Objects
+pub mod PageObjects
+pub mod PageTexts
 pub mod Texts
 pub mod Traces
 pub mod Words
-pub mod Leads

@@ -5,24 +5,24 @@ use Rattle.vm_base.specs.declared.rights.Prot.{Prot}
 use Rattle.vm_base.specs.Functions.{has}
 use Rattle.mmu.specs.declared.entry.Translation.{Translation}
 use Rattle.mmu.specs.declared.tlb.TlbEntry.{TlbEntry}
-use Rattle.shootdown.specs.declared.message.Message.{Message}
+use Rattle.mmu.specs.declared.message.Message.{Message}
 use Rattle.trace_text.specs.Lists.{start_of}
 use Rattle.trace_text.specs.Spelling.{rights_text}
 use Rattle.machine_model.specs.Holding.{taken_in}
 use Rattle.machine_model.specs.World.{World}
-use Rattle.page_list.specs.declared.list.OfPage.{OfPage}
-use Rattle.page_list.specs.Lists.{at_page}
-use Rattle.page_list.specs.Texts.{pages_text, texts_below}
+use Rattle.state_seen.specs.declared.list.OfPage.{OfPage}
+use Rattle.state_seen.specs.Lists.{at_page}
+use Rattle.state_seen.specs.PageTexts.{pages_text, texts_below}
 use Rattle.machine_model.specs.declared.phase.Phase.{Phase}
 use Rattle.machine_model.specs.declared.phase.Phase.TheVariants.{Free}
 use Rattle.state_text.specs.declared.words.Spot.{Spot}
 use Rattle.state_text.specs.declared.words.Spot.TheVariants.{Nowhere, Page, Pages}
-use Rattle.state_text.specs.Edits.{table_at}
-use Rattle.state_text.specs.Held.{Holds, held}
-use Rattle.state_text.specs.Shown.{Seen, holds_of, phase_in}
+use Rattle.state_seen.specs.Edits.{table_at}
+use Rattle.state_seen.specs.Held.{Holds, held}
+use Rattle.state_seen.specs.Shown.{Seen, holds_of, phase_in}
 use Rattle.state_text.specs.Words.{call_word, doing_word, held_spot, spot_of}
-use Rattle.used_pages.specs.Texts.{used_line}
-use Rattle.used_pages.specs.Used.{used_in}
+use Rattle.state_text.specs.PageTexts.{used_line}
+use Rattle.state_seen.specs.Used.{used_in}
 
 -- ---- a call
 

@@ -2,9 +2,9 @@
 use Rattle.std.specs.Prelude.{ℕ, List, ◌++◌}
 use Rattle.slot_lock.specs.declared.map_list.MapLine.{MapLine}
 use Rattle.machine_model.specs.World.{World}
-use Rattle.trace.specs.Listing.{maps_text}
-use Rattle.frame_counts.specs.declared.texts.Form.TheVariants.{Text}
-use Rattle.frame_counts.specs.Texts.{counts_text}
+use Rattle.trace_text.specs.Listing.{maps_text}
+use Rattle.state_text.specs.declared.counts.Form.TheVariants.{Text}
+use Rattle.state_text.specs.Counts.{counts_text}
 use Rattle.state_text.specs.Texts.{state_text}
 
 -- a state, and mappings

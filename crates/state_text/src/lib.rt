@@ -2,20 +2,15 @@
 //! pages that were used.
 #![tactic(auto)]
 
-pub mod deed;
-pub mod edit;
+pub mod count_laws;
+pub mod counts;
 pub mod fronts;
-pub mod held;
+pub mod json_laws;
 pub mod laws;
-pub mod mirror;
-mod reading;
-mod tables;
+pub mod objects;
+mod page_objects;
+pub mod page_texts;
 pub mod texts;
-pub mod tlb_lists;
-mod watching;
 pub mod words;
 
-pub use deed::Deed;
-pub use edit::Edit;
-pub use held::Held;
-pub use mirror::Mirror;
+pub use counts::Form;

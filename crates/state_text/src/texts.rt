@@ -1,7 +1,7 @@
 //! The text of a state.
 ghost use Rattle.std.specs.Prelude.{◌≡◌, ◌+◌, ◌≤◌, ◌++◌, OnOk, length};
-ghost use Rattle.page_list.specs.Lists.{at_page};
-ghost use Rattle.page_list.specs.Texts.{texts_below};
+ghost use Rattle.state_seen.specs.Lists.{at_page};
+ghost use Rattle.state_seen.specs.PageTexts.{texts_below};
 ghost use Rattle.std.specs.List.{flat_map};
 ghost use Rattle.state_text.specs.Texts.{call_line, call_text, core_text, epoch_line, entry_line, going_word, gone_word, message_line, message_word};
 ghost use Rattle.state_text.specs.Texts.{holds_line, holds_text, rights_of, seen_core, seen_text, spot_text, table_entry, table_text};
@@ -9,17 +9,17 @@ ghost use Rattle.state_text.specs.Texts.{tlb_line, took_line, took_text, work_te
 ghost use Rattle.state_text.specs.Words.{held_spot};
 ghost use Rattle.machine_model.specs.Holding.{taken_in};
 
-use crate::held::Held;
-use crate::mirror::Mirror;
+use state_seen::held::Held;
+use state_seen::mirror::Mirror;
 use crate::words::{Spot, call_word, doing_word, held_spot, spot_of, taken_in};
 use machine_model::Phase;
 use mmu::entry::Translation;
 use mmu::tlb::TlbEntry;
-use page_list::{OfPage, PageList};
-use picture::pieces::{Piece, put, put_all};
-use shootdown::Message;
+use state_seen::{OfPage, PageList};
+use trace_text::pieces::{Piece, put, put_all};
+use mmu::Message;
 use std::alloc::{AllocError, Allocator};
-use used_pages::texts::put_pages;
+use crate::page_texts::put_pages;
 use vm_base::{CoreId, Prot};
 
 // Which take of a message is due.

@@ -16,7 +16,7 @@ use std::fs::File;
 use std::io::Write;
 use std::process::ExitCode;
 use trace::replay::replay;
-use trace::show::Show;
+use trace_words::show::Show;
 use trace_io::sink::Noted;
 use trace_io::source::{Counted, read_all};
 

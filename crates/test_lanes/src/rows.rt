@@ -12,7 +12,7 @@ use machine_model::Outcome;
 use seats::Seat;
 use std::alloc::{Allocator, Global};
 use std::sync::Wait;
-use trace::outcome_text::write_outcome;
+use trace_words::outcome_text::write_outcome;
 use trace_text::{LineText, read_line};
 use vm_base::NoMemory;
 

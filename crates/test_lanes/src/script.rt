@@ -1,5 +1,5 @@
 //! What scripts ask for, between whose lines stands `; `.
-use core_steps::Setup;
+use machine_model::Setup;
 use std::alloc::Allocator;
 use test_support::setups::declared;
 use trace_text::{Line, read_line};

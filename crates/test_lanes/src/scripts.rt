@@ -3,10 +3,10 @@
 use crate::script::setup_of;
 use audit::{Auditor, Call};
 use certifier::CertifyFault;
-use core_steps::Setup;
+use machine_model::Setup;
 use live_script::{OnThreads, Ran, Runner, begin, certify_ran, run_in_turn};
 use machine_model::{Event, Outcome};
-use notes_text::{Script, read_script};
+use trace_words::{Script, read_script};
 use radix_range::RadixMap;
 use seats::{Noted, Notes};
 use std::alloc::{Allocator, Global};

@@ -1,5 +1,5 @@
 //! What a space tells of itself, the texts of faults, and what is said about histories that are another space's.
-use core_steps::SetupFault;
+use machine_model::SetupFault;
 use live_script::RunFault;
 use live_space::fault::LiveFault;
 use std::test::Fail;

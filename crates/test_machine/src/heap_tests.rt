@@ -3,16 +3,18 @@
 ghost use Rattle.slot_lock.specs.Slots.{IsNew};
 
 use crate::machines::{Space, machine_over, push_outcomes};
-use core_steps::{Kept, RunFault, Setup, SetupFault, run};
+use machine_log::Kept;
+use core_steps::{RunFault, run};
+use machine_model::{Setup, SetupFault};
 use linked_list_allocator::LocalHeap;
 use machine_model::Event;
 use slot_lock::{SlotList, SlotMap};
 use std::alloc::{Allocator, Global};
 use std::test::Fail;
 use test_support::setups::declared;
-use trace::fault::TraceFault;
+use trace_words::fault::TraceFault;
 use trace::replay::replay;
-use trace::show::Show;
+use trace_words::show::Show;
 use trace_io::sink::Noted;
 use trace_io::source::Counted;
 use vm_base::{CoreId, Flags, NoMemory, Prot, Request};

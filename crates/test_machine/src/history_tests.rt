@@ -5,7 +5,7 @@ ghost use Rattle.std.specs.Prelude.{◌<◌, ◌^◌};
 use crate::noting::notes_of_lines;
 use crate::starved::AMPLE;
 use certifier::{Certified, CertifyFault, certify};
-use core_steps::Setup;
+use machine_model::Setup;
 use linked_list_allocator::LocalHeap;
 use live_levels::act::Act;
 use live_levels::level::Stepper;

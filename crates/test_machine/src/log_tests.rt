@@ -1,5 +1,5 @@
 //! A log of entries at the edges of what goes into sixteen bytes, and past them.
-use core_steps::{Ledger, Logged, Opening};
+use machine_log::{Ledger, Logged, Opening};
 use std::alloc::{AllocError, Global};
 use vm_base::{CoreId, Entry, Errno, Reply, SegvCode};
 

@@ -4,16 +4,17 @@ ghost use Rattle.slot_lock.specs.Slots.{IsNew};
 ghost use Rattle.core_steps.specs.Machine.{state};
 
 use crate::by_hand::{Moves, outcome_of};
-use core_steps::{Kept, Machine};
+use machine_log::Kept;
+use core_steps::Machine;
 use machine_model::{Event, Outcome};
 use radix_range::RadixMap;
 use slot_lock::{MapLine, SlotList, SlotMap};
 use std::alloc::{Allocator, Global};
 use test_support::setups::declared;
-use trace::declaration::Declaration;
-use trace::outcome_text::write_outcome;
+use trace_words::declaration::Declaration;
+use trace_words::outcome_text::write_outcome;
 use trace::replay::replay;
-use trace::show::Show;
+use trace_words::show::Show;
 use trace_io::sink::Noted;
 use trace_io::source::Counted;
 use trace_text::{

@@ -1,8 +1,9 @@
 //! Notes as text: what is written of them, and what certifying a text comes to.
-use notes_text::{Script, certify_text, read_script, write_notes};
+use trace_words::{Script, read_script};
+use notes_text::{certify_text, write_notes};
 use seats::Notes;
 use std::alloc::{Allocator, Global};
-use trace::fault::TraceFault;
+use trace_words::fault::TraceFault;
 use trace_io::sink;
 use trace_io::source::Counted;
 use vm_base::NoMemory;

@@ -8,7 +8,7 @@ use seats::{NoteList, Noted, Notes};
 use std::alloc::Global;
 use std::test::Fail;
 use test_support::random::Random;
-use trace::outcome_text::write_outcome;
+use trace_words::outcome_text::write_outcome;
 use trace_text::LineText;
 use vm_base::NoMemory;
 

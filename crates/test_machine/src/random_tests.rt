@@ -10,7 +10,7 @@ use std::test::Fail;
 use test_support::oracle::Oracle;
 use test_support::random::Random;
 use test_support::setups::declared;
-use trace::show::Show;
+use trace_words::show::Show;
 use vm_base::{Entry, NoMemory, Request};
 
 /// Tells whether the replay shows this of a trace.

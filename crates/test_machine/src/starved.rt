@@ -11,7 +11,7 @@ use slot_lock::{SlotList, SlotMap};
 use std::alloc::{Allocator, Global};
 use test_support::heaps::{Piece, fill};
 use test_support::setups::declared;
-use trace::outcome_text::write_outcome;
+use trace_words::outcome_text::write_outcome;
 use trace_text::{LineText, read_line};
 use vm_base::NoMemory;
 

@@ -5,7 +5,7 @@ use crate::noting::notes_of_lines;
 use crate::starved::AMPLE;
 use linked_list_allocator::LocalHeap;
 use machine_model::{Event, Outcome};
-use notes_text::Script;
+use trace_words::Script;
 use seats::{Noted, Notes};
 use std::alloc::{Allocator, Global};
 use std::test::Fail;

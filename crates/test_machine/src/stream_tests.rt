@@ -2,9 +2,9 @@
 use std::alloc::Global;
 use std::io;
 use std::io::{ErrorKind, Read, Write};
-use trace::fault::TraceFault;
+use trace_words::fault::TraceFault;
 use trace::replay::replay;
-use trace::show::Show;
+use trace_words::show::Show;
 use trace_io::sink::Noted;
 use trace_io::source::Counted;
 

@@ -1,5 +1,5 @@
 //! Values of the manual; and functions that nothing but tests calls, or that say something of sizes.
-use backing::{FileSpec, Objects, Sharing};
+use frames::{FileSpec, Objects, Sharing};
 use ghost_list::GhostList;
 use mmu::{Cpu, Hardware, indices};
 use std::alloc::Global;

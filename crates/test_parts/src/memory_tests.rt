@@ -3,7 +3,7 @@
 ghost use Rattle.std.specs.Prelude.{◌<◌};
 
 use crate::script::lock;
-use backing::{FileSpec, Objects};
+use frames::{FileSpec, Objects};
 use frames::{FrameCell, Frames};
 use linked_list_allocator::LocalHeap;
 use mmu::{Cpu, Hardware};

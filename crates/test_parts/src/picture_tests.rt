@@ -1,8 +1,8 @@
 //! Pictures of sixty events, and of the lives of 2000 mappings: their texts are apart. Which shapes a picture has, its contract says.
-use lives::drawing::draw_lives;
-use picture::canvas::draw;
-use picture::moments::{Deed, Moment, Recorded};
-use picture::places::view_of;
+use draw_lives::drawing::draw_lives;
+use draw_steps::canvas::draw;
+use draw_steps::moments::{Deed, Moment, Recorded};
+use draw_steps::places::view_of;
 use std::alloc::{AllocError, Global};
 use std::test::Fail;
 use vm_base::{Back, CoreId, Errno, PageRange, Prot, Reply, Request, SegvCode};

@@ -1,6 +1,6 @@
 //! The plain page map as a program for tests: short, slow, and nothing but a list of mappings and lists of bytes. It is proved
 //! to be safe, and nothing else is proved of it.
-use backing::FileSpec;
+use frames::FileSpec;
 use std::alloc::Allocator;
 use vm_base::{
     Access, Back, CoreId, Errno, Flags, Mode, NoMemory, PageRange, Prot, Reply, Request, SegvCode,

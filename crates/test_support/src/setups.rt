@@ -1,5 +1,5 @@
 //! What a text of lines asks for.
-use trace::declaration::{Declaration, FileLine};
+use trace_words::declaration::{Declaration, FileLine};
 use trace_text::{Line, read_line};
 
 /// What the `vm` and `file` lines of a trace or a script ask for.

@@ -2,17 +2,17 @@
 use crate::streams::{
     AMPLE, Dripping, Filling, Ran, dripping_of, ran_of, run_words, sink_of, text_of,
 };
-use core_steps::CallLimit;
+use machine_model::CallLimit;
 use linked_list_allocator::LocalHeap;
 use live_script::InTurn;
-use run_words::certifying::certify;
-use run_words::job::{run, run_echoing};
-use run_words::live::{certify_live, live};
+use word_runs::certifying::certify;
+use word_runs::job::{run, run_echoing};
+use word_runs::live::{certify_live, live};
 use std::alloc::Global;
 use std::sync::Wait;
 use std::test::Fail;
 use std::thread::Threads;
-use trace::show::Show;
+use trace_words::show::Show;
 use trace_io::sink::Noted;
 use trace_io::source::Counted;
 use word_parts::asked::Shows;

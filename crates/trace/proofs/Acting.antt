@@ -9,13 +9,13 @@ use Rattle.trace_text.specs.Words.{Word, words_of}
 use Rattle.trace_text.specs.Line.{are_printable, begins_with_file, begins_with_vm, line_of}
 use Rattle.trace_text.specs.declared.line.Line.{Line}
 use Rattle.trace_text.specs.declared.line.Line.TheVariants.{Blank, Space, File, Act, Fold, Finish, Now}
-use Rattle.core_steps.specs.declared.setup.CallLimit.{CallLimit}
-use Rattle.trace.specs.declared.fault.TraceFault.{TraceFault}
-use Rattle.trace.specs.declared.fault.TraceFault.TheVariants.{BadLine, NoMemory, NoVmLine}
-use Rattle.trace.specs.Declarations.{Asked, asks_for}
+use Rattle.machine_model.specs.declared.setup.CallLimit.{CallLimit}
+use Rattle.trace_words.specs.declared.fault.TraceFault.{TraceFault}
+use Rattle.trace_words.specs.declared.fault.TraceFault.TheVariants.{BadLine, NoMemory, NoVmLine}
+use Rattle.trace_words.specs.Declarations.{Asked, asks_for}
 use Rattle.trace.specs.Gives.{is_event}
 use Rattle.trace.specs.Stage.{Stage, stage_of, Acts, EventActs, Opens, OpenFails, LateFails, BadFails}
-use Rattle.trace.specs.Kinds.{Kind, OfSpace, OfFile, OfEvents, kind_of}
+use Rattle.trace_words.specs.Kinds.{Kind, OfSpace, OfFile, OfEvents, kind_of}
 use Rattle.trace.specs.Stage.{BytesFail, EventFails, EventWants, LineActs, LineFails, LineWants, SaidFails, SpaceFails}
 
 -- ---- at which a machine is to be made

@@ -8,10 +8,10 @@ use Rattle.vm_base.specs.declared.memory.NoMemory.{NoMemory}
 use Rattle.radix_range.specs.Folds.{CanFold, FoldsNode}
 use Rattle.radix_range.specs.Tree.{root_edges, new_tree}
 use Rattle.radix_range.proofs.New.{is_new_tree}
-use Rattle.core_steps.specs.declared.setup.CallLimit.{CallLimit}
-use Rattle.trace.specs.Declarations.{Asked, asked_fault_within, made_by}
-use Rattle.trace.specs.declared.fault.TraceFault.{TraceFault}
-use Rattle.trace.specs.declared.fault.TraceFault.TheVariants as By
+use Rattle.machine_model.specs.declared.setup.CallLimit.{CallLimit}
+use Rattle.trace_words.specs.Declarations.{Asked, asked_fault_within, made_by}
+use Rattle.trace_words.specs.declared.fault.TraceFault.{TraceFault}
+use Rattle.trace_words.specs.declared.fault.TraceFault.TheVariants as By
 use Rattle.trace.specs.Stage.{Stage, Start, Declared, Running, CanOpen, EventActs, EventFails, EventWants, Opens, stage_of}
 use Rattle.trace_text.specs.declared.line.Line.{Line}
 use Rattle.trace_text.specs.declared.line.Line.TheVariants.{Now}

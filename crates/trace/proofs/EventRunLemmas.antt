@@ -12,13 +12,13 @@ use Rattle.machine_model.proofs.SoundKept.{runs_sound}
 use Rattle.core_steps.specs.declared.machine.Finished.{Finished}
 use Rattle.core_steps.specs.declared.machine.Finished.TheVariants.{Last, Stuck}
 use Rattle.core_steps.specs.Finishing.{EndsIn}
-use Rattle.core_steps.specs.declared.setup.CallLimit.{CallLimit}
+use Rattle.machine_model.specs.declared.setup.CallLimit.{CallLimit}
 use Rattle.watched.proofs.Watched.{replicate_more}
-use Rattle.trace.specs.Declarations.{Asked, made_by}
+use Rattle.trace_words.specs.Declarations.{Asked, made_by}
 use Rattle.trace_text.specs.Line.{line_of}
 use Rattle.trace_text.specs.declared.line.Line.{Line}
 use Rattle.trace_text.specs.declared.line.Line.TheVariants.{Blank, Space, File, Act, Fold, Finish, Now}
-use Rattle.trace.specs.Events.{event_of}
+use Rattle.trace_words.specs.Events.{event_of}
 use Rattle.trace.specs.FinishedText.{finished_text}
 use Rattle.radix_range.specs.Folds.{CanFold, FoldsNode}
 use Rattle.trace.specs.Gives.{Gives, TellsFinish, TellsCall}

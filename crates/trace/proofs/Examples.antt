@@ -11,9 +11,9 @@ use Rattle.trace_text.specs.declared.action.Action.{Action}
 use Rattle.trace_text.specs.declared.action.Action.TheVariants as By
 use Rattle.trace_text.specs.declared.line.Line.{Line}
 use Rattle.trace_text.specs.declared.line.Line.TheVariants.{Blank, Space, File, Act, Fold, Finish, Now}
-use Rattle.trace.specs.declared.show.Show.TheVariants.{Maps}
-use Rattle.trace.specs.OutcomeText.{outcome_text}
-use Rattle.trace.specs.Listing.{maps_text}
+use Rattle.trace_words.specs.declared.show.Show.TheVariants.{Maps}
+use Rattle.trace_words.specs.OutcomeText.{outcome_text}
+use Rattle.trace_text.specs.Listing.{maps_text}
 use Rattle.trace.specs.PlainText.{Open, Reached, nothing_reached, one_more, Idles, AnswersAtOnce, IsHeldUp, OpenAnswers, FinishAnswers}
 use Rattle.trace.specs.PlainText.{TakeAnswers, MayStep, CoreMayStep, ActAnswers, LineAnswers, IsLogOf, IsPlainBehind}
 

@@ -1,17 +1,18 @@
-pub mod ShownLemmas
-pub mod MapsLemmas
-pub mod RunLemmas
-pub mod TextLemmas
-pub mod TurnLemmas
-pub mod EventRunLemmas
 pub mod Acting
-pub mod EventLines
-pub mod Replying
-pub mod PlainCalls
-pub mod Opening
 pub mod Disturbing
-pub mod PlainTextLemmas
-pub mod Declaring
+mod EchoLemmas
+pub mod EventLines
+pub mod EventRunLemmas
 mod Examples
+pub mod LogLineLemmas
+pub mod MapsLemmas
+pub mod NumberedTexts
+pub mod Opening
+pub mod PairTable
+pub mod PlainCalls
+pub mod PlainTextLemmas
+pub mod Replying
+pub mod RunLemmas
 pub mod Seeing
-pub mod OwnFaults
+pub mod ShownLemmas
+pub mod TurnLemmas

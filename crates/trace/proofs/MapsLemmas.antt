@@ -6,10 +6,10 @@ use Rattle.slot_lock.proofs.MapLists.{lists_end, lists_more}
 use Rattle.core_steps.specs.Machine.{IsLegal}
 use Rattle.core_steps.specs.MapLines.{IsNextMap}
 use Rattle.trace_io.specs.Sink.{AppendsFront}
-use Rattle.trace.specs.declared.show.Show.TheVariants.{Maps}
+use Rattle.trace_words.specs.declared.show.Show.TheVariants.{Maps}
 use Rattle.trace.specs.Stage.{Stage, Start, Declared, Running}
 use Rattle.trace.specs.Shown.{ListsUpTo, IsStartAt, IsNextAt, HasNoneAt, IsBehind, IsBegunBehind}
-use Rattle.trace.specs.Listing.{mapping_text, maps_text}
+use Rattle.trace_text.specs.Listing.{mapping_text, maps_text}
 use Rattle.trace_io.proofs.IoLemmas.{front_more}
 
 -- ---- the mappings of a trace

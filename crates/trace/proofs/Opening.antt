@@ -3,12 +3,12 @@ use Rattle.machine_model.proofs.Words.{◌≡◌, ◌≢◌, ℕ, zero, suc, ◌
 use Rattle.machine_model.proofs.Words.{arith, length, length-append, slice_get, ◌&&◌, ◌||◌, nat_lt, if◌then◌else◌, fun_ext, nat_tests, put, file_with}
 use Rattle.machine_model.proofs.Words.{nothing_mapped, eq_true, put_all}
 use Rattle.std.specs.Prelude.{◌==◌, ◌^◌}
-use Rattle.core_steps.specs.declared.setup.CallLimit.{CallLimit}
-use Rattle.core_steps.specs.declared.setup.SetupFault.{SetupFault}
-use Rattle.core_steps.specs.declared.setup.SetupFault.TheVariants.{Cores, Frames, TooManyFiles, FileTooLong, Calls}
-use Rattle.core_steps.specs.Setups.{most_calls}
-use Rattle.trace.specs.declared.declaration.FileLine.{FileLine}
-use Rattle.trace.specs.Declarations.{Asked, asks_for, asked_fault_within, bytes_of, file_at, declared_file, has_long, is_next, with_file}
+use Rattle.machine_model.specs.declared.setup.CallLimit.{CallLimit}
+use Rattle.machine_model.specs.declared.setup.SetupFault.{SetupFault}
+use Rattle.machine_model.specs.declared.setup.SetupFault.TheVariants.{Cores, Frames, TooManyFiles, FileTooLong, Calls}
+use Rattle.machine_model.specs.Setups.{most_calls}
+use Rattle.trace_words.specs.declared.declaration.FileLine.{FileLine}
+use Rattle.trace_words.specs.Declarations.{Asked, asks_for, asked_fault_within, bytes_of, file_at, declared_file, has_long, is_next, with_file}
 use Rattle.trace.specs.PlainText.{Reached, nothing_reached, with_opened}
 
 -- ---- one file more

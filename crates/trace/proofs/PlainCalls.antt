@@ -26,7 +26,7 @@ use Rattle.machine_model.proofs.Telling.{no_message}
 use Rattle.core_steps.specs.declared.machine.Finished.{Finished}
 use Rattle.core_steps.specs.declared.machine.Finished.TheVariants.{Last, Stuck}
 use Rattle.core_steps.specs.Finishing.{EndsIn}
-use Rattle.trace.specs.OutcomeText.{outcome_text}
+use Rattle.trace_words.specs.OutcomeText.{outcome_text}
 use Rattle.trace.specs.FinishedText.{finished_text}
 use Rattle.trace.specs.PlainText.{Open, Reached, IsAnswered, IsDropped, AnswersAtOnce, IsHeldUp, OpenAnswers, one_more, replies_in}
 use Rattle.core_steps.proofs.Keeping.{step_made, step_grows, go_requests}

@@ -26,13 +26,13 @@ use Rattle.trace_text.specs.declared.action.Action.{Action}
 use Rattle.trace_text.specs.declared.action.Action.TheVariants as By
 use Rattle.trace_text.specs.declared.line.Line.{Line}
 use Rattle.trace_text.specs.declared.line.Line.TheVariants.{Blank, Space, File, Act, Fold, Finish, Now}
-use Rattle.trace.specs.declared.declaration.FileLine.{FileLine}
-use Rattle.trace.specs.declared.show.Show.{Show}
-use Rattle.trace.specs.declared.show.Show.TheVariants.{Outcomes, OutcomesAndLog, Maps}
-use Rattle.core_steps.specs.declared.setup.CallLimit.{CallLimit}
-use Rattle.trace.specs.Declarations.{Asked, asked_fault_within, made_by}
-use Rattle.trace.specs.Events.{event_of}
-use Rattle.trace.specs.OutcomeText.{outcome_text}
+use Rattle.trace_words.specs.declared.declaration.FileLine.{FileLine}
+use Rattle.trace_words.specs.declared.show.Show.{Show}
+use Rattle.trace_words.specs.declared.show.Show.TheVariants.{Outcomes, OutcomesAndLog, Maps}
+use Rattle.machine_model.specs.declared.setup.CallLimit.{CallLimit}
+use Rattle.trace_words.specs.Declarations.{Asked, asked_fault_within, made_by}
+use Rattle.trace_words.specs.Events.{event_of}
+use Rattle.trace_words.specs.OutcomeText.{outcome_text}
 use Rattle.trace.specs.FinishedText.{finished_text}
 use Rattle.radix_range.specs.Folds.{CanFold, FoldsNode}
 use Rattle.trace.specs.Gives.{Gives, TellsFinish, TellsCall}

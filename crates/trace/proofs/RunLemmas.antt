@@ -5,12 +5,12 @@ use Rattle.machine_model.proofs.Words.{Appends-trans, Appends-kept, Keeps, Appen
 use Rattle.std.proofs.Common.{IfErr}
 use Rattle.trace_io.specs.Lines.{lines_of, IsUnbroken}
 use Rattle.trace_io.specs.Sink.{AppendsFront}
-use Rattle.core_steps.specs.declared.setup.CallLimit.{CallLimit}
-use Rattle.trace.specs.declared.fault.TraceFault.{TraceFault}
-use Rattle.trace.specs.declared.fault.TraceFault.TheVariants.{TooLong, WriteFailed}
+use Rattle.machine_model.specs.declared.setup.CallLimit.{CallLimit}
+use Rattle.trace_words.specs.declared.fault.TraceFault.{TraceFault}
+use Rattle.trace_words.specs.declared.fault.TraceFault.TheVariants.{TooLong, WriteFailed}
 use Rattle.trace.specs.Stage.{Stage, Start, LineFails, LineWants, CanOpen, OpenFails, Acts}
 use Rattle.trace.specs.Runs.{Runs}
-use Rattle.trace.specs.declared.show.Show.{Show}
+use Rattle.trace_words.specs.declared.show.Show.{Show}
 use Rattle.trace.specs.Shown.{keeps_log, told, IsBehind, IsBegunBehind, Closes, CloseFails}
 use Rattle.trace.proofs.PlainTextLemmas.{traces_plain}
 use Rattle.trace_io.proofs.IoLemmas.{front_kept, front_more, whole_front}

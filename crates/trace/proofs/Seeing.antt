@@ -14,13 +14,13 @@ use Rattle.trace_io.specs.Lines.{lines_of, TakesLine}
 use Rattle.trace_text.specs.Line.{line_of}
 use Rattle.trace_text.specs.declared.line.Line.{Line}
 use Rattle.trace_text.specs.declared.line.Line.TheVariants.{Blank, Space, File, Act, Fold, Finish, Now}
-use Rattle.trace.specs.declared.fault.TraceFault.{TraceFault}
-use Rattle.trace.specs.declared.show.Show.{Show}
-use Rattle.trace.specs.Declarations.{Asked}
+use Rattle.trace_words.specs.declared.fault.TraceFault.{TraceFault}
+use Rattle.trace_words.specs.declared.show.Show.{Show}
+use Rattle.trace_words.specs.Declarations.{Asked}
 use Rattle.trace.specs.EventRuns.{AllAsk, Asks, AsksCall, AsksFinish, AsksOne}
-use Rattle.trace.specs.OutcomeText.{outcome_text}
+use Rattle.trace_words.specs.OutcomeText.{outcome_text}
 use Rattle.trace.specs.FinishedText.{finished_text}
-use Rattle.core_steps.specs.declared.setup.CallLimit.{CallLimit}
+use Rattle.machine_model.specs.declared.setup.CallLimit.{CallLimit}
 use Rattle.trace.specs.Seen.{AdvancesSeen, Grows, HasMachine, IsSeen, IsSeenWith, Leads, Sees, SeesAll, SeesEvent, Writes}
 use Rattle.trace.specs.Shown.{Closes, IsBehind, told}
 use Rattle.trace.specs.Stage.{Stage, Start, Declared, Running, Acts, CanOpen, LineActs, Opens, new_machine, stage_of}

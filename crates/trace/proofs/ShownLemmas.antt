@@ -4,8 +4,8 @@ use Rattle.machine_model.proofs.Words.{append_assoc, common_steps, flat_map-appe
 use Rattle.std.proofs.lemmas.List.{take-append-drop}
 use Rattle.trace_io.specs.Sink.{AppendsFront}
 use Rattle.trace_io.proofs.IoLemmas.{each_more, front_longer, front_more}
-use Rattle.trace.specs.declared.show.Show.{Show}
-use Rattle.trace.specs.declared.show.Show.TheVariants.{Outcomes, OutcomesAndLog, Maps}
+use Rattle.trace_words.specs.declared.show.Show.{Show}
+use Rattle.trace_words.specs.declared.show.Show.TheVariants.{Outcomes, OutcomesAndLog, Maps}
 use Rattle.trace.specs.Stage.{Stage}
 use Rattle.trace.specs.Shown.{told, IsBehind, IsBegunBehind}
 use Rattle.trace_text.specs.Lists.{entry_text, log_text}

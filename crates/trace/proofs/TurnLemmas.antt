@@ -8,16 +8,16 @@ use Rattle.trace_text.specs.Words.{words_of}
 use Rattle.trace_text.specs.Line.{are_printable, line_of}
 use Rattle.trace_text.specs.declared.line.Line.{Line}
 use Rattle.trace_text.specs.declared.line.Line.TheVariants.{Blank, Space, File, Act, Fold, Finish, Now}
-use Rattle.core_steps.specs.declared.setup.SetupFault.{SetupFault}
-use Rattle.trace.specs.declared.fault.TraceFault.{TraceFault}
-use Rattle.trace.specs.declared.fault.TraceFault.TheVariants.{BadLine, TooLong, ReadFailed, NoVmLine, NoMemory, Setup, WriteFailed}
+use Rattle.machine_model.specs.declared.setup.SetupFault.{SetupFault}
+use Rattle.trace_words.specs.declared.fault.TraceFault.{TraceFault}
+use Rattle.trace_words.specs.declared.fault.TraceFault.TheVariants.{BadLine, TooLong, ReadFailed, NoVmLine, NoMemory, Setup, WriteFailed}
 use Rattle.trace.specs.Stage.{Stage, Start, Declared, Running, SetupFails, OpenFails, LineWants}
-use Rattle.trace.specs.Kinds.{Kind, OfSpace, OfFile, OfEvents, kind_of}
+use Rattle.trace_words.specs.Kinds.{Kind, OfSpace, OfFile, OfEvents, kind_of}
 use Rattle.trace.specs.Stage.{LateFails, BadFails, SpaceFails, FileFails, SaidFails, BytesFail, LineFails, Acts}
-use Rattle.core_steps.specs.declared.setup.CallLimit.{CallLimit}
-use Rattle.trace.specs.Declarations.{Asked, asked_fault_within}
+use Rattle.machine_model.specs.declared.setup.CallLimit.{CallLimit}
+use Rattle.trace_words.specs.Declarations.{Asked, asked_fault_within}
 use Rattle.trace.specs.Turns.{Scene, Advances, IsHeld, Fails, no_memory, refused, unwritten}
-use Rattle.trace.proofs.OwnFaults.{is_own}
+use Rattle.trace_words.proofs.OwnFaults.{is_own}
 
 own_setup : (a : Asked) (o : Option SetupFault) (f : TraceFault) → SetupFails a o f → is_own f ≡ true
 unfolding is_own

@@ -2,14 +2,14 @@
 use Rattle.std.specs.Prelude.{◌≡◌, ℕ, ◌+◌, ◌<◌, ◌≤◌, List, [], ◌∷◌, ◌++◌, Option}
 use Rattle.std.specs.Prelude.{Result, Ok, Err, length}
 use Rattle.std.specs.Io.KnownBytes.{Appends}
-use Rattle.core_steps.specs.declared.setup.CallLimit.{CallLimit}
+use Rattle.machine_model.specs.declared.setup.CallLimit.{CallLimit}
 use Rattle.trace_io.specs.Lines.{lines_of, IsUnbroken}
 use Rattle.trace_io.specs.Sink.{AppendsFront}
 use Rattle.trace_io.specs.Taken.{AreRead}
-use Rattle.trace.specs.declared.fault.TraceFault.{TraceFault}
-use Rattle.trace.specs.declared.fault.TraceFault.TheVariants.{TooLong, ReadFailed, NoMemory}
-use Rattle.trace.specs.declared.fault.TraceFault.TheVariants.{WriteFailed}
-use Rattle.trace.specs.declared.show.Show.{Show}
+use Rattle.trace_words.specs.declared.fault.TraceFault.{TraceFault}
+use Rattle.trace_words.specs.declared.fault.TraceFault.TheVariants.{TooLong, ReadFailed, NoMemory}
+use Rattle.trace_words.specs.declared.fault.TraceFault.TheVariants.{WriteFailed}
+use Rattle.trace_words.specs.declared.show.Show.{Show}
 use Rattle.trace.specs.Stage.{Stage, Start, LineFails, LineWants, CanOpen, OpenFails}
 use Rattle.trace.specs.Runs.{Runs}
 use Rattle.trace.specs.Shown.{keeps_log, told, IsBehind, IsBegunBehind}

@@ -12,13 +12,13 @@ use Rattle.machine_model.specs.Brackets.{IsBracketed}
 use Rattle.machine_model.specs.Sound.{SoundRun}
 use Rattle.core_steps.specs.declared.machine.Finished.{Finished}
 use Rattle.watched.specs.Watching.{GoesUntil}
-use Rattle.core_steps.specs.declared.setup.CallLimit.{CallLimit}
+use Rattle.machine_model.specs.declared.setup.CallLimit.{CallLimit}
 use Rattle.trace_text.specs.Line.{line_of}
 use Rattle.trace_text.specs.declared.line.Line.{Line}
 use Rattle.trace_text.specs.declared.line.Line.TheVariants.{Blank, Space, File, Act, Fold, Finish, Now}
-use Rattle.trace.specs.Declarations.{Asked}
-use Rattle.trace.specs.Events.{event_of}
-use Rattle.trace.specs.OutcomeText.{outcome_text}
+use Rattle.trace_words.specs.Declarations.{Asked}
+use Rattle.trace_words.specs.Events.{event_of}
+use Rattle.trace_words.specs.OutcomeText.{outcome_text}
 use Rattle.trace.specs.FinishedText.{finished_text}
 use Rattle.trace.specs.Stage.{Start, Running, new_machine}
 use Rattle.trace.specs.Runs.{Runs}

@@ -2,7 +2,7 @@
 use Rattle.std.specs.Prelude.{ℕ, List, codes}
 use Rattle.core_steps.specs.declared.machine.Finished.{Finished}
 use Rattle.core_steps.specs.declared.machine.Finished.TheVariants.{Last, Stuck}
-use Rattle.trace.specs.OutcomeText.{outcome_text}
+use Rattle.trace_words.specs.OutcomeText.{outcome_text}
 
 abbrev pub finished_text : Finished → List ℕ
 finished_text (Last outcome) = outcome_text outcome

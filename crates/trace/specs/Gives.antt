@@ -12,8 +12,8 @@ use Rattle.core_steps.specs.Finishing.{Finishes, IsRefused}
 use Rattle.core_steps.specs.Moving.{MayWant, JoinsAsMap}
 use Rattle.trace_text.specs.declared.line.Line.{Line}
 use Rattle.trace_text.specs.declared.line.Line.TheVariants.{Blank, Space, File, Act, Fold, Finish, Now}
-use Rattle.trace.specs.Events.{event_of}
-use Rattle.trace.specs.OutcomeText.{outcome_text}
+use Rattle.trace_words.specs.Events.{event_of}
+use Rattle.trace_words.specs.OutcomeText.{outcome_text}
 use Rattle.trace.specs.FinishedText.{finished_text}
 
 -- one step, and the text of its outcome

@@ -1,8 +1,8 @@
 -- Traces give the text of the plain page map while the machine can count their events
 use Rattle.std.specs.Prelude.{ℕ, ◌<◌, List}
 use Rattle.machine_model.specs.Step.{event_limit}
-use Rattle.core_steps.specs.declared.setup.CallLimit.{CallLimit}
-use Rattle.trace.specs.declared.show.Show.{Show}
+use Rattle.machine_model.specs.declared.setup.CallLimit.{CallLimit}
+use Rattle.trace_words.specs.declared.show.Show.{Show}
 use Rattle.trace.specs.PlainText.{AllAnswer, IsPlainBehind, nothing_reached}
 use Rattle.trace.specs.Runs.{Runs}
 use Rattle.trace.specs.Shown.{IsBehind, log_at}

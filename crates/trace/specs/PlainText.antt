@@ -23,9 +23,9 @@ use Rattle.trace_text.specs.declared.action.Action.{Action}
 use Rattle.trace_text.specs.declared.action.Action.TheVariants as By
 use Rattle.trace_text.specs.declared.line.Line.{Line}
 use Rattle.trace_text.specs.declared.line.Line.TheVariants.{Blank, Space, File, Act, Fold, Finish, Now}
-use Rattle.trace.specs.declared.show.Show.{Show}
-use Rattle.trace.specs.declared.show.Show.TheVariants.{Outcomes, OutcomesAndLog, Maps}
-use Rattle.trace.specs.Listing.{maps_text}
+use Rattle.trace_words.specs.declared.show.Show.{Show}
+use Rattle.trace_words.specs.declared.show.Show.TheVariants.{Outcomes, OutcomesAndLog, Maps}
+use Rattle.trace_text.specs.Listing.{maps_text}
 use Rattle.vm_base.specs.Places.{IsFirstPlace}
 
 -- A call that waits: whose it is, what it asks for, and how many takes each core still has before

@@ -8,8 +8,8 @@ use Rattle.machine_model.specs.World.{World}
 use Rattle.trace_io.specs.Lines.{lines_of}
 use Rattle.trace_text.specs.declared.line.Line.{Line}
 use Rattle.watched.specs.Watching.{Watches}
-use Rattle.trace.specs.declared.show.Show.{Show}
-use Rattle.trace.specs.Declarations.{Asked}
+use Rattle.trace_words.specs.declared.show.Show.{Show}
+use Rattle.trace_words.specs.Declarations.{Asked}
 use Rattle.trace.specs.EventRuns.{Asks, AllAsk}
 use Rattle.trace.specs.Stage.{Stage, Start, Declared, Running, CanOpen, Opens, new_machine}
 use Rattle.trace.specs.Shown.{IsBehind, told}

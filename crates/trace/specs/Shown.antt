@@ -7,15 +7,15 @@ use Rattle.vm_base.specs.Plain.{Plain}
 use Rattle.slot_lock.specs.declared.map_list.MapLine.{MapLine}
 use Rattle.slot_lock.specs.MapList.{ListsLines, plain_metas}
 use Rattle.core_steps.specs.MapLines.{HasNoMap, IsLineStart, IsNextMap}
-use Rattle.core_steps.specs.declared.setup.CallLimit.{CallLimit}
-use Rattle.core_steps.specs.declared.setup.CallLimit.TheVariants.{Usual}
+use Rattle.machine_model.specs.declared.setup.CallLimit.{CallLimit}
+use Rattle.machine_model.specs.declared.setup.CallLimit.TheVariants.{Usual}
 use Rattle.machine_model.specs.Log.{LeadsTo}
 use Rattle.trace_text.specs.Lists.{log_text}
-use Rattle.trace.specs.Listing.{maps_text}
-use Rattle.trace.specs.declared.fault.TraceFault.{TraceFault}
-use Rattle.trace.specs.declared.fault.TraceFault.TheVariants.{WriteFailed}
-use Rattle.trace.specs.declared.show.Show.{Show}
-use Rattle.trace.specs.declared.show.Show.TheVariants.{Outcomes, OutcomesAndLog, Maps}
+use Rattle.trace_text.specs.Listing.{maps_text}
+use Rattle.trace_words.specs.declared.fault.TraceFault.{TraceFault}
+use Rattle.trace_words.specs.declared.fault.TraceFault.TheVariants.{WriteFailed}
+use Rattle.trace_words.specs.declared.show.Show.{Show}
+use Rattle.trace_words.specs.declared.show.Show.TheVariants.{Outcomes, OutcomesAndLog, Maps}
 use Rattle.trace.specs.Stage.{Stage, Start, Declared, Running, CanOpen, OpenFails}
 
 -- what is written of the text of outcomes

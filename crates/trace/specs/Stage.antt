@@ -4,19 +4,19 @@ use Rattle.std.specs.Prelude.{IsSomeAnd, ⊤}
 use Rattle.radix_range.specs.Tree.{new_tree}
 use Rattle.radix_range.specs.Folds.{CanFold, FoldsNode}
 use Rattle.machine_model.specs.World.{World, new_world}
-use Rattle.core_steps.specs.declared.setup.CallLimit.{CallLimit}
-use Rattle.core_steps.specs.declared.setup.SetupFault.{SetupFault}
-use Rattle.core_steps.specs.declared.setup.SetupFault.TheVariants as Of
+use Rattle.machine_model.specs.declared.setup.CallLimit.{CallLimit}
+use Rattle.machine_model.specs.declared.setup.SetupFault.{SetupFault}
+use Rattle.machine_model.specs.declared.setup.SetupFault.TheVariants as Of
 use Rattle.trace_text.specs.Words.{words_of}
 use Rattle.trace_text.specs.Line.{are_printable, line_of}
 use Rattle.trace_text.specs.declared.line.Line.{Line}
 use Rattle.trace_text.specs.declared.line.Line.TheVariants.{Blank, Space, File, Act, Fold, Finish, Now}
-use Rattle.trace.specs.declared.fault.TraceFault.{TraceFault}
-use Rattle.trace.specs.declared.fault.TraceFault.TheVariants as By
-use Rattle.trace.specs.Declarations.{Asked, asks_for, is_next, with_file, made_by}
-use Rattle.trace.specs.Declarations.{asked_fault_within}
+use Rattle.trace_words.specs.declared.fault.TraceFault.{TraceFault}
+use Rattle.trace_words.specs.declared.fault.TraceFault.TheVariants as By
+use Rattle.trace_words.specs.Declarations.{Asked, asks_for, is_next, with_file, made_by}
+use Rattle.trace_words.specs.Declarations.{asked_fault_within}
 use Rattle.trace.specs.Gives.{Gives, Wants, is_event}
-use Rattle.trace.specs.Kinds.{Kind, OfSpace, OfFile, OfEvents, kind_of}
+use Rattle.trace_words.specs.Kinds.{Kind, OfSpace, OfFile, OfEvents, kind_of}
 
 -- No line with words yet; the vm line, and the file lines behind it; a machine. Up to the machine
 -- there is a limit of the calls that may be asked for.

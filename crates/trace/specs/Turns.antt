@@ -4,9 +4,9 @@ use Rattle.std.specs.Prelude.{length}
 use Rattle.std.specs.Io.KnownBytes.{Keeps, Appends}
 use Rattle.trace_io.specs.Lines.{IsUnbroken, TakesLine, IsTooLong}
 use Rattle.trace_io.specs.Sink.{AppendsFront}
-use Rattle.trace.specs.declared.fault.TraceFault.{TraceFault}
-use Rattle.trace.specs.declared.fault.TraceFault.TheVariants.{TooLong, ReadFailed, NoMemory}
-use Rattle.trace.specs.declared.fault.TraceFault.TheVariants.{WriteFailed}
+use Rattle.trace_words.specs.declared.fault.TraceFault.{TraceFault}
+use Rattle.trace_words.specs.declared.fault.TraceFault.TheVariants.{TooLong, ReadFailed, NoMemory}
+use Rattle.trace_words.specs.declared.fault.TraceFault.TheVariants.{WriteFailed}
 use Rattle.trace.specs.Stage.{Stage, LineFails, LineWants, Acts}
 
 -- what is still to come, what of it has not been read yet, the stage, and what the writer holds

@@ -2,18 +2,19 @@
 ghost use Rattle.std.specs.Prelude.{◌≡◌, ◌⊎◌, IfErr, OnErr, OnOk, IsSomeAnd, true, false};
 ghost use Rattle.core_steps.specs.Machine.{state};
 ghost use Rattle.core_steps.specs.Moving.{MayWant};
-ghost use Rattle.trace.specs.Events.{event_of};
+ghost use Rattle.trace_words.specs.Events.{event_of};
 ghost use Rattle.trace.specs.Gives.{Gives, Wants, WantsFinish, is_event, TellsFinish, TellsFold, TellsStep};
 ghost use Rattle.trace.specs.EventRuns.{Asks, AsksFinish, AsksOne};
 ghost use Rattle.trace.specs.Seen.{Sees};
 ghost use Rattle.trace_text.specs.Front.{access_asked, step_asked};
 ghost use Rattle.vm_base.specs.declared.requests.Request.TheVariants.{Load, Store};
 
-use crate::events::event_of;
-use crate::fault::TraceFault;
+use trace_words::events::event_of;
+use trace_words::fault::TraceFault;
 use crate::finished_text::write_finished;
-use crate::outcome_text::write_outcome;
-use core_steps::{Ledger, Machine};
+use trace_words::outcome_text::write_outcome;
+use machine_log::Ledger;
+use core_steps::Machine;
 use machine_model::{Event, Outcome};
 use slot_lock::SlotMap;
 use std::alloc::Allocator;

@@ -2,7 +2,7 @@
 ghost use Rattle.std.specs.Prelude.{◌≡◌};
 ghost use Rattle.trace.specs.FinishedText.{finished_text};
 
-use crate::outcome_text::{write_outcome, write_reply, write_word};
+use trace_words::outcome_text::{write_outcome, write_reply, write_word};
 use core_steps::Finished;
 use machine_model::Outcome;
 use trace_text::LineText;

@@ -1,18 +1,17 @@
-//! The replay of a trace: lines that move a machine, and the text that they give.
+//! The replay of a trace, line by line, and its echo: lines that move a machine, and the text that they give.
 #![tactic(auto)]
 
-pub mod declaration;
+pub mod asking;
+pub mod echo;
 pub mod event_lines;
-pub mod events;
-pub mod fault;
 pub mod finished_text;
 pub mod laws;
-pub mod outcome_text;
+pub mod log_lines;
+pub mod numbered;
 pub mod replay;
 pub mod replayer;
-pub mod show;
 pub mod shown;
 pub mod standing;
 
-pub use fault::TraceFault;
-pub use show::Show;
+pub use log_lines::LogLines;
+pub use numbered::text_at;

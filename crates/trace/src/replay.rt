@@ -3,25 +3,26 @@ ghost use Rattle.std.specs.Prelude.{◌≡◌, ◌+◌, ◌^◌, ◌<◌, ◌⊎
 ghost use Rattle.trace_io.specs.Io.{TellsIo, read_from, written_to};
 ghost use Rattle.trace_io.specs.Source.{HasStopped, Reads};
 ghost use Rattle.trace_io.specs.Window.{left, budget, opening};
-ghost use Rattle.trace.specs.declared.fault.TraceFault.TheVariants.{ReadFailed, WriteFailed};
-ghost use Rattle.trace.specs.declared.show.Show.TheVariants.{OutcomesAndLog};
+ghost use Rattle.trace_words.specs.declared.fault.TraceFault.TheVariants.{ReadFailed, WriteFailed};
+ghost use Rattle.trace_words.specs.declared.show.Show.TheVariants.{OutcomesAndLog};
 ghost use Rattle.trace.specs.Turns.{Turns, scene};
 ghost use Rattle.trace.specs.Stage.{Start};
 ghost use Rattle.trace.specs.Ends.{Ends};
-ghost use Rattle.trace.specs.Faults.{TellsFaults, fault_named};
+ghost use Rattle.trace_words.specs.Faults.{TellsFaults, fault_named};
 ghost use Rattle.trace.specs.Seen.{AdvancesSeen, IsSeen, Writes};
 ghost use Rattle.watched.specs.Sums.{nothing_counted, summed};
 ghost use Rattle.watched.specs.Watching.{makes};
 ghost use Rattle.trace.specs.Shown.{Closes, CloseFails, keeps_log, limit_for};
-ghost use Rattle.core_steps.specs.Setups.{Fits};
-ghost use Rattle.core_steps.specs.declared.setup.CallLimit.{CallLimit};
-ghost use Rattle.core_steps.specs.declared.setup.CallLimit.TheVariants.{Usual};
+ghost use Rattle.machine_model.specs.Setups.{Fits};
+ghost use Rattle.machine_model.specs.declared.setup.CallLimit.{CallLimit};
+ghost use Rattle.machine_model.specs.declared.setup.CallLimit.TheVariants.{Usual};
 
-use crate::fault::{TraceFault, status_of_fault};
+use trace_words::fault::{TraceFault, status_of_fault};
 use crate::replayer::{Replayer, Staged};
-use crate::show::Show;
+use trace_words::show::Show;
 use crate::shown::{Showing, write_log, write_maps};
-use core_steps::{CallLimit, Forgotten, Logged, Opening};
+use machine_model::CallLimit;
+use machine_log::{Forgotten, Logged, Opening};
 use std::alloc::Allocator;
 use std::io::Write;
 use trace_io::lines::{Found, LineReader, NoLine, line_reader};
@@ -221,7 +222,7 @@ pub struct Replayed<A: Allocator> {
 
 impl<A: Allocator> Replayed<A> {
     ghost use Rattle.std.specs.Prelude.{◌≡◌, ◌≤◌};
-    ghost use Rattle.trace.specs.Status.{status_of};
+    ghost use Rattle.trace_words.specs.Status.{status_of};
 
     /// Prints the fault that ended the replay, if one did, as `radixvm: ` and its text, and answers the status: 0, or that of
     /// the fault.

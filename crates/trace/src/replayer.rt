@@ -1,23 +1,25 @@
 //! A replay between two lines, and what one line does to it.
 ghost use Rattle.std.specs.Prelude.{◌≡◌, ◌≤◌, ◌⊎◌, ℕ, List, [], Bool, false, option_map, None, Some, IfOk};
-ghost use Rattle.core_steps.specs.Setups.{Fits};
+ghost use Rattle.machine_model.specs.Setups.{Fits};
 ghost use Rattle.std.specs.Prelude.{IfErr, IfNone, IfSome, OnOk, IsSomeAnd};
 ghost use Rattle.core_steps.specs.Machine.{state};
-ghost use Rattle.core_steps.specs.Packing.{listed};
-ghost use Rattle.core_steps.specs.declared.setup.CallLimit.TheVariants.{Usual};
+ghost use Rattle.machine_log.specs.Packing.{listed};
+ghost use Rattle.machine_model.specs.declared.setup.CallLimit.TheVariants.{Usual};
 ghost use Rattle.trace_text.specs.Front.{access_asked, step_asked};
 ghost use Rattle.trace_text.specs.Words.{words_of};
 ghost use Rattle.trace.specs.Stage.{Stage, Start, Declared, stage_of, Opens, OpenFails, CanOpen, Acts};
 ghost use Rattle.trace.specs.Stage.{BadFails, EventActs, EventFails, EventWants, FileFails, LateFails};
 ghost use Rattle.trace.specs.Stage.{LineActs, LineFails, LineWants, SpaceFails};
-ghost use Rattle.trace.specs.Kinds.{kind_of};
+ghost use Rattle.trace_words.specs.Kinds.{kind_of};
 ghost use Rattle.trace.specs.Seen.{Grows, SeesAll, SeesEvent};
 ghost use Rattle.trace.specs.Shown.{HasNoneAt, IsNextAt, IsStartAt, log_at};
 
-use crate::declaration::{Declaration, FileLine};
+use trace_words::declaration::{Declaration, FileLine};
 use crate::event_lines::{tell_access, tell_asked, tell_call, watch_line};
-use crate::fault::TraceFault;
-use core_steps::{CallLimit, Ledger, LoggedEntries, Machine, Opening, SetupFault};
+use trace_words::fault::TraceFault;
+use machine_model::{CallLimit, SetupFault};
+use machine_log::{Ledger, LoggedEntries, Opening};
+use core_steps::Machine;
 use mmu::{Cpu, Hardware};
 use radix_range::RadixMap;
 use slot_lock::{MapLine, SlotMap};

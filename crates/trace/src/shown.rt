@@ -1,18 +1,19 @@
 //! What a replay shows beside the text of each line.
 ghost use Rattle.std.specs.Prelude.{◌≡◌, ◌≤◌, ℕ, List, ◌++◌, OnErr, OnOk, length, true};
 ghost use Rattle.std.specs.Io.KnownBytes.{Appends};
-ghost use Rattle.core_steps.specs.Packing.{listed};
+ghost use Rattle.machine_log.specs.Packing.{listed};
 ghost use Rattle.trace_io.specs.Io.{IsWritten, written_to};
 ghost use Rattle.trace_io.specs.Sink.{AppendsFront};
 ghost use Rattle.trace.specs.Shown.{told, IsBegunBehind, IsBehind};
 ghost use Rattle.trace_text.specs.Lists.{log_text};
-ghost use Rattle.trace_text.specs.LogLines.{HasRoom, so_far};
+ghost use Rattle.trace.specs.LogLines.{HasRoom, so_far};
 
 use crate::replayer::Staged;
-use crate::show::Show;
-use core_steps::LoggedEntries;
+use trace_words::show::Show;
+use machine_log::LoggedEntries;
 use trace_io::sink::{Sink, WriteFailed, write_all};
-use trace_text::{LineText, LogLines, write_map_line};
+use trace_text::{LineText, write_map_line};
+use crate::LogLines;
 
 /// What a replay shows of a line.
 pub trait Showing {

@@ -1,19 +1,20 @@
 //! A replay whose machine is kept, so that it can be asked what it has at the end.
 ghost use Rattle.std.specs.Prelude.{◌≡◌, Err, IfOk, option_map};
 ghost use Rattle.core_steps.specs.Machine.{state};
-ghost use Rattle.core_steps.specs.declared.setup.CallLimit.TheVariants.{Usual};
+ghost use Rattle.machine_model.specs.declared.setup.CallLimit.TheVariants.{Usual};
 ghost use Rattle.trace_io.specs.Io.{TellsIo, read_from, written_to};
 ghost use Rattle.trace_io.specs.Source.{Reads};
 ghost use Rattle.trace.specs.Ends.{Ends};
-ghost use Rattle.trace.specs.Faults.{fault_named};
+ghost use Rattle.trace_words.specs.Faults.{fault_named};
 ghost use Rattle.trace.specs.Seen.{IsSeenWith};
-ghost use Rattle.trace.specs.declared.show.Show.TheVariants.{Maps};
+ghost use Rattle.trace_words.specs.declared.show.Show.TheVariants.{Maps};
 
-use crate::fault::TraceFault;
+use trace_words::fault::TraceFault;
 use crate::replay::replay_lines;
 use crate::replayer::Replayer;
-use crate::show::Show;
-use core_steps::{Forgotten, Machine};
+use trace_words::show::Show;
+use machine_log::Forgotten;
+use core_steps::Machine;
 use mmu::{Cpu, Hardware};
 use radix_range::RadixMap;
 use slot_lock::SlotMap;

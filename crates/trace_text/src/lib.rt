@@ -10,8 +10,8 @@ pub mod file_line;
 pub mod grammar;
 pub mod line;
 pub mod lists;
-pub mod log_lines;
 pub mod number;
+pub mod pieces;
 pub mod printing;
 pub mod request;
 pub mod sign;
@@ -23,14 +23,7 @@ pub mod words;
 pub use access_line::{AskedAccess, read_access};
 pub use action::Action;
 pub use call_line::read_call;
-pub use line::{
-    Line, first_word_is_file, first_word_is_vm, is_printable, is_printable_line, read_line,
-    read_words,
-};
+pub use line::{Line, first_word_is_file, first_word_is_vm, is_printable, is_printable_line, read_line, read_words};
 pub use lists::{push_rights, push_start, write_answer, write_detach, write_map_line};
-pub use log_lines::LogLines;
-pub use printing::{
-    LineText, ShortText, address_text, number_text, push_address, push_count, push_letter,
-    push_number, push_reply, push_word,
-};
+pub use printing::{LineText, ShortText, address_text, number_text, push_address, push_count, push_letter, push_number, push_reply, push_word};
 pub use step_line::{AskedStep, read_step};

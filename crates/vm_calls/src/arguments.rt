@@ -6,10 +6,10 @@ ghost use Rattle.vm_base.specs.Refusals.{refusal};
 ghost use Rattle.vm_base.specs.Apply.{Applies, back_at};
 ghost use Rattle.vm_base.specs.Places.{IsPlace};
 ghost use Rattle.slot_lock.specs.Plan.{IsSoundPlan};
-ghost use Rattle.backing.specs.Files.{files_of};
+ghost use Rattle.frames.specs.Files.{files_of};
 ghost use Rattle.vm_calls.specs.Checks.{checked, HasModes, placed_count, hint_at, place_of, touched};
 
-use backing::Objects;
+use frames::Objects;
 use slot_lock::{Change, Place, Plan, Touch};
 use std::alloc::Allocator;
 use vm_base::page::PAGE_LIMIT;

@@ -6,13 +6,13 @@ ghost use Rattle.vm_base.specs.Apply.{HasPage, is_read_only};
 ghost use Rattle.slot_lock.specs.declared.plan.Goal.TheVariants as GoalOf;
 ghost use Rattle.slot_lock.specs.Plan.{IsSoundGoal, IsSoundPlace, goal_range, range_of, target_range};
 ghost use Rattle.slot_lock.specs.Surveys.{IsSurvey};
-ghost use Rattle.backing.specs.Files.{files_of};
+ghost use Rattle.frames.specs.Files.{files_of};
 ghost use Rattle.vm_calls.specs.declared.decision.Decision.TheVariants as DecisionOf;
 ghost use Rattle.vm_calls.specs.Decisions.{Decides, DecidesChange, DecidesPage, DecidesRun, DecidesWindow};
 ghost use Rattle.vm_calls.specs.Decisions.{DecidesPlace, DecidesProtect, IsReadable, IsNoAccess};
 ghost use Rattle.vm_calls.specs.Decisions.{ActsOn, IsSoundAct, entries, entry_of};
 
-use backing::Objects;
+use frames::Objects;
 use slot_lock::{Change, Goal, Place, SlotRead, Survey, Target};
 use std::alloc::Allocator;
 use vm_base::info::recorded_cores;

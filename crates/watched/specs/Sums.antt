@@ -9,7 +9,7 @@ use Rattle.machine_model.specs.declared.event.Outcome.{Outcome}
 use Rattle.machine_model.specs.declared.event.Outcome.TheVariants.{Answered}
 use Rattle.machine_model.specs.declared.phase.Phase.{Phase}
 use Rattle.machine_model.specs.declared.phase.Phase.TheVariants as At
-use Rattle.shootdown.specs.Inboxes.{awaited}
+use Rattle.mmu.specs.Inboxes.{awaited}
 use Rattle.slot_lock.specs.declared.plan.Goal.TheVariants.{Access}
 use Rattle.vm_base.specs.declared.replies.Reply.{Reply}
 use Rattle.vm_base.specs.declared.replies.Reply.TheVariants as By

@@ -2,7 +2,8 @@
 ghost use Rattle.std.specs.Prelude.{◌≡◌};
 
 use crate::watch::Watch;
-use core_steps::{Finished, Ledger, Machine};
+use core_steps::{Finished, Machine};
+use machine_log::Ledger;
 use machine_model::{Event, Outcome};
 use slot_lock::SlotMap;
 use std::alloc::Allocator;

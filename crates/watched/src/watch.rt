@@ -9,7 +9,8 @@ ghost use Rattle.machine_model.specs.declared.event.Event.{Event as EventOf};
 ghost use Rattle.machine_model.specs.declared.event.Outcome.{Outcome as OutcomeOf};
 ghost use Rattle.watched.specs.Watching.{WatchesCall, WatchesCallPart, WatchesFinish, WatchesPart};
 
-use core_steps::{Finished, Ledger, Machine};
+use core_steps::{Finished, Machine};
+use machine_log::Ledger;
 use machine_model::{Event, Outcome};
 use slot_lock::SlotMap;
 use std::alloc::Allocator;

@@ -1,7 +1,7 @@
 //! What the words of the command line ask for.
 
-use core_steps::CallLimit;
-use trace::show::Show;
+use machine_model::CallLimit;
+use trace_words::show::Show;
 
 /// What a run shows of its trace, and how many calls it lets the trace ask for.
 #[derive(Clone, Copy)]

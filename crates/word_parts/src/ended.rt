@@ -1,7 +1,7 @@
 //! How a word of the program ends.
 
 use orders_text::HistoryFault;
-use trace::fault::TraceFault;
+use trace_words::fault::TraceFault;
 
 /// What is wrong with a text, where more can be told of it.
 #[derive(Clone, Copy)]

@@ -5,8 +5,8 @@ use Rattle.machine_model.proofs.Words.{put_other, Translation, TlbEntry, tlb_wit
 use Rattle.machine_model.proofs.Words.{after_eviction, after_shot}
 use Rattle.std.proofs.lemmas.List.{map-set, get_or-map}
 use Rattle.mmu.specs.Tlb.{is_at}
-use Rattle.shootdown.specs.Messages.{InboxOf}
-use Rattle.shootdown.specs.Inboxes.{inbox, sent}
+use Rattle.mmu.specs.Messages.{InboxOf}
+use Rattle.mmu.specs.Inboxes.{inbox, sent}
 use Rattle.machine_model.specs.World.{no_translations}
 use Rattle.machine_model.specs.Translating.{with_tlb}
 use Rattle.machine_model.specs.Coherent.{Every, HasDropped}

@@ -1,13 +1,13 @@
 -- A new engine has the state of a new machine
 use Rattle.machine_model.proofs.Words.{◌≡◌, List, length, None, refl, zeros, Slots, given_files, Counts, no_counts, Hardware, new_world}
 use Rattle.std.proofs.Common.{nat_lt}
-use Rattle.backing.specs.Files.{FileParts, files_of, cached_in}
+use Rattle.frames.specs.Files.{FileParts, files_of, cached_in}
 use Rattle.frames.specs.Parts.{FrameParts, frame_bytes, free_frames}
 use Rattle.machine_model.specs.World.{no_calls, no_translations}
 use Rattle.core_steps.specs.declared.engine.calls.CallTable.{CallTable}
-use Rattle.core_steps.specs.declared.ledger.Ledger.{Ghosts as LedgerGhosts}
-use Rattle.core_steps.specs.declared.setup.Setup.{Setup}
-use Rattle.core_steps.specs.Setups.{made_of}
+use Rattle.machine_log.specs.declared.ledger.Ledger.{Ghosts as LedgerGhosts}
+use Rattle.machine_model.specs.declared.setup.Setup.{Setup}
+use Rattle.machine_model.specs.Setups.{made_of}
 use Rattle.core_steps.specs.State.{world_of, calls_in}
 
 pub opened : {A L : Type 0} {ledger : LedgerGhosts L} (slots : Slots) (hardware : Hardware) (frames : FrameParts) (counts : Counts) (files : List FileParts)

@@ -5,7 +5,7 @@ use Rattle.machine_model.specs.declared.event.Outcome.TheVariants.{Stepped}
 use Rattle.machine_model.specs.declared.phase.Phase.{Phase}
 use Rattle.machine_model.specs.declared.phase.Phase.TheVariants.{Free}
 use Rattle.std.proofs.Common.{nat_lt}
-use Rattle.backing.specs.Files.{FileParts}
+use Rattle.frames.specs.Files.{FileParts}
 use Rattle.frames.specs.Parts.{FrameParts}
 use Rattle.core_steps.specs.AtOnce.{with_call}
 use Rattle.core_steps.specs.State.{phase_at, number_at, world_with}

@@ -13,7 +13,7 @@ use Rattle.std.proofs.Common.{is_some}
 use Rattle.std.proofs.lemmas.Bool.{cond_both, not-false}
 use Rattle.std.proofs.lemmas.List.{get_or_read}
 use Rattle.vm_base.specs.Plain.{file_bytes}
-use Rattle.backing.specs.Files.{bytes_now}
+use Rattle.frames.specs.Files.{bytes_now}
 use Rattle.machine_model.specs.Accesses.{lies_past_end}
 use Rattle.machine_model.specs.Filling.{FillsFrame, FillsOwn}
 use Rattle.machine_model.specs.Counted.{FilePage, is_frame, one_if, pages_with}

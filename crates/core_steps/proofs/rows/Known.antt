@@ -19,7 +19,7 @@ use Rattle.slot_lock.proofs.Divisions.{slot_by}
 use Rattle.vm_calls.specs.Decisions.{DecidesChange}
 use Rattle.vm_calls.specs.Decisions.DecidesProtect.{acts}
 use Rattle.vm_calls.proofs.Passed.{checked_is_sound}
-use Rattle.shootdown.specs.declared.message.Took.TheVariants as TookOf
+use Rattle.mmu.specs.declared.message.Took.TheVariants as TookOf
 use Rattle.refcache.specs.declared.reports.Review.TheVariants as review
 use Rattle.refcache.specs.Sound.{AreReached}
 use Rattle.machine_model.specs.declared.phase.Phase.TheVariants.{Back}

@@ -11,7 +11,7 @@ use Rattle.std.proofs.Common.{◌&&◌}
 use Rattle.std.proofs.Common.{is_some}
 use Rattle.std.proofs.lemmas.Bool.{and_right}
 use Rattle.std.specs.Prelude.{◌+◌}
-use Rattle.shootdown.specs.declared.message.Took.TheVariants as TookOf
+use Rattle.mmu.specs.declared.message.Took.TheVariants as TookOf
 use Rattle.core_steps.specs.OnePage.{with_translation}
 use Rattle.machine_model.specs.Translating.{Walks}
 use Rattle.core_steps.proofs.engine.Each.{put_id}

@@ -4,7 +4,7 @@ use Rattle.vm_base.specs.declared.rights.Mode.{Mode}
 use Rattle.vm_base.specs.Rights.{can_write}
 use Rattle.vm_base.specs.Plain.{File, mode_of}
 use Rattle.vm_base.specs.Apply.{forbids_write}
-use Rattle.backing.specs.Files.{FileParts, files_of}
+use Rattle.frames.specs.Files.{FileParts, files_of}
 
 -- those with a number below are open for writing
 abbrev pub AreWritable : (ℕ → Option File) → ℕ → Type 0

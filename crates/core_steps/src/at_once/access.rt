@@ -10,7 +10,7 @@ ghost use Rattle.core_steps.specs.State.{world};
 
 use crate::at_once::starting::Started;
 use crate::engine::Engine;
-use crate::ledger::Ledger;
+use machine_log::ledger::Ledger;
 use crate::rows::acquire::locking;
 use machine_model::Outcome;
 use mmu::Hardware;

@@ -13,7 +13,7 @@ ghost use Rattle.core_steps.specs.PageChange.{IsAlone, IsPageChange};
 ghost use Rattle.core_steps.specs.State.{world};
 
 use crate::engine::Engine;
-use crate::ledger::Ledger;
+use machine_log::ledger::Ledger;
 use crate::rows::commit::count_page;
 use machine_model::answers::reply_to;
 use mmu::Hardware;

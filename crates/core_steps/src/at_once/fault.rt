@@ -23,7 +23,7 @@ ghost use Rattle.core_steps.specs.declared.at_once.fault.Source.TheVariants.{Fir
 ghost use Rattle.core_steps.specs.State.{world};
 
 use crate::engine::Engine;
-use crate::ledger::Ledger;
+use machine_log::ledger::Ledger;
 use crate::rows::access::tried_to;
 use crate::rows::fault::settled_to;
 use crate::rows::file_pages::file_frame;

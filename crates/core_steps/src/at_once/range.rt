@@ -14,7 +14,7 @@ ghost use Rattle.core_steps.specs.RangeChange.{IsFreeRange, IsRangeChange};
 ghost use Rattle.core_steps.specs.State.{world};
 
 use crate::engine::Engine;
-use crate::ledger::Ledger;
+use machine_log::ledger::Ledger;
 use crate::rows::commit::count_surveyed;
 use machine_model::answers::reply_to;
 use mmu::Hardware;

@@ -8,7 +8,7 @@ ghost use Rattle.core_steps.specs.State.{world};
 use crate::at_once::access::access_of;
 use crate::at_once::fault::MOST_STEPS;
 use crate::engine::Engine;
-use crate::ledger::Ledger;
+use machine_log::ledger::Ledger;
 use machine_model::{Event, Outcome, Phase};
 use mmu::Hardware;
 use slot_lock::SlotMap;

@@ -9,7 +9,7 @@ ghost use Rattle.core_steps.specs.State.{world};
 ghost use Rattle.core_steps.specs.Moving.{IsAt};
 
 use crate::engine::Engine;
-use crate::ledger::Ledger;
+use machine_log::ledger::Ledger;
 use crate::rows::acquire::locked_to;
 use crate::rows::answer::{held_after, let_go};
 use machine_model::Phase;

@@ -1,12 +1,12 @@
 //! The making of the engine's table of calls, which `calls` has.
 ghost use Rattle.std.specs.Prelude.{◌≡◌, ◌≤◌, length, IfOk, true};
 ghost use Rattle.machine_model.specs.World.{no_calls};
-ghost use Rattle.core_steps.specs.Setups.{most_calls};
+ghost use Rattle.machine_model.specs.Setups.{most_calls};
 ghost use Rattle.core_steps.specs.State.{calls_in};
-ghost use Rattle.core_steps.specs.declared.setup.CallLimit.TheVariants.{Long, Usual};
+ghost use Rattle.machine_model.specs.declared.setup.CallLimit.TheVariants.{Long, Usual};
 
 use crate::engine::calls::CallTable;
-use crate::ledger::Opening;
+use machine_log::ledger::Opening;
 use machine_model::Phase;
 use std::alloc::Allocator;
 use vm_base::NoMemory;

@@ -2,7 +2,7 @@
 ghost use Rattle.std.specs.Prelude.{◌≡◌, ◌+◌, ◌≤◌, length};
 ghost use Rattle.machine_model.specs.Orderly.{answer_count};
 
-use crate::ledger::Ledger;
+use machine_log::ledger::Ledger;
 use machine_model::Phase;
 use std::alloc::Allocator;
 use vm_base::{CoreId, Entry, NoMemory};

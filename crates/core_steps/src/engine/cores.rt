@@ -3,7 +3,7 @@ ghost use Rattle.std.specs.Prelude.{◌≡◌, ℕ, [], None, IfOk};
 ghost use Rattle.core_steps.specs.Cores.{HaveInboxes, parts_of};
 
 use mmu::{Cpu, Hardware, Translated};
-use shootdown::{Inboxes, Took};
+use mmu::{Inboxes, Took};
 use slot_lock::Touch;
 use std::alloc::Allocator;
 use vm_base::{CoreId, CoreSet, NoMemory, PageRange, Prot};
@@ -65,8 +65,8 @@ impl<H: Hardware, A: Allocator> Cores<H, A> {
     ghost use Rattle.mmu.specs.Entry.{has_right, translation_of};
     ghost use Rattle.mmu.specs.Tables.{IsEmptyBeside, word_of};
     ghost use Rattle.mmu.specs.Tlb.{tlb_at};
-    ghost use Rattle.shootdown.specs.Inboxes.{awaited};
-    ghost use Rattle.shootdown.specs.Messages.{asked, remaining};
+    ghost use Rattle.mmu.specs.Inboxes.{awaited};
+    ghost use Rattle.mmu.specs.Messages.{asked, remaining};
     ghost use Rattle.machine_model.specs.Coherent.{HasDropped};
     ghost use Rattle.machine_model.specs.Changes.{AwaitsNobody, Awaits};
     ghost use Rattle.machine_model.specs.Translating.{translated_by, frame_reached, after_translating};

@@ -12,9 +12,9 @@ use crate::engine::call_table::new_call_table;
 use crate::engine::calls::CallTable;
 use crate::engine::cores::{Bare, Cores};
 use crate::engine::stores::{Stores, new_stores};
-use crate::ledger::{Ledger, Opening};
-use crate::setup::Setup;
-use backing::Objects;
+use machine_log::ledger::{Ledger, Opening};
+use machine_model::setup::Setup;
+use frames::Objects;
 use frames::Frames;
 use machine_model::Phase;
 use mmu::Hardware;
@@ -82,9 +82,9 @@ impl<M: SlotMap + Drop, H: Bare<A>, A: Allocator + Clone + Drop, L: Opening<A> +
     ghost use Rattle.std.specs.Prelude.{◌≡◌, ◌≤◌, IfOk, None, true};
     ghost use Rattle.slot_lock.specs.Slots.{IsNew};
     ghost use Rattle.machine_model.specs.World.{new_world};
-    ghost use Rattle.core_steps.specs.Setups.{fault_within, made_of, most_calls};
+    ghost use Rattle.machine_model.specs.Setups.{fault_within, made_of, most_calls};
     ghost use Rattle.core_steps.specs.State.{world};
-    ghost use Rattle.core_steps.specs.declared.setup.CallLimit.TheVariants.{Long, Usual};
+    ghost use Rattle.machine_model.specs.declared.setup.CallLimit.TheVariants.{Long, Usual};
 
     /// An engine over a new slot map. The bytes of the files are moved, not copied.
     pub fn new(alloc: A, map: M, setup: Setup<A>) -> Result<Engine<M, H, A, L>, NoMemory>

@@ -1,13 +1,13 @@
 //! The making of the engine's stores: the open files, the frames and their counts.
 ghost use Rattle.std.specs.Prelude.{◌≡◌, ◌≤◌, ◌^◌, ℕ, IfOk, None, length, nat_lt};
 ghost use Rattle.vm_base.specs.Plain.{zeros};
-ghost use Rattle.backing.specs.Files.{files_of, cached_in};
-ghost use Rattle.backing.specs.Given.{given_files};
+ghost use Rattle.frames.specs.Files.{files_of, cached_in};
+ghost use Rattle.frames.specs.Given.{given_files};
 ghost use Rattle.frames.specs.Parts.{frame_bytes, free_frames};
 ghost use Rattle.refcache.specs.Counts.{no_counts};
 ghost use Rattle.refcache.specs.Parts.{counts_of};
 
-use backing::{FileSpec, Objects};
+use frames::{FileSpec, Objects};
 use frames::Frames;
 use refcache::Refcache;
 use std::alloc::Allocator;

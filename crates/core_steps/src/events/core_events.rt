@@ -1,15 +1,15 @@
 //! What a core does beside its call: it acts on a message, and its TLB is filled or drops an entry.
 ghost use Rattle.std.specs.Prelude.{◌≡◌};
-ghost use Rattle.shootdown.specs.Messages.{asked};
+ghost use Rattle.mmu.specs.Messages.{asked};
 ghost use Rattle.machine_model.specs.Translating.{TakesMessage, Walks, Evicts};
 ghost use Rattle.core_steps.specs.State.{world};
 ghost use Rattle.core_steps.specs.Moving.{IsOf};
 
 use crate::engine::Engine;
-use crate::ledger::Ledger;
+use machine_log::ledger::Ledger;
 use machine_model::Outcome;
 use mmu::Hardware;
-use shootdown::Took;
+use mmu::Took;
 use slot_lock::SlotMap;
 use std::alloc::Allocator;
 use vm_base::{CoreId, is_valid};

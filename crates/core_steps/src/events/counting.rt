@@ -6,7 +6,7 @@ ghost use Rattle.core_steps.specs.State.{world};
 ghost use Rattle.core_steps.specs.Moving.{IsOf, FoldsExactly};
 
 use crate::engine::Engine;
-use crate::ledger::Ledger;
+use machine_log::ledger::Ledger;
 use machine_model::Outcome;
 use mmu::Hardware;
 use refcache::{Flush, Review};

@@ -15,7 +15,7 @@ pub mod give_up;
 pub mod next_changes;
 
 use crate::engine::Engine;
-use crate::ledger::Ledger;
+use machine_log::ledger::Ledger;
 use machine_model::{Event, Outcome, Phase};
 use mmu::Hardware;
 use slot_lock::SlotMap;

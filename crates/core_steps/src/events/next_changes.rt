@@ -8,7 +8,7 @@ ghost use Rattle.core_steps.specs.Moving.{goal_in};
 ghost use Rattle.core_steps.specs.State.{world};
 
 use crate::engine::Engine;
-use crate::ledger::Ledger;
+use machine_log::ledger::Ledger;
 use machine_model::Phase;
 use machine_model::answers::page_of_touch;
 use mmu::Hardware;

@@ -1,7 +1,7 @@
 //! What a machine tells of its counts, by which frames come back (Refcache of the RadixVM paper, EuroSys 2013).
 ghost use Rattle.core_steps.specs.Machine.{state};
 
-use crate::ledger::Ledger;
+use machine_log::ledger::Ledger;
 use crate::machine::Machine;
 use mmu::{Cpu, Hardware};
 use refcache::Queued;

@@ -8,7 +8,7 @@ ghost use Rattle.core_steps.specs.Moving.{IsAt, WantsMemory, Tries};
 ghost use Rattle.core_steps.specs.Dividing.{GoesAsMap};
 
 use crate::engine::Engine;
-use crate::ledger::Ledger;
+use machine_log::ledger::Ledger;
 use machine_model::{Blocker, Outcome, Phase};
 use mmu::Hardware;
 use slot_lock::{Goal, Got, SlotMap};

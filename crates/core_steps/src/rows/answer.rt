@@ -10,7 +10,7 @@ ghost use Rattle.core_steps.specs.Moving.{IsAt};
 ghost use Rattle.core_steps.specs.OnePage.{logged_later, replied};
 
 use crate::engine::Engine;
-use crate::ledger::Ledger;
+use machine_log::ledger::Ledger;
 use machine_model::{Outcome, Phase};
 use mmu::Hardware;
 use slot_lock::{SlotMap, Touch};

@@ -6,7 +6,7 @@ ghost use Rattle.core_steps.specs.AtOnce.{with_call};
 ghost use Rattle.core_steps.specs.State.{world};
 
 use crate::engine::Engine;
-use crate::ledger::Ledger;
+use machine_log::ledger::Ledger;
 use crate::rows::acquire::locking;
 use crate::rows::place::placing;
 use machine_model::{Outcome, Phase};

@@ -16,7 +16,7 @@ ghost use Rattle.core_steps.specs.Moving.{IsAt};
 ghost use Rattle.core_steps.specs.Taking.{AreCounted, IsCounted};
 
 use crate::engine::Engine;
-use crate::ledger::Ledger;
+use machine_log::ledger::Ledger;
 use machine_model::answers::reply_to;
 use machine_model::{Blocker, Outcome, Phase};
 use mmu::Hardware;

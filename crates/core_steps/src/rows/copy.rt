@@ -7,7 +7,7 @@ ghost use Rattle.core_steps.specs.Filling.{MakesCopy};
 ghost use Rattle.core_steps.specs.Moving.{IsAt, Tries, WantsMemory};
 
 use crate::engine::Engine;
-use crate::ledger::Ledger;
+use machine_log::ledger::Ledger;
 use machine_model::answers::page_of_touch;
 use machine_model::{Blocker, Outcome, Phase};
 use mmu::Hardware;

@@ -3,15 +3,15 @@
 ghost use Rattle.std.specs.Prelude.{◌≡◌, ℕ, true, false};
 ghost use Rattle.vm_base.specs.Apply.{forbids_write};
 ghost use Rattle.slot_lock.specs.Plan.{IsSoundChange, range_of};
-ghost use Rattle.backing.specs.Files.{files_of};
+ghost use Rattle.frames.specs.Files.{files_of};
 ghost use Rattle.vm_calls.specs.Decisions.{DecidesChange, IsReadable};
 ghost use Rattle.machine_model.specs.Step.{Goes};
 ghost use Rattle.core_steps.specs.State.{world};
 ghost use Rattle.core_steps.specs.Moving.{IsAt};
 
 use crate::engine::Engine;
-use crate::ledger::Ledger;
-use backing::Objects;
+use machine_log::ledger::Ledger;
+use frames::Objects;
 use machine_model::{Outcome, Phase};
 use mmu::Hardware;
 use slot_lock::{Change, Goal, SlotMap, SlotRead};

@@ -17,7 +17,7 @@ ghost use Rattle.core_steps.specs.Moving.{IsAt, IsOf, Tries, WantsMemory};
 ghost use Rattle.core_steps.specs.OnePage.{after_settling, with_entry_of, with_translation};
 
 use crate::engine::Engine;
-use crate::ledger::Ledger;
+use machine_log::ledger::Ledger;
 use crate::rows::file_pages::{file_frame, prot_installed};
 use machine_model::answers::{back_of, is_past_end, page_of_touch};
 use machine_model::{Outcome, Phase};

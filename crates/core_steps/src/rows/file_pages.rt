@@ -1,10 +1,10 @@
 //! What a page has to do with the page of its file: which frame caches it, and what translations of
 //! the page allow.
 ghost use Rattle.std.specs.Prelude.{◌≡◌};
-ghost use Rattle.backing.specs.Files.{cached_in};
+ghost use Rattle.frames.specs.Files.{cached_in};
 ghost use Rattle.machine_model.specs.Files.{file_frame, prot_installed};
 
-use backing::Objects;
+use frames::Objects;
 use machine_model::answers::prot_with;
 use std::alloc::Allocator;
 use vm_base::{Back, PageInfo, Prot};

@@ -15,7 +15,7 @@ ghost use Rattle.core_steps.specs.Moving.{IsAt, IsOf, Tries, WantsMemory};
 ghost use Rattle.core_steps.specs.Dividing.{GoesAsMap};
 
 use crate::engine::Engine;
-use crate::ledger::Ledger;
+use machine_log::ledger::Ledger;
 use crate::rows::acquire::locking;
 use crate::rows::answer::held_after;
 use machine_model::{Outcome, Phase};

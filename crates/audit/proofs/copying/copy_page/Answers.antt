@@ -1,6 +1,6 @@
 use Rattle.std.proofs.Common.{◌∙◌, Some, refl, subst, sym, true}
 use Rattle.slot_lock.proofs.Facts.{on_err}
-use Rattle.backing.specs.Files.{cached_in}
+use Rattle.frames.specs.Files.{cached_in}
 use Rattle.frames.specs.Parts.{FrameParts}
 use Rattle.vm_base.specs.Plain.{Plain}
 use Rattle.audit.specs.Copying.{Copies}

@@ -1,6 +1,6 @@
 use Rattle.std.proofs.Common.{◌≡◌, true, false, refl, sym, ap}
 use Rattle.slot_lock.specs.Plan.{range_of}
-use Rattle.backing.specs.Files.{cached_in}
+use Rattle.frames.specs.Files.{cached_in}
 use Rattle.audit.proofs.Concluded.{act_illegal, act_legal, refuse_judged}
 use Rattle.audit.proofs.Kept.{kept_none}
 use Rattle.audit.proofs.judging.judge_alone.Goals as goal

@@ -1,6 +1,6 @@
 use Rattle.std.proofs.Common.{◌≡◌, true, false, refl}
 use Rattle.slot_lock.specs.declared.plan.Goal.TheVariants as To
-use Rattle.backing.specs.Files.{cached_in}
+use Rattle.frames.specs.Files.{cached_in}
 use Rattle.vm_calls.proofs.Readable.{readable}
 use Rattle.slot_lock.proofs.Facts.{on_err}
 use Rattle.audit.proofs.Concluded.{act_given, act_illegal, act_legal, refuse_judged}

@@ -1,5 +1,5 @@
 use Rattle.slot_lock.proofs.Words.{◌≡◌, ◌∙◌, Some, sym, subst, ap, true, false, refl, is_mapped}
-use Rattle.backing.specs.Files.{cached_in}
+use Rattle.frames.specs.Files.{cached_in}
 use Rattle.audit.specs.Placing.{IsAllowed}
 use Rattle.vm_calls.specs.Decisions.{entries}
 use Rattle.slot_lock.proofs.Facts.{on_err}

@@ -1,6 +1,6 @@
 use Rattle.slot_lock.proofs.Words.{◌≡◌, ◌≢◌, ◌∙◌, List, Some, true, false, refl, subst, sym, Done}
 use Rattle.slot_lock.proofs.Facts.{on_err}
-use Rattle.backing.specs.Files.{FileParts, cached_in}
+use Rattle.frames.specs.Files.{FileParts, cached_in}
 use Rattle.frames.specs.Parts.{FrameParts}
 use Rattle.audit.specs.declared.judging.Verdict.TheVariants.{Legal, Illegal}
 use Rattle.audit.proofs.Kept.{kept_same}

@@ -1,6 +1,6 @@
 use Rattle.machine_model.proofs.Words.{◌≡◌, ◌<◌, ℕ, zero, suc, true, false, inl, inr, refl, subst, arith, new_world, Run}
 use Rattle.core_steps.specs.Running.{IsRefusedAt, RunsAsMap}
-use Rattle.core_steps.specs.Setups.{made_of}
+use Rattle.machine_model.specs.Setups.{made_of}
 use Rattle.core_steps.specs.State.{world}
 use Rattle.core_steps.proofs.Reached.{few_cores}
 use Rattle.core_steps.proofs.Runs.{plainly}

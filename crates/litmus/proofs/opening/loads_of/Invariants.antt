@@ -1,5 +1,5 @@
 use Rattle.std.proofs.Common.{◌≡◌, take}
-use Rattle.combinations.specs.Finals.{loads_by}
+use Rattle.litmus_merges.specs.Finals.{loads_by}
 use Rattle.litmus.proofs.opening.loads_of.Given as goal
 
 -- the loads of the addresses so far

@@ -1,5 +1,5 @@
 use Rattle.std.proofs.Common.{◌-◌, Some, ap, sym, ◌∙◌, arith, rules}
-use Rattle.merges.proofs.Lists.{get_here}
+use Rattle.litmus_merges.proofs.Lists.{get_here}
 use Rattle.litmus.proofs.telling.witness_text.Goals as goal
 
 pub returns-in-Ok-clause-ok : goal.returns-in-Ok-clause-ok

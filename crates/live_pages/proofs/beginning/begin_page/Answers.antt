@@ -1,5 +1,5 @@
 use Rattle.vm_base.specs.Plain.{page_bytes}
-use Rattle.backing.specs.Files.{files_of}
+use Rattle.frames.specs.Files.{files_of}
 use Rattle.live_pages.proofs.FilePages.{begins_from}
 use Rattle.live_pages.proofs.beginning.begin_page.Goals as goal
 

@@ -1,8 +1,8 @@
 use Rattle.std.proofs.Common.{refl, inl, inr}
 use Rattle.trace_io.proofs.IoLemmas.{keeps_same, reads_some}
 use Rattle.trace_io.proofs.LineLemmas.{reads_map, reads_none}
-use Rattle.trace.specs.declared.fault.TraceFault.TheVariants as Of
-use Rattle.notes_text.specs.Scripts.{unmade}
+use Rattle.trace_words.specs.declared.fault.TraceFault.TheVariants as Of
+use Rattle.trace_words.specs.Scripts.{unmade}
 use Rattle.live_script.proofs.TextLemmas.{ends_as_yields, unread_own}
 use Rattle.live_script.proofs.texts.certify_run.Goals as goal
 

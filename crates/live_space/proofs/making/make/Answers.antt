@@ -1,6 +1,6 @@
 use Rattle.std.proofs.Common.{rules}
-use Rattle.core_steps.specs.declared.setup.CallLimit.TheVariants.{Usual}
-use Rattle.core_steps.proofs.Setups.{few_cores_within}
+use Rattle.machine_model.specs.declared.setup.CallLimit.TheVariants.{Usual}
+use Rattle.machine_model.proofs.Setups.{few_cores_within}
 use Rattle.live_space.proofs.Own.{fresh_own}
 use Rattle.live_space.proofs.making.make.Goals as goal
 

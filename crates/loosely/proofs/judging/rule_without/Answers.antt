@@ -2,7 +2,7 @@ use Rattle.trace_io.specs.Lines.{lines_of}
 use Rattle.audit.specs.Placing.{rule_of}
 use Rattle.orders_text.specs.Steps.{read_of}
 use Rattle.loosely.specs.Loosely.{HasLooseOrderByPages}
-use Rattle.no_loose_order.specs.Easing.{AreEased}
+use Rattle.loosely.specs.Easing.{AreEased}
 use Rattle.page_orders.proofs.ExplainLemmas.{told_so}
 use Rattle.loosely.proofs.judging.rule_without.Goals as goal
 

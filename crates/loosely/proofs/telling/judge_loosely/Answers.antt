@@ -2,7 +2,7 @@ use Rattle.std.proofs.Common.{Err, ap, refl, sym, subst, ◌∙◌}
 use Rattle.trace_io.proofs.IoLemmas.{tells_unread, tells_want}
 use Rattle.trace_io.proofs.LineLemmas.{reads_map}
 use Rattle.page_orders.specs.Explained.{IsExplained}
-use Rattle.no_loose_order.specs.Easing.{AreEased}
+use Rattle.loosely.specs.Easing.{AreEased}
 use Rattle.orders_text.specs.declared.faults.HistoryFault.TheVariants.{Io}
 use Rattle.overlapping.proofs.EndLemmas.{io_back, io_of}
 use Rattle.page_orders.proofs.EndLemmas.{stopped, unmade}

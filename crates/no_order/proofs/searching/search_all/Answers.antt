@@ -1,7 +1,7 @@
 use Rattle.std.proofs.Common.{◌∙◌}
 use Rattle.std.proofs.lemmas.Result.{IfOk-weaker}
 use Rattle.vm_base.specs.Plain.{nothing_mapped}
-use Rattle.backing.specs.Given.{given_files}
+use Rattle.frames.specs.Given.{given_files}
 use Rattle.audit.specs.Placing.{rule_of}
 use Rattle.no_order.proofs.Fronts.{of_all}
 use Rattle.no_order.proofs.searching.search_all.Goals as goal

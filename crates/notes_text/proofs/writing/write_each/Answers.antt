@@ -1,7 +1,7 @@
 use Rattle.std.proofs.Common.{arith, refl, ◌∙◌}
 use Rattle.notes_text.specs.NotesWritten.{note_text}
 use Rattle.trace_io.proofs.IoLemmas.{each_front, each_wrote}
-use Rattle.notes_text.proofs.FilePieces.{nothing_yet}
+use Rattle.trace_words.proofs.FilePieces.{nothing_yet}
 use Rattle.notes_text.proofs.writing.write_each.Goals as goal
 
 pub notes-init : goal.notes-init

@@ -1,5 +1,5 @@
 use Rattle.vm_base.specs.Plain.{nothing_mapped}
-use Rattle.backing.specs.Given.{given_files}
+use Rattle.frames.specs.Given.{given_files}
 use Rattle.audit.specs.Placing.{rule_of}
 use Rattle.std.proofs.Common.{List, ◌∙◌}
 use Rattle.orders.specs.Orders.{HasOrder}

@@ -1,7 +1,7 @@
 use Rattle.trace_io.specs.Lines.{lines_of}
 use Rattle.audit.specs.Placing.{rule_of}
 use Rattle.orders_text.specs.Steps.{read_of}
-use Rattle.by_pages.specs.ByPages.{HasOrderByPages}
+use Rattle.orders.specs.ByPages.{HasOrderByPages}
 use Rattle.page_orders.specs.Explained.{as_they_are}
 use Rattle.page_orders.proofs.ExplainLemmas.{told_so}
 use Rattle.page_orders.proofs.judging.rule_without.Goals as goal

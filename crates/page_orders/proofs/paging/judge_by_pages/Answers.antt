@@ -7,7 +7,7 @@ use Rattle.orders_text.specs.declared.faults.HistoryFault.TheVariants.{Io}
 use Rattle.overlapping.proofs.EndLemmas.{io_back, io_of}
 use Rattle.page_orders.proofs.EndLemmas.{stopped, unmade}
 use Rattle.audit.specs.Placing.{rule_of}
-use Rattle.by_pages.specs.ByPages.{HasOrderByPages}
+use Rattle.orders.specs.ByPages.{HasOrderByPages}
 use Rattle.page_orders.proofs.paging.judge_by_pages.Goals as goal
 
 pub returns-in-Ok-read_all-clause-ends : goal.returns-in-Ok-read_all-clause-ends

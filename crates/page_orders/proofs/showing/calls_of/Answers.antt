@@ -1,5 +1,5 @@
 use Rattle.std.proofs.Common.{◌∙◌, ◌++◌, ◌∷◌, [], ap, sym}
-use Rattle.by_pages.specs.declared.splitting.Part.{Part}
+use Rattle.orders.specs.declared.splitting.Part.{Part}
 use Rattle.page_orders.specs.Showing.{timed_of}
 use Rattle.page_orders.proofs.Sure.{mapped_all, mapped_more}
 use Rattle.page_orders.proofs.showing.calls_of.Goals as goal

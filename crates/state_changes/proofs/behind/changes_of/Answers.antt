@@ -1,7 +1,7 @@
 use Rattle.std.proofs.Common.{◌++◌, ◌∙◌, ap, arith, drop, subst, take}
 use Rattle.std.proofs.lemmas.Bool.Decides.{nat_tests}
-use Rattle.trace_page.specs.Pages.{all_changed}
-use Rattle.state_changes.specs.Numbered.{texts_of}
+use Rattle.state_changes.specs.Pages.{all_changed}
+use Rattle.trace.specs.Numbered.{texts_of}
 use Rattle.state_changes.specs.Marks.{SaysDifference}
 use Rattle.state_changes.proofs.Walking.{none_left, texts_more, walk_begins, walk_ends, walk_more}
 use Rattle.state_changes.proofs.behind.changes_of.Goals as goal

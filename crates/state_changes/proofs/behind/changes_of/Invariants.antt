@@ -1,6 +1,6 @@
 use Rattle.std.proofs.Common.{length}
 use Rattle.trace_io.specs.Lines.{lines_of}
-use Rattle.state_changes.specs.Numbered.{texts_of}
+use Rattle.trace.specs.Numbered.{texts_of}
 use Rattle.state_changes.proofs.Walking.{Walk}
 use Rattle.state_changes.proofs.behind.changes_of.Given as goal
 

@@ -1,5 +1,5 @@
 use Rattle.std.proofs.Common.{◌≡◌, ◌≤◌, ◌-◌, drop, length}
-use Rattle.trace_page.specs.Pages.{all_changed}
+use Rattle.state_changes.specs.Pages.{all_changed}
 use Rattle.state_changes.proofs.behind.text_after.Given as goal
 
 -- the steps that are left make the same of the text so far

@@ -1,7 +1,7 @@
 use Rattle.std.specs.List.{flat_map}
-use Rattle.page_list.specs.Lists.{at_page}
+use Rattle.state_seen.specs.Lists.{at_page}
 use Rattle.state_text.specs.Texts.{message_line, table_text, tlb_line, work_text}
-use Rattle.state_text.proofs.Lines.{four}
+use Rattle.state_seen.proofs.Lines.{four}
 use Rattle.state_text.proofs.texts.put_core.Goals as goal
 
 pub returns : goal.returns

@@ -1,9 +1,9 @@
 use Rattle.std.proofs.Common.{ap, get_or, ◌∙◌, ◌++◌, [], append-nil, arith, sym}
-use Rattle.page_list.specs.Lists.{at_page}
+use Rattle.state_seen.specs.Lists.{at_page}
 use Rattle.machine_model.specs.declared.phase.Phase.TheVariants.{Free}
-use Rattle.state_text.specs.Held.{nothing_held}
+use Rattle.state_seen.specs.Held.{nothing_held}
 use Rattle.state_text.specs.Texts.{core_text, seen_core}
-use Rattle.state_text.proofs.Lines.{cores_more, cores_none, element}
+use Rattle.state_seen.proofs.Lines.{cores_more, cores_none, element}
 use Rattle.state_text.proofs.texts.put_cores.Goals as goal
 
 pub cores-init : goal.cores-init

@@ -1,5 +1,5 @@
 use Rattle.std.proofs.Common.{◌≡◌, ◌++◌}
-use Rattle.page_list.specs.Texts.{texts_below}
+use Rattle.state_seen.specs.PageTexts.{texts_below}
 use Rattle.state_text.specs.Texts.{seen_core}
 use Rattle.state_text.proofs.texts.put_cores.Given as goal
 

@@ -1,8 +1,8 @@
-use Rattle.page_list.specs.Lists.{at_page}
-use Rattle.page_list.specs.Texts.{pages_text, texts_below}
-use Rattle.used_pages.specs.Texts.{used_line}
+use Rattle.state_seen.specs.Lists.{at_page}
+use Rattle.state_seen.specs.PageTexts.{pages_text, texts_below}
+use Rattle.state_text.specs.PageTexts.{used_line}
 use Rattle.state_text.specs.Texts.{epoch_line, seen_core}
-use Rattle.state_text.proofs.Lines.{four}
+use Rattle.state_seen.proofs.Lines.{four}
 use Rattle.state_text.proofs.texts.put_state.Goals as goal
 
 pub returns : goal.returns

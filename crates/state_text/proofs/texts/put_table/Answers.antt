@@ -1,5 +1,5 @@
 use Rattle.std.proofs.Common.{ap, ◌∙◌, ◌++◌, ℕ, List}
-use Rattle.page_list.proofs.Texts.{listed}
+use Rattle.state_seen.proofs.PageTexts.{listed}
 use Rattle.state_text.specs.Texts.{table_line}
 use Rattle.state_text.proofs.texts.put_table.Goals as goal
 

@@ -1,7 +1,7 @@
 use Rattle.machine_model.specs.Holding.{taken_in}
 use Rattle.state_text.specs.Texts.{call_text, holds_text, took_text}
 use Rattle.state_text.specs.Words.{held_spot}
-use Rattle.state_text.proofs.Lines.{three}
+use Rattle.state_seen.proofs.Lines.{three}
 use Rattle.state_text.proofs.texts.put_work.Goals as goal
 
 pub returns : goal.returns

@@ -1,7 +1,7 @@
 use Rattle.std.proofs.Common.{sym, subst}
 use Rattle.std.specs.Prelude.{OnOk}
 use Rattle.core_steps.specs.Machine.{state}
-use Rattle.trace.specs.Events.{event_of}
+use Rattle.trace_words.specs.Events.{event_of}
 use Rattle.trace.specs.EventRuns.{AsksOne}
 use Rattle.trace.specs.Gives.{TellsStep}
 use Rattle.trace.specs.Seen.{Sees}

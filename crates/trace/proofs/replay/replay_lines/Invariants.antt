@@ -1,7 +1,7 @@
 use Rattle.std.proofs.Common.{◌≡◌, ◌+◌, ◌*◌, ◌^◌, ◌≤◌}
 use Rattle.trace_io.specs.Source.{Reads}
 use Rattle.trace_io.specs.Window.{left, budget}
-use Rattle.core_steps.specs.declared.setup.CallLimit.{CallLimit}
+use Rattle.machine_model.specs.declared.setup.CallLimit.{CallLimit}
 use Rattle.trace.specs.Stage.{Start}
 use Rattle.trace.specs.Turns.{scene}
 use Rattle.trace.proofs.RunLemmas.{HasRun}

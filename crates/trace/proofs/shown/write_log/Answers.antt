@@ -1,6 +1,6 @@
 use Rattle.machine_model.proofs.Words.{arith, refl, subst, sym, ◌∙◌, Appends}
 use Rattle.std.proofs.lemmas.Option.{get_or_from_slice_get}
-use Rattle.core_steps.specs.Packing.{listed}
+use Rattle.machine_log.specs.Packing.{listed}
 use Rattle.trace_io.specs.Sink.{AppendsFront}
 use Rattle.trace.proofs.ShownLemmas.{handed_all, handed_front, handed_more, handed_none}
 use Rattle.trace.proofs.shown.write_log.Goals as goal

@@ -1,7 +1,7 @@
 use Rattle.std.proofs.Common.{length, take, ◌-◌, ◌≡◌, ◌≤◌}
-use Rattle.core_steps.specs.Packing.{listed}
+use Rattle.machine_log.specs.Packing.{listed}
 use Rattle.trace_text.specs.Lists.{log_text}
-use Rattle.trace_text.specs.LogLines.{so_far}
+use Rattle.trace.specs.LogLines.{so_far}
 use Rattle.trace.proofs.ShownLemmas.{IsHanded}
 use Rattle.trace.proofs.shown.write_log.Given as goal
 

@@ -2,7 +2,7 @@ use Rattle.machine_model.proofs.Words.{refl, ap, Appends-nil}
 use Rattle.std.specs.Prelude.{option_map}
 use Rattle.std.proofs.lemmas.Result.{IfOk-weaker}
 use Rattle.core_steps.specs.Machine.{state}
-use Rattle.core_steps.specs.declared.setup.CallLimit.TheVariants.{Usual}
+use Rattle.machine_model.specs.declared.setup.CallLimit.TheVariants.{Usual}
 use Rattle.trace_io.proofs.LineLemmas.{reads_map, reads_none}
 use Rattle.trace.specs.Ends.{unmade}
 use Rattle.trace.proofs.Seeing.{seen_with}

@@ -1,5 +1,5 @@
 use Rattle.std.proofs.Common.{refl}
-use Rattle.backing.specs.Files.{files_of}
+use Rattle.frames.specs.Files.{files_of}
 use Rattle.vm_calls.proofs.Surveyed.{may_change, may_protect, none_read_only, protected_range, surveyed_absent, surveyed_made, surveyed_read_only}
 use Rattle.vm_calls.proofs.decision.decide_surveyed.Goals as goal
 use Rattle.vm_calls.proofs.decision.decide_surveyed.Goals.{in-Protect+else-found+then-prot+then-found-2+else-has_read_only}

@@ -1,5 +1,5 @@
 use Rattle.slot_lock.proofs.Words.{sym, ◌∙◌, ap, Option, PageInfo, is_read_only}
-use Rattle.backing.specs.Files.{files_of}
+use Rattle.frames.specs.Files.{files_of}
 use Rattle.vm_calls.specs.Decisions.{entry_of}
 use Rattle.vm_calls.proofs.Steps.{passed-slot}
 use Rattle.vm_calls.proofs.decision.has_read_only.Goals as goal

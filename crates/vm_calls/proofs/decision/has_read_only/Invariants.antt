@@ -1,5 +1,5 @@
 use Rattle.std.proofs.Common.{◌-◌}
-use Rattle.backing.specs.Files.{files_of}
+use Rattle.frames.specs.Files.{files_of}
 use Rattle.vm_calls.proofs.Steps.{Passed}
 use Rattle.vm_calls.proofs.decision.has_read_only.Given as goal
 

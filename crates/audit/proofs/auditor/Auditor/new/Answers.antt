@@ -1,4 +1,4 @@
-use Rattle.backing.specs.Given.{given_files}
+use Rattle.frames.specs.Given.{given_files}
 use Rattle.audit.proofs.Changed.{new_kept, new_plain}
 use Rattle.audit.proofs.auditor.Auditor.new.Goals as goal
 

@@ -1,5 +1,5 @@
-use Rattle.core_steps.specs.declared.setup.CallLimit.TheVariants.{Long}
-use Rattle.core_steps.proofs.Setups.{few_calls_within}
+use Rattle.machine_model.specs.declared.setup.CallLimit.TheVariants.{Long}
+use Rattle.machine_model.proofs.Setups.{few_calls_within}
 use Rattle.core_steps.proofs.engine.Opened.{opened}
 use Rattle.core_steps.proofs.engine.Engine.new.Goals as goal
 

@@ -1,7 +1,7 @@
 use Rattle.std.proofs.Common.{◌≡◌, None, rules}
-use Rattle.core_steps.specs.Setups.{fault_within}
+use Rattle.machine_model.specs.Setups.{fault_within}
 use Rattle.core_steps.proofs.Reached.{new_reached}
-use Rattle.core_steps.proofs.Setups.{few_calls, sound_long}
+use Rattle.machine_model.proofs.Setups.{few_calls, sound_long}
 use Rattle.core_steps.proofs.machine.Machine.new_within.Goals as goal
 
 pub new-requires-clause-sound : goal.new-requires-clause-sound

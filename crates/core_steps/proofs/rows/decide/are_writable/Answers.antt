@@ -1,5 +1,5 @@
 use Rattle.std.proofs.Common.{sym, ◌∙◌, arith}
-use Rattle.backing.specs.Files.{files_of}
+use Rattle.frames.specs.Files.{files_of}
 use Rattle.core_steps.proofs.rows.Writable.{all_writable, no_file_before, one_more}
 use Rattle.core_steps.proofs.rows.decide.are_writable.Goals as goal
 

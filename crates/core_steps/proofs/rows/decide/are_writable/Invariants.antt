@@ -1,5 +1,5 @@
 use Rattle.std.proofs.Common.{◌≤◌, ◌-◌}
-use Rattle.backing.specs.Files.{files_of}
+use Rattle.frames.specs.Files.{files_of}
 use Rattle.core_steps.proofs.rows.Writable.{AreWritable}
 use Rattle.core_steps.proofs.rows.decide.are_writable.Given as goal
 

@@ -1,7 +1,7 @@
 use Rattle.std.proofs.Common.{◌≤◌, rules, ap, ◌∙◌, arith, subst}
 use Rattle.vm_base.specs.declared.page.PageRange.{PageRange}
 use Rattle.vm_base.specs.Plain.{File}
-use Rattle.backing.specs.Files.{files_of}
+use Rattle.frames.specs.Files.{files_of}
 use Rattle.slot_lock.proofs.Changes.{sound_pages}
 use Rattle.live_tree.specs.Held.{HeldView}
 use Rattle.live_space.proofs.Ended.{changes_answers}

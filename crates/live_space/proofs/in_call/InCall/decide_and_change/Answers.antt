@@ -1,6 +1,6 @@
 use Rattle.std.proofs.Common.{rules, inr, subst, arith}
 use Rattle.live_space.proofs.Decided.{decided_users}
-use Rattle.backing.specs.Files.{files_of}
+use Rattle.frames.specs.Files.{files_of}
 use Rattle.slot_lock.specs.Plan.{range_of}
 use Rattle.vm_calls.specs.declared.decision.Decision.TheVariants as DecisionOf
 use Rattle.vm_calls.specs.Decisions.{DecidesChange}

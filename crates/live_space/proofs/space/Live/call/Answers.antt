@@ -1,7 +1,7 @@
 use Rattle.std.proofs.Common.{◌≡◌, ◌+◌, ℕ, Option, ap, subst, ◌∙◌, rules}
 use Rattle.vm_base.specs.Plain.{mode_of}
 use Rattle.vm_base.specs.declared.rights.Mode.{Mode}
-use Rattle.backing.specs.Files.{files_of}
+use Rattle.frames.specs.Files.{files_of}
 use Rattle.vm_calls.specs.Checks.{checked}
 use Rattle.seats.specs.Notes.{SeatView}
 use Rattle.live_space.specs.Answering.{AnswersFor}

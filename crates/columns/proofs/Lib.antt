@@ -1,2 +1,0 @@
-mod Asked
-mod Steps

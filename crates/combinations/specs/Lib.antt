@@ -1,4 +1,0 @@
-pub mod Turns
-pub mod Merging
-pub mod Laws
-pub mod Finals

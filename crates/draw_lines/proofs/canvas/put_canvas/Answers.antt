@@ -1,0 +1,12 @@
+use Rattle.draw_lines.specs.Canvas.{canvas_text}
+use Rattle.draw_steps.proofs.Joined.{grow}
+use Rattle.draw_lines.proofs.canvas.put_canvas.Goals as goal
+
+pub returns : goal.returns
+unfolding canvas_text
+returns c =
+    let t1 = grow c.args.out.now.items _ _ c.put_front.new.out.items _ c.in_ok-put_front.ensures c.in_ok-put_columns.ensures in
+    let t2 = grow c.args.out.now.items _ _ c.put_columns.new.out.items _ t1 c.in_ok-put_lanes.ensures in
+    let t3 = grow c.args.out.now.items _ _ c.put_lanes.new.out.items _ t2 c.in_ok-put_head.ensures in
+    let t4 = grow c.args.out.now.items _ _ c.put_head.new.out.items _ t3 c.in_ok-put_rows.ensures in
+    grow c.args.out.now.items _ _ c.put_rows.new.out.items _ t4 c.in_ok-put_legend.ensures

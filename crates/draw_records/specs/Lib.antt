@@ -1,0 +1,5 @@
+pub mod Changes
+pub mod Columns
+pub mod Lines
+pub mod Looking
+pub mod Recording

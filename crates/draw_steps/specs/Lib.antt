@@ -1,0 +1,11 @@
+pub mod Backing
+pub mod Canvas
+pub mod Drawing
+pub mod Elements
+pub mod Moments
+pub mod Names
+pub mod Parts
+pub mod Places
+pub mod Rows
+pub mod Shapes
+pub mod Style

@@ -1,7 +1,0 @@
-//! What is told of the counts of a new machine.
-ghost use Rattle.frame_counts.specs.Laws.{NoneAtFirst};
-
-/// A new machine has no frame in use, and no core has anything to add, to review, or has flushed: so its counts have no line.
-pub fn new_machines_count_nothing()
-    ensures { NoneAtFirst }
-{}

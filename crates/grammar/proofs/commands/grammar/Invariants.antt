@@ -1,9 +1,0 @@
-use Rattle.std.proofs.Common.{◌≡◌, map, take}
-use Rattle.clap.specs.Words.{subcommand_names}
-use Rattle.grammar.specs.Names.{name_of_word}
-use Rattle.grammar.specs.declared.commands.TheConstants as Constant
-use Rattle.grammar.proofs.commands.grammar.Given as goal
-
--- the program has the words so far
-abbrev pub invariant-words : goal.invariant-words
-invariant-words l = subcommand_names l.program ≡ map name_of_word (take l.at Constant.WORDS)

@@ -1,3 +1,0 @@
-pub mod CallLemmas
-pub mod LaterLemmas
-pub mod TextLemmas

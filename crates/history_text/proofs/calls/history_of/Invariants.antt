@@ -1,8 +1,0 @@
-use Rattle.std.proofs.Common.{◌≡◌, map, take}
-use Rattle.seats.specs.Packing.{shown}
-use Rattle.history_text.specs.History.{history_of}
-use Rattle.history_text.proofs.calls.history_of.Given as goal
-
--- the calls of the seats so far
-abbrev pub invariant-seats : goal.invariant-seats
-invariant-seats g l = l.calls.items ≡ history_of (take l.at (map shown l.fn.seats))

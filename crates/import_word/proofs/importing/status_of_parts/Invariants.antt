@@ -1,9 +1,0 @@
-use Rattle.std.proofs.Common.{◌≡◌, ◌≤◌, ◌-◌, drop, length}
-use Rattle.import_word.specs.Status.{parts_status}
-use Rattle.import_word.proofs.importing.status_of_parts.Given as goal
-
-abbrev pub invariant-parts : goal.invariant-parts
-invariant-parts l = record { within : l.at ≤ length l.parts; same : parts_status (drop l.at l.parts) ≡ parts_status l.parts }
-
-abbrev pub decreases-parts : goal.decreases-parts
-decreases-parts l = length l.parts - l.at

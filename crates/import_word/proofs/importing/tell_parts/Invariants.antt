@@ -1,8 +1,0 @@
-use Rattle.std.proofs.Common.{◌≤◌, ◌-◌, length}
-use Rattle.import_word.proofs.importing.tell_parts.Given as goal
-
-abbrev pub invariant-parts : goal.invariant-parts
-invariant-parts g l = l.at ≤ length l.parts
-
-abbrev pub decreases-parts : goal.decreases-parts
-decreases-parts g l = length l.parts - l.at

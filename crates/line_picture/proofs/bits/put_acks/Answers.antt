@@ -1,5 +1,0 @@
-use Rattle.picture.proofs.Joined.{grow}
-use Rattle.line_picture.proofs.bits.put_acks.Goals as goal
-
-pub returns : goal.returns
-returns c = grow c.args.out.now.items _ _ c.put.new.out.items _ c.in_ok-put.ensures c.in_ok-put_few.ensures

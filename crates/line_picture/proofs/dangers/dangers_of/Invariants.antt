@@ -1,9 +1,0 @@
-use Rattle.std.proofs.Common.{◌≡◌, ◌≤◌, ◌-◌, length, take}
-use Rattle.line_picture.specs.Dangers.{dangers_of}
-use Rattle.line_picture.proofs.dangers.dangers_of.Given as goal
-
-abbrev pub invariant-moments : goal.invariant-moments
-invariant-moments l = record { within : l.at ≤ length l.moments; made : l.dangers.items ≡ dangers_of l.moments (take l.at l.moments) }
-
-abbrev pub decreases-moments : goal.decreases-moments
-decreases-moments l = length l.moments - l.at

@@ -1,5 +1,0 @@
-pub mod CountLemmas
-pub mod LaneLemmas
-pub mod ReadLemmas
-pub mod RunLemmas
-pub mod StepLemmas

@@ -1,0 +1,17 @@
+pub mod Acted
+pub mod AlikePages
+pub mod Ended
+pub mod Grown
+pub mod Lists
+pub mod Loads
+pub mod Mapped
+pub mod Maps
+pub mod Numbered
+pub mod OneTurn
+pub mod Orders
+pub mod Pages
+pub mod Passed
+pub mod Putting
+pub mod Shown
+pub mod Spots
+pub mod Turned

@@ -1,0 +1,36 @@
+use Rattle.std.proofs.Common.{arith, false, refl, true, ◌≡◌}
+use Rattle.vm_base.specs.Apply.{is_absent}
+use Rattle.litmus_merges.specs.Steps.{map_of}
+use Rattle.litmus_merges.proofs.Pages.{no_page, none_yet, one_page}
+use Rattle.litmus_merges.proofs.AlikePages.{none_absent_run}
+use Rattle.litmus_merges.proofs.protecting.has_absent.Goals as goal
+
+pub pages-init : goal.pages-init
+pages-init g c = record {
+  low = omega arith;
+  none = none_yet is_absent (map_of c.args.objects.now c.args.steps.now).entry c.args.range;
+}
+
+pub pages-preserved : goal.pages-preserved
+pages-preserved g c =
+    let i = c.pages.invariant in
+    let low = i.low in
+    let further = c.run_end-page.ensures.further in
+    record {
+      low = omega (arith, low, further);
+      none = none_absent_run c.args.objects.now c.args.steps.now c.args.range c.pages.page c.run_end-page.result i.none c.if-is_absent.ensures c.run_end-page.ensures.run;
+    }
+
+pub returns-then-is_absent : goal.returns-then-is_absent
+returns-then-is_absent g c =
+    let low = c.pages.invariant.low in (
+      (λ h. one_page is_absent (map_of c.args.objects.now c.args.steps.now).entry c.args.range c.pages.page low c.pages-test.true c.if-is_absent.ensures),
+      (λ h. refl),
+    )
+
+pub returns : goal.returns
+returns g c =
+    let end = c.pages-test.false in (
+      (λ h. let wrong : false ≡ true = h in absurd cc),
+      (λ h. absurd (no_page is_absent (map_of c.args.objects.now c.args.steps.now).entry c.args.range c.pages.page (omega (arith, end)) c.pages.invariant.none h)),
+    )

@@ -1,0 +1,15 @@
+use Rattle.std.proofs.Common.{◌-◌, ◌≤◌}
+use Rattle.vm_base.specs.Apply.{is_absent}
+use Rattle.litmus_merges.specs.Steps.{map_of}
+use Rattle.litmus_merges.proofs.Pages.{NoneBefore}
+use Rattle.litmus_merges.proofs.protecting.has_absent.Given as goal
+
+-- those so far are mapped
+abbrev pub invariant-pages : goal.invariant-pages
+invariant-pages g l = record {
+  low : l.range.first ≤ l.page;
+  none : NoneBefore is_absent (map_of l.objects l.steps).entry l.range l.page;
+}
+
+abbrev pub decreases-pages : goal.decreases-pages
+decreases-pages g l = l.range.end - l.page

@@ -1,0 +1,12 @@
+pub mod Finals
+pub mod Laws
+pub mod Mappings
+pub mod Merging
+pub mod Nodes
+pub mod Numbers
+pub mod OneTurn
+pub mod Passing
+pub mod Runs
+pub mod Seen
+pub mod Steps
+pub mod Turns

@@ -1,0 +1,10 @@
+pub mod Assembled
+pub mod Dues
+pub mod Entries
+pub mod Handed
+pub mod Led
+pub mod Lines
+pub mod MadeKept
+pub mod Merged
+pub mod Saying
+pub mod Steps

@@ -1,2 +1,0 @@
-pub mod Litmus
-pub mod Witness

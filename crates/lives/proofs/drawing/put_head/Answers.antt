@@ -1,9 +1,0 @@
-use Rattle.lives.specs.Lives.{head_text}
-use Rattle.picture.proofs.Joined.{grow}
-use Rattle.lives.proofs.drawing.put_head.Goals as goal
-
-pub returns : goal.returns
-unfolding head_text
-returns c =
-    let counted = grow c.args.out.now.items _ _ c.put_text.new.out.items _ c.in_ok-put_text.ensures c.in_ok-put_count.ensures in
-    grow c.args.out.now.items _ _ c.put_count.new.out.items _ counted c.in_ok-put_all.ensures

@@ -1,5 +1,0 @@
-use Rattle.std.proofs.Common.{length}
-use Rattle.lives.proofs.living.+put_rows.Given as goal
-
-abbrev pub decreases-put_rows : goal.decreases-put_rows
-decreases-put_rows l = length l.edges.now

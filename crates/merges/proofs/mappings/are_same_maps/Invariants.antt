@@ -1,5 +1,0 @@
-use Rattle.std.proofs.Common.{◌≡◌, take}
-use Rattle.merges.proofs.mappings.are_same_maps.Given as goal
-
-abbrev pub invariant-lines : goal.invariant-lines
-invariant-lines l = take l.k l.one ≡ take l.k l.other

@@ -1,5 +1,0 @@
-use Rattle.std.proofs.Common.{◌≡◌, take}
-use Rattle.merges.proofs.nodes.are_same_replies.Given as goal
-
-abbrev pub invariant-replies : goal.invariant-replies
-invariant-replies l = take l.k l.one ≡ take l.k l.other

@@ -1,3 +1,0 @@
-pub mod Lagging
-pub mod Easing
-pub mod Shown

@@ -1,3 +1,0 @@
-pub mod TracedLines
-pub mod TracedFronts
-pub mod NoNotes

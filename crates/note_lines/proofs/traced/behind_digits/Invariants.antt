@@ -1,9 +1,0 @@
-use Rattle.std.proofs.Common.{◌≡◌, length}
-use Rattle.note_lines.specs.Notes.{behind_digits}
-use Rattle.note_lines.proofs.traced.behind_digits.Given as goal
-
-abbrev pub invariant-digits : goal.invariant-digits
-invariant-digits l = behind_digits l.rest ≡ behind_digits l.text
-
-abbrev pub decreases-digits : goal.decreases-digits
-decreases-digits l = length l.rest

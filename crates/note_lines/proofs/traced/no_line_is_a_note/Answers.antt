@@ -1,5 +1,0 @@
-use Rattle.note_lines.proofs.NoNotes.{no_note}
-use Rattle.note_lines.proofs.traced.no_line_is_a_note.Goals as goal
-
-pub returns : goal.returns
-returns c line h = no_note line h

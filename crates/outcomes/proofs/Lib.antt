@@ -1,4 +1,0 @@
-pub mod Dues
-pub mod Led
-pub mod Lines
-pub mod Assembled

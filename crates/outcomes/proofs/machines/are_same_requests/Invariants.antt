@@ -1,5 +1,0 @@
-use Rattle.std.proofs.Common.{◌≡◌, take}
-use Rattle.outcomes.proofs.machines.are_same_requests.Given as goal
-
-abbrev pub invariant-requests : goal.invariant-requests
-invariant-requests l = take l.k l.one ≡ take l.k l.other

@@ -1,8 +1,0 @@
-use Rattle.std.proofs.Common.{◌≡◌, ℕ, ◌<◌, Some, slice_get}
-use Rattle.outcomes.specs.declared.performing.Due.{Due}
-use Rattle.outcomes.specs.declared.performing.Stage.TheVariants.{Over}
-use Rattle.outcomes.proofs.performing.next_due.Given as goal
-
--- those of the core so far are over
-abbrev pub invariant-dues : goal.invariant-dues
-invariant-dues l = (j : ℕ) (other : Due) → j < l.k → slice_get l.dues j ≡ Some other → other.core ≡ l.core → other.stage ≡ Over

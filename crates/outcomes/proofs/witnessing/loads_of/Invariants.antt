@@ -1,7 +1,0 @@
-use Rattle.std.proofs.Common.{◌≡◌, take}
-use Rattle.combinations.specs.Finals.{loads_by}
-use Rattle.outcomes.proofs.witnessing.loads_of.Given as goal
-
--- the loads of the addresses so far
-abbrev pub invariant-addrs : goal.invariant-addrs
-invariant-addrs g l = l.loads.items ≡ loads_by 0 (take l.k l.addrs)

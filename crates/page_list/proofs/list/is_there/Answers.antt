@@ -1,5 +1,0 @@
-use Rattle.page_list.proofs.Ordered.{there_by}
-use Rattle.page_list.proofs.list.is_there.Goals as goal
-
-pub returns-then-place-entries : goal.returns-then-place-entries
-returns-then-place-entries g c = there_by c.args.entries.now c.args.place c.args.page c.index-entries-place.result c.if-place-entries.true

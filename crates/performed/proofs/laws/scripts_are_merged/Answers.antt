@@ -1,5 +1,0 @@
-use Rattle.performed.proofs.Merged.{performed_are_combinations}
-use Rattle.performed.proofs.laws.scripts_are_merged.Goals as goal
-
-pub returns : goal.returns
-returns c = performed_are_combinations

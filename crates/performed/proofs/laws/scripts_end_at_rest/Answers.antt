@@ -1,5 +1,0 @@
-use Rattle.performed.proofs.Merged.{performed_end_at_rest}
-use Rattle.performed.proofs.laws.scripts_end_at_rest.Goals as goal
-
-pub returns : goal.returns
-returns c = performed_end_at_rest

@@ -1,6 +1,0 @@
-use Rattle.picture.specs.Canvas.{front_text}
-use Rattle.picture.proofs.canvas.put_front.Goals as goal
-
-pub returns : goal.returns
-unfolding front_text
-returns c = c.put_all.ensures

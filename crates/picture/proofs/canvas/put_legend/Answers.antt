@@ -1,6 +1,0 @@
-use Rattle.picture.specs.Canvas.{legend_text}
-use Rattle.picture.proofs.canvas.put_legend.Goals as goal
-
-pub returns : goal.returns
-unfolding legend_text
-returns c = c.put_parts.ensures

@@ -1,9 +1,0 @@
-use Rattle.std.proofs.Common.{◌≡◌, ◌≤◌, ◌-◌, length, drop}
-use Rattle.picture.specs.Moments.{answer_of}
-use Rattle.picture.proofs.moments.answer_of.Given as goal
-
-abbrev pub invariant-moments : goal.invariant-moments
-invariant-moments l = record { within : l.at ≤ length l.moments; same : answer_of (drop l.at l.moments) l.call ≡ answer_of l.moments l.call }
-
-abbrev pub decreases-moments : goal.decreases-moments
-decreases-moments l = length l.moments - l.at

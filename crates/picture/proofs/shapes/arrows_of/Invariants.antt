@@ -1,9 +1,0 @@
-use Rattle.std.proofs.Common.{◌≡◌, ◌≤◌, ◌-◌, length, take}
-use Rattle.picture.specs.Shapes.{arrows_of}
-use Rattle.picture.proofs.shapes.arrows_of.Given as goal
-
-abbrev pub invariant-moments : goal.invariant-moments
-invariant-moments l = record { within : l.at ≤ length l.moments; made : l.arrows.items ≡ arrows_of l.moments (take l.at l.moments) }
-
-abbrev pub decreases-moments : goal.decreases-moments
-decreases-moments l = length l.moments - l.at

@@ -1,5 +1,0 @@
-mod ChangingLemmas
-mod LiningLemmas
-mod PageLemmas
-pub mod PictureLemmas
-mod StateLemmas

@@ -1,4 +1,0 @@
-pub mod CoresBelow
-pub mod Pending
-pub mod Steps
-pub mod Tellers

@@ -1,7 +1,0 @@
-use Rattle.std.proofs.Common.{◌≡◌}
-use Rattle.vm_base.specs.Cores.{members}
-use Rattle.recorder.specs.Looking.{cores_where}
-use Rattle.recorder.proofs.looking.cores_of.Given as goal
-
-abbrev pub invariant-cores : goal.invariant-cores
-invariant-cores l = record { cores : l.cores ≡ cores_where (members l.set) l.index }

@@ -1,3 +1,0 @@
-pub mod Senders
-pub mod Targets
-pub mod Waits

@@ -1,5 +1,0 @@
-use Rattle.shootdown.proofs.Waits.{empty_sets}
-use Rattle.shootdown.proofs.inboxes.nobody_waits.Goals as goal
-
-pub returns : goal.returns
-returns c = empty_sets 64 c.empty.result c.empty.ensures

@@ -1,0 +1,12 @@
+pub mod Cached
+pub mod Doing
+pub mod Entries
+pub mod Lines
+pub mod Ordered
+pub mod PageTexts
+pub mod Phases
+pub mod Reading
+pub mod Steps
+pub mod TableSteps
+pub mod Told
+pub mod Walking

@@ -1,0 +1,17 @@
+use Rattle.std.proofs.Common.{ap, ◌∙◌, ◌++◌, [], cond, append-nil, sym, ℕ, List}
+use Rattle.core_steps.specs.Machine.{state}
+use Rattle.state_seen.proofs.PageTexts.{texts_more, texts_none}
+use Rattle.state_text.specs.Counts.{frame_counts}
+use Rattle.state_text.proofs.counts.put_frames.Goals as goal
+
+pub frames-init : goal.frames-init
+frames-init g c = record {
+  written = sym (ap (λ l. c.args.out.now.items ++ l) (texts_none (λ f. cond ((state c.args.machine.now).memory.is_free f) []
+      (frame_counts c.args.form (state c.args.machine.now) f))) ∙ append-nil c.args.out.now.items);
+}
+
+pub frames-preserved : goal.frames-preserved
+frames-preserved g c = record {
+  written = texts_more (λ f. cond ((state c.args.machine.now).memory.is_free f) [] (frame_counts c.args.form (state c.args.machine.now) f))
+      c.frames.frame c.args.out.now.items c.frames.out.items c.put_frame.new.out.items c.frames.invariant.written c.in_ok-put_frame.ensures;
+}

@@ -1,0 +1,11 @@
+pub mod Collected
+pub mod Declarations
+pub mod Ends
+pub mod Events
+pub mod Faults
+pub mod Kinds
+pub mod OutcomeText
+pub mod Scripts
+pub mod Status
+pub mod Turns
+pub mod Written

@@ -1,8 +1,0 @@
-use Rattle.std.proofs.Common.{ap, ◌∙◌, ◌++◌, ℕ, List}
-use Rattle.page_list.proofs.Texts.{listed}
-use Rattle.used_pages.specs.Texts.{used_line}
-use Rattle.used_pages.proofs.texts.put_pages.Goals as goal
-
-pub returns : goal.returns
-returns g c = (rw c.entries.ensures.value at c.in_ok-put_entries.ensures)
-    ∙ ap (λ (l : List ℕ). c.args.out.now.items ++ l) (listed used_line 0 c.args.list.now c.entries.ensures.order)

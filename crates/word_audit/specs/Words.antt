@@ -1,0 +1,40 @@
+-- What the word `audit` does: how it ends, what is read and written by then, and the status.
+use Rattle.std.specs.Prelude.{◌≡◌, ◌⊎◌, ℕ, Bool}
+use Rattle.std.specs.Io.KnownBytes.{Keeps}
+use Rattle.overlapping.specs.Ends.{JudgementEnds, TellsJudgement}
+use Rattle.overlapping.specs.Replies.{AuditEnds}
+use Rattle.page_orders.specs.Ends.{EndsByPages}
+use Rattle.loosely.specs.Loosely.{EndsLoosely}
+use Rattle.audit_text.specs.Ends.{TellsAudit}
+use Rattle.audit_text.specs.Reviewed.{ReviewEnds}
+use Rattle.audit_text.specs.declared.allowing.Terms.{Terms}
+use Rattle.word_audit.specs.Status.{audit_status, judgement_status, review_status}
+use Rattle.trace_io.specs.Io.{ReadFrom, WrittenTo}
+use Rattle.word_parts.specs.Ends.{EndsInOneWay}
+
+-- the judgement of replies by these terms
+abbrev pub AuditsReplies : Terms → ReadFrom → WrittenTo → ℕ → Type 0
+AuditsReplies terms text out n = EndsInOneWay audit_status (λ input unread. AuditEnds terms input) TellsAudit text out n
+
+-- the same, which goes on after a wrong one
+abbrev pub ReviewsReplies : Terms → ReadFrom → WrittenTo → ℕ → Type 0
+ReviewsReplies terms text out n = EndsInOneWay review_status (λ input unread. ReviewEnds terms input) TellsAudit text out n
+
+-- the judgement of calls that overlap
+abbrev pub JudgesCalls : Type 0 → Bool → ReadFrom → WrittenTo → ℕ → Type 0
+JudgesCalls A any_place text out n =
+    EndsInOneWay judgement_status (λ input unread. JudgementEnds {A = A} any_place input) TellsJudgement text out n
+
+-- the same, unless the order that is given can't be read: then nothing is written
+abbrev pub JudgesOrGivesUp : Type 0 → Bool → ReadFrom → WrittenTo → ℕ → Type 0
+JudgesOrGivesUp A any_place text out n = JudgesCalls A any_place text out n ⊎ ((n ≡ 3) × Keeps out.before out.after)
+
+-- the judgement of calls that overlap, where each page of a range changes at a moment of its own
+abbrev pub JudgesByPages : Type 0 → Bool → ReadFrom → WrittenTo → ℕ → Type 0
+JudgesByPages A any_place text out n =
+    EndsInOneWay judgement_status (λ input unread. EndsByPages {A = A} any_place input) TellsJudgement text out n
+
+-- the same by the loose rule
+abbrev pub JudgesLoosely : Type 0 → Bool → ReadFrom → WrittenTo → ℕ → Type 0
+JudgesLoosely A any_place text out n =
+    EndsInOneWay judgement_status (λ input unread. EndsLoosely {A = A} any_place input) TellsJudgement text out n

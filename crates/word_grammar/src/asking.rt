@@ -1,0 +1,441 @@
+//! What the words of the command line ask for.
+
+ghost use Rattle.std.specs.Prelude.{◌≡◌, ℕ};
+ghost use Rattle.import_text.specs.declared.processes.Choice.{Choice};
+ghost use Rattle.word_parts.specs.declared.asked.Shows.{Shows};
+ghost use Rattle.litmus.specs.declared.telling.Wanted.{Wanted};
+ghost use Rattle.word_parts.specs.declared.asked.WitnessPicture.{WitnessPicture};
+ghost use Rattle.machine_model.specs.declared.setup.CallLimit.{CallLimit};
+
+use audit_text::Terms;
+use clap::{ArgMatches, Error};
+use machine_model::CallLimit;
+use crate::grammar;
+use word_help::Topic;
+use import_text::processes::Choice;
+use litmus::{View, Wanted};
+use std::alloc::{AllocError, Allocator, Global};
+use trace_words::show::Show;
+use word_parts::asked::{Drawing, Echoed, Lines, Overlaps, Shows, Steps, WitnessPicture};
+
+/// What has to be done with a text.
+#[derive(Clone, Copy)]
+pub enum Work {
+    /// A replay, which shows this.
+    Replay(Shows),
+    /// A replay that shows each line beside its outcome, within this limit, in colours or without, and with what it adds to the log, or
+    /// not.
+    Echo {
+        limit: CallLimit,
+        coloured: bool,
+        logs: bool,
+    },
+    /// The certificate of notes.
+    Certify,
+    /// A run of a script on threads, whose notes are written, and their numbers told, or not.
+    Live {
+        sums: bool,
+    },
+    /// The certificate of such a run.
+    CertifyLive {
+        sums: bool,
+    },
+    /// A run of a script on threads, the history of whose calls is written.
+    LiveHistory {
+        sums: bool,
+    },
+    /// A run of a script on threads over one machine, whose replies and log are written.
+    ShareLive,
+    /// The trace of a log of strace, of the process that is chosen.
+    Import(Choice),
+    /// The traces of a log of strace, one for each process.
+    ImportEach,
+    /// The trace of a log of lackey.
+    ImportAccesses,
+    /// The judgement of replies by these terms.
+    Audit(Terms),
+    /// The same, which goes on after a wrong one.
+    AuditAll(Terms),
+    /// The judgement of calls that overlap, by an order that is searched, or given.
+    Overlapping(Overlaps),
+    /// The same, where each page of a range changes at a moment of its own.
+    ByPages(Overlaps),
+    /// The same, where an access may go as before a call that hasn't ended; whether a mapping may have any place.
+    Loosely(bool),
+    /// A picture of a trace, of its steps or of lives, the state at its end or behind a line, or each line with what it changes in it.
+    Picture(Drawing),
+    /// What is told of a litmus test, of whose orders so many points are looked at, at most.
+    Litmus {
+        wanted: Wanted,
+        limit: u64,
+    },
+    /// The picture of a witness of one of them.
+    PictureWitness(WitnessPicture),
+}
+
+/// How many points of orders are looked at, where no other limit is asked for.
+const POINTS: u64 = 1_000_000;
+
+/// What is asked for.
+#[derive(Clone, Copy)]
+pub struct Task<'a> {
+    pub work: Work,
+    /// The text's file, where it isn't standard input.
+    pub file: Option<&'a str>,
+    /// The file of the list of mappings that an import begins with, of the order that an audit is given, or of counts of outcomes.
+    pub maps: Option<&'a str>,
+    /// The file that an audit writes an order to.
+    pub order: Option<&'a str>,
+    /// The folder that an import writes traces to.
+    pub folder: Option<&'a str>,
+    /// Whether more is said about a fault than its text.
+    pub explains: bool,
+}
+
+/// What is printed in its place.
+#[derive(Drop)]
+pub enum Told {
+    /// Why the words are wrong, or what they ask for of the parser's own texts.
+    Words(Error),
+    /// A page of the help.
+    Page(Topic),
+    /// No step, or no line, is from the first of these to the last.
+    NoSteps(Steps),
+    /// Lines are counted from 1.
+    NoLine,
+    /// Several files stand where one is read.
+    ManyFiles,
+}
+
+// How many calls these words let a trace ask for.
+fn limit_of<'a>(words: &ArgMatches<'a>) -> CallLimit {
+    if words.get_flag("long") {
+        CallLimit::Long
+    } else {
+        CallLimit::Usual
+    }
+}
+
+// This work with the text that the words name.
+fn working<'a>(work: Work, words: &ArgMatches<'a>) -> Task<'a>
+    ensures { result.work ≡ work }
+{
+    Task {
+        work,
+        file: words.get_str("FILE"),
+        maps: None,
+        order: None,
+        folder: None,
+        explains: words.get_flag("explain"),
+    }
+}
+
+// What these words of a word that reads a trace ask for.
+fn replaying<'a>(show: Show, sums: bool, words: &ArgMatches<'a>) -> Task<'a>
+    ensures { (shows : Shows) × (result.work ≡ Work.Replay shows) × (shows.show ≡ show) × (shows.sums ≡ sums) }
+{
+    let limit = limit_of(words);
+    working(Work::Replay(Shows { show, limit, sums }), words)
+}
+
+// What these words of the word `picture` ask for: lives, or lines or steps, from 1 on, and to the end, where none are named.
+fn drawing_of<'a>(words: &ArgMatches<'a>) -> Drawing {
+    if words.get_flag("lives") {
+        return Drawing::Lives;
+    }
+    let first = words.get_one("from").unwrap_or(1).max(1);
+    let last = words.get_one("to").unwrap_or(u64::MAX);
+    if words.get_flag("steps") {
+        return Drawing::Steps(Steps { first, last });
+    }
+    Drawing::Lines(Lines { first, last })
+}
+
+// What the words behind `litmus` ask for.
+fn wanted_of<'a>(words: &ArgMatches<'a>) -> Wanted {
+    if words.get_flag("to-c") {
+        return Wanted::Program;
+    }
+    if words.get_str("observed").is_some() {
+        return Wanted::Observed;
+    }
+    if let Some(runs) = words.get_one("live") {
+        return Wanted::Live(runs);
+    }
+    Wanted::Outcomes(match words.get_one("witness") {
+        Some(number) => View::Witness(number),
+        None if words.get_flag("list") => View::List,
+        None => View::Report,
+    })
+}
+
+// How many points of orders the words let be looked at.
+fn points_of<'a>(words: &ArgMatches<'a>) -> u64 {
+    words.get_one("limit").unwrap_or(POINTS)
+}
+
+// The picture of the witness with this number, all of it.
+fn witness_asked<'a>(words: &ArgMatches<'a>, number: u64) -> Task<'a>
+    ensures { (asked : WitnessPicture) × (result.work ≡ Work.PictureWitness asked) }
+{
+    let asked = WitnessPicture {
+        number,
+        limit: points_of(words),
+        drawing: Drawing::Lines(Lines {
+            first: 1,
+            last: u64::MAX,
+        }),
+    };
+    working(Work::PictureWitness(asked), words)
+}
+
+// What the words behind `litmus` ask for: a picture, or else what is told of the test.
+fn litmus_asked<'a>(words: &ArgMatches<'a>) -> Task<'a> {
+    match words.get_one("picture") {
+        Some(number) => witness_asked(words, number),
+        None => testing(words),
+    }
+}
+
+// A litmus test, with the counts that the words name.
+fn testing<'a>(words: &ArgMatches<'a>) -> Task<'a>
+    ensures { (wanted : Wanted) × (limit : ℕ) × (result.work ≡ Work.Litmus wanted limit) }
+{
+    Task {
+        work: Work::Litmus {
+            wanted: wanted_of(words),
+            limit: points_of(words),
+        },
+        file: words.get_str("FILE"),
+        maps: words.get_str("observed"),
+        order: None,
+        folder: None,
+        explains: words.get_flag("explain"),
+    }
+}
+
+// An import, with the list of mappings that the words name.
+fn importing<'a>(words: &ArgMatches<'a>) -> Task<'a>
+    ensures { (choice : Choice) × (result.work ≡ Work.Import choice) }
+{
+    Task {
+        work: Work::Import(Choice {
+            thread: words.get_one("pid"),
+            joined: words.get_flag("one-process"),
+        }),
+        file: words.get_str("FILE"),
+        maps: words.get_str("maps"),
+        order: None,
+        folder: None,
+        explains: words.get_flag("explain"),
+    }
+}
+
+// An import of each process, into the folder that the words name.
+fn importing_each<'a>(words: &ArgMatches<'a>) -> Task<'a>
+    ensures { result.work ≡ Work.ImportEach }
+{
+    Task {
+        work: Work::ImportEach,
+        file: words.get_str("FILE"),
+        maps: None,
+        order: None,
+        folder: words.get_str("all"),
+        explains: words.get_flag("explain"),
+    }
+}
+
+// What the words after `run` ask for, in colours or without.
+fn running_asked<'a>(words: &ArgMatches<'a>, coloured: bool) -> Task<'a> {
+    let logs = words.get_flag("log");
+    if words.get_flag("state") {
+        let shows = Echoed { coloured, logs };
+        return working(Work::Picture(Drawing::Changes(shows)), words);
+    }
+    if words.get_flag("echo") {
+        let limit = limit_of(words);
+        return working(
+            Work::Echo {
+                limit,
+                coloured,
+                logs,
+            },
+            words,
+        );
+    }
+    if logs {
+        return replaying(Show::OutcomesAndLog, false, words);
+    }
+    replaying(Show::Outcomes, words.get_flag("summary"), words)
+}
+
+// What the words after `live` ask for.
+fn living_asked<'a>(words: &ArgMatches<'a>) -> Work {
+    let sums = words.get_flag("summary");
+    if words.get_flag("certify") {
+        return Work::CertifyLive { sums };
+    }
+    if words.get_flag("history") {
+        return Work::LiveHistory { sums };
+    }
+    if words.get_flag("shared") {
+        return Work::ShareLive;
+    }
+    Work::Live { sums }
+}
+
+// The topic of this name. A word's name and that of what it reads are one topic's.
+fn topic_named(name: &str) -> Topic {
+    match name {
+        "run" => Topic::Run,
+        "trace" => Topic::Trace,
+        "outcomes" => Topic::Outcomes,
+        "log" => Topic::Log,
+        "maps" => Topic::Maps,
+        "faults" => Topic::Faults,
+        "cores" => Topic::Cores,
+        "certify" | "notes" => Topic::Notes,
+        "live" | "threads" => Topic::Threads,
+        "import" => Topic::Import,
+        "audit" => Topic::Audit,
+        "picture" => Topic::Picture,
+        "state" => Topic::State,
+        "page" => Topic::Page,
+        "litmus" => Topic::Litmus,
+        _ => Topic::Overview,
+    }
+}
+
+// The topic of the help that the words name.
+fn topic_of<'a>(words: &ArgMatches<'a>) -> Topic {
+    match words.get_str("TOPIC") {
+        Some(name) => topic_named(name),
+        None => Topic::Overview,
+    }
+}
+
+// What the words behind `audit` ask for of calls that overlap.
+fn overlapping<'a>(words: &ArgMatches<'a>) -> Task<'a> {
+    let given = words.get_str("given");
+    let overlaps = Overlaps {
+        any_place: words.get_flag("any-place"),
+        is_given: given.is_some(),
+        is_wanted: words.get_str("order").is_some(),
+    };
+    Task {
+        work: if words.get_flag("loose") {
+            Work::Loosely(overlaps.any_place)
+        } else if words.get_flag("by-pages") {
+            Work::ByPages(overlaps)
+        } else {
+            Work::Overlapping(overlaps)
+        },
+        file: words.get_str("FILE"),
+        maps: given,
+        order: words.get_str("order"),
+        folder: None,
+        explains: words.get_flag("explain"),
+    }
+}
+
+// By what terms the words have replies judged.
+fn terms_asked<'a>(words: &ArgMatches<'a>) -> Terms {
+    Terms {
+        any_place: words.get_flag("any-place"),
+        is_strict: words.get_flag("strict"),
+    }
+}
+
+// What the words after one of the program's own ask for, or the page of the help.
+fn asked<'a>(name: &str, words: &ArgMatches<'a>, coloured: bool) -> Result<Task<'a>, Topic> {
+    match name {
+        "run" => Ok(running_asked(words, coloured)),
+        "maps" if words.get_flag("names") => {
+            Ok(working(Work::Picture(Drawing::Listing(limit_of(words))), words))
+        }
+        "maps" => Ok(replaying(Show::Maps, false, words)),
+        "state" if words.get_flag("json") => {
+            Ok(working(Work::Picture(Drawing::Objects(words.get_one("at"))), words))
+        }
+        "state" => Ok(working(Work::Picture(Drawing::State(words.get_one("at"))), words)),
+        "page" => Ok(working(Work::Picture(Drawing::Page), words)),
+        "certify" => Ok(working(Work::Certify, words)),
+        "live" => Ok(working(living_asked(words), words)),
+        "import" if words.get_flag("lackey") => Ok(working(Work::ImportAccesses, words)),
+        "import" if words.get_str("all").is_some() => Ok(importing_each(words)),
+        "import" => Ok(importing(words)),
+        "audit" if words.get_flag("overlapping") => Ok(overlapping(words)),
+        "audit" if words.get_flag("all") => {
+            Ok(working(Work::AuditAll(terms_asked(words)), words))
+        }
+        "audit" => Ok(working(Work::Audit(terms_asked(words)), words)),
+        "picture" => Ok(working(Work::Picture(drawing_of(words)), words)),
+        "litmus" => Ok(litmus_asked(words)),
+        _ => Err(topic_of(words)),
+    }
+}
+
+// Adds the names of the files that these words name, where they may be several.
+fn add_names<'a>(
+    name: &str,
+    words: &ArgMatches<'a>,
+    names: &mut Vec<&'a str>,
+) -> Result<(), AllocError> {
+    if name == "import"
+        && let Some(all) = words.get_strs("FILE")
+    {
+        names.extend_from_slice(all)?;
+    }
+    Ok(())
+}
+
+// Parses the words: what they ask for, or the page of the help.
+fn matched<'a, A: Allocator>(
+    alloc: Global,
+    words: &'a [String<A>],
+    coloured: bool,
+    names: &mut Vec<&'a str>,
+) -> Result<Result<Task<'a>, Topic>, Error> {
+    let program = grammar(alloc)?;
+    let matches = program.try_get_matches_from(words)?;
+    match matches.subcommand() {
+        Some((name, words)) => {
+            add_names(name, words, names)?;
+            Ok(asked(name, words, coloured))
+        }
+        None => Ok(Err(Topic::Overview)),
+    }
+}
+
+// The task, if it may read so many files, a picture of steps has one that it may show, and a state is behind a line.
+fn checked<'a>(task: Task<'a>, files: usize) -> Result<Task<'a>, Told> {
+    match task.work {
+        Work::ImportAccesses if files > 1 => Err(Told::ManyFiles),
+        Work::Picture(Drawing::Steps(steps)) if steps.last < steps.first => {
+            Err(Told::NoSteps(steps))
+        }
+        Work::Picture(Drawing::Lines(lines)) if lines.last < lines.first => Err(Told::NoSteps(
+            Steps {
+                first: lines.first,
+                last: lines.last,
+            },
+        )),
+        Work::Picture(Drawing::State(Some(0)) | Drawing::Objects(Some(0))) => Err(Told::NoLine),
+        _ => Ok(task),
+    }
+}
+
+/// Parses the words: what they ask for, or what is printed in its place, and the names of the files of an import. What goes to
+/// standard output may have colours.
+pub fn parse<'a, A: Allocator>(
+    alloc: Global,
+    words: &'a [String<A>],
+    coloured: bool,
+    names: &mut Vec<&'a str>,
+) -> Result<Task<'a>, Told> {
+    match matched(alloc, words, coloured, names) {
+        Ok(Ok(task)) => checked(task, names.len()),
+        Ok(Err(topic)) => Err(Told::Page(topic)),
+        Err(error) => Err(Told::Words(error)),
+    }
+}

@@ -1,0 +1,9 @@
+mod ChangingLemmas
+pub mod Fronts
+mod LiningLemmas
+pub mod NoNotes
+mod PageLemmas
+pub mod PictureLemmas
+mod StateLemmas
+pub mod TracedFronts
+pub mod TracedLines

@@ -1,0 +1,10 @@
+pub mod Changing
+pub mod Lining
+pub mod Listing
+pub mod Lists
+pub mod Notes
+pub mod Picture
+pub mod Reading
+pub mod State
+pub mod Stepping
+pub mod Words

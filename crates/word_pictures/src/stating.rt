@@ -1,0 +1,160 @@
+//! What the word `state` does beside reading: a trace is replayed, and the state at its end is written, or that behind one of its lines.
+ghost use Rattle.std.specs.Prelude.{◌≡◌, ◌≢◌, ◌⊎◌, ◌++◌, Err, IfErr, IfOk, OnOk, true};
+ghost use Rattle.std.specs.Io.KnownBytes.{Keeps};
+ghost use Rattle.word_pictures.specs.Picture.{ShowsText, TextEnds};
+ghost use Rattle.word_pictures.specs.State.{FailsTo, SeesState, counts_form, lacking_state, seen_in, sight_text, told_in};
+ghost use Rattle.state_text.specs.Fronts.{lines_to};
+ghost use Rattle.state_changes.specs.Leads.{IsTold};
+ghost use Rattle.trace_words.specs.declared.fault.TraceFault.TheVariants as Of;
+ghost use Rattle.trace_io.specs.Lines.{lines_of};
+ghost use Rattle.trace_io.specs.Sink.{AppendsFront};
+
+use crate::held::Held;
+use crate::picturing::in_memory;
+use state_text::Form as Counts;
+use state_text::counts::put_counts_at;
+use state_text::objects::put_objects;
+use state_text::fronts::{front_of, lacking_line};
+use state_seen::mirror::Mirror;
+use state_text::texts::put_state;
+use std::alloc::{AllocError, Global};
+use trace_words::fault::TraceFault;
+use trace::standing::replay_standing;
+use trace_io::sink::{Sink, write_all};
+use trace_io::source::Counted;
+
+/// The form in which a state is written.
+#[derive(Clone, Copy)]
+pub enum Form {
+    /// Lines of words.
+    Text,
+    /// JSON, an object a line.
+    Objects,
+}
+
+/// What is seen at the end of a trace.
+#[derive(Drop)]
+pub(crate) struct Sight {
+    /// What its cores do and hold.
+    pub(crate) mirror: Mirror<Global>,
+    /// Its mappings, as text.
+    pub(crate) maps: Vec<u8>,
+    /// Its counts, as text.
+    pub(crate) counts: Vec<u8>,
+}
+
+// The same form of counts.
+fn counts_form(form: Form) -> Counts
+    ensures { result ≡ counts_form form }
+{
+    match form {
+        Form::Text => Counts::Text,
+        Form::Objects => Counts::Json,
+    }
+}
+
+// What the mirror saw, and these mappings, in this form.
+fn put_seen(
+    out: &mut Vec<u8>,
+    mirror: &Mirror<Global>,
+    maps: &[u8],
+    form: Form,
+) -> Result<(), AllocError>
+    ensures { OnOk result (out.new.items ≡ out.old.items ++ seen_in form maps.now mirror.now) }
+{
+    match form {
+        Form::Text => put_state(out, mirror, maps),
+        Form::Objects => put_objects(out, mirror, maps),
+    }
+}
+
+// All that was seen.
+fn put_sight(out: &mut Vec<u8>, sight: &Sight, form: Form) -> Result<(), AllocError>
+    ensures { OnOk result (out.new.items ≡ out.old.items ++ sight_text form sight.now) }
+{
+    put_seen(out, &sight.mirror, sight.maps.as_slice(), form)?;
+    out.extend_from_slice(sight.counts.as_slice())
+}
+
+// Replays the trace beside the mirror, and lists the mappings and the counts at its end.
+fn see(alloc: Global, trace: &[u8], mirror: Mirror<Global>, form: Form) -> Result<Sight, TraceFault>
+    ensures ends { SeesState form mirror trace.now result }
+    ensures read { result ≢ Err Of.ReadFailed }
+    ensures unwritten { result ≢ Err Of.WriteFailed }
+{
+    let mut reader = Counted::new(trace);
+    let bytes = Vec::new(alloc);
+    let mut held = Held::new(bytes);
+    let stood = replay_standing(alloc, &mut reader, &mut held, mirror);
+    if let Err(fault) = stood.ended {
+        return Err(in_memory(fault));
+    }
+    let mut counts = Vec::new(alloc);
+    if put_counts_at(&mut counts, counts_form(form), &stood.machine).is_err() {
+        return Err(TraceFault::NoMemory);
+    }
+    Ok(Sight {
+        mirror: stood.watch,
+        maps: held.bytes,
+        counts,
+    })
+}
+
+// Writes what was seen, where all of it was, and no line is lacking.
+fn write_seen<W: Sink>(
+    alloc: Global,
+    sight: &Sight,
+    form: Form,
+    lacking: Option<u64>,
+    out: &mut W,
+) -> Result<Option<u64>, TraceFault>
+    ensures ok { IfOk result (λ x. (sight.now.mirror.whole ≡ true) × (x ≡ lacking)
+        × ShowsText x (sight_text form sight.now) (W.contents out.old) (W.contents out.new)) }
+    ensures err { IfErr result (λ f. ((f ≡ Of.NoMemory) × Keeps (W.contents out.old) (W.contents out.new))
+        ⊎ ((f ≡ Of.WriteFailed) × (sight.now.mirror.whole ≡ true)
+        × AppendsFront (W.contents out.old) (W.contents out.new) (sight_text form sight.now))) }
+    ensures read { result ≢ Err Of.ReadFailed }
+    ensures write { result ≡ Err Of.WriteFailed → W.failed out.new ≡ true }
+    ensures kept { (result ≡ Err Of.WriteFailed) ⊎ (W.failed out.new ≡ W.failed out.old) }
+{
+    if !sight.mirror.is_whole() {
+        return Err(TraceFault::NoMemory);
+    }
+    if let Some(lines) = lacking {
+        return Ok(Some(lines));
+    }
+    let mut text = Vec::new(alloc);
+    if put_sight(&mut text, sight, form).is_err() {
+        return Err(TraceFault::NoMemory);
+    }
+    if write_all(out, text.as_slice()).is_err() {
+        return Err(TraceFault::WriteFailed);
+    }
+    Ok(None)
+}
+
+/// Replays the trace up to this line, or to its end, and writes the state there in this form; or tells how many lines there are, where that one is
+/// behind them all. What stands behind the line isn't looked at.
+pub(crate) fn draw_state<W: Sink>(
+    alloc: Global,
+    trace: &[u8],
+    out: &mut W,
+    at: Option<u64>,
+    form: Form,
+) -> Result<Option<u64>, TraceFault>
+    ensures ends { TextEnds (IsTold (lines_to at (lines_of trace.now))) (FailsTo at trace.now)
+        (lacking_state at (lines_of trace.now)) (told_in form) (W.contents out.old) (W.contents out.new) result }
+    ensures read { result ≢ Err Of.ReadFailed }
+    ensures write { result ≡ Err Of.WriteFailed → W.failed out.new ≡ true }
+    ensures kept { (result ≡ Err Of.WriteFailed) ⊎ (W.failed out.new ≡ W.failed out.old) }
+{
+    let Ok(mirror) = Mirror::new(alloc) else {
+        return Err(TraceFault::NoMemory);
+    };
+    let front = front_of(trace, at);
+    let lacking = lacking_line(trace, at);
+    match see(alloc, front, mirror, form) {
+        Ok(sight) => write_seen(alloc, &sight, form, lacking, out),
+        Err(fault) => Err(fault),
+    }
+}

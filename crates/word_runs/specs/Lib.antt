@@ -1,0 +1,4 @@
+pub mod Litmus
+pub mod Status
+pub mod Witness
+pub mod Words
