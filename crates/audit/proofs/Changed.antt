@@ -1,6 +1,6 @@
 -- The plain page map that is kept, once pages were changed
 use Rattle.slot_lock.proofs.Words.{◌≡◌, ℕ, ◌-◌, Bool, true, false, List, Option, Some, None, is_some, refl, ◌∙◌, ap, fun_ext, Back, Anon, Shared, Private}
-use Rattle.slot_lock.proofs.Words.{Meta, PageInfo, PageRange, Mode, Prot, has, advance, advance_back, frame_of, info_with_prot, unused, Bytes, Entry, File}
+use Rattle.slot_lock.proofs.Words.{Meta, PageInfo, PageRange, Mode, Prot, has, advance, advance_back, frame_of, info_with_prot, unused, Bytes, PageEntry, File}
 use Rattle.slot_lock.proofs.Words.{Plain, is_mapped, mode_of}
 use Rattle.std.specs.Prelude.{cond}
 use Rattle.vm_base.specs.Plain.{nothing_mapped}
@@ -52,7 +52,7 @@ mapped_kept s o f = fun_ext (λ p. same (s.info p))
 abbrev state : (ℕ → Bytes) → (ℕ → Option PageInfo) → List FileParts → Plain
 state b info o = record { entry = λ p. entry_kept b (info p); file = λ n. file_kept b (cached_in o n) (files_of o n) }
 
-abbrev to_plain : (ℕ → Option File) → (ℕ → Option Entry) → Plain
+abbrev to_plain : (ℕ → Option File) → (ℕ → Option PageEntry) → Plain
 to_plain file entry = record { entry = entry; file = file }
 
 own_first : (b : ℕ → Bytes) (back : Back) → own_kept b back None ≡ first_own back

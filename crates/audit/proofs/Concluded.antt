@@ -24,8 +24,8 @@ use Rattle.vm_calls.specs.Checks.{checked}
 use Rattle.vm_calls.specs.Decisions.{Decides, entries}
 use Rattle.vm_calls.specs.Plainly.{answer_to, left_by}
 use Rattle.vm_calls.proofs.Plainly.{plain}
-use Rattle.audit.specs.declared.judging.Verdict.{Verdict}
-use Rattle.audit.specs.declared.judging.Verdict.TheVariants.{Legal, Illegal}
+use Rattle.audit.specs.declared.judging.ReplyVerdict.{ReplyVerdict}
+use Rattle.audit.specs.declared.judging.ReplyVerdict.TheVariants.{Legal, Illegal}
 use Rattle.audit.specs.Judging.{Compares, GivesPlan, Judges, JudgesPlan, after_copy, stored, touched_after}
 use Rattle.audit.specs.Keeping.{Keeps, entry_kept, files_kept, own_kept, plain_kept}
 use Rattle.audit.specs.Storing.{HasBytes}
@@ -47,7 +47,7 @@ checked_files s o f c request r is = subst (λ (m : ℕ → Option Mode). checke
 
 -- ---- changes
 
-pub refuse_judged : (s : Slots) (o : List FileParts) (f : FrameParts) (change : Change) (reply : Reply) (e : Errno) (verdict : Verdict)
+pub refuse_judged : (s : Slots) (o : List FileParts) (f : FrameParts) (change : Change) (reply : Reply) (e : Errno) (verdict : ReplyVerdict)
     → Decides (files_of o) s (To.Change change) (Refuse e) → Compares reply (Refused e) verdict
     → (any : Bool) → JudgesPlan any (plain_kept s o f) (PlanOf.Change change) reply verdict (plain_kept s o f)
 refuse_judged s o f change reply e verdict d compares any c request few is =
@@ -89,7 +89,7 @@ act_legal s t o f g change reply due range shoot d same is_due replied info byte
 
 -- ---- accesses
 
-pub touch_judged : (any : Bool) (t : Plain) (touch : Touch) (reply due : Reply) (verdict : Verdict) (u : Plain)
+pub touch_judged : (any : Bool) (t : Plain) (touch : Touch) (reply due : Reply) (verdict : ReplyVerdict) (u : Plain)
     → due ≡ after_copy (entry_reply t.file (t.entry touch.page) touch.access touch.offset) → Compares reply due verdict
     → (reply ≡ due → u ≡ touched_after t touch due) → (reply ≢ due → u ≡ t) → JudgesPlan any t (PlanOf.Touch touch) reply verdict u
 touch_judged any t touch reply due Legal u is_due same legal illegal c request few is =
@@ -103,7 +103,7 @@ touch_judged any t touch reply due (Illegal first) u is_due e legal illegal c re
     (one_touched t (λ n. mode_of (t.file n)) c request touch due is is_due)))
 
 -- a page that isn't mapped
-pub unmapped_judged : (any : Bool) (s : Slots) (o : List FileParts) (f : FrameParts) (touch : Touch) (reply : Reply) (verdict : Verdict)
+pub unmapped_judged : (any : Bool) (s : Slots) (o : List FileParts) (f : FrameParts) (touch : Touch) (reply : Reply) (verdict : ReplyVerdict)
     → s.info touch.page ≡ None → Compares reply (Segv MapErr) verdict
     → JudgesPlan any (plain_kept s o f) (PlanOf.Touch touch) reply verdict (plain_kept s o f)
 unmapped_judged any s o f touch reply verdict none compares =
@@ -240,7 +240,7 @@ place_given any s o f place reply first said h c request few is =
 
 -- ---- what the arguments refuse
 
-pub refused_judged : (any : Bool) (s : Slots) (o : List FileParts) (f : FrameParts) (c : ℕ) (request : Request) (reply due : Reply) (verdict : Verdict)
+pub refused_judged : (any : Bool) (s : Slots) (o : List FileParts) (f : FrameParts) (c : ℕ) (request : Request) (reply due : Reply) (verdict : ReplyVerdict)
     → checked (λ n. mode_of (files_of o n)) c request ≡ Err due → Applies IsPlace (plain_kept s o f) c request due (plain_kept s o f)
     → Compares reply due verdict → Judges (rule_of any) (plain_kept s o f) c request reply verdict (plain_kept s o f)
 refused_judged any s o f c request reply due verdict is applies compares =

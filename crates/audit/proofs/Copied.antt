@@ -1,6 +1,6 @@
 -- A copy that was made is the plain map's
 use Rattle.slot_lock.proofs.Words.{◌≡◌, ℕ, Bool, arith, not, true, false, List, Option, Some, None, is_some, refl, sym, ◌∙◌, ap, subst, Back, Anon, Shared, Private}
-use Rattle.slot_lock.proofs.Words.{PageInfo, Bytes, Entry, Plain, bytes_of, Store, put}
+use Rattle.slot_lock.proofs.Words.{PageInfo, Bytes, PageEntry, Plain, bytes_of, Store, put}
 use Rattle.std.specs.Prelude.{◌&&◌}
 use Rattle.std.proofs.lemmas.Bool.Decides.{nat_tests}
 use Rattle.vm_base.specs.Rights.{is_allowed}
@@ -18,7 +18,7 @@ use Rattle.audit.specs.Storing.{GetsFrame, is_shared_back}
 use Rattle.audit.proofs.Stored.{gets, not_copied}
 
 -- a copy that is due is made
-pub due_made : (t : Plain) (page : ℕ) (e : Entry) → t.entry page ≡ Some e → is_copy_due t.file (Some e) ≡ true → Copies t page (copied_first t page)
+pub due_made : (t : Plain) (page : ℕ) (e : PageEntry) → t.entry page ≡ Some e → is_copy_due t.file (Some e) ≡ true → Copies t page (copied_first t page)
 due_made t page e at due = go (is_allowed e.prot Store) refl (is_uncopied e.back e.own) refl (bytes_of t.file e.back e.own) refl due
   where
     go : (a : Bool) → is_allowed e.prot Store ≡ a → (c : Bool) → is_uncopied e.back e.own ≡ c → (b : Option Bytes)
@@ -29,14 +29,14 @@ due_made t page e at due = go (is_allowed e.prot Store) refl (is_uncopied e.back
     go true ia true ic (Some v) ib h =
         let made : detached t page ≡ Some (record t { entry = put t.entry page (Some (record e { own = Some v })) }) =
         ap (detached_entry t page) at ∙ (ap (λ (c : Bool). copied t page e c (bytes_of t.file e.back e.own)) ic ∙ ap (copied t page e true) ib) in
-        (subst (λ (o : Option Entry). CanAccess t.file o Store) (sym at) (ia, ap is_some ib), made ∙ ap Some (sym (ap (or_else t) made)))
+        (subst (λ (o : Option PageEntry). CanAccess t.file o Store) (sym at) (ia, ap is_some ib), made ∙ ap Some (sym (ap (or_else t) made)))
 
 -- and one that isn't, isn't
-pub not_due : (t : Plain) (page : ℕ) (o : Option Entry) → t.entry page ≡ o → is_copy_due t.file o ≡ false → (u : Plain) → ¬ Copies t page u
-not_due t page None at h u c = subst (λ (o : Option Entry). CanAccess t.file o Store) at c.0
+pub not_due : (t : Plain) (page : ℕ) (o : Option PageEntry) → t.entry page ≡ o → is_copy_due t.file o ≡ false → (u : Plain) → ¬ Copies t page u
+not_due t page None at h u c = subst (λ (o : Option PageEntry). CanAccess t.file o Store) at c.0
 not_due t page (Some e) at h u c =
     let can : (is_allowed e.prot Store ≡ true) × (is_some (bytes_of t.file e.back e.own) ≡ true) =
-    subst (λ (o : Option Entry). CanAccess t.file o Store) at c.0 in
+    subst (λ (o : Option PageEntry). CanAccess t.file o Store) at c.0 in
     go (is_allowed e.prot Store) refl (is_uncopied e.back e.own) refl (is_some (bytes_of t.file e.back e.own)) refl can.0 can.1
     (sym (ap (detached_entry t page) at) ∙ c.1) h
   where
@@ -56,7 +56,7 @@ pub due_kept_made : (s : Slots) (o : List FileParts) (f : FrameParts) (page : �
     → Copies (plain_kept s o f) page (copied_first (plain_kept s o f) page)
 due_kept_made s o f page info due at is so = go (entry_kept (frame_bytes f) (Some info)) refl
   where
-    go : (e : Option Entry) → entry_kept (frame_bytes f) (Some info) ≡ e → Copies (plain_kept s o f) page (copied_first (plain_kept s o f) page)
+    go : (e : Option PageEntry) → entry_kept (frame_bytes f) (Some info) ≡ e → Copies (plain_kept s o f) page (copied_first (plain_kept s o f) page)
     go None h = absurd cc
     go (Some e) h = due_made (plain_kept s o f) page e (ap (entry_kept (frame_bytes f)) at ∙ h)
         (sym (ap (is_copy_due (plain_kept s o f).file) h) ∙ (sym is ∙ so))

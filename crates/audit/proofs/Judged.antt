@@ -1,7 +1,7 @@
 -- What is judged of a request, by what its plan is
 use Rattle.slot_lock.proofs.Words.{◌≡◌, ◌≢◌, ℕ, ◌<◌, ◌⊎◌, inl, inr, not, Bool, true, false, Option, Some, None, Result, Ok, Err, refl, sym, ◌∙◌, ap, subst}
 use Rattle.slot_lock.proofs.Words.{if◌then◌else◌, fun_ext, Back, Meta, Access, Mode, Prot, Flags, Request, Mmap, Munmap, Mprotect, Reply, Mapped, Done, Byte}
-use Rattle.slot_lock.proofs.Words.{Refused, Segv, Bus, NoFrame, NoMemory, MapErr, is_page, page_of, page_count, pages_from, pages_of, window_of, Bytes, Entry}
+use Rattle.slot_lock.proofs.Words.{Refused, Segv, Bus, NoFrame, NoMemory, MapErr, is_page, page_of, page_count, pages_from, pages_of, window_of, Bytes, PageEntry}
 use Rattle.slot_lock.proofs.Words.{File, Plain, bytes_of, is_mapped, mode_of, refusal, AppliesAfter, Applies, put, entry_reply, meta_of, Answers, put_same}
 use Rattle.std.specs.Prelude.{cond}
 use Rattle.vm_base.specs.declared.rights.Access.TheVariants as By
@@ -26,8 +26,8 @@ use Rattle.slot_lock.specs.declared.plan.Plan.{Plan}
 use Rattle.slot_lock.specs.declared.plan.Plan.TheVariants as PlanOf
 use Rattle.vm_calls.specs.Checks.{HasModes, checked, place_of, plan_of, touch_of, touched, unless_refused}
 use Rattle.vm_calls.proofs.Passed.{passed, touch-of}
-use Rattle.audit.specs.declared.judging.Verdict.{Verdict}
-use Rattle.audit.specs.declared.judging.Verdict.TheVariants.{Legal, Illegal}
+use Rattle.audit.specs.declared.judging.ReplyVerdict.{ReplyVerdict}
+use Rattle.audit.specs.declared.judging.ReplyVerdict.TheVariants.{Legal, Illegal}
 use Rattle.audit.specs.Judging.{Compares, Judges, JudgesPlan, after_copy, copied_first, stored, touched_after}
 use Rattle.audit.specs.Placing.{IsAllowed, IsFirst, place_said, reply_at, rule_of}
 use Rattle.audit.proofs.Placed.{all_placed, allowed_of_rule, reply_said, rule_of_allowed}
@@ -67,10 +67,10 @@ store_done t x addr is h = at (t.entry page) refl is
     page : ℕ
     page = page_of addr
 
-    reply_of : (ℕ → Option File) → Option Entry → Option Reply
+    reply_of : (ℕ → Option File) → Option PageEntry → Option Reply
     reply_of files o = entry_reply files o By.Store (offset_of addr)
 
-    tests : (en : Entry) (b : Bytes) → is_uncopied en.back en.own ≡ true → bytes_of t.file en.back en.own ≡ Some b → t.entry page ≡ Some en
+    tests : (en : PageEntry) (b : Bytes) → is_uncopied en.back en.own ≡ true → bytes_of t.file en.back en.own ≡ Some b → t.entry page ≡ Some en
         → access_reply (record t { entry = put t.entry page (Some (record en { own = Some b })) }) addr By.Store ≡ Some Done
         → (v w : Bool) → is_page page ≡ v → is_allowed en.prot By.Store ≡ w → Done ≡ after_copy (access_reply t addr By.Store)
     tests en b ek eb eo h' false w ev ew =
@@ -91,7 +91,7 @@ store_done t x addr is h = at (t.entry page) refl is
         ∙ (ap (λ (k : Bool). bytes_reply k (bytes_of t.file en.back en.own) By.Store (offset_of addr)) ek
         ∙ ap (λ (o : Option Bytes). bytes_reply true o By.Store (offset_of addr)) eb)))))
 
-    copy : (en : Entry) (k : Bool) (b : Option Bytes) → is_uncopied en.back en.own ≡ k → bytes_of t.file en.back en.own ≡ b → t.entry page ≡ Some en
+    copy : (en : PageEntry) (k : Bool) (b : Option Bytes) → is_uncopied en.back en.own ≡ k → bytes_of t.file en.back en.own ≡ b → t.entry page ≡ Some en
         → copied t page en k b ≡ Some x → Done ≡ after_copy (access_reply t addr By.Store)
     copy en false None ek eb eo is' = absurd cc
     copy en false (Some b) ek eb eo is' = absurd cc
@@ -100,7 +100,7 @@ store_done t x addr is h = at (t.entry page) refl is
         let now : x ≡ record t { entry = put t.entry page (Some (record en { own = Some b })) } = cc in
         tests en b ek eb eo (subst (λ z. access_reply z addr By.Store ≡ Some Done) now h) (is_page page) (is_allowed en.prot By.Store) refl refl
 
-    at : (o : Option Entry) → t.entry page ≡ o → detached_entry t page o ≡ Some x → Done ≡ after_copy (access_reply t addr By.Store)
+    at : (o : Option PageEntry) → t.entry page ≡ o → detached_entry t page o ≡ Some x → Done ≡ after_copy (access_reply t addr By.Store)
     at None eo is' = absurd cc
     at (Some en) eo is' = copy en (is_uncopied en.back en.own) (bytes_of t.file en.back en.own) refl refl eo is'
 
@@ -175,7 +175,7 @@ judged_illegal any t c request reply due u ne h =
     )
 
 -- where nothing changes
-pub judged_compared : (any : Bool) (t : Plain) (c : ℕ) (request : Request) (reply due : Reply) (verdict : Verdict) → Compares reply due verdict
+pub judged_compared : (any : Bool) (t : Plain) (c : ℕ) (request : Request) (reply due : Reply) (verdict : ReplyVerdict) → Compares reply due verdict
     → HasOneAnswer t c request due t → Judges (rule_of any) t c request reply verdict t
 judged_compared any t c request reply due Legal same h = judged_legal any t c request reply due t same h
 judged_compared any t c request reply due (Illegal first) e h =
@@ -339,7 +339,7 @@ read_reply t addr byte a y read valid is = page (is_page (page_of addr)) valid r
         → (access_reply t addr a ≡ Some y) × (touched_after t (touch_of addr a byte) y ≡ accessed t addr byte y)
     by z e ne = let same : y ≡ z = is ∙ ap after_copy e in (e ∙ ap Some (sym same), keeps y (λ d. ne (sym same ∙ d)))
 
-    bytes : (en : Entry) (k : Bool) (b : Option Bytes) → k ≡ false → access_reply t addr a ≡ bytes_reply k b a (offset_of addr)
+    bytes : (en : PageEntry) (k : Bool) (b : Option Bytes) → k ≡ false → access_reply t addr a ≡ bytes_reply k b a (offset_of addr)
         → (access_reply t addr a ≡ Some y) × (touched_after t (touch_of addr a byte) y ≡ accessed t addr byte y)
     bytes en true b e h = absurd cc
     bytes en false None e h = by Bus h (λ d. absurd cc)
@@ -355,13 +355,13 @@ read_reply t addr byte a y read valid is = page (is_page (page_of addr)) valid r
     never By.Fetch ne back own = refl
     never By.Store ne back own = absurd (ne refl)
 
-    allowed : (en : Entry) (w : Bool) → is_allowed en.prot a ≡ w
+    allowed : (en : PageEntry) (w : Bool) → is_allowed en.prot a ≡ w
         → access_reply t addr a ≡ cond w (bytes_reply (needs_copy a en.back en.own) (bytes_of t.file en.back en.own) a (offset_of addr)) (Some (Segv AccErr))
         → (access_reply t addr a ≡ Some y) × (touched_after t (touch_of addr a byte) y ≡ accessed t addr byte y)
     allowed en false ew h = by (Segv AccErr) h (λ d. absurd cc)
     allowed en true ew h = bytes en (needs_copy a en.back en.own) (bytes_of t.file en.back en.own) (never a read en.back en.own) h
 
-    entry : (o : Option Entry) → access_reply t addr a ≡ entry_reply t.file o a (offset_of addr)
+    entry : (o : Option PageEntry) → access_reply t addr a ≡ entry_reply t.file o a (offset_of addr)
         → (access_reply t addr a ≡ Some y) × (touched_after t (touch_of addr a byte) y ≡ accessed t addr byte y)
     entry None h = by (Segv MapErr) h (λ d. absurd cc)
     entry (Some en) h = allowed en (is_allowed en.prot a) refl h

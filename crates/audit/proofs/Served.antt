@@ -1,5 +1,5 @@
 -- The test whether an access would be served
-use Rattle.slot_lock.proofs.Words.{◌≡◌, ◌↔◌, ℕ, Bool, true, false, Option, Some, None, is_some, refl, sym, ◌∙◌, ap, PageInfo, Bytes, Entry, File, Plain, bytes_of, Request, Mmap, Munmap}
+use Rattle.slot_lock.proofs.Words.{◌≡◌, ◌↔◌, ℕ, Bool, true, false, Option, Some, None, is_some, refl, sym, ◌∙◌, ap, PageInfo, Bytes, PageEntry, File, Plain, bytes_of, Request, Mmap, Munmap}
 use Rattle.slot_lock.proofs.Words.{Mprotect, Access, Load, Store, Fetch}
 use Rattle.std.specs.Prelude.{◌&&◌}
 use Rattle.vm_base.specs.declared.requests.Request.TheVariants.{Load as LoadOf, Store as StoreOf, Fetch as FetchOf}
@@ -11,7 +11,7 @@ use Rattle.audit.specs.Keeping.{entry_kept}
 use Rattle.audit.specs.Serving.{can_access, is_served}
 use Rattle.audit.proofs.Copied.{valid_test}
 
-can : (files : ℕ → Option File) (e : Option Entry) (a : Access) → (can_access files e a ≡ true) ↔ CanAccess files e a
+can : (files : ℕ → Option File) (e : Option PageEntry) (a : Access) → (can_access files e a ≡ true) ↔ CanAccess files e a
 can files None a = ((λ h. absurd cc), (λ h. absurd h))
 can files (Some e) a = (there (is_allowed e.prot a) (is_some (bytes_of files e.back e.own)), back (is_allowed e.prot a) (is_some (bytes_of files e.back e.own)))
   where

@@ -1,6 +1,6 @@
 -- The plain page map that is kept, once a byte was stored
 use Rattle.slot_lock.proofs.Words.{◌≡◌, ◌≢◌, ℕ, ◌<◌, ◌⊎◌, inl, inr, Bool, true, false, List, Option, Some, None, Result, Ok, Err, OnOk, is_some, refl, sym, ◌∙◌, ap, subst}
-use Rattle.slot_lock.proofs.Words.{if◌then◌else◌, IfSome, fun_ext, Back, Anon, Shared, Private, PageInfo, Mode, Prot, put, frame_of, Bytes, Entry, File}
+use Rattle.slot_lock.proofs.Words.{if◌then◌else◌, IfSome, fun_ext, Back, Anon, Shared, Private, PageInfo, Mode, Prot, put, frame_of, Bytes, PageEntry, File}
 use Rattle.slot_lock.proofs.Words.{Plain, bytes_of, eq_true, eq_false, put_same, put_other}
 use Rattle.std.specs.Prelude.{OnErr, cond, ◌==◌, nat_lt}
 use Rattle.vm_base.specs.Plain.{bytes_in, file_bytes, zeros}
@@ -28,7 +28,7 @@ own_apart b x v (Shared file page) f h = refl
 own_apart b x v (Private file page) None h = refl
 own_apart b x v (Private file page) (Some y) h = ap Some (put_other b x v y (λ e. h (ap Some e)))
 
-abbrev entry_with : Back → Prot → Option Bytes → Option Entry
+abbrev entry_with : Back → Prot → Option Bytes → Option PageEntry
 entry_with back prot own = Some (record { back = back; prot = prot; own = own })
 
 entry_apart : (b : ℕ → Bytes) (x : ℕ) (v : Bytes) (i : Option PageInfo) → (frame_of i ≡ Some x → ⊥) → entry_kept (put b x v) i ≡ entry_kept b i
@@ -48,10 +48,10 @@ file_apart b x v c None h = refl
 file_apart b x v c (Some f) h = ap (file_with f.mode f.count) (fun_ext (λ k. page_apart b x v (f.bytes k) (c k) (h k)))
 
 -- a plain map, by its parts
-abbrev to_plain : (ℕ → Option Entry) → (ℕ → Option File) → Plain
+abbrev to_plain : (ℕ → Option PageEntry) → (ℕ → Option File) → Plain
 to_plain entry file = record { entry = entry; file = file }
 
-both : (e d : ℕ → Option Entry) (f g : ℕ → Option File) → ((p : ℕ) → e p ≡ d p) → ((n : ℕ) → f n ≡ g n) → to_plain e f ≡ to_plain d g
+both : (e d : ℕ → Option PageEntry) (f g : ℕ → Option File) → ((p : ℕ) → e p ≡ d p) → ((n : ℕ) → f n ≡ g n) → to_plain e f ≡ to_plain d g
 both e d f g h k = ap (λ x. to_plain x f) (fun_ext h) ∙ ap (to_plain d) (fun_ext k)
 
 -- a frame that was free is nobody's
@@ -236,7 +236,7 @@ pub record Owned (s t : Slots) (o : List FileParts) (old new : FrameParts) (page
   pub kept : Keeps t (cached_in o) new
   pub at : t.info page ≡ Some (record info { frame = Some x })
 
-pub not_copied : (t : Plain) (page : ℕ) (e : Entry) (c : Bool) (b : Option Bytes) → c ≡ false → copied t page e c b ≡ None
+pub not_copied : (t : Plain) (page : ℕ) (e : PageEntry) (c : Bool) (b : Option Bytes) → c ≡ false → copied t page e c b ≡ None
 not_copied t page e true b h = absurd cc
 not_copied t page e false None h = refl
 not_copied t page e false (Some b) h = refl
@@ -245,7 +245,7 @@ not_copied t page e false (Some b) h = refl
 no_copy : (t : Plain) (b : ℕ → Bytes) (page x : ℕ) (info : PageInfo) → info.frame ≡ Some x → is_shared_back info.meta.back ≡ false
     → t.entry page ≡ entry_kept b (Some info) → copied_first t page ≡ t
 no_copy t b page x info e own at =
-    ap (λ (d : Option Plain). or_else t d) (ap (λ (y : Option Entry). detached_entry t page y) at
+    ap (λ (d : Option Plain). or_else t d) (ap (λ (y : Option PageEntry). detached_entry t page y) at
     ∙ not_copied t page (record { back = info.meta.back; prot = info.meta.prot; own = own_kept b info.meta.back info.frame })
     (is_uncopied info.meta.back (own_kept b info.meta.back info.frame)) (bytes_of t.file info.meta.back (own_kept b info.meta.back info.frame))
     (uncopied info.meta.back info.frame e own))
@@ -286,10 +286,10 @@ took_own s t o old mid page info x v at own k e shown takes now = record {
     was = plain_kept s o old
 
     -- the entries with this one at the page
-    entries_with : Option Entry → ℕ → Option Entry
+    entries_with : Option PageEntry → ℕ → Option PageEntry
     entries_with y = put was.entry page y
 
-    new_entry : Option Entry
+    new_entry : Option PageEntry
     new_entry = entry_with info.meta.back info.meta.prot (Some v)
 
     new_own : (back : Back) → is_shared_back back ≡ false → own_kept (put (frame_bytes old) x v) back (Some x) ≡ Some v
@@ -309,7 +309,7 @@ took_own s t o old mid page info x v at own k e shown takes now = record {
 
     -- the copy, where one is due; an anonymous page has its zeros already
     anonymous : info.meta.back ≡ Anon → zeros ≡ v → to_plain (entries_with new_entry) was.file ≡ was
-    anonymous is z = ap (λ (f : ℕ → Option Entry). to_plain f was.file) (fun_ext (λ p. by p (p == page) refl))
+    anonymous is z = ap (λ (f : ℕ → Option PageEntry). to_plain f was.file) (fun_ext (λ p. by p (p == page) refl))
       where
         by : (p : ℕ) (b : Bool) → (p == page) ≡ b → cond b new_entry (was.entry p) ≡ was.entry p
         by p true h = subst (λ q. new_entry ≡ was.entry q) (sym (eq_true p page h))
@@ -324,12 +324,12 @@ took_own s t o old mid page info x v at own k e shown takes now = record {
         no_due is ∙ sym (anonymous is z)
       where
         no_due : info.meta.back ≡ Anon → copied_first was page ≡ was
-        no_due is' = ap (λ (d : Option Plain). or_else was d) (ap (λ (y : Option Entry). detached_entry was page y)
+        no_due is' = ap (λ (d : Option Plain). or_else was d) (ap (λ (y : Option PageEntry). detached_entry was page y)
             (was_at ∙ ap (λ back. entry_with info.meta.back info.meta.prot (own_kept (frame_bytes old) back None)) is')
             ∙ ap (λ back. copied was page (record { back = info.meta.back; prot = info.meta.prot; own = Some zeros }) (is_uncopied back (Some zeros))
             (bytes_of was.file info.meta.back (Some zeros))) is')
     copied_at (Shared n j) h b is = absurd cc
-    copied_at (Private n j) h b is = ap (λ (d : Option Plain). or_else was d) (ap (λ (y : Option Entry). detached_entry was page y)
+    copied_at (Private n j) h b is = ap (λ (d : Option Plain). or_else was d) (ap (λ (y : Option PageEntry). detached_entry was page y)
         (was_at ∙ ap (λ back. entry_with info.meta.back info.meta.prot (own_kept (frame_bytes old) back None)) is)
         ∙ (ap (λ back. copied was page (record { back = info.meta.back; prot = info.meta.prot; own = None }) (is_uncopied back None)
         (bytes_of was.file back None)) is
@@ -375,7 +375,7 @@ store_to_frame t o old new page x i byte info k at has own bytes =
     (λ p. ap (λ (b : ℕ → Bytes). entry_kept b (t.info p)) bytes ∙ entry p (p == page) refl)
     (λ m. ap (λ (b : ℕ → Bytes). file_kept b (cached_in o m) (files_of o m)) bytes
     ∙ file_apart (frame_bytes old) x v (cached_in o m) (files_of o m) (file_not m))
-    ∙ sym (ap (λ (y : Option Entry). stored_entry was page y i byte) was_at)
+    ∙ sym (ap (λ (y : Option PageEntry). stored_entry was page y i byte) was_at)
   where
     v : Bytes
     v = put (frame_bytes old x) i byte
@@ -439,7 +439,7 @@ shared_stored s o f info touch n k at is =
         ∙ ap (λ back. entry_with back info.meta.prot (own_kept (frame_bytes f) back info.frame)) is
 
     none : copied_first was touch.page ≡ was
-    none = ap (λ (d : Option Plain). or_else was d) (ap (λ (y : Option Entry). detached_entry was touch.page y) was_at
+    none = ap (λ (d : Option Plain). or_else was d) (ap (λ (y : Option PageEntry). detached_entry was touch.page y) was_at
         ∙ not_copied was touch.page (record { back = Shared n k; prot = info.meta.prot; own = None }) false (bytes_of was.file (Shared n k) None) refl)
 
 -- the frame is there

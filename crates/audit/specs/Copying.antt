@@ -2,7 +2,7 @@
 use Rattle.std.specs.Prelude.{◌≡◌, ℕ, ◌&&◌, Bool, false, Option, None, Some, is_some}
 use Rattle.vm_base.specs.declared.rights.Access.TheVariants.{Store}
 use Rattle.vm_base.specs.Rights.{is_allowed}
-use Rattle.vm_base.specs.Plain.{Entry, File, Plain, bytes_of}
+use Rattle.vm_base.specs.Plain.{PageEntry, File, Plain, bytes_of}
 use Rattle.vm_base.specs.Apply.{detached, is_uncopied}
 use Rattle.vm_base.specs.Log.{CanAccess}
 
@@ -12,6 +12,6 @@ abbrev pub Copies : Plain → ℕ → Plain → Type 0
 Copies t page u = CanAccess t.file (t.entry page) Store × (detached t page ≡ Some u)
 
 -- the same as a test of what the page has
-abbrev pub is_copy_due : (ℕ → Option File) → Option Entry → Bool
+abbrev pub is_copy_due : (ℕ → Option File) → Option PageEntry → Bool
 is_copy_due files None = false
 is_copy_due files (Some e) = is_allowed e.prot Store && is_uncopied e.back e.own && is_some (bytes_of files e.back e.own)

@@ -14,12 +14,12 @@ use Rattle.vm_calls.specs.Checks.{checked}
 use Rattle.audit.specs.Placing.{rule_of}
 use Rattle.audit.specs.declared.auditor.Call.{Call}
 use Rattle.audit.specs.declared.auditor.Wrong.{Wrong}
-use Rattle.audit.specs.declared.judging.Verdict.{Verdict}
-use Rattle.audit.specs.declared.judging.Verdict.TheVariants.{Legal, Illegal}
+use Rattle.audit.specs.declared.judging.ReplyVerdict.{ReplyVerdict}
+use Rattle.audit.specs.declared.judging.ReplyVerdict.TheVariants.{Legal, Illegal}
 
 -- A reply is legal where it is the plain map's, and then u is what it leaves. Else no plain map has that
 -- reply, the first one is told in its place, and u is the map as it was.
-abbrev pub Judges : PlaceRule → Plain → ℕ → Request → Reply → Verdict → Plain → Type 0
+abbrev pub Judges : PlaceRule → Plain → ℕ → Request → Reply → ReplyVerdict → Plain → Type 0
 Judges rule t core request y Legal u = Answers rule t core request y u
 Judges rule t core request y (Illegal first) u =
     ((v : Plain) → ¬ Answers rule t core request y v)
@@ -54,7 +54,7 @@ pub record IsWanting (rule : PlaceRule) (t : Plain) (calls : List Call) (u : Pla
   pub given : IsGiven rule u call.core call.request call.reply
 
 -- the same of each request that makes this plan
-abbrev pub JudgesPlan : Bool → Plain → PlanOf → Reply → Verdict → Plain → Type 0
+abbrev pub JudgesPlan : Bool → Plain → PlanOf → Reply → ReplyVerdict → Plain → Type 0
 JudgesPlan any_place t plan y verdict u = (core : ℕ) (request : Request) → core < 64
     → checked (λ n. mode_of (t.file n)) core request ≡ Ok plan
     → Judges (rule_of any_place) t core request y verdict u
@@ -65,7 +65,7 @@ GivesPlan any_place t plan y = (core : ℕ) (request : Request) → core < 64
     → IsGiven (rule_of any_place) t core request y
 
 -- where this reply is due
-abbrev pub Compares : Reply → Reply → Verdict → Type 0
+abbrev pub Compares : Reply → Reply → ReplyVerdict → Type 0
 Compares y due Legal = y ≡ due
 Compares y due (Illegal first) = (y ≢ due) × (first ≡ due)
 

@@ -7,7 +7,7 @@ use Rattle.vm_base.specs.declared.info.Back.TheVariants.{Anon, Shared, Private}
 use Rattle.vm_base.specs.declared.info.PageInfo.{PageInfo}
 use Rattle.vm_base.specs.declared.page.PageRange.{PageRange}
 use Rattle.vm_base.specs.Functions.{put}
-use Rattle.vm_base.specs.Plain.{Bytes, File, Entry, Plain, zeros, bytes_in}
+use Rattle.vm_base.specs.Plain.{Bytes, File, PageEntry, Plain, zeros, bytes_in}
 use Rattle.vm_base.specs.Info.{frame_of}
 use Rattle.slot_lock.specs.declared.plan.Change.{Change}
 use Rattle.slot_lock.specs.declared.plan.Change.TheVariants.{Put, Clear, Protect}
@@ -28,7 +28,7 @@ own_kept bytes (Shared file page) frame = None
 own_kept bytes (Private file page) None = None
 own_kept bytes (Private file page) (Some f) = Some (bytes f)
 
-abbrev pub entry_kept : (ℕ → Bytes) → Option PageInfo → Option Entry
+abbrev pub entry_kept : (ℕ → Bytes) → Option PageInfo → Option PageEntry
 entry_kept bytes None = None
 entry_kept bytes (Some info) = Some (record {
   back = info.meta.back;

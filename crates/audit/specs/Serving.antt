@@ -6,10 +6,10 @@ use Rattle.vm_base.specs.declared.requests.Request.{Request}
 use Rattle.vm_base.specs.declared.requests.Request.TheVariants.{Load as LoadOf, Store as StoreOf, Fetch as FetchOf}
 use Rattle.vm_base.specs.Pages.{page_of}
 use Rattle.vm_base.specs.Rights.{is_allowed}
-use Rattle.vm_base.specs.Plain.{Entry, File, Plain, bytes_of}
+use Rattle.vm_base.specs.Plain.{PageEntry, File, Plain, bytes_of}
 
 -- the page is mapped, its protection allows the access, and it has bytes
-abbrev pub can_access : (ℕ → Option File) → Option Entry → Access → Bool
+abbrev pub can_access : (ℕ → Option File) → Option PageEntry → Access → Bool
 can_access files None access = false
 can_access files (Some e) access = is_allowed e.prot access && is_some (bytes_of files e.back e.own)
 

@@ -5,7 +5,7 @@ ghost use Rattle.audit.specs.Keeping.{Keeps, NobodyHolds};
 
 use crate::bytes::file_byte;
 use crate::copying::copy_page;
-use crate::judging::{Verdict, compared, judge_plan};
+use crate::judging::{ReplyVerdict, compared, judge_plan};
 use crate::serving::is_served;
 use crate::storing::store_to_file;
 use frames::{FileSpec, Objects};
@@ -106,7 +106,7 @@ impl<M: SlotMap, A: Allocator> Auditor<M, A> {
         core: CoreId,
         request: Request,
         reply: Reply,
-    ) -> Result<Verdict, NoMemory>
+    ) -> Result<ReplyVerdict, NoMemory>
         ensures judged { IfOk result (λ verdict. Judges (rule_of self.old.any_place)
             (plain_of self.old) core request reply verdict (plain_of self.new)) }
         ensures err { OnErr result (plain_of self.new ≡ plain_of self.old) }
@@ -223,8 +223,8 @@ impl<M: SlotMap, A: Allocator> Auditor<M, A> {
         for at in 0..calls.len() {
             let call = calls[at];
             match self.judge(call.core, call.request, call.reply)? {
-                Verdict::Legal => {}
-                Verdict::Illegal(due) => return Ok(Some(Wrong { at, due })),
+                ReplyVerdict::Legal => {}
+                ReplyVerdict::Illegal(due) => return Ok(Some(Wrong { at, due })),
             }
         }
         Ok(None)

@@ -24,7 +24,7 @@ use vm_calls::{Decision, decide, decide_page};
 
 /// What is judged of a reply.
 #[derive(Clone, Copy, PartialEq, Eq)]
-pub enum Verdict {
+pub enum ReplyVerdict {
     /// It is the plain page map's.
     Legal,
     /// No plain page map gives it. The first one would give this.
@@ -39,13 +39,13 @@ fn is_same(reply: Reply, other: Reply) -> bool
 }
 
 /// Judges a reply where this one is due.
-pub fn compared(reply: Reply, due: Reply) -> Verdict
+pub fn compared(reply: Reply, due: Reply) -> ReplyVerdict
     ensures { Compares reply due result }
 {
     if is_same(reply, due) {
-        Verdict::Legal
+        ReplyVerdict::Legal
     } else {
-        Verdict::Illegal(due)
+        ReplyVerdict::Illegal(due)
     }
 }
 
@@ -75,7 +75,7 @@ fn judge_alone<M: SlotMap, A: Allocator>(
     change: Change,
     page: FreePage,
     reply: Reply,
-) -> Verdict
+) -> ReplyVerdict
     requires sound { IsSoundChange change }
     requires one { (range_of change).end ≡ (range_of change).first + 1 }
     requires page { IsFreePage (M.slots map.old) (range_of change).first page }
@@ -92,10 +92,10 @@ fn judge_alone<M: SlotMap, A: Allocator>(
     }
     let due = change_reply(change);
     if !is_same(reply, due) {
-        return Verdict::Illegal(due);
+        return ReplyVerdict::Illegal(due);
     }
     change_alone(map, frames, change, page);
-    Verdict::Legal
+    ReplyVerdict::Legal
 }
 
 /// Makes a change whose reply is legal: of a page alone without holding it, and of others while they are
@@ -106,7 +106,7 @@ fn judge_change<M: SlotMap, A: Allocator>(
     frames: &mut Frames<A>,
     change: Change,
     reply: Reply,
-) -> Result<Verdict, NoMemory>
+) -> Result<ReplyVerdict, NoMemory>
     requires sound { IsSoundChange change }
     requires free { NobodyHolds (M.slots map.old) }
     requires kept { Keeps (M.slots map.old) (cached_in objects.now) frames.old }
@@ -128,10 +128,10 @@ fn judge_change<M: SlotMap, A: Allocator>(
         Decision::Act { .. } => {
             let due = change_reply(change);
             if !is_same(reply, due) {
-                return Ok(Verdict::Illegal(due));
+                return Ok(ReplyVerdict::Illegal(due));
             }
             make_change(map, frames, change)?;
-            Ok(Verdict::Legal)
+            Ok(ReplyVerdict::Legal)
         }
         Decision::Again => unreachable!(),
     }
@@ -144,7 +144,7 @@ fn judge_touch<M: SlotMap, A: Allocator>(
     frames: &mut Frames<A>,
     touch: Touch,
     reply: Reply,
-) -> Result<Verdict, NoMemory>
+) -> Result<ReplyVerdict, NoMemory>
     requires sound { IsSoundTouch touch }
     requires free { NobodyHolds (M.slots map.old) }
     requires kept { Keeps (M.slots map.old) (cached_in objects.old) frames.old }
@@ -163,13 +163,13 @@ fn judge_touch<M: SlotMap, A: Allocator>(
     };
     let due = access_reply(objects, frames, &info, touch);
     if !is_same(reply, due) {
-        return Ok(Verdict::Illegal(due));
+        return Ok(ReplyVerdict::Illegal(due));
     }
     if !is_done(due) {
-        return Ok(Verdict::Legal);
+        return Ok(ReplyVerdict::Legal);
     }
     store(map, objects, frames, info, touch)?;
-    Ok(Verdict::Legal)
+    Ok(ReplyVerdict::Legal)
 }
 
 /// Makes a mapping that was answered with this place, if it may be there.
@@ -180,7 +180,7 @@ fn judge_place<M: SlotMap, A: Allocator>(
     any_place: bool,
     place: Place,
     reply: Reply,
-) -> Result<Verdict, NoMemory>
+) -> Result<ReplyVerdict, NoMemory>
     requires sound { IsSoundPlace place }
     requires free { NobodyHolds (M.slots map.old) }
     requires kept { Keeps (M.slots map.old) (cached_in objects.now) frames.old }
@@ -196,13 +196,13 @@ fn judge_place<M: SlotMap, A: Allocator>(
 {
     let said = place_said(reply);
     let Some(found) = said else {
-        return Ok(Verdict::Illegal(reply_at(first_place(map, place))));
+        return Ok(ReplyVerdict::Illegal(reply_at(first_place(map, place))));
     };
     if !is_allowed(map, any_place, place, found) {
-        return Ok(Verdict::Illegal(reply_at(first_place(map, place))));
+        return Ok(ReplyVerdict::Illegal(reply_at(first_place(map, place))));
     }
     let Some(first) = found else {
-        return Ok(Verdict::Legal);
+        return Ok(ReplyVerdict::Legal);
     };
     let range = PageRange {
         first,
@@ -210,7 +210,7 @@ fn judge_place<M: SlotMap, A: Allocator>(
     };
     let meta = place.meta;
     make_change(map, frames, Change::Put { range, meta })?;
-    Ok(Verdict::Legal)
+    Ok(ReplyVerdict::Legal)
 }
 
 /// Does what a request is to do, where its reply is legal.
@@ -221,7 +221,7 @@ pub fn judge_plan<M: SlotMap, A: Allocator>(
     any_place: bool,
     plan: Plan,
     reply: Reply,
-) -> Result<Verdict, NoMemory>
+) -> Result<ReplyVerdict, NoMemory>
     requires sound { IsSoundPlan plan }
     requires free { NobodyHolds (M.slots map.old) }
     requires kept { Keeps (M.slots map.old) (cached_in objects.old) frames.old }

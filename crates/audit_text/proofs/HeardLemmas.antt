@@ -9,15 +9,15 @@ use Rattle.audit.proofs.Judged.{one_first}
 use Rattle.audit.specs.Judging.{IsGiven, Judges}
 use Rattle.audit.specs.Placing.{rule_of}
 use Rattle.audit.specs.declared.auditor.Call.{Call}
-use Rattle.audit.specs.declared.judging.Verdict.{Verdict}
-use Rattle.audit.specs.declared.judging.Verdict.TheVariants.{Legal as Right, Illegal as Wrong}
+use Rattle.audit.specs.declared.judging.ReplyVerdict.{ReplyVerdict}
+use Rattle.audit.specs.declared.judging.ReplyVerdict.TheVariants.{Legal as Right, Illegal as Wrong}
 use Rattle.audit_text.specs.Allowed.{Allows, AreAllowed, Lacks, MayBe, is_lack, serves}
 use Rattle.audit_text.specs.Heard.{Heard, call_to, item_told, heard_after, is_certain, one_passed, waits, with_answer, with_copy, with_item, with_told}
 use Rattle.audit_text.specs.Heard.{with_waiting, without}
 use Rattle.audit_text.specs.Steps.{Hears, JudgesCall, MayWant, Moves, Passes}
 use Rattle.audit_text.specs.declared.allowing.Terms.{Terms}
-use Rattle.audit_text.specs.declared.item.Item.{Item}
-use Rattle.audit_text.specs.declared.item.Item.TheVariants.{Answer, Copy}
+use Rattle.audit_text.specs.declared.item.AuditItem.{AuditItem}
+use Rattle.audit_text.specs.declared.item.AuditItem.TheVariants.{Answer, Copy}
 use Rattle.audit.specs.Copying.{Copies}
 use Rattle.audit_text.specs.declared.hearing.Turn.{Turn}
 use Rattle.audit_text.specs.declared.hearing.Turn.TheVariants.{Legal, Bad, Illegal}
@@ -61,27 +61,27 @@ not_parts true lack e = absurd (cc)
 
 -- ---- the auditor's verdict on a call
 
-pub judged_legal : (terms : Terms) (h k : Heard) (t u : Plain) (certain : Bool) (call : Call) (v : Verdict)
+pub judged_legal : (terms : Terms) (h k : Heard) (t u : Plain) (certain : Bool) (call : Call) (v : ReplyVerdict)
     → Judges (rule_of terms.any_place) t call.core call.request call.reply v u → v ≡ Right → k ≡ with_answer h certain call
     → JudgesCall terms h t certain call Legal k u
 judged_legal terms h k t u certain call v j is e =
-    (e, inl (subst (λ (x : Verdict). Judges (rule_of terms.any_place) t call.core call.request call.reply x u) is j))
+    (e, inl (subst (λ (x : ReplyVerdict). Judges (rule_of terms.any_place) t call.core call.request call.reply x u) is j))
 
-pub judged_let : (terms : Terms) (h k : Heard) (t u : Plain) (certain : Bool) (call : Call) (v : Verdict) (due : Reply)
+pub judged_let : (terms : Terms) (h k : Heard) (t u : Plain) (certain : Bool) (call : Call) (v : ReplyVerdict) (due : Reply)
     → Judges (rule_of terms.any_place) t call.core call.request call.reply v u → v ≡ Wrong due
     → (not terms.is_strict && is_lack call.request due call.reply) ≡ true → k ≡ with_answer h certain call
     → JudgesCall terms h t certain call Legal k u
 judged_let terms h k t u certain call v due j is lets e =
-    let w = subst (λ (x : Verdict). Judges (rule_of terms.any_place) t call.core call.request call.reply x u) is j in
+    let w = subst (λ (x : ReplyVerdict). Judges (rule_of terms.any_place) t call.core call.request call.reply x u) is j in
     let both = not_parts terms.is_strict (is_lack call.request due call.reply) lets in
     (e, inr (both.0, is_lack_served t call.core call.request due w.1.0 u call.reply w.1.1 both.1 w.2))
 
-pub judged_illegal : (terms : Terms) (h k : Heard) (t u : Plain) (certain : Bool) (call : Call) (v : Verdict) (due : Reply)
+pub judged_illegal : (terms : Terms) (h k : Heard) (t u : Plain) (certain : Bool) (call : Call) (v : ReplyVerdict) (due : Reply)
     → Judges (rule_of terms.any_place) t call.core call.request call.reply v u → v ≡ Wrong due
     → (not terms.is_strict && is_lack call.request due call.reply) ≡ false → k ≡ h
     → JudgesCall terms h t certain call (Illegal (Answer call) (Some due) certain) k u
 judged_illegal terms h k t u certain call v due j is lets e =
-    let w = subst (λ (x : Verdict). Judges (rule_of terms.any_place) t call.core call.request call.reply x u) is j in
+    let w = subst (λ (x : ReplyVerdict). Judges (rule_of terms.any_place) t call.core call.request call.reply x u) is j in
     (refl, w.2, refl, (none w, w.1), e)
   where
     none : Judges (rule_of terms.any_place) t call.core call.request call.reply (Wrong due) u
@@ -113,7 +113,7 @@ answered_hears terms h k t u certain call (Illegal i due b) idle sure (is, same,
   told ∙ sure,
   refused,
   after_now h (with_answer h certain call) certain call idle sure refl ∙ ap (λ (e : Heard). Some (with_answer e certain call)) (sym kept)
-      ∙ ap (λ x. Some (with_answer k x call)) (sym told) ∙ ap (λ (x : Item). Some (with_item k b x)) (sym is),
+      ∙ ap (λ x. Some (with_answer k x call)) (sym told) ∙ ap (λ (x : AuditItem). Some (with_item k b x)) (sym is),
 )
 
 -- one that isn't, since another of its core waits
@@ -158,7 +158,7 @@ ended_hears terms h g k t u certain core reply request (Illegal i due b) waited 
       refused,
       after_end h g (with_answer g certain call) certain core reply request waited after sure refl
           ∙ ap (λ (e : Heard). Some (with_answer e certain call)) (sym kept)
-          ∙ ap (λ x. Some (with_answer k x call)) (sym told) ∙ ap (λ (x : Item). Some (with_item k b x)) (sym is),
+          ∙ ap (λ x. Some (with_answer k x call)) (sym told) ∙ ap (λ (x : AuditItem). Some (with_item k b x)) (sym is),
     )
 
 pub ended_wants : {T E : Type 0} (r : Result T E) (terms : Terms) (h : Heard) (t : Plain) (core : ℕ) (reply : Reply) (request : Request)
@@ -221,21 +221,21 @@ passes_hears terms h k t u (Illegal i due b) same p = absurd p
 -- ---- the items so far, with the one that a line tells
 
 -- one more that may be
-allowed_push : (terms : Terms) (t m u : Plain) (cs : List Item) (c : Item) → AreAllowed terms t cs m
+allowed_push : (terms : Terms) (t m u : Plain) (cs : List AuditItem) (c : AuditItem) → AreAllowed terms t cs m
     → MayBe terms m c u → AreAllowed terms t (cs ++ c ∷ []) u
 allowed_push terms t m u [] c h a = (u, subst (λ x. MayBe terms x c u) h a, refl)
 allowed_push terms t m u (d ∷ cs) c h a = (h.0, h.1, allowed_push terms h.0 m u cs c h.2 a)
 
-with_items : (h : Heard) (certain : Bool) (item : Item) → (with_item h certain item).items ≡ h.items ++ item ∷ []
+with_items : (h : Heard) (certain : Bool) (item : AuditItem) → (with_item h certain item).items ≡ h.items ++ item ∷ []
 with_items h certain (Answer call) = refl
 with_items h certain (Copy page) = refl
 
-same_items : (terms : Terms) (first t u : Plain) (cs ds : List Item) → ds ≡ cs → u ≡ t → AreAllowed terms first cs t → AreAllowed terms first ds u
+same_items : (terms : Terms) (first t u : Plain) (cs ds : List AuditItem) → ds ≡ cs → u ≡ t → AreAllowed terms first cs t → AreAllowed terms first ds u
 same_items terms first t u cs ds is same r =
     subst (AreAllowed terms first ds) (sym same) (subst (λ l. AreAllowed terms first l t) (sym is) r)
 
 -- where the line tells one, or may not stand here
-told_moves : (terms : Terms) (first t u : Plain) (h k : Heard) (o : Option Item) (f : Item → Heard) → ((c : Item) → (f c).items ≡ h.items ++ c ∷ [])
+told_moves : (terms : Terms) (first t u : Plain) (h k : Heard) (o : Option AuditItem) (f : AuditItem → Heard) → ((c : AuditItem) → (f c).items ≡ h.items ++ c ∷ [])
     → option_map f o ≡ Some k → Moves terms t o u → AreAllowed terms first h.items t → AreAllowed terms first k.items u
 told_moves terms first t u h k None f adds e m r = absurd (cc)
 told_moves terms first t u h k (Some c) f adds e m r =

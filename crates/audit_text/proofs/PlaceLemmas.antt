@@ -3,7 +3,7 @@ use Rattle.std.proofs.Common.{◌≡◌, inl, inr, ℕ, ◌+◌, ◌≤◌, Bool
 use Rattle.std.proofs.Common.{append_assoc, append-nil, length-append, arith, refl, sym, ap, ◌∙◌, subst}
 use Rattle.vm_base.specs.Plain.{Plain}
 use Rattle.vm_base.specs.declared.replies.Reply.{Reply}
-use Rattle.audit_text.specs.declared.item.Item.{Item}
+use Rattle.audit_text.specs.declared.item.AuditItem.{AuditItem}
 use Rattle.audit_text.specs.Allowed.{AreAllowed}
 use Rattle.audit_text.specs.Ends.{IsAtFault}
 use Rattle.audit_text.specs.Faults.{SaysNothing}
@@ -163,7 +163,7 @@ call_fault terms lines rest more d h k t u said n m line f c hears e up says =
     let (place, follows) = after_legal terms lines rest d h k t u said n c hears in
     fault_here terms lines rest more n (Behind d k) u line f place follows e (subst (λ i. SaysNothing line i f) up says)
 
-call_wrong : (terms : Terms) (lines more : List (List ℕ)) (d : Declared) (h k : Heard) (t u : Plain) (said : Said) (n m : ℕ) (item : Item) (due : Option Reply)
+call_wrong : (terms : Terms) (lines more : List (List ℕ)) (d : Declared) (h k : Heard) (t u : Plain) (said : Said) (n m : ℕ) (item : AuditItem) (due : Option Reply)
     (certain : Bool) → IsCall terms lines d h t said n more → m ≡ n → Hears terms h t said (Illegal item due certain) k u
     → IsWrong terms lines m item due certain u
 call_wrong terms lines more d h k t u said n m item due certain c is (told, same, sure, refused, after) = record {

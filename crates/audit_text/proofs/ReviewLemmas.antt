@@ -17,7 +17,7 @@ use Rattle.audit_text.specs.Reviewed.{GoesOn, GoesOnBy, IsReviewed, IsThere, IsT
 use Rattle.audit_text.specs.Reviewing.{IsBefore, TurnsOutSo}
 use Rattle.audit_text.specs.Steps.{EndsFront, Hears}
 use Rattle.audit_text.specs.declared.allowing.Terms.{Terms}
-use Rattle.audit_text.specs.declared.item.Item.{Item}
+use Rattle.audit_text.specs.declared.item.AuditItem.{AuditItem}
 use Rattle.audit_text.specs.declared.hearing.Turn.TheVariants.{Legal, Illegal}
 use Rattle.audit_text.specs.declared.input.AuditFault.{AuditFault}
 use Rattle.audit_text.specs.declared.input.AuditFault.TheVariants.{BadLine, TooLong, NoVmLine, Io}
@@ -44,7 +44,7 @@ pub legal_turn : (terms : Terms) (h k : Heard) (t u : Plain) (said : Said) (line
     → Hears terms h t said Legal k u → TurnsOutSo {T = Unit {0}} terms h t said line found (Ok tt) k u new
 legal_turn terms h k t u said line found new same (is, moves) = (is, ([], same ∙ sym (append-nil found), inl (refl, moves)))
 
-pub wrong_turn : (terms : Terms) (h k m : Heard) (t v u : Plain) (said : Said) (line : ℕ) (item : Item) (due : Option Reply) (certain : Bool)
+pub wrong_turn : (terms : Terms) (h k m : Heard) (t v u : Plain) (said : Said) (line : ℕ) (item : AuditItem) (due : Option Reply) (certain : Bool)
     (found new : List Verdict) → Hears terms h t said (Illegal item due certain) k v → GoesOnBy terms v item due u
     → m ≡ with_item k certain item → new ≡ found ++ wrong_at line item due certain ∷ []
     → TurnsOutSo {T = Unit {0}} terms h t said line found (Ok tt) m u new

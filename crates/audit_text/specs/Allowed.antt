@@ -11,8 +11,8 @@ use Rattle.vm_base.specs.Plain.{Plain}
 use Rattle.audit.specs.Copying.{Copies}
 use Rattle.audit.specs.Placing.{rule_of}
 use Rattle.audit_text.specs.declared.allowing.Terms.{Terms}
-use Rattle.audit_text.specs.declared.item.Item.{Item}
-use Rattle.audit_text.specs.declared.item.Item.TheVariants.{Answer, Copy}
+use Rattle.audit_text.specs.declared.item.AuditItem.{AuditItem}
+use Rattle.audit_text.specs.declared.item.AuditItem.TheVariants.{Answer, Copy}
 
 -- an access is served where this is due
 abbrev pub serves : Request → Reply → Bool
@@ -37,21 +37,21 @@ Allows terms t core request y u =
     Answers (rule_of terms.any_place) t core request y u ⊎ ((terms.is_strict ≡ false) × Lacks t core request y u)
 
 -- A call may have its reply, or a private page that shows its file's bytes and may be stored to gets its copy.
-abbrev pub MayBe : Terms → Plain → Item → Plain → Type 0
+abbrev pub MayBe : Terms → Plain → AuditItem → Plain → Type 0
 MayBe terms t (Answer call) u = Allows terms t call.core call.request call.reply u
 MayBe terms t (Copy page) u = Copies t page u
 
 -- The replies and copies, one after another, may be, from t on, and leave u.
-abbrev pub AreAllowed : Terms → Plain → List Item → Plain → Type 0
+abbrev pub AreAllowed : Terms → Plain → List AuditItem → Plain → Type 0
 AreAllowed terms t [] u = u ≡ t
 AreAllowed terms t (i ∷ is) u = (m : Plain) × MayBe terms t i m × AreAllowed terms m is u
 
 -- some map is left by it
-abbrev pub IsAllowed : Terms → Plain → Item → Type 0
+abbrev pub IsAllowed : Terms → Plain → AuditItem → Type 0
 IsAllowed terms t item = (u : Plain) × MayBe terms t item u
 
 -- The first plain page map would give this reply; where no copy may be, none is due.
-abbrev pub IsDue : Plain → Item → Option Reply → Type 0
+abbrev pub IsDue : Plain → AuditItem → Option Reply → Type 0
 IsDue t (Answer call) (Some due) = (v : Plain) × Answers IsFirstPlace t call.core call.request due v
 IsDue t (Answer call) None = ⊥
 IsDue t (Copy page) (Some due) = ⊥

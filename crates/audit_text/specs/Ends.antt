@@ -7,8 +7,8 @@ use Rattle.trace_text.specs.Lists.{map_line}
 use Rattle.trace_text.specs.Printing.{text_of}
 use Rattle.slot_lock.specs.declared.map_list.MapLine.{MapLine}
 use Rattle.vm_base.specs.declared.replies.Reply.{Reply}
-use Rattle.audit_text.specs.declared.item.Item.{Item}
-use Rattle.audit_text.specs.declared.item.Item.TheVariants.{Answer}
+use Rattle.audit_text.specs.declared.item.AuditItem.{AuditItem}
+use Rattle.audit_text.specs.declared.item.AuditItem.TheVariants.{Answer}
 use Rattle.audit_text.specs.declared.allowing.Terms.{Terms}
 use Rattle.audit_text.specs.Legal.{IsBad, IsIllegal, IsLegal, IsOverlong, LacksSpace}
 use Rattle.audit_text.specs.declared.input.AuditFault.{AuditFault}
@@ -41,7 +41,7 @@ abbrev pub lacking_text : ℕ → List ℕ
 lacking_text n = if nat_lt 0 n then some_lacking n else []
 
 -- what was replied at a line, and what would be due; or that a page was copied where none may be
-abbrev pub wrong_text : List ℕ → ℕ → Item → Option Reply → List ℕ
+abbrev pub wrong_text : List ℕ → ℕ → AuditItem → Option Reply → List ℕ
 wrong_text word line (Answer call) (Some due) = word ++ decimal line ++ codes ": replied " ++ text_of call.reply
     ++ codes ", due " ++ text_of due ++ codes "\n"
 wrong_text word line item due = word ++ decimal line ++ codes ": copied, due no copy\n"

@@ -6,8 +6,8 @@ use Rattle.vm_base.specs.declared.replies.Reply.{Reply}
 use Rattle.vm_base.specs.Plain.{File as PlainFile, file_with}
 use Rattle.trace_text.specs.Line.{seeded}
 use Rattle.audit.specs.declared.auditor.Call.{Call}
-use Rattle.audit_text.specs.declared.item.Item.{Item}
-use Rattle.audit_text.specs.declared.item.Item.TheVariants.{Answer, Copy}
+use Rattle.audit_text.specs.declared.item.AuditItem.{AuditItem}
+use Rattle.audit_text.specs.declared.item.AuditItem.TheVariants.{Answer, Copy}
 use Rattle.audit_text.specs.Allowed.{is_given_up, is_lacking, is_store}
 use Rattle.audit_text.specs.Grammar.{Tells}
 use Rattle.audit_text.specs.declared.reading.Said.{Said}
@@ -46,7 +46,7 @@ needs_space said = true
 pub record Heard : Type 0 where
   pub waiting : List (Option Request)
   pub pending : ℕ
-  pub items : List Item
+  pub items : List AuditItem
   pub calls : ℕ
   pub lacking : ℕ
   pub passed : ℕ
@@ -62,7 +62,7 @@ abbrev pub call_to : ℕ → Reply → Request → Call
 call_to core reply request = record { core = core; request = request; reply = reply }
 
 -- what a line tells that is judged: a call that is in the line, unless a call of its core waits, or the one that waits; or a copy
-abbrev pub item_told : Heard → Said → Option Item
+abbrev pub item_told : Heard → Said → Option AuditItem
 item_told h (Answered call) = if is_some (waits h call.core) then None else Some (Answer call)
 item_told h (Ends core reply) = option_map (λ r. Answer (call_to core reply r)) (waits h core)
 item_told h (Copies page) = Some (Copy page)
@@ -92,7 +92,7 @@ with_answer h certain call = record h {
 abbrev pub with_copy : Heard → Bool → ℕ → Heard
 with_copy h certain page = record h { items = h.items ++ Copy page ∷ []; is_sure = certain }
 
-abbrev pub with_item : Heard → Bool → Item → Heard
+abbrev pub with_item : Heard → Bool → AuditItem → Heard
 with_item h certain (Answer call) = with_answer h certain call
 with_item h certain (Copy page) = with_copy h certain page
 
@@ -100,7 +100,7 @@ with_item h certain (Copy page) = with_copy h certain page
 abbrev pub without : Heard → ℕ → Heard
 without h core = record h { waiting = set h.waiting core None; pending = h.pending - 1 }
 
-abbrev pub with_told : Heard → Said → Item → Heard
+abbrev pub with_told : Heard → Said → AuditItem → Heard
 with_told h (Ends core reply) item = with_item (without h core) (is_certain h (Ends core reply)) item
 with_told h said item = with_item h (is_certain h said) item
 

@@ -8,8 +8,8 @@ use Rattle.vm_base.specs.Pages.{page_of}
 use Rattle.vm_base.specs.Plain.{Plain, nothing_mapped}
 use Rattle.slot_lock.specs.MapList.{plain_metas}
 use Rattle.slot_lock.specs.declared.map_list.MapLine.{MapLine}
-use Rattle.audit_text.specs.declared.item.Item.{Item}
-use Rattle.audit_text.specs.declared.item.Item.TheVariants.{Answer, Copy}
+use Rattle.audit_text.specs.declared.item.AuditItem.{AuditItem}
+use Rattle.audit_text.specs.declared.item.AuditItem.TheVariants.{Answer, Copy}
 use Rattle.audit_text.specs.Allowed.{AreAllowed, IsDue, MayBe}
 use Rattle.audit_text.specs.Around.{IsAround}
 use Rattle.audit_text.specs.Grammar.{Tells}
@@ -55,7 +55,7 @@ pub record IsPlace (lines : List (List ℕ)) (number : ℕ) (more : List (List �
   pub leads : Leads (Front undeclared) done s
 
 -- what a line tells at a stage that is judged
-abbrev pub told_at : Stage → Said → Option Item
+abbrev pub told_at : Stage → Said → Option AuditItem
 told_at (Front d) said = if d.has_space then item_told nothing said else None
 told_at (Behind d h) said = item_told h said
 
@@ -67,13 +67,13 @@ page_asked (Load addr) = page_of addr
 page_asked (Store addr b) = page_of addr
 page_asked (Fetch addr) = page_of addr
 
-abbrev pub page_told : Item → ℕ
+abbrev pub page_told : AuditItem → ℕ
 page_told (Answer call) = page_asked call.request
 page_told (Copy page) = page
 
 -- The lines before this one are legal, and lead to this map. It tells a reply that may not be there, and the first plain page map
 -- gives another; or a copy that may not be. Whether that is certain is told, too.
-pub record IsWrong (terms : Terms) (lines : List (List ℕ)) (number : ℕ) (item : Item) (due : Option Reply) (certain : Bool) (plain : Plain)
+pub record IsWrong (terms : Terms) (lines : List (List ℕ)) (number : ℕ) (item : AuditItem) (due : Option Reply) (certain : Bool) (plain : Plain)
     : Type 0 where
   pub stage : Stage
   pub line : List ℕ
@@ -91,7 +91,7 @@ pub record IsWrong (terms : Terms) (lines : List (List ℕ)) (number : ℕ) (ite
   pub certain_is : certain ≡ is_certain (heard_in stage) said
 
 -- and these mappings are around its page
-pub record IsIllegal (terms : Terms) (lines : List (List ℕ)) (number : ℕ) (item : Item) (due : Option Reply) (certain : Bool)
+pub record IsIllegal (terms : Terms) (lines : List (List ℕ)) (number : ℕ) (item : AuditItem) (due : Option Reply) (certain : Bool)
     (around : List MapLine) : Type 0 where
   pub plain : Plain
   pub wrong : IsWrong terms lines number item due certain plain

@@ -16,8 +16,8 @@ use Rattle.vm_base.specs.declared.requests.Request.{Request}
 use Rattle.vm_base.specs.declared.requests.Request.TheVariants.{Mmap}
 use Rattle.audit.specs.Placing.{rule_of}
 use Rattle.audit.specs.declared.auditor.Call.{Call}
-use Rattle.audit_text.specs.declared.item.Item.{Item}
-use Rattle.audit_text.specs.declared.item.Item.TheVariants.{Answer}
+use Rattle.audit_text.specs.declared.item.AuditItem.{AuditItem}
+use Rattle.audit_text.specs.declared.item.AuditItem.TheVariants.{Answer}
 use Rattle.audit_text.specs.Ends.{head_text}
 use Rattle.audit_text.specs.Grammar.{Tells}
 use Rattle.audit_text.specs.Heard.{Declared, Heard, Stage, Front, Leads, is_certain, stage_after, undeclared}
@@ -58,21 +58,21 @@ pub data GoesOn (terms : Terms) (t : Plain) (call : Call) (due : Reply) (u : Pla
       → u ≡ t → GoesOn terms t call due u
 
 -- the same of what a line told; a copy that may not be is left out
-abbrev pub GoesOnBy : Terms → Plain → Item → Option Reply → Plain → Type 0
+abbrev pub GoesOnBy : Terms → Plain → AuditItem → Option Reply → Plain → Type 0
 GoesOnBy terms t (Answer call) (Some due) u = GoesOn terms t call due u
 GoesOnBy terms t item due u = u ≡ t
 
 -- ---- each line
 
 -- what is told of a wrong reply, or of a copy that may not be
-abbrev pub wrong_at : ℕ → Item → Option Reply → Bool → Verdict
+abbrev pub wrong_at : ℕ → AuditItem → Option Reply → Bool → Verdict
 wrong_at n item due true = Illegal n item due
 wrong_at n item due false = Undecided n item due
 
 -- What the line with this number tells, if it tells something, may be, or is told as wrong; u is the map after it.
-abbrev pub TurnsBy : Terms → Plain → ℕ → Option Item → Bool → List Verdict → Plain → Type 0
+abbrev pub TurnsBy : Terms → Plain → ℕ → Option AuditItem → Bool → List Verdict → Plain → Type 0
 TurnsBy terms t n told certain new u = ((new ≡ []) × Moves terms t told u)
-    ⊎ ((item : Item) × (due : Option Reply) × (told ≡ Some item) × IsRefused terms t item due × GoesOnBy terms t item due u
+    ⊎ ((item : AuditItem) × (due : Option Reply) × (told ≡ Some item) × IsRefused terms t item due × GoesOnBy terms t item due u
     × (new ≡ wrong_at n item due certain ∷ []))
 
 abbrev pub Turns : Terms → Stage → Plain → ℕ → Said → List Verdict → Plain → Type 0

@@ -14,12 +14,12 @@ use Rattle.audit_text.specs.Around.{IsAround}
 use Rattle.slot_lock.specs.declared.map_list.MapLine.{MapLine}
 use Rattle.vm_base.specs.declared.info.Meta.{Meta}
 use Rattle.audit_text.specs.declared.allowing.Terms.{Terms}
-use Rattle.audit_text.specs.declared.declaring.Declaration.{Declaration}
+use Rattle.audit_text.specs.declared.declaring.AuditHead.{AuditHead}
 use Rattle.audit_text.specs.declared.declaring.Declares.{Declares}
 use Rattle.audit_text.specs.declared.declaring.Declares.TheVariants as Is
 use Rattle.audit.specs.declared.auditor.Call.{Call}
-use Rattle.audit_text.specs.declared.item.Item.{Item}
-use Rattle.audit_text.specs.declared.item.Item.TheVariants.{Answer}
+use Rattle.audit_text.specs.declared.item.AuditItem.{AuditItem}
+use Rattle.audit_text.specs.declared.item.AuditItem.TheVariants.{Answer}
 use Rattle.audit_text.specs.declared.hearing.Hearing.{Hearing}
 use Rattle.audit_text.specs.declared.hearing.Turn.{Turn}
 use Rattle.audit_text.specs.declared.hearing.Turn.TheVariants.{Legal, Bad, Illegal}
@@ -35,7 +35,7 @@ use Rattle.audit_text.specs.declared.reading.Said.{Said}
 abbrev pub file_of : {A : Type 0} → FileSpec A → File
 file_of spec = file_with spec.mode spec.bytes.items
 
-abbrev pub declared_of : {A : Type 0} → Declaration A → Declared
+abbrev pub declared_of : {A : Type 0} → AuditHead A → Declared
 declared_of it = record { has_space = it.has_space; files = map file_of it.files.items }
 
 -- the declaration has ended: what follows is a call's line, or may not stand here
@@ -74,11 +74,11 @@ pub record IsCounted {M A : Type 0} {map : MapGhosts M} {read : ReadGhosts M} (i
   pub lacking : it.lacking ≤ it.judged
 
 -- this reply may not be there, or this copy
-abbrev pub IsRefused : Terms → Plain → Item → Option Reply → Type 0
+abbrev pub IsRefused : Terms → Plain → AuditItem → Option Reply → Type 0
 IsRefused terms t item due = ((v : Plain) → ¬ MayBe terms t item v) × IsDue t item due
 
 -- what a line tells, if it tells something, may be, and leaves u
-abbrev pub Moves : Terms → Plain → Option Item → Plain → Type 0
+abbrev pub Moves : Terms → Plain → Option AuditItem → Plain → Type 0
 Moves terms t None u = u ≡ t
 Moves terms t (Some item) u = MayBe terms t item u
 
@@ -99,7 +99,7 @@ JudgesCall terms h t certain call (Illegal item due sure) k u =
 -- Memory may be wanted for what the line says: it tells a call whose reply may be there, or a copy that may.
 abbrev pub MayWant : Terms → Heard → Plain → Said → Type 0
 MayWant terms h t said =
-    (item : Item) × (item_told h said ≡ Some item) × IsAllowed terms t item
+    (item : AuditItem) × (item_told h said ≡ Some item) × IsAllowed terms t item
 
 -- a line is passed over, if it may be
 abbrev pub Passes : Bool → Heard → Turn → Heard → Type 0

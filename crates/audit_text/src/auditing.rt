@@ -12,10 +12,10 @@ ghost use Rattle.audit_text.specs.Steps.{EndsFront, IsFound, ShowsAround, declar
 
 use crate::allowing::Terms;
 use crate::around::mappings_around;
-use crate::declaring::{Declaration, declare};
+use crate::declaring::{AuditHead, declare};
 use crate::hearing::Hearing;
 use crate::input::AuditFault;
-use crate::item::Item;
+use crate::item::AuditItem;
 use crate::judging::{Verdict, hear_lines};
 use crate::reading::Said;
 use slot_lock::{MapLine, SlotMap};
@@ -33,7 +33,7 @@ pub struct Judged<A: Allocator> {
 fn around_item<M: SlotMap, A: Allocator>(
     alloc: A,
     map: &M,
-    item: &Item,
+    item: &AuditItem,
 ) -> Result<Vec<MapLine, A>, AuditFault>
     ensures ok { IfOk result (λ around. IsAround (slot_metas (M.slots map.now)) (page_told item.now) around.items) }
     ensures err { IfErr result (λ f. f ≡ AuditFault.Io IoFault.NoMemory) }
@@ -64,7 +64,7 @@ fn around_verdict<M: SlotMap, A: Allocator>(
 fn judge_calls<M: SlotMap + Drop, A: Allocator + Clone + Drop>(
     alloc: A,
     map: M,
-    declaration: Declaration<A>,
+    declaration: AuditHead<A>,
     first: Said,
     number: u64,
     rest: &[u8],
@@ -96,7 +96,7 @@ fn judge_calls<M: SlotMap + Drop, A: Allocator + Clone + Drop>(
 }
 
 // The verdict on a text without calls.
-fn judge_none<A: Allocator>(alloc: A, declaration: Declaration<A>) -> Result<Judged<A>, AuditFault>
+fn judge_none<A: Allocator>(alloc: A, declaration: AuditHead<A>) -> Result<Judged<A>, AuditFault>
     ensures ok { IfOk result (λ j. (terms : Terms) (lines : List (List ℕ)) (number : ℕ)
         → IsPlace lines number [] (Front (declared_of declaration))
         → IsVerdict terms lines j.verdict j.around.items) }
@@ -121,7 +121,7 @@ fn judge_none<A: Allocator>(alloc: A, declaration: Declaration<A>) -> Result<Jud
 fn judge_behind<M: SlotMap + Drop, A: Allocator + Clone + Drop>(
     alloc: A,
     map: M,
-    declaration: Declaration<A>,
+    declaration: AuditHead<A>,
     first: Option<Said>,
     number: u64,
     rest: &[u8],
@@ -162,7 +162,7 @@ pub fn judge_text<M: SlotMap + Drop, A: Allocator + Clone + Drop>(
     };
     // this says that lines are fewer than 2^64
     let _most = text.len();
-    let mut declaration = Declaration::new(for_files);
+    let mut declaration = AuditHead::new(for_files);
     match declare(&mut declaration, &alloc, text) {
         Ok(behind) => judge_behind(
             alloc,

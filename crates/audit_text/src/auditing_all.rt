@@ -12,7 +12,7 @@ ghost use Rattle.audit_text.specs.Reviewed.{IsReviewed, IsTextAtFault, ReviewEnd
 ghost use Rattle.audit_text.specs.Steps.{EndsFront, declared_of};
 
 use crate::allowing::Terms;
-use crate::declaring::{Declaration, declare};
+use crate::declaring::{AuditHead, declare};
 use crate::hearing::Hearing;
 use crate::input::AuditFault;
 use crate::judging::Verdict;
@@ -28,7 +28,7 @@ use trace_text::LineText;
 
 /// The result of judging all replies of a text.
 #[derive(Drop)]
-pub struct Review<A: Allocator> {
+pub struct AuditReport<A: Allocator> {
     /// The wrong ones, in their order.
     pub found: Vec<Verdict, A>,
     /// How many calls were judged.
@@ -41,12 +41,12 @@ pub struct Review<A: Allocator> {
 fn review_calls<M: SlotMap + Drop, A: Allocator + Clone + Drop>(
     alloc: A,
     map: M,
-    declaration: Declaration<A>,
+    declaration: AuditHead<A>,
     first: Said,
     number: u64,
     rest: &[u8],
     terms: Terms,
-) -> Result<Review<A>, AuditFault>
+) -> Result<AuditReport<A>, AuditFault>
     requires new { IsNew (M.slots map) }
     requires few { length declaration.files.items ≤ 16 }
     requires from_1 { 1 ≤ number }
@@ -69,7 +69,7 @@ fn review_calls<M: SlotMap + Drop, A: Allocator + Clone + Drop>(
     };
     let mut found = Vec::new(for_found);
     review_lines(&mut hearing, &mut found, first, number, rest)?;
-    Ok(Review {
+    Ok(AuditReport {
         found,
         calls: hearing.judged,
         lacking: hearing.lacking,
@@ -77,7 +77,7 @@ fn review_calls<M: SlotMap + Drop, A: Allocator + Clone + Drop>(
 }
 
 // Judges a text without calls.
-fn review_none<A: Allocator>(alloc: A, declaration: Declaration<A>) -> Result<Review<A>, AuditFault>
+fn review_none<A: Allocator>(alloc: A, declaration: AuditHead<A>) -> Result<AuditReport<A>, AuditFault>
     ensures ok { IfOk result (λ r. (terms : Terms) (lines : List (List ℕ)) (number : ℕ)
         → IsPlace lines number [] (Front (declared_of declaration))
         → IsReviewed terms lines r.found.items r.calls r.lacking) }
@@ -88,7 +88,7 @@ fn review_none<A: Allocator>(alloc: A, declaration: Declaration<A>) -> Result<Re
     if !declaration.has_space {
         return Err(AuditFault::NoVmLine);
     }
-    Ok(Review {
+    Ok(AuditReport {
         found: Vec::new(alloc),
         calls: 0,
         lacking: 0,
@@ -99,12 +99,12 @@ fn review_none<A: Allocator>(alloc: A, declaration: Declaration<A>) -> Result<Re
 fn review_behind<M: SlotMap + Drop, A: Allocator + Clone + Drop>(
     alloc: A,
     map: M,
-    declaration: Declaration<A>,
+    declaration: AuditHead<A>,
     first: Option<Said>,
     number: u64,
     rest: &[u8],
     terms: Terms,
-) -> Result<Review<A>, AuditFault>
+) -> Result<AuditReport<A>, AuditFault>
     requires new { IsNew (M.slots map) }
     requires few { length declaration.files.items ≤ 16 }
     requires from_1 { IfSome first (λ said. 1 ≤ number) }
@@ -128,7 +128,7 @@ pub fn review_text<M: SlotMap + Drop, A: Allocator + Clone + Drop>(
     map: M,
     text: &[u8],
     terms: Terms,
-) -> Result<Review<A>, AuditFault>
+) -> Result<AuditReport<A>, AuditFault>
     requires new { IsNew (M.slots map) }
     ensures ok { IfOk result (λ r. IsReviewed terms (lines_of text.now) r.found.items r.calls r.lacking) }
     ensures err { IfErr result (λ f. IsTextAtFault (lines_of text.now) f) }
@@ -138,7 +138,7 @@ pub fn review_text<M: SlotMap + Drop, A: Allocator + Clone + Drop>(
     };
     // this says that lines are fewer than 2^64
     let _most = text.len();
-    let mut declaration = Declaration::new(for_files);
+    let mut declaration = AuditHead::new(for_files);
     match declare(&mut declaration, &alloc, text) {
         Ok(behind) => review_behind(
             alloc,

@@ -18,7 +18,7 @@ use vm_base::{Mode, NoMemory};
 
 /// What the lines so far declare.
 #[derive(Drop)]
-pub struct Declaration<A: Allocator> {
+pub struct AuditHead<A: Allocator> {
     /// Whether a space is declared.
     pub has_space: bool,
     /// Its files, by their numbers.
@@ -47,7 +47,7 @@ pub struct Behind<'a> {
     pub rest: &'a [u8],
 }
 
-impl<A: Allocator + Clone> Declaration<A> {
+impl<A: Allocator + Clone> AuditHead<A> {
     ghost use Rattle.std.specs.Prelude.{◌≡◌, ◌≤◌, IfOk, OnErr, OnOk, None, Some, false, length, true};
     ghost use Rattle.vm_base.specs.Plain.{file_with};
     ghost use Rattle.trace_text.specs.Line.{seeded};
@@ -56,11 +56,11 @@ impl<A: Allocator + Clone> Declaration<A> {
     ghost use Rattle.audit_text.specs.declared.declaring.Declares.TheVariants as Is;
 
     /// Nothing is declared yet. It takes no memory.
-    pub fn new(alloc: A) -> Declaration<A>
+    pub fn new(alloc: A) -> AuditHead<A>
         ensures declared { declared_of result ≡ undeclared }
         ensures few { length result.files.items ≤ 16 }
     {
-        Declaration {
+        AuditHead {
             has_space: false,
             files: Vec::new(alloc),
         }
@@ -136,7 +136,7 @@ impl<A: Allocator + Clone> Declaration<A> {
 
 /// Takes in the lines up to the first that is no part of a declaration.
 pub(crate) fn declare<'a, A: Allocator + Clone>(
-    declaration: &mut Declaration<A>,
+    declaration: &mut AuditHead<A>,
     alloc: &A,
     text: &'a [u8],
 ) -> Result<Behind<'a>, AuditFault>

@@ -9,8 +9,8 @@ ghost use Rattle.audit_text.specs.Reviewed.{GoesOn, GoesOnBy, IsThere, asked_the
 ghost use Rattle.audit_text.specs.Steps.{IsCounted, count_of, heard_of, terms_of};
 
 use crate::hearing::Hearing;
-use crate::item::Item;
-use audit::{Call, Verdict};
+use crate::item::AuditItem;
+use audit::{Call, ReplyVerdict};
 use slot_lock::SlotMap;
 use std::alloc::Allocator;
 use vm_base::{Flags, NoMemory, PageRange, Reply, Request, page_count, page_of};
@@ -106,8 +106,8 @@ fn go_there<M: SlotMap + Drop, A: Allocator + Drop>(
     }
     let request = asked_there(call.request, at);
     match hearing.auditor.judge(call.core, request, call.reply)? {
-        Verdict::Legal => Ok(true),
-        Verdict::Illegal(_) => Ok(false),
+        ReplyVerdict::Legal => Ok(true),
+        ReplyVerdict::Illegal(_) => Ok(false),
     }
 }
 
@@ -151,7 +151,7 @@ fn go_on<M: SlotMap + Drop, A: Allocator + Drop>(
 /// Goes on from the map after a wrong reply, for which this was due, or after a copy that may not be.
 pub(crate) fn go_on_by<M: SlotMap + Drop, A: Allocator + Drop>(
     hearing: &mut Hearing<M, A>,
-    item: &Item,
+    item: &AuditItem,
     due: Option<Reply>,
 ) -> Result<(), NoMemory>
     ensures goes { OnOk result (GoesOnBy (terms_of hearing.old) (plain_of hearing.old.auditor) item.now due (plain_of hearing.new.auditor)) }
@@ -161,10 +161,10 @@ pub(crate) fn go_on_by<M: SlotMap + Drop, A: Allocator + Drop>(
     ensures terms { terms_of hearing.new ≡ terms_of hearing.old }
 {
     match item {
-        Item::Answer(call) => match due {
+        AuditItem::Answer(call) => match due {
             Some(due) => go_on(hearing, call, due),
             None => Ok(()),
         },
-        Item::Copy(_) => Ok(()),
+        AuditItem::Copy(_) => Ok(()),
     }
 }

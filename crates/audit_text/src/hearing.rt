@@ -2,9 +2,9 @@
 ghost use Rattle.std.specs.Prelude.{◌≡◌, None, IfOk, replicate};
 
 use crate::allowing::{Terms, is_lacking, is_let, may_copy};
-use crate::item::Item;
+use crate::item::AuditItem;
 use crate::reading::Said;
-use audit::{Auditor, Call, Verdict};
+use audit::{Auditor, Call, ReplyVerdict};
 use frames::FileSpec;
 use ghost_list::GhostList;
 use slot_lock::SlotMap;
@@ -23,7 +23,7 @@ pub enum Turn {
     Bad,
     /// Its call may not have this reply, or it tells a copy that may not be. The first plain page map would give this, and
     /// whether no other order of the calls, and no other map, can be after the lines so far.
-    Illegal(Item, Option<Reply>, bool),
+    Illegal(AuditItem, Option<Reply>, bool),
 }
 
 /// What was heard so far.
@@ -38,7 +38,7 @@ pub struct Hearing<M: SlotMap, A: Allocator> {
     /// How many wait.
     pub pending: u64,
     /// The calls that were judged, and the copies between them, all of them legal.
-    pub items: GhostList<Item>,
+    pub items: GhostList<AuditItem>,
     /// How many calls these are.
     pub judged: u64,
     /// How many of them found no frame or no memory.
@@ -107,7 +107,7 @@ impl<M: SlotMap + Drop, A: Allocator + Drop> Hearing<M, A> {
     ghost use Rattle.audit.specs.Judging.{IsGiven};
     ghost use Rattle.audit.specs.Placing.{rule_of};
     ghost use Rattle.audit_text.specs.Heard.{waits, with_answer, with_copy, with_item};
-    ghost use Rattle.audit_text.specs.declared.item.Item.{Item};
+    ghost use Rattle.audit_text.specs.declared.item.AuditItem.{AuditItem};
     ghost use Rattle.audit_text.specs.Steps.{Hears, IsCounted, JudgesCall, MayWant, Passes, count_of, heard_of, terms_of};
     ghost use Rattle.audit_text.specs.declared.reading.Said.TheVariants as Of;
 
@@ -134,7 +134,7 @@ impl<M: SlotMap + Drop, A: Allocator + Drop> Hearing<M, A> {
             self.lacking += 1;
         }
         self.is_sure = certain && !may_copy(call.request, call.reply);
-        self.items = self.items.and(&Item::Answer(call));
+        self.items = self.items.and(&AuditItem::Answer(call));
         self.judged += 1;
     }
 
@@ -148,11 +148,11 @@ impl<M: SlotMap + Drop, A: Allocator + Drop> Hearing<M, A> {
         ensures few { count_of self.new ≤ count_of self.old }
     {
         self.is_sure = certain;
-        self.items = self.items.and(&Item::Copy(page));
+        self.items = self.items.and(&AuditItem::Copy(page));
     }
 
     // What a line told is taken in.
-    pub(crate) fn note(&mut self, certain: bool, item: &Item)
+    pub(crate) fn note(&mut self, certain: bool, item: &AuditItem)
         requires counted { IsCounted self.old }
         requires room { count_of self.old + 1 < 2 ^ 64 }
         ensures heard { heard_of self.new ≡ with_item (heard_of self.old) certain item.now }
@@ -162,8 +162,8 @@ impl<M: SlotMap + Drop, A: Allocator + Drop> Hearing<M, A> {
         ensures few { count_of self.new ≤ count_of self.old + 1 }
     {
         match item {
-            Item::Answer(call) => self.note_answer(certain, *call),
-            Item::Copy(page) => self.note_copy(certain, *page),
+            AuditItem::Answer(call) => self.note_answer(certain, *call),
+            AuditItem::Copy(page) => self.note_copy(certain, *page),
         }
     }
 
@@ -180,20 +180,20 @@ impl<M: SlotMap + Drop, A: Allocator + Drop> Hearing<M, A> {
         ensures terms { terms_of self.new ≡ terms_of self.old }
         ensures counted { OnOk result (IsCounted self.new) }
         ensures few { OnOk result (count_of self.new ≤ count_of self.old + 1) }
-        ensures still { (item : Item) (due : Option Reply) (certain : Bool)
+        ensures still { (item : AuditItem) (due : Option Reply) (certain : Bool)
             → result ≡ Ok (Turn.Illegal item due certain) → count_of self.new ≤ count_of self.old }
     {
         match self.auditor.judge(call.core, call.request, call.reply)? {
-            Verdict::Legal => {
+            ReplyVerdict::Legal => {
                 self.note_answer(certain, call);
                 Ok(Turn::Legal)
             }
-            Verdict::Illegal(due) => {
+            ReplyVerdict::Illegal(due) => {
                 if is_let(self.is_strict, call.request, due, call.reply) {
                     self.note_answer(certain, call);
                     return Ok(Turn::Legal);
                 }
-                Ok(Turn::Illegal(Item::Answer(call), Some(due), certain))
+                Ok(Turn::Illegal(AuditItem::Answer(call), Some(due), certain))
             }
         }
     }
@@ -220,7 +220,7 @@ impl<M: SlotMap + Drop, A: Allocator + Drop> Hearing<M, A> {
         ensures terms { terms_of self.new ≡ terms_of self.old }
         ensures counted { OnOk result (IsCounted self.new) }
         ensures few { OnOk result (count_of self.new ≤ count_of self.old + 1) }
-        ensures still { (item : Item) (due : Option Reply) (certain : Bool)
+        ensures still { (item : AuditItem) (due : Option Reply) (certain : Bool)
             → result ≡ Ok (Turn.Illegal item due certain) → count_of self.new ≤ count_of self.old }
     {
         if self.waits(call.core).is_some() {
@@ -262,7 +262,7 @@ impl<M: SlotMap + Drop, A: Allocator + Drop> Hearing<M, A> {
         ensures terms { terms_of self.new ≡ terms_of self.old }
         ensures counted { OnOk result (IsCounted self.new) }
         ensures few { OnOk result (count_of self.new ≤ count_of self.old + 1) }
-        ensures still { (item : Item) (due : Option Reply) (certain : Bool)
+        ensures still { (item : AuditItem) (due : Option Reply) (certain : Bool)
             → result ≡ Ok (Turn.Illegal item due certain) → count_of self.new ≤ count_of self.old }
     {
         let Some(request) = self.waits(core) else {
@@ -295,7 +295,7 @@ impl<M: SlotMap + Drop, A: Allocator + Drop> Hearing<M, A> {
         let sure = self.is_certain(0);
         let copied = self.auditor.copy(page)?;
         if !copied {
-            return Ok(Turn::Illegal(Item::Copy(page), None, sure));
+            return Ok(Turn::Illegal(AuditItem::Copy(page), None, sure));
         }
         self.note_copy(sure, page);
         Ok(Turn::Legal)
@@ -332,7 +332,7 @@ impl<M: SlotMap + Drop, A: Allocator + Drop> Hearing<M, A> {
         ensures terms { terms_of self.new ≡ terms_of self.old }
         ensures counted { OnOk result (IsCounted self.new) }
         ensures few { OnOk result (count_of self.new ≤ count_of self.old + 1) }
-        ensures still { (item : Item) (due : Option Reply) (certain : Bool)
+        ensures still { (item : AuditItem) (due : Option Reply) (certain : Bool)
             → result ≡ Ok (Turn.Illegal item due certain) → count_of self.new ≤ count_of self.old }
     {
         match said {

@@ -7,21 +7,21 @@ use audit::Call;
 
 /// What is judged, one after another.
 #[derive(Clone, Copy)]
-pub enum Item {
+pub enum AuditItem {
     /// A call, and what it was answered.
     Answer(Call),
     /// The private page with this number gets its copy now, as a step by itself.
     Copy(u64),
 }
 
-impl Item {
+impl AuditItem {
     /// The page that it is about: that of the request's address, or the one that is copied.
     pub(crate) fn page(&self) -> u64
         ensures { result ≡ page_told self.now }
     {
         match self {
-            Item::Answer(call) => page_asked(call.request),
-            Item::Copy(page) => *page,
+            AuditItem::Answer(call) => page_asked(call.request),
+            AuditItem::Copy(page) => *page,
         }
     }
 }

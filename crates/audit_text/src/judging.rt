@@ -8,7 +8,7 @@ ghost use Rattle.audit_text.specs.Steps.{IsCall, IsCounted, IsFound, IsWanting, 
 
 use crate::hearing::{Hearing, Turn};
 use crate::input::{AuditFault, said_at};
-use crate::item::Item;
+use crate::item::AuditItem;
 use crate::reading::Said;
 use slot_lock::SlotMap;
 use std::alloc::Allocator;
@@ -33,7 +33,7 @@ pub enum Verdict {
         /// The number of its line, from 1.
         line: u64,
         /// The call, with what the text says that it was answered, or the copy.
-        item: Item,
+        item: AuditItem,
         /// What the first plain page map would give; `None` for a copy.
         due: Option<Reply>,
     },
@@ -42,7 +42,7 @@ pub enum Verdict {
         /// The number of its line, from 1.
         line: u64,
         /// The call, with what the text says that it was answered, or the copy.
-        item: Item,
+        item: AuditItem,
         /// What the first plain page map would give; `None` for a copy.
         due: Option<Reply>,
     },

@@ -10,7 +10,7 @@ ghost use Rattle.audit_text.specs.Steps.{IsCounted, count_of, heard_of, terms_of
 use crate::going_on::go_on_by;
 use crate::hearing::{Hearing, Turn};
 use crate::input::{AuditFault, said_at};
-use crate::item::Item;
+use crate::item::AuditItem;
 use crate::judging::Verdict;
 use crate::reading::Said;
 use slot_lock::SlotMap;
@@ -20,7 +20,7 @@ use trace_io::lines::front_line;
 use vm_base::Reply;
 
 // What is said about a wrong reply, or of a copy that may not be.
-fn wrong_at(line: u64, item: &Item, due: Option<Reply>, certain: bool) -> Verdict
+fn wrong_at(line: u64, item: &AuditItem, due: Option<Reply>, certain: bool) -> Verdict
     ensures { result ≡ wrong_at line item.now due certain }
 {
     if certain {
@@ -43,7 +43,7 @@ fn tell_wrong<M: SlotMap + Drop, A: Allocator + Drop, B: Allocator>(
     hearing: &mut Hearing<M, A>,
     found: &mut Vec<Verdict, B>,
     line: u64,
-    item: Item,
+    item: AuditItem,
     due: Option<Reply>,
     certain: bool,
 ) -> Result<(), AuditFault>

@@ -1,10 +1,10 @@
 //! The lines that tell a verdict.
 ghost use Rattle.std.specs.Prelude.{◌≡◌, ◌+◌, ◌≤◌, ◌++◌, IfOk, OnOk, Some, codes, decimal, length};
-ghost use Rattle.audit_text.specs.declared.item.Item.TheVariants.{Answer};
+ghost use Rattle.audit_text.specs.declared.item.AuditItem.TheVariants.{Answer};
 ghost use Rattle.std.specs.List.{flat_map};
 ghost use Rattle.audit_text.specs.Ends.{head_text, lacking_text, mapping_text, some_lacking, verdict_text, wrong_text};
 
-use crate::item::Item;
+use crate::item::AuditItem;
 use crate::judging::Verdict;
 use audit::Call;
 use slot_lock::MapLine;
@@ -72,16 +72,16 @@ fn write_copy(text: &mut LineText, word: &str, line: u64)
 }
 
 // Replaces the text by the line of either.
-fn write_wrong(text: &mut LineText, word: &str, line: u64, item: &Item, due: Option<Reply>)
+fn write_wrong(text: &mut LineText, word: &str, line: u64, item: &AuditItem, due: Option<Reply>)
     requires { length word.now ≤ 10 }
     ensures { text.new.bytes ≡ wrong_text word.now line item.now due }
 {
     match item {
-        Item::Answer(call) => match due {
+        AuditItem::Answer(call) => match due {
             Some(due) => write_reply(text, word, line, call, due),
             None => write_copy(text, word, line),
         },
-        Item::Copy(_) => write_copy(text, word, line),
+        AuditItem::Copy(_) => write_copy(text, word, line),
     }
 }
 

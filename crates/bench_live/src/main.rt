@@ -1,10 +1,13 @@
-// How long calls of threads take, and how long what they share takes by itself: nanoseconds a round, those of
-// the slowest thread. `bench_live KIND THREADS ROUNDS` times a part (`tree`, `tickets`, `draws`, `mutex`,
-// `own`), or the script on standard input, which makes so many rounds (`shared`, `apart`, `machine`);
-// bench/threads.sh compares them. `bench_live notes` runs the script on standard input by threads, and shows
-// nanoseconds a note that it takes to run the noted events, to certify the notes, and to certify them beside
-// the histories of the slots, for bench/certify.sh. `bench_live rewrite` writes the notes on standard input
-// in order of their tickets, for bench/notes.sh. With no word each of them has little to do.
+//! Times of threads and of the parts that they share, for bench/threads.sh.
+//!
+//! It shows nanoseconds a round, those of the slowest thread. `bench_live KIND THREADS ROUNDS` times a part (`tree`,
+//! `tickets`, `draws`, `mutex`, `own`), or the script on standard input, which makes so many rounds (`shared`,
+//! `apart`, `machine`). `bench_live notes` runs that script by threads, and shows nanoseconds a note that it takes to
+//! run the noted events, to certify the notes, and to certify them beside the histories of the slots
+//! (bench/certify.sh). `bench_live rewrite` writes the notes on standard input in order of their tickets
+//! (bench/notes.sh). With no word each of them has little to do.
+//!
+//! - `scripts`, `parts`, `rewriting`: what is timed; `threads`: workers, each on a thread of its own.
 #![tactic(auto)]
 
 ghost use Rattle.std.specs.Prelude.{◌≤◌};

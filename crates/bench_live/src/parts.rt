@@ -6,7 +6,7 @@ ghost use Rattle.std.specs.Prelude.{◌≡◌, ◌+◌, ◌<◌, ◌≤◌, ◌^
 use crate::threads::{Worker, since, slowest};
 use crossbeam_utils::CachePadded;
 use live_levels::level::Stepper;
-use live_tree::held::{Got, Held};
+use live_tree::held::{HoldStep, Held};
 use live_tree::tree::SharedTree;
 use seats::{Ticketer, Tickets, ticketers};
 use std::alloc::Global;
@@ -144,7 +144,7 @@ fn lock_and_read<R: Wait>(
     let got = held.lock_next(rt, tree, counter, core, page + 1, 0);
     let is_unmapped = held.page(page).is_none();
     held.letting().unlock_all(counter);
-    got == Got::Locked && is_unmapped
+    got == HoldStep::Locked && is_unmapped
 }
 
 /// How many of so many rounds locked the page.

@@ -39,7 +39,7 @@ pub fn rewrite<R: Read + Drop, W: Write + Drop>(alloc: Global, input: R, output:
     let Ok(buffer) = BufWriter::new(alloc, output) else {
         return false;
     };
-    let mut writer = sink::Noted::new(buffer);
+    let mut writer = sink::TrackedSink::new(buffer);
     let notes = collected.items().list.notes();
     write_notes(&script, &[notes], &mut writer).is_ok()
 }

@@ -3,9 +3,9 @@
 use crate::threads::{Worker, since, slowest};
 use certifier::certify;
 use core_steps::{Finished, Machine, run};
-use machine_log::Forgotten;
+use machine_log::KeepsNone;
 use machine_model::Setup;
-use live_script::{Ran, begin, certify_ran, finish_in_turn, finish_side_by_side, run_script};
+use live_script::{RunSpace, begin, certify_ran, finish_in_turn, finish_side_by_side, run_script};
 use machine_model::{Event, Outcome};
 use trace_words::{Script, Task};
 use radix_range::RadixMap;
@@ -26,7 +26,7 @@ fn is_served(outcome: Outcome) -> bool {
 }
 
 /// The time, where all calls that were noted were served.
-fn if_served(alloc: Global, ran: &Ran<Global>, nanos: u128) -> Option<u128> {
+fn if_served(alloc: Global, ran: &RunSpace<Global>, nanos: u128) -> Option<u128> {
     let seats = ran.notes(alloc).ok()?;
     for notes in seats.as_slice() {
         for at in 0..notes.len() {
@@ -94,7 +94,7 @@ fn setup_of(alloc: Global, script: &Script<Global>) -> Option<Setup<Global>> {
 }
 
 /// Makes the calls of core 0; tells whether all were served.
-fn make_calls(machine: &mut Machine<RadixMap<Global>, Global, Forgotten>, tasks: &[Task]) -> bool {
+fn make_calls(machine: &mut Machine<RadixMap<Global>, Global, KeepsNone>, tasks: &[Task]) -> bool {
     for task in tasks {
         let Task::Call(request) = task else {
             return false;
@@ -146,7 +146,7 @@ fn time_run(
     let setup = setup_of(alloc, script)?;
     let map = RadixMap::new(alloc).ok()?;
     let start = Instant::now(rt).ok()?;
-    let done = run::<RadixMap<Global>, Global, Forgotten>(alloc, map, setup, events);
+    let done = run::<RadixMap<Global>, Global, KeepsNone>(alloc, map, setup, events);
     if done.is_err() {
         return None;
     }
@@ -173,7 +173,7 @@ fn time_ran(
     rt: &impl Clock,
     alloc: Global,
     script: &Script<Global>,
-    ran: &Ran<Global>,
+    ran: &RunSpace<Global>,
 ) -> Option<(u64, u128, u128)> {
     let seats = ran.notes(alloc).ok()?;
     let events = events_of(alloc, seats.as_slice())?;

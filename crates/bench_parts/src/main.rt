@@ -1,5 +1,9 @@
-// How long the parts take: `bench_parts PART` shows nanoseconds a round. bench/pieces.sh says what the
-// parts are, and compares them with plain Rust. With no word each part has little to do.
+//! Times of parts: hardware, frames, references and slot maps, for bench/pieces.sh.
+//!
+//! `bench_parts PART` shows nanoseconds a round; with no word each part has little to do. bench/pieces.sh says what
+//! the parts are, and compares them with plain Rust.
+//!
+//! - `hardware`, `memory`, `slots`: what is timed; `timing`: rounds, and how long they take.
 #![tactic(auto)]
 
 ghost use Rattle.std.specs.Prelude.{◌<◌};

@@ -16,7 +16,7 @@ use Rattle.core_steps.specs.Running.{RunsAsMap}
 use Rattle.machine_model.specs.Setups.{fault_of, made_of}
 use Rattle.core_steps.proofs.Runs.{as_map_more}
 use Rattle.seats.specs.declared.noted.Noted.{Noted}
-use Rattle.certifier.specs.declared.order.Place.{Place}
+use Rattle.certifier.specs.declared.order.NotePlace.{NotePlace}
 use Rattle.certifier.specs.declared.order.Standing.{Standing}
 use Rattle.certifier.specs.declared.order.Standing.TheVariants.{No, Once}
 use Rattle.certifier.specs.declared.result.CertifyFault.{CertifyFault}
@@ -29,13 +29,13 @@ use Rattle.certifier.proofs.Standing.{no_more, not_once, once, place_within}
 -- ---- the standings
 
 -- how a ticket stands whose standing was read as one that stands once
-read : (seats : List (List Noted)) (ss : List Standing) (t : ℕ) (d : Standing) (place : Place) → AreStandings seats ss → t < length ss
+read : (seats : List (List Noted)) (ss : List Standing) (t : ℕ) (d : Standing) (place : NotePlace) → AreStandings seats ss → t < length ss
     → get_or ss t d ≡ Once place → Stands seats (Once place) (with_ticket t (all_notes seats))
 read seats ss t d place h lt e =
     subst (λ s. Stands seats s (with_ticket t (all_notes seats))) (get_or_default ss t No d lt ∙ e) (h.each t lt)
 
 -- it has a place
-pub place_there : (seats : List (List Noted)) (ss : List Standing) (t : ℕ) (d : Standing) (place : Place) → AreStandings seats ss → t < length ss
+pub place_there : (seats : List (List Noted)) (ss : List Standing) (t : ℕ) (d : Standing) (place : NotePlace) → AreStandings seats ss → t < length ss
     → get_or ss t d ≡ Once place → IsPlace seats place
 place_there seats ss t d place h lt e =
     let one = read seats ss t d place h lt e in place_within seats place one.0 one.1
@@ -45,7 +45,7 @@ from None x = x
 from (Some y) x = y
 
 -- where its only note is
-pub only : (seats : List (List Noted)) (ss : List Standing) (t : ℕ) (d : Standing) (place : Place) (x : Noted) → AreStandings seats ss → t < length ss
+pub only : (seats : List (List Noted)) (ss : List Standing) (t : ℕ) (d : Standing) (place : NotePlace) (x : Noted) → AreStandings seats ss → t < length ss
     → get_or ss t d ≡ Once place → note_at seats place ≡ Some x → with_ticket t (all_notes seats) ≡ x ∷ []
 only seats ss t d place x h lt e at =
     let one = read seats ss t d place h lt e in

@@ -12,7 +12,7 @@ ghost use Rattle.certifier.specs.Standings.{AreStandings};
 use crate::following::follow;
 use crate::order::{Standing, first_amiss, standings};
 use crate::result::{Certified, CertifyFault};
-use machine_log::Forgotten;
+use machine_log::KeepsNone;
 use machine_model::Setup;
 use live_levels::close::SlotHistory;
 use live_tree::histories::Histories;
@@ -64,7 +64,7 @@ pub fn certify_standing<A: Allocator + Clone + Drop>(
         return Err(CertifyFault::NoMemory);
     };
     let histories = slots_of(slots);
-    follow::<RadixMap<A>, A, Forgotten>(alloc, map, setup, seats, standings, histories)
+    follow::<RadixMap<A>, A, KeepsNone>(alloc, map, setup, seats, standings, histories)
 }
 
 /// Certifies the notes of all seats of a space: in order of their tickets, which are those below their

@@ -3,14 +3,14 @@ use Rattle.machine_model.proofs.Words.{◌≡◌, ℕ, refl, sym, subst}
 use Rattle.std.specs.Prelude.{◌-◌, nat_lt, if◌then◌else◌, Option, Some}
 use Rattle.vm_base.specs.declared.requests.Request.{Request}
 use Rattle.vm_base.specs.declared.requests.Request.TheVariants as Asks
-use Rattle.coded.specs.declared.codes.Kind.TheVariants as Is
+use Rattle.coded.specs.declared.codes.EventCode.TheVariants as Is
 use Rattle.coded.specs.declared.codes.RawEvent.{RawEvent}
-use Rattle.coded.specs.declared.codes.Item.{Item}
-use Rattle.coded.specs.declared.codes.Item.TheVariants as To
+use Rattle.coded.specs.declared.codes.BatchItem.{BatchItem}
+use Rattle.coded.specs.declared.codes.BatchItem.TheVariants as To
 use Rattle.coded.specs.Codes.{call_of, core_of, event_with, item_from, item_of, item_with, kind_of, request_at, step_from}
 
 -- a code below 64 asks for an item of its kind
-item_of_code : (r : RawEvent) (code core : ℕ) (i : Item) → r.kind ≡ code → core_of r.core ≡ Some core
+item_of_code : (r : RawEvent) (code core : ℕ) (i : BatchItem) → r.kind ≡ code → core_of r.core ≡ Some core
     → (if nat_lt code 64 then item_with r (kind_of code) (Some core) else step_from (event_with r (kind_of (code - 64)) (Some core))) ≡ Some i
     → item_of r ≡ Some i
 item_of_code r code core i k c e =

@@ -5,19 +5,19 @@ use Rattle.std.specs.Prelude.{Option, Some}
 use Rattle.std.proofs.lemmas.List.{drop_more, set_at, set-get_or, length-append, map_push, map_more}
 use Rattle.core_steps.specs.Moving.{MayWant}
 use Rattle.shared.proofs.Places.{one_longer, said_more, same_place, told_more}
-use Rattle.coded.specs.declared.batch.Stop.{Stop}
-use Rattle.coded.specs.declared.batch.Stop.TheVariants.{BadEvent, NoMemory}
+use Rattle.coded.specs.declared.batch.BatchStop.{BatchStop}
+use Rattle.coded.specs.declared.batch.BatchStop.TheVariants.{BadEvent, NoMemory}
 use Rattle.machine_model.proofs.Bracketed.{bracketed}
 use Rattle.machine_model.proofs.SoundKept.{run_more, runs_sound, reached_opening}
 use Rattle.core_steps.specs.Machine.{IsLegal}
 use Rattle.core_steps.proofs.Reached.{legal}
 use Rattle.core_steps.proofs.Runs.{plainly}
-use Rattle.coded.specs.declared.batch.Ended.{Ended}
+use Rattle.coded.specs.declared.batch.BatchEnd.{BatchEnd}
 use Rattle.coded.specs.declared.opening.RawSetup.{RawSetup}
 use Rattle.coded.specs.declared.opening.RawFile.{RawFile}
 use Rattle.coded.specs.Opening.{IsMade, OpensAs}
 use Rattle.core_steps.specs.declared.machine.Finished.{Finished}
-use Rattle.coded.specs.declared.codes.Item.{Item}
+use Rattle.coded.specs.declared.codes.BatchItem.{BatchItem}
 use Rattle.coded.specs.declared.codes.RawEvent.{RawEvent}
 use Rattle.coded.specs.declared.codes.RawOutcome.{RawOutcome}
 use Rattle.coded.specs.Codes.{event_of, item_of, outcome_code, finished_code}
@@ -43,7 +43,7 @@ runs_more keeps w raws n was now m d put u v low room takes h = record {
 
 -- an event that isn't taken leaves what is told, and the machine
 pub runs_still : (keeps : Bool) (w : World) (raws : List RawEvent) (n : ℕ) (was now : List RawOutcome) (m : World) (d : RawEvent) (c put : RawOutcome)
-    (stop : Stop) (v : World) → Takes keeps m (get_or raws n d) (get_or now n c) (Err stop) put v → RunsFirst w raws n was now m
+    (stop : BatchStop) (v : World) → Takes keeps m (get_or raws n d) (get_or now n c) (Err stop) put v → RunsFirst w raws n was now m
     → RunsFirst w raws n was (set now n put) v
 runs_still keeps w raws n was now m d c put BadEvent v takes h =
     subst (λ x. RunsFirst w raws n was (set now n put) x) (sym takes.1)
@@ -52,7 +52,7 @@ runs_still keeps w raws n was now m d c put NoMemory v takes h =
     subst (λ x. RunsFirst w raws n was (set now n put) x) (sym takes.3)
     (subst (λ xs. RunsFirst w raws n was xs m) (sym (same_place now n c put takes.4)) h)
 
-pub stops_at : (keeps : Bool) (raws : List RawEvent) (n : ℕ) (m : World) (d : RawEvent) (c put : RawOutcome) (stop : Stop) (v : World) → n < length raws
+pub stops_at : (keeps : Bool) (raws : List RawEvent) (n : ℕ) (m : World) (d : RawEvent) (c put : RawOutcome) (stop : BatchStop) (v : World) → n < length raws
     → Takes keeps m (get_or raws n d) c (Err stop) put v → StopsAt keeps raws (Some stop) n v
 stops_at keeps raws n m d c put BadEvent v low takes = (get_or raws n d, slice_get-get_or raws n d low, takes.0)
 stops_at keeps raws n m d c put NoMemory v low takes = (
@@ -63,7 +63,7 @@ stops_at keeps raws n m d c put NoMemory v low takes = (
 
 -- ---- items
 
-all_more : (is : List Item) (fs : List Finished) (w m v : World) (i : Item) (f : Finished) → MakesAll w is fs m → Makes m i f v
+all_more : (is : List BatchItem) (fs : List Finished) (w m v : World) (i : BatchItem) (f : Finished) → MakesAll w is fs m → Makes m i f v
     → MakesAll w (is ++ i ∷ []) (fs ++ f ∷ []) v
 all_more [] [] w m v i f r s = (v, subst (λ w. Makes w i f v) r s, refl)
 all_more [] (g ∷ fs) w m v i f r s = absurd r
@@ -87,7 +87,7 @@ makes_more keeps w raws n was now m d put u v low room takes h = record {
 }
 
 pub makes_still : (keeps : Bool) (w : World) (raws : List RawEvent) (n : ℕ) (was now : List RawOutcome) (m : World) (d : RawEvent) (c put : RawOutcome)
-    (stop : Stop) (v : World) → n < length raws → TakesItem keeps m (get_or raws n d) (get_or now n c) (Err stop) put v → MakesFirst w raws n was now m
+    (stop : BatchStop) (v : World) → n < length raws → TakesItem keeps m (get_or raws n d) (get_or now n c) (Err stop) put v → MakesFirst w raws n was now m
     → MakesUntil keeps w raws (record { stop = Some stop; count = n }) was (set now n put) v
 makes_still keeps w raws n was now m d c put BadEvent v low takes h = (
   m,
@@ -102,7 +102,7 @@ makes_still keeps w raws n was now m d c put NoMemory v low takes h = (
 
 -- ---- on a new machine
 
-ran_new : (setup : RawSetup) (files : List RawFile) (buffer : List ℕ) (raws : List RawEvent) (was : List RawOutcome) (ended : Ended) (told : List RawOutcome)
+ran_new : (setup : RawSetup) (files : List RawFile) (buffer : List ℕ) (raws : List RawEvent) (was : List RawOutcome) (ended : BatchEnd) (told : List RawOutcome)
     (made : Made) (slots : Slots) (v : World) → IsMade setup files buffer made → IsNew slots → RunsFirst (new_world made slots) raws ended.count was told v
     → StopsAt false raws ended.stop ended.count v → RanOnNew setup files buffer raws was ended told
 ran_new setup files buffer raws was ended told made slots v is new h stops = record {
@@ -118,14 +118,14 @@ ran_new setup files buffer raws was ended told made slots v is new h stops = rec
   sound = runs_sound made slots h.events h.outcomes v is.few new h.run;
 }
 
-pub ran : (setup : RawSetup) (files : List RawFile) (buffer : List ℕ) (raws : List RawEvent) (was : List RawOutcome) (ended : Ended) (told : List RawOutcome)
+pub ran : (setup : RawSetup) (files : List RawFile) (buffer : List ℕ) (raws : List RawEvent) (was : List RawOutcome) (ended : BatchEnd) (told : List RawOutcome)
     (w v : World) → OpensAs setup files buffer w → RunsFirst w raws ended.count was told v → StopsAt false raws ended.stop ended.count v
     → RanOnNew setup files buffer raws was ended told
 ran setup files buffer raws was ended told w v opens h stops =
     ran_new setup files buffer raws was ended told opens.0 opens.1 v opens.2 opens.3
     (subst (λ u. RunsFirst u raws ended.count was told v) opens.4 h) stops
 
-pub made_on : (setup : RawSetup) (files : List RawFile) (buffer : List ℕ) (raws : List RawEvent) (was : List RawOutcome) (ended : Ended)
+pub made_on : (setup : RawSetup) (files : List RawFile) (buffer : List ℕ) (raws : List RawEvent) (was : List RawOutcome) (ended : BatchEnd)
     (told : List RawOutcome) (w v : World) → OpensAs setup files buffer w → MakesUntil false w raws ended was told v → (IsLegal w → IsLegal v)
     → MadeOnNew setup files buffer raws was ended told
 made_on setup files buffer raws was ended told w v opens makes keeps =

@@ -17,17 +17,17 @@ use Rattle.core_steps.specs.Finishing.{Calls, Finishes, IsCallRefused, IsRefused
 use Rattle.core_steps.specs.Machine.{IsLegal}
 use Rattle.core_steps.specs.Moving.{MayWant}
 use Rattle.core_steps.specs.Running.{LogsPlainly}
-use Rattle.coded.specs.declared.codes.Item.{Item}
-use Rattle.coded.specs.declared.codes.Item.TheVariants as To
+use Rattle.coded.specs.declared.codes.BatchItem.{BatchItem}
+use Rattle.coded.specs.declared.codes.BatchItem.TheVariants as To
 use Rattle.coded.specs.declared.codes.RawEvent.{RawEvent}
 use Rattle.coded.specs.declared.codes.RawOutcome.{RawOutcome}
 use Rattle.coded.specs.declared.opening.RawSetup.{RawSetup}
 use Rattle.coded.specs.declared.opening.RawFile.{RawFile}
 use Rattle.coded.specs.declared.opening.Refusal.{Refusal}
 use Rattle.coded.specs.declared.opening.Refusal.TheVariants as By
-use Rattle.coded.specs.declared.batch.Stop.{Stop}
-use Rattle.coded.specs.declared.batch.Stop.TheVariants.{BadEvent, NoMemory}
-use Rattle.coded.specs.declared.batch.Ended.{Ended}
+use Rattle.coded.specs.declared.batch.BatchStop.{BatchStop}
+use Rattle.coded.specs.declared.batch.BatchStop.TheVariants.{BadEvent, NoMemory}
+use Rattle.coded.specs.declared.batch.BatchEnd.{BatchEnd}
 use Rattle.coded.specs.declared.batch.Done.{Done}
 use Rattle.coded.specs.Codes.{event_of, item_of, outcome_code, finished_code}
 use Rattle.coded.specs.Opening.{IsMade, Refuses}
@@ -35,7 +35,7 @@ use Rattle.coded.specs.Opening.{IsMade, Refuses}
 -- ---- one event
 
 -- the event was taken, and is told; one that is none, or that memory was refused to, changed nothing
-abbrev pub Takes : Bool → World → RawEvent → RawOutcome → Result Unit Stop → RawOutcome → World
+abbrev pub Takes : Bool → World → RawEvent → RawOutcome → Result Unit BatchStop → RawOutcome → World
     → Type 0
 Takes keeps w raw was (Ok _) told v = (e : Event) × (o : Outcome) × (event_of raw ≡ Some e)
     × Step w e o v × (told ≡ outcome_code o)
@@ -44,41 +44,41 @@ Takes keeps w raw was (Err NoMemory) told v = (e : Event) × (event_of raw ≡ S
     × MayWant keeps w e × (v ≡ w) × (told ≡ was)
 
 -- what an item of a batch of calls does
-abbrev pub Makes : World → Item → Finished → World → Type 0
+abbrev pub Makes : World → BatchItem → Finished → World → Type 0
 Makes w (To.Call core request) finished v = Calls w core request finished v
 Makes w (To.Finish core) finished v = Finishes w core finished v
 Makes w (To.Step event) (Last outcome) v = Step w event outcome v
 Makes w (To.Step event) Stuck v = ⊥
 
 -- some step of it was refused for memory, and those before it were made
-abbrev pub IsItemRefused : Bool → World → Item → World → Type 0
+abbrev pub IsItemRefused : Bool → World → BatchItem → World → Type 0
 IsItemRefused keeps w (To.Call core request) v = IsCallRefused keeps w core request v
 IsItemRefused keeps w (To.Finish core) v = IsRefused keeps w core v
 IsItemRefused keeps w (To.Step event) v = (v ≡ w) × MayWant keeps w event
 
 -- an item is made, or a step of it is refused for want of memory, before which its steps stay made
-abbrev pub MakesOne : Bool → World → Item → Result Finished MemoryFault → World → Type 0
+abbrev pub MakesOne : Bool → World → BatchItem → Result Finished MemoryFault → World → Type 0
 MakesOne keeps w item (Ok finished) v = Makes w item finished v
 MakesOne keeps w item (Err _) v = IsItemRefused keeps w item v
 
 -- what C wrote is read and made, if it asks for something
 abbrev pub MakesRaw : Bool → World → RawEvent → Option (Result Finished MemoryFault) → World → Type 0
-MakesRaw keeps w raw (Some made) v = (i : Item) × (item_of raw ≡ Some i) × MakesOne keeps w i made v
+MakesRaw keeps w raw (Some made) v = (i : BatchItem) × (item_of raw ≡ Some i) × MakesOne keeps w i made v
 MakesRaw keeps w raw None v = (item_of raw ≡ None) × (v ≡ w)
 
 -- what C wrote is read and made, or stops the batch
-abbrev pub TakesItem : Bool → World → RawEvent → RawOutcome → Result Unit Stop → RawOutcome
+abbrev pub TakesItem : Bool → World → RawEvent → RawOutcome → Result Unit BatchStop → RawOutcome
     → World → Type 0
-TakesItem keeps w raw was (Ok _) told v = (i : Item) × (f : Finished) × (item_of raw ≡ Some i)
+TakesItem keeps w raw was (Ok _) told v = (i : BatchItem) × (f : Finished) × (item_of raw ≡ Some i)
     × Makes w i f v × (told ≡ finished_code f)
 TakesItem keeps w raw was (Err BadEvent) told v = (item_of raw ≡ None) × (v ≡ w) × (told ≡ was)
-TakesItem keeps w raw was (Err NoMemory) told v = (i : Item) × (item_of raw ≡ Some i)
+TakesItem keeps w raw was (Err NoMemory) told v = (i : BatchItem) × (item_of raw ≡ Some i)
     × IsItemRefused keeps w i v × (told ≡ was)
 
 -- ---- many
 
 -- the items, one after another, come to this
-abbrev pub MakesAll : World → List Item → List Finished → World → Type 0
+abbrev pub MakesAll : World → List BatchItem → List Finished → World → Type 0
 MakesAll w [] [] v = v ≡ w
 MakesAll w (i ∷ is) (f ∷ fs) v = (m : World) × Makes w i f m × MakesAll m is fs v
 MakesAll w [] (f ∷ fs) v = ⊥
@@ -98,7 +98,7 @@ pub record RunsFirst (w : World) (raws : List RawEvent) (n : ℕ) (was now : Lis
 -- the first n items are made one after another, and each is told
 pub record MakesFirst (w : World) (raws : List RawEvent) (n : ℕ) (was now : List RawOutcome)
     (v : World) : Type 0 where
-  pub items : List Item
+  pub items : List BatchItem
   pub finished : List Finished
   pub said : map item_of (take n raws) ≡ map Some items
   pub made : MakesAll w items finished v
@@ -106,7 +106,7 @@ pub record MakesFirst (w : World) (raws : List RawEvent) (n : ℕ) (was now : Li
   pub told : now ≡ map finished_code finished ++ drop n was
 
 -- all were taken, or the next is none, or memory was refused to it
-abbrev pub StopsAt : Bool → List RawEvent → Option Stop → ℕ → World → Type 0
+abbrev pub StopsAt : Bool → List RawEvent → Option BatchStop → ℕ → World → Type 0
 StopsAt keeps raws None n v = n ≡ length raws
 StopsAt keeps raws (Some BadEvent) n v =
     (raw : RawEvent) × (slice_get raws n ≡ Some raw) × (event_of raw ≡ None)
@@ -115,16 +115,16 @@ StopsAt keeps raws (Some NoMemory) n v =
     × ((e : Event) × (event_of raw ≡ Some e) × MayWant keeps v e)
 
 -- where and why a batch stops: at its end, at what is no item, or for want of memory
-abbrev pub ItemStopsAt : Bool → List RawEvent → Option Stop → ℕ → World → World → Type 0
+abbrev pub ItemStopsAt : Bool → List RawEvent → Option BatchStop → ℕ → World → World → Type 0
 ItemStopsAt keeps raws None n m v = (n ≡ length raws) × (v ≡ m)
 ItemStopsAt keeps raws (Some BadEvent) n m v =
     (raw : RawEvent) × (slice_get raws n ≡ Some raw) × (item_of raw ≡ None) × (v ≡ m)
 ItemStopsAt keeps raws (Some NoMemory) n m v =
     (raw : RawEvent) × (slice_get raws n ≡ Some raw)
-    × ((i : Item) × (item_of raw ≡ Some i) × IsItemRefused keeps m i v)
+    × ((i : BatchItem) × (item_of raw ≡ Some i) × IsItemRefused keeps m i v)
 
 -- of an item that memory was refused to some steps may have been made
-abbrev pub MakesUntil : Bool → World → List RawEvent → Ended → List RawOutcome → List RawOutcome
+abbrev pub MakesUntil : Bool → World → List RawEvent → BatchEnd → List RawOutcome → List RawOutcome
     → World → Type 0
 MakesUntil keeps w raws ended was told v =
     (m : World) × MakesFirst w raws ended.count was told m
@@ -159,7 +159,7 @@ RefusesBatch setup files bytes raws was refusal =
 -- reply once between its call and its answer, and in each of whose states each translation agrees
 -- with that map.
 pub record RanOnNew (setup : RawSetup) (files : List RawFile) (bytes : List ℕ) (raws : List RawEvent)
-    (was : List RawOutcome) (ended : Ended) (told : List RawOutcome) : Type 0 where
+    (was : List RawOutcome) (ended : BatchEnd) (told : List RawOutcome) : Type 0 where
   pub made : Made
   pub is_made : IsMade setup files bytes made
   pub slots : Slots
@@ -173,7 +173,7 @@ pub record RanOnNew (setup : RawSetup) (files : List RawFile) (bytes : List ℕ)
 
 -- a batch of events on a new machine
 abbrev pub RunsBatch : RawSetup → List RawFile → List ℕ → List RawEvent → List RawOutcome
-    → Result Ended Refusal → List RawOutcome → Type 0
+    → Result BatchEnd Refusal → List RawOutcome → Type 0
 RunsBatch setup files bytes raws was (Ok ended) told =
     RanOnNew setup files bytes raws was ended told
 RunsBatch setup files bytes raws was (Err refusal) told =
@@ -182,7 +182,7 @@ RunsBatch setup files bytes raws was (Err refusal) told =
 -- The first calls were made by a machine that was new, and left a legal state: a run leads to it, its
 -- log is that of a plain page map, with which each translation agrees.
 pub record MadeOnNew (setup : RawSetup) (files : List RawFile) (bytes : List ℕ)
-    (raws : List RawEvent) (was : List RawOutcome) (ended : Ended) (told : List RawOutcome) : Type 0 where
+    (raws : List RawEvent) (was : List RawOutcome) (ended : BatchEnd) (told : List RawOutcome) : Type 0 where
   pub made : Made
   pub is_made : IsMade setup files bytes made
   pub slots : Slots
@@ -193,7 +193,7 @@ pub record MadeOnNew (setup : RawSetup) (files : List RawFile) (bytes : List ℕ
 
 -- a batch of items on a new machine
 abbrev pub CallsBatch : RawSetup → List RawFile → List ℕ → List RawEvent → List RawOutcome
-    → Result Ended Refusal → List RawOutcome → Type 0
+    → Result BatchEnd Refusal → List RawOutcome → Type 0
 CallsBatch setup files bytes raws was (Ok ended) told =
     MadeOnNew setup files bytes raws was ended told
 CallsBatch setup files bytes raws was (Err refusal) told =
@@ -209,7 +209,7 @@ fault_code Fault.FileTooLong = 14
 fault_code Fault.Calls = 15
 fault_code Fault.NoMemory = 16
 
-abbrev pub stop_code : Option Stop → ℕ
+abbrev pub stop_code : Option BatchStop → ℕ
 stop_code None = 0
 stop_code (Some BadEvent) = 1
 stop_code (Some NoMemory) = 2
@@ -224,18 +224,18 @@ refusal_done By.NoLog = record { status = 10; count = 0 }
 refusal_done (By.Setup fault) = record { status = fault_code fault; count = 0 }
 
 -- the status and the count that C reads
-abbrev pub done_of : Result Ended Refusal → Done
+abbrev pub done_of : Result BatchEnd Refusal → Done
 done_of (Ok ended) = record { status = stop_code ended.stop; count = ended.count }
 done_of (Err refusal) = refusal_done refusal
 
 -- what C reads is the code of what came of the batch
 abbrev pub TellsRun : RawSetup → List RawFile → List ℕ → List RawEvent → List RawOutcome → Done
     → List RawOutcome → Type 0
-TellsRun setup files bytes raws was done told = (r : Result Ended Refusal)
+TellsRun setup files bytes raws was done told = (r : Result BatchEnd Refusal)
     × (done ≡ done_of r) × RunsBatch setup files bytes raws was r told
 
 -- what C reads of a batch of items
 abbrev pub TellsCalls : RawSetup → List RawFile → List ℕ → List RawEvent → List RawOutcome → Done
     → List RawOutcome → Type 0
-TellsCalls setup files bytes raws was done told = (r : Result Ended Refusal)
+TellsCalls setup files bytes raws was done told = (r : Result BatchEnd Refusal)
     × (done ≡ done_of r) × CallsBatch setup files bytes raws was r told

@@ -16,23 +16,23 @@ use Rattle.machine_model.specs.declared.event.Outcome.TheVariants.{Stepped, Wait
 use Rattle.machine_model.specs.declared.event.Blocker.TheVariants as On
 use Rattle.core_steps.specs.declared.machine.Finished.{Finished}
 use Rattle.core_steps.specs.declared.machine.Finished.TheVariants.{Last, Stuck}
-use Rattle.coded.specs.declared.codes.Kind.{Kind}
-use Rattle.coded.specs.declared.codes.Kind.TheVariants as Is
+use Rattle.coded.specs.declared.codes.EventCode.{EventCode}
+use Rattle.coded.specs.declared.codes.EventCode.TheVariants as Is
 use Rattle.coded.specs.declared.codes.RawEvent.{RawEvent}
 use Rattle.coded.specs.declared.codes.RawOutcome.{RawOutcome}
-use Rattle.coded.specs.declared.codes.Item.{Item}
-use Rattle.coded.specs.declared.codes.Item.TheVariants as To
+use Rattle.coded.specs.declared.codes.BatchItem.{BatchItem}
+use Rattle.coded.specs.declared.codes.BatchItem.TheVariants as To
 use Rattle.coded.specs.Bits.{prot_of, flags_of, bits_of_prot, bits_of_flags}
 
 -- ---- what C writes
 
 -- all kinds of events, in the order of their codes, from 1 on
-abbrev pub kinds : List Kind
+abbrev pub kinds : List EventCode
 kinds = Is.Mmap ∷ Is.Munmap ∷ Is.Mprotect ∷ Is.Load ∷ Is.Store ∷ Is.Fetch ∷ Is.Go ∷ Is.Frame
     ∷ Is.Guess ∷ Is.Whole ∷ Is.Take ∷ Is.Walk ∷ Is.Evict ∷ Is.Flush ∷ Is.Review ∷ Is.Fold
     ∷ Is.GiveUp ∷ Is.Finish ∷ []
 
-abbrev pub kind_of : ℕ → Option Kind
+abbrev pub kind_of : ℕ → Option EventCode
 kind_of zero = None
 kind_of (suc n) = slice_get kinds n
 
@@ -49,7 +49,7 @@ mprotect_with r (Some prot) = Some (Asks.Mprotect r.at r.len prot)
 mprotect_with r None = None
 
 -- the request of an event of this kind, if it is a call whose rights, flags and byte are in range
-abbrev pub request_at : Kind → RawEvent → Option Request
+abbrev pub request_at : EventCode → RawEvent → Option Request
 request_at Is.Mmap r = mmap_with r (prot_of r.prot) (flags_of r.flags)
 request_at Is.Munmap r = Some (Asks.Munmap r.at r.len)
 request_at Is.Mprotect r = mprotect_with r (prot_of r.prot)
@@ -63,7 +63,7 @@ call_of core (Some request) = Some (Ev.Call core request)
 call_of core None = None
 
 -- the event of this kind; a batch of events has no Finish
-abbrev pub event_at : Kind → ℕ → RawEvent → Option Event
+abbrev pub event_at : EventCode → ℕ → RawEvent → Option Event
 event_at Is.Go core r = Some (Ev.Go core)
 event_at Is.Frame core r = Some (Ev.Frame core r.at)
 event_at Is.Guess core r = Some (Ev.Guess core r.at)
@@ -79,7 +79,7 @@ event_at Is.Finish core r = None
 event_at kind core r = call_of core (request_at kind r)
 
 -- an event of this kind by this core, if both are there
-abbrev pub event_with : RawEvent → Option Kind → Option ℕ → Option Event
+abbrev pub event_with : RawEvent → Option EventCode → Option ℕ → Option Event
 event_with r (Some kind) (Some core) = event_at kind core r
 event_with r (Some kind) None = None
 event_with r None core = None
@@ -89,25 +89,25 @@ abbrev pub event_of : RawEvent → Option Event
 event_of r = event_with r (kind_of r.kind) (core_of r.core)
 
 -- in a batch of calls a call is made whole
-abbrev pub item_of_event : Event → Item
+abbrev pub item_of_event : Event → BatchItem
 item_of_event (Ev.Call core request) = To.Call core request
 item_of_event event = To.Step event
 
-abbrev pub item_from : Option Event → Option Item
+abbrev pub item_from : Option Event → Option BatchItem
 item_from (Some event) = Some (item_of_event event)
 item_from None = None
 
 -- the item of a kind: the rest of a call, or what its event asks for
-abbrev pub item_at : Kind → ℕ → RawEvent → Option Item
+abbrev pub item_at : EventCode → ℕ → RawEvent → Option BatchItem
 item_at Is.Finish core r = Some (To.Finish core)
 item_at kind core r = item_from (event_at kind core r)
 
-abbrev pub item_with : RawEvent → Option Kind → Option ℕ → Option Item
+abbrev pub item_with : RawEvent → Option EventCode → Option ℕ → Option BatchItem
 item_with r (Some kind) (Some core) = item_at kind core r
 item_with r (Some kind) None = None
 item_with r None core = None
 
-abbrev pub step_from : Option Event → Option Item
+abbrev pub step_from : Option Event → Option BatchItem
 step_from (Some event) = Some (To.Step event)
 step_from None = None
 
@@ -116,7 +116,7 @@ abbrev pub begin : ℕ
 begin = 64
 
 -- what the event that C wrote asks for in a batch of calls
-abbrev pub item_of : RawEvent → Option Item
+abbrev pub item_of : RawEvent → Option BatchItem
 item_of r =
     if nat_lt r.kind begin then item_with r (kind_of r.kind) (core_of r.core)
     else step_from (event_with r (kind_of (r.kind - begin)) (core_of r.core))

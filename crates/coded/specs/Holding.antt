@@ -12,11 +12,11 @@ use Rattle.coded.specs.declared.opening.RawSetup.{RawSetup}
 use Rattle.coded.specs.declared.opening.RawFile.{RawFile}
 use Rattle.coded.specs.declared.opening.Refusal.{Refusal}
 use Rattle.coded.specs.declared.opening.Refusal.TheVariants as By
-use Rattle.coded.specs.declared.batch.Stop.{Stop}
-use Rattle.coded.specs.declared.batch.Ended.{Ended}
+use Rattle.coded.specs.declared.batch.BatchStop.{BatchStop}
+use Rattle.coded.specs.declared.batch.BatchEnd.{BatchEnd}
 use Rattle.coded.specs.declared.batch.Done.{Done}
-use Rattle.coded.specs.declared.held.Held.{Held}
-use Rattle.coded.specs.declared.held.Held.TheVariants.{Plain, Logged}
+use Rattle.coded.specs.declared.held.AnyMachine.{AnyMachine}
+use Rattle.coded.specs.declared.held.AnyMachine.TheVariants.{Plain, Logged}
 use Rattle.coded.specs.Opening.{OpensAs, wants_log}
 use Rattle.coded.specs.Batches.{Takes, TakesItem, RunsFirst, StopsAt, MakesUntil, RefusesBatch}
 use Rattle.coded.specs.Batches.{refusal_of, refusal_done, stop_code, done_of}
@@ -27,12 +27,12 @@ pub record HeldState : Type 0 where
   pub keeps : Bool
 
 -- the state of a held machine, and whether its log is kept
-abbrev pub held_state : Held → HeldState
+abbrev pub held_state : AnyMachine → HeldState
 held_state (Plain machine) = record { world = state machine; keeps = false }
 held_state (Logged machine) = record { world = state machine; keeps = true }
 
 -- that of the machine, if there is one
-abbrev pub state_in : Option Held → Option HeldState
+abbrev pub state_in : Option AnyMachine → Option HeldState
 state_in None = None
 state_in (Some held) = Some (held_state held)
 
@@ -73,7 +73,7 @@ TellsNew setup files bytes was done now =
 -- ---- one event, or one item
 
 -- the status of one item
-abbrev pub taken_code : Result Unit Stop → ℕ
+abbrev pub taken_code : Result Unit BatchStop → ℕ
 taken_code (Ok _) = 0
 taken_code (Err stop) = stop_code (Some stop)
 
@@ -82,12 +82,12 @@ abbrev pub empty_code : ℕ
 empty_code = 7
 
 -- the event, from where the machine is
-abbrev pub TakesOn : HeldState → RawEvent → RawOutcome → Result Unit Stop → RawOutcome → HeldState
+abbrev pub TakesOn : HeldState → RawEvent → RawOutcome → Result Unit BatchStop → RawOutcome → HeldState
     → Type 0
 TakesOn h raw was r told k = GoesOn h (Takes h.keeps h.world raw was r told) k
 
 -- the item, from where the machine is
-abbrev pub TakesItemOn : HeldState → RawEvent → RawOutcome → Result Unit Stop → RawOutcome
+abbrev pub TakesItemOn : HeldState → RawEvent → RawOutcome → Result Unit BatchStop → RawOutcome
     → HeldState → Type 0
 TakesItemOn h raw was r told k = GoesOn h (TakesItem h.keeps h.world raw was r told) k
 
@@ -95,14 +95,14 @@ TakesItemOn h raw was r told k = GoesOn h (TakesItem h.keeps h.world raw was r t
 abbrev pub TellsStep : Option HeldState → RawEvent → RawOutcome → ℕ → RawOutcome → Option HeldState
     → Type 0
 TellsStep None raw was status told now = (status ≡ empty_code) × (told ≡ was) × (now ≡ None)
-TellsStep (Some h) raw was status told now = (r : Result Unit Stop) × (k : HeldState)
+TellsStep (Some h) raw was status told now = (r : Result Unit BatchStop) × (k : HeldState)
     × (status ≡ taken_code r) × (now ≡ Some k) × TakesOn h raw was r told k
 
 -- likewise an item of a batch of calls
 abbrev pub TellsCall : Option HeldState → RawEvent → RawOutcome → ℕ → RawOutcome → Option HeldState
     → Type 0
 TellsCall None raw was status told now = (status ≡ empty_code) × (told ≡ was) × (now ≡ None)
-TellsCall (Some h) raw was status told now = (r : Result Unit Stop) × (k : HeldState)
+TellsCall (Some h) raw was status told now = (r : Result Unit BatchStop) × (k : HeldState)
     × (status ≡ taken_code r) × (now ≡ Some k) × TakesItemOn h raw was r told k
 
 -- ---- many
@@ -114,19 +114,19 @@ RefusesOn h raws was refusal told k =
     (refusal_of 0 0 (length raws) (length was) ≡ Some refusal) × (told ≡ was) × (k ≡ h)
 
 -- so many events were taken
-abbrev pub RunsUntil : Bool → World → List RawEvent → Ended → List RawOutcome → List RawOutcome
+abbrev pub RunsUntil : Bool → World → List RawEvent → BatchEnd → List RawOutcome → List RawOutcome
     → World → Type 0
 RunsUntil keeps w raws ended was told v =
     RunsFirst w raws ended.count was told v × StopsAt keeps raws ended.stop ended.count v
 
 -- the events, from where the machine is
-abbrev pub RunsOn : HeldState → List RawEvent → List RawOutcome → Result Ended Refusal
+abbrev pub RunsOn : HeldState → List RawEvent → List RawOutcome → Result BatchEnd Refusal
     → List RawOutcome → HeldState → Type 0
 RunsOn h raws was (Ok ended) told k = GoesOn h (RunsUntil h.keeps h.world raws ended was told) k
 RunsOn h raws was (Err refusal) told k = RefusesOn h raws was refusal told k
 
 -- the items, from where the machine is
-abbrev pub CallsOn : HeldState → List RawEvent → List RawOutcome → Result Ended Refusal
+abbrev pub CallsOn : HeldState → List RawEvent → List RawOutcome → Result BatchEnd Refusal
     → List RawOutcome → HeldState → Type 0
 CallsOn h raws was (Ok ended) told k = GoesOn h (MakesUntil h.keeps h.world raws ended was told) k
 CallsOn h raws was (Err refusal) told k = RefusesOn h raws was refusal told k
@@ -138,14 +138,14 @@ empty_done = refusal_done By.Empty
 abbrev pub TellsRunOn : Option HeldState → List RawEvent → List RawOutcome → Done
     → List RawOutcome → Option HeldState → Type 0
 TellsRunOn None raws was done told now = (done ≡ empty_done) × (told ≡ was) × (now ≡ None)
-TellsRunOn (Some h) raws was done told now = (r : Result Ended Refusal) × (k : HeldState)
+TellsRunOn (Some h) raws was done told now = (r : Result BatchEnd Refusal) × (k : HeldState)
     × (done ≡ done_of r) × (now ≡ Some k) × RunsOn h raws was r told k
 
 -- what C reads of a list of items on a held machine
 abbrev pub TellsCallsOn : Option HeldState → List RawEvent → List RawOutcome → Done
     → List RawOutcome → Option HeldState → Type 0
 TellsCallsOn None raws was done told now = (done ≡ empty_done) × (told ≡ was) × (now ≡ None)
-TellsCallsOn (Some h) raws was done told now = (r : Result Ended Refusal) × (k : HeldState)
+TellsCallsOn (Some h) raws was done told now = (r : Result BatchEnd Refusal) × (k : HeldState)
     × (done ≡ done_of r) × (now ≡ Some k) × CallsOn h raws was r told k
 
 -- ---- what the machine has

@@ -8,7 +8,7 @@ use Rattle.vm_base.specs.Log.{nth}
 use Rattle.coded.specs.declared.codes.RawEvent.{RawEvent}
 use Rattle.coded.specs.declared.opening.Refusal.{Refusal}
 use Rattle.coded.specs.declared.opening.Refusal.TheVariants as By
-use Rattle.coded.specs.declared.batch.Ended.{Ended}
+use Rattle.coded.specs.declared.batch.BatchEnd.{BatchEnd}
 use Rattle.coded.specs.declared.batch.Done.{Done}
 use Rattle.coded.specs.declared.logs.RawEntry.{RawEntry}
 use Rattle.coded.specs.Codes.{nothing, call_code, coded, reply_code}
@@ -52,7 +52,7 @@ told_entries requests log was =
 
 -- the log is told as far as there is room, and how many entries it has; or the buffer is said to be
 -- too long, or no log is kept, and nothing is told
-abbrev pub ShowsLog : HeldState → List RawEntry → Result Ended Refusal → List RawEntry → Type 0
+abbrev pub ShowsLog : HeldState → List RawEntry → Result BatchEnd Refusal → List RawEntry → Type 0
 ShowsLog h was (Ok ended) told = (is_past (length was) ≡ false) × (h.keeps ≡ true)
     × (ended ≡ record { stop = None; count = length h.world.calls.log })
     × (told ≡ told_entries h.world.calls.requests h.world.calls.log was)
@@ -65,4 +65,4 @@ ShowsLog h was (Err _) told = ⊥
 abbrev pub TellsLog : Option HeldState → List RawEntry → Done → List RawEntry → Type 0
 TellsLog None was done told = (done ≡ empty_done) × (told ≡ was)
 TellsLog (Some h) was done told =
-    (r : Result Ended Refusal) × (done ≡ done_of r) × ShowsLog h was r told
+    (r : Result BatchEnd Refusal) × (done ≡ done_of r) × ShowsLog h was r told

@@ -8,8 +8,8 @@ use Rattle.machine_model.specs.World.{World}
 use Rattle.core_steps.specs.MapLines.{ListsMaps}
 use Rattle.coded.specs.declared.opening.Refusal.{Refusal}
 use Rattle.coded.specs.declared.opening.Refusal.TheVariants as By
-use Rattle.coded.specs.declared.batch.Stop.TheVariants.{NoMemory}
-use Rattle.coded.specs.declared.batch.Ended.{Ended}
+use Rattle.coded.specs.declared.batch.BatchStop.TheVariants.{NoMemory}
+use Rattle.coded.specs.declared.batch.BatchEnd.{BatchEnd}
 use Rattle.coded.specs.declared.batch.Done.{Done}
 use Rattle.coded.specs.declared.maps.RawLine.{RawLine}
 use Rattle.coded.specs.Bits.{bits_of_prot}
@@ -44,7 +44,7 @@ told_lines lines was = map line_code (take (length was) lines) ++ drop (length l
 
 -- the list of all mappings is told as far as there is room, and how many there are; or the buffer is
 -- said to be too long; or memory was refused, and nothing is told
-abbrev pub ListsOn : World → List RawLine → Result Ended Refusal → List RawLine → Type 0
+abbrev pub ListsOn : World → List RawLine → Result BatchEnd Refusal → List RawLine → Type 0
 ListsOn w was (Ok ended) told =
     ((lines : List MapLine) × ListsMaps w lines × (ended ≡ record { stop = None; count = length lines })
     × (told ≡ told_lines lines was))
@@ -56,4 +56,4 @@ ListsOn w was (Err refusal) told =
 abbrev pub TellsMaps : Option HeldState → List RawLine → Done → List RawLine → Type 0
 TellsMaps None was done told = (done ≡ empty_done) × (told ≡ was)
 TellsMaps (Some h) was done told =
-    (r : Result Ended Refusal) × (done ≡ done_of r) × ListsOn h.world was r told
+    (r : Result BatchEnd Refusal) × (done ≡ done_of r) × ListsOn h.world was r told

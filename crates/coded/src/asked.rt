@@ -2,7 +2,7 @@
 ghost use Rattle.std.specs.Prelude.{◌≡◌};
 ghost use Rattle.coded.specs.Asked.{aside_at, aside_of, asked_of};
 
-use crate::codes::{Kind, RawEvent, RawOutcome, kind_of, reply_code, request_at};
+use crate::codes::{EventCode, RawEvent, RawOutcome, kind_of, reply_code, request_at};
 use shared::{Aside, Ask, Tell};
 use vm_base::{Reply, Request};
 
@@ -14,15 +14,15 @@ pub fn asked_of(raw: &RawEvent) -> Option<Request>
     request_at(kind_of(raw.kind)?, raw)
 }
 
-fn aside_at(kind: Kind, raw: &RawEvent) -> Option<Aside>
+fn aside_at(kind: EventCode, raw: &RawEvent) -> Option<Aside>
     ensures { result ≡ aside_at kind raw.now }
 {
     match kind {
-        Kind::Walk => Some(Aside::Walk(raw.at)),
-        Kind::Evict => Some(Aside::Evict(raw.at)),
-        Kind::Flush => Some(Aside::Flush),
-        Kind::Review => Some(Aside::Review),
-        Kind::Fold => Some(Aside::Fold(raw.at)),
+        EventCode::Walk => Some(Aside::Walk(raw.at)),
+        EventCode::Evict => Some(Aside::Evict(raw.at)),
+        EventCode::Flush => Some(Aside::Flush),
+        EventCode::Review => Some(Aside::Review),
+        EventCode::Fold => Some(Aside::Fold(raw.at)),
         _ => None,
     }
 }

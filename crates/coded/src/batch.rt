@@ -5,9 +5,9 @@ ghost use Rattle.coded.specs.Batches.{Takes, MakesOne, MakesRaw, TakesItem, Runs
 ghost use Rattle.coded.specs.Batches.{RunsBatch, CallsBatch, refusal_of, fault_code, stop_code, refusal_done, done_of};
 
 use crate::codes::{
-    Item, RawEvent, RawOutcome, core_of, event_of, finished_code, item_of, outcome_code, store_of,
+    BatchItem, RawEvent, RawOutcome, core_of, event_of, finished_code, item_of, outcome_code, store_of,
 };
-use crate::opening::{RawFile, RawSetup, Refusal, Space, open};
+use crate::opening::{RawFile, RawSetup, Refusal, Unlogged, open};
 use core_steps::{Finished, Machine};
 use machine_log::Ledger;
 use machine_model::SetupFault;
@@ -18,7 +18,7 @@ use vm_base::{NoMemory, Request};
 
 /// Why a batch stopped before its end.
 #[derive(Clone, Copy)]
-pub enum Stop {
+pub enum BatchStop {
     /// The next event is none: its kind, its core, a bit or a byte is out of range.
     BadEvent,
     /// Memory was refused to the next event.
@@ -27,9 +27,9 @@ pub enum Stop {
 
 /// How far a batch went.
 #[derive(Clone, Copy)]
-pub struct Ended {
+pub struct BatchEnd {
     /// Why it stopped, where it did.
-    pub stop: Option<Stop>,
+    pub stop: Option<BatchStop>,
     /// How many events were taken, and told.
     pub count: usize,
 }
@@ -39,14 +39,14 @@ pub fn take_event<M: SlotMap, A: Allocator + Clone, L: Ledger>(
     machine: &mut Machine<M, A, L>,
     raw: &RawEvent,
     told: &mut RawOutcome,
-) -> Result<(), Stop>
+) -> Result<(), BatchStop>
     ensures { Takes L.keeps (state machine.old) raw.now told.old result told.new (state machine.new) }
 {
     let Some(event) = event_of(raw) else {
-        return Err(Stop::BadEvent);
+        return Err(BatchStop::BadEvent);
     };
     let Ok(outcome) = machine.step(event) else {
-        return Err(Stop::NoMemory);
+        return Err(BatchStop::NoMemory);
     };
     *told = outcome_code(outcome);
     Ok(())
@@ -58,7 +58,7 @@ pub fn run_events<M: SlotMap, A: Allocator + Clone, L: Ledger>(
     machine: &mut Machine<M, A, L>,
     raws: &[RawEvent],
     told: &mut [RawOutcome],
-) -> Ended
+) -> BatchEnd
     requires { length raws.now ≤ length told.old }
     ensures runs { RunsFirst (state machine.old) raws.now result.count told.old told.new
         (state machine.new) }
@@ -68,14 +68,14 @@ pub fn run_events<M: SlotMap, A: Allocator + Clone, L: Ledger>(
         match take_event(machine, &raws[at], &mut told[at]) {
             Ok(()) => {}
             Err(stop) => {
-                return Ended {
+                return BatchEnd {
                     stop: Some(stop),
                     count: at,
                 };
             }
         }
     }
-    Ended {
+    BatchEnd {
         stop: None,
         count: raws.len(),
     }
@@ -94,15 +94,15 @@ const FETCH: u32 = 6;
 #[inline(always)]
 fn make<M: SlotMap, A: Allocator + Clone, L: Ledger>(
     machine: &mut Machine<M, A, L>,
-    item: Item,
+    item: BatchItem,
 ) -> Result<Finished, NoMemory>
     ensures makes { MakesOne L.keeps (state machine.old) item result (state machine.new) }
     ensures legal { IsLegal (state machine.new) }
 {
     match item {
-        Item::Call(core, request) => machine.call(core, request),
-        Item::Finish(core) => machine.finish(core),
-        Item::Step(event) => step(machine, event),
+        BatchItem::Call(core, request) => machine.call(core, request),
+        BatchItem::Finish(core) => machine.finish(core),
+        BatchItem::Step(event) => step(machine, event),
     }
 }
 
@@ -133,16 +133,16 @@ fn make_raw<M: SlotMap, A: Allocator + Clone, L: Ledger>(
     let core = core_of(raw.core)?;
     match raw.kind {
         LOAD => {
-            let made = make(machine, Item::Call(core, Request::Load { addr: raw.at }));
+            let made = make(machine, BatchItem::Call(core, Request::Load { addr: raw.at }));
             Some(made)
         }
         STORE => {
             let request = store_of(raw)?;
-            let made = make(machine, Item::Call(core, request));
+            let made = make(machine, BatchItem::Call(core, request));
             Some(made)
         }
         FETCH => {
-            let made = make(machine, Item::Call(core, Request::Fetch { addr: raw.at }));
+            let made = make(machine, BatchItem::Call(core, Request::Fetch { addr: raw.at }));
             Some(made)
         }
         _ => {
@@ -159,16 +159,16 @@ pub fn take_item<M: SlotMap, A: Allocator + Clone, L: Ledger>(
     machine: &mut Machine<M, A, L>,
     raw: &RawEvent,
     told: &mut RawOutcome,
-) -> Result<(), Stop>
+) -> Result<(), BatchStop>
     ensures takes { TakesItem L.keeps (state machine.old) raw.now told.old result told.new
         (state machine.new) }
     ensures legal { IsLegal (state machine.old) → IsLegal (state machine.new) }
 {
     let Some(made) = make_raw(machine, raw) else {
-        return Err(Stop::BadEvent);
+        return Err(BatchStop::BadEvent);
     };
     let Ok(finished) = made else {
-        return Err(Stop::NoMemory);
+        return Err(BatchStop::NoMemory);
     };
     *told = finished_code(finished);
     Ok(())
@@ -179,7 +179,7 @@ pub fn make_items<M: SlotMap, A: Allocator + Clone, L: Ledger>(
     machine: &mut Machine<M, A, L>,
     raws: &[RawEvent],
     told: &mut [RawOutcome],
-) -> Ended
+) -> BatchEnd
     requires { length raws.now ≤ length told.old }
     ensures makes { MakesUntil L.keeps (state machine.old) raws.now result told.old told.new
         (state machine.new) }
@@ -189,14 +189,14 @@ pub fn make_items<M: SlotMap, A: Allocator + Clone, L: Ledger>(
         match take_item(machine, &raws[at], &mut told[at]) {
             Ok(()) => {}
             Err(stop) => {
-                return Ended {
+                return BatchEnd {
                     stop: Some(stop),
                     count: at,
                 };
             }
         }
     }
-    Ended {
+    BatchEnd {
         stop: None,
         count: raws.len(),
     }
@@ -228,13 +228,13 @@ pub fn run_batch(
     bytes: &[u8],
     raws: &[RawEvent],
     told: &mut [RawOutcome],
-) -> Result<Ended, Refusal>
+) -> Result<BatchEnd, Refusal>
     ensures { RunsBatch setup.now files.now bytes.now raws.now told.old result told.new }
 {
     if let Some(refusal) = refusal_of(files.len(), bytes.len(), raws.len(), told.len()) {
         return Err(refusal);
     }
-    let mut machine: Space = open(alloc, setup, files, bytes)?;
+    let mut machine: Unlogged = open(alloc, setup, files, bytes)?;
     Ok(run_events(&mut machine, raws, told))
 }
 
@@ -246,13 +246,13 @@ pub fn calls_batch(
     bytes: &[u8],
     raws: &[RawEvent],
     told: &mut [RawOutcome],
-) -> Result<Ended, Refusal>
+) -> Result<BatchEnd, Refusal>
     ensures { CallsBatch setup.now files.now bytes.now raws.now told.old result told.new }
 {
     if let Some(refusal) = refusal_of(files.len(), bytes.len(), raws.len(), told.len()) {
         return Err(refusal);
     }
-    let mut machine: Space = open(alloc, setup, files, bytes)?;
+    let mut machine: Unlogged = open(alloc, setup, files, bytes)?;
     Ok(make_items(&mut machine, raws, told))
 }
 
@@ -280,13 +280,13 @@ fn fault_code(fault: SetupFault) -> u32
 }
 
 /// The code of why a batch stopped: 0 where it didn't.
-pub fn stop_code(stop: Option<Stop>) -> u32
+pub fn stop_code(stop: Option<BatchStop>) -> u32
     ensures { result ≡ stop_code stop }
 {
     match stop {
         None => 0,
-        Some(Stop::BadEvent) => 1,
-        Some(Stop::NoMemory) => 2,
+        Some(BatchStop::BadEvent) => 1,
+        Some(BatchStop::NoMemory) => 2,
     }
 }
 
@@ -327,7 +327,7 @@ pub fn refusal_done(refusal: Refusal) -> Done
 }
 
 /// What C reads of how a batch ended.
-pub fn done_of(ended: Result<Ended, Refusal>) -> Done
+pub fn done_of(ended: Result<BatchEnd, Refusal>) -> Done
     ensures { result ≡ done_of ended }
 {
     match ended {

@@ -11,7 +11,7 @@ use vm_base::{CoreId, Errno, Reply, Request, SegvCode};
 
 /// What an event is. In a batch its code is its place here, from 1 on.
 #[derive(Clone, Copy)]
-pub enum Kind {
+pub enum EventCode {
     /// The core calls `mmap`: `at`, `len`, `prot`, `flags`, `file` and `off` are read.
     Mmap,
     /// The core calls `munmap`: `at` and `len`.
@@ -87,7 +87,7 @@ pub struct RawOutcome {
 
 /// What an event of a batch of calls asks for.
 #[derive(Clone, Copy)]
-pub enum Item {
+pub enum BatchItem {
     /// A whole call.
     Call(CoreId, Request),
     /// The rest of the core's call.
@@ -98,28 +98,28 @@ pub enum Item {
 
 /// The kind that has the code.
 #[inline(always)]
-pub fn kind_of(code: u32) -> Option<Kind>
+pub fn kind_of(code: u32) -> Option<EventCode>
     ensures { result ≡ kind_of code }
 {
     match code {
-        1 => Some(Kind::Mmap),
-        2 => Some(Kind::Munmap),
-        3 => Some(Kind::Mprotect),
-        4 => Some(Kind::Load),
-        5 => Some(Kind::Store),
-        6 => Some(Kind::Fetch),
-        7 => Some(Kind::Go),
-        8 => Some(Kind::Frame),
-        9 => Some(Kind::Guess),
-        10 => Some(Kind::Whole),
-        11 => Some(Kind::Take),
-        12 => Some(Kind::Walk),
-        13 => Some(Kind::Evict),
-        14 => Some(Kind::Flush),
-        15 => Some(Kind::Review),
-        16 => Some(Kind::Fold),
-        17 => Some(Kind::GiveUp),
-        18 => Some(Kind::Finish),
+        1 => Some(EventCode::Mmap),
+        2 => Some(EventCode::Munmap),
+        3 => Some(EventCode::Mprotect),
+        4 => Some(EventCode::Load),
+        5 => Some(EventCode::Store),
+        6 => Some(EventCode::Fetch),
+        7 => Some(EventCode::Go),
+        8 => Some(EventCode::Frame),
+        9 => Some(EventCode::Guess),
+        10 => Some(EventCode::Whole),
+        11 => Some(EventCode::Take),
+        12 => Some(EventCode::Walk),
+        13 => Some(EventCode::Evict),
+        14 => Some(EventCode::Flush),
+        15 => Some(EventCode::Review),
+        16 => Some(EventCode::Fold),
+        17 => Some(EventCode::GiveUp),
+        18 => Some(EventCode::Finish),
         _ => None,
     }
 }
@@ -177,41 +177,41 @@ pub fn store_of(raw: &RawEvent) -> Option<Request>
 
 /// The request of an event of this kind, if it is a call whose bits and byte are in range.
 #[inline(always)]
-pub fn request_at(kind: Kind, raw: &RawEvent) -> Option<Request>
+pub fn request_at(kind: EventCode, raw: &RawEvent) -> Option<Request>
     ensures { result ≡ request_at kind raw.now }
 {
     match kind {
-        Kind::Mmap => mmap_of(raw),
-        Kind::Munmap => Some(Request::Munmap {
+        EventCode::Mmap => mmap_of(raw),
+        EventCode::Munmap => Some(Request::Munmap {
             addr: raw.at,
             len: raw.len,
         }),
-        Kind::Mprotect => mprotect_of(raw),
-        Kind::Load => Some(Request::Load { addr: raw.at }),
-        Kind::Store => store_of(raw),
-        Kind::Fetch => Some(Request::Fetch { addr: raw.at }),
+        EventCode::Mprotect => mprotect_of(raw),
+        EventCode::Load => Some(Request::Load { addr: raw.at }),
+        EventCode::Store => store_of(raw),
+        EventCode::Fetch => Some(Request::Fetch { addr: raw.at }),
         _ => None,
     }
 }
 
 /// The event of this kind that the core is to take.
 #[inline(always)]
-pub fn event_at(kind: Kind, core: CoreId, raw: &RawEvent) -> Option<Event>
+pub fn event_at(kind: EventCode, core: CoreId, raw: &RawEvent) -> Option<Event>
     ensures { result ≡ event_at kind core raw.now }
 {
     match kind {
-        Kind::Go => Some(Event::Go(core)),
-        Kind::Frame => Some(Event::Frame(core, raw.at)),
-        Kind::Guess => Some(Event::Guess(core, raw.at)),
-        Kind::Whole => Some(Event::Whole(core)),
-        Kind::Take => Some(Event::Take(core)),
-        Kind::Walk => Some(Event::Walk(core, raw.at)),
-        Kind::Evict => Some(Event::Evict(core, raw.at)),
-        Kind::Flush => Some(Event::Flush(core)),
-        Kind::Review => Some(Event::Review(core)),
-        Kind::Fold => Some(Event::Fold(raw.at)),
-        Kind::GiveUp => Some(Event::GiveUp(core)),
-        Kind::Finish => None,
+        EventCode::Go => Some(Event::Go(core)),
+        EventCode::Frame => Some(Event::Frame(core, raw.at)),
+        EventCode::Guess => Some(Event::Guess(core, raw.at)),
+        EventCode::Whole => Some(Event::Whole(core)),
+        EventCode::Take => Some(Event::Take(core)),
+        EventCode::Walk => Some(Event::Walk(core, raw.at)),
+        EventCode::Evict => Some(Event::Evict(core, raw.at)),
+        EventCode::Flush => Some(Event::Flush(core)),
+        EventCode::Review => Some(Event::Review(core)),
+        EventCode::Fold => Some(Event::Fold(raw.at)),
+        EventCode::GiveUp => Some(Event::GiveUp(core)),
+        EventCode::Finish => None,
         _ => request_at(kind, raw).map(|request| Event::Call(core, request)),
     }
 }
@@ -237,28 +237,28 @@ pub fn event_of(raw: &RawEvent) -> Option<Event>
 const BEGIN: u32 = 64;
 
 #[inline(always)]
-fn item_of_event(event: Event) -> Item
+fn item_of_event(event: Event) -> BatchItem
     ensures { result ≡ item_of_event event }
 {
     match event {
-        Event::Call(core, request) => Item::Call(core, request),
-        _ => Item::Step(event),
+        Event::Call(core, request) => BatchItem::Call(core, request),
+        _ => BatchItem::Step(event),
     }
 }
 
 #[inline(always)]
-fn item_at(kind: Kind, core: CoreId, raw: &RawEvent) -> Option<Item>
+fn item_at(kind: EventCode, core: CoreId, raw: &RawEvent) -> Option<BatchItem>
     ensures { result ≡ item_at kind core raw.now }
 {
-    if kind == Kind::Finish {
-        return Some(Item::Finish(core));
+    if kind == EventCode::Finish {
+        return Some(BatchItem::Finish(core));
     }
     let event = event_at(kind, core, raw)?;
     Some(item_of_event(event))
 }
 
 #[inline(always)]
-fn whole_item(raw: &RawEvent) -> Option<Item>
+fn whole_item(raw: &RawEvent) -> Option<BatchItem>
     ensures { result ≡ item_with raw.now (kind_of raw.now.kind) (core_of raw.now.core) }
 {
     let kind = kind_of(raw.kind)?;
@@ -268,12 +268,12 @@ fn whole_item(raw: &RawEvent) -> Option<Item>
 
 /// What the event that C wrote asks for in a batch of calls, if it is one.
 #[inline(always)]
-pub fn item_of(raw: &RawEvent) -> Option<Item>
+pub fn item_of(raw: &RawEvent) -> Option<BatchItem>
     ensures { result ≡ item_of raw.now }
 {
     if raw.kind >= BEGIN {
         let event = event_with(raw.kind - BEGIN, raw)?;
-        return Some(Item::Step(event));
+        return Some(BatchItem::Step(event));
     }
     whole_item(raw)
 }

@@ -1,4 +1,12 @@
-//! What C writes and reads of a machine: events, calls, replies, files, mappings and logs as numbers and structs.
+//! What C writes and reads of a machine, as numbers and structs.
+//!
+//! These are events, calls, replies, files, mappings and logs.
+//!
+//! - `codes`, `bits`, `logs`, `maps`: codes of each; `opening`: what a machine is made with, and why it isn't.
+//! - `batch`: many events or calls on one machine; `held`, `holding`: a machine that C holds; `asked`: one core of a
+//!   shared machine.
+//!
+//! It exists for `batch::run_events`, clause `runs`. There is no export here: those stand in `radixvm_c`.
 #![tactic(auto)]
 
 pub mod asked;

@@ -4,9 +4,9 @@ ghost use Rattle.vm_base.specs.Log.{nth};
 ghost use Rattle.coded.specs.Holding.{held_state};
 ghost use Rattle.coded.specs.Logs.{asked_code, entry_code, told_entries, ShowsLog};
 
-use crate::batch::{Ended, LENGTH_LIMIT};
+use crate::batch::{BatchEnd, LENGTH_LIMIT};
 use crate::codes::{RawEvent, RawOutcome, call_code, nothing, reply_code};
-use crate::held::Held;
+use crate::held::AnyMachine;
 use crate::opening::Refusal;
 use vm_base::{CoreId, Entry, Request};
 
@@ -92,18 +92,18 @@ fn tell_entries(requests: &[Request], log: &[Entry], told: &mut [RawEntry])
 
 /// The log, as far as there is room; the count tells how many entries it has. Where none is kept, or
 /// the buffer is said to be too long, nothing is told.
-pub fn show_log(held: &Held, told: &mut [RawEntry]) -> Result<Ended, Refusal>
+pub fn show_log(held: &AnyMachine, told: &mut [RawEntry]) -> Result<BatchEnd, Refusal>
     ensures { ShowsLog (held_state held.now) told.old result told.new }
 {
     if told.len() as u64 > LENGTH_LIMIT {
         return Err(Refusal::TooLong);
     }
     match held {
-        Held::Plain(_) => Err(Refusal::NoLog),
-        Held::Logged(machine) => {
+        AnyMachine::Plain(_) => Err(Refusal::NoLog),
+        AnyMachine::Logged(machine) => {
             let log = machine.log();
             tell_entries(machine.requests(), log, told);
-            Ok(Ended {
+            Ok(BatchEnd {
                 stop: None,
                 count: log.len(),
             })

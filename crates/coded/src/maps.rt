@@ -3,7 +3,7 @@ ghost use Rattle.std.specs.Prelude.{◌≡◌};
 ghost use Rattle.core_steps.specs.Machine.{state};
 ghost use Rattle.coded.specs.Maps.{line_code, told_lines, ListsOn};
 
-use crate::batch::{Ended, LENGTH_LIMIT, Stop};
+use crate::batch::{BatchEnd, LENGTH_LIMIT, BatchStop};
 use crate::bits::bits_of_prot;
 use crate::opening::Refusal;
 use machine_log::Ledger;
@@ -75,20 +75,20 @@ pub fn list_maps<M: SlotMap, A: Allocator + Clone, L: Ledger>(
     alloc: Global,
     machine: &Machine<M, A, L>,
     told: &mut [RawLine],
-) -> Result<Ended, Refusal>
+) -> Result<BatchEnd, Refusal>
     ensures { ListsOn (state machine.now) told.old result told.new }
 {
     if told.len() as u64 > LENGTH_LIMIT {
         return Err(Refusal::TooLong);
     }
     let Ok(lines) = machine.plain_maps(alloc) else {
-        return Ok(Ended {
-            stop: Some(Stop::NoMemory),
+        return Ok(BatchEnd {
+            stop: Some(BatchStop::NoMemory),
             count: 0,
         });
     };
     tell_lines(&lines, told);
-    Ok(Ended {
+    Ok(BatchEnd {
         stop: None,
         count: lines.len(),
     })

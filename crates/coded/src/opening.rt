@@ -10,7 +10,7 @@ ghost use Rattle.coded.specs.declared.opening.RawFile.{RawFile as RawFileOf};
 
 use frames::FileSpec;
 use machine_model::{CallLimit, Setup, SetupFault, first_fault_within};
-use machine_log::{Forgotten, Kept, Opening};
+use machine_log::{KeepsNone, KeepsAll, Opening};
 use core_steps::Machine;
 use radix_range::RadixMap;
 use std::alloc::Global;
@@ -76,10 +76,10 @@ pub enum FileFault {
 pub type Over<L> = Machine<RadixMap<Global>, Global, L>;
 
 /// A machine without a log.
-pub type Space = Over<Forgotten>;
+pub type Unlogged = Over<KeepsNone>;
 
 /// A machine that keeps its log.
-pub type LoggedSpace = Over<Kept<Global>>;
+pub type LoggedSpace = Over<KeepsAll<Global>>;
 
 /// All modes, in the order of their codes.
 const MODES: [Mode; 3] = [Mode::R, Mode::W, Mode::RW];

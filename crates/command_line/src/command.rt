@@ -13,10 +13,10 @@ use word_audit::loosening::audit_loosely;
 use word_audit::paging::audit_by_pages;
 use machine_model::CallLimit;
 use word_faults::explain::{Manner, explain};
-use word_faults::forms::Kind;
+use word_faults::forms::TextKind;
 use word_faults::histories::{explain_disorder, explain_history};
 use word_faults::noting::{show_request, tell_notes, tell_undecided};
-use import_text::each::Part;
+use import_text::each::ProcessTrace;
 use word_import::gathering::{Ungathered, gather, save_parts};
 use word_import::importing::{import, import_accesses, import_each};
 use litmus::RunFault;
@@ -43,7 +43,7 @@ use word_parts::asked::{Drawing, WitnessPicture};
 use word_parts::ended::{Ended, Trouble};
 use word_parts::input::{Files, input, list};
 use word_parts::keeping::{Keeping, Keeps};
-use word_grammar::{Task, Told, Work, parse};
+use word_grammar::{Command, Usage, Work, parse};
 
 // Tells that a file can't be opened, and which and why where that is asked for, and answers the status.
 fn refuse_file<E: Write>(asks: Asks<'_>, name: &str, cause: io::ErrorKind, errors: &mut E) -> u8
@@ -63,7 +63,7 @@ struct Aside {
     // The order that an audit found.
     order: Vec<u8>,
     // The traces of processes.
-    parts: Vec<Part>,
+    parts: Vec<ProcessTrace>,
     // Why nothing is told of a litmus test.
     fault: Option<RunFault>,
 }
@@ -138,7 +138,7 @@ fn act<T: Threads + Wait + Sync, R: Runner<Global>, L: Source, S: Source, W: Sin
     rt: &T,
     runner: &R,
     alloc: Global,
-    parsed: Result<Task<'_>, Told>,
+    parsed: Result<Command<'_>, Usage>,
     list: &mut L,
     reader: &mut S,
     out: &mut W,
@@ -233,27 +233,27 @@ struct Asks<'a> {
 fn manner_of(work: Work, coloured: bool) -> Manner {
     let (kind, limit, may_be_long) = match work {
         Work::Replay(shows) if shows.show == Show::OutcomesAndLog => {
-            (Kind::Trace, CallLimit::Usual, false)
+            (TextKind::Trace, CallLimit::Usual, false)
         }
-        Work::Replay(shows) => (Kind::Trace, shows.limit, shows.limit == CallLimit::Usual),
-        Work::Echo { logs: true, .. } => (Kind::Trace, CallLimit::Usual, false),
-        Work::Echo { limit, .. } => (Kind::Trace, limit, limit == CallLimit::Usual),
-        Work::Certify => (Kind::Notes, CallLimit::Usual, false),
+        Work::Replay(shows) => (TextKind::Trace, shows.limit, shows.limit == CallLimit::Usual),
+        Work::Echo { logs: true, .. } => (TextKind::Trace, CallLimit::Usual, false),
+        Work::Echo { limit, .. } => (TextKind::Trace, limit, limit == CallLimit::Usual),
+        Work::Certify => (TextKind::Notes, CallLimit::Usual, false),
         Work::Live { .. } | Work::CertifyLive { .. } | Work::LiveHistory { .. } | Work::ShareLive =>
-            (Kind::Script, CallLimit::Usual, false),
+            (TextKind::Script, CallLimit::Usual, false),
         Work::Audit(_)
         | Work::AuditAll(_)
         | Work::Overlapping(_)
         | Work::ByPages(_)
-        | Work::Loosely(_) => { (Kind::Replies, CallLimit::Usual, false) }
-        Work::Picture(Drawing::Listing(limit)) => (Kind::Trace, limit, limit == CallLimit::Usual),
-        Work::Picture(Drawing::Lives) => (Kind::Trace, CallLimit::Long, false),
+        | Work::Loosely(_) => { (TextKind::Replies, CallLimit::Usual, false) }
+        Work::Picture(Drawing::Listing(limit)) => (TextKind::Trace, limit, limit == CallLimit::Usual),
+        Work::Picture(Drawing::Lives) => (TextKind::Trace, CallLimit::Long, false),
         Work::Picture(_)
         | Work::Litmus { .. }
         | Work::PictureWitness(_)
         | Work::Import(_)
         | Work::ImportEach
-        | Work::ImportAccesses => { (Kind::Trace, CallLimit::Usual, false) }
+        | Work::ImportAccesses => { (TextKind::Trace, CallLimit::Usual, false) }
     };
     Manner {
         kind,
@@ -299,7 +299,7 @@ fn keeps_of(work: Work, explains: bool) -> Keeps {
 }
 
 // What is said beside this task; colours are those of standard error.
-fn asks_of<'a>(task: &Task<'a>, terminals: Terminals, coloured: bool) -> Asks<'a> {
+fn asks_of<'a>(task: &Command<'a>, terminals: Terminals, coloured: bool) -> Asks<'a> {
     let explains = task.explains || terminals.errors;
     Asks {
         file: task.file,
@@ -322,7 +322,7 @@ fn asks_nothing<'a>() -> Asks<'a> {
         folder: None,
         example: None,
         manner: Manner {
-            kind: Kind::Trace,
+            kind: TextKind::Trace,
             limit: CallLimit::Usual,
             may_be_long: false,
             coloured: false,
@@ -334,7 +334,7 @@ fn asks_nothing<'a>() -> Asks<'a> {
 
 // What is said beside the words.
 fn asked_beside<'a>(
-    parsed: &Result<Task<'a>, Told>,
+    parsed: &Result<Command<'a>, Usage>,
     terminals: Terminals,
     coloured: bool,
 ) -> Asks<'a> {
@@ -442,7 +442,7 @@ fn save_traces<F: Files, E: Write>(
     files: &F,
     alloc: Global,
     asks: Asks<'_>,
-    parts: &[Part],
+    parts: &[ProcessTrace],
     status: u8,
     errors: &mut E,
 ) -> u8
@@ -517,7 +517,7 @@ fn command_on<
     E: Write,
 >(
     alloc: Global,
-    parsed: Result<Task<'_>, Told>,
+    parsed: Result<Command<'_>, Usage>,
     asks: Asks<'_>,
     host: (&F, &T, &R),
     input: I,

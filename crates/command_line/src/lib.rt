@@ -1,5 +1,10 @@
-//! The words of the command line: the first says what is done with a trace, notes, a script, a log or
-//! replies (`command`), and what that gives goes to standard output. The program itself is `radixvm`.
+//! The command line: its first word says what is done, and this crate does it.
+//!
+//! - `command` (`act`): each word is done; `telling`: words that can't be acted on; `terminals`: what is different at
+//!   a terminal.
+//!
+//! It exists for `command::act`, clause `does`: output and status are what the words ask for. The program itself is
+//! `radixvm`.
 #![tactic(auto)]
 
 pub mod command;

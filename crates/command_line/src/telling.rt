@@ -13,7 +13,7 @@ use std::io;
 use std::io::Write;
 use trace_io::sink::{Sink, write_all};
 use word_parts::pointing::tell as tell_line;
-use word_grammar::Told;
+use word_grammar::Usage;
 
 // Prints a text on standard output, and answers the status.
 fn show<W: Sink, E: Write>(text: &str, out: &mut W, errors: &mut E) -> u8
@@ -117,25 +117,25 @@ fn tell_words<W: Sink, E: Write>(alloc: Global, error: &Error, out: &mut W, erro
 }
 
 /// Prints what is said in place of what is asked for, and answers the status.
-pub(crate) fn tell<W: Sink, E: Write>(alloc: Global, told: &Told, out: &mut W, errors: &mut E) -> u8
+pub(crate) fn tell<W: Sink, E: Write>(alloc: Global, told: &Usage, out: &mut W, errors: &mut E) -> u8
     ensures page { (topic : Topic) → told.now ≡ Told.Page topic → result ≡ 0
         → Appends (W.contents out.old) (W.contents out.new) (page_of topic) }
     ensures within { result ≤ 3 }
 {
     match told {
-        Told::Words(error) => tell_words(alloc, error, out, errors),
-        Told::Page(topic) => show(page(*topic), out, errors),
-        Told::NoSteps(steps) => {
+        Usage::Words(error) => tell_words(alloc, error, out, errors),
+        Usage::Page(topic) => show(page(*topic), out, errors),
+        Usage::NoSteps(steps) => {
             let first = steps.first;
             let last = steps.last;
             let _ = writeln!(errors, "radixvm: --from {first} is behind --to {last}");
             2
         }
-        Told::NoLine => {
+        Usage::NoLine => {
             let _ = writeln!(errors, "radixvm: --at 0: lines are counted from 1");
             2
         }
-        Told::ManyFiles => {
+        Usage::ManyFiles => {
             let _ = writeln!(errors, "radixvm: --lackey reads one FILE");
             2
         }

@@ -5,7 +5,7 @@ use Rattle.machine_model.proofs.Words.{Memory}
 use Rattle.std.proofs.Common.{Vec}
 use Rattle.std.specs.Prelude.{OnErr}
 use Rattle.vm_base.specs.declared.memory.NoMemory.{NoMemory}
-use Rattle.vm_base.specs.Plain.{Entry}
+use Rattle.vm_base.specs.Plain.{PageEntry}
 use Rattle.vm_base.specs.Runs.{NoneIn}
 use Rattle.slot_lock.specs.MapList.{GoesOn, IsNextLine, entry_meta}
 use Rattle.slot_lock.specs.MapWalks.{info_meta, slot_metas}
@@ -17,7 +17,7 @@ use Rattle.machine_model.specs.Log.{LeadsTo}
 use Rattle.core_steps.proofs.Reached.{well, legal}
 
 -- a page of the slots and the page of the plain page map that they show
-meta_shown : (m : Memory) (o : Option PageInfo) (e : Option Entry) → ShowsPage m o e → info_meta o ≡ entry_meta e
+meta_shown : (m : Memory) (o : Option PageInfo) (e : Option PageEntry) → ShowsPage m o e → info_meta o ≡ entry_meta e
 meta_shown m None None h = refl
 meta_shown m (Some info) (Some page) h =
     ap (λ (b : Back). Some (record { back = b; prot = info.meta.prot })) h.0 ∙ ap (λ (r : Prot). Some (record { back = page.back; prot = r })) h.1

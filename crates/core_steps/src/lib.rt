@@ -1,14 +1,14 @@
-//! The machine: one address space, which its cores' events move step by step as the
-//! abstract machine says.
+//! The machine: one address space, moved by its cores' events as the abstract machine says.
 //!
-//! Its face stands here: `machine`, `running` and `run_result`, `setup`, and what is said of steps in
-//! `laws`. Behind it are five rooms, each over those below it:
+//! Its face is `machine` (`Machine`), `running` and `run_result`. Behind it are rooms, each over those below it:
 //!
 //! - `at_once`: a call's steps one after another;
 //! - `events`: one event, and what an event does that is no step of a call;
 //! - `rows`: the steps of a call, each once;
-//! - `engine`: the machine's parts, and what each of them has;
-//! - `ledger`: what becomes of requests and of the log's entries.
+//! - `engine`: the machine's parts, and what each of them has.
+//!
+//! It exists for `running::run`, clauses `plain` and `brackets`: a run's log is that of a plain page map, and each
+//! reply stands in it once. `laws` says what a step leaves as it is. It knows of no text and of no threads.
 #![tactic(auto)]
 
 mod at_once;

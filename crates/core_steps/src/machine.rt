@@ -6,7 +6,7 @@ mod counted;
 
 use crate::at_once::starting::Started;
 use crate::engine::Engine;
-use machine_log::ledger::kept::Kept;
+use machine_log::ledger::kept::KeepsAll;
 use machine_log::ledger::logged_entries::LoggedEntries;
 use machine_log::ledger::{Ledger, Opening};
 use machine_model::setup::{CallLimit, Setup, SetupFault};
@@ -297,7 +297,7 @@ impl<M: SlotMap, A: Allocator + Clone, L: Ledger> Machine<M, A, L> {
     }
 }
 
-impl<M: SlotMap, A: Allocator + Clone> Machine<M, A, Kept<A>> {
+impl<M: SlotMap, A: Allocator + Clone> Machine<M, A, KeepsAll<A>> {
     ghost use Rattle.std.specs.Prelude.{◌≡◌};
     ghost use Rattle.core_steps.specs.Machine.{state, IsLegal};
 

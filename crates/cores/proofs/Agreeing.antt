@@ -27,7 +27,7 @@ use Rattle.vm_base.specs.Info.{advance_back}
 use Rattle.vm_base.specs.Log.{RepliesBy}
 use Rattle.vm_base.specs.Pages.{are_pages, is_aligned, is_page, offset_of, page_count, page_of, pages_from, pages_of}
 use Rattle.vm_base.specs.Places.{PlaceRule}
-use Rattle.vm_base.specs.Plain.{Bytes, Entry, File, Plain, bytes_of, mode_of}
+use Rattle.vm_base.specs.Plain.{Bytes, PageEntry, File, Plain, bytes_of, mode_of}
 use Rattle.vm_base.specs.Refusals.{answer, file_refusal, is_one_kind, mmap_refusal, refusal}
 use Rattle.vm_base.specs.Rights.{is_allowed}
 use Rattle.vm_base.proofs.Functions.{eq_true, put_other}
@@ -40,12 +40,12 @@ use Rattle.cores.specs.Parts.{are_apart, is_aside, is_quiet, is_told, misses, pa
 -- ---- pages that agree
 
 -- no file is there
-abbrev pub IsAnon : Option Entry → Type 0
+abbrev pub IsAnon : Option PageEntry → Type 0
 IsAnon None = Unit {0}
 IsAnon (Some e) = e.back ≡ Anon
 
 -- the same, and no file
-abbrev pub Same : Option Entry → Option Entry → Type 0
+abbrev pub Same : Option PageEntry → Option PageEntry → Type 0
 Same o p = (o ≡ p) × IsAnon o
 
 abbrev pub Agrees : PageRange → Plain → Plain → Type 0
@@ -58,7 +58,7 @@ by_value P (Some e) n s = s e refl
 
 -- ---- copies
 
-copied_anon : (t : Plain) (page : ℕ) (e : Entry) (b : Bool) (o : Option Bytes) → b ≡ false → copied t page e b o ≡ None
+copied_anon : (t : Plain) (page : ℕ) (e : PageEntry) (b : Bool) (o : Option Bytes) → b ≡ false → copied t page e b o ≡ None
 copied_anon t page e true o f = absurd cc
 copied_anon t page e false None f = refl
 copied_anon t page e false (Some bytes) f = refl
@@ -72,12 +72,12 @@ uncopied_anon (Private file page) own e = absurd cc
 pub none_detached : (t : Plain) (page : ℕ) → IsAnon (t.entry page) → detached t page ≡ None
 none_detached t page a = go (t.entry page) a
   where
-    go : (o : Option Entry) → IsAnon o → detached_entry t page o ≡ None
+    go : (o : Option PageEntry) → IsAnon o → detached_entry t page o ≡ None
     go None b = refl
     go (Some e) b = copied_anon t page e (is_uncopied e.back e.own) (bytes_of t.file e.back e.own) (uncopied_anon e.back e.own b)
 
 -- a copy is of its page alone
-copied_other : (t u : Plain) (page : ℕ) (e : Entry) (b : Bool) (o : Option Bytes) (x : ℕ) → x ≢ page → copied t page e b o ≡ Some u → u.entry x ≡ t.entry x
+copied_other : (t u : Plain) (page : ℕ) (e : PageEntry) (b : Bool) (o : Option Bytes) (x : ℕ) → x ≢ page → copied t page e b o ≡ Some u → u.entry x ≡ t.entry x
 copied_other t u page e false None x ne h = absurd cc
 copied_other t u page e false (Some bytes) x ne h = absurd cc
 copied_other t u page e true None x ne h = absurd cc
@@ -90,7 +90,7 @@ copied_other t u page e true (Some bytes) x ne h =
 detached_other : (t u : Plain) (page x : ℕ) → x ≢ page → detached t page ≡ Some u → u.entry x ≡ t.entry x
 detached_other t u page x ne h = go (t.entry page) h
   where
-    go : (o : Option Entry) → detached_entry t page o ≡ Some u → u.entry x ≡ t.entry x
+    go : (o : Option PageEntry) → detached_entry t page o ≡ Some u → u.entry x ≡ t.entry x
     go None e = absurd cc
     go (Some d) e = copied_other t u page d (is_uncopied d.back d.own) (bytes_of t.file d.back d.own) x ne e
 
@@ -174,7 +174,7 @@ bytes_anon f g Anon None e = refl
 bytes_anon f g (Shared file page) None e = absurd cc
 bytes_anon f g (Private file page) None e = absurd cc
 
-entry_anon : (f g : ℕ → Option File) (o : Option Entry) (a : Access) (i : ℕ) → IsAnon o → entry_reply f o a i ≡ entry_reply g o a i
+entry_anon : (f g : ℕ → Option File) (o : Option PageEntry) (a : Access) (i : ℕ) → IsAnon o → entry_reply f o a i ≡ entry_reply g o a i
 entry_anon f g None a i e = refl
 entry_anon f g (Some en) a i e =
     ap (λ (bs : Option Bytes). if is_allowed en.prot a then bytes_reply (needs_copy a en.back en.own) bs a i else Some (Segv AccErr))
@@ -186,9 +186,9 @@ access_same p t s addr a in_p same =
     let here = same (page_of addr) in_p in
     ap (λ (o : Option Reply). if is_page (page_of addr) then o else Some (Segv MapErr))
     (entry_anon t.file s.file (t.entry (page_of addr)) a (offset_of addr) here.1
-    ∙ ap (λ (o : Option Entry). entry_reply s.file o a (offset_of addr)) here.0)
+    ∙ ap (λ (o : Option PageEntry). entry_reply s.file o a (offset_of addr)) here.0)
 
-put_same_both : (p : PageRange) (f g : ℕ → Option Entry) (k : ℕ) (v : Option Entry) → IsAnon v
+put_same_both : (p : PageRange) (f g : ℕ → Option PageEntry) (k : ℕ) (v : Option PageEntry) → IsAnon v
     → ((x : ℕ) → has p x ≡ true → Same (f x) (g x)) → (x : ℕ) → has p x ≡ true → Same (put f k v x) (put g k v x)
 put_same_both p f g k v anon same x in_p = go (x == k)
   where
@@ -196,7 +196,7 @@ put_same_both p f g k v anon same x in_p = go (x == k)
     go true = (refl, anon)
     go false = same x in_p
 
-stored_same : (p : PageRange) (t s : Plain) (page i byte : ℕ) (e : Entry) (own : Option Bytes) → e.back ≡ Anon → Agrees p t s
+stored_same : (p : PageRange) (t s : Plain) (page i byte : ℕ) (e : PageEntry) (own : Option Bytes) → e.back ≡ Anon → Agrees p t s
     → Agrees p (stored_own t page e own i byte) (stored_own s page e own i byte)
 stored_same p t s page i byte e (Some own) anon same =
     put_same_both p t.entry s.entry page (Some (record e { own = Some (put own i byte) })) anon same
@@ -207,12 +207,12 @@ stored_same p t s page i byte e None anon same = go e.back anon
     go (Shared file k) f = absurd cc
     go (Private file k) f = absurd cc
 
-stored_entry_same : (p : PageRange) (t s : Plain) (page i byte : ℕ) (o q : Option Entry) → Same o q → Agrees p t s
+stored_entry_same : (p : PageRange) (t s : Plain) (page i byte : ℕ) (o q : Option PageEntry) → Same o q → Agrees p t s
     → Agrees p (stored_entry t page o i byte) (stored_entry s page q i byte)
 stored_entry_same p t s page i byte o q e same =
-    subst (λ (z : Option Entry). Agrees p (stored_entry t page o i byte) (stored_entry s page z i byte)) e.0 (go o e.1)
+    subst (λ (z : Option PageEntry). Agrees p (stored_entry t page o i byte) (stored_entry s page z i byte)) e.0 (go o e.1)
   where
-    go : (z : Option Entry) → IsAnon z → Agrees p (stored_entry t page z i byte) (stored_entry s page z i byte)
+    go : (z : Option PageEntry) → IsAnon z → Agrees p (stored_entry t page z i byte) (stored_entry s page z i byte)
     go None anon = same
     go (Some en) anon = stored_same p t s page i byte en en.own anon same
 
@@ -264,7 +264,7 @@ access_goes rule p t s u core addr r y a byte c d to from is same h =
 
 -- ---- ranges
 
-changed_at : (p r m : PageRange) (t s : Plain) (f g : ℕ → Option Entry) (x : ℕ) → IsMeet m r p → has p x ≡ true
+changed_at : (p r m : PageRange) (t s : Plain) (f g : ℕ → Option PageEntry) (x : ℕ) → IsMeet m r p → has p x ≡ true
     → (has r x ≡ true → Same (f x) (g x)) → Same (t.entry x) (s.entry x) ⊎ (has m x ≡ true)
     → Same (across t.entry (has r) f x) (across s.entry (has m) g x)
 changed_at p r m t s f g x meet in_p new old =
@@ -304,7 +304,7 @@ munmap_goes rule p t s u core addr len a l whole part meet h =
           (λ x i old. changed_at p (pages_of addr len) (pages_of a l) t s (λ (x : ℕ). None) (λ (x : ℕ). None) x meet i (λ j. (refl, tt)) old),
     )
 
-pub read_only_anon : (files : ℕ → Option File) (o : Option Entry) → IsAnon o → is_read_only files o ≡ false
+pub read_only_anon : (files : ℕ → Option File) (o : Option PageEntry) → IsAnon o → is_read_only files o ≡ false
 read_only_anon files None a = refl
 read_only_anon files (Some e) a = go e.back a
   where
@@ -313,10 +313,10 @@ read_only_anon files (Some e) a = go e.back a
     go (Shared file k) f = absurd cc
     go (Private file k) f = absurd cc
 
-prot_same : (prot : Prot) (o q : Option Entry) → Same o q → Same (with_prot prot o) (with_prot prot q)
-prot_same prot o q e = subst (λ (z : Option Entry). Same (with_prot prot o) (with_prot prot z)) e.0 (go o e.1)
+prot_same : (prot : Prot) (o q : Option PageEntry) → Same o q → Same (with_prot prot o) (with_prot prot q)
+prot_same prot o q e = subst (λ (z : Option PageEntry). Same (with_prot prot o) (with_prot prot z)) e.0 (go o e.1)
   where
-    go : (z : Option Entry) → IsAnon z → Same (with_prot prot z) (with_prot prot z)
+    go : (z : Option PageEntry) → IsAnon z → Same (with_prot prot z) (with_prot prot z)
     go None a = (refl, tt)
     go (Some en) a = (refl, a)
 
@@ -441,7 +441,7 @@ mmap_goes rule p t s u core addr len a l at file off file2 off2 prot flags flags
 apart_has : (r p : PageRange) (x : ℕ) → are_apart r p ≡ true → has p x ≡ true → has r x ≡ false
 apart_has r p x a b = grind (arith, nat_tests)
 
-across_aside : (f g : ℕ → Option Entry) (r p : PageRange) (x : ℕ) → are_apart r p ≡ true → has p x ≡ true → across f (has r) g x ≡ f x
+across_aside : (f g : ℕ → Option PageEntry) (r p : PageRange) (x : ℕ) → are_apart r p ≡ true → has p x ≡ true → across f (has r) g x ≡ f x
 across_aside f g r p x a b = ap (λ (b : Bool). cond b (g x) (f x)) (apart_has r p x a b)
 
 -- what changes nothing in these pages
@@ -486,7 +486,7 @@ performs_quiet rule t u core x (Load addr) y q h = same_map (accessed t addr 0 y
 performs_quiet rule t u core x (Store addr byte) y q h = same_map (accessed t addr byte y) u x h.1 ∙ accessed_quiet t addr byte x y q
 performs_quiet rule t u core x (Fetch addr) y q h = same_map (accessed t addr 0 y) u x h.1 ∙ accessed_quiet t addr 0 x y q
 
-stored_other : (t : Plain) (page i byte x : ℕ) (o : Option Entry) → x ≢ page → (stored_entry t page o i byte).entry x ≡ t.entry x
+stored_other : (t : Plain) (page i byte x : ℕ) (o : Option PageEntry) → x ≢ page → (stored_entry t page o i byte).entry x ≡ t.entry x
 stored_other t page i byte x None ne = refl
 stored_other t page i byte x (Some e) ne = go e.own
   where
@@ -583,7 +583,7 @@ pub agree_on : (p : PageRange) (t s u : Plain) → ((x : ℕ) → has p x ≡ tr
 agree_on p t s u kept same x in_p =
     let here = same x in_p in
     let e = kept x in_p in
-    (e ∙ here.0, subst (λ (o : Option Entry). IsAnon o) (sym e) here.1)
+    (e ∙ here.0, subst (λ (o : Option PageEntry). IsAnon o) (sym e) here.1)
 
 -- a mapping of no file, and the one for the pages that it has of these
 mapped_goes : (rule : PlaceRule) (p : PageRange) (t s u : Plain) (core addr len : ℕ) (prot : Prot) (flags : Flags) (file off : ℕ) (y : Reply)
@@ -618,7 +618,7 @@ requests_go rule p t s u core (Fetch addr) q y z is same h =
 requests_go rule p t s u core (Store addr byte) q y z is same h =
     named (subst (λ (w : Reply). Goes p s u (λ (v : Plain). RepliesBy rule s core (Store addr byte) w v)) (sym is.2) (
     access_goes rule p t s u core addr (Store addr byte) y By.Store byte (no_copy t addr byte y here.1)
-    (no_copy s addr byte y (subst (λ (o : Option Entry). IsAnon o) here.0 here.1)) (λ m n a. a) (λ m n a. a) is.0 same h))
+    (no_copy s addr byte y (subst (λ (o : Option PageEntry). IsAnon o) here.0 here.1)) (λ m n a. a) (λ m n a. a) is.0 same h))
   where
     here : Same (t.entry (page_of addr)) (s.entry (page_of addr))
     here = same (page_of addr) is.0.0

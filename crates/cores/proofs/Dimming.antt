@@ -27,7 +27,7 @@ use Rattle.vm_base.specs.Info.{advance_back}
 use Rattle.vm_base.specs.Log.{RepliesBy}
 use Rattle.vm_base.specs.Pages.{are_pages, is_aligned, is_page, offset_of, page_count, page_of, pages_of}
 use Rattle.vm_base.specs.Places.{PlaceRule}
-use Rattle.vm_base.specs.Plain.{Bytes, Entry, File, Plain, bytes_of, mode_of, zeros}
+use Rattle.vm_base.specs.Plain.{Bytes, PageEntry, File, Plain, bytes_of, mode_of, zeros}
 use Rattle.vm_base.specs.Refusals.{answer, file_refusal, is_one_kind, mmap_refusal, mprotect_refusal, munmap_refusal, refusal}
 use Rattle.vm_base.specs.Rights.{is_allowed}
 use Rattle.vm_base.proofs.Functions.{eq_true}
@@ -40,22 +40,22 @@ use Rattle.cores.proofs.Agreeing.{IsAnon, maps_put, no_copy, no_copy_fetch, no_c
 -- ---- maps without their bytes
 
 -- a page of no file, and of zero bytes
-pub record IsZero (f : Entry) : Type 0 where
+pub record IsZero (f : PageEntry) : Type 0 where
   pub anon : f.back ≡ Anon
   pub bytes : Bytes
   pub own : f.own ≡ Some bytes
   pub zero : (i : ℕ) → bytes i ≡ 0
 
 -- a page without its bytes
-abbrev pub Dims : Option Entry → Option Entry → Type 0
+abbrev pub Dims : Option PageEntry → Option PageEntry → Type 0
 Dims None q = q ≡ None
-Dims (Some e) q = (f : Entry) × (q ≡ Some f) × (f.prot ≡ e.prot) × IsZero f
+Dims (Some e) q = (f : PageEntry) × (q ≡ Some f) × (f.prot ≡ e.prot) × IsZero f
 
 abbrev pub Dimmed : Plain → Plain → Type 0
 Dimmed t s = (x : ℕ) → Dims (t.entry x) (s.entry x)
 
 -- one there is
-abbrev dim_entry : Option Entry → Option Entry
+abbrev dim_entry : Option PageEntry → Option PageEntry
 dim_entry None = None
 dim_entry (Some e) = Some (record { back = Anon; prot = e.prot; own = Some zeros })
 
@@ -65,7 +65,7 @@ dim t = record { entry = λ x. dim_entry (t.entry x); file = λ k. None }
 pub is_dim : (t : Plain) → Dimmed t (dim t)
 is_dim t x = go (t.entry x)
   where
-    go : (o : Option Entry) → Dims o (dim_entry o)
+    go : (o : Option PageEntry) → Dims o (dim_entry o)
     go None = refl
     go (Some e) =
         (record { back = Anon; prot = e.prot; own = Some zeros }, refl, refl, record { anon = refl; bytes = zeros; own = refl; zero = λ i. refl })
@@ -73,46 +73,46 @@ is_dim t x = go (t.entry x)
 some_same : {A : Type 0} (a b : A) → Some a ≡ Some b → a ≡ b
 some_same a b e = cc
 
-dims_anon : (o q : Option Entry) → Dims o q → IsAnon q
+dims_anon : (o q : Option PageEntry) → Dims o q → IsAnon q
 dims_anon None q d = subst IsAnon (sym d) tt
 dims_anon (Some e) q d = subst IsAnon (sym d.1) d.3.anon
 
 -- ---- changes of one page
 
 -- of a page that has the same rights
-dims_entry : (e d : Entry) (q : Option Entry) → d.prot ≡ e.prot → Dims (Some e) q → Dims (Some d) q
+dims_entry : (e d : PageEntry) (q : Option PageEntry) → d.prot ≡ e.prot → Dims (Some e) q → Dims (Some d) q
 dims_entry e d q prot s = (s.0, s.1, s.2 ∙ sym prot, s.3)
 
-put_dims : (f g : ℕ → Option Entry) (page : ℕ) (e d : Entry) → f page ≡ Some e → d.prot ≡ e.prot → ((x : ℕ) → Dims (f x) (g x)) → (x : ℕ)
+put_dims : (f g : ℕ → Option PageEntry) (page : ℕ) (e d : PageEntry) → f page ≡ Some e → d.prot ≡ e.prot → ((x : ℕ) → Dims (f x) (g x)) → (x : ℕ)
     → Dims (put f page (Some d) x) (g x)
 put_dims f g page e d is prot dims x = go (x == page) refl
   where
     go : (b : Bool) → (x == page) ≡ b → Dims (cond b (Some d) (f x)) (g x)
     go true same =
         let here : f x ≡ Some e = ap f (eq_true x page same) ∙ is in
-        dims_entry e d (g x) prot (subst (λ (o : Option Entry). Dims o (g x)) here (dims x))
+        dims_entry e d (g x) prot (subst (λ (o : Option PageEntry). Dims o (g x)) here (dims x))
     go false same = dims x
 
 -- of one without bytes
-dims_zero : (o : Option Entry) (f d : Entry) → d.prot ≡ f.prot → IsZero d → Dims o (Some f) → Dims o (Some d)
+dims_zero : (o : Option PageEntry) (f d : PageEntry) → d.prot ≡ f.prot → IsZero d → Dims o (Some f) → Dims o (Some d)
 dims_zero None f d prot zero s = let wrong : Some f ≡ None = s in absurd cc
 dims_zero (Some e) f d prot zero s =
     let same : f ≡ s.0 = some_same f s.0 s.1 in
-    (d, refl, prot ∙ (ap (λ (n : Entry). n.prot) same ∙ s.2), zero)
+    (d, refl, prot ∙ (ap (λ (n : PageEntry). n.prot) same ∙ s.2), zero)
 
-put_zero : (f g : ℕ → Option Entry) (page : ℕ) (e d : Entry) → g page ≡ Some e → d.prot ≡ e.prot → IsZero d → ((x : ℕ) → Dims (f x) (g x)) → (x : ℕ)
+put_zero : (f g : ℕ → Option PageEntry) (page : ℕ) (e d : PageEntry) → g page ≡ Some e → d.prot ≡ e.prot → IsZero d → ((x : ℕ) → Dims (f x) (g x)) → (x : ℕ)
     → Dims (f x) (put g page (Some d) x)
 put_zero f g page e d is prot zero dims x = go (x == page) refl
   where
     go : (b : Bool) → (x == page) ≡ b → Dims (f x) (cond b (Some d) (g x))
     go true same =
         let here : g x ≡ Some e = ap g (eq_true x page same) ∙ is in
-        dims_zero (f x) e d prot zero (subst (λ (o : Option Entry). Dims (f x) o) here (dims x))
+        dims_zero (f x) e d prot zero (subst (λ (o : Option PageEntry). Dims (f x) o) here (dims x))
     go false same = dims x
 
 -- ---- copies
 
-copied_dims : (t u s : Plain) (page : ℕ) (e : Entry) (b : Bool) (o : Option Bytes) → t.entry page ≡ Some e → copied t page e b o ≡ Some u → Dimmed t s
+copied_dims : (t u s : Plain) (page : ℕ) (e : PageEntry) (b : Bool) (o : Option Bytes) → t.entry page ≡ Some e → copied t page e b o ≡ Some u → Dimmed t s
     → Dimmed u s
 copied_dims t u s page e false None at h same = absurd cc
 copied_dims t u s page e false (Some bytes) at h same = absurd cc
@@ -124,7 +124,7 @@ copied_dims t u s page e true (Some bytes) at h same =
 detached_dims : (t u s : Plain) (page : ℕ) → detached t page ≡ Some u → Dimmed t s → Dimmed u s
 detached_dims t u s page h same = go (t.entry page) refl h
   where
-    go : (o : Option Entry) → t.entry page ≡ o → detached_entry t page o ≡ Some u → Dimmed u s
+    go : (o : Option PageEntry) → t.entry page ≡ o → detached_entry t page o ≡ Some u → Dimmed u s
     go None e f = absurd cc
     go (Some d) e f = copied_dims t u s page d (is_uncopied d.back d.own) (bytes_of t.file d.back d.own) e f same
 
@@ -174,7 +174,7 @@ unchanged rule t s u core r q y memory frame keeps same h =
 -- ---- accesses
 
 -- what is served by a page of zero bytes
-zero_reply : (g : ℕ → Option File) (f : Entry) (a : Access) (i : ℕ) → IsZero f → is_allowed f.prot a ≡ true
+zero_reply : (g : ℕ → Option File) (f : PageEntry) (a : Access) (i : ℕ) → IsZero f → is_allowed f.prot a ≡ true
     → entry_reply g (Some f) a i ≡ Some (byte_reply a 0)
 zero_reply g f a i zero allowed =
     ap (λ (b : Bool). if b then bytes_reply (needs_copy a f.back f.own) (bytes_of g f.back f.own) a i else Some (Segv AccErr)) allowed
@@ -197,18 +197,18 @@ served_byte By.Store n = refl
 abbrev ServedAs : Option Reply → Reply → Type 0
 ServedAs told y = (told ≡ Some (served y)) ⊎ (served y ≡ NoMemory)
 
-reply_dims : (g : ℕ → Option File) (f : ℕ → Option File) (o q : Option Entry) (a : Access) (i : ℕ) (y : Reply) → Dims o q → entry_reply f o a i ≡ Some y
+reply_dims : (g : ℕ → Option File) (f : ℕ → Option File) (o q : Option PageEntry) (a : Access) (i : ℕ) (y : Reply) → Dims o q → entry_reply f o a i ≡ Some y
     → ServedAs (entry_reply g q a i) y
 reply_dims g f None q a i y d h =
     let told : Segv MapErr ≡ y = some_same (Segv MapErr) y h in
-    inl (ap (λ (p : Option Entry). entry_reply g p a i) d ∙ ap (λ (z : Reply). Some (served z)) told)
+    inl (ap (λ (p : Option PageEntry). entry_reply g p a i) d ∙ ap (λ (z : Reply). Some (served z)) told)
 reply_dims g f (Some e) q a i y d h = by (is_allowed e.prot a) refl h
   where
-    z : Entry
+    z : PageEntry
     z = d.0
 
     here : entry_reply g q a i ≡ entry_reply g (Some z) a i
-    here = ap (λ (p : Option Entry). entry_reply g p a i) d.1
+    here = ap (λ (p : Option PageEntry). entry_reply g p a i) d.1
 
     allows : (b : Bool) → is_allowed e.prot a ≡ b → is_allowed z.prot a ≡ b
     allows b is = ap (λ (p : Prot). is_allowed p a) d.2 ∙ is
@@ -247,7 +247,7 @@ zero_put z i zero n = go (n == i)
     go true = refl
     go false = zero n
 
-stored_left : (t s : Plain) (page i byte : ℕ) (e : Entry) (own : Option Bytes) → t.entry page ≡ Some e → Dimmed t s
+stored_left : (t s : Plain) (page i byte : ℕ) (e : PageEntry) (own : Option Bytes) → t.entry page ≡ Some e → Dimmed t s
     → Dimmed (stored_own t page e own i byte) s
 stored_left t s page i byte e (Some own) at same = put_dims t.entry s.entry page e (record e { own = Some (put own i byte) }) at refl same
 stored_left t s page i byte e None at same = go e.back
@@ -257,7 +257,7 @@ stored_left t s page i byte e None at same = go e.back
     go (Shared file k) = same
     go (Private file k) = same
 
-stored_right : (t s : Plain) (page i : ℕ) (f : Entry) → s.entry page ≡ Some f → IsZero f → Dimmed t s → Dimmed t (stored_own s page f f.own i 0)
+stored_right : (t s : Plain) (page i : ℕ) (f : PageEntry) → s.entry page ≡ Some f → IsZero f → Dimmed t s → Dimmed t (stored_own s page f f.own i 0)
 stored_right t s page i f at zero same =
     subst (λ (own : Option Bytes). Dimmed t (stored_own s page f own i 0)) (sym zero.own)
     (put_zero t.entry s.entry page f (record f { own = Some (put zero.bytes i 0) }) at refl (record {
@@ -271,10 +271,10 @@ stored_dims : (t s : Plain) (page i byte : ℕ) → Dimmed t s
     → Dimmed (stored_entry t page (t.entry page) i byte) (stored_entry s page (s.entry page) i 0)
 stored_dims t s page i byte same = go (t.entry page) refl (same page)
   where
-    go : (o : Option Entry) → t.entry page ≡ o → Dims o (s.entry page) → Dimmed (stored_entry t page o i byte) (stored_entry s page (s.entry page) i 0)
-    go None e d = subst (λ (q : Option Entry). Dimmed t (stored_entry s page q i 0)) (sym d) same
+    go : (o : Option PageEntry) → t.entry page ≡ o → Dims o (s.entry page) → Dimmed (stored_entry t page o i byte) (stored_entry s page (s.entry page) i 0)
+    go None e d = subst (λ (q : Option PageEntry). Dimmed t (stored_entry s page q i 0)) (sym d) same
     go (Some en) e d =
-        subst (λ (q : Option Entry). Dimmed (stored_own t page en en.own i byte) (stored_entry s page q i 0)) (sym d.1)
+        subst (λ (q : Option PageEntry). Dimmed (stored_own t page en en.own i byte) (stored_entry s page q i 0)) (sym d.1)
         (stored_right (stored_own t page en en.own i byte) s page i d.0 d.1 d.3 (stored_left t s page i byte en en.own e same))
 
 accessed_dims : (t s : Plain) (addr byte : ℕ) (y : Reply) → Dimmed t s → Dimmed (accessed t addr byte y) (accessed s addr 0 (served y))
@@ -351,7 +351,7 @@ accesses_left rule t s u core addr r q NoMemory a byte is same h = (s, refl, sub
 
 -- ---- ranges
 
-across_dims : (r : PageRange) (t s : Plain) (f g : ℕ → Option Entry) → ((x : ℕ) → Dims (f x) (g x)) → Dimmed t s → (x : ℕ)
+across_dims : (r : PageRange) (t s : Plain) (f g : ℕ → Option PageEntry) → ((x : ℕ) → Dims (f x) (g x)) → Dimmed t s → (x : ℕ)
     → Dims (across t.entry (has r) f x) (across s.entry (has r) g x)
 across_dims r t s f g new same x = go (has r x)
   where
@@ -373,15 +373,15 @@ munmap_change rule core addr len None t s u same h =
     let v : Plain = after_unmapping s r in
     (v, (refl, refl), subst (λ (n : Plain). Dimmed n v) (sym h.1) (across_dims r t s (λ x. None) (λ x. None) (λ x. refl) same))
 
-prot_dims : (prot : Prot) (o q : Option Entry) → Dims o q → Dims (with_prot prot o) (with_prot prot q)
-prot_dims prot None q d = subst (λ (p : Option Entry). Dims None (with_prot prot p)) (sym d) refl
+prot_dims : (prot : Prot) (o q : Option PageEntry) → Dims o q → Dims (with_prot prot o) (with_prot prot q)
+prot_dims prot None q d = subst (λ (p : Option PageEntry). Dims None (with_prot prot p)) (sym d) refl
 prot_dims prot (Some e) q d =
-    subst (λ (p : Option Entry). Dims (Some (record e { prot = prot })) (with_prot prot p)) (sym d.1)
+    subst (λ (p : Option PageEntry). Dims (Some (record e { prot = prot })) (with_prot prot p)) (sym d.1)
     (record d.0 { prot = prot }, refl, refl, record { anon = d.3.anon; bytes = d.3.bytes; own = d.3.own; zero = d.3.zero })
 
-absent_dims : (o q : Option Entry) → Dims o q → is_absent q ≡ true → is_absent o ≡ true
+absent_dims : (o q : Option PageEntry) → Dims o q → is_absent q ≡ true → is_absent o ≡ true
 absent_dims None q d e = refl
-absent_dims (Some en) q d e = let wrong : is_absent (Some d.0) ≡ true = subst (λ (p : Option Entry). is_absent p ≡ true) d.1 e in absurd cc
+absent_dims (Some en) q d e = let wrong : is_absent (Some d.0) ≡ true = subst (λ (p : Option PageEntry). is_absent p ≡ true) d.1 e in absurd cc
 
 protects_dims : (t s u : Plain) (r : PageRange) (prot : Prot) → Dimmed t s → Protects t r prot Done u → (v : Plain) × Protects s r prot Done v × Dimmed u v
 protects_dims t s u r prot same (Protects.no_page has_none y e) = absurd cc

@@ -13,8 +13,8 @@ use Rattle.draw_lines.specs.Places.{words_y}
 use Rattle.draw_lines.specs.Sheet.{column}
 use Rattle.draw_lines.specs.declared.bits.Bit.{Bit}
 use Rattle.draw_lines.specs.declared.bits.Bit.TheVariants as In
-use Rattle.draw_lines.specs.declared.sheet.Form.{Form}
-use Rattle.draw_lines.specs.declared.sheet.Form.TheVariants.{Wide, Narrow, Flat}
+use Rattle.draw_lines.specs.declared.sheet.Layout.{Layout}
+use Rattle.draw_lines.specs.declared.sheet.Layout.TheVariants.{Wide, Narrow, Flat}
 use Rattle.draw_lines.specs.declared.sheet.Sheet.{Sheet}
 use Rattle.draw_lines.specs.declared.waits.Cause.{Cause}
 use Rattle.draw_lines.specs.declared.waits.Cause.TheVariants.{Lock, Acks}
@@ -22,7 +22,7 @@ use Rattle.draw_lines.specs.declared.waits.Cause.TheVariants.{Lock, Acks}
 -- ---- where words stand
 
 -- upright words are turned
-abbrev pub turn_words : Form → List ℕ
+abbrev pub turn_words : Layout → List ℕ
 turn_words Wide = codes ")\">"
 turn_words Flat = codes ")\">"
 turn_words Narrow = codes ") rotate(-90)\">"
@@ -43,19 +43,19 @@ flat_answer answer = concat (codes "<tspan class=\"" ∷ reply_class answer.repl
     ∷ codes "</tspan></text></g>" ∷ [])
 
 -- the third line of a bar
-abbrev pub third_line : Form → List ℕ
+abbrev pub third_line : Layout → List ℕ
 third_line Wide = codes "<text x=\"5\" y=\"45\" class=\""
 third_line Flat = codes "<text x=\"5\" y=\"45\" class=\""
 third_line Narrow = codes "<text x=\"5\" y=\"29\" class=\""
 
 -- in a line of its own, in the column of the answer
-abbrev pub reply_line : Form → Answer → List ℕ
+abbrev pub reply_line : Layout → Answer → List ℕ
 reply_line form answer = concat (third_line form ∷ reply_class answer.reply ∷ codes "\">= " ∷ text_of answer.reply ∷ codes "</text></g>" ∷ [])
 
 abbrev pub own_answer : Sheet → ℕ → Answer → List ℕ
 own_answer sheet core answer = codes "</text></g>" ++ spot_text sheet core answer.step ++ reply_line sheet.form answer
 
-abbrev pub end_in : Form → Sheet → ℕ → Answer → List ℕ
+abbrev pub end_in : Layout → Sheet → ℕ → Answer → List ℕ
 end_in Flat sheet core answer = flat_answer answer
 end_in Wide sheet core answer = own_answer sheet core answer
 end_in Narrow sheet core answer = own_answer sheet core answer

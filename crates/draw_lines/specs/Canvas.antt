@@ -20,8 +20,8 @@ use Rattle.draw_lines.specs.Drawing.{arrow_text, bar_text, danger_text, mark_tex
 use Rattle.draw_lines.specs.Sheet.{across, lane, lanes_of, pitch, row_y, rows_y, sheet_of, wide}
 use Rattle.draw_lines.specs.Style.{legend_words, style_text}
 use Rattle.draw_lines.specs.declared.dangers.Danger.{Danger}
-use Rattle.draw_lines.specs.declared.sheet.Form.{Form}
-use Rattle.draw_lines.specs.declared.sheet.Form.TheVariants.{Wide, Narrow, Flat}
+use Rattle.draw_lines.specs.declared.sheet.Layout.{Layout}
+use Rattle.draw_lines.specs.declared.sheet.Layout.TheVariants.{Wide, Narrow, Flat}
 use Rattle.draw_lines.specs.declared.sheet.Sheet.{Sheet}
 use Rattle.draw_lines.specs.declared.waits.Waited.{Waited}
 
@@ -33,7 +33,7 @@ width sheet = max (160 + across sheet sheet.columns) 740
 abbrev pub height : Sheet → ℕ → ℕ
 height sheet rows = rows_y sheet + 20 * min rows 256 + 56
 
-abbrev pub form_class : Form → List ℕ
+abbrev pub form_class : Layout → List ℕ
 form_class Wide = codes "Wide"
 form_class Narrow = codes "Narrow"
 form_class Flat = codes "Flat"
@@ -47,7 +47,7 @@ unfoldable pub title_text : Sheet → List ℕ → List ℕ
 title_text sheet heads = concat (codes "<title>Lines " ∷ decimal (line_at heads 0) ∷ codes " to " ∷ decimal (line_at heads (length heads - 1))
     ∷ codes " of a trace, in which " ∷ decimal (lanes_of sheet.cores) ∷ codes " cores act</title>\n" ∷ [])
 
-abbrev pub size_text : Form → ℕ → ℕ → List ℕ
+abbrev pub size_text : Layout → ℕ → ℕ → List ℕ
 size_text form w h = concat (codes "<svg xmlns=\"http://www.w3.org/2000/svg\" class=\"" ∷ form_class form ∷ codes "\" width=\"" ∷ decimal w
     ∷ codes "\" height=\"" ∷ decimal h ∷ codes "\" viewBox=\"0 0 " ∷ decimal w ∷ codes " " ∷ decimal h ∷ codes "\">\n" ∷ [])
 

@@ -21,20 +21,20 @@ use Rattle.draw_lines.specs.Bits.{after_words, answer_text, cause_text, spot_tex
 use Rattle.draw_lines.specs.Places.{arrow_way, bar_place, danger_place, mark_place, middle, stretch_place}
 use Rattle.draw_lines.specs.Sheet.{lane, pitch, row_y, wide}
 use Rattle.draw_lines.specs.declared.dangers.Danger.{Danger}
-use Rattle.draw_lines.specs.declared.sheet.Form.{Form}
-use Rattle.draw_lines.specs.declared.sheet.Form.TheVariants.{Wide, Narrow, Flat}
+use Rattle.draw_lines.specs.declared.sheet.Layout.{Layout}
+use Rattle.draw_lines.specs.declared.sheet.Layout.TheVariants.{Wide, Narrow, Flat}
 use Rattle.draw_lines.specs.declared.sheet.Sheet.{Sheet}
 use Rattle.draw_lines.specs.declared.waits.Waited.{Waited}
 
 -- ---- bars
 
 -- where the lines of a bar begin
-abbrev pub first_line : Form → List ℕ
+abbrev pub first_line : Layout → List ℕ
 first_line Wide = codes "<text class=\"name\" x=\"5\" y=\"15\">"
 first_line Narrow = codes "<text class=\"name\" x=\"5\" y=\"9\">"
 first_line Flat = codes "<text class=\"flat\" x=\"3\" y=\"10\">"
 
-abbrev pub second_line : Form → List ℕ
+abbrev pub second_line : Layout → List ℕ
 second_line Wide = codes "</text><text class=\"what\" x=\"5\" y=\"30\">"
 second_line Narrow = codes "</text><text class=\"what\" x=\"5\" y=\"19\">"
 second_line Flat = []
@@ -48,7 +48,7 @@ bar_text sheet bar = concat (codes "<g><title>" ∷ request_name bar.request ∷
 
 -- ---- waits
 
-abbrev pub wait_line : Form → List ℕ
+abbrev pub wait_line : Layout → List ℕ
 wait_line Wide = codes "<text class=\"wait\" x=\"5\" y=\"45\">"
 wait_line Narrow = codes "<text class=\"wait\" x=\"5\" y=\"29\">"
 wait_line Flat = codes "<text class=\"wait\" x=\"150\" y=\"10\">"

@@ -1,6 +1,6 @@
 -- Where things lie in a picture, in its units
 use Rattle.std.specs.Prelude.{ℕ, ◌+◌, ◌-◌, ◌*◌, ◌/◌, ◌^◌, Option, None, Some, if◌then◌else◌, min, nat_lt}
-use Rattle.draw_steps.specs.declared.elements.Place.{Place}
+use Rattle.draw_steps.specs.declared.elements.Rect.{Rect}
 use Rattle.draw_steps.specs.declared.elements.Way.{Way}
 use Rattle.draw_steps.specs.declared.moments.Answer.{Answer}
 use Rattle.draw_steps.specs.declared.shapes.Bar.{Bar}
@@ -10,12 +10,12 @@ use Rattle.draw_steps.specs.declared.shapes.Course.TheVariants.{Message, Acknowl
 use Rattle.draw_steps.specs.declared.shapes.Stretch.{Stretch}
 use Rattle.draw_lines.specs.Sheet.{across, column, lane, pitch, row_y, wide}
 use Rattle.draw_lines.specs.declared.dangers.Danger.{Danger}
-use Rattle.draw_lines.specs.declared.sheet.Form.{Form}
-use Rattle.draw_lines.specs.declared.sheet.Form.TheVariants.{Wide, Narrow, Flat}
+use Rattle.draw_lines.specs.declared.sheet.Layout.{Layout}
+use Rattle.draw_lines.specs.declared.sheet.Layout.TheVariants.{Wide, Narrow, Flat}
 use Rattle.draw_lines.specs.declared.sheet.Sheet.{Sheet}
 
 -- how far a bar lies from the edges of its lane
-abbrev pub inset : Form → ℕ
+abbrev pub inset : Layout → ℕ
 inset Wide = 5
 inset Narrow = 5
 inset Flat = 1
@@ -26,7 +26,7 @@ last_column sheet (Some answer) = answer.step
 last_column sheet None = min (sheet.first + sheet.columns) (2 ^ 64 - 1) - 1
 
 -- a bar reaches from the begin of its first column to the end of its last
-abbrev pub bar_place : Sheet → Bar → Place
+abbrev pub bar_place : Sheet → Bar → Rect
 bar_place sheet bar = record {
   x = column sheet bar.begin + 2;
   y = lane sheet bar.core + inset sheet.form;
@@ -35,7 +35,7 @@ bar_place sheet bar = record {
 }
 
 -- words begin at the upper edge of their bar; upright ones at its lower edge
-abbrev pub words_in : Sheet → ℕ → Form → ℕ
+abbrev pub words_in : Sheet → ℕ → Layout → ℕ
 words_in sheet core Wide = lane sheet core + inset Wide
 words_in sheet core Flat = lane sheet core + inset Flat
 words_in sheet core Narrow = lane sheet core + pitch sheet - 5
@@ -48,7 +48,7 @@ abbrev pub middle : Sheet → ℕ → ℕ
 middle sheet number = column sheet number + wide sheet / 2
 
 -- how far a mark lies from the edges of its lane
-abbrev pub mark_inset : Form → ℕ
+abbrev pub mark_inset : Layout → ℕ
 mark_inset Wide = 22
 mark_inset Narrow = 55
 mark_inset Flat = 2
@@ -58,7 +58,7 @@ abbrev pub mark_wide : Sheet → ℕ
 mark_wide sheet = min (wide sheet) 64 - 4
 
 -- in the middle of its column and of its core's lane
-abbrev pub mark_place : Sheet → ℕ → ℕ → Place
+abbrev pub mark_place : Sheet → ℕ → ℕ → Rect
 mark_place sheet core number = record {
   x = middle sheet number - mark_wide sheet / 2;
   y = lane sheet core + mark_inset sheet.form;
@@ -93,7 +93,7 @@ right_of sheet (Some number) = middle sheet number
 right_of sheet None = 150 + across sheet sheet.columns
 
 -- over the whole height of the lane of the core that may use the translations
-abbrev pub danger_place : Sheet → Danger → Place
+abbrev pub danger_place : Sheet → Danger → Rect
 danger_place sheet d = record {
   x = middle sheet d.begin;
   y = lane sheet d.core + 1;
@@ -102,7 +102,7 @@ danger_place sheet d = record {
 }
 
 -- in its row
-abbrev pub stretch_place : Sheet → Stretch → Place
+abbrev pub stretch_place : Sheet → Stretch → Rect
 stretch_place sheet s = record {
   x = middle sheet s.begin;
   y = row_y sheet s.row + 2;

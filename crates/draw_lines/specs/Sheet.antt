@@ -2,8 +2,8 @@
 use Rattle.std.specs.Prelude.{ℕ, ◌+◌, ◌-◌, ◌*◌, if◌then◌else◌, min, nat_lt, nat_le}
 use Rattle.vm_base.specs.Cores.{members}
 use Rattle.draw_lines.specs.Cores.{count_members}
-use Rattle.draw_lines.specs.declared.sheet.Form.{Form}
-use Rattle.draw_lines.specs.declared.sheet.Form.TheVariants.{Wide, Narrow, Flat}
+use Rattle.draw_lines.specs.declared.sheet.Layout.{Layout}
+use Rattle.draw_lines.specs.declared.sheet.Layout.TheVariants.{Wide, Narrow, Flat}
 use Rattle.draw_lines.specs.declared.sheet.Sheet.{Sheet}
 
 -- how many cores have a lane
@@ -11,11 +11,11 @@ abbrev pub lanes_of : ℕ → ℕ
 lanes_of cores = count_members (members cores) 64
 
 -- words stand in one line where more than eight cores have a lane, upright where there are more than twelve columns
-abbrev pub form_of : ℕ → ℕ → Form
+abbrev pub form_of : ℕ → ℕ → Layout
 form_of lanes columns = if nat_lt 8 lanes then Flat else if nat_lt 12 columns then Narrow else Wide
 
 -- how wide a column is, where there are more than 12
-abbrev pub narrow_wide : Form → ℕ → ℕ
+abbrev pub narrow_wide : Layout → ℕ → ℕ
 narrow_wide Flat columns = if nat_lt 40 columns then 16 else 36
 narrow_wide Wide columns = 36
 narrow_wide Narrow columns = 36
@@ -28,7 +28,7 @@ abbrev pub across : Sheet → ℕ → ℕ
 across sheet count = wide sheet * count
 
 -- how high a lane is
-abbrev pub pitch_of : Form → ℕ
+abbrev pub pitch_of : Layout → ℕ
 pitch_of Wide = 62
 pitch_of Narrow = 128
 pitch_of Flat = 15

@@ -7,10 +7,10 @@ ghost use Rattle.draw_steps.specs.Parts.{arguments_of, reply_class};
 
 use crate::cores::count_members;
 use crate::places::words_y;
-use crate::sheet::{Form, Sheet, column};
+use crate::sheet::{Layout, Sheet, column};
 use crate::waits::Cause;
 use draw_steps::backing::put_backing;
-use draw_steps::elements::{Place, Way, put_line, put_rect, put_text};
+use draw_steps::elements::{Rect, Way, put_line, put_rect, put_text};
 use draw_steps::moments::Answer;
 use draw_steps::parts::{Part, put_parts};
 use trace_text::pieces::{Piece, put, put_all, put_piece};
@@ -23,7 +23,7 @@ pub enum Bit<'a> {
     /// A piece.
     Plain(Piece<'a>),
     /// A rectangle of this class.
-    Rect(&'a str, Place),
+    Rect(&'a str, Rect),
     /// A line of this class.
     Line(&'a str, Way),
     /// The beginning of a text of this class, and where it stands.
@@ -43,12 +43,12 @@ pub enum Bit<'a> {
 }
 
 // What turns the words, behind their place.
-fn turn_words(form: Form) -> &'static str
+fn turn_words(form: Layout) -> &'static str
     ensures { result.now ≡ turn_words form }
 {
     match form {
-        Form::Narrow => ") rotate(-90)\">",
-        Form::Wide | Form::Flat => ")\">",
+        Layout::Narrow => ") rotate(-90)\">",
+        Layout::Wide | Layout::Flat => ")\">",
     }
 }
 
@@ -109,12 +109,12 @@ fn put_flat(out: &mut Vec<u8>, answer: Answer) -> Result<(), AllocError>
 }
 
 // Where a line of its own for a reply begins.
-fn third_line(form: Form) -> &'static str
+fn third_line(form: Layout) -> &'static str
     ensures { result.now ≡ third_line form }
 {
     match form {
-        Form::Narrow => "<text x=\"5\" y=\"29\" class=\"",
-        Form::Wide | Form::Flat => "<text x=\"5\" y=\"45\" class=\"",
+        Layout::Narrow => "<text x=\"5\" y=\"29\" class=\"",
+        Layout::Wide | Layout::Flat => "<text x=\"5\" y=\"45\" class=\"",
     }
 }
 
@@ -149,8 +149,8 @@ fn put_end(
     match answer {
         None => put(out, "</text></g>"),
         Some(answer) => match sheet.form {
-            Form::Flat => put_flat(out, answer),
-            Form::Wide | Form::Narrow => put_own(out, sheet, core, answer),
+            Layout::Flat => put_flat(out, answer),
+            Layout::Wide | Layout::Narrow => put_own(out, sheet, core, answer),
         },
     }
 }

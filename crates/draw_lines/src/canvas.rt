@@ -9,7 +9,7 @@ ghost use Rattle.draw_lines.specs.Drawing.{arrow_text, bar_text, danger_text, ma
 use crate::cores::acting;
 use crate::dangers::{Danger, dangers_of};
 use crate::drawing::{put_arrow, put_bar, put_danger, put_mark, put_stretch, put_wait};
-use crate::sheet::{Form, Sheet, across, lane, lanes_of, pitch, row_y, rows_y, sheet_of, wide};
+use crate::sheet::{Layout, Sheet, across, lane, lanes_of, pitch, row_y, rows_y, sheet_of, wide};
 use crate::style::{LEGEND, STYLE};
 use crate::waits::Waited;
 use draw_steps::elements::{Way, put_text};
@@ -50,13 +50,13 @@ fn height(sheet: &Sheet, rows: usize) -> u64
 }
 
 // The class of how words stand.
-fn form_class(form: Form) -> &'static str
+fn form_class(form: Layout) -> &'static str
     ensures { result.now ≡ form_class form }
 {
     match form {
-        Form::Wide => "Wide",
-        Form::Narrow => "Narrow",
-        Form::Flat => "Flat",
+        Layout::Wide => "Wide",
+        Layout::Narrow => "Narrow",
+        Layout::Flat => "Flat",
     }
 }
 

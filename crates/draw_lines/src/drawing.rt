@@ -7,7 +7,7 @@ ghost use Rattle.draw_lines.specs.Drawing.{second_line, stretch_text, wait_line,
 use crate::bits::{Bit, put_bits};
 use crate::dangers::Danger;
 use crate::places::{arrow_way, bar_place, danger_place, mark_place, middle, stretch_place};
-use crate::sheet::{Form, Sheet, lane, pitch, row_y, wide};
+use crate::sheet::{Layout, Sheet, lane, pitch, row_y, wide};
 use crate::waits::Waited;
 use draw_steps::drawing::prot_class;
 use draw_steps::moments::{Deed, Moment, Pass, Recorded};
@@ -31,24 +31,24 @@ fn request_name(request: Request) -> &'static str
 }
 
 // Where the first line of a bar begins.
-fn first_line(form: Form) -> &'static str
+fn first_line(form: Layout) -> &'static str
     ensures { result.now ≡ first_line form }
 {
     match form {
-        Form::Wide => "<text class=\"name\" x=\"5\" y=\"15\">",
-        Form::Narrow => "<text class=\"name\" x=\"5\" y=\"9\">",
-        Form::Flat => "<text class=\"flat\" x=\"3\" y=\"10\">",
+        Layout::Wide => "<text class=\"name\" x=\"5\" y=\"15\">",
+        Layout::Narrow => "<text class=\"name\" x=\"5\" y=\"9\">",
+        Layout::Flat => "<text class=\"flat\" x=\"3\" y=\"10\">",
     }
 }
 
 // Where the second line of a bar begins.
-fn second_line(form: Form) -> &'static str
+fn second_line(form: Layout) -> &'static str
     ensures { result.now ≡ second_line form }
 {
     match form {
-        Form::Wide => "</text><text class=\"what\" x=\"5\" y=\"30\">",
-        Form::Narrow => "</text><text class=\"what\" x=\"5\" y=\"19\">",
-        Form::Flat => "",
+        Layout::Wide => "</text><text class=\"what\" x=\"5\" y=\"30\">",
+        Layout::Narrow => "</text><text class=\"what\" x=\"5\" y=\"19\">",
+        Layout::Flat => "",
     }
 }
 
@@ -81,13 +81,13 @@ pub fn put_bar(out: &mut Vec<u8>, sheet: &Sheet, bar: &Bar) -> Result<(), AllocE
 }
 
 // Where what a call waits for stands in its bar.
-fn wait_line(form: Form) -> &'static str
+fn wait_line(form: Layout) -> &'static str
     ensures { result.now ≡ wait_line form }
 {
     match form {
-        Form::Wide => "<text class=\"wait\" x=\"5\" y=\"45\">",
-        Form::Narrow => "<text class=\"wait\" x=\"5\" y=\"29\">",
-        Form::Flat => "<text class=\"wait\" x=\"150\" y=\"10\">",
+        Layout::Wide => "<text class=\"wait\" x=\"5\" y=\"45\">",
+        Layout::Narrow => "<text class=\"wait\" x=\"5\" y=\"29\">",
+        Layout::Flat => "<text class=\"wait\" x=\"150\" y=\"10\">",
     }
 }
 

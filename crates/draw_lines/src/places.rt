@@ -4,20 +4,20 @@ ghost use Rattle.draw_lines.specs.Places.{arrow_way, bar_place, danger_place, ed
 ghost use Rattle.draw_lines.specs.Places.{right_of, stretch_place, words_y};
 
 use crate::dangers::Danger;
-use crate::sheet::{Form, Sheet, across, column, lane, pitch, row_y, wide};
-use draw_steps::elements::{Place, Way};
+use crate::sheet::{Layout, Sheet, across, column, lane, pitch, row_y, wide};
+use draw_steps::elements::{Rect, Way};
 use draw_steps::moments::Answer;
 use draw_steps::shapes::{Arrow, Bar, Course, Stretch};
 use vm_base::CoreId;
 
 /// How far a bar lies from the edges of its lane.
-pub fn inset(form: Form) -> u64
+pub fn inset(form: Layout) -> u64
     ensures value { result ≡ inset form }
     ensures bounded { result ≤ 5 }
 {
     match form {
-        Form::Flat => 1,
-        Form::Wide | Form::Narrow => 5,
+        Layout::Flat => 1,
+        Layout::Wide | Layout::Narrow => 5,
     }
 }
 
@@ -35,13 +35,13 @@ fn last_column(sheet: &Sheet, answer: Option<Answer>) -> u64
 }
 
 /// Where a bar lies: in its core's lane, from its first column to its last one.
-pub fn bar_place(sheet: &Sheet, bar: &Bar) -> Place
+pub fn bar_place(sheet: &Sheet, bar: &Bar) -> Rect
     ensures { result ≡ bar_place sheet.now bar.now }
 {
     let left = column(sheet, bar.begin);
     let right = column(sheet, last_column(sheet, bar.answer)) + wide(sheet);
     let inset = inset(sheet.form);
-    Place {
+    Rect {
         x: left + 2,
         y: lane(sheet, bar.core) + inset,
         width: right.saturating_sub(left + 4),
@@ -54,8 +54,8 @@ pub fn words_y(sheet: &Sheet, core: CoreId) -> u64
     ensures { result ≡ words_y sheet.now core }
 {
     match sheet.form {
-        Form::Narrow => (lane(sheet, core) + pitch(sheet)).saturating_sub(5),
-        Form::Wide | Form::Flat => lane(sheet, core) + inset(sheet.form),
+        Layout::Narrow => (lane(sheet, core) + pitch(sheet)).saturating_sub(5),
+        Layout::Wide | Layout::Flat => lane(sheet, core) + inset(sheet.form),
     }
 }
 
@@ -68,14 +68,14 @@ pub fn middle(sheet: &Sheet, number: u64) -> u64
 }
 
 // How far a mark lies from the edges of its lane.
-fn mark_inset(form: Form) -> u64
+fn mark_inset(form: Layout) -> u64
     ensures value { result ≡ mark_inset form }
     ensures bounded { result ≤ 60 }
 {
     match form {
-        Form::Wide => 22,
-        Form::Narrow => 55,
-        Form::Flat => 2,
+        Layout::Wide => 22,
+        Layout::Narrow => 55,
+        Layout::Flat => 2,
     }
 }
 
@@ -88,12 +88,12 @@ fn mark_wide(sheet: &Sheet) -> u64
 }
 
 /// Where a mark lies: in the middle of its column and of its core's lane.
-pub fn mark_place(sheet: &Sheet, core: CoreId, number: u64) -> Place
+pub fn mark_place(sheet: &Sheet, core: CoreId, number: u64) -> Rect
     ensures { result ≡ mark_place sheet.now core number }
 {
     let width = mark_wide(sheet);
     let inset = mark_inset(sheet.form);
-    Place {
+    Rect {
         x: middle(sheet, number).saturating_sub(width / 2),
         y: lane(sheet, core) + inset,
         width,
@@ -142,11 +142,11 @@ fn right_of(sheet: &Sheet, end: Option<u64>) -> u64
 }
 
 /// Where a span of danger lies: in the lane of the core that may use the translations, over its whole height.
-pub fn danger_place(sheet: &Sheet, danger: &Danger) -> Place
+pub fn danger_place(sheet: &Sheet, danger: &Danger) -> Rect
     ensures { result ≡ danger_place sheet.now danger.now }
 {
     let left = middle(sheet, danger.begin);
-    Place {
+    Rect {
         x: left,
         y: lane(sheet, danger.core) + 1,
         width: right_of(sheet, danger.end).saturating_sub(left),
@@ -155,11 +155,11 @@ pub fn danger_place(sheet: &Sheet, danger: &Danger) -> Place
 }
 
 /// Where a stretch lies: in its row, from the middle of the column in which it begins to that in which it ends.
-pub fn stretch_place(sheet: &Sheet, stretch: Stretch) -> Place
+pub fn stretch_place(sheet: &Sheet, stretch: Stretch) -> Rect
     ensures { result ≡ stretch_place sheet.now stretch }
 {
     let left = middle(sheet, stretch.begin);
-    Place {
+    Rect {
         x: left,
         y: row_y(sheet, stretch.row) + 2,
         width: right_of(sheet, stretch.end).saturating_sub(left),

@@ -8,7 +8,7 @@ use vm_base::{CoreId, CoreSet};
 
 /// How the words of a call stand in its bar.
 #[derive(Clone, Copy)]
-pub enum Form {
+pub enum Layout {
     /// In lines below each other.
     Wide,
     /// In upright lines beside each other.
@@ -27,7 +27,7 @@ pub struct Sheet {
     /// How many columns there are.
     pub columns: u16,
     /// How words stand.
-    pub form: Form,
+    pub form: Layout,
 }
 
 /// How many cores have a lane.
@@ -39,15 +39,15 @@ pub fn lanes_of(cores: CoreSet) -> u64
 }
 
 // How words stand: in one line where more than eight cores have a lane, upright where there are more than twelve columns.
-fn form_of(lanes: u64, columns: u16) -> Form
+fn form_of(lanes: u64, columns: u16) -> Layout
     ensures { result ≡ form_of lanes columns }
 {
     if lanes > 8 {
-        Form::Flat
+        Layout::Flat
     } else if columns > 12 {
-        Form::Narrow
+        Layout::Narrow
     } else {
-        Form::Wide
+        Layout::Wide
     }
 }
 
@@ -61,7 +61,7 @@ pub fn across(sheet: &Sheet, count: u64) -> u64
         return 120 * count;
     }
     match sheet.form {
-        Form::Flat if sheet.columns > 40 => 16 * count,
+        Layout::Flat if sheet.columns > 40 => 16 * count,
         _ => 36 * count,
     }
 }
@@ -75,7 +75,7 @@ pub fn wide(sheet: &Sheet) -> u64
         return 120;
     }
     match sheet.form {
-        Form::Flat if sheet.columns > 40 => 16,
+        Layout::Flat if sheet.columns > 40 => 16,
         _ => 36,
     }
 }
@@ -87,9 +87,9 @@ pub fn down(sheet: &Sheet, count: u64) -> u64
     ensures bounded { result ≤ 8192 }
 {
     match sheet.form {
-        Form::Wide => 62 * count,
-        Form::Narrow => 128 * count,
-        Form::Flat => 15 * count,
+        Layout::Wide => 62 * count,
+        Layout::Narrow => 128 * count,
+        Layout::Flat => 15 * count,
     }
 }
 
@@ -99,9 +99,9 @@ pub fn pitch(sheet: &Sheet) -> u64
     ensures bounded { result ≤ 128 }
 {
     match sheet.form {
-        Form::Wide => 62,
-        Form::Narrow => 128,
-        Form::Flat => 15,
+        Layout::Wide => 62,
+        Layout::Narrow => 128,
+        Layout::Flat => 15,
     }
 }
 

@@ -1,10 +1,10 @@
 -- Elements of SVG.
 use Rattle.std.specs.Prelude.{ℕ, List, [], ◌∷◌, codes, decimal}
 use Rattle.std.specs.List.{concat}
-use Rattle.draw_steps.specs.declared.elements.Place.{Place}
+use Rattle.draw_steps.specs.declared.elements.Rect.{Rect}
 use Rattle.draw_steps.specs.declared.elements.Way.{Way}
 
-unfoldable pub rect_text : List ℕ → Place → List ℕ
+unfoldable pub rect_text : List ℕ → Rect → List ℕ
 rect_text class p = concat (codes "<rect class=\"" ∷ class ∷ codes "\" x=\"" ∷ decimal p.x ∷ codes "\" y=\"" ∷ decimal p.y
     ∷ codes "\" width=\"" ∷ decimal p.width ∷ codes "\" height=\"" ∷ decimal p.height ∷ codes "\" rx=\"3\"/>" ∷ [])
 

@@ -1,6 +1,6 @@
 -- Where things lie in a picture, in its units.
 use Rattle.std.specs.Prelude.{ℕ, ◌+◌, ◌-◌, ◌*◌, ◌%◌, ◌^◌, Option, None, Some, if◌then◌else◌, ◌==◌, min, nat_lt}
-use Rattle.draw_steps.specs.declared.elements.Place.{Place}
+use Rattle.draw_steps.specs.declared.elements.Rect.{Rect}
 use Rattle.draw_steps.specs.declared.elements.Way.{Way}
 use Rattle.draw_steps.specs.declared.moments.Answer.{Answer}
 use Rattle.draw_steps.specs.declared.places.View.{View}
@@ -40,7 +40,7 @@ abbrev pub last_step : View → Bar → ℕ
 last_step view bar = answered_or view bar.answer
 
 -- a bar reaches from the begin of its first step to the end of its last
-abbrev pub bar_place : View → Bar → Place
+abbrev pub bar_place : View → Bar → Rect
 bar_place view bar = record {
   x = column view bar.begin + 2;
   y = lane bar.core + 27;
@@ -81,7 +81,7 @@ right_of view (Some step) = column view step + 24
 right_of view None = 104 + 52 * view.steps
 
 -- from the step that maps the pages to the one that unmaps them
-abbrev pub stretch_place : View → Stretch → Place
+abbrev pub stretch_place : View → Stretch → Rect
 stretch_place view s = record {
   x = column view s.begin + 26;
   y = row_y view s.row + 2;

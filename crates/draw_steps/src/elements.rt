@@ -7,7 +7,7 @@ use std::alloc::AllocError;
 
 /// Where a rectangle lies.
 #[derive(Clone, Copy)]
-pub struct Place {
+pub struct Rect {
     /// Its left edge.
     pub x: u64,
     /// Its upper edge.
@@ -33,7 +33,7 @@ pub struct Way {
 
 /// Appends a rectangle.
 #[tactic(auto, unfolding(crate::specs::Elements::rect_text))]
-pub fn put_rect(out: &mut Vec<u8>, class: &str, place: Place) -> Result<(), AllocError>
+pub fn put_rect(out: &mut Vec<u8>, class: &str, place: Rect) -> Result<(), AllocError>
     ensures { OnOk result (out.new.items ≡ out.old.items ++ rect_text class.now place) }
 {
     put_all(

@@ -5,7 +5,7 @@ ghost use Rattle.draw_steps.specs.Parts.{arguments_of, change_words, label_text,
 ghost use Rattle.draw_steps.specs.Parts.{span_text, target_words};
 
 use crate::backing::put_backing;
-use crate::elements::{Place, Way, put_circle, put_line, put_rect, put_text};
+use crate::elements::{Rect, Way, put_circle, put_line, put_rect, put_text};
 use crate::moments::Answer;
 use trace_text::pieces::{Piece, put_all, put_piece};
 use crate::places::{View, column, lane, reply_y};
@@ -18,7 +18,7 @@ pub enum Part<'a> {
     /// A piece.
     Plain(Piece<'a>),
     /// A rectangle of this class.
-    Rect(&'a str, Place),
+    Rect(&'a str, Rect),
     /// A line of this class.
     Line(&'a str, Way),
     /// A circle of this class, and its middle.

@@ -2,7 +2,7 @@
 ghost use Rattle.std.specs.Prelude.{◌≡◌, ◌≤◌};
 ghost use Rattle.draw_steps.specs.Places.{arrow_way, bar_place, column, lane, last_step, leaving, reply_y, row_y, rows_y, stretch_place, view_of};
 
-use crate::elements::{Place, Way};
+use crate::elements::{Rect, Way};
 use crate::shapes::{Arrow, Bar, Course, Stretch};
 use vm_base::CoreId;
 
@@ -78,12 +78,12 @@ pub fn last_step(view: View, bar: &Bar) -> u64
 }
 
 /// Where a bar lies: in its core's lane, from its first column to its last one.
-pub fn bar_place(view: View, bar: &Bar) -> Place
+pub fn bar_place(view: View, bar: &Bar) -> Rect
     ensures { result ≡ bar_place view bar.now }
 {
     let left = column(view, bar.begin);
     let right = column(view, last_step(view, bar)) + 48;
-    Place {
+    Rect {
         x: left + 2,
         y: lane(bar.core) + 27,
         width: right.saturating_sub(left),
@@ -137,7 +137,7 @@ pub fn arrow_way(view: View, arrow: &Arrow) -> Way
 
 /// Where a stretch lies: in its row, from the middle of the column in which it begins to that in which it ends, or to
 /// the end of the last one.
-pub fn stretch_place(view: View, stretch: Stretch) -> Place
+pub fn stretch_place(view: View, stretch: Stretch) -> Rect
     ensures { result ≡ stretch_place view stretch }
 {
     let left = column(view, stretch.begin) + 26;
@@ -145,7 +145,7 @@ pub fn stretch_place(view: View, stretch: Stretch) -> Place
         Some(step) => column(view, step) + 24,
         None => 104 + 52 * u64::from(view.steps),
     };
-    Place {
+    Rect {
         x: left,
         y: row_y(view, stretch.row) + 2,
         width: right.saturating_sub(left),

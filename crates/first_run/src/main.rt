@@ -1,5 +1,7 @@
-//! A trace replayed from standard input, for the first runs on a clone where the whole program isn't built: what its words `run` and `maps` do without a
-//! flag. Few crates are below it, so that it is compiled soon.
+//! A trace replayed, for first runs on a clone that isn't built.
+//!
+//! It does what the words `run` and `maps` do without a flag: `run`. Few crates are below it, so that it is compiled
+//! soon.
 #![tactic(auto)]
 
 ghost use Rattle.std.specs.Prelude.{◌≡◌, ◌≤◌, Result, Some, codes, option_map};
@@ -19,7 +21,7 @@ use std::process::ExitCode;
 use trace_words::fault::{TraceFault, status_of_fault};
 use trace::replay::replay_telling;
 use trace_words::show::Show;
-use trace_io::sink::{Noted, Sink};
+use trace_io::sink::{TrackedSink, Sink};
 use trace_io::source::{Counted, Source};
 
 // What the word after the program's name shows: the mappings at the end where it is `maps`, else the outcomes.
@@ -72,6 +74,6 @@ fn main(rt: HostRuntime) -> ExitCode {
         None => Show::Outcomes,
     };
     let mut reader = Counted::new(rt.stdin());
-    let mut out = Noted::new(buffer);
+    let mut out = TrackedSink::new(buffer);
     ExitCode::from(run(alloc, &mut reader, &mut out, &mut errors, show))
 }

@@ -1,4 +1,13 @@
-//! Frames of physical memory: 4,096 bytes each, free or taken.
+//! Frames of memory, which are free, and open files with the frames that cache their pages.
+//!
+//! - `frames`: all frames of a machine (`Frames`), over `byte_store`, `page_bytes` and `free_set`, whose bits `bits`
+//!   has.
+//! - `cell`: one frame by itself (`FrameCell`), for who keeps each under a lock of its own.
+//! - `objects`: all open files (`Objects`), over `file_object`; `file_spec`: what a file is opened with;
+//!   `cached_frame`: the frame of a file's page.
+//!
+//! Clauses of `Frames` and `Objects` say exactly which bytes each frame has and which page is cached where. It knows
+//! of no pages of a space and of no cores.
 #![tactic(auto)]
 
 mod bits;

@@ -1,10 +1,10 @@
-//! The face of the crate: all open files, by their numbers.
+//! The other face of the crate: all open files, by their numbers.
 ghost use Rattle.std.specs.Prelude.{◌≡◌, IfOk, map};
 ghost use Rattle.frames.specs.Given.{opened};
 
+use crate::Frames;
 use crate::file_object::FileObject;
 use crate::file_spec::{FileSpec, Sharing};
-use crate::Frames;
 use std::alloc::{AllocError, Allocator};
 use std::marker::Model;
 use vm_base::{Errno, Mode, Prot};

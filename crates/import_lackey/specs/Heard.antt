@@ -14,9 +14,9 @@ use Rattle.import_forms.specs.declared.said.Lost.{Lost}
 use Rattle.import_forms.specs.declared.said.Lost.TheVariants as Lose
 use Rattle.import_forms.specs.declared.said.Said.{Said}
 use Rattle.import_forms.specs.declared.said.Said.TheVariants as Says
-use Rattle.import_lackey.specs.declared.heard.Access.{Access}
-use Rattle.import_lackey.specs.declared.heard.Access.TheVariants.{Fetch, Load, Store, Modify}
-use Rattle.import_lackey.specs.declared.heard.Touch.{Touch}
+use Rattle.import_lackey.specs.declared.heard.LackeyAccess.{LackeyAccess}
+use Rattle.import_lackey.specs.declared.heard.LackeyAccess.TheVariants.{Fetch, Load, Store, Modify}
+use Rattle.import_lackey.specs.declared.heard.LackeyTouch.{LackeyTouch}
 use Rattle.import_lackey.specs.declared.heard.Heard.{Heard}
 use Rattle.import_lackey.specs.declared.heard.Heard.TheVariants.{Touches, Calls}
 use Rattle.import_lackey.specs.declared.heard.Call.{Call}
@@ -24,7 +24,7 @@ use Rattle.import_lackey.specs.declared.heard.Call.TheVariants as Of
 use Rattle.import_lackey.specs.declared.heard.Outcome.{Outcome}
 use Rattle.import_lackey.specs.declared.heard.Outcome.TheVariants.{Gives, Fails, Unclear}
 
-abbrev pub access_named : Token → Option Access
+abbrev pub access_named : Token → Option LackeyAccess
 access_named name = if bytes_eq name (codes "I") then Some Fetch
     else if bytes_eq name (codes "L") then Some Load
     else if bytes_eq name (codes "S") then Some Store
@@ -32,7 +32,7 @@ access_named name = if bytes_eq name (codes "I") then Some Fetch
     else None
 
 -- `ACCESS ADDR,SIZE`
-unfoldable pub touch_heard : List ℕ → Option Touch
+unfoldable pub touch_heard : List ℕ → Option LackeyTouch
 touch_heard line = do
   name ← front_token line
   access ← access_named name.0
@@ -203,7 +203,7 @@ known_heard line = do
   call ← call_named name.0
   if bytes_eq first.0 (codes "SYSCALL") then Some (call_heard call name.1 (outcome_of name.1)) else None
 
-abbrev pub heard_from : Option Touch → Option Said → Heard
+abbrev pub heard_from : Option LackeyTouch → Option Said → Heard
 heard_from (Some touch) said = Touches touch
 heard_from None said = Calls (unwrap_or said Says.Other)
 

@@ -7,7 +7,7 @@ use Rattle.import_text.specs.Texts.{imported_text}
 use Rattle.import_text.specs.declared.import.Ending.{Ending}
 use Rattle.import_text.specs.declared.import.Ending.TheVariants.{Written, Nothing, Absent}
 use Rattle.import_lackey.specs.Tracing.{State, trace_of}
-use Rattle.import_lackey.specs.declared.traced.Told.{Told}
+use Rattle.import_lackey.specs.declared.traced.LackeyReport.{LackeyReport}
 
 -- an import without a request is an error
 abbrev pub ending_from : State → Ending
@@ -27,11 +27,11 @@ abbrev pub traced_text : List ℕ → List ℕ
 traced_text input = ended_text (ending_of input) (trace_of input).0.taken
 
 -- the trace of a log was written, each line being counted, and this told of it
-pub record TracesAll (input : List ℕ) (old new : Option (List ℕ)) (told : Told) : Type 0 where
+pub record TracesAll (input : List ℕ) (old new : Option (List ℕ)) (told : LackeyReport) : Type 0 where
   pub log : MakesText (traced_text input) (trace_of input).1 told.counts input old new
   pub ending : told.ending ≡ ending_of input
 
 -- after a failed write a front of it was written, after another fault nothing
-abbrev pub TraceEnds : List ℕ → Option (List ℕ) → Option (List ℕ) → Result Told IoFault → Type 0
+abbrev pub TraceEnds : List ℕ → Option (List ℕ) → Option (List ℕ) → Result LackeyReport IoFault → Type 0
 TraceEnds input old new (Ok told) = TracesAll input old new told
 TraceEnds input old new (Err f) = MakeStops (traced_text input) old new f

@@ -10,16 +10,16 @@ use Rattle.vm_base.specs.declared.requests.Request.{Request}
 use Rattle.vm_base.specs.declared.requests.Request.TheVariants as Of
 use Rattle.import_text.specs.Counts.{counted, no_counts}
 use Rattle.import_text.specs.Taking.{SoFar, after_file, after_said, asked_by, nothing_taken, so_far}
-use Rattle.import_text.specs.declared.counts.Counts.{Counts}
+use Rattle.import_text.specs.declared.counts.LineCounts.{LineCounts}
 use Rattle.import_forms.specs.declared.said.Said.{Said}
 use Rattle.import_forms.specs.declared.said.Said.TheVariants as Says
 use Rattle.import_text.specs.declared.taking.Reason.TheVariants as For
 use Rattle.import_text.specs.declared.taking.Fate.{Fate}
 use Rattle.import_text.specs.declared.taking.Fate.TheVariants.{Kept, Left}
 use Rattle.import_lackey.specs.Heard.{heard_of}
-use Rattle.import_lackey.specs.declared.heard.Access.{Access}
-use Rattle.import_lackey.specs.declared.heard.Access.TheVariants.{Fetch, Load, Store, Modify}
-use Rattle.import_lackey.specs.declared.heard.Touch.{Touch}
+use Rattle.import_lackey.specs.declared.heard.LackeyAccess.{LackeyAccess}
+use Rattle.import_lackey.specs.declared.heard.LackeyAccess.TheVariants.{Fetch, Load, Store, Modify}
+use Rattle.import_lackey.specs.declared.heard.LackeyTouch.{LackeyTouch}
 use Rattle.import_lackey.specs.declared.heard.Heard.{Heard}
 use Rattle.import_lackey.specs.declared.heard.Heard.TheVariants.{Touches, Calls}
 use Rattle.import_lackey.specs.declared.tracing.Mapped.{Mapped}
@@ -58,7 +58,7 @@ touched s page = if is_mapped page s.mapped then s
     else record { taken = asked_by s.taken 1 (there page); mapped = s.mapped ++ record { addr = page; len = 4096 } ∷ [] }
 
 -- the access of a byte; what is stored isn't in the log, and is 0
-abbrev pub asked_for : Access → ℕ → Request
+abbrev pub asked_for : LackeyAccess → ℕ → Request
 asked_for Fetch addr = Of.Fetch addr
 asked_for Load addr = Of.Load addr
 asked_for Store addr = Of.Store addr 0
@@ -67,28 +67,28 @@ asked_for Modify addr = Of.Store addr 0
 abbrev pub with_asked : State → Request → State
 with_asked s request = record { taken = asked_by s.taken 1 request; mapped = s.mapped }
 
-abbrev pub touched_at : State → Access → ℕ → State
+abbrev pub touched_at : State → LackeyAccess → ℕ → State
 touched_at s access addr = with_asked (touched s (page_of addr)) (asked_for access addr)
 
 -- the first byte, and where the bytes go on into the next page, the first byte there
-abbrev pub accessed : State → Access → ℕ → ℕ → State
+abbrev pub accessed : State → LackeyAccess → ℕ → ℕ → State
 accessed s access addr size =
     let first = touched_at s access addr in
     if nat_lt (page_of addr + 4096) (addr + size) then touched_at first access (page_of addr + 4096) else first
 
 -- what is modified is loaded, and then stored
-abbrev pub all_accessed : State → Access → ℕ → ℕ → State
+abbrev pub all_accessed : State → LackeyAccess → ℕ → ℕ → State
 all_accessed s Fetch addr size = accessed s Fetch addr size
 all_accessed s Load addr size = accessed s Load addr size
 all_accessed s Store addr size = accessed s Store addr size
 all_accessed s Modify addr size = accessed (accessed s Load addr size) Store addr size
 
 -- some bytes, at most a page, within the addresses of a trace
-abbrev pub is_whole : Touch → Bool
+abbrev pub is_whole : LackeyTouch → Bool
 is_whole t = if (t.size == 0) || nat_lt 4096 t.size then false
     else if nat_lt t.addr 4096 then false else nat_le (t.addr + t.size) (2 ^ 47)
 
-abbrev pub touch_taken : State → Touch → State × Fate
+abbrev pub touch_taken : State → LackeyTouch → State × Fate
 touch_taken s t = if is_whole t then (all_accessed s t.access t.addr t.size, Kept) else (s, Left For.Unread)
 
 -- ---- calls
@@ -151,14 +151,14 @@ abbrev pub heard_taken : State → Heard → State × Fate
 heard_taken s (Touches touch) = touch_taken s touch
 heard_taken s (Calls said) = with_taken (s.mapped ++ option_to_list (placed s.taken.heap_end said)) (call_taken s.taken said)
 
-abbrev pub counted_with : Counts → State × Fate → State × Counts
+abbrev pub counted_with : LineCounts → State × Fate → State × LineCounts
 counted_with counts after = (after.0, counted counts after.1)
 
 -- after these lines
-abbrev pub traced_with : State × Counts → List (List ℕ) → State × Counts
+abbrev pub traced_with : State × LineCounts → List (List ℕ) → State × LineCounts
 traced_with s [] = s
 traced_with s (line ∷ lines) = traced_with (counted_with s.1 (heard_taken s.0 (heard_of line))) lines
 
 -- what is taken of a log, and how many of its lines became what
-abbrev pub trace_of : List ℕ → State × Counts
+abbrev pub trace_of : List ℕ → State × LineCounts
 trace_of log = traced_with (record { taken = nothing_taken; mapped = [] }, no_counts) (lines_of log)

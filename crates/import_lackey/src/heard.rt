@@ -11,7 +11,7 @@ use vm_base::{Flags, Prot, Request};
 
 /// How memory is accessed.
 #[derive(Clone, Copy)]
-pub enum Access {
+pub enum LackeyAccess {
     /// An instruction is read.
     Fetch,
     /// Bytes are read.
@@ -24,9 +24,9 @@ pub enum Access {
 
 /// An access of some bytes.
 #[derive(Clone, Copy)]
-pub struct Touch {
+pub struct LackeyTouch {
     /// How they are accessed.
-    pub access: Access,
+    pub access: LackeyAccess,
     /// The first byte's address.
     pub addr: u64,
     /// How many bytes there are.
@@ -37,7 +37,7 @@ pub struct Touch {
 #[derive(Clone, Copy)]
 pub enum Heard {
     /// An access.
-    Touches(Touch),
+    Touches(LackeyTouch),
     /// What a call says; the file of an `mmap` is its descriptor.
     Calls(Said),
 }
@@ -64,17 +64,17 @@ enum Outcome {
 }
 
 // The access of this letter.
-fn access_named(name: &[u8]) -> Option<Access>
+fn access_named(name: &[u8]) -> Option<LackeyAccess>
     ensures { result ≡ access_named name.now }
 {
     if name == b"I".as_slice() {
-        Some(Access::Fetch)
+        Some(LackeyAccess::Fetch)
     } else if name == b"L".as_slice() {
-        Some(Access::Load)
+        Some(LackeyAccess::Load)
     } else if name == b"S".as_slice() {
-        Some(Access::Store)
+        Some(LackeyAccess::Store)
     } else if name == b"M".as_slice() {
-        Some(Access::Modify)
+        Some(LackeyAccess::Modify)
     } else {
         None
     }
@@ -82,7 +82,7 @@ fn access_named(name: &[u8]) -> Option<Access>
 
 // `ACCESS ADDR,SIZE`: the address in hexadecimal digits.
 #[tactic(auto, unfolding(crate::specs::Heard::touch_heard))]
-fn read_touch(line: &[u8]) -> Option<Touch>
+fn read_touch(line: &[u8]) -> Option<LackeyTouch>
     ensures { result ≡ touch_heard line.now }
 {
     let (name, rest) = next_token(line)?;
@@ -90,7 +90,7 @@ fn read_touch(line: &[u8]) -> Option<Touch>
     let (digits, rest) = next_token(rest)?;
     let addr = read_hexadecimal(digits)?;
     let size = read_only(rest)?;
-    Some(Touch { access, addr, size })
+    Some(LackeyTouch { access, addr, size })
 }
 
 // What the call of this name changes in a way that no trace has, if it does so.

@@ -1,4 +1,9 @@
-//! What a real program did with its memory, access by access, as valgrind's tool lackey tells it, made into a trace.
+//! A log of valgrind's tool lackey, made into a trace, each access included.
+//!
+//! - `heard`: what a line says; `tracing`: what it becomes; `traced`: the whole.
+//!
+//! It exists for `traced::trace_log`, clause `ends`: the trace is just that of what was taken, and each line is
+//! counted once.
 #![tactic(auto)]
 
 pub mod heard;

@@ -8,7 +8,7 @@ ghost use Rattle.import_lackey.specs.Tracing.{state_of};
 ghost use Rattle.import_text.specs.Taking.{so_far};
 
 use crate::tracing::{Traced, trace_lines};
-use import_text::counts::Counts;
+use import_text::counts::LineCounts;
 use import_text::import::Ending;
 use import_text::taking::Taken;
 use import_text::writing::write_taken;
@@ -22,11 +22,11 @@ pub const FRAMES: u64 = 65_536;
 
 /// What is said about an import of a log of lackey.
 #[derive(Clone, Copy)]
-pub struct Told {
+pub struct LackeyReport {
     /// How it ended: there is a trace, or nothing.
     pub ending: Ending,
     /// How many lines were kept, changed and left out.
-    pub counts: Counts,
+    pub counts: LineCounts,
 }
 
 // How an import ended of which this is taken.
@@ -52,7 +52,7 @@ fn write_ended(alloc: Global, ending: Ending, taken: &Taken) -> Result<Vec<u8>, 
 
 // Writes the trace of a log, and answers what is said about it.
 #[tactic(auto, using(crate::proofs::EndLemmas::traces_all, crate::proofs::EndLemmas::traces_front, crate::proofs::EndLemmas::ending_known, trace_io::proofs::IoLemmas::keeps_same))]
-fn write_trace<W: Sink>(alloc: Global, log: &[u8], writer: &mut W) -> Result<Told, IoFault>
+fn write_trace<W: Sink>(alloc: Global, log: &[u8], writer: &mut W) -> Result<LackeyReport, IoFault>
     ensures ends { TraceEnds log.now (W.contents writer.old) (W.contents writer.new) result }
     ensures few { IfOk result (λ told. total told.counts < 2 ^ 64) }
     ensures out { OnOk result (W.is_flushed writer.new ≡ true) }
@@ -69,7 +69,7 @@ fn write_trace<W: Sink>(alloc: Global, log: &[u8], writer: &mut W) -> Result<Tol
     };
     let counts = traces.counts;
     match write_out(writer, text.as_slice()) {
-        Ok(()) => Ok(Told { ending, counts }),
+        Ok(()) => Ok(LackeyReport { ending, counts }),
         Err(_) => Err(IoFault::WriteFailed),
     }
 }
@@ -80,7 +80,7 @@ pub fn trace_log<S: Source, W: Sink>(
     alloc: Global,
     reader: &mut S,
     writer: &mut W,
-) -> Result<Told, IoFault>
+) -> Result<LackeyReport, IoFault>
     ensures ends { Reads (S.stream reader.old) (S.stream reader.new) (λ input unread.
         TraceEnds input (W.contents writer.old) (W.contents writer.new) result) }
     ensures few { IfOk result (λ told. total told.counts < 2 ^ 64) }

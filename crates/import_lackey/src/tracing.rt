@@ -7,9 +7,9 @@ ghost use Rattle.import_lackey.specs.Heard.{heard_of};
 ghost use Rattle.import_lackey.specs.Tracing.{accessed, asked_for, call_taken, covers, heard_taken, is_mapped, is_whole, mmap_taken, page_of, placed};
 ghost use Rattle.import_lackey.specs.Tracing.{state_of, there, touch_taken, touched, touched_at, trace_of};
 
-use crate::heard::{Access, Heard, Touch, read_heard};
+use crate::heard::{LackeyAccess, Heard, LackeyTouch, read_heard};
 use import_forms::said::Said;
-use import_text::counts::Counts;
+use import_text::counts::LineCounts;
 use import_text::taking::{ADDRESS_END, Fate, Mapping, Reason, Taken, ask, take, take_file};
 use std::alloc::{AllocError, Global};
 use trace_io::lines::front_line;
@@ -46,7 +46,7 @@ pub struct Traces {
     /// What was taken.
     pub traced: Traced,
     /// How many lines were kept, changed and left out.
-    pub counts: Counts,
+    pub counts: LineCounts,
 }
 
 // The first address of the page.
@@ -123,18 +123,18 @@ fn touch_page(traced: &mut Traced, page: u64) -> Result<(), AllocError>
 }
 
 // The request of a byte's access; of one that reads and writes, that which writes.
-fn asked_for(access: Access, addr: u64) -> Request
+fn asked_for(access: LackeyAccess, addr: u64) -> Request
     ensures { result ≡ asked_for access addr }
 {
     match access {
-        Access::Fetch => Request::Fetch { addr },
-        Access::Load => Request::Load { addr },
-        Access::Store | Access::Modify => Request::Store { addr, byte: 0 },
+        LackeyAccess::Fetch => Request::Fetch { addr },
+        LackeyAccess::Load => Request::Load { addr },
+        LackeyAccess::Store | LackeyAccess::Modify => Request::Store { addr, byte: 0 },
     }
 }
 
 // Adds the access of a byte.
-fn touch_at(traced: &mut Traced, access: Access, addr: u64) -> Result<(), AllocError>
+fn touch_at(traced: &mut Traced, access: LackeyAccess, addr: u64) -> Result<(), AllocError>
     requires { addr < 2 ^ 48 }
     ensures { OnOk result (state_of traced.new ≡ touched_at (state_of traced.old) access addr) }
 {
@@ -143,7 +143,7 @@ fn touch_at(traced: &mut Traced, access: Access, addr: u64) -> Result<(), AllocE
 }
 
 // Adds the accesses of the first byte in each page.
-fn access(traced: &mut Traced, access: Access, addr: u64, size: u64) -> Result<(), AllocError>
+fn access(traced: &mut Traced, access: LackeyAccess, addr: u64, size: u64) -> Result<(), AllocError>
     requires addr { addr < 2 ^ 47 }
     requires size { size ≤ 4096 }
     ensures { OnOk result (state_of traced.new ≡ accessed (state_of traced.old) access addr size) }
@@ -157,7 +157,7 @@ fn access(traced: &mut Traced, access: Access, addr: u64, size: u64) -> Result<(
 }
 
 // Tells whether there are bytes, at most a page, and all within the addresses of a trace.
-fn is_whole(touch: Touch) -> bool
+fn is_whole(touch: LackeyTouch) -> bool
     ensures { result ≡ is_whole touch }
 {
     if touch.size == 0 || touch.size > PAGE {
@@ -167,15 +167,15 @@ fn is_whole(touch: Touch) -> bool
 }
 
 // Adds an access.
-fn take_touch(traced: &mut Traced, touch: Touch) -> Result<Fate, AllocError>
+fn take_touch(traced: &mut Traced, touch: LackeyTouch) -> Result<Fate, AllocError>
     ensures { IfOk result (λ fate. (state_of traced.new, fate) ≡ touch_taken (state_of traced.old) touch) }
 {
     if !is_whole(touch) {
         return Ok(Fate::Left(Reason::Unread));
     }
-    if touch.access == Access::Modify {
-        access(traced, Access::Load, touch.addr, touch.size)?;
-        access(traced, Access::Store, touch.addr, touch.size)?;
+    if touch.access == LackeyAccess::Modify {
+        access(traced, LackeyAccess::Load, touch.addr, touch.size)?;
+        access(traced, LackeyAccess::Store, touch.addr, touch.size)?;
     } else {
         access(traced, touch.access, touch.addr, touch.size)?;
     }
@@ -309,7 +309,7 @@ pub fn trace_lines(alloc: Global, log: &[u8]) -> Result<Traces, AllocError>
         taken: Taken::new(alloc),
         mapped: Vec::new(alloc),
     };
-    let mut counts = Counts::new();
+    let mut counts = LineCounts::new();
     let mut rest = log;
     let mut left = log.len();
     'lines: while left > 0 {

@@ -6,8 +6,8 @@ use Rattle.trace_text.specs.Words.{byte}
 use Rattle.vm_base.specs.declared.rights.Prot.{Prot}
 use Rattle.import_forms.specs.Tokens.{Token, begins_by, front_token, hexadecimal, occurs, split_at_last}
 use Rattle.import_maps.specs.declared.listed.Listed.{Listed}
-use Rattle.import_maps.specs.declared.listed.Kind.{Kind}
-use Rattle.import_maps.specs.declared.listed.Kind.TheVariants.{Kernel, Anonymous, File}
+use Rattle.import_maps.specs.declared.listed.MappingKind.{MappingKind}
+use Rattle.import_maps.specs.declared.listed.MappingKind.TheVariants.{Kernel, Anonymous, File}
 
 -- a line without where its bytes lie
 pub record Entry : Type 0 where
@@ -46,7 +46,7 @@ entry_said line = do
 
 -- what a mapping of this name is of: the kernel's own pages are [vvar] and [vdso]; no file is named by no name, by
 -- another one in brackets, or as shared pages of no file are
-abbrev pub kind_named : List ℕ → Kind
+abbrev pub kind_named : List ℕ → MappingKind
 kind_named name = if begins_by (codes "[v") name then Kernel
     else if (length name == 0) || begins_by (codes "[") name then Anonymous
     else if bytes_eq name (codes "/dev/zero (deleted)") then Anonymous else File

@@ -11,22 +11,22 @@ use Rattle.import_text.specs.declared.processes.Choice.{Choice}
 use Rattle.import_maps.specs.Entries.{total}
 use Rattle.import_maps.specs.Starting.{start_of}
 use Rattle.import_maps.specs.declared.entries.Entries.{Entries}
-use Rattle.import_maps.specs.declared.mapped.Told.{Told}
+use Rattle.import_maps.specs.declared.mapped.MapsReport.{MapsReport}
 
 -- the trace of what is mapped at the start and of what is taken of the log was written; each line of the log is counted, and so many
 -- lines of the list became what they did
-pub record StartsAll (start : SoFar × Entries) (lines : ℕ) (choice : Choice) (input : List ℕ) (old new : Option (List ℕ)) (told : Told) : Type 0 where
+pub record StartsAll (start : SoFar × Entries) (lines : ℕ) (choice : Choice) (input : List ℕ) (old new : Option (List ℕ)) (told : MapsReport) : Type 0 where
   pub log : ImportsAll start.0 choice input old new told.report
   pub entries : told.entries ≡ start.1
   pub all : total told.entries ≡ lines
 
 -- how an import ends that begins with what a list has told: all told, or stopped at a fault
-abbrev pub StartedEnds : SoFar × Entries → ℕ → Choice → List ℕ → Option (List ℕ) → Option (List ℕ) → Result Told IoFault → Type 0
+abbrev pub StartedEnds : SoFar × Entries → ℕ → Choice → List ℕ → Option (List ℕ) → Option (List ℕ) → Result MapsReport IoFault → Type 0
 StartedEnds start lines choice input old new (Ok told) = StartsAll start lines choice input old new told
 StartedEnds start lines choice input old new (Err f) = MakeStops (made_text start.0 choice input) old new f
 
 -- behind what a list says, each of whose lines is counted
-abbrev pub MapsEnds : List ℕ → Choice → List ℕ → Option (List ℕ) → Option (List ℕ) → Result Told IoFault → Type 0
+abbrev pub MapsEnds : List ℕ → Choice → List ℕ → Option (List ℕ) → Option (List ℕ) → Result MapsReport IoFault → Type 0
 MapsEnds list choice input old new r = StartedEnds (start_of list) (length (lines_of list)) choice input old new r
 
 -- `read failed` is told only of a read of the list or of the log that failed or was one too many, and `write failed` only where a

@@ -13,8 +13,8 @@ use Rattle.import_maps.specs.Listed.{Entry, entry_said, kind_named}
 use Rattle.import_maps.specs.declared.entries.Entries.{Entries}
 use Rattle.import_maps.specs.declared.entries.Entered.{Entered}
 use Rattle.import_maps.specs.declared.entries.Entered.TheVariants as Is
-use Rattle.import_maps.specs.declared.listed.Kind.{Kind}
-use Rattle.import_maps.specs.declared.listed.Kind.TheVariants.{Kernel, Anonymous, File}
+use Rattle.import_maps.specs.declared.listed.MappingKind.{MappingKind}
+use Rattle.import_maps.specs.declared.listed.MappingKind.TheVariants.{Kernel, Anonymous, File}
 
 -- core 0's request, of pages whose file's name stands here
 abbrev pub with_request : SoFar → Name → Request → SoFar
@@ -64,7 +64,7 @@ file_listed s e = if reaches e.off (e.end - e.start)
     else with_file s e None
 
 -- the pages of a line by what its name says that they are
-abbrev pub kind_listed : SoFar → Entry → Kind → SoFar × Entered
+abbrev pub kind_listed : SoFar → Entry → MappingKind → SoFar × Entered
 kind_listed s e Kernel = (s, Is.Kernel)
 kind_listed s e Anonymous = (without_file s e, Is.Kept)
 kind_listed s e File = file_listed s e

@@ -24,7 +24,7 @@ pub struct Listed<'a> {
 
 /// What a mapping is of.
 #[derive(Clone, Copy)]
-pub enum Kind {
+pub enum MappingKind {
     /// The kernel's own pages, which it maps into each program: `[vvar]`, `[vdso]`.
     Kernel,
     /// No file.
@@ -82,16 +82,16 @@ pub fn read_listed(line: &[u8]) -> Option<Listed<'_>>
 
 /// What a mapping of this name is of. A file's name is its path; the kernel gives names in brackets to mappings of no file,
 /// and `/dev/zero (deleted)` to shared ones.
-pub fn kind_of(name: &[u8]) -> Kind
+pub fn kind_of(name: &[u8]) -> MappingKind
     ensures { result ≡ kind_named name.now }
 {
     if begins(name, b"[v".as_slice()) {
-        Kind::Kernel
+        MappingKind::Kernel
     } else if name.is_empty() || begins(name, b"[".as_slice()) {
-        Kind::Anonymous
+        MappingKind::Anonymous
     } else if name == b"/dev/zero (deleted)".as_slice() {
-        Kind::Anonymous
+        MappingKind::Anonymous
     } else {
-        Kind::File
+        MappingKind::File
     }
 }

@@ -20,7 +20,7 @@ use trace_io::source::{Source, read_all};
 
 /// What is said about an import.
 #[derive(Drop)]
-pub struct Told {
+pub struct MapsReport {
     /// How many lines of the list became what.
     pub entries: Entries,
     /// What is said about the log.
@@ -35,7 +35,7 @@ fn import_after<S: Source, W: Sink, M: Meter>(
     writer: &mut W,
     choice: Choice,
     meter: &mut M,
-) -> Result<Told, IoFault>
+) -> Result<MapsReport, IoFault>
     ensures ends { Reads (S.stream log.old) (S.stream log.new) (λ input unread.
         StartedEnds (so_far start.now.taken, start.now.entries) (entries_total start.now.entries) choice input
         (W.contents writer.old) (W.contents writer.new) result) }
@@ -45,7 +45,7 @@ fn import_after<S: Source, W: Sink, M: Meter>(
         (written_to W.Sink writer.old writer.new) }
 {
     match import_log(alloc, &start.taken, log, writer, choice, meter) {
-        Ok(report) => Ok(Told {
+        Ok(report) => Ok(MapsReport {
             entries: start.entries,
             report,
         }),
@@ -61,7 +61,7 @@ fn import_behind<S: Source, W: Sink, M: Meter>(
     writer: &mut W,
     choice: Choice,
     meter: &mut M,
-) -> Result<Told, IoFault>
+) -> Result<MapsReport, IoFault>
     ensures ends { Reads (S.stream log.old) (S.stream log.new) (λ input unread.
         MapsEnds list.now choice input (W.contents writer.old) (W.contents writer.new) result) }
     ensures few { IfOk result (λ told. total told.report.counts < 2 ^ 64) }
@@ -85,7 +85,7 @@ pub fn import_mapped<L: Source, S: Source, W: Sink, M: Meter>(
     writer: &mut W,
     choice: Choice,
     meter: &mut M,
-) -> Result<Told, IoFault>
+) -> Result<MapsReport, IoFault>
     ensures ends { Reads (L.stream list.old) (L.stream list.new) (λ listed left.
         Reads (S.stream log.old) (S.stream log.new) (λ input unread.
         MapsEnds listed choice input (W.contents writer.old) (W.contents writer.new) result)) }

@@ -8,9 +8,9 @@ ghost use Rattle.import_maps.specs.Starting.{entry_listed, file_listed, flags_of
 ghost use Rattle.import_maps.specs.Starting.{shown_name, start_of, with_request, without_file};
 
 use crate::entries::{Entered, Entries};
-use crate::listed::{Kind, Listed, kind_of, read_listed};
+use crate::listed::{MappingKind, Listed, kind_of, read_listed};
 use import_text::names::{NO_NAME, Name, note_name};
-use import_text::steps::Step;
+use import_text::steps::TraceRequest;
 use import_text::taking::{ADDRESS_END, Taken, reaches, use_file};
 use std::alloc::{AllocError, Global};
 use trace_io::lines::front_line;
@@ -33,7 +33,7 @@ fn place(taken: &mut Taken, name: Name, request: Request) -> Result<(), AllocErr
     ensures { OnOk result (so_far taken.new ≡ with_request (so_far taken.old) name request) }
 {
     let core = CoreId::new(0);
-    taken.steps.push(Step {
+    taken.steps.push(TraceRequest {
         core,
         name,
         request,
@@ -155,12 +155,12 @@ fn place_listed(
         return Ok(Entered::Outside);
     }
     match kind_of(listed.name) {
-        Kind::Kernel => Ok(Entered::Kernel),
-        Kind::Anonymous => {
+        MappingKind::Kernel => Ok(Entered::Kernel),
+        MappingKind::Anonymous => {
             place_anonymous(taken, listed)?;
             Ok(Entered::Kept)
         }
-        Kind::File => place_file(alloc, taken, listed),
+        MappingKind::File => place_file(alloc, taken, listed),
     }
 }
 

@@ -11,23 +11,23 @@ use Rattle.import_text.specs.Counts.{total}
 use Rattle.import_text.specs.Ends.{ImportsAll, IsImported, MakeStops, ended_text, made_text}
 use Rattle.import_text.specs.Imported.{ending_of, import_of}
 use Rattle.import_text.specs.Taking.{SoFar}
-use Rattle.import_text.specs.declared.counts.Counts.{Counts}
+use Rattle.import_text.specs.declared.counts.LineCounts.{LineCounts}
 use Rattle.import_text.specs.declared.import.Ending.{Ending}
 use Rattle.import_text.specs.declared.import.Report.{Report}
 use Rattle.import_text.specs.declared.processes.Choice.{Choice}
 
 -- the text is that of the log's import
-text_known : (start : SoFar) (choice : Choice) (input text : List ℕ) (counts : Counts) (ending : Ending) (s : SoFar)
+text_known : (start : SoFar) (choice : Choice) (input text : List ℕ) (counts : LineCounts) (ending : Ending) (s : SoFar)
     → (s, counts) ≡ import_of start choice input → ending ≡ ending_of start choice input → text ≡ ended_text ending s → text ≡ made_text start choice input
 text_known start choice input text counts ending s h g e =
-    e ∙ ap (λ x. ended_text x s) g ∙ ap (λ (p : SoFar × Counts). ended_text (ending_of start choice input) p.0) h
+    e ∙ ap (λ x. ended_text x s) g ∙ ap (λ (p : SoFar × LineCounts). ended_text (ending_of start choice input) p.0) h
 
 pub imports_all : (start : SoFar) (choice : Choice) (input text : List ℕ) (old new : Option (List ℕ)) (s : SoFar) (report : Report)
     → IsImported start choice input s report → text ≡ ended_text report.ending s → Appends old new text → ImportsAll start choice input old new report
 imports_all start choice input text old new s report is e w = record {
   log = record {
     written = subst (Appends old new) (text_known start choice input text report.counts report.ending s is.value is.ending e) w;
-    told = ap (λ (p : SoFar × Counts). p.1) is.value;
+    told = ap (λ (p : SoFar × LineCounts). p.1) is.value;
     all = is.total;
   };
   ending = is.ending;

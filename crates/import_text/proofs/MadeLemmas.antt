@@ -5,7 +5,7 @@ use Rattle.std.proofs.lemmas.List.{drop_more}
 use Rattle.import_forms.specs.Speech.{Spoken}
 use Rattle.import_text.specs.Made.{fork_of, maker_of, making_by, process_of, space_by, space_within, with_making, with_makings}
 use Rattle.import_text.specs.declared.made.Making.{Making}
-use Rattle.import_text.specs.declared.told.Telling.{Telling}
+use Rattle.import_text.specs.declared.told.CloneLine.{CloneLine}
 
 pub apart : (a b c : ℕ) → eqb a b ≡ false → eqb a c ≡ true → eqb b c ≡ false
 apart a b c h e = grind (arith, nat_tests)
@@ -31,7 +31,7 @@ take_front (y ∷ ys) x zero h = absurd (omega (arith, h))
 take_front (y ∷ ys) x (suc n) h = ap (λ l. y ∷ l) (take_front ys x n (omega (arith, h)))
 
 -- one more was added
-pub makings_more : (all : List Spoken) (made : List Making) (ts : List Telling) (n : ℕ) (d : Telling) → n < length ts
+pub makings_more : (all : List Spoken) (made : List Making) (ts : List CloneLine) (n : ℕ) (d : CloneLine) → n < length ts
     → with_makings all (with_making made (making_by all (get_or ts n d))) (drop (n + 1) ts) ≡ with_makings all made (drop n ts)
 makings_more all made ts n d p = sym (ap (with_makings all made) (drop_more ts n d p))
 

@@ -12,7 +12,7 @@ use Rattle.import_text.specs.declared.steps.Head.{Head}
 use Rattle.import_text.specs.declared.steps.Kind.{Kind}
 use Rattle.import_text.specs.declared.steps.Kind.TheVariants.{Pages, Map, Unmap, Protect, Load, Store, Fetch}
 use Rattle.import_text.specs.declared.steps.Shape.{Shape}
-use Rattle.import_text.specs.declared.steps.Step.{Step}
+use Rattle.import_text.specs.declared.steps.TraceRequest.{TraceRequest}
 use Rattle.vm_base.specs.declared.rights.Prot.{Prot}
 use Rattle.vm_base.specs.declared.requests.Flags.{Flags}
 
@@ -75,11 +75,11 @@ bare_name name h =
     let size = zero_of name.len both.1 in
     ap (λ k. name_by k 0) from ∙ ap (name_by name.from) size
 
-abbrev step_by : ℕ → Name → Request → Step
+abbrev step_by : ℕ → Name → Request → TraceRequest
 step_by core name request = record { core = core; name = name; request = request }
 
 -- the numbers that are kept with this head
-abbrev kept_by : ℕ → Bool → Name → Request → Step
+abbrev kept_by : ℕ → Bool → Name → Request → TraceRequest
 kept_by core named name r = step_kept (record { core = core; shape = shape_of named r }) (take (shape_width (shape_of named r)) (six_of r name))
 
 map_again : (core : ℕ) (name : Name) (addr len : ℕ) (prot : Prot) (flags : Flags) (file off : ℕ) (b : Bool) → b ≡ (eqb file 0 && eqb off 0)
@@ -116,10 +116,10 @@ again_by core name (Asks.Load addr) false e = ap (λ m. step_by core m (Asks.Loa
 again_by core name (Asks.Store addr byte) false e = ap (λ m. step_by core m (Asks.Store addr byte)) (bare_name name e)
 again_by core name (Asks.Fetch addr) false e = ap (λ m. step_by core m (Asks.Fetch addr)) (bare_name name e)
 
-abbrev numbers_of : Step → List ℕ
+abbrev numbers_of : TraceRequest → List ℕ
 numbers_of s = take (shape_width (head_of s).shape) (six_of s.request s.name)
 
-kept_again : (s : Step) → step_kept (head_of s) (numbers_of s) ≡ s
+kept_again : (s : TraceRequest) → step_kept (head_of s) (numbers_of s) ≡ s
 kept_again s = again_by s.core s.name s.request (is_name s.name) refl
 
 -- ---- several
@@ -148,7 +148,7 @@ six_long (Asks.Load addr) name = refl
 six_long (Asks.Store addr byte) name = refl
 six_long (Asks.Fetch addr) name = refl
 
-numbers_long : (s : Step) → length (numbers_of s) ≡ shape_width (head_of s).shape
+numbers_long : (s : TraceRequest) → length (numbers_of s) ≡ shape_width (head_of s).shape
 numbers_long s = length-take-le (shape_width (head_of s).shape) (six_of s.request s.name) (let six = six_long s.request s.name in omega (arith, head_few (head_of s), six))
 
 name_more : (b : Bool) (k : Kind) (ns more : List ℕ) → (if b then 6 else kind_width k) ≤ length ns → name_kept b (ns ++ more) ≡ name_kept b ns
@@ -186,12 +186,12 @@ step_more h ns more p =
     ap (λ n. step_by h.core n (request_kept s.kind (prot_of s.prot) (flags_of s.flags) s.byte (ns ++ more))) (name_more s.named s.kind ns more p)
     ∙ ap (step_by h.core (name_kept s.named ns)) (request_more s.kind (prot_of s.prot) (flags_of s.flags) s.byte ns more (width_in s.named s.kind (length ns) p))
 
-kept_alone : (ns : List ℕ) (s : Step) → length ns ≡ 0 → steps_kept (head_of s ∷ []) (ns ++ numbers_of s) ≡ s ∷ []
+kept_alone : (ns : List ℕ) (s : TraceRequest) → length ns ≡ 0 → steps_kept (head_of s ∷ []) (ns ++ numbers_of s) ≡ s ∷ []
 kept_alone [] s e = ap (λ x. x ∷ []) (kept_again s)
 kept_alone (n ∷ ns) s e = absurd (omega (arith, e))
 
 -- with one more
-pub steps_push : (hs : List Head) (ns : List ℕ) (s : Step) → length ns ≡ widths hs → steps_kept (hs ++ head_of s ∷ []) (ns ++ numbers_of s) ≡ steps_kept hs ns ++ s ∷ []
+pub steps_push : (hs : List Head) (ns : List ℕ) (s : TraceRequest) → length ns ≡ widths hs → steps_kept (hs ++ head_of s ∷ []) (ns ++ numbers_of s) ≡ steps_kept hs ns ++ s ∷ []
 steps_push [] ns s e = kept_alone ns s e
 steps_push (h ∷ hs) ns s e =
     let fits : shape_width h.shape ≤ length ns = omega (arith, e) in
@@ -204,7 +204,7 @@ widths_more : (hs : List Head) (h : Head) → widths (hs ++ h ∷ []) ≡ widths
 widths_more [] h = omega arith
 widths_more (g ∷ hs) h = omega (arith, widths_more hs h)
 
-pub widths_push : (hs : List Head) (ns : List ℕ) (s : Step) → length ns ≡ widths hs → length (ns ++ numbers_of s) ≡ widths (hs ++ head_of s ∷ [])
+pub widths_push : (hs : List Head) (ns : List ℕ) (s : TraceRequest) → length ns ≡ widths hs → length (ns ++ numbers_of s) ≡ widths (hs ++ head_of s ∷ [])
 widths_push hs ns s e = omega (arith, e, length-append ns (numbers_of s), numbers_long s, widths_more hs (head_of s))
 
 pub steps_size : (hs : List Head) (ns : List ℕ) → length (steps_kept hs ns) ≡ length hs

@@ -10,7 +10,7 @@ use Rattle.import_text.specs.Imported.{imported, counted_with, line_taken}
 use Rattle.import_forms.specs.Speech.{Spoken}
 use Rattle.import_text.specs.Taking.{SoFar, place_named, use_of, widened, files_with}
 use Rattle.import_text.specs.Texts.{use_lines, use_text}
-use Rattle.import_text.specs.declared.counts.Counts.{Counts}
+use Rattle.import_text.specs.declared.counts.LineCounts.{LineCounts}
 use Rattle.import_text.specs.declared.made.Making.{Making}
 use Rattle.import_text.specs.declared.taking.Fate.{Fate}
 
@@ -47,13 +47,13 @@ named_here name us n all p e h =
     omega (arith, h, one)
 
 -- one more line was taken
-pub taken_more : (start : SoFar) (all : List Spoken) (made : List Making) (chosen n : ℕ) (s t : SoFar) (c d : Counts) (fate : Fate)
+pub taken_more : (start : SoFar) (all : List Spoken) (made : List Making) (chosen n : ℕ) (s t : SoFar) (c d : LineCounts) (fate : Fate)
     → (s, c) ≡ imported start all made chosen n → (t, fate) ≡ line_taken start s all made chosen n → d ≡ counted c fate
     → (t, d) ≡ imported start all made chosen (n + 1)
 taken_more start all made chosen n s t c d fate e h w =
     let one : n + 1 ≡ suc n = omega arith in
     rw one (ap (λ x. (t, x)) w ∙ ap (λ (a : SoFar × Fate). (a.0, counted c a.1)) h
-    ∙ ap (λ (b : SoFar × Counts). counted_with b.1 (line_taken start b.0 all made chosen n)) e)
+    ∙ ap (λ (b : SoFar × LineCounts). counted_with b.1 (line_taken start b.0 all made chosen n)) e)
 
 -- the lines of one more file
 uses-append : (n : ℕ) (us vs : List (List ℕ × ℕ)) → use_lines n (us ++ vs) ≡ use_lines n us ++ use_lines (n + length us) vs

@@ -1,13 +1,13 @@
 -- How many lines became what.
 use Rattle.std.specs.Prelude.{ℕ, ◌+◌}
 use Rattle.import_text.specs.Losses.{lost_lines, no_losses, with_lost}
-use Rattle.import_text.specs.declared.counts.Counts.{Counts}
-use Rattle.import_text.specs.declared.taking.Change.TheVariants.{Heap, Move, File, Key, Shared}
+use Rattle.import_text.specs.declared.counts.LineCounts.{LineCounts}
+use Rattle.import_text.specs.declared.taking.LineChange.TheVariants.{Heap, Move, File, Key, Shared}
 use Rattle.import_text.specs.declared.taking.Reason.TheVariants as For
 use Rattle.import_text.specs.declared.taking.Fate.{Fate}
 use Rattle.import_text.specs.declared.taking.Fate.TheVariants.{Kept, Changed, Left}
 
-abbrev pub no_counts : Counts
+abbrev pub no_counts : LineCounts
 no_counts = record {
   kept = 0;
   heap = 0;
@@ -26,19 +26,19 @@ no_counts = record {
 }
 
 -- how many lines were changed, and how many left out
-abbrev pub changed_lines : Counts → ℕ
+abbrev pub changed_lines : LineCounts → ℕ
 changed_lines c = c.heap + c.moves + c.files + c.keyed + c.shared
 
 -- how many lines are left out, whatever the reason
-abbrev pub left_lines : Counts → ℕ
+abbrev pub left_lines : LineCounts → ℕ
 left_lines c = c.half + c.failed + c.elsewhere + c.before + c.unread + c.still + lost_lines c.lost + c.other
 
 -- kept, changed and left out
-abbrev pub total : Counts → ℕ
+abbrev pub total : LineCounts → ℕ
 total c = c.kept + changed_lines c + left_lines c
 
 -- the lines that were kept, changed or lost are left out for another reason, as a program begins: it has a new address space
-abbrev pub begun_anew : Counts → Counts
+abbrev pub begun_anew : LineCounts → LineCounts
 begun_anew c = record {
   kept = 0;
   heap = 0;
@@ -57,7 +57,7 @@ begun_anew c = record {
 }
 
 -- one line more, with this fate
-abbrev pub counted : Counts → Fate → Counts
+abbrev pub counted : LineCounts → Fate → LineCounts
 counted c Kept = record c { kept = c.kept + 1 }
 counted c (Changed Heap) = record c { heap = c.heap + 1 }
 counted c (Changed Move) = record c { moves = c.moves + 1 }

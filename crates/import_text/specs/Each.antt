@@ -7,8 +7,8 @@ use Rattle.import_text.specs.Made.{all_makings}
 use Rattle.import_text.specs.Programs.{owners, program_name, program_of}
 use Rattle.import_text.specs.Taking.{SoFar, nothing_taken}
 use Rattle.trace_io.specs.declared.fault.IoFault.{IoFault}
-use Rattle.import_text.specs.declared.counts.Counts.{Counts}
-use Rattle.import_text.specs.declared.each.Part.{Part}
+use Rattle.import_text.specs.declared.counts.LineCounts.{LineCounts}
+use Rattle.import_text.specs.declared.each.ProcessTrace.{ProcessTrace}
 use Rattle.import_text.specs.declared.import.Ending.{Ending}
 use Rattle.import_text.specs.declared.processes.Choice.{Choice}
 use Rattle.import_text.specs.declared.processes.Process.{Process}
@@ -19,9 +19,9 @@ only number = record { thread = Some number; joined = false }
 
 -- a process, the program that it began last, how its import ends, what becomes of the lines of the log, and its trace
 abbrev pub Parted : Type 0
-Parted = Process × (List ℕ × (Ending × (Counts × List ℕ)))
+Parted = Process × (List ℕ × (Ending × (LineCounts × List ℕ)))
 
-abbrev pub parted : Part → Parted
+abbrev pub parted : ProcessTrace → Parted
 parted p = (p.process, (program_name p.program, (p.ending, (p.counts, p.text.items))))
 
 -- the program that a process began last
@@ -62,6 +62,6 @@ abbrev pub parts_of : SoFar → List ℕ → List Parted
 parts_of start input = map (part_for start input) (processes_of false input)
 
 -- what is told of a log that was read, where nothing was there at the start
-abbrev pub EachEnds : {A : Type 0} → List ℕ → Result (Vec Part A) IoFault → Type 0
+abbrev pub EachEnds : {A : Type 0} → List ℕ → Result (Vec ProcessTrace A) IoFault → Type 0
 EachEnds input (Ok parts) = map parted parts.items ≡ parts_of nothing_taken input
 EachEnds input (Err f) = ⊤

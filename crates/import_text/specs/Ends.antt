@@ -10,14 +10,14 @@ use Rattle.import_text.specs.Imported.{ending_of, import_of, process_in, process
 use Rattle.import_text.specs.Programs.{program_name, programs_in}
 use Rattle.import_text.specs.Taking.{SoFar}
 use Rattle.import_text.specs.Texts.{imported_text}
-use Rattle.import_text.specs.declared.counts.Counts.{Counts}
+use Rattle.import_text.specs.declared.counts.LineCounts.{LineCounts}
 use Rattle.import_text.specs.declared.import.Ending.{Ending}
 use Rattle.import_text.specs.declared.import.Ending.TheVariants.{Written, Nothing, Absent}
 use Rattle.import_text.specs.declared.import.Report.{Report}
 use Rattle.import_text.specs.declared.processes.Choice.{Choice}
 
 -- the text that is made of a log was written, and each of its lines is counted so
-pub record MakesText (text : List ℕ) (made counts : Counts) (input : List ℕ) (old new : Option (List ℕ)) : Type 0 where
+pub record MakesText (text : List ℕ) (made counts : LineCounts) (input : List ℕ) (old new : Option (List ℕ)) : Type 0 where
   pub written : Appends old new text
   pub told : counts ≡ made
   pub all : total counts ≡ length (lines_of input)
@@ -29,7 +29,7 @@ MakeStops text old new NoMemory = Keeps old new
 MakeStops text old new WriteFailed = AppendsFront old new text
 
 -- all lines told, or stopped at a fault
-abbrev pub MakeEnds : List ℕ → Counts → List ℕ → Option (List ℕ) → Option (List ℕ) → Result Counts IoFault → Type 0
+abbrev pub MakeEnds : List ℕ → LineCounts → List ℕ → Option (List ℕ) → Option (List ℕ) → Result LineCounts IoFault → Type 0
 MakeEnds text made input old new (Ok counts) = MakesText text made counts input old new
 MakeEnds text made input old new (Err f) = MakeStops text old new f
 

@@ -8,7 +8,7 @@ use Rattle.import_text.specs.Processes.{chosen, is_there, processes}
 use Rattle.import_forms.specs.Said.{file_named, is_known, said_of}
 use Rattle.import_forms.specs.Speech.{Spoken, begun_of, returned_of, speech_of}
 use Rattle.import_text.specs.Taking.{SoFar, after_said}
-use Rattle.import_text.specs.declared.counts.Counts.{Counts}
+use Rattle.import_text.specs.declared.counts.LineCounts.{LineCounts}
 use Rattle.import_text.specs.declared.import.Ending.{Ending}
 use Rattle.import_text.specs.declared.import.Ending.TheVariants.{Written, Nothing, Absent}
 use Rattle.import_text.specs.declared.processes.Choice.{Choice}
@@ -55,11 +55,11 @@ abbrev pub line_taken : SoFar → SoFar → List Spoken → List Making → ℕ 
 line_taken start s all made chosen k = taken_if (is_ours made chosen (speech_at all k).0 k) start s all k
 
 -- a line that met its fate, counted
-abbrev pub counted_with : Counts → SoFar × Fate → SoFar × Counts
+abbrev pub counted_with : LineCounts → SoFar × Fate → SoFar × LineCounts
 counted_with counts after = (after.0, counted counts after.1)
 
 -- after the first n lines, from what is there at the start
-abbrev pub imported : SoFar → List Spoken → List Making → ℕ → ℕ → SoFar × Counts
+abbrev pub imported : SoFar → List Spoken → List Making → ℕ → ℕ → SoFar × LineCounts
 imported start all made chosen zero = (start, no_counts)
 imported start all made chosen (suc n) =
     let before = imported start all made chosen n in
@@ -75,7 +75,7 @@ chosen_all choice all = chosen choice.thread (all_makings choice.joined all) (pr
 
 -- All lines, for the chosen process. Its lines are those of its threads, and before it was made those of its parent, whose address
 -- space it got then.
-abbrev pub import_all : SoFar → Choice → List Spoken → SoFar × Counts
+abbrev pub import_all : SoFar → Choice → List Spoken → SoFar × LineCounts
 import_all start choice all =
     let made = all_makings choice.joined all in
     imported start all made (chosen_all choice all) (length all)
@@ -93,7 +93,7 @@ abbrev pub speeches_of : List ℕ → List Spoken
 speeches_of log = map speech_of (lines_of log)
 
 -- what is taken of a log, beside what is there at the start, and how many of its lines became what
-abbrev pub import_of : SoFar → Choice → List ℕ → SoFar × Counts
+abbrev pub import_of : SoFar → Choice → List ℕ → SoFar × LineCounts
 import_of start choice log = import_all start choice (speeches_of log)
 
 -- how an import of it ends

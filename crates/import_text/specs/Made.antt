@@ -4,7 +4,7 @@ use Rattle.import_text.specs.Joining.{call_at, speech_at}
 use Rattle.import_forms.specs.Said.{said_of}
 use Rattle.import_forms.specs.Speech.{Spoken, returned_of}
 use Rattle.import_text.specs.declared.made.Making.{Making}
-use Rattle.import_text.specs.declared.told.Telling.{Telling}
+use Rattle.import_text.specs.declared.told.CloneLine.{CloneLine}
 use Rattle.import_forms.specs.declared.said.Said.{Said}
 use Rattle.import_forms.specs.declared.said.Said.TheVariants as Says
 
@@ -63,7 +63,7 @@ abbrev pub began_at : List Spoken → ℕ → ℕ
 began_at all k = began_by all k (returned_of (speech_at all k).1)
 
 -- what line k tells of a thread that was made
-abbrev pub telling_of : List Spoken → ℕ → Option Said → Option Telling
+abbrev pub telling_of : List Spoken → ℕ → Option Said → Option CloneLine
 telling_of all k None = None
 telling_of all k (Some (Says.Makes thread shares joins)) =
     Some (record { child = thread; parent = thread_at all k; shares = shares; joins = joins; began = began_at all k })
@@ -80,12 +80,12 @@ telling_of all k (Some Says.Fails) = None
 telling_of all k (Some Says.Unread) = None
 telling_of all k (Some Says.Other) = None
 
-abbrev pub with_telling : List Telling → Option Telling → List Telling
+abbrev pub with_telling : List CloneLine → Option CloneLine → List CloneLine
 with_telling ts None = ts
 with_telling ts (Some t) = ts ++ t ∷ []
 
 -- what the first n lines tell of threads that were made, in order
-abbrev pub tellings : List Spoken → ℕ → List Telling
+abbrev pub tellings : List Spoken → ℕ → List CloneLine
 tellings all zero = []
 tellings all (suc n) = with_telling (tellings all n) (telling_of all n (said_at all n))
 
@@ -106,13 +106,13 @@ with_making made m = first_made made m (maker_of made m.child)
 
 -- The line from which on a child has an address space of its own: that in which the call began that made it; or, where it shares its
 -- maker's memory, the first line at which it begins a program, and none of the log's where it begins none.
-abbrev pub own_from : List Spoken → Telling → ℕ
+abbrev pub own_from : List Spoken → CloneLine → ℕ
 own_from all t = if t.joins then unwrap_or (first_start all (length all) t.child) (length all) else t.began
 
-abbrev pub making_by : List Spoken → Telling → Making
+abbrev pub making_by : List Spoken → CloneLine → Making
 making_by all t = record { child = t.child; parent = t.parent; shares = t.shares; joins = t.joins; at = own_from all t }
 
-abbrev pub with_makings : List Spoken → List Making → List Telling → List Making
+abbrev pub with_makings : List Spoken → List Making → List CloneLine → List Making
 with_makings all made [] = made
 with_makings all made (t ∷ ts) = with_makings all (with_making made (making_by all t)) ts
 

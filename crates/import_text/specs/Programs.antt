@@ -11,7 +11,7 @@ use Rattle.import_text.specs.Names.{name_shown}
 use Rattle.import_text.specs.Quotes.{quoted}
 use Rattle.import_text.specs.declared.made.Making.{Making}
 use Rattle.import_text.specs.declared.processes.Process.{Process}
-use Rattle.import_text.specs.declared.programs.Program.{Program}
+use Rattle.import_text.specs.declared.programs.ProgramFile.{ProgramFile}
 
 -- a program begins
 abbrev pub begins : Said → Bool
@@ -72,5 +72,5 @@ abbrev pub programs_in : Bool → List ℕ → List (List ℕ)
 programs_in joined log = programs_all joined (speeches_of log)
 
 -- what the code keeps of a program, as bytes
-abbrev pub program_name : Program → List ℕ
+abbrev pub program_name : ProgramFile → List ℕ
 program_name p = p.name.items

@@ -9,7 +9,7 @@ use Rattle.import_text.specs.declared.steps.Head.{Head}
 use Rattle.import_text.specs.declared.steps.Kind.{Kind}
 use Rattle.import_text.specs.declared.steps.Kind.TheVariants.{Pages, Map, Unmap, Protect, Load, Store, Fetch}
 use Rattle.import_text.specs.declared.steps.Shape.{Shape}
-use Rattle.import_text.specs.declared.steps.Step.{Step}
+use Rattle.import_text.specs.declared.steps.TraceRequest.{TraceRequest}
 
 -- ---- what is kept of a request
 
@@ -46,7 +46,7 @@ shape_of named (Asks.Load addr) = record { kind = Load; named = named; prot = 0;
 shape_of named (Asks.Store addr byte) = record { kind = Store; named = named; prot = 0; flags = 0; byte = byte }
 shape_of named (Asks.Fetch addr) = record { kind = Fetch; named = named; prot = 0; flags = 0; byte = 0 }
 
-abbrev pub head_of : Step → Head
+abbrev pub head_of : TraceRequest → Head
 head_of step = record { core = step.core; shape = shape_of (is_name step.name) step.request }
 
 -- all numbers that a request may have, and where its name stands
@@ -86,13 +86,13 @@ request_kept Load prot flags byte ns = Asks.Load (slice_index_or ns 0 0)
 request_kept Store prot flags byte ns = Asks.Store (slice_index_or ns 0 0) byte
 request_kept Fetch prot flags byte ns = Asks.Fetch (slice_index_or ns 0 0)
 
-abbrev pub step_kept : Head → List ℕ → Step
+abbrev pub step_kept : Head → List ℕ → TraceRequest
 step_kept h ns =
     let s = h.shape in
     record { core = h.core; name = name_kept s.named ns; request = request_kept s.kind (prot_of s.prot) (flags_of s.flags) s.byte ns }
 
 -- the requests with these heads, whose numbers stand one behind another
-abbrev pub steps_kept : List Head → List ℕ → List Step
+abbrev pub steps_kept : List Head → List ℕ → List TraceRequest
 steps_kept [] ns = []
 steps_kept (h ∷ hs) ns = step_kept h ns ∷ steps_kept hs (drop (shape_width h.shape) ns)
 

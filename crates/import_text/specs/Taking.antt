@@ -10,12 +10,12 @@ use Rattle.import_forms.specs.declared.said.Lost.TheVariants as Lose
 use Rattle.import_forms.specs.declared.said.Said.{Said}
 use Rattle.import_forms.specs.declared.said.Said.TheVariants as Says
 use Rattle.import_text.specs.Shared.{len_of, memory_name}
-use Rattle.import_text.specs.declared.shared.Piece.{Piece}
+use Rattle.import_text.specs.declared.shared.SharedSegment.{SharedSegment}
 use Rattle.import_text.specs.declared.names.Name.{Name}
-use Rattle.import_text.specs.declared.steps.Step.{Step}
+use Rattle.import_text.specs.declared.steps.TraceRequest.{TraceRequest}
 use Rattle.import_text.specs.declared.taking.FileUse.{FileUse}
 use Rattle.import_text.specs.declared.taking.Taken.{Taken}
-use Rattle.import_text.specs.declared.taking.Change.TheVariants.{Heap, Move, File, Key, Shared}
+use Rattle.import_text.specs.declared.taking.LineChange.TheVariants.{Heap, Move, File, Key, Shared}
 use Rattle.import_text.specs.declared.taking.Reason.TheVariants as For
 use Rattle.import_text.specs.declared.taking.Fate.{Fate}
 use Rattle.import_text.specs.declared.taking.Fate.TheVariants.{Kept, Changed, Left}
@@ -31,10 +31,10 @@ pub record SoFar : Type 0 where
   pub threads : List ℕ
   pub files : List (List ℕ × ℕ)
   pub heap_end : Option ℕ
-  pub pieces : List Piece
-  pub attached : List Piece
+  pub pieces : List SharedSegment
+  pub attached : List SharedSegment
   pub names : List ℕ
-  pub steps : List Step
+  pub steps : List TraceRequest
 
 -- what the code keeps, as a value
 abbrev pub so_far : Taken → SoFar

@@ -9,7 +9,7 @@ use Rattle.trace_text.specs.Spelling.{letter, rights_text}
 use Rattle.import_text.specs.Names.{bare, name_shown}
 use Rattle.import_text.specs.Taking.{SoFar}
 use Rattle.import_text.specs.declared.names.Name.{Name}
-use Rattle.import_text.specs.declared.steps.Step.{Step}
+use Rattle.import_text.specs.declared.steps.TraceRequest.{TraceRequest}
 
 -- an address and a length in bytes, each behind a space
 abbrev pub range_text : ℕ → ℕ → List ℕ
@@ -67,7 +67,7 @@ abbrev pub note_before : List ℕ → Name → Request → List ℕ
 note_before names name request = if name.len == 0 then [] else range_note (take name.len (drop name.from names)) request
 
 -- a request with its comment, if it has one
-abbrev pub step_text : List ℕ → Step → List ℕ
+abbrev pub step_text : List ℕ → TraceRequest → List ℕ
 step_text names step = note_before names step.name step.request ++ step_line step.core step.request
 
 -- a core for each thread, up to 64; the frames; a call for each request, and 4096 at least

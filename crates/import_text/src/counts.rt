@@ -3,11 +3,11 @@ ghost use Rattle.std.specs.Prelude.{◌≡◌, ◌+◌, ◌<◌, ◌^◌};
 ghost use Rattle.import_text.specs.Counts.{begun_anew, changed_lines, counted, left_lines, no_counts, total};
 
 use crate::losses::Losses;
-use crate::taking::{Change, Fate, Reason};
+use crate::taking::{LineChange, Fate, Reason};
 
 /// How many lines were kept, changed and left out, and why.
 #[derive(Clone, Copy)]
-pub struct Counts {
+pub struct LineCounts {
     /// Kept with their numbers.
     pub kept: u64,
     /// `brk`, as `mmap` or `munmap`.
@@ -38,12 +38,12 @@ pub struct Counts {
     pub other: u64,
 }
 
-impl Counts {
+impl LineCounts {
     /// No line yet.
-    pub fn new() -> Counts
+    pub fn new() -> LineCounts
         ensures { result ≡ no_counts }
     {
-        Counts {
+        LineCounts {
             kept: 0,
             heap: 0,
             moves: 0,
@@ -85,13 +85,13 @@ impl Counts {
     }
 
     // One line more, at which a program begins.
-    fn begin(self) -> Counts
+    fn begin(self) -> LineCounts
         requires { total self + 1 < 2 ^ 64 }
         ensures value { result ≡ begun_anew self }
         ensures total { total result ≡ total self + 1 }
     {
         let before = self.before + self.kept + self.changed() + self.lost.total();
-        Counts {
+        LineCounts {
             before,
             half: self.half,
             failed: self.failed,
@@ -104,7 +104,7 @@ impl Counts {
     }
 
     // One line more, which is left out.
-    fn leave(self, reason: Reason) -> Counts
+    fn leave(self, reason: Reason) -> LineCounts
         requires { total self + 1 < 2 ^ 64 }
         ensures value { result ≡ counted self (Fate.Left reason) }
         ensures total { total result ≡ total self + 1 }
@@ -124,7 +124,7 @@ impl Counts {
     }
 
     /// One line more, with this fate. Where a program begins, the lines that were kept or changed before are left out.
-    pub fn and(self, fate: Fate) -> Counts
+    pub fn and(self, fate: Fate) -> LineCounts
         requires { total self + 1 < 2 ^ 64 }
         ensures value { result ≡ counted self fate }
         ensures total { total result ≡ total self + 1 }
@@ -132,11 +132,11 @@ impl Counts {
         let mut counts = self;
         match fate {
             Fate::Kept => counts.kept += 1,
-            Fate::Changed(Change::Heap) => counts.heap += 1,
-            Fate::Changed(Change::Move) => counts.moves += 1,
-            Fate::Changed(Change::File) => counts.files += 1,
-            Fate::Changed(Change::Key) => counts.keyed += 1,
-            Fate::Changed(Change::Shared) => counts.shared += 1,
+            Fate::Changed(LineChange::Heap) => counts.heap += 1,
+            Fate::Changed(LineChange::Move) => counts.moves += 1,
+            Fate::Changed(LineChange::File) => counts.files += 1,
+            Fate::Changed(LineChange::Key) => counts.keyed += 1,
+            Fate::Changed(LineChange::Shared) => counts.shared += 1,
             Fate::Left(reason) => return self.leave(reason),
         }
         counts

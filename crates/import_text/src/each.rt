@@ -11,16 +11,16 @@ ghost use Rattle.import_text.specs.LogLines.{IsRead};
 ghost use Rattle.trace_io.specs.Lines.{lines_of};
 ghost use Rattle.trace_io.specs.Source.{HasStopped, Reads};
 
-use crate::counts::Counts;
+use crate::counts::LineCounts;
 use crate::import::{Ending, Imported, ending_by, take_lines};
 use crate::joining::Room;
-use crate::lines::Lines;
+use crate::lines::KeptLines;
 use crate::log::write_ended;
-use crate::log_lines::Log;
+use crate::log_lines::StraceLog;
 use crate::made::{Made, all_makings, process_of};
 use crate::meter::Meter;
 use crate::processes::{Choice, Process, is_there, read_processes};
-use crate::programs::{Program, owners_of, program_of, read_begun};
+use crate::programs::{ProgramFile, owners_of, program_of, read_begun};
 use crate::reading::read_lines;
 use crate::taking::Taken;
 use std::alloc::{AllocError, Global};
@@ -30,15 +30,15 @@ use trace_io::source::Source;
 
 /// What comes of a log for one of its processes.
 #[derive(Drop)]
-pub struct Part {
+pub struct ProcessTrace {
     /// The process.
     pub process: Process,
     /// The program that it began last.
-    pub program: Program,
+    pub program: ProgramFile,
     /// How its import ended.
     pub ending: Ending,
     /// How many lines were kept, changed and left out.
-    pub counts: Counts,
+    pub counts: LineCounts,
     /// Its trace, nothing where no request would be in it.
     pub text: Vec<u8>,
 }
@@ -57,7 +57,7 @@ fn only(number: u64) -> Choice
 fn take_process<M: Meter>(
     alloc: Global,
     start: &Taken,
-    lines: &Lines,
+    lines: &KeptLines,
     made: &Made,
     number: u64,
     room: &mut Room,
@@ -77,14 +77,14 @@ fn take_process<M: Meter>(
 fn part_for<M: Meter>(
     alloc: Global,
     start: &Taken,
-    lines: &Lines,
+    lines: &KeptLines,
     made: &Made,
     owned: &[u64],
     begun: &HashMap<u64, usize>,
     process: Process,
     room: &mut Room,
     meter: &mut M,
-) -> Result<Part, AllocError>
+) -> Result<ProcessTrace, AllocError>
     requires made { made.now ≡ all_makings false lines.now }
     requires owned { owned.now ≡ owners made.now lines.now }
     requires begun { (q : ℕ) → get nat_eq begun.now q ≡ last_begun lines.now owned.now (length lines.now) q }
@@ -96,7 +96,7 @@ fn part_for<M: Meter>(
     let there = is_there(only(process.number), lines);
     let ending = ending_by(there, imported.taken.steps.len());
     let text = write_ended(alloc, ending, &imported.taken)?;
-    Ok(Part {
+    Ok(ProcessTrace {
         process,
         program,
         ending,
@@ -109,12 +109,12 @@ fn part_for<M: Meter>(
 fn parts_for<M: Meter>(
     alloc: Global,
     start: &Taken,
-    lines: &Lines,
+    lines: &KeptLines,
     made: &Made,
     processes: &[Process],
     room: &mut Room,
     meter: &mut M,
-) -> Result<Vec<Part>, AllocError>
+) -> Result<Vec<ProcessTrace>, AllocError>
     requires made { made.now ≡ all_makings false lines.now }
     ensures value { IfOk result (λ parts. map parted parts.items
         ≡ map (part_all (so_far start.now) lines.now) processes.now) }
@@ -122,7 +122,7 @@ fn parts_for<M: Meter>(
 {
     let owned = owners_of(alloc, lines, made)?;
     let begun = read_begun(alloc, lines, owned.as_slice(), room)?;
-    let mut parts: Vec<Part> = Vec::new(alloc);
+    let mut parts: Vec<ProcessTrace> = Vec::new(alloc);
     let mut at = 0;
     'processes: while at < processes.len() {
         let process = processes[at];
@@ -148,9 +148,9 @@ fn parts_for<M: Meter>(
 fn import_each<M: Meter>(
     alloc: Global,
     start: &Taken,
-    lines: &Lines,
+    lines: &KeptLines,
     meter: &mut M,
-) -> Result<Vec<Part>, AllocError>
+) -> Result<Vec<ProcessTrace>, AllocError>
     ensures value { IfOk result (λ parts. map parted parts.items
         ≡ map (part_all (so_far start.now) lines.now) (processes_all false lines.now)) }
     ensures few { IfOk result (λ parts. All (λ p. total p.counts < 2 ^ 64) parts.items) }
@@ -171,7 +171,7 @@ fn import_each<M: Meter>(
 }
 
 // What comes of a log, beside nothing at the start.
-fn parts_in<M: Meter>(alloc: Global, log: &Log, meter: &mut M) -> Result<Vec<Part>, IoFault>
+fn parts_in<M: Meter>(alloc: Global, log: &StraceLog, meter: &mut M) -> Result<Vec<ProcessTrace>, IoFault>
     ensures value { (input : List ℕ) → IsRead (lines_of input) log.now → EachEnds input result }
     ensures few { IfOk result (λ parts. All (λ p. total p.counts < 2 ^ 64) parts.items) }
     ensures read { result ≡ Err IoFault.ReadFailed → ⊥ }
@@ -189,13 +189,13 @@ pub fn import_log_each<S: Source, M: Meter>(
     alloc: Global,
     reader: &mut S,
     meter: &mut M,
-) -> Result<Vec<Part>, IoFault>
+) -> Result<Vec<ProcessTrace>, IoFault>
     ensures ends { Reads (S.stream reader.old) (S.stream reader.new) (λ input unread. EachEnds input result) }
     ensures few { IfOk result (λ parts. All (λ p. total p.counts < 2 ^ 64) parts.items) }
     ensures read { result ≡ Err IoFault.ReadFailed → HasStopped (S.failed reader.new) (S.reads reader.new) }
     ensures write { result ≡ Err IoFault.WriteFailed → ⊥ }
 {
-    let mut log = Log::new(alloc);
+    let mut log = StraceLog::new(alloc);
     match read_lines(alloc, reader, &mut log) {
         Ok(()) => parts_in(alloc, &log, meter),
         Err(fault) => Err(fault),

@@ -7,13 +7,13 @@ ghost use Rattle.import_text.specs.Processes.{is_there};
 ghost use Rattle.import_text.specs.Programs.{program_name, programs_all};
 ghost use Rattle.import_text.specs.Taking.{so_far};
 
-use crate::counts::Counts;
+use crate::counts::LineCounts;
 use crate::joining::{Room, half_text, next_of, returns_by, told_at};
-use crate::lines::Lines;
+use crate::lines::KeptLines;
 use crate::made::{Made, all_makings, fork_of, past_of};
 use crate::meter::{Meter, tell_of};
 use crate::processes::{Choice, Process, chosen, is_there, look, read_processes, recall, space_at};
-use crate::programs::{Program, read_programs};
+use crate::programs::{ProgramFile, read_programs};
 use crate::taking::{Fate, Reason, Taken, take};
 use import_forms::said::is_known;
 use import_forms::speech::begun;
@@ -36,11 +36,11 @@ pub struct Report {
     /// How it ended.
     pub ending: Ending,
     /// How many lines were kept, changed and left out.
-    pub counts: Counts,
+    pub counts: LineCounts,
     /// The processes of the log, in the order of their first lines.
     pub processes: Vec<Process>,
     /// The programs that they began last, where there are several processes.
-    pub programs: Vec<Program>,
+    pub programs: Vec<ProgramFile>,
     /// The process that is imported.
     pub process: u64,
     /// The first line that isn't read, 80 bytes at most, where there is no trace.
@@ -53,7 +53,7 @@ pub struct Imported {
     /// What is taken.
     pub taken: Taken,
     /// How many lines were kept, changed and left out.
-    pub counts: Counts,
+    pub counts: LineCounts,
 }
 
 // Why a line is left out that a call began with, and at which it doesn't act: the call's other half does, if there is one.
@@ -70,7 +70,7 @@ fn half_begun(front: &[u8], later: &[u8]) -> Reason
 }
 
 // Why the line is left out, if no call acts at it.
-fn half_at(lines: &Lines, place: usize) -> Reason
+fn half_at(lines: &KeptLines, place: usize) -> Reason
     requires { place < length lines.now }
     ensures { result ≡ half_at lines.now place }
 {
@@ -86,7 +86,7 @@ fn take_line(
     alloc: Global,
     start: &Taken,
     taken: &mut Taken,
-    lines: &Lines,
+    lines: &KeptLines,
     is_ours: bool,
     place: usize,
     room: &mut Room,
@@ -109,7 +109,7 @@ fn take_line(
 pub(crate) fn take_lines<M: Meter>(
     alloc: Global,
     start: &Taken,
-    lines: &Lines,
+    lines: &KeptLines,
     made: &Made,
     process: u64,
     room: &mut Room,
@@ -121,7 +121,7 @@ pub(crate) fn take_lines<M: Meter>(
     ensures few { IfOk result (λ i. total i.counts < 2 ^ 64) }
 {
     let mut taken = start.copy(alloc)?;
-    let mut counts = Counts::new();
+    let mut counts = LineCounts::new();
     let mut known = look(made, 0);
     let own = fork_of(made, process);
     let mut at = 0;
@@ -165,7 +165,7 @@ pub(crate) fn import_lines<M: Meter>(
     alloc: Global,
     start: &Taken,
     unread: &[u8],
-    lines: &Lines,
+    lines: &KeptLines,
     choice: Choice,
     meter: &mut M,
 ) -> Result<(Taken, Report), AllocError>

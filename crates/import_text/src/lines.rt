@@ -56,7 +56,7 @@ pub(crate) struct Saying {
 
 /// The lines of a log. A clause sees them as what they say.
 #[derive(Drop)]
-pub struct Lines {
+pub struct KeptLines {
     entries: Vec<Entry>,
     rares: Rares,
     // Which entry is each line's.
@@ -66,7 +66,7 @@ pub struct Lines {
     said: GhostList<Saying>,
 }
 
-impl Model for Lines {
+impl Model for KeptLines {
     ghost use Rattle.std.specs.Prelude.{◌≡◌, List, map};
     ghost use Rattle.import_forms.specs.Speech.{Spoken};
     ghost use Rattle.import_text.specs.Lines.{AreKept, said_by};
@@ -350,17 +350,17 @@ fn line_of(rares: &Rares, entry: Entry) -> Line<'_>
     }
 }
 
-impl Lines {
+impl KeptLines {
     ghost use Rattle.std.specs.Prelude.{◌≡◌, ◌<◌, ◌++◌, ◌∷◌, [], OnErr, OnOk, length};
     ghost use Rattle.import_forms.specs.Speech.{spoken};
     ghost use Rattle.import_text.specs.Joining.{speech_at};
     ghost use Rattle.import_text.specs.Lines.{kept_of, kept_text};
 
     /// No line.
-    pub(crate) fn new(alloc: Global) -> Lines
+    pub(crate) fn new(alloc: Global) -> KeptLines
         ensures { result ≡ [] }
     {
-        Lines {
+        KeptLines {
             entries: Vec::new(alloc),
             rares: Rares::new(alloc),
             order: Vec::new(alloc),

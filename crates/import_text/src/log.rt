@@ -9,7 +9,7 @@ ghost use Rattle.trace_io.specs.Lines.{lines_of};
 ghost use Rattle.trace_io.specs.Source.{Reads};
 
 use crate::import::{Ending, Report, import_lines};
-use crate::log_lines::Log;
+use crate::log_lines::StraceLog;
 use crate::meter::Meter;
 use crate::processes::Choice;
 use crate::reading::read_lines;
@@ -38,7 +38,7 @@ pub(crate) fn write_ended(
 fn import_whole<M: Meter>(
     alloc: Global,
     start: &Taken,
-    log: Log,
+    log: StraceLog,
     choice: Choice,
     meter: &mut M,
 ) -> Result<(Taken, Report), AllocError>
@@ -61,7 +61,7 @@ fn import_whole<M: Meter>(
 fn write_import<W: Sink, M: Meter>(
     alloc: Global,
     start: &Taken,
-    log: Log,
+    log: StraceLog,
     writer: &mut W,
     choice: Choice,
     meter: &mut M,
@@ -103,7 +103,7 @@ pub fn import_log<S: Source, W: Sink, M: Meter>(
     ensures told { TellsSent (λ f. f) result (read_from S.Source reader.old reader.new)
         (written_to W.Sink writer.old writer.new) }
 {
-    let mut log = Log::new(alloc);
+    let mut log = StraceLog::new(alloc);
     match read_lines(alloc, reader, &mut log) {
         Ok(()) => write_import(alloc, start, log, writer, choice, meter),
         Err(fault) => Err(fault),

@@ -5,7 +5,7 @@ ghost use Rattle.import_text.specs.Imported.{is_unread};
 ghost use Rattle.import_text.specs.Lines.{kept_of, kept_text};
 
 use crate::line::{Line, read_line};
-use crate::lines::Lines;
+use crate::lines::KeptLines;
 use crate::reading::Listener;
 use import_forms::said::{Said, read_call};
 use import_forms::speech::read_speech;
@@ -13,9 +13,9 @@ use std::alloc::{AllocError, Global};
 
 /// A log of strace, as far as it is read.
 #[derive(Drop)]
-pub struct Log {
+pub struct StraceLog {
     /// What its lines say.
-    pub(crate) lines: Lines,
+    pub(crate) lines: KeptLines,
     /// Whether some line isn't read.
     pub(crate) found: bool,
     /// The first that isn't, 80 bytes at most.
@@ -63,23 +63,23 @@ fn said_of<'a>(text: &[u8], line: Line<'a>) -> Said
     }
 }
 
-impl Log {
+impl StraceLog {
     ghost use Rattle.std.specs.Prelude.{[]};
     ghost use Rattle.import_text.specs.LogLines.{IsRead};
 
     /// No line yet.
-    pub(crate) fn new(alloc: Global) -> Log
+    pub(crate) fn new(alloc: Global) -> StraceLog
         ensures { IsRead [] result }
     {
-        Log {
-            lines: Lines::new(alloc),
+        StraceLog {
+            lines: KeptLines::new(alloc),
             found: false,
             unread: Vec::new(alloc),
         }
     }
 }
 
-impl Listener for Log {
+impl Listener for StraceLog {
     ghost use Rattle.import_text.specs.LogLines.{IsRead};
 
     ghost has_heard = { λ s lines. IsRead lines s };

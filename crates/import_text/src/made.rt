@@ -5,9 +5,9 @@ ghost use Rattle.import_text.specs.Made.{adopted, all_makings, first_start, fork
 ghost use Rattle.import_text.specs.Made.{space_within, with_making, with_makings};
 
 use crate::joining::Room;
-use crate::lines::Lines;
+use crate::lines::KeptLines;
 use crate::meter::Meter;
-use crate::told::{Telling, hear_all};
+use crate::told::{CloneLine, hear_all};
 use std::alloc::{AllocError, Global};
 use std::collections::HashMap;
 use std::marker::Model;
@@ -97,7 +97,7 @@ fn add_making(made: &mut Made, making: Making) -> Result<(), AllocError>
 }
 
 // The line from which on the child has an address space of its own, as it is known where each thread begins its first program.
-fn own_from(starts: &HashMap<u64, usize>, lines: &Lines, telling: Telling) -> usize
+fn own_from(starts: &HashMap<u64, usize>, lines: &KeptLines, telling: CloneLine) -> usize
     requires { (t : ℕ) → get nat_eq starts.now t ≡ first_start lines.now (length lines.now) t }
     ensures { result ≡ own_from lines.now telling }
 {
@@ -111,7 +111,7 @@ fn own_from(starts: &HashMap<u64, usize>, lines: &Lines, telling: Telling) -> us
 }
 
 // The same with the line from which on it has an address space of its own.
-fn making_by(starts: &HashMap<u64, usize>, lines: &Lines, telling: Telling) -> Making
+fn making_by(starts: &HashMap<u64, usize>, lines: &KeptLines, telling: CloneLine) -> Making
     requires { (t : ℕ) → get nat_eq starts.now t ≡ first_start lines.now (length lines.now) t }
     ensures { result ≡ making_by lines.now telling }
 {
@@ -128,9 +128,9 @@ fn making_by(starts: &HashMap<u64, usize>, lines: &Lines, telling: Telling) -> M
 // Adds these threads, each if the list doesn't say yet who made it.
 fn add_makings(
     made: &mut Made,
-    lines: &Lines,
+    lines: &KeptLines,
     starts: &HashMap<u64, usize>,
-    tellings: &[Telling],
+    tellings: &[CloneLine],
 ) -> Result<(), AllocError>
     requires { (t : ℕ) → get nat_eq starts.now t ≡ first_start lines.now (length lines.now) t }
     ensures { OnOk result (made.new ≡ with_makings lines.now made.old tellings.now) }
@@ -147,7 +147,7 @@ fn add_makings(
 // All threads that the lines say were made, each once, in the order of the first lines that say so.
 fn read_makings<M: Meter>(
     alloc: Global,
-    lines: &Lines,
+    lines: &KeptLines,
     room: &mut Room,
     meter: &mut M,
 ) -> Result<Made, AllocError>
@@ -160,7 +160,7 @@ fn read_makings<M: Meter>(
 }
 
 // Adds each thread of which no line says who made it as one of process 0.
-fn adopt(made: &mut Made, lines: &Lines) -> Result<(), AllocError>
+fn adopt(made: &mut Made, lines: &KeptLines) -> Result<(), AllocError>
     ensures { OnOk result (made.new ≡ adopted lines.now made.old (length lines.now)) }
 {
     let mut at = 0;
@@ -182,7 +182,7 @@ fn adopt(made: &mut Made, lines: &Lines) -> Result<(), AllocError>
 /// Who made which thread, as the lines say. Where all threads of which none says so are of one process, that is process 0.
 pub(crate) fn all_makings<M: Meter>(
     alloc: Global,
-    lines: &Lines,
+    lines: &KeptLines,
     joined: bool,
     room: &mut Room,
     meter: &mut M,

@@ -5,7 +5,7 @@ ghost use Rattle.import_text.specs.Made.{fork_of, maker_of, process_of, said_at,
 ghost use Rattle.import_text.specs.Processes.{asks, best_of, busiest, chosen, is_there, place_of, process_at, processes, with_request, with_line};
 
 use crate::joining::Room;
-use crate::lines::Lines;
+use crate::lines::KeptLines;
 use crate::made::{Made, Making, fork_of, process_of, space_of};
 use crate::meter::{Meter, tell_of};
 use crate::told::said_at;
@@ -101,7 +101,7 @@ fn asks(said: Said) -> bool
 }
 
 // Tells whether the call that acts at this line, if one does, asks for something of the address space.
-fn line_asks(lines: &Lines, place: usize, room: &mut Room) -> Result<bool, AllocError>
+fn line_asks(lines: &KeptLines, place: usize, room: &mut Room) -> Result<bool, AllocError>
     requires { place < length lines.now }
     ensures { IfOk result (λ b. b ≡ asks (said_at lines.now place)) }
 {
@@ -209,7 +209,7 @@ fn count_line(counted: &mut Counted, number: u64, asks: bool) -> Result<(), Allo
 /// The processes of the lines, in the order of their first lines.
 pub(crate) fn read_processes<M: Meter>(
     alloc: Global,
-    lines: &Lines,
+    lines: &KeptLines,
     made: &Made,
     room: &mut Room,
     meter: &mut M,
@@ -272,7 +272,7 @@ pub(crate) fn chosen(choice: Choice, made: &Made, processes: &[Process]) -> u64
 }
 
 // Tells whether a line is about the thread.
-fn has_thread(lines: &Lines, thread: u64) -> bool
+fn has_thread(lines: &KeptLines, thread: u64) -> bool
     ensures { result ≡ is_there (Some thread) lines.now }
 {
     let mut at = 0;
@@ -286,7 +286,7 @@ fn has_thread(lines: &Lines, thread: u64) -> bool
 }
 
 /// Tells whether a line is about the thread that was named, if one was.
-pub(crate) fn is_there(choice: Choice, lines: &Lines) -> bool
+pub(crate) fn is_there(choice: Choice, lines: &KeptLines) -> bool
     ensures { result ≡ is_there choice.thread lines.now }
 {
     match choice.thread {

@@ -6,7 +6,7 @@ ghost use Rattle.import_text.specs.Names.{name_shown};
 ghost use Rattle.import_text.specs.Programs.{begins, begins_at, last_begun, owners, program_at, program_in, program_name, program_of, programs_for, programs_of};
 
 use crate::joining::{Room, told_at};
-use crate::lines::Lines;
+use crate::lines::KeptLines;
 use crate::made::Made;
 use crate::names::push_name;
 use crate::processes::{Process, look, recall};
@@ -19,7 +19,7 @@ const SHOWN: usize = 80;
 
 /// The file of a program, as it is shown.
 #[derive(Drop)]
-pub struct Program {
+pub struct ProgramFile {
     /// The file's name, nothing where it isn't known.
     pub name: Vec<u8>,
 }
@@ -47,7 +47,7 @@ fn begins(said: Said) -> bool
 
 // Puts the name that the call shows which acts at this line, and tells whether a program begins by it.
 #[tactic(auto, using(crate::proofs::HalfLemmas::program_told, crate::proofs::HalfLemmas::program_none))]
-fn put_begin(lines: &Lines, place: usize, room: &mut Room) -> Result<bool, AllocError>
+fn put_begin(lines: &KeptLines, place: usize, room: &mut Room) -> Result<bool, AllocError>
     requires { place < length lines.now }
     ensures { IfOk result (λ b. program_in (call_at lines.now place)
         ≡ (if b then Some room.new.name.items else None)) }
@@ -59,16 +59,16 @@ fn put_begin(lines: &Lines, place: usize, room: &mut Room) -> Result<bool, Alloc
 }
 
 // What is shown of a name.
-fn shown_in(alloc: Global, name: &[u8]) -> Result<Program, AllocError>
+fn shown_in(alloc: Global, name: &[u8]) -> Result<ProgramFile, AllocError>
     ensures { IfOk result (λ p. p.name.items ≡ name_shown 80 name.now) }
 {
     let mut shown: Vec<u8> = Vec::new(alloc);
     push_name(&mut shown, name, SHOWN)?;
-    Ok(Program { name: shown })
+    Ok(ProgramFile { name: shown })
 }
 
 /// Of which process each line's thread is.
-pub(crate) fn owners_of(alloc: Global, lines: &Lines, made: &Made) -> Result<Vec<u64>, AllocError>
+pub(crate) fn owners_of(alloc: Global, lines: &KeptLines, made: &Made) -> Result<Vec<u64>, AllocError>
     ensures { IfOk result (λ owned. owned.items ≡ owners made.now lines.now) }
 {
     let mut owned: Vec<u64> = Vec::new(alloc);
@@ -93,7 +93,7 @@ fn note_begun(begun: &mut HashMap<u64, usize>, number: u64, place: usize) -> Res
 // Notes whether a process begins a program at this line.
 fn hear_begun(
     begun: &mut HashMap<u64, usize>,
-    lines: &Lines,
+    lines: &KeptLines,
     owned: &[u64],
     place: usize,
     room: &mut Room,
@@ -113,7 +113,7 @@ fn hear_begun(
 /// The line at which each process began its last program.
 pub(crate) fn read_begun(
     alloc: Global,
-    lines: &Lines,
+    lines: &KeptLines,
     owned: &[u64],
     room: &mut Room,
 ) -> Result<HashMap<u64, usize>, AllocError>
@@ -133,10 +133,10 @@ pub(crate) fn read_begun(
 // What is shown of the program that begins at this line.
 fn shown_at(
     alloc: Global,
-    lines: &Lines,
+    lines: &KeptLines,
     place: usize,
     room: &mut Room,
-) -> Result<Program, AllocError>
+) -> Result<ProgramFile, AllocError>
     requires { place < length lines.now }
     ensures { IfOk result (λ p. program_name p ≡ name_shown 80 (program_at lines.now (Some place))) }
 {
@@ -150,12 +150,12 @@ fn shown_at(
 /// The program that the process of this number began last, as it is known where each did.
 pub(crate) fn program_of(
     alloc: Global,
-    lines: &Lines,
+    lines: &KeptLines,
     owned: &[u64],
     begun: &HashMap<u64, usize>,
     number: u64,
     room: &mut Room,
-) -> Result<Program, AllocError>
+) -> Result<ProgramFile, AllocError>
     requires { (q : ℕ) → get nat_eq begun.now q ≡ last_begun lines.now owned.now (length lines.now) q }
     ensures { IfOk result (λ p. program_name p ≡ program_of lines.now owned.now number) }
 {
@@ -168,16 +168,16 @@ pub(crate) fn program_of(
 // The programs of these processes.
 fn programs_of(
     alloc: Global,
-    lines: &Lines,
+    lines: &KeptLines,
     owned: &[u64],
     begun: &HashMap<u64, usize>,
     processes: &[Process],
     room: &mut Room,
-) -> Result<Vec<Program>, AllocError>
+) -> Result<Vec<ProgramFile>, AllocError>
     requires { (q : ℕ) → get nat_eq begun.now q ≡ last_begun lines.now owned.now (length lines.now) q }
     ensures { IfOk result (λ all. map program_name all.items ≡ programs_of lines.now owned.now processes.now) }
 {
-    let mut all: Vec<Program> = Vec::new(alloc);
+    let mut all: Vec<ProgramFile> = Vec::new(alloc);
     let mut at = 0;
     'processes: while at < processes.len() {
         let program = program_of(alloc, lines, owned, begun, processes[at].number, room)?;
@@ -190,11 +190,11 @@ fn programs_of(
 /// The programs that the processes began last, in 80 bytes each, where there are several processes; none where there is one.
 pub(crate) fn read_programs(
     alloc: Global,
-    lines: &Lines,
+    lines: &KeptLines,
     made: &Made,
     processes: &[Process],
     room: &mut Room,
-) -> Result<Vec<Program>, AllocError>
+) -> Result<Vec<ProgramFile>, AllocError>
     ensures { IfOk result (λ all. map program_name all.items ≡ programs_for lines.now made.now processes.now) }
 {
     if processes.len() < 2 {

@@ -7,7 +7,7 @@ use trace_text::number_text;
 
 /// A piece of shared memory, or a mapping of one.
 #[derive(Clone, Copy)]
-pub struct Piece {
+pub struct SharedSegment {
     /// Its number, or where it is mapped.
     pub key: u64,
     /// How many bytes it has.
@@ -15,7 +15,7 @@ pub struct Piece {
 }
 
 /// How many bytes the piece has, as was said last.
-pub(crate) fn len_of(pieces: &[Piece], key: u64) -> Option<u64>
+pub(crate) fn len_of(pieces: &[SharedSegment], key: u64) -> Option<u64>
     ensures { result ≡ len_of key pieces.now }
 {
     let mut at = pieces.len();

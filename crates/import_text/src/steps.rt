@@ -9,7 +9,7 @@ use vm_base::{CoreId, Flags, Prot, Request};
 
 /// A request of a trace, and the core whose it is.
 #[derive(Clone, Copy)]
-pub struct Step {
+pub struct TraceRequest {
     /// The core that makes it.
     pub core: CoreId,
     /// The name of the file whose pages a mapping of anonymous pages is for, where one is.
@@ -58,17 +58,17 @@ pub(crate) struct Head {
 
 /// Requests, in order. A clause sees them as a list.
 #[derive(Drop)]
-pub struct Steps {
+pub struct TraceRequests {
     heads: Vec<Head>,
     numbers: Vec<u64>,
 }
 
-impl Model for Steps {
+impl Model for TraceRequests {
     ghost use Rattle.std.specs.Prelude.{◌≡◌, List, length};
     ghost use Rattle.import_text.specs.Steps.{steps_kept, widths};
-    ghost use Rattle.import_text.specs.declared.steps.Step.{Step};
+    ghost use Rattle.import_text.specs.declared.steps.TraceRequest.{TraceRequest};
 
-    ghost Value = { List Step };
+    ghost Value = { List TraceRequest };
 
     ghost view = { λ s. steps_kept s.heads.items s.numbers.items };
 
@@ -296,7 +296,7 @@ fn request_of(shape: Shape, numbers: &[u64]) -> Request
 
 /// The first of some requests, and what the others have.
 #[tactic(auto, using(crate::proofs::StepLemmas::steps_front, crate::proofs::StepLemmas::widths_front))]
-pub(crate) fn front_step<'a>(heads: &'a [Head], numbers: &'a [u64]) -> (Step, &'a [Head], &'a [u64])
+pub(crate) fn front_step<'a>(heads: &'a [Head], numbers: &'a [u64]) -> (TraceRequest, &'a [Head], &'a [u64])
     requires some { 0 < length heads.now }
     requires whole { widths heads.now ≤ length numbers.now }
     ensures step { steps_kept heads.now numbers.now ≡ result.0 ∷ steps_kept result.1.now result.2.now }
@@ -309,7 +309,7 @@ pub(crate) fn front_step<'a>(heads: &'a [Head], numbers: &'a [u64]) -> (Step, &'
     let request = request_of(shape, numbers);
     let (_, later) = heads.split_at(1);
     let (_, behind) = numbers.split_at(shape_width(shape));
-    let step = Step {
+    let step = TraceRequest {
         core,
         name,
         request,
@@ -317,15 +317,15 @@ pub(crate) fn front_step<'a>(heads: &'a [Head], numbers: &'a [u64]) -> (Step, &'
     (step, later, behind)
 }
 
-impl Steps {
+impl TraceRequests {
     ghost use Rattle.std.specs.Prelude.{◌≡◌, ◌≤◌, ◌∷◌, ◌++◌, [], IfOk, OnErr, OnOk, length};
     ghost use Rattle.import_text.specs.Steps.{steps_kept, widths};
 
     /// No request.
-    pub fn new(alloc: Global) -> Steps
+    pub fn new(alloc: Global) -> TraceRequests
         ensures { result ≡ [] }
     {
-        Steps {
+        TraceRequests {
             heads: Vec::new(alloc),
             numbers: Vec::new(alloc),
         }
@@ -333,11 +333,11 @@ impl Steps {
 
     /// Adds a request. Where there is no memory they stay as they are.
     #[tactic(auto, using(crate::proofs::StepLemmas::steps_push, crate::proofs::StepLemmas::widths_push))]
-    pub fn push(&mut self, step: Step) -> Result<(), AllocError>
+    pub fn push(&mut self, step: TraceRequest) -> Result<(), AllocError>
         ensures ok { OnOk result (self.new ≡ self.old ++ step ∷ []) }
         ensures err { OnErr result (self.new ≡ self.old) }
     {
-        let Step {
+        let TraceRequest {
             core,
             name,
             request,
@@ -372,11 +372,11 @@ impl Steps {
     }
 
     /// The same once more.
-    pub fn copy(&self, alloc: Global) -> Result<Steps, AllocError>
+    pub fn copy(&self, alloc: Global) -> Result<TraceRequests, AllocError>
         ensures { IfOk result (λ copy. copy ≡ self.now) }
     {
         let heads = Vec::from_slice(alloc, self.heads.as_slice())?;
         let numbers = Vec::from_slice(alloc, self.numbers.as_slice())?;
-        Ok(Steps { heads, numbers })
+        Ok(TraceRequests { heads, numbers })
     }
 }

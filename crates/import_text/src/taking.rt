@@ -9,8 +9,8 @@ ghost use Rattle.import_text.specs.Taking.{as_shared, attached_with, detached_wi
 ghost use Rattle.import_text.specs.Taking.{keyed_with, sized_with};
 
 use crate::names::{NO_NAME, Name, note_name};
-use crate::shared::{Piece, len_of, memory_name};
-use crate::steps::{Step, Steps};
+use crate::shared::{SharedSegment, len_of, memory_name};
+use crate::steps::{TraceRequest, TraceRequests};
 use import_forms::said::{Lost, Said};
 use std::alloc::{AllocError, Global};
 use vm_base::limits::{FILE_BYTES, FILE_COUNT};
@@ -38,13 +38,13 @@ pub struct Taken {
     /// Where the heap ends, once a line has said so.
     pub heap_end: Option<u64>,
     /// Shared memory by its numbers; of several that have one number the last counts.
-    pub pieces: Vec<Piece>,
+    pub pieces: Vec<SharedSegment>,
     /// Shared memory by the addresses at which it was attached, of no bytes where their number isn't known; the last counts.
-    pub attached: Vec<Piece>,
+    pub attached: Vec<SharedSegment>,
     /// The names of files that became anonymous pages, one after another.
     pub names: Vec<u8>,
     /// The requests.
-    pub steps: Steps,
+    pub steps: TraceRequests,
 }
 
 /// A mapping that a line asks for, where the kernel placed it.
@@ -64,7 +64,7 @@ pub struct Mapping {
 
 /// How a line is changed.
 #[derive(Clone, Copy)]
-pub enum Change {
+pub enum LineChange {
     /// `brk`, as `mmap` or `munmap` of the pages between.
     Heap,
     /// `mremap`, as `munmap` and `mmap` of anonymous pages: their bytes are lost.
@@ -105,7 +105,7 @@ pub enum Fate {
     /// It is a request, with its numbers.
     Kept,
     /// It is changed.
-    Changed(Change),
+    Changed(LineChange),
     /// It is left out.
     Left(Reason),
 }
@@ -202,7 +202,7 @@ fn ask_of(taken: &mut Taken, thread: u64, name: Name, request: Request) -> Resul
         taken.threads.push(thread)?;
     }
     let core = CoreId::new((place % 64) as u8);
-    taken.steps.push(Step {
+    taken.steps.push(TraceRequest {
         core,
         name,
         request,
@@ -336,7 +336,7 @@ pub fn take_file(
             off,
         },
     )?;
-    Ok(Fate::Changed(Change::File))
+    Ok(Fate::Changed(LineChange::File))
 }
 
 // Adds a mapping, of the file of this name where it is of one.
@@ -396,7 +396,7 @@ fn take_heap(taken: &mut Taken, thread: u64, old: u64, new: u64) -> Result<Fate,
 {
     if old < new {
         ask_pages(taken, thread, old, new - old)?;
-        return Ok(Fate::Changed(Change::Heap));
+        return Ok(Fate::Changed(LineChange::Heap));
     }
     if new < old {
         ask(
@@ -407,7 +407,7 @@ fn take_heap(taken: &mut Taken, thread: u64, old: u64, new: u64) -> Result<Fate,
                 len: old - new,
             },
         )?;
-        return Ok(Fate::Changed(Change::Heap));
+        return Ok(Fate::Changed(LineChange::Heap));
     }
     Ok(Fate::Left(Reason::Still))
 }
@@ -443,7 +443,7 @@ fn take_resized(
 {
     if old < new {
         ask_pages(taken, thread, from + old, new - old)?;
-        return Ok(Fate::Changed(Change::Move));
+        return Ok(Fate::Changed(LineChange::Move));
     }
     if new < old {
         ask(
@@ -454,7 +454,7 @@ fn take_resized(
                 len: old - new,
             },
         )?;
-        return Ok(Fate::Changed(Change::Move));
+        return Ok(Fate::Changed(LineChange::Move));
     }
     Ok(Fate::Left(Reason::Still))
 }
@@ -487,14 +487,14 @@ fn take_move(
         },
     )?;
     ask_pages(taken, thread, to, new)?;
-    Ok(Fate::Changed(Change::Move))
+    Ok(Fate::Changed(LineChange::Move))
 }
 
 // Notes that the shared memory of this number has this many bytes.
 fn take_size(taken: &mut Taken, number: u64, len: u64) -> Result<Fate, AllocError>
     ensures { IfOk result (λ fate. (so_far taken.new, fate) ≡ sized_with (so_far taken.old) number len) }
 {
-    taken.pieces.push(Piece { key: number, len })?;
+    taken.pieces.push(SharedSegment { key: number, len })?;
     Ok(Fate::Left(Reason::Other))
 }
 
@@ -503,7 +503,7 @@ fn as_shared(fate: Fate) -> Fate
     ensures { result ≡ as_shared fate }
 {
     match fate {
-        Fate::Kept => Fate::Changed(Change::Shared),
+        Fate::Kept => Fate::Changed(LineChange::Shared),
         Fate::Changed(change) => Fate::Changed(change),
         Fate::Left(reason) => Fate::Left(reason),
     }
@@ -523,7 +523,7 @@ fn take_memory(
         ≡ attached_with (so_far taken.old) thread number mapping.addr mapping.prot (Some mapping.len)) }
 {
     let name = memory_name(alloc, number)?;
-    taken.attached.push(Piece {
+    taken.attached.push(SharedSegment {
         key: mapping.addr,
         len: mapping.len,
     })?;
@@ -555,7 +555,7 @@ fn take_attach(
             take_memory(alloc, taken, thread, number, mapping)
         }
         None => {
-            taken.attached.push(Piece { key: addr, len: 0 })?;
+            taken.attached.push(SharedSegment { key: addr, len: 0 })?;
             Ok(Fate::Left(Reason::Lost(Lost::Attach)))
         }
     }
@@ -572,7 +572,7 @@ fn take_detach(taken: &mut Taken, thread: u64, addr: u64) -> Result<Fate, AllocE
                 return Ok(Fate::Left(Reason::Lost(Lost::Detach)));
             }
             ask(taken, thread, Request::Munmap { addr, len })?;
-            Ok(Fate::Changed(Change::Shared))
+            Ok(Fate::Changed(LineChange::Shared))
         }
         None => Ok(Fate::Left(Reason::Lost(Lost::Detach))),
     }
@@ -583,7 +583,7 @@ fn take_keyed(taken: &mut Taken, thread: u64, request: Request) -> Result<Fate, 
     ensures { IfOk result (λ fate. (so_far taken.new, fate) ≡ keyed_with (so_far taken.old) thread request) }
 {
     ask(taken, thread, request)?;
-    Ok(Fate::Changed(Change::Key))
+    Ok(Fate::Changed(LineChange::Key))
 }
 
 // Adds a request as it stands, except for a mapping's file.
@@ -664,7 +664,7 @@ impl Taken {
             pieces: Vec::new(alloc),
             attached: Vec::new(alloc),
             names: Vec::new(alloc),
-            steps: Steps::new(alloc),
+            steps: TraceRequests::new(alloc),
         }
     }
 

@@ -5,7 +5,7 @@ ghost use Rattle.import_text.specs.Made.{began_at, last_line, or_here, said_at, 
 ghost use Rattle.import_text.specs.Told.{Hears};
 
 use crate::joining::{Room, half_text, told_at};
-use crate::lines::Lines;
+use crate::lines::KeptLines;
 use crate::meter::{Meter, tell_of};
 use import_forms::said::Said;
 use import_forms::speech::returned;
@@ -14,7 +14,7 @@ use std::collections::HashMap;
 
 /// What a line tells of a thread that was made.
 #[derive(Clone, Copy)]
-pub struct Telling {
+pub struct CloneLine {
     /// Its number.
     pub child: u64,
     /// The number of the thread that made it.
@@ -31,7 +31,7 @@ pub struct Telling {
 #[derive(Drop)]
 pub(crate) struct Heard {
     /// The threads that they say were made, in order.
-    pub(crate) tellings: Vec<Telling>,
+    pub(crate) tellings: Vec<CloneLine>,
     /// The line at which each thread begins its first program.
     pub(crate) starts: HashMap<u64, usize>,
     // Each thread's last line.
@@ -49,7 +49,7 @@ fn last_or(last: &HashMap<u64, usize>, thread: u64, place: usize) -> usize
 }
 
 // The line in which the call began that acts at this one, as it is known which line is each thread's last before it.
-fn began_at(last: &HashMap<u64, usize>, lines: &Lines, place: usize) -> usize
+fn began_at(last: &HashMap<u64, usize>, lines: &KeptLines, place: usize) -> usize
     requires place { place < length lines.now }
     requires last { (t : ℕ) → get nat_eq last.now t ≡ last_line lines.now place t }
     ensures { result ≡ began_at lines.now place }
@@ -84,10 +84,10 @@ pub(crate) fn starts_program(said: Said) -> bool
 // What this line tells of a thread that was made.
 fn telling_of(
     last: &HashMap<u64, usize>,
-    lines: &Lines,
+    lines: &KeptLines,
     place: usize,
     said: Said,
-) -> Option<Telling>
+) -> Option<CloneLine>
     requires place { place < length lines.now }
     requires last { (t : ℕ) → get nat_eq last.now t ≡ last_line lines.now place t }
     ensures { result ≡ telling_of lines.now place (Some said) }
@@ -97,7 +97,7 @@ fn telling_of(
             thread,
             shares,
             joins,
-        } => Some(Telling {
+        } => Some(CloneLine {
             child: thread,
             parent: lines.thread(place),
             shares,
@@ -122,7 +122,7 @@ fn telling_of(
 /// What the call says that acts at this line, if one does.
 #[tactic(auto, using(crate::proofs::HalfLemmas::said_told))]
 pub(crate) fn said_at(
-    lines: &Lines,
+    lines: &KeptLines,
     place: usize,
     room: &mut Room,
 ) -> Result<Option<Said>, AllocError>
@@ -135,9 +135,9 @@ pub(crate) fn said_at(
 
 // Notes what this line tells of a thread that was made.
 fn hear_telling(
-    tellings: &mut Vec<Telling>,
+    tellings: &mut Vec<CloneLine>,
     last: &HashMap<u64, usize>,
-    lines: &Lines,
+    lines: &KeptLines,
     place: usize,
     said: Option<Said>,
 ) -> Result<(), AllocError>
@@ -200,7 +200,7 @@ fn note_last(last: &mut HashMap<u64, usize>, thread: u64, place: usize) -> Resul
 // Notes what one more line tells.
 fn hear_line(
     heard: &mut Heard,
-    lines: &Lines,
+    lines: &KeptLines,
     place: usize,
     room: &mut Room,
 ) -> Result<(), AllocError>
@@ -219,7 +219,7 @@ fn hear_line(
 /// What all lines tell.
 pub(crate) fn hear_all<M: Meter>(
     alloc: Global,
-    lines: &Lines,
+    lines: &KeptLines,
     room: &mut Room,
     meter: &mut M,
 ) -> Result<Heard, AllocError>

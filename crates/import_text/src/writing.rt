@@ -9,7 +9,7 @@ ghost use Rattle.import_text.specs.Texts.{asked_text, backing_text, first_line, 
 ghost use Rattle.import_text.specs.Texts.{step_line, step_text, use_line, use_lines, use_text};
 
 use crate::names::{NAME, NAME_OF_RANGE, Name, bare, name_at, push_name};
-use crate::steps::{Step, Steps, front_step};
+use crate::steps::{TraceRequest, TraceRequests, front_step};
 use crate::taking::{FileUse, Taken};
 use std::alloc::{AllocError, Global};
 use trace_text::{LineText, push_address, push_count, push_letter, push_number, push_rights};
@@ -225,7 +225,7 @@ fn push_note(
 }
 
 // Appends the line of a request, after its comment.
-fn push_step(all: &mut Vec<u8>, names: &[u8], step: Step) -> Result<(), AllocError>
+fn push_step(all: &mut Vec<u8>, names: &[u8], step: TraceRequest) -> Result<(), AllocError>
     ensures { OnOk result (all.new.items ≡ all.old.items ++ step_text names.now step) }
 {
     push_note(all, names, step.name, step.request)?;
@@ -236,7 +236,7 @@ fn push_step(all: &mut Vec<u8>, names: &[u8], step: Step) -> Result<(), AllocErr
 }
 
 // Appends the lines of the requests, by the names of their files.
-fn push_steps(all: &mut Vec<u8>, names: &[u8], steps: &Steps) -> Result<(), AllocError>
+fn push_steps(all: &mut Vec<u8>, names: &[u8], steps: &TraceRequests) -> Result<(), AllocError>
     ensures { OnOk result (all.new.items ≡ all.old.items ++ flat_map (step_text names.now) steps.now) }
 {
     let (mut heads, mut numbers) = steps.parts();

@@ -8,10 +8,10 @@ use Rattle.litmus_outcomes.specs.declared.outcome.Outcomes.{Outcomes}
 use Rattle.litmus.specs.Kernels.{Judges}
 use Rattle.litmus.specs.Live.{CountsLive, FailsLive, IsUnrun, TellsLive}
 use Rattle.litmus.specs.Tells.{Lists}
-use Rattle.litmus.specs.declared.faults.RunFault.{RunFault}
+use Rattle.litmus.specs.declared.faults.TestFault.{TestFault}
 
 -- no run came to an outcome, as of a test that the lines are
-pub unrun : (lines : List (List ℕ)) (r : Read) (fault : RunFault) → litmus_of lines ≡ Ok r → IsUnrun r fault → FailsLive lines fault
+pub unrun : (lines : List (List ℕ)) (r : Read) (fault : TestFault) → litmus_of lines ≡ Ok r → IsUnrun r fault → FailsLive lines fault
 unrun lines r fault is (inl want) = inl (inl want)
 unrun lines r fault is (inr (inl untold)) = inr (inr (inl (r, is, untold)))
 unrun lines r fault is (inr (inr none)) = inr (inr (inr none))

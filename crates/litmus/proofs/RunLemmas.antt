@@ -15,12 +15,12 @@ use Rattle.seats.specs.declared.noted.Noted.{Noted}
 use Rattle.live_levels.specs.declared.close.SlotHistory.{SlotHistory}
 use Rattle.certifier.specs.Following.{IsCertified, events_in_order, outcomes_in_order}
 use Rattle.litmus_merges.specs.declared.asked.Asked.{Asked}
-use Rattle.trace_words.specs.Declarations.{Asked as Declared, made_by}
+use Rattle.trace_words.specs.Declarations.{DeclarationView, made_by}
 use Rattle.litmus_report.specs.Counts.{bytes_of}
 use Rattle.litmus.specs.Runs.{ComeTo, ComesOut, IsRunOf, Shown, text_of}
 
 -- what is certified is a run of a machine as it is declared
-pub is_run : (parts : PageRange → ℕ → ℕ → Bool) (CanFold : Slots → ℕ → Type 0) (Folds : Slots → Slots → ℕ → Type 0) (declared : Declared)
+pub is_run : (parts : PageRange → ℕ → ℕ → Bool) (CanFold : Slots → ℕ → Type 0) (Folds : Slots → Slots → ℕ → Type 0) (declared : DeclarationView)
     (setup : Setup Global) (notes : List Noted) (slots : List (SlotHistory Global)) (answered : ℕ) → made_of setup ≡ made_by declared
     → IsCertified parts CanFold Folds setup notes slots answered → IsRunOf declared notes
 is_run parts CanFold Folds declared setup notes slots answered made c = record {
@@ -31,7 +31,7 @@ is_run parts CanFold Folds declared setup notes slots answered made c = record {
   run = subst (λ (m : MadeOf). Run (new_world m c.slots) (events_in_order notes) (outcomes_in_order notes) c.run.end) made c.run.run;
 }
 
-module _ (declared : Declared) (before calls loads : List Asked) (addrs : List ℕ) where
+module _ (declared : DeclarationView) (before calls loads : List Asked) (addrs : List ℕ) where
   -- no run came to no text
   pub none_come : (texts : List (List ℕ)) → texts ≡ [] → ComeTo declared before calls loads addrs 0 texts
   none_come texts is = record { came = []; count = refl; each = λ k d lt. absurd (omega (arith, lt)); are = is }

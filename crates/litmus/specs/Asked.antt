@@ -3,17 +3,17 @@ use Rattle.std.specs.Prelude.{ℕ, List}
 use Rattle.litmus.specs.Kernels.{FailsObserved, FailsProgram, TellsObserved, TellsProgram}
 use Rattle.litmus.specs.Live.{FailsLive, TellsLive}
 use Rattle.litmus.specs.Tells.{Fails, Tells}
-use Rattle.litmus.specs.declared.faults.RunFault.{RunFault}
-use Rattle.litmus.specs.declared.telling.Wanted.{Wanted}
-use Rattle.litmus.specs.declared.telling.Wanted.TheVariants.{Outcomes as Asks, Program, Observed, Live}
+use Rattle.litmus.specs.declared.faults.TestFault.{TestFault}
+use Rattle.litmus.specs.declared.telling.LitmusAsk.{LitmusAsk}
+use Rattle.litmus.specs.declared.telling.LitmusAsk.TheVariants.{Outcomes as Asks, Program, Observed, Live}
 
-abbrev pub TellsAs : Type 0 → List ℕ → Wanted → ℕ → List (List ℕ) → List (List ℕ) → List ℕ → ℕ → Type 0
+abbrev pub TellsAs : Type 0 → List ℕ → LitmusAsk → ℕ → List (List ℕ) → List (List ℕ) → List ℕ → ℕ → Type 0
 TellsAs A name (Asks view) limit counts lines text status = Tells A name view limit lines text status
 TellsAs A name Program limit counts lines text status = TellsProgram lines text status
 TellsAs A name Observed limit counts lines text status = TellsObserved A limit counts lines text status
 TellsAs A name (Live runs) limit counts lines text status = TellsLive limit runs lines text status
 
-abbrev pub FailsAs : Wanted → List (List ℕ) → List (List ℕ) → RunFault → Type 0
+abbrev pub FailsAs : LitmusAsk → List (List ℕ) → List (List ℕ) → TestFault → Type 0
 FailsAs (Asks view) counts lines fault = Fails view lines fault
 FailsAs Program counts lines fault = FailsProgram lines fault
 FailsAs Observed counts lines fault = FailsObserved counts lines fault

@@ -10,13 +10,13 @@ use Rattle.seats.specs.declared.noted.Noted.{Noted}
 use Rattle.certifier.specs.Following.{IsNewTree, events_in_order, outcomes_in_order}
 use Rattle.certifier.specs.Order.{AreNumbered}
 use Rattle.litmus_merges.specs.declared.asked.Asked.{Asked}
-use Rattle.trace_words.specs.Declarations.{Asked as Declared, made_by}
+use Rattle.trace_words.specs.Declarations.{DeclarationView, made_by}
 use Rattle.litmus_outcomes.specs.Performed.{PerformsScript}
 use Rattle.litmus_report.specs.Texts.{outcome_text}
 use Rattle.litmus.specs.Counts.{lines_behind}
 
 -- The notes have the tickets below their number, each once, and in order of these they are a run of a new machine as it is declared.
-pub record IsRunOf (declared : Declared) (notes : List Noted) : Type 0 where
+pub record IsRunOf (declared : DeclarationView) (notes : List Noted) : Type 0 where
   pub numbered : AreNumbered notes
   pub slots : Slots
   pub new : IsNewTree slots
@@ -47,7 +47,7 @@ pub record ReadsAs (before calls loads : List Asked) (replies finals : List Repl
     pub shows : PerformsScript loads finals last lasts
 
 -- what threads noted is such a run, and is read so
-pub record ComesOut (declared : Declared) (before calls loads : List Asked) (replies finals : List Reply) : Type 0 where
+pub record ComesOut (declared : DeclarationView) (before calls loads : List Asked) (replies finals : List Reply) : Type 0 where
   pub notes : List Noted
   pub run : IsRunOf declared notes
   pub reads : ReadsAs before calls loads replies finals (events_in_order notes) (outcomes_in_order notes)
@@ -62,14 +62,14 @@ abbrev pub text_of : List Asked → List ℕ → Shown → List ℕ
 text_of calls addrs s = outcome_text calls addrs false (record { replies = s.replies; finals = s.finals; maps = []; reached = true })
 
 -- so many runs came to these texts, one after another
-pub record ComeTo (declared : Declared) (before calls loads : List Asked) (addrs : List ℕ) (runs : ℕ) (texts : List (List ℕ)) : Type 0 where
+pub record ComeTo (declared : DeclarationView) (before calls loads : List Asked) (addrs : List ℕ) (runs : ℕ) (texts : List (List ℕ)) : Type 0 where
   pub came : List Shown
   pub count : length came ≡ runs
   pub each : All (λ s. ComesOut declared before calls loads s.replies s.finals) came
   pub are : texts ≡ map (text_of calls addrs) came
 
 -- the text counts what so many runs came to
-pub record CountsRuns (declared : Declared) (before calls loads : List Asked) (addrs : List ℕ) (runs : ℕ) (text : List ℕ) : Type 0 where
+pub record CountsRuns (declared : DeclarationView) (before calls loads : List Asked) (addrs : List ℕ) (runs : ℕ) (text : List ℕ) : Type 0 where
   pub texts : List (List ℕ)
   pub come : ComeTo declared before calls loads addrs runs texts
   pub is : text ≡ lines_behind [] texts

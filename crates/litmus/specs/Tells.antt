@@ -2,7 +2,7 @@
 use Rattle.std.specs.Prelude.{◌≡◌, ◌⊎◌, ℕ, ◌+◌, Bool, false, List, map, slice_get, is_some, Some, Vec, Ok, Err}
 use Rattle.std.specs.List.{flat_map}
 use Rattle.machine_model.specs.declared.event.Event.{Event}
-use Rattle.trace_words.specs.Declarations.{Asked, made_by}
+use Rattle.trace_words.specs.Declarations.{DeclarationView, made_by}
 use Rattle.trace_io.specs.declared.fault.IoFault.TheVariants as IoOf
 use Rattle.litmus_text.specs.Scripts.{Read, litmus_of}
 use Rattle.litmus_text.specs.declared.faults.LitmusFault.{LitmusFault}
@@ -12,22 +12,22 @@ use Rattle.litmus_report.specs.Verdicts.{Outcome as Ended}
 use Rattle.litmus_report.specs.Witness.{IsTrace}
 use Rattle.litmus_report.specs.declared.reporting.Searched.{Searched}
 use Rattle.litmus_outcomes.specs.Outcomes.{AreLines, AreOutcomes}
-use Rattle.litmus_outcomes.specs.declared.outcome.Outcome.{Outcome}
+use Rattle.litmus_outcomes.specs.declared.outcome.LitmusOutcome.{LitmusOutcome}
 use Rattle.litmus_outcomes.specs.declared.outcome.Outcomes.{Outcomes}
 use Rattle.litmus.specs.Lists.{row_line}
 use Rattle.litmus.specs.Opening.{opened_of}
-use Rattle.litmus.specs.declared.faults.RunFault.{RunFault}
-use Rattle.litmus.specs.declared.faults.RunFault.TheVariants as Why
-use Rattle.litmus.specs.declared.telling.View.{View}
-use Rattle.litmus.specs.declared.telling.View.TheVariants as Shown
+use Rattle.litmus.specs.declared.faults.TestFault.{TestFault}
+use Rattle.litmus.specs.declared.faults.TestFault.TheVariants as Why
+use Rattle.litmus.specs.declared.telling.Listing.{Listing}
+use Rattle.litmus.specs.declared.telling.Listing.TheVariants as Shown
 
 -- an outcome as it is told
-abbrev pub ended : {A : Type 0} → Outcome A → Ended
+abbrev pub ended : {A : Type 0} → LitmusOutcome A → Ended
 ended o = record { replies = o.replies.items; finals = o.finals.items; maps = o.maps.items; reached = is_some o.witness }
 
 -- The outcomes are those of the test's calls behind its opening, on the machine that it declares.
 pub record Lists {A : Type 0} (r : Read) (found : Outcomes A) : Type 0 where
-  pub asked : Asked
+  pub asked : DeclarationView
   pub is : r.asked ≡ Some asked
   pub opening : AreLines (flat_map opened_of r.opening) found.opening.items
   pub outcomes : AreOutcomes (made_by asked) r.calls r.finals r.maps found
@@ -63,25 +63,25 @@ pub record Witnesses {A : Type 0} (r : Read) (found : Outcomes A) (number : ℕ)
   pub row : Vec ℕ A × ℕ
   pub numbered : number ≡ place + 1
   pub is_row : slice_get rows place ≡ Some row
-  pub outcome : Outcome A
+  pub outcome : LitmusOutcome A
   pub is_outcome : slice_get found.list.items row.1 ≡ Some outcome
   pub events : Vec Event A
   pub witness : outcome.witness ≡ Some events
   pub is : IsTrace (row_text row) r.front events.items text
 
 -- what is written of the outcomes, and the status
-abbrev pub Shows : {A : Type 0} → View → List ℕ → Read → Outcomes A → ℕ → List ℕ → Type 0
+abbrev pub Shows : {A : Type 0} → Listing → List ℕ → Read → Outcomes A → ℕ → List ℕ → Type 0
 Shows Shown.Report name r found limit text = Reports name r found limit text
 Shows Shown.List name r found limit text = ListsAll r found text
 Shows (Shown.Witness number) name r found limit text = Witnesses r found number text
 
-abbrev pub status_at : {A : Type 0} → View → Read → Outcomes A → ℕ
+abbrev pub status_at : {A : Type 0} → Listing → Read → Outcomes A → ℕ
 status_at Shown.Report r found = status_of (known_of r found) found.whole r.clauses
 status_at Shown.List r found = status_of (known_of r found) found.whole r.clauses
 status_at (Shown.Witness number) r found = 0
 
 -- The test that the lines are has such outcomes, and this is written of them.
-pub record Tells (A : Type 0) (name : List ℕ) (view : View) (limit : ℕ) (lines : List (List ℕ)) (text : List ℕ) (status : ℕ) : Type 0
+pub record Tells (A : Type 0) (name : List ℕ) (view : Listing) (limit : ℕ) (lines : List (List ℕ)) (text : List ℕ) (status : ℕ) : Type 0
   where
     pub test : Read
     pub is : litmus_of lines ≡ Ok test
@@ -91,17 +91,17 @@ pub record Tells (A : Type 0) (name : List ℕ) (view : View) (limit : ℕ) (lin
     pub status_is : status ≡ status_at view test found
 
 -- want of memory, or an opening that leaves a call open
-abbrev pub IsLate : RunFault → Type 0
+abbrev pub IsLate : TestFault → Type 0
 IsLate fault = (fault ≡ Why.Text (TextOf.Io IoOf.NoMemory)) ⊎ ((core : ℕ) × (fault ≡ Why.Open core))
 
 -- the view asks for this outcome
-abbrev pub IsMissing : View → RunFault → Type 0
+abbrev pub IsMissing : Listing → TestFault → Type 0
 IsMissing view fault = (number : ℕ) × (view ≡ Shown.Witness number)
     × ((fault ≡ Why.NoOutcome number) ⊎ (fault ≡ Why.NoWitness number))
 
-abbrev pub IsUnshown : View → RunFault → Type 0
+abbrev pub IsUnshown : Listing → TestFault → Type 0
 IsUnshown view fault = IsLate fault ⊎ IsMissing view fault
 
 -- Nothing is told: for the first fault of the text, for want of memory, for the opening, or for an outcome that isn't there.
-abbrev pub Fails : View → List (List ℕ) → RunFault → Type 0
+abbrev pub Fails : Listing → List (List ℕ) → TestFault → Type 0
 Fails view lines fault = IsUnshown view fault ⊎ ((f : LitmusFault) × (litmus_of lines ≡ Err f) × (fault ≡ Why.Text f))

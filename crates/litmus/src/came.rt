@@ -2,7 +2,7 @@
 ghost use Rattle.std.specs.Prelude.{true};
 
 use litmus_merges::Asked;
-use litmus_report::Ended;
+use litmus_report::HasOutcome;
 use trace_words::ScriptLine;
 use slot_lock::MapLine;
 use trace_words::declaration::Declaration;
@@ -32,7 +32,7 @@ pub struct Came {
     pub finals: Vec<Reply>,
 }
 
-impl Ended for Came {
+impl HasOutcome for Came {
     ghost use Rattle.std.specs.Prelude.{[], true};
 
     ghost outcome = { λ o. record { replies = o.replies.items; finals = o.finals.items; maps = []; reached = true } };

@@ -9,7 +9,7 @@ use trace_io::IoFault;
 
 /// Why nothing is told of a litmus test.
 #[derive(Clone, Copy, Debug, Error)]
-pub enum RunFault {
+pub enum TestFault {
     /// The text is none.
     #[error("{0}")]
     Text(LitmusFault),
@@ -40,14 +40,14 @@ pub enum RunFault {
 }
 
 /// Memory was refused.
-pub(crate) const NO_MEMORY: RunFault = RunFault::Text(LitmusFault::Io(IoFault::NoMemory));
+pub(crate) const NO_MEMORY: TestFault = TestFault::Text(LitmusFault::Io(IoFault::NoMemory));
 
 /// The same as a fault of the opening, or as want of memory. Of a test that was read the others never come.
-pub(crate) fn fault_by(fault: OutcomesFault) -> RunFault
+pub(crate) fn fault_by(fault: OutcomesFault) -> TestFault
     ensures { IsLate result }
 {
     match fault {
-        OutcomesFault::Open(core) => RunFault::Open(u64::from(core.index())),
+        OutcomesFault::Open(core) => TestFault::Open(u64::from(core.index())),
         OutcomesFault::Setup(_)
         | OutcomesFault::Placed
         | OutcomesFault::NotLed

@@ -1,4 +1,11 @@
-//! Litmus tests: a text is read, the outcomes of its calls are listed, and what comes of it is written.
+//! What is told of a litmus test, by a list of all its outcomes or by runs on threads.
+//!
+//! - `telling` (`tell_litmus`), `lists`, `faults`, `fault`: a text is read, its outcomes are listed, and what comes
+//!   of it is written.
+//! - `running` (`count_runs`), `calling`, `opening`, `came`, `counts`, `following`, `in_order`, `reading`, `lacking`:
+//!   runs on threads.
+//!
+//! It exists for `telling::tell_litmus`, and for `running::count_runs`: each run's notes are a run of a new machine.
 #![tactic(auto)]
 
 mod calling;
@@ -17,6 +24,6 @@ pub mod telling;
 
 pub use came::{Came, TestRun};
 pub use fault::LiveTestFault;
-pub use faults::RunFault;
+pub use faults::TestFault;
 pub use running::count_runs;
-pub use telling::{Told, View, Wanted, tell, tell_litmus, tell_live, tell_observed, tell_program};
+pub use telling::{Output, Listing, LitmusAsk, tell, tell_litmus, tell_live, tell_observed, tell_program};

@@ -3,7 +3,7 @@ ghost use Rattle.std.specs.Prelude.{◌≡◌, ◌++◌, IfOk, OnOk, map};
 ghost use Rattle.std.specs.List.{flat_map};
 ghost use Rattle.litmus.specs.Lists.{cell_text, cells_text, list_line, maps_cell, row_line};
 
-use litmus_report::{Ended, Row, add_mappings};
+use litmus_report::{HasOutcome, Row, add_mappings};
 use slot_lock::MapLine;
 use std::alloc::Allocator;
 use trace_text::{LineText, push_reply};
@@ -58,7 +58,7 @@ fn add_maps<A: Allocator>(
 }
 
 // Appends the line of an outcome.
-fn add_line<T: Ended, A: Allocator>(
+fn add_line<T: HasOutcome, A: Allocator>(
     out: &mut Vec<u8, A>,
     maps: bool,
     outcome: &T,
@@ -76,7 +76,7 @@ fn add_line<T: Ended, A: Allocator>(
 }
 
 // Appends the line of a row's outcome.
-fn add_row<T: Ended, A: Allocator>(
+fn add_row<T: HasOutcome, A: Allocator>(
     out: &mut Vec<u8, A>,
     maps: bool,
     outcomes: &[T],
@@ -92,7 +92,7 @@ fn add_row<T: Ended, A: Allocator>(
 
 /// The outcomes in the order of these rows: in a line the replies, what loads of the final addresses show, the mappings where they are
 /// asked for, and `open` where it isn't known to come about, divided by tabs.
-pub(crate) fn list_text<T: Ended, A: Allocator + Clone>(
+pub(crate) fn list_text<T: HasOutcome, A: Allocator + Clone>(
     alloc: &A,
     maps: bool,
     outcomes: &[T],

@@ -8,9 +8,9 @@ ghost use Rattle.litmus.specs.Asked.{FailsAs, TellsAs};
 ghost use Rattle.litmus.specs.Kernels.{FailsObserved, FailsProgram, IsUncalled, IsUncounted, IsWant, Judges, MakesCalls, TellsObserved, TellsProgram};
 ghost use Rattle.litmus.specs.Live.{CountsLive, FailsLive, IsUnrun, TellsLive};
 ghost use Rattle.std.specs.declared.alloc.Global.{Global as GlobalOf};
-ghost use Rattle.litmus.specs.declared.telling.View.TheVariants as ViewOf;
+ghost use Rattle.litmus.specs.declared.telling.Listing.TheVariants as ViewOf;
 
-use crate::faults::{NO_MEMORY, RunFault, fault_by};
+use crate::faults::{NO_MEMORY, TestFault, fault_by};
 use crate::lacking::may_lack;
 use crate::lists::list_text;
 use crate::opening::{are_called, calls_of, loads_of, opening_of, tasks_of};
@@ -19,8 +19,8 @@ use litmus_report::{
     Named, Program, Row, Searched, bad_count, in_order, judge_counts, program_of, report,
     status_of, trace_of,
 };
-use litmus_text::{LitmusFault, Script, read_litmus};
-use litmus_outcomes::{Outcome, Outcomes, list_outcomes};
+use litmus_text::{LitmusFault, LitmusTest, read_litmus};
+use litmus_outcomes::{LitmusOutcome, Outcomes, list_outcomes};
 use std::alloc::{Allocator, Global};
 use std::sync::Wait;
 use std::thread::Threads;
@@ -28,7 +28,7 @@ use vm_base::NoMemory;
 
 /// What is written of a litmus test.
 #[derive(Clone, Copy)]
-pub enum View {
+pub enum Listing {
     /// Its outcomes, and what its clauses come to.
     Report,
     /// The outcomes, one in a line, divided by tabs.
@@ -39,9 +39,9 @@ pub enum View {
 
 /// What is asked for of a litmus test.
 #[derive(Clone, Copy)]
-pub enum Wanted {
+pub enum LitmusAsk {
     /// Its outcomes, or a witness of one.
-    Outcomes(View),
+    Outcomes(Listing),
     /// A program that makes its calls to a kernel, as C.
     Program,
     /// Whether the outcomes that another system gave are among its outcomes.
@@ -52,7 +52,7 @@ pub enum Wanted {
 
 /// What is written, and the status that tells what the clauses come to.
 #[derive(Drop)]
-pub struct Told<A: Allocator> {
+pub struct Output<A: Allocator> {
     pub text: Vec<u8, A>,
     pub status: u8,
 }
@@ -60,9 +60,9 @@ pub struct Told<A: Allocator> {
 // The outcomes of a test.
 fn outcomes_of<A: Allocator + Clone + Drop>(
     alloc: &A,
-    script: &Script<A>,
+    script: &LitmusTest<A>,
     limit: usize,
-) -> Result<Outcomes<A>, RunFault>
+) -> Result<Outcomes<A>, TestFault>
     ensures ok { IfOk result (λ found. Lists (read_of script.now) found) }
     ensures err { IfErr result IsLate }
 {
@@ -94,7 +94,7 @@ fn outcomes_of<A: Allocator + Clone + Drop>(
 }
 
 // How many frames are declared.
-fn frames_of<A: Allocator>(script: &Script<A>) -> u64 {
+fn frames_of<A: Allocator>(script: &LitmusTest<A>) -> u64 {
     match &script.declaration {
         Some(declaration) => declaration.frames(),
         None => 0,
@@ -104,26 +104,26 @@ fn frames_of<A: Allocator>(script: &Script<A>) -> u64 {
 // The trace that is a witness of the outcome with this number.
 fn witness_text<A: Allocator + Clone>(
     alloc: &A,
-    script: &Script<A>,
+    script: &LitmusTest<A>,
     found: &Outcomes<A>,
     rows: &[Row<A>],
     number: u64,
-) -> Result<Vec<u8, A>, RunFault>
+) -> Result<Vec<u8, A>, TestFault>
     requires order { AreSorted (texts_of (known_of (read_of script.now) found.now)) rows.now }
     ensures ok { IfOk result (λ text. Witnesses (read_of script.now) found.now number text.items) }
     ensures err { IfErr result (IsUnshown (ViewOf.Witness number)) }
 {
     if number == 0 {
-        return Err(RunFault::NoOutcome(number));
+        return Err(TestFault::NoOutcome(number));
     }
     let Some(row) = rows.get((number - 1) as usize) else {
-        return Err(RunFault::NoOutcome(number));
+        return Err(TestFault::NoOutcome(number));
     };
     let Some(outcome) = found.list.as_slice().get(row.1) else {
-        return Err(RunFault::NoOutcome(number));
+        return Err(TestFault::NoOutcome(number));
     };
     let Some(events) = &outcome.witness else {
-        return Err(RunFault::NoWitness(number));
+        return Err(TestFault::NoWitness(number));
     };
     match trace_of(
         alloc,
@@ -138,7 +138,7 @@ fn witness_text<A: Allocator + Clone>(
 
 // How the search for outcomes ended, which are told with the mappings or without.
 fn searched_of<A: Allocator>(
-    script: &Script<A>,
+    script: &LitmusTest<A>,
     found: &Outcomes<A>,
     maps: bool,
     limit: usize,
@@ -164,7 +164,7 @@ fn searched_of<A: Allocator>(
 fn report_text<A: Allocator + Clone>(
     alloc: &A,
     name: &[u8],
-    script: &Script<A>,
+    script: &LitmusTest<A>,
     found: &Outcomes<A>,
     rows: &[Row<A>],
     limit: usize,
@@ -191,7 +191,7 @@ fn report_text<A: Allocator + Clone>(
 }
 
 // The program that makes the calls of a test to a kernel.
-fn program_text<A: Allocator + Clone>(alloc: &A, script: &Script<A>) -> Result<Vec<u8, A>, RunFault>
+fn program_text<A: Allocator + Clone>(alloc: &A, script: &LitmusTest<A>) -> Result<Vec<u8, A>, TestFault>
     ensures ok { IfOk result (λ text. MakesCalls (read_of script.now) text.items) }
     ensures err { IfErr result (IsUncalled (read_of script.now)) }
 {
@@ -200,10 +200,10 @@ fn program_text<A: Allocator + Clone>(alloc: &A, script: &Script<A>) -> Result<V
         return Err(NO_MEMORY);
     };
     if script.maps {
-        return Err(RunFault::NoMaps);
+        return Err(TestFault::NoMaps);
     }
     if !are_called(script.opening.as_slice()) {
-        return Err(RunFault::NoCall);
+        return Err(TestFault::NoCall);
     }
     let Ok(for_opening) = alloc.clone() else {
         return Err(NO_MEMORY);
@@ -229,12 +229,12 @@ fn program_text<A: Allocator + Clone>(alloc: &A, script: &Script<A>) -> Result<V
 // What counts come to beside the outcomes of a test, with the mappings or without.
 fn judged<A: Allocator + Clone>(
     alloc: &A,
-    script: &Script<A>,
+    script: &LitmusTest<A>,
     found: &Outcomes<A>,
     counts: &[u8],
     maps: bool,
     limit: usize,
-) -> Result<Told<A>, RunFault>
+) -> Result<Output<A>, TestFault>
     ensures ok { IfOk result (λ told. Judges (read_of script.now) maps found.now limit (lines_of counts.now) told.text.items
         told.status) }
     ensures err { IfErr result IsWant }
@@ -246,7 +246,7 @@ fn judged<A: Allocator + Clone>(
     };
     let searched = searched_of(script, found, maps, limit);
     match judge_counts(alloc, &named, found.list.as_slice(), searched, counts) {
-        Ok(judged) => Ok(Told {
+        Ok(judged) => Ok(Output {
             text: judged.text,
             status: judged.status,
         }),
@@ -257,17 +257,17 @@ fn judged<A: Allocator + Clone>(
 // The same of counts that were read, whose lines may be bad.
 fn counts_told<A: Allocator + Clone>(
     alloc: &A,
-    script: &Script<A>,
+    script: &LitmusTest<A>,
     found: &Outcomes<A>,
     counts: &[u8],
     limit: usize,
-) -> Result<Told<A>, RunFault>
+) -> Result<Output<A>, TestFault>
     ensures ok { IfOk result (λ told. Judges (read_of script.now) (read_of script.now).maps found.now limit (lines_of counts.now)
         told.text.items told.status) }
     ensures err { IfErr result (IsUncounted (lines_of counts.now)) }
 {
     if let Some(number) = bad_count(counts) {
-        return Err(RunFault::BadCount(number));
+        return Err(TestFault::BadCount(number));
     }
     match judged(alloc, script, found, counts, script.maps, limit) {
         Ok(told) => Ok(told),
@@ -279,9 +279,9 @@ fn counts_told<A: Allocator + Clone>(
 fn live_counts<R: Threads + Wait + Sync>(
     rt: &R,
     alloc: Global,
-    script: &Script<Global>,
+    script: &LitmusTest<Global>,
     runs: u64,
-) -> Result<Vec<u8>, RunFault>
+) -> Result<Vec<u8>, TestFault>
     ensures ok { IfOk result (λ counts. CountsLive (read_of script.now) runs counts.items) }
     ensures err { IfErr result (IsUnrun (read_of script.now)) }
 {
@@ -291,7 +291,7 @@ fn live_counts<R: Threads + Wait + Sync>(
     };
     let lines = script.opening.as_slice();
     if !are_called(lines) {
-        return Err(RunFault::NoTask);
+        return Err(TestFault::NoTask);
     }
     let Ok(opening) = tasks_of(alloc, lines) else {
         return Err(NO_MEMORY);
@@ -311,7 +311,7 @@ fn live_counts<R: Threads + Wait + Sync>(
     };
     match count_runs(rt, alloc, &test, script.finals.as_slice(), runs) {
         Ok(counts) => Ok(counts),
-        Err(fault) => Err(RunFault::Live(fault)),
+        Err(fault) => Err(TestFault::Live(fault)),
     }
 }
 
@@ -319,11 +319,11 @@ fn live_counts<R: Threads + Wait + Sync>(
 fn show_test<A: Allocator + Clone + Drop>(
     alloc: &A,
     name: &[u8],
-    script: &Script<A>,
+    script: &LitmusTest<A>,
     found: &Outcomes<A>,
-    view: View,
+    view: Listing,
     limit: usize,
-) -> Result<Vec<u8, A>, RunFault>
+) -> Result<Vec<u8, A>, TestFault>
     ensures ok { IfOk result (λ text. Shows view name.now (read_of script.now) found.now limit text.items) }
     ensures err { IfErr result (IsUnshown view) }
 {
@@ -337,20 +337,20 @@ fn show_test<A: Allocator + Clone + Drop>(
         return Err(NO_MEMORY);
     };
     match view {
-        View::Report => match report_text(alloc, name, script, found, rows.as_slice(), limit) {
+        Listing::Report => match report_text(alloc, name, script, found, rows.as_slice(), limit) {
             Ok(text) => Ok(text),
             Err(_) => Err(NO_MEMORY),
         },
-        View::List => match list_text(alloc, script.maps, outcomes, rows.as_slice()) {
+        Listing::List => match list_text(alloc, script.maps, outcomes, rows.as_slice()) {
             Ok(text) => Ok(text),
             Err(_) => Err(NO_MEMORY),
         },
-        View::Witness(number) => witness_text(alloc, script, found, rows.as_slice(), number),
+        Listing::Witness(number) => witness_text(alloc, script, found, rows.as_slice(), number),
     }
 }
 
 // The status of what is shown: of a witness 0.
-fn status_at<A: Allocator>(script: &Script<A>, found: &Outcomes<A>, view: View) -> u8
+fn status_at<A: Allocator>(script: &LitmusTest<A>, found: &Outcomes<A>, view: Listing) -> u8
     ensures { result ≡ status_at view (read_of script.now) found.now }
 {
     let named = Named {
@@ -359,13 +359,13 @@ fn status_at<A: Allocator>(script: &Script<A>, found: &Outcomes<A>, view: View) 
         maps: script.maps,
     };
     match view {
-        View::Report | View::List => status_of(
+        Listing::Report | Listing::List => status_of(
             &named,
             found.list.as_slice(),
             found.whole,
             script.clauses.as_slice(),
         ),
-        View::Witness(_) => 0,
+        Listing::Witness(_) => 0,
     }
 }
 
@@ -376,15 +376,15 @@ pub fn tell_litmus<A: Allocator + Clone + Drop>(
     alloc: &A,
     name: &[u8],
     text: &[u8],
-    view: View,
+    view: Listing,
     limit: usize,
-) -> Result<Told<A>, RunFault>
+) -> Result<Output<A>, TestFault>
     ensures ok { IfOk result (λ told. Tells A name.now view limit (lines_of text.now) told.text.items told.status) }
     ensures err { IfErr result (Fails view (lines_of text.now)) }
 {
     let script = match read_litmus(alloc, text) {
         Ok(script) => script,
-        Err(fault) => return Err(RunFault::Text(fault)),
+        Err(fault) => return Err(TestFault::Text(fault)),
     };
     let found = match outcomes_of(alloc, &script, limit) {
         Ok(found) => found,
@@ -395,7 +395,7 @@ pub fn tell_litmus<A: Allocator + Clone + Drop>(
         Err(fault) => return Err(fault),
     };
     let status = status_at(&script, &found, view);
-    Ok(Told { text, status })
+    Ok(Output { text, status })
 }
 
 /// Reads the text of a litmus test, and answers a program that makes its calls to a kernel, as C; the status is 0. `Err` tells the text's
@@ -403,16 +403,16 @@ pub fn tell_litmus<A: Allocator + Clone + Drop>(
 pub fn tell_program<A: Allocator + Clone + Drop>(
     alloc: &A,
     text: &[u8],
-) -> Result<Told<A>, RunFault>
+) -> Result<Output<A>, TestFault>
     ensures ok { IfOk result (λ told. TellsProgram (lines_of text.now) told.text.items told.status) }
     ensures err { IfErr result (FailsProgram (lines_of text.now)) }
 {
     let script = match read_litmus(alloc, text) {
         Ok(script) => script,
-        Err(fault) => return Err(RunFault::Text(fault)),
+        Err(fault) => return Err(TestFault::Text(fault)),
     };
     match program_text(alloc, &script) {
-        Ok(text) => Ok(Told { text, status: 0 }),
+        Ok(text) => Ok(Output { text, status: 0 }),
         Err(fault) => Err(fault),
     }
 }
@@ -425,13 +425,13 @@ pub fn tell_observed<A: Allocator + Clone + Drop>(
     text: &[u8],
     counts: &[u8],
     limit: usize,
-) -> Result<Told<A>, RunFault>
+) -> Result<Output<A>, TestFault>
     ensures ok { IfOk result (λ told. TellsObserved A limit (lines_of counts.now) (lines_of text.now) told.text.items told.status) }
     ensures err { IfErr result (FailsObserved (lines_of counts.now) (lines_of text.now)) }
 {
     let script = match read_litmus(alloc, text) {
         Ok(script) => script,
-        Err(fault) => return Err(RunFault::Text(fault)),
+        Err(fault) => return Err(TestFault::Text(fault)),
     };
     let found = match outcomes_of(alloc, &script, limit) {
         Ok(found) => found,
@@ -453,13 +453,13 @@ pub fn tell_live<R: Threads + Wait + Sync>(
     text: &[u8],
     runs: u64,
     limit: usize,
-) -> Result<Told<Global>, RunFault>
+) -> Result<Output<Global>, TestFault>
     ensures ok { IfOk result (λ told. TellsLive limit runs (lines_of text.now) told.text.items told.status) }
     ensures err { IfErr result (FailsLive (lines_of text.now)) }
 {
     let script = match read_litmus(alloc, text) {
         Ok(script) => script,
-        Err(fault) => return Err(RunFault::Text(fault)),
+        Err(fault) => return Err(TestFault::Text(fault)),
     };
     let found = match outcomes_of(alloc, &script, limit) {
         Ok(found) => found,
@@ -483,16 +483,16 @@ pub fn tell<R: Threads + Wait + Sync>(
     name: &[u8],
     text: &[u8],
     counts: &[u8],
-    wanted: Wanted,
+    wanted: LitmusAsk,
     limit: usize,
-) -> Result<Told<Global>, RunFault>
+) -> Result<Output<Global>, TestFault>
     ensures ok { IfOk result (λ told. TellsAs GlobalOf name.now wanted limit (lines_of counts.now) (lines_of text.now) told.text.items told.status) }
     ensures err { IfErr result (FailsAs wanted (lines_of counts.now) (lines_of text.now)) }
 {
     match wanted {
-        Wanted::Outcomes(view) => tell_litmus(alloc, name, text, view, limit),
-        Wanted::Program => tell_program(alloc, text),
-        Wanted::Observed => tell_observed(alloc, text, counts, limit),
-        Wanted::Live(runs) => tell_live(rt, alloc, text, runs, limit),
+        LitmusAsk::Outcomes(view) => tell_litmus(alloc, name, text, view, limit),
+        LitmusAsk::Program => tell_program(alloc, text),
+        LitmusAsk::Observed => tell_observed(alloc, text, counts, limit),
+        LitmusAsk::Live(runs) => tell_live(rt, alloc, text, runs, limit),
     }
 }

@@ -9,12 +9,12 @@ use Rattle.vm_base.specs.declared.rights.Prot.{Prot}
 use Rattle.vm_base.specs.Apply.{is_absent, is_read_only, is_read_only_back, is_uncopied, new_entry, with_prot}
 use Rattle.vm_base.specs.Functions.{has}
 use Rattle.vm_base.specs.Info.{advance_back}
-use Rattle.vm_base.specs.Plain.{Bytes, Entry, File, Plain, bytes_of, nothing_mapped}
+use Rattle.vm_base.specs.Plain.{Bytes, PageEntry, File, Plain, bytes_of, nothing_mapped}
 use Rattle.slot_lock.specs.declared.plan.Change.{Change}
 use Rattle.slot_lock.specs.declared.plan.Change.TheVariants.{Put, Clear, Protect}
 use Rattle.slot_lock.specs.Plan.{range_of}
-use Rattle.litmus_merges.specs.declared.change.Step.{Step}
-use Rattle.litmus_merges.specs.declared.change.Step.TheVariants as StepOf
+use Rattle.litmus_merges.specs.declared.change.MapChange.{MapChange}
+use Rattle.litmus_merges.specs.declared.change.MapChange.TheVariants as StepOf
 use Rattle.litmus_merges.specs.Runs.{AreOneRun, AreOneRunSoFar, IsOneRun}
 use Rattle.litmus_merges.specs.Steps.{after, after_all, entry_with, map_of}
 use Rattle.litmus_merges.proofs.Acted.{acted, after_made, copy_of, with_bytes}
@@ -42,24 +42,24 @@ run_of r page end h k p low high = by (split page r.first) (split page r.end)
     by (inr a) (inl b) = let e : end ≤ r.end = k a b in grind (arith, nat_tests)
     by (inr a) (inr b) = grind (arith, nat_tests)
 
-shorter : (s : Step) (page end last : ℕ) → last ≤ end → IsOneRun s page end → IsOneRun s page last
+shorter : (s : MapChange) (page end last : ℕ) → last ≤ end → IsOneRun s page end → IsOneRun s page last
 shorter (StepOf.Change c) page end last l h = λ p low high. h p low (omega (arith, l, high))
 shorter (StepOf.Copy q) page end last l h = h
 shorter (StepOf.Own q i b) page end last l h = h
 shorter (StepOf.File m k i b) page end last l h = h
 
-pub run_none : (steps : List Step) (page end : ℕ) → AreOneRunSoFar steps zero page end
+pub run_none : (steps : List MapChange) (page end : ℕ) → AreOneRunSoFar steps zero page end
 run_none steps page end k step l e = absurd (omega (arith, l))
 
-pub run_more : (steps : List Step) (at page end last : ℕ) (s : Step) → slice_get steps at ≡ Some s → last ≤ end → AreOneRunSoFar steps at page end
+pub run_more : (steps : List MapChange) (at page end last : ℕ) (s : MapChange) → slice_get steps at ≡ Some s → last ≤ end → AreOneRunSoFar steps at page end
     → IsOneRun s page last → AreOneRunSoFar steps (at + 1) page last
 run_more steps at page end last s is l h run k step lt e = by (below k at lt)
   where
     by : (k < at) ⊎ (k ≡ at) → IsOneRun step page last
     by (inl m) = shorter step page end last l (h k step m e)
-    by (inr eq) = subst (λ (x : Step). IsOneRun x page last) (get_one steps at s step is (subst (λ (n : ℕ). slice_get steps n ≡ Some step) eq e)) run
+    by (inr eq) = subst (λ (x : MapChange). IsOneRun x page last) (get_one steps at s step is (subst (λ (n : ℕ). slice_get steps n ≡ Some step) eq e)) run
 
-pub run_all : (steps : List Step) (n page end : ℕ) → ((k : ℕ) (step : Step) → slice_get steps k ≡ Some step → k < n) → AreOneRunSoFar steps n page end
+pub run_all : (steps : List MapChange) (n page end : ℕ) → ((k : ℕ) (step : MapChange) → slice_get steps k ≡ Some step → k < n) → AreOneRunSoFar steps n page end
     → AreOneRun steps page end
 run_all steps n page end within h k step e = h k step (within k step e) e
 
@@ -71,7 +71,7 @@ first_back Anon = Anon
 first_back (Shared file k) = Shared file 0
 first_back (Private file k) = Private file 0
 
-abbrev pub kind : Option Entry → Option Back
+abbrev pub kind : Option PageEntry → Option Back
 kind None = None
 kind (Some e) = Some (first_back e.back)
 
@@ -80,7 +80,7 @@ advanced Anon n m = refl
 advanced (Shared file k) n m = refl
 advanced (Private file k) n m = refl
 
-copied_kind : (f : ℕ → Option File) (o : Option Entry) → kind (copy_of f o) ≡ kind o
+copied_kind : (f : ℕ → Option File) (o : Option PageEntry) → kind (copy_of f o) ≡ kind o
 copied_kind f None = refl
 copied_kind f (Some e) = go (is_uncopied e.back e.own) (bytes_of f e.back e.own)
   where
@@ -89,25 +89,25 @@ copied_kind f (Some e) = go (is_uncopied e.back e.own) (bytes_of f e.back e.own)
     go true None = refl
     go false b = refl
 
-owned_kind : (o : Option Entry) (i b : ℕ) → kind (entry_with o i b) ≡ kind o
+owned_kind : (o : Option PageEntry) (i b : ℕ) → kind (entry_with o i b) ≡ kind o
 owned_kind None i b = refl
 owned_kind (Some e) i b = refl
 
-prot_kind : (prot : Prot) (o : Option Entry) → kind (with_prot prot o) ≡ kind o
+prot_kind : (prot : Prot) (o : Option PageEntry) → kind (with_prot prot o) ≡ kind o
 prot_kind prot None = refl
 prot_kind prot (Some e) = refl
 
-cond_kind : (b : Bool) (x o : Option Entry) → kind x ≡ kind o → kind (cond b x o) ≡ kind o
+cond_kind : (b : Bool) (x o : Option PageEntry) → kind x ≡ kind o → kind (cond b x o) ≡ kind o
 cond_kind true x o e = e
 cond_kind false x o e = refl
 
-both_kind : (b c : Bool) (x y v w : Option Entry) → b ≡ c → kind v ≡ kind w → kind x ≡ kind y → kind (cond b v x) ≡ kind (cond c w y)
+both_kind : (b c : Bool) (x y v w : Option PageEntry) → b ≡ c → kind v ≡ kind w → kind x ≡ kind y → kind (cond b v x) ≡ kind (cond c w y)
 both_kind true true x y v w s e f = e
 both_kind true false x y v w s e f = absurd cc
 both_kind false true x y v w s e f = absurd cc
 both_kind false false x y v w s e f = f
 
-acted_kind : (s : Step) (f : ℕ → Option File) (page end p : ℕ) (x y : Option Entry) → IsOneRun s page end → page ≤ p → p < end → kind x ≡ kind y
+acted_kind : (s : MapChange) (f : ℕ → Option File) (page end p : ℕ) (x y : Option PageEntry) → IsOneRun s page end → page ≤ p → p < end → kind x ≡ kind y
     → kind (acted s f p x) ≡ kind (acted s f page y)
 acted_kind (StepOf.Change (Put r m)) f page end p x y run low high e =
     both_kind (has r p) (has r page) x y (Some (new_entry (advance_back m.back (p - r.first)) m.prot)) (Some (new_entry (advance_back m.back (page - r.first)) m.prot))
@@ -121,20 +121,20 @@ acted_kind (StepOf.Own q i b) f page end p x y run low high e =
     cond_kind (p == q) (entry_with x i b) x (owned_kind x i b) ∙ (e ∙ sym (cond_kind (page == q) (entry_with y i b) y (owned_kind y i b)))
 acted_kind (StepOf.File m k i b) f page end p x y run low high e = e
 
-all_kind : (t : Plain) (steps : List Step) (page end p : ℕ) → AreOneRun steps page end → page ≤ p → p < end → kind (t.entry p) ≡ kind (t.entry page)
+all_kind : (t : Plain) (steps : List MapChange) (page end p : ℕ) → AreOneRun steps page end → page ≤ p → p < end → kind (t.entry p) ≡ kind (t.entry page)
     → kind ((after_all t steps).entry p) ≡ kind ((after_all t steps).entry page)
 all_kind t [] page end p run low high e = e
 all_kind t (s ∷ steps) page end p run low high e = all_kind (after t s) steps page end p (λ k step is. run (suc k) step is) low high
     (subst (λ (u : Plain). kind (u.entry p) ≡ kind (u.entry page)) (sym (after_made t s))
     (acted_kind s t.file page end p (t.entry p) (t.entry page) (run zero s refl) low high e))
 
-map_kind : (o : List FileParts) (steps : List Step) (page end p : ℕ) → AreOneRun steps page end → page ≤ p → p < end
+map_kind : (o : List FileParts) (steps : List MapChange) (page end p : ℕ) → AreOneRun steps page end → page ≤ p → p < end
     → kind ((map_of o steps).entry p) ≡ kind ((map_of o steps).entry page)
 map_kind o steps page end p run low high = all_kind (nothing_mapped (files_of o)) steps page end p run low high refl
 
 -- ---- what is asked of a page
 
-absent_kind : (x y : Option Entry) → kind x ≡ kind y → is_absent x ≡ is_absent y
+absent_kind : (x y : Option PageEntry) → kind x ≡ kind y → is_absent x ≡ is_absent y
 absent_kind None None e = refl
 absent_kind None (Some y) e = absurd cc
 absent_kind (Some x) None e = absurd cc
@@ -145,7 +145,7 @@ first_read_only files Anon = refl
 first_read_only files (Shared file k) = refl
 first_read_only files (Private file k) = refl
 
-read_only_kind : (files : ℕ → Option File) (x y : Option Entry) → kind x ≡ kind y → is_read_only files x ≡ is_read_only files y
+read_only_kind : (files : ℕ → Option File) (x y : Option PageEntry) → kind x ≡ kind y → is_read_only files x ≡ is_read_only files y
 read_only_kind files None None e = refl
 read_only_kind files None (Some y) e = absurd cc
 read_only_kind files (Some x) None e = absurd cc
@@ -154,7 +154,7 @@ read_only_kind files (Some x) (Some y) e =
     first_read_only files x.back ∙ (ap (is_read_only_back files) same ∙ sym (first_read_only files y.back))
 
 -- none of a run's pages passes a test that its first one doesn't
-none_run : (test : Option Entry → Bool) (entry : ℕ → Option Entry) (range : PageRange) (page end : ℕ) → NoneBefore test entry range page
+none_run : (test : Option PageEntry → Bool) (entry : ℕ → Option PageEntry) (range : PageRange) (page end : ℕ) → NoneBefore test entry range page
     → false ≡ test (entry page) → ((p : ℕ) → page ≤ p → p < end → test (entry p) ≡ test (entry page)) → NoneBefore test entry range end
 none_run test entry range page end h e alike p low high = by (split p page)
   where
@@ -162,12 +162,12 @@ none_run test entry range page end h e alike p low high = by (split p page)
     by (inl l) = h p low l
     by (inr l) = alike p l high ∙ sym e
 
-pub none_absent_run : (o : List FileParts) (steps : List Step) (range : PageRange) (page end : ℕ) → NoneBefore is_absent (map_of o steps).entry range page
+pub none_absent_run : (o : List FileParts) (steps : List MapChange) (range : PageRange) (page end : ℕ) → NoneBefore is_absent (map_of o steps).entry range page
     → false ≡ is_absent ((map_of o steps).entry page) → AreOneRun steps page end → NoneBefore is_absent (map_of o steps).entry range end
 none_absent_run o steps range page end h e run = none_run is_absent (map_of o steps).entry range page end h e
     (λ p low high. absent_kind ((map_of o steps).entry p) ((map_of o steps).entry page) (map_kind o steps page end p run low high))
 
-pub none_read_only_run : (o : List FileParts) (steps : List Step) (range : PageRange) (page end : ℕ)
+pub none_read_only_run : (o : List FileParts) (steps : List MapChange) (range : PageRange) (page end : ℕ)
     → NoneBefore (is_read_only (map_of o steps).file) (map_of o steps).entry range page
     → false ≡ is_read_only (map_of o steps).file ((map_of o steps).entry page) → AreOneRun steps page end
     → NoneBefore (is_read_only (map_of o steps).file) (map_of o steps).entry range end

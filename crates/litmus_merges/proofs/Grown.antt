@@ -14,7 +14,7 @@ use Rattle.litmus_merges.proofs.OneTurn.{one_turn}
 use Rattle.litmus_merges.proofs.Orders.{all_ends}
 use Rattle.litmus_merges.specs.declared.ending.End.{End}
 use Rattle.litmus_merges.specs.declared.nodes.Node.{Node}
-use Rattle.litmus_merges.specs.declared.change.Step.{Step}
+use Rattle.litmus_merges.specs.declared.change.MapChange.{MapChange}
 use Rattle.litmus_merges.specs.Nodes.{AreAll, AreAllSound, AreBackward, AreEnds, AreReached, Comes, HasAlike, HasEndOf, HasPoint, HaveEnds, IsExplored, IsNext, IsNextNode, IsNode, IsTurned, Keeps, point_of}
 use Rattle.litmus_merges.specs.Steps.{AreSound, StepsAfter, after_any, map_of}
 use Rattle.litmus_merges.proofs.Lists.{below, get_new, get_old, get_one, get_some, get_within, old_or_new}
@@ -114,7 +114,7 @@ alike_point {A} o nodes node h = (h.0, h.1, h.2, same h.1 h.3 h.4)
   where
     same : (other : Node A) → other.told.items ≡ node.told.items → other.steps.items ≡ node.steps.items → point_of o other ≡ point_of o node
     same other e f = ap (λ (told : List (Option Reply)). record { told = told; map = map_of o other.steps.items }) e
-        ∙ ap (λ (steps : List Step). record { told = node.told.items; map = map_of o steps }) f
+        ∙ ap (λ (steps : List MapChange). record { told = node.told.items; map = map_of o steps }) f
 
 pub turned_some : {A : Type 0} (o : List FileParts) (calls : List Asked) (old new : List (Node A)) (from at : ℕ) (parent node : Node A)
     → slice_get old from ≡ Some parent → IsTurned o calls old from at → IsNextNode o calls parent from at node → Keeps old new
@@ -152,7 +152,7 @@ turned_all {A} o calls nodes from n le h t = record {
 abbrev as_point : List (Option Reply) → Plain → Point
 as_point told t = record { told = told; map = t }
 
-pub next_is : {A : Type 0} (o : List FileParts) (calls : List Asked) (node next : Node A) (from at : ℕ) (call : Asked) (reply : Option Reply) (step : Option Step)
+pub next_is : {A : Type 0} (o : List FileParts) (calls : List Asked) (node next : Node A) (from at : ℕ) (call : Asked) (reply : Option Reply) (step : Option MapChange)
     → AreNamed calls → IsNode calls node → IsNextCall calls node.told.items at call
     → TurnsTo (map_of o node.steps.items) call.core call.request reply (after_any (map_of o node.steps.items) step)
     → next.told.items ≡ set node.told.items at reply → StepsAfter node.steps.items step next.steps.items → AreSound next.steps.items
@@ -201,12 +201,12 @@ all_sound o calls nodes n h j node e = (h.each j node e).sound
 
 -- ---- what was explored
 
-start_is : {A : Type 0} (o : List FileParts) (calls : List Asked) (opening : List Step) (first : Node A) → first.told.items ≡ replicate (length calls) None
+start_is : {A : Type 0} (o : List FileParts) (calls : List Asked) (opening : List MapChange) (first : Node A) → first.told.items ≡ replicate (length calls) None
     → first.steps.items ≡ opening → point_of o first ≡ start calls (map_of o opening)
 start_is o calls opening first told steps = ap (λ (x : List (Option Reply)). as_point x (map_of o first.steps.items)) told
-    ∙ ap (λ (x : List Step). as_point (replicate (length calls) None) (map_of o x)) steps
+    ∙ ap (λ (x : List MapChange). as_point (replicate (length calls) None) (map_of o x)) steps
 
-pub reached : {A : Type 0} (o : List FileParts) (calls : List Asked) (addrs : List ℕ) (maps : Bool) (opening : List Step) (nodes : List (Node A)) (ends : List (End A)) (n : ℕ)
+pub reached : {A : Type 0} (o : List FileParts) (calls : List Asked) (addrs : List ℕ) (maps : Bool) (opening : List MapChange) (nodes : List (Node A)) (ends : List (End A)) (n : ℕ)
     (first : Node A) → first.told.items ≡ replicate (length calls) None → first.steps.items ≡ opening → slice_get nodes zero ≡ Some first
     → IsExplored o calls nodes n → AreEnds o addrs maps nodes ends → AreReached calls addrs maps (map_of o opening) ends
 reached o calls addrs maps opening nodes ends n first told steps is h all k end e =
@@ -233,7 +233,7 @@ has_point o nodes q h =
 point_has : {A : Type 0} (o : List FileParts) (nodes : List (Node A)) (q : Point) → HasPoint o nodes q → Has (map (point_of o) nodes) q
 point_has o nodes q h = (h.0, slice_get-map (point_of o) nodes h.0 ∙ (ap (option_map (point_of o)) h.2 ∙ ap Some h.3))
 
-closed_list : {A : Type 0} (o : List FileParts) (calls : List Asked) (opening : List Step) (nodes : List (Node A)) (first : Node A)
+closed_list : {A : Type 0} (o : List FileParts) (calls : List Asked) (opening : List MapChange) (nodes : List (Node A)) (first : Node A)
     → first.told.items ≡ replicate (length calls) None → first.steps.items ≡ opening → slice_get nodes zero ≡ Some first
     → IsExplored o calls nodes (length nodes) → IsClosedList calls (map_of o opening) (map (point_of o) nodes)
 closed_list {A} o calls opening nodes first told steps is h = record {
@@ -244,7 +244,7 @@ closed_list {A} o calls opening nodes first told steps is h = record {
     next : (p q : Point) (at : ℕ) → HasPoint o nodes p → TurnAt calls p at q → HasPoint o nodes q
     next p q at x turn = h.closed x.0 x.1 at q (get_within nodes x.0 x.1 x.2) x.2 (subst (λ (y : Point). TurnAt calls y at q) (sym x.3) turn)
 
-pub all_found : {A : Type 0} (o : List FileParts) (calls : List Asked) (addrs : List ℕ) (maps : Bool) (opening : List Step) (nodes : List (Node A)) (ends : List (End A))
+pub all_found : {A : Type 0} (o : List FileParts) (calls : List Asked) (addrs : List ℕ) (maps : Bool) (opening : List MapChange) (nodes : List (Node A)) (ends : List (End A))
     (first : Node A) → first.told.items ≡ replicate (length calls) None → first.steps.items ≡ opening → slice_get nodes zero ≡ Some first
     → IsExplored o calls nodes (length nodes) → HaveEnds o addrs maps nodes (length nodes) ends → AreAll calls addrs maps (map_of o opening) ends
 all_found o calls addrs maps opening nodes ends first told steps is h have replies u end =
@@ -265,7 +265,7 @@ next_some o calls node next from at x e h = subst (IsNext o calls node from at) 
 
 -- ---- from the first node on
 
-pub start_explored : {A : Type 0} (o : List FileParts) (calls : List Asked) (opening : List Step) (nodes : List (Node A)) (first : Node A) → nodes ≡ first ∷ []
+pub start_explored : {A : Type 0} (o : List FileParts) (calls : List Asked) (opening : List MapChange) (nodes : List (Node A)) (first : Node A) → nodes ≡ first ∷ []
     → first.told.items ≡ replicate (length calls) None → first.steps.items ≡ opening → AreSound opening → IsExplored o calls nodes zero
 start_explored o calls opening nodes first one told steps sound = subst (λ xs. IsExplored o calls xs zero) (sym one)
     (first_explored o calls first (record { told = ap length told ∙ length-replicate (length calls) None; sound = subst AreSound (sym steps) sound }))

@@ -8,7 +8,7 @@ use Rattle.vm_base.specs.declared.requests.Request.{Request}
 use Rattle.vm_base.specs.declared.requests.Request.TheVariants.{Load as LoadOf}
 use Rattle.vm_base.specs.Apply.{access_reply, accessed, bytes_reply, entry_reply, needs_copy}
 use Rattle.vm_base.specs.Pages.{is_page, offset_of, page_of}
-use Rattle.vm_base.specs.Plain.{Bytes, Entry, Plain, bytes_of}
+use Rattle.vm_base.specs.Plain.{Bytes, PageEntry, Plain, bytes_of}
 use Rattle.vm_base.specs.Rights.{is_allowed}
 use Rattle.litmus_merges.specs.declared.asked.Asked.{Asked}
 use Rattle.litmus_merges.specs.Finals.{LoadsShow, loaded, loads_by}
@@ -25,11 +25,11 @@ not_done t addr = go (is_page (page_of addr)) (t.entry (page_of addr))
     bytes None e = absurd cc
     bytes (Some b) e = absurd cc
 
-    allowed : (v : Bool) (x : Entry) → cond v (bytes_reply (needs_copy Load x.back x.own) (bytes_of t.file x.back x.own) Load (offset_of addr)) (Some (Segv AccErr)) ≡ Some Done → ⊥
+    allowed : (v : Bool) (x : PageEntry) → cond v (bytes_reply (needs_copy Load x.back x.own) (bytes_of t.file x.back x.own) Load (offset_of addr)) (Some (Segv AccErr)) ≡ Some Done → ⊥
     allowed false x e = absurd cc
     allowed true x e = bytes (bytes_of t.file x.back x.own) e
 
-    go : (v : Bool) (o : Option Entry) → cond v (entry_reply t.file o Load (offset_of addr)) (Some (Segv MapErr)) ≡ Some Done → ⊥
+    go : (v : Bool) (o : Option PageEntry) → cond v (entry_reply t.file o Load (offset_of addr)) (Some (Segv MapErr)) ≡ Some Done → ⊥
     go false o e = absurd cc
     go true None e = absurd cc
     go true (Some x) e = allowed (is_allowed x.prot Load) x e

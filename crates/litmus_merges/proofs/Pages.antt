@@ -6,18 +6,18 @@ use Rattle.vm_base.specs.declared.info.Back.TheVariants.{Anon, Shared, Private}
 use Rattle.vm_base.specs.declared.page.PageRange.{PageRange}
 use Rattle.vm_base.specs.declared.rights.Mode.{Mode}
 use Rattle.vm_base.specs.Apply.{HasPage, forbids_write, is_absent, is_read_only, is_read_only_back}
-use Rattle.vm_base.specs.Plain.{Entry, File, Plain, mode_of}
+use Rattle.vm_base.specs.Plain.{PageEntry, File, Plain, mode_of}
 use Rattle.vm_base.specs.Rights.{can_write}
 use Rattle.vm_calls.specs.Checks.{HasModes}
 use Rattle.litmus_merges.specs.declared.seen.Seen.{Seen}
 use Rattle.litmus_merges.specs.Seen.{byte_at, shown}
 use Rattle.litmus_merges.proofs.Lists.{below}
 
-pub none_absent : (o : Option Entry) (i : ℕ) → ◌≡◌ {A = Option Seen} None (shown i o) → true ≡ is_absent o
+pub none_absent : (o : Option PageEntry) (i : ℕ) → ◌≡◌ {A = Option Seen} None (shown i o) → true ≡ is_absent o
 none_absent None i e = refl
 none_absent (Some en) i e = absurd cc
 
-pub some_present : (o : Option Entry) (i : ℕ) (s : Seen) → Some s ≡ shown i o → false ≡ is_absent o
+pub some_present : (o : Option PageEntry) (i : ℕ) (s : Seen) → Some s ≡ shown i o → false ≡ is_absent o
 some_present None i s e = absurd cc
 some_present (Some en) i s e = refl
 
@@ -32,11 +32,11 @@ same_back t files modes Anon = refl
 same_back t files modes (Shared file page) = same_forbids (t.file file) (files file) (modes file)
 same_back t files modes (Private file page) = refl
 
-pub none_read_only : (files : ℕ → Option File) (o : Option Entry) (i : ℕ) → ◌≡◌ {A = Option Seen} None (shown i o) → false ≡ is_read_only files o
+pub none_read_only : (files : ℕ → Option File) (o : Option PageEntry) (i : ℕ) → ◌≡◌ {A = Option Seen} None (shown i o) → false ≡ is_read_only files o
 none_read_only files None i e = refl
 none_read_only files (Some en) i e = absurd cc
 
-pub back_read_only : (t : Plain) (files : ℕ → Option File) (o : Option Entry) (i : ℕ) (s : Seen) → HasModes t files → Some s ≡ shown i o
+pub back_read_only : (t : Plain) (files : ℕ → Option File) (o : Option PageEntry) (i : ℕ) (s : Seen) → HasModes t files → Some s ≡ shown i o
     → is_read_only_back files s.back ≡ is_read_only t.file o
 back_read_only t files None i s modes e = absurd cc
 back_read_only t files (Some en) i s modes e =
@@ -46,13 +46,13 @@ back_read_only t files (Some en) i s modes e =
 -- ---- going through a range
 
 -- no page of the range before this one passes the test
-abbrev pub NoneBefore : (Option Entry → Bool) → (ℕ → Option Entry) → PageRange → ℕ → Type 0
+abbrev pub NoneBefore : (Option PageEntry → Bool) → (ℕ → Option PageEntry) → PageRange → ℕ → Type 0
 NoneBefore test entry range page = (p : ℕ) → range.first ≤ p → p < page → test (entry p) ≡ false
 
-pub none_yet : (test : Option Entry → Bool) (entry : ℕ → Option Entry) (range : PageRange) → NoneBefore test entry range range.first
+pub none_yet : (test : Option PageEntry → Bool) (entry : ℕ → Option PageEntry) (range : PageRange) → NoneBefore test entry range range.first
 none_yet test entry range p low high = absurd (omega (arith, low, high))
 
-pub none_more : (test : Option Entry → Bool) (entry : ℕ → Option Entry) (range : PageRange) (page : ℕ) → NoneBefore test entry range page
+pub none_more : (test : Option PageEntry → Bool) (entry : ℕ → Option PageEntry) (range : PageRange) (page : ℕ) → NoneBefore test entry range page
     → false ≡ test (entry page) → NoneBefore test entry range (page + 1)
 none_more test entry range page h e p low high = by (below p page high)
   where
@@ -60,11 +60,11 @@ none_more test entry range page h e p low high = by (below p page high)
     by (inl lt) = h p low lt
     by (inr eq) = ap (λ (n : ℕ). test (entry n)) eq ∙ sym e
 
-pub one_page : (test : Option Entry → Bool) (entry : ℕ → Option Entry) (range : PageRange) (page : ℕ) → range.first ≤ page → page < range.end
+pub one_page : (test : Option PageEntry → Bool) (entry : ℕ → Option PageEntry) (range : PageRange) (page : ℕ) → range.first ≤ page → page < range.end
     → true ≡ test (entry page) → HasPage test entry range
 one_page test entry range page low high e = (page, in_has range page low high, sym e)
 
-pub no_page : (test : Option Entry → Bool) (entry : ℕ → Option Entry) (range : PageRange) (page : ℕ) → range.end ≤ page → NoneBefore test entry range page
+pub no_page : (test : Option PageEntry → Bool) (entry : ℕ → Option PageEntry) (range : PageRange) (page : ℕ) → range.end ≤ page → NoneBefore test entry range page
     → ¬ HasPage test entry range
 no_page test entry range page le h x =
     let z = has_in range x.0 x.1 in

@@ -9,12 +9,12 @@ use Rattle.vm_base.specs.declared.rights.Prot.{Prot}
 use Rattle.vm_base.specs.Apply.{is_uncopied, new_entry, with_byte, with_prot}
 use Rattle.vm_base.specs.Functions.{has, put}
 use Rattle.vm_base.specs.Info.{advance_back}
-use Rattle.vm_base.specs.Plain.{Bytes, Entry, File, bytes_of}
+use Rattle.vm_base.specs.Plain.{Bytes, PageEntry, File, bytes_of}
 use Rattle.slot_lock.specs.declared.plan.Change.{Change}
 use Rattle.slot_lock.specs.declared.plan.Change.TheVariants.{Put, Clear, Protect}
 use Rattle.slot_lock.specs.Plan.{range_of}
-use Rattle.litmus_merges.specs.declared.change.Step.{Step}
-use Rattle.litmus_merges.specs.declared.change.Step.TheVariants as StepOf
+use Rattle.litmus_merges.specs.declared.change.MapChange.{MapChange}
+use Rattle.litmus_merges.specs.declared.change.MapChange.TheVariants as StepOf
 use Rattle.litmus_merges.specs.Passing.{Commute, Covers, are_apart, change_covers, change_passes, copy_passes, covers, file_covers, file_passes, is_inside, is_within, may_pass, own_covers, own_passes, protects_within, spares}
 use Rattle.litmus_merges.specs.Steps.{entry_with, own_with}
 use Rattle.litmus_merges.proofs.Acted.{acted, changed, commute_by, copy_of, covers_by, filed, with_bytes}
@@ -71,7 +71,7 @@ put_again {V} f i v w n = go (n == i)
     go true = refl
     go false = refl
 
-owns_swap : (o : Option Entry) (i b j c : ℕ) → i ≢ j → entry_with (entry_with o i b) j c ≡ entry_with (entry_with o j c) i b
+owns_swap : (o : Option PageEntry) (i b j c : ℕ) → i ≢ j → entry_with (entry_with o i b) j c ≡ entry_with (entry_with o j c) i b
 owns_swap None i b j c ne = refl
 owns_swap (Some e) i b j c ne = ap (λ (w : Option Bytes). Some (record e { own = w })) (go e.own)
   where
@@ -79,7 +79,7 @@ owns_swap (Some e) i b j c ne = ap (λ (w : Option Bytes). Some (record e { own 
     go None = refl
     go (Some own) = ap Some (fun_ext (λ n. puts_swap own i j b c n ne))
 
-own_again : (o : Option Entry) (i b c : ℕ) → entry_with (entry_with o i b) i c ≡ entry_with o i c
+own_again : (o : Option PageEntry) (i b c : ℕ) → entry_with (entry_with o i b) i c ≡ entry_with o i c
 own_again None i b c = refl
 own_again (Some e) i b c = ap (λ (w : Option Bytes). Some (record e { own = w })) (go e.own)
   where
@@ -123,7 +123,7 @@ byte_again (Some f) k i b c = ap (λ (x : ℕ → Bytes). Some (record f { bytes
 -- ---- changes
 
 -- a page that the change leaves
-unchanged : (c : Change) (p : ℕ) (o : Option Entry) → has (range_of c) p ≡ false → changed c p o ≡ o
+unchanged : (c : Change) (p : ℕ) (o : Option PageEntry) → has (range_of c) p ≡ false → changed c p o ≡ o
 unchanged (Put r meta) p o e = ap (λ (b : Bool). cond b (Some (new_entry (advance_back meta.back (p - r.first)) meta.prot)) o) e
 unchanged (Clear r) p o e = ap (λ (b : Bool). cond b None o) e
 unchanged (Protect r prot) p o e = ap (λ (b : Bool). cond b (with_prot prot o) o) e
@@ -131,15 +131,15 @@ unchanged (Protect r prot) p o e = ap (λ (b : Bool). cond b (with_prot prot o) 
 changes_swap : (c d : Change) → are_apart (range_of c) (range_of d) ≡ true → Commute (StepOf.Change c) (StepOf.Change d)
 changes_swap c d a = commute_by (StepOf.Change c) (StepOf.Change d) (λ f p o. go p o (has (range_of c) p) refl) (λ f n. refl)
   where
-    go : (p : ℕ) (o : Option Entry) (b : Bool) → has (range_of c) p ≡ b → changed d p (changed c p o) ≡ changed c p (changed d p o)
+    go : (p : ℕ) (o : Option PageEntry) (b : Bool) → has (range_of c) p ≡ b → changed d p (changed c p o) ≡ changed c p (changed d p o)
     go p o true e =
         let off = apart_test (range_of c) (range_of d) p a e in
         unchanged d p (changed c p o) off ∙ ap (changed c p) (sym (unchanged d p o off))
     go p o false e = ap (changed d p) (unchanged c p o e) ∙ sym (unchanged c p (changed d p o) e)
 
 -- something that is done to one page alone, before a change or after it
-spared : (c : Change) (page p : ℕ) (g : Option Entry → Option Entry) (o : Option Entry) → spares c page ≡ true
-    → ((prot : Prot) (x : Option Entry) → g (with_prot prot x) ≡ with_prot prot (g x))
+spared : (c : Change) (page p : ℕ) (g : Option PageEntry → Option PageEntry) (o : Option PageEntry) → spares c page ≡ true
+    → ((prot : Prot) (x : Option PageEntry) → g (with_prot prot x) ≡ with_prot prot (g x))
     → cond (p == page) (g (changed c p o)) (changed c p o) ≡ changed c p (cond (p == page) (g o) o)
 spared (Put r meta) page p g o e h =
     swap (p == page) (has r p) g (λ x. Some (new_entry (advance_back meta.back (p - r.first)) meta.prot)) o
@@ -149,7 +149,7 @@ spared (Clear r) page p g o e h =
     (λ a b. let wrong : true ≡ false = sym b ∙ (ap (has r) (eq_true p page a) ∙ not_true (has r page) e) in absurd cc)
 spared (Protect r prot) page p g o e h = swap (p == page) (has r p) g (with_prot prot) o (λ a b. h prot o)
 
-copy_prot : (f : ℕ → Option File) (prot : Prot) (x : Option Entry) → copy_of f (with_prot prot x) ≡ with_prot prot (copy_of f x)
+copy_prot : (f : ℕ → Option File) (prot : Prot) (x : Option PageEntry) → copy_of f (with_prot prot x) ≡ with_prot prot (copy_of f x)
 copy_prot f prot None = refl
 copy_prot f prot (Some e) = go (is_uncopied e.back e.own) (bytes_of f e.back e.own)
   where
@@ -158,7 +158,7 @@ copy_prot f prot (Some e) = go (is_uncopied e.back e.own) (bytes_of f e.back e.o
     go true None = refl
     go false b = refl
 
-own_prot : (i b : ℕ) (prot : Prot) (x : Option Entry) → entry_with (with_prot prot x) i b ≡ with_prot prot (entry_with x i b)
+own_prot : (i b : ℕ) (prot : Prot) (x : Option PageEntry) → entry_with (with_prot prot x) i b ≡ with_prot prot (entry_with x i b)
 own_prot i b prot None = refl
 own_prot i b prot (Some e) = refl
 
@@ -186,7 +186,7 @@ own_own : (page i b other j c : ℕ) → (not (page == other) || not (i == j)) �
 own_own page i b other j c e = commute_by (StepOf.Own page i b) (StepOf.Own other j c)
     (λ f p o. swap (p == other) (p == page) (λ x. entry_with x j c) (λ x. entry_with x i b) o (λ u v. go p o (page == other) refl e u v)) (λ f n. refl)
   where
-    go : (p : ℕ) (o : Option Entry) (same : Bool) → (page == other) ≡ same → (not same || not (i == j)) ≡ true → (p == other) ≡ true → (p == page) ≡ true
+    go : (p : ℕ) (o : Option PageEntry) (same : Bool) → (page == other) ≡ same → (not same || not (i == j)) ≡ true → (p == other) ≡ true → (p == page) ≡ true
         → entry_with (entry_with o i b) j c ≡ entry_with (entry_with o j c) i b
     go p o true s e u v = owns_swap o i b j c (eq_false i j (not_true (i == j) e))
     go p o false s e u v = absurd (eq_false page other s (sym (eq_true p page v) ∙ eq_true p other u))
@@ -210,16 +210,16 @@ file_file m k i b n l j c e = commute_by (StepOf.File m k i b) (StepOf.File n l 
 
 -- ---- all of them
 
-flip : (x s : Step) → Commute x s → Commute s x
+flip : (x s : MapChange) → Commute x s → Commute s x
 flip x s h t = sym (h t)
 
-by_change : (c : Change) (s : Step) → change_passes c s ≡ true → Commute (StepOf.Change c) s
+by_change : (c : Change) (s : MapChange) → change_passes c s ≡ true → Commute (StepOf.Change c) s
 by_change c (StepOf.Change d) e = changes_swap c d e
 by_change c (StepOf.Copy page) e = change_copy c page e
 by_change c (StepOf.Own page i b) e = change_own c page i b e
 by_change c (StepOf.File m k i b) e = change_file c m k i b
 
-by_copy : (page : ℕ) (s : Step) → copy_passes page s ≡ true → Commute (StepOf.Copy page) s
+by_copy : (page : ℕ) (s : MapChange) → copy_passes page s ≡ true → Commute (StepOf.Copy page) s
 by_copy page (StepOf.Change c) e = flip (StepOf.Change c) (StepOf.Copy page) (change_copy c page e)
 by_copy page (StepOf.Copy other) e = copies_swap page other e
 by_copy page (StepOf.Own other i b) e = copy_own page other i b e
@@ -228,19 +228,19 @@ by_copy page (StepOf.File m k i b) e = absurd cc
 same_test : (a b : ℕ) → not (a == b) ≡ true → not (b == a) ≡ true
 same_test a b e = grind (arith, nat_tests)
 
-by_own : (page i b : ℕ) (s : Step) → own_passes page i s ≡ true → Commute (StepOf.Own page i b) s
+by_own : (page i b : ℕ) (s : MapChange) → own_passes page i s ≡ true → Commute (StepOf.Own page i b) s
 by_own page i b (StepOf.Change c) e = flip (StepOf.Change c) (StepOf.Own page i b) (change_own c page i b e)
 by_own page i b (StepOf.Copy other) e = flip (StepOf.Copy other) (StepOf.Own page i b) (copy_own other page i b (same_test page other e))
 by_own page i b (StepOf.Own other j c) e = own_own page i b other j c e
 by_own page i b (StepOf.File m k j c) e = own_file page i b m k j c
 
-by_file : (m k i b : ℕ) (s : Step) → file_passes m k i s ≡ true → Commute (StepOf.File m k i b) s
+by_file : (m k i b : ℕ) (s : MapChange) → file_passes m k i s ≡ true → Commute (StepOf.File m k i b) s
 by_file m k i b (StepOf.Change c) e = flip (StepOf.Change c) (StepOf.File m k i b) (change_file c m k i b)
 by_file m k i b (StepOf.Copy page) e = absurd cc
 by_file m k i b (StepOf.Own page j c) e = flip (StepOf.Own page j c) (StepOf.File m k i b) (own_file page j c m k i b)
 by_file m k i b (StepOf.File n l j c) e = file_file m k i b n l j c e
 
-pub passes : (x s : Step) → may_pass x s ≡ true → Commute x s
+pub passes : (x s : MapChange) → may_pass x s ≡ true → Commute x s
 passes (StepOf.Change c) s e = by_change c s e
 passes (StepOf.Copy page) s e = by_copy page s e
 passes (StepOf.Own page i b) s e = by_own page i b s e
@@ -249,7 +249,7 @@ passes (StepOf.File m k i b) s e = by_file m k i b s e
 -- ---- covering
 
 -- a page outside of the range
-outside : (x : Step) (r : PageRange) (f : ℕ → Option File) (p : ℕ) (o : Option Entry) → is_within x r ≡ true → has r p ≡ false → acted x f p o ≡ o
+outside : (x : MapChange) (r : PageRange) (f : ℕ → Option File) (p : ℕ) (o : Option PageEntry) → is_within x r ≡ true → has r p ≡ false → acted x f p o ≡ o
 outside (StepOf.Change c) r f p o w e = unchanged c p o (inside_test (range_of c) r p w e)
 outside (StepOf.Copy page) r f p o w e = go (p == page) refl
   where
@@ -263,13 +263,13 @@ outside (StepOf.Own page i c) r f p o w e = go (p == page) refl
     go false h = refl
 outside (StepOf.File m k i c) r f p o w e = absurd cc
 
-unfiled : (x : Step) (r : PageRange) → is_within x r ≡ true → (f : ℕ → Option File) (n : ℕ) → filed x f n ≡ f n
+unfiled : (x : MapChange) (r : PageRange) → is_within x r ≡ true → (f : ℕ → Option File) (n : ℕ) → filed x f n ≡ f n
 unfiled (StepOf.Change c) r w f n = refl
 unfiled (StepOf.Copy page) r w f n = refl
 unfiled (StepOf.Own page i c) r w f n = refl
 unfiled (StepOf.File m k i c) r w f n = absurd cc
 
-over_range : (x : Step) (r : PageRange) (v : Option Entry) → is_within x r ≡ true → (f : ℕ → Option File) (p : ℕ) (o : Option Entry)
+over_range : (x : MapChange) (r : PageRange) (v : Option PageEntry) → is_within x r ≡ true → (f : ℕ → Option File) (p : ℕ) (o : Option PageEntry)
     → cond (has r p) v (acted x f p o) ≡ cond (has r p) v o
 over_range x r v w f p o = go (has r p) refl
   where
@@ -277,18 +277,18 @@ over_range x r v w f p o = go (has r p) refl
     go true e = refl
     go false e = outside x r f p o w e
 
-put_covers : (r : PageRange) (meta : Meta) (x : Step) → is_within x r ≡ true → Covers (StepOf.Change (Put r meta)) x
+put_covers : (r : PageRange) (meta : Meta) (x : MapChange) → is_within x r ≡ true → Covers (StepOf.Change (Put r meta)) x
 put_covers r meta x w = covers_by (StepOf.Change (Put r meta)) x
     (λ f p o. over_range x r (Some (new_entry (advance_back meta.back (p - r.first)) meta.prot)) w f p o) (unfiled x r w)
 
-clear_covers : (r : PageRange) (x : Step) → is_within x r ≡ true → Covers (StepOf.Change (Clear r)) x
+clear_covers : (r : PageRange) (x : MapChange) → is_within x r ≡ true → Covers (StepOf.Change (Clear r)) x
 clear_covers r x w = covers_by (StepOf.Change (Clear r)) x (λ f p o. over_range x r None w f p o) (unfiled x r w)
 
-prot_again : (prot old : Prot) (o : Option Entry) → with_prot prot (with_prot old o) ≡ with_prot prot o
+prot_again : (prot old : Prot) (o : Option PageEntry) → with_prot prot (with_prot old o) ≡ with_prot prot o
 prot_again prot old None = refl
 prot_again prot old (Some e) = refl
 
-protect_covers : (r : PageRange) (prot : Prot) (x : Step) → protects_within x r ≡ true → Covers (StepOf.Change (Protect r prot)) x
+protect_covers : (r : PageRange) (prot : Prot) (x : MapChange) → protects_within x r ≡ true → Covers (StepOf.Change (Protect r prot)) x
 protect_covers r prot (StepOf.Change (Protect q old)) w = covers_by (StepOf.Change (Protect r prot)) (StepOf.Change (Protect q old))
     (λ f p o. hide (has r p) (has q p) (with_prot prot) (with_prot old) o (within p (has r p) refl) (prot_again prot old o)) (λ f n. refl)
   where
@@ -301,7 +301,7 @@ protect_covers r prot (StepOf.Copy page) w = absurd cc
 protect_covers r prot (StepOf.Own page i b) w = absurd cc
 protect_covers r prot (StepOf.File m k i b) w = absurd cc
 
-change_over : (c : Change) (x : Step) → change_covers c x ≡ true → Covers (StepOf.Change c) x
+change_over : (c : Change) (x : MapChange) → change_covers c x ≡ true → Covers (StepOf.Change c) x
 change_over (Put r meta) x e = put_covers r meta x e
 change_over (Clear r) x e = clear_covers r x e
 change_over (Protect r prot) x e = protect_covers r prot x e
@@ -310,7 +310,7 @@ own_same : (page i b c : ℕ) → Covers (StepOf.Own page i c) (StepOf.Own page 
 own_same page i b c = covers_by (StepOf.Own page i c) (StepOf.Own page i b)
     (λ f p o. hide (p == page) (p == page) (λ x. entry_with x i c) (λ x. entry_with x i b) o (λ h. h) (own_again o i b c)) (λ f n. refl)
 
-own_over : (page i c : ℕ) (x : Step) → own_covers page i x ≡ true → Covers (StepOf.Own page i c) x
+own_over : (page i c : ℕ) (x : MapChange) → own_covers page i x ≡ true → Covers (StepOf.Own page i c) x
 own_over page i c (StepOf.Own other j b) e =
     subst (λ (q : ℕ). Covers (StepOf.Own page i c) (StepOf.Own q j b)) (eq_true page other (and_left (page == other) (i == j) e))
     (subst (λ (m : ℕ). Covers (StepOf.Own page i c) (StepOf.Own page m b)) (eq_true i j (and_right (page == other) (i == j) e)) (own_same page i b c))
@@ -322,7 +322,7 @@ file_same : (m k i b c : ℕ) → Covers (StepOf.File m k i c) (StepOf.File m k 
 file_same m k i b c = covers_by (StepOf.File m k i c) (StepOf.File m k i b) (λ f p o. refl)
     (λ f n. hide (n == m) (n == m) (λ x. with_byte x k i c) (λ x. with_byte x k i b) (f n) (λ h. h) (byte_again (f n) k i b c))
 
-file_over : (m k i c : ℕ) (x : Step) → file_covers m k i x ≡ true → Covers (StepOf.File m k i c) x
+file_over : (m k i c : ℕ) (x : MapChange) → file_covers m k i x ≡ true → Covers (StepOf.File m k i c) x
 file_over m k i c (StepOf.File n l j b) e =
     let rest = and_right (m == n) (k == l && i == j) e in
     subst (λ (y : ℕ). Covers (StepOf.File m k i c) (StepOf.File y l j b)) (eq_true m n (and_left (m == n) (k == l && i == j) e))
@@ -332,7 +332,7 @@ file_over m k i c (StepOf.Change d) e = absurd cc
 file_over m k i c (StepOf.Copy page) e = absurd cc
 file_over m k i c (StepOf.Own page j b) e = absurd cc
 
-pub covering : (s x : Step) → covers s x ≡ true → Covers s x
+pub covering : (s x : MapChange) → covers s x ≡ true → Covers s x
 covering (StepOf.Change c) x e = change_over c x e
 covering (StepOf.Copy page) x e = absurd cc
 covering (StepOf.Own page i c) x e = own_over page i c x e

@@ -10,11 +10,11 @@ use Rattle.vm_base.specs.Apply.{copied, detached_entry, first_own, is_uncopied, 
 use Rattle.vm_base.specs.Copies.{or_else, with_copy}
 use Rattle.vm_base.specs.Functions.{has, put}
 use Rattle.vm_base.specs.Info.{advance, advance_back}
-use Rattle.vm_base.specs.Plain.{Bytes, Entry, File, Plain, back_bytes, bytes_of, file_bytes}
+use Rattle.vm_base.specs.Plain.{Bytes, PageEntry, File, Plain, back_bytes, bytes_of, file_bytes}
 use Rattle.slot_lock.specs.declared.plan.Change.{Change}
 use Rattle.slot_lock.specs.declared.plan.Change.TheVariants.{Put, Clear, Protect}
-use Rattle.litmus_merges.specs.declared.change.Step.{Step}
-use Rattle.litmus_merges.specs.declared.change.Step.TheVariants as StepOf
+use Rattle.litmus_merges.specs.declared.change.MapChange.{MapChange}
+use Rattle.litmus_merges.specs.declared.change.MapChange.TheVariants as StepOf
 use Rattle.litmus_merges.specs.declared.seen.Seen.{Seen}
 use Rattle.litmus_merges.specs.Seen.{byte_at, byte_with, fresh, own_copied, seen_change, seen_copied, seen_protected, seen_with, shown, shown_byte, stored_byte}
 use Rattle.litmus_merges.specs.Steps.{after, after_change, entry_with, map_of, own_with}
@@ -46,7 +46,7 @@ spot_stored (Some f) k i b p j byte h = within (nat_lt p f.count) h
     within true h = let e : f.bytes p j ≡ byte = cc in ap Some (here (p == k) refl e)
     within false h = absurd cc
 
-pub byte_stored : (t : Plain) (s : Step) (n p j byte : ℕ) → byte_at (file_bytes (t.file n) p) j ≡ Some byte
+pub byte_stored : (t : Plain) (s : MapChange) (n p j byte : ℕ) → byte_at (file_bytes (t.file n) p) j ≡ Some byte
     → byte_at (file_bytes ((after t s).file n) p) j ≡ Some (stored_byte s n p j byte)
 byte_stored t (StepOf.Change (Put range meta)) n p j byte h = h
 byte_stored t (StepOf.Change (Clear range)) n p j byte h = h
@@ -86,7 +86,7 @@ change_shown t (Clear r) p i seen e = go (has r p)
     go false = e
 change_shown t (Protect r prot) p i seen e = go (has r p)
   where
-    same : (o : Option Entry) → seen_protected prot (shown i o) ≡ shown i (with_prot prot o)
+    same : (o : Option PageEntry) → seen_protected prot (shown i o) ≡ shown i (with_prot prot o)
     same None = refl
     same (Some en) = refl
 
@@ -104,27 +104,27 @@ own_here t page o byte p i seen here there e =
     own None = refl
     own (Some b) = ap Some (sym (ap (put b o byte) there ∙ put_same b o byte))
 
-    entry : (x : Option Entry) → seen_with byte (shown i x) ≡ shown i (entry_with x o byte)
+    entry : (x : Option PageEntry) → seen_with byte (shown i x) ≡ shown i (entry_with x o byte)
     entry None = refl
     entry (Some en) = ap (as_seen en.back en.prot) (own en.own)
 
 -- another place of a page shows what it has shown
 pub own_beside : (t : Plain) (page o byte p i : ℕ) → i ≢ o → shown i (t.entry p) ≡ shown i ((after t (StepOf.Own page o byte)).entry p)
 own_beside t page o byte p i there =
-    by_test (λ (x : Option Entry). shown i (t.entry p) ≡ shown i x) (p == page) (entry_with (t.entry page) o byte) (t.entry p)
+    by_test (λ (x : Option PageEntry). shown i (t.entry p) ≡ shown i x) (p == page) (entry_with (t.entry page) o byte) (t.entry p)
     (λ e. ap (λ (n : ℕ). shown i (t.entry n)) (eq_true p page e) ∙ entry (t.entry page)) (λ e. refl)
   where
     own : (w : Option Bytes) → byte_at w i ≡ byte_at (own_with w o byte) i
     own None = refl
     own (Some b) = ap Some (by_test (λ (x : ℕ). b i ≡ x) (i == o) byte (b i) (λ e. absurd (there (eq_true i o e))) (λ e. refl))
 
-    entry : (x : Option Entry) → shown i x ≡ shown i (entry_with x o byte)
+    entry : (x : Option PageEntry) → shown i x ≡ shown i (entry_with x o byte)
     entry None = refl
     entry (Some en) = ap (as_seen en.back en.prot) (own en.own)
 
 pub own_other : (t : Plain) (page o byte p i : ℕ) → p ≢ page → shown i (t.entry p) ≡ shown i ((after t (StepOf.Own page o byte)).entry p)
 own_other t page o byte p i ne =
-    by_test (λ (x : Option Entry). shown i (t.entry p) ≡ shown i x) (p == page) (entry_with (t.entry page) o byte) (t.entry p)
+    by_test (λ (x : Option PageEntry). shown i (t.entry p) ≡ shown i x) (p == page) (entry_with (t.entry page) o byte) (t.entry p)
     (λ e. absurd (ne (eq_true p page e))) (λ e. refl)
 
 -- ---- copies
@@ -151,7 +151,7 @@ copied_shown t p i = go (t.entry p) refl
     by (Private file page) prot (Some own) e = stays (Private file page) prot (Some own) e
     by (Private file page) prot None e = sub file page prot (file_bytes (t.file file) page) e
 
-    go : (o : Option Entry) → t.entry p ≡ o
+    go : (o : Option PageEntry) → t.entry p ≡ o
         → seen_copied (shown i o) (shown_byte t.file o i) ≡ shown i ((or_else t (detached_entry t p o)).entry p)
     go None e = sym (ap (shown i) e)
     go (Some en) e = by en.back en.prot en.own e
@@ -167,16 +167,16 @@ copy_beside t page p i ne = ap (shown i) (sym (copy_other t page p ne))
 
 -- ---- the byte that is shown
 
-pub none_byte : (files : ℕ → Option File) (o : Option Entry) (i : ℕ) → ◌≡◌ {A = Option Seen} None (shown i o) → ◌≡◌ {A = Option ℕ} None (shown_byte files o i)
+pub none_byte : (files : ℕ → Option File) (o : Option PageEntry) (i : ℕ) → ◌≡◌ {A = Option Seen} None (shown i o) → ◌≡◌ {A = Option ℕ} None (shown_byte files o i)
 none_byte files None i e = refl
 none_byte files (Some en) i e = absurd cc
 
-own_shown : (s : Seen) (en : Entry) (i : ℕ) → Some s ≡ shown i (Some en) → (s.back ≡ en.back) × (s.own ≡ byte_at en.own i)
+own_shown : (s : Seen) (en : PageEntry) (i : ℕ) → Some s ≡ shown i (Some en) → (s.back ≡ en.back) × (s.own ≡ byte_at en.own i)
 own_shown s en i e =
     let same : s ≡ record { back = en.back; prot = en.prot; own = byte_at en.own i } = cc in
     (ap (λ (x : Seen). x.back) same, ap (λ (x : Seen). x.own) same)
 
-pub own_byte : (files : ℕ → Option File) (o : Option Entry) (i b : ℕ) (s : Seen) → Some s ≡ shown i o → s.own ≡ Some b
+pub own_byte : (files : ℕ → Option File) (o : Option PageEntry) (i b : ℕ) (s : Seen) → Some s ≡ shown i o → s.own ≡ Some b
     → Some b ≡ shown_byte files o i
 own_byte files None i b s e f = absurd cc
 own_byte files (Some en) i b s e f = go en.own (sym (own_shown s en i e).1 ∙ f)
@@ -185,7 +185,7 @@ own_byte files (Some en) i b s e f = go en.own (sym (own_shown s en i e).1 ∙ f
     go None h = absurd cc
     go (Some own) h = sym h
 
-pub file_byte_shown : (files : ℕ → Option File) (o : Option Entry) (i : ℕ) (s : Seen) → Some s ≡ shown i o → s.own ≡ None
+pub file_byte_shown : (files : ℕ → Option File) (o : Option PageEntry) (i : ℕ) (s : Seen) → Some s ≡ shown i o → s.own ≡ None
     → byte_at (back_bytes files s.back) i ≡ shown_byte files o i
 file_byte_shown files None i s e f = absurd cc
 file_byte_shown files (Some en) i s e f =
@@ -198,7 +198,7 @@ file_byte_shown files (Some en) i s e f =
 
 -- ---- one step after another
 
-pub byte_more : (o : List FileParts) (steps : List Step) (at : ℕ) (d : Step) (n p j byte r : ℕ) → at < length steps
+pub byte_more : (o : List FileParts) (steps : List MapChange) (at : ℕ) (d : MapChange) (n p j byte r : ℕ) → at < length steps
     → byte_at (file_bytes ((map_of o (take at steps)).file n) p) j ≡ Some byte → r ≡ stored_byte (get_or steps at d) n p j byte
     → byte_at (file_bytes ((map_of o (take (at + 1) steps)).file n) p) j ≡ Some r
 byte_more o steps at d n p j byte r l h e = subst (λ (t : Plain). byte_at (file_bytes (t.file n) p) j ≡ Some r) (sym (map_more o steps at d l))

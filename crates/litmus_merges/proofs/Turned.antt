@@ -20,7 +20,7 @@ use Rattle.vm_base.specs.Copies.{if_copied, or_else, page_due, with_copy}
 use Rattle.vm_base.specs.Functions.{put}
 use Rattle.vm_base.specs.Pages.{is_page, offset_of, page_of, pages_of}
 use Rattle.vm_base.specs.Places.{IsPlace}
-use Rattle.vm_base.specs.Plain.{Bytes, Entry, File, Plain, bytes_of, mode_of}
+use Rattle.vm_base.specs.Plain.{Bytes, PageEntry, File, Plain, bytes_of, mode_of}
 use Rattle.vm_base.specs.Refusals.{refusal}
 use Rattle.vm_base.specs.Requests.{is_placed}
 use Rattle.vm_base.specs.Rights.{is_allowed}
@@ -36,7 +36,7 @@ use Rattle.vm_calls.specs.Checks.{HasModes, checked, place_of, plan_of, touch_of
 use Rattle.vm_calls.proofs.Accesses.{access_answered}
 use Rattle.vm_calls.proofs.Passed.{passed, touch-of}
 use Rattle.litmus_merges.specs.OneTurn.{TurnsTo}
-use Rattle.litmus_merges.specs.declared.change.Step.TheVariants as StepOf
+use Rattle.litmus_merges.specs.declared.change.MapChange.TheVariants as StepOf
 use Rattle.litmus_merges.specs.declared.seen.Seen.{Seen}
 use Rattle.litmus_merges.specs.declared.turning.Turn.{Turn}
 use Rattle.litmus_merges.specs.Seen.{byte_at, shown, shown_byte}
@@ -54,10 +54,10 @@ store_fits : (t : Plain) (touch : Touch) (b : Back) (prot : Prot) (w : Option By
     → Fits t touch (store_turn b (byte_at w touch.offset) touch) (bytes_reply (needs_copy By.Store b w) (Some bytes) By.Store touch.offset)
 store_fits t touch b prot w bytes e f = go b w e f
   where
-    with_own : Option Entry → Plain
+    with_own : Option PageEntry → Plain
     with_own x = record t { entry = put t.entry touch.page (entry_with x touch.offset touch.byte) }
 
-    with_store : Option Entry → Plain
+    with_store : Option PageEntry → Plain
     with_store x = stored_entry t touch.page x touch.offset touch.byte
 
     own : (b : Back) (x : Bytes) → t.entry touch.page ≡ Some (record { back = b; prot = prot; own = Some x })
@@ -88,7 +88,7 @@ page_fits t touch a b prot w (Some bytes) is e f =
     go By.Fetch = (refl, refl, tt)
     go By.Store = store_fits t touch b prot w bytes e f
 
-entry_fits : (t : Plain) (touch : Touch) (o : Option Entry) → t.entry touch.page ≡ o
+entry_fits : (t : Plain) (touch : Touch) (o : Option PageEntry) → t.entry touch.page ≡ o
     → Fits t touch (touch_turn (shown touch.offset o) (shown_byte t.file o touch.offset) touch) (entry_reply t.file o touch.access touch.offset)
 entry_fits t touch None e = (refl, refl, tt)
 entry_fits t touch (Some en) e = go (is_allowed en.prot touch.access)

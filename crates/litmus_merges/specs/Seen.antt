@@ -7,11 +7,11 @@ use Rattle.vm_base.specs.declared.rights.Prot.{Prot}
 use Rattle.vm_base.specs.Apply.{first_own}
 use Rattle.vm_base.specs.Functions.{has}
 use Rattle.vm_base.specs.Info.{advance}
-use Rattle.vm_base.specs.Plain.{Bytes, Entry, File, bytes_of}
+use Rattle.vm_base.specs.Plain.{Bytes, PageEntry, File, bytes_of}
 use Rattle.slot_lock.specs.declared.plan.Change.{Change}
 use Rattle.slot_lock.specs.declared.plan.Change.TheVariants.{Put, Clear, Protect}
-use Rattle.litmus_merges.specs.declared.change.Step.{Step}
-use Rattle.litmus_merges.specs.declared.change.Step.TheVariants as StepOf
+use Rattle.litmus_merges.specs.declared.change.MapChange.{MapChange}
+use Rattle.litmus_merges.specs.declared.change.MapChange.TheVariants as StepOf
 use Rattle.litmus_merges.specs.declared.seen.Seen.{Seen}
 
 -- a byte, if there are any
@@ -20,7 +20,7 @@ byte_at None i = None
 byte_at (Some bytes) i = Some (bytes i)
 
 -- what a page shows at a place
-abbrev pub shown : ℕ → Option Entry → Option Seen
+abbrev pub shown : ℕ → Option PageEntry → Option Seen
 shown i None = None
 shown i (Some e) = Some (record { back = e.back; prot = e.prot; own = byte_at e.own i })
 
@@ -59,12 +59,12 @@ seen_copied None byte = None
 seen_copied (Some seen) byte = Some (record seen { own = own_copied seen.back seen.own byte })
 
 -- a byte of a file's page after a step
-abbrev pub stored_byte : Step → ℕ → ℕ → ℕ → ℕ → ℕ
+abbrev pub stored_byte : MapChange → ℕ → ℕ → ℕ → ℕ → ℕ
 stored_byte (StepOf.File file page offset stored) n p i byte =
     if n == file then (if p == page then (if i == offset then stored else byte) else byte) else byte
 stored_byte _ n p i byte = byte
 
 -- the byte that a place of a page shows, if there is one
-abbrev pub shown_byte : (ℕ → Option File) → Option Entry → ℕ → Option ℕ
+abbrev pub shown_byte : (ℕ → Option File) → Option PageEntry → ℕ → Option ℕ
 shown_byte files None i = None
 shown_byte files (Some e) i = byte_at (bytes_of files e.back e.own) i

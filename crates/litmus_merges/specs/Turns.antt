@@ -17,7 +17,7 @@ use Rattle.slot_lock.specs.declared.plan.Plan.{Plan}
 use Rattle.slot_lock.specs.declared.plan.Plan.TheVariants as PlanOf
 use Rattle.slot_lock.specs.declared.plan.Touch.{Touch}
 use Rattle.vm_calls.specs.Plainly.{touched_by}
-use Rattle.litmus_merges.specs.declared.change.Step.TheVariants as StepOf
+use Rattle.litmus_merges.specs.declared.change.MapChange.TheVariants as StepOf
 use Rattle.litmus_merges.specs.declared.seen.Seen.{Seen}
 use Rattle.litmus_merges.specs.declared.turning.Turn.{Turn}
 use Rattle.litmus_merges.specs.Steps.{IsSoundStep, after_any}

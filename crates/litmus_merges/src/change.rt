@@ -4,7 +4,7 @@ use slot_lock::Change;
 /// One change of a plain page map. A list of them is a map: what they make, in order, of one in which nothing is
 /// mapped.
 #[derive(Clone, Copy, PartialEq, Eq)]
-pub enum Step {
+pub enum MapChange {
     /// Each page of a range is mapped anew, unmapped, or protected.
     Change(Change),
     /// A private page that shows its file's page gets a copy of it.

@@ -4,7 +4,7 @@ ghost use Rattle.litmus_merges.specs.Laws.{AreNamed};
 ghost use Rattle.litmus_merges.specs.Nodes.{AreAll, AreOnce, AreReached, IsExplored, IsNode, IsTurned, Keeps};
 ghost use Rattle.litmus_merges.specs.Steps.{AreSound, map_of};
 
-use crate::change::Step;
+use crate::change::MapChange;
 use crate::ending::{End, list_ends};
 use crate::nodes::{Node, add, next_node};
 use crate::prints::Seats;
@@ -110,7 +110,7 @@ fn run<A: Allocator + Clone + Drop>(
 /// The node of the opening: no call has had its turn.
 fn first_node<A: Allocator + Clone>(
     calls: &[Asked],
-    opening: &[Step],
+    opening: &[MapChange],
     alloc: &A,
 ) -> Result<Node<A>, NoMemory>
     ensures told { IfOk result (λ node. node.told.items ≡ replicate (length calls.now) None) }
@@ -136,7 +136,7 @@ fn first_node<A: Allocator + Clone>(
 /// are kept; where there are more, the answer isn't whole. No call may leave its place open. `Err` says that memory was refused.
 pub fn explore<A: Allocator + Clone + Drop>(
     objects: &Objects<A>,
-    opening: &[Step],
+    opening: &[MapChange],
     calls: &[Asked],
     finals: &[u64],
     maps: bool,

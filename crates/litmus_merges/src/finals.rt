@@ -5,14 +5,14 @@ ghost use Rattle.vm_base.specs.Apply.{access_reply};
 ghost use Rattle.litmus_merges.specs.Finals.{AreShown};
 ghost use Rattle.litmus_merges.specs.Steps.{AreSound, map_of};
 
-use crate::change::Step;
+use crate::change::MapChange;
 use crate::turning::turn_of;
 use frames::Objects;
 use std::alloc::Allocator;
 use vm_base::{CoreId, NoMemory, Reply, Request};
 
 /// What a load of this address is answered.
-fn load<A: Allocator>(objects: &Objects<A>, steps: &[Step], addr: u64) -> Reply
+fn load<A: Allocator>(objects: &Objects<A>, steps: &[MapChange], addr: u64) -> Reply
     requires { AreSound steps.now }
     ensures { access_reply (map_of objects.now steps.now) addr LoadOf ≡ Some result }
 {
@@ -26,7 +26,7 @@ fn load<A: Allocator>(objects: &Objects<A>, steps: &[Step], addr: u64) -> Reply
 /// What loads of these addresses are answered.
 pub(crate) fn loads<A: Allocator + Clone>(
     objects: &Objects<A>,
-    steps: &[Step],
+    steps: &[MapChange],
     addrs: &[u64],
     alloc: &A,
 ) -> Result<Vec<Reply, A>, NoMemory>

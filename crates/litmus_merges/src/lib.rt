@@ -1,4 +1,11 @@
-//! Which replies the calls of several cores can have, by all merges of their calls on a plain page map.
+//! Which replies the calls of several cores can have, by all merges of them.
+//!
+//! - `exploring` (`explore`), `nodes`, `turning`, `ending`: merges, and the ends that they come to; `seen`, `prints`,
+//!   `numbers`: told apart.
+//! - `change`, `normal`, `passing`, `protecting`, `runs`, `reading`, `mappings`: the map as a list of changes.
+//! - `asked`, `opening`, `finals`: the calls, what comes before them, and loads that come after; `laws`.
+//!
+//! It exists for `exploring::explore`, clauses `reached`, `once` and `all`. No machine and no events are known here.
 #![tactic(auto)]
 
 pub mod asked;
@@ -21,7 +28,7 @@ mod seen;
 mod turning;
 
 pub use asked::Asked;
-pub use change::Step;
+pub use change::MapChange;
 pub use ending::End;
 pub use exploring::{Explored, explore};
 pub use mappings::are_same_maps;

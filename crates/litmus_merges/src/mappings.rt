@@ -8,7 +8,7 @@ ghost use Rattle.slot_lock.specs.MapWalks.{IsFirstMapped, IsRun};
 ghost use Rattle.litmus_merges.specs.Mappings.{AreMaps};
 ghost use Rattle.litmus_merges.specs.Steps.{AreSound, map_of};
 
-use crate::change::Step;
+use crate::change::MapChange;
 use crate::reading::look;
 use crate::runs::run_end;
 use crate::seen::Spot;
@@ -20,7 +20,7 @@ use vm_base::page::PAGE_LIMIT;
 use vm_base::{Meta, NoMemory, PageRange};
 
 /// What a page is mapped to, if it is mapped.
-fn meta_of<A: Allocator>(objects: &Objects<A>, steps: &[Step], page: u64) -> Option<Meta>
+fn meta_of<A: Allocator>(objects: &Objects<A>, steps: &[MapChange], page: u64) -> Option<Meta>
     requires { AreSound steps.now }
     ensures { result ≡ plain_metas (map_of objects.now steps.now) page }
 {
@@ -46,7 +46,7 @@ fn is_mapped_to(mapped: Option<Meta>, meta: Meta) -> bool
 /// The first mapped page from a page on, and what it is mapped to.
 fn first_mapped<A: Allocator>(
     objects: &Objects<A>,
-    steps: &[Step],
+    steps: &[MapChange],
     from: u64,
 ) -> Option<(u64, Meta)>
     requires { AreSound steps.now }
@@ -64,7 +64,7 @@ fn first_mapped<A: Allocator>(
 }
 
 /// Where the pages end that are mapped one after another from this one on.
-fn line_end<A: Allocator>(objects: &Objects<A>, steps: &[Step], first: u64, meta: Meta) -> u64
+fn line_end<A: Allocator>(objects: &Objects<A>, steps: &[MapChange], first: u64, meta: Meta) -> u64
     requires sound { AreSound steps.now }
     requires page { IsPage first }
     requires mapped { plain_metas (map_of objects.now steps.now) first ≡ Some meta }
@@ -83,7 +83,7 @@ fn line_end<A: Allocator>(objects: &Objects<A>, steps: &[Step], first: u64, meta
 }
 
 /// The first mapping that begins at the page `from` or above, where none goes across that page.
-fn next_line<A: Allocator>(objects: &Objects<A>, steps: &[Step], from: u64) -> Option<MapLine>
+fn next_line<A: Allocator>(objects: &Objects<A>, steps: &[MapChange], from: u64) -> Option<MapLine>
     requires sound { AreSound steps.now }
     requires from { 1 ≤ from }
     requires begins { ¬ GoesOn (plain_metas (map_of objects.now steps.now) (from - 1))
@@ -105,7 +105,7 @@ fn next_line<A: Allocator>(objects: &Objects<A>, steps: &[Step], from: u64) -> O
 /// All mappings, in order.
 fn all_lines<A: Allocator>(
     objects: &Objects<A>,
-    steps: &[Step],
+    steps: &[MapChange],
     alloc: A,
 ) -> Result<Vec<MapLine, A>, NoMemory>
     requires { AreSound steps.now }
@@ -123,7 +123,7 @@ fn all_lines<A: Allocator>(
 /// All mappings, in order, where they are asked for; and else none.
 pub(crate) fn mappings<A: Allocator + Clone>(
     objects: &Objects<A>,
-    steps: &[Step],
+    steps: &[MapChange],
     maps: bool,
     alloc: &A,
 ) -> Result<Vec<MapLine, A>, NoMemory>

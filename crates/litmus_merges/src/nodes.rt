@@ -5,7 +5,7 @@ ghost use Rattle.litmus_merges.specs.Laws.{AreNamed};
 ghost use Rattle.litmus_merges.specs.Merging.{IsNext as IsNextCall};
 ghost use Rattle.litmus_merges.specs.Nodes.{HasAlike, IsNext, IsNode};
 
-use crate::change::Step;
+use crate::change::MapChange;
 use crate::normal::steps_after;
 use crate::prints::{Seats, print_of};
 use crate::turning::{Turn, turn_of};
@@ -20,7 +20,7 @@ pub(crate) struct Node<A: Allocator> {
     /// The reply to each call, if its turn has come.
     pub told: Vec<Option<Reply>, A>,
     /// The map, by its changes.
-    pub steps: Vec<Step, A>,
+    pub steps: Vec<MapChange, A>,
     /// The node from which the turn led here.
     pub from: usize,
     /// The call that had the turn.
@@ -107,7 +107,7 @@ fn is_same_reply(one: Option<Reply>, other: Option<Reply>) -> bool
 }
 
 /// Tells whether two steps are the same.
-fn is_same_step(one: Step, other: Step) -> bool
+fn is_same_step(one: MapChange, other: MapChange) -> bool
     ensures { IsTrue result → one ≡ other }
 {
     one == other
@@ -131,7 +131,7 @@ fn are_same_replies(one: &[Option<Reply>], other: &[Option<Reply>]) -> bool
 }
 
 /// Tells whether two lists of steps are the same.
-fn are_same_steps(one: &[Step], other: &[Step]) -> bool
+fn are_same_steps(one: &[MapChange], other: &[MapChange]) -> bool
     ensures { IsTrue result → one.now ≡ other.now }
 {
     if one.len() != other.len() {

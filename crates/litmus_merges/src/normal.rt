@@ -4,14 +4,14 @@ ghost use Rattle.std.specs.Prelude.{◌≡◌, ◌≤◌, IfOk, IfSome, Some, le
 ghost use Rattle.litmus_merges.specs.Passing.{AreAlikeBefore, IsCovered, PassFrom};
 ghost use Rattle.litmus_merges.specs.Steps.{AreSound, IsSoundStep, StepsAfter};
 
-use crate::change::Step;
+use crate::change::MapChange;
 use crate::passing::{covers, may_pass};
 use crate::prints::step_print;
 use std::alloc::Allocator;
 use vm_base::NoMemory;
 
 /// The place of a step of which this one leaves nothing, if there is one that may stand right before it.
-fn covered(steps: &[Step], step: Step) -> Option<usize>
+fn covered(steps: &[MapChange], step: MapChange) -> Option<usize>
     ensures { IfSome result (IsCovered steps.now step) }
 {
     let mut at = steps.len();
@@ -30,7 +30,7 @@ fn covered(steps: &[Step], step: Step) -> Option<usize>
 }
 
 /// Takes steps out of which this one leaves nothing.
-fn drop_covered<A: Allocator>(steps: &mut Vec<Step, A>, step: Step)
+fn drop_covered<A: Allocator>(steps: &mut Vec<MapChange, A>, step: MapChange)
     requires sound { AreSound steps.old.items }
     ensures alike { AreAlikeBefore step steps.old.items steps.new.items }
     ensures sound { AreSound steps.new.items }
@@ -46,7 +46,7 @@ fn drop_covered<A: Allocator>(steps: &mut Vec<Step, A>, step: Step)
 }
 
 /// Where the step is to stand: before the first of the steps that it may pass and whose number is larger.
-fn place_of(steps: &[Step], step: Step) -> usize
+fn place_of(steps: &[MapChange], step: MapChange) -> usize
     ensures within { result ≤ length steps.now }
     ensures pass { PassFrom steps.now result step }
 {
@@ -68,7 +68,7 @@ fn place_of(steps: &[Step], step: Step) -> usize
 }
 
 /// Puts one more step in. `Err` says that memory was refused.
-fn put_in<A: Allocator>(steps: &mut Vec<Step, A>, step: Step) -> Result<(), NoMemory>
+fn put_in<A: Allocator>(steps: &mut Vec<MapChange, A>, step: MapChange) -> Result<(), NoMemory>
     requires sound { AreSound steps.old.items }
     requires sound_step { IsSoundStep step }
     ensures map { IfOk result (λ _. StepsAfter steps.old.items (Some step) steps.new.items) }
@@ -83,10 +83,10 @@ fn put_in<A: Allocator>(steps: &mut Vec<Step, A>, step: Step) -> Result<(), NoMe
 
 /// The steps with one more, if there is one.
 pub(crate) fn steps_after<A: Allocator + Clone>(
-    steps: &[Step],
-    step: Option<Step>,
+    steps: &[MapChange],
+    step: Option<MapChange>,
     alloc: &A,
-) -> Result<Vec<Step, A>, NoMemory>
+) -> Result<Vec<MapChange, A>, NoMemory>
     requires sound { AreSound steps.now }
     requires sound_step { IfSome step IsSoundStep }
     ensures map { IfOk result (λ new. StepsAfter steps.now step new.items) }

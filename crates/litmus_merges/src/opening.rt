@@ -5,7 +5,7 @@ ghost use Rattle.litmus_merges.specs.Laws.{AreNamed};
 ghost use Rattle.litmus_merges.specs.OneTurn.{TurnsTo};
 ghost use Rattle.litmus_merges.specs.Steps.{AreSound, map_of};
 
-use crate::change::Step;
+use crate::change::MapChange;
 use crate::turning::turn_of;
 use frames::Objects;
 use crate::Asked;
@@ -43,7 +43,7 @@ pub fn are_named(calls: &[Asked]) -> bool
 /// it stores to got a copy first, and its own turn is still to come. `Err` says that memory was refused; the map is as it was.
 pub fn lead<A: Allocator>(
     objects: &Objects<A>,
-    opening: &mut Vec<Step, A>,
+    opening: &mut Vec<MapChange, A>,
     core: CoreId,
     request: Request,
 ) -> Result<Option<Reply>, NoMemory>

@@ -2,7 +2,7 @@
 ghost use Rattle.std.specs.Prelude.{◌≡◌};
 ghost use Rattle.litmus_merges.specs.Passing.{are_apart, change_covers, change_passes, copy_passes, covers, file_covers, file_passes, is_inside, is_within, may_pass, own_covers, own_passes, protects_within, spares};
 
-use crate::change::Step;
+use crate::change::MapChange;
 use slot_lock::Change;
 use vm_base::PageRange;
 
@@ -32,54 +32,54 @@ fn spares(change: Change, page: u64) -> bool
 }
 
 /// Tells whether a change and a step may change places.
-fn change_passes(change: Change, other: Step) -> bool
+fn change_passes(change: Change, other: MapChange) -> bool
     ensures { result ≡ change_passes change other }
 {
     match other {
-        Step::Change(other) => are_apart(change.range(), other.range()),
-        Step::Copy { page } => spares(change, page),
-        Step::Own { page, .. } => spares(change, page),
-        Step::File { .. } => true,
+        MapChange::Change(other) => are_apart(change.range(), other.range()),
+        MapChange::Copy { page } => spares(change, page),
+        MapChange::Own { page, .. } => spares(change, page),
+        MapChange::File { .. } => true,
     }
 }
 
 /// Tells whether the copy of a page and a step may change places.
-fn copy_passes(page: u64, other: Step) -> bool
+fn copy_passes(page: u64, other: MapChange) -> bool
     ensures { result ≡ copy_passes page other }
 {
     match other {
-        Step::Change(change) => spares(change, page),
-        Step::Copy { page: other } => page != other,
-        Step::Own { page: other, .. } => page != other,
-        Step::File { .. } => false,
+        MapChange::Change(change) => spares(change, page),
+        MapChange::Copy { page: other } => page != other,
+        MapChange::Own { page: other, .. } => page != other,
+        MapChange::File { .. } => false,
     }
 }
 
 /// Tells whether another own byte of a page and a step may change places.
-fn own_passes(page: u64, offset: u64, other: Step) -> bool
+fn own_passes(page: u64, offset: u64, other: MapChange) -> bool
     ensures { result ≡ own_passes page offset other }
 {
     match other {
-        Step::Change(change) => spares(change, page),
-        Step::Copy { page: other } => page != other,
-        Step::Own {
+        MapChange::Change(change) => spares(change, page),
+        MapChange::Copy { page: other } => page != other,
+        MapChange::Own {
             page: other,
             offset: there,
             ..
         } => page != other || offset != there,
-        Step::File { .. } => true,
+        MapChange::File { .. } => true,
     }
 }
 
 /// Tells whether another byte of a file and a step may change places.
-fn file_passes(file: u32, page: u64, offset: u64, other: Step) -> bool
+fn file_passes(file: u32, page: u64, offset: u64, other: MapChange) -> bool
     ensures { result ≡ file_passes file page offset other }
 {
     match other {
-        Step::Change(_) => true,
-        Step::Copy { .. } => false,
-        Step::Own { .. } => true,
-        Step::File {
+        MapChange::Change(_) => true,
+        MapChange::Copy { .. } => false,
+        MapChange::Own { .. } => true,
+        MapChange::File {
             file: other,
             page: k,
             offset: there,
@@ -89,14 +89,14 @@ fn file_passes(file: u32, page: u64, offset: u64, other: Step) -> bool
 }
 
 /// Tells whether two steps may change places.
-pub(crate) fn may_pass(one: Step, other: Step) -> bool
+pub(crate) fn may_pass(one: MapChange, other: MapChange) -> bool
     ensures { result ≡ may_pass one other }
 {
     match one {
-        Step::Change(change) => change_passes(change, other),
-        Step::Copy { page } => copy_passes(page, other),
-        Step::Own { page, offset, .. } => own_passes(page, offset, other),
-        Step::File {
+        MapChange::Change(change) => change_passes(change, other),
+        MapChange::Copy { page } => copy_passes(page, other),
+        MapChange::Own { page, offset, .. } => own_passes(page, offset, other),
+        MapChange::File {
             file,
             page,
             offset,
@@ -106,30 +106,30 @@ pub(crate) fn may_pass(one: Step, other: Step) -> bool
 }
 
 /// Tells whether the step changes pages of the range alone.
-fn is_within(step: Step, range: PageRange) -> bool
+fn is_within(step: MapChange, range: PageRange) -> bool
     ensures { result ≡ is_within step range }
 {
     match step {
-        Step::Change(change) => is_inside(change.range(), range),
-        Step::Copy { page } => range.contains(page),
-        Step::Own { page, .. } => range.contains(page),
-        Step::File { .. } => false,
+        MapChange::Change(change) => is_inside(change.range(), range),
+        MapChange::Copy { page } => range.contains(page),
+        MapChange::Own { page, .. } => range.contains(page),
+        MapChange::File { .. } => false,
     }
 }
 
 /// Tells whether the step protects pages of the range alone.
-fn protects_within(step: Step, range: PageRange) -> bool
+fn protects_within(step: MapChange, range: PageRange) -> bool
     ensures { result ≡ protects_within step range }
 {
     match step {
-        Step::Change(Change::Protect { range: other, .. }) => is_inside(other, range),
-        Step::Change(Change::Put { .. }) | Step::Change(Change::Clear { .. }) => false,
-        Step::Copy { .. } | Step::Own { .. } | Step::File { .. } => false,
+        MapChange::Change(Change::Protect { range: other, .. }) => is_inside(other, range),
+        MapChange::Change(Change::Put { .. }) | MapChange::Change(Change::Clear { .. }) => false,
+        MapChange::Copy { .. } | MapChange::Own { .. } | MapChange::File { .. } => false,
     }
 }
 
 /// Tells whether the change leaves nothing of the step before it.
-fn change_covers(change: Change, earlier: Step) -> bool
+fn change_covers(change: Change, earlier: MapChange) -> bool
     ensures { result ≡ change_covers change earlier }
 {
     match change {
@@ -140,43 +140,43 @@ fn change_covers(change: Change, earlier: Step) -> bool
 }
 
 /// Tells whether another own byte there leaves nothing of the step before it.
-fn own_covers(page: u64, offset: u64, earlier: Step) -> bool
+fn own_covers(page: u64, offset: u64, earlier: MapChange) -> bool
     ensures { result ≡ own_covers page offset earlier }
 {
     match earlier {
-        Step::Own {
+        MapChange::Own {
             page: other,
             offset: there,
             ..
         } => page == other && offset == there,
-        Step::Change(_) | Step::Copy { .. } | Step::File { .. } => false,
+        MapChange::Change(_) | MapChange::Copy { .. } | MapChange::File { .. } => false,
     }
 }
 
 /// Tells whether another byte of the file there leaves nothing of the step before it.
-fn file_covers(file: u32, page: u64, offset: u64, earlier: Step) -> bool
+fn file_covers(file: u32, page: u64, offset: u64, earlier: MapChange) -> bool
     ensures { result ≡ file_covers file page offset earlier }
 {
     match earlier {
-        Step::File {
+        MapChange::File {
             file: other,
             page: k,
             offset: there,
             ..
         } => file == other && (page == k && offset == there),
-        Step::Change(_) | Step::Copy { .. } | Step::Own { .. } => false,
+        MapChange::Change(_) | MapChange::Copy { .. } | MapChange::Own { .. } => false,
     }
 }
 
 /// Tells whether the later step leaves nothing of the earlier one.
-pub(crate) fn covers(later: Step, earlier: Step) -> bool
+pub(crate) fn covers(later: MapChange, earlier: MapChange) -> bool
     ensures { result ≡ covers later earlier }
 {
     match later {
-        Step::Change(change) => change_covers(change, earlier),
-        Step::Copy { .. } => false,
-        Step::Own { page, offset, .. } => own_covers(page, offset, earlier),
-        Step::File {
+        MapChange::Change(change) => change_covers(change, earlier),
+        MapChange::Copy { .. } => false,
+        MapChange::Own { page, offset, .. } => own_covers(page, offset, earlier),
+        MapChange::File {
             file,
             page,
             offset,

@@ -1,7 +1,7 @@
 //! Numbers that two nodes share only by chance, and where nodes are looked for by them. Nothing is believed of either: what is
 //! found is compared.
 
-use crate::change::Step;
+use crate::change::MapChange;
 use slot_lock::Change;
 use std::alloc::Allocator;
 use vm_base::{Back, Errno, Meta, NoMemory, PageRange, Prot, Reply, SegvCode};
@@ -41,20 +41,20 @@ fn meta_print(print: u64, meta: Meta) -> u64 {
 }
 
 /// A number for a step, with that of the steps before it.
-pub(crate) fn step_print(print: u64, step: Step) -> u64 {
+pub(crate) fn step_print(print: u64, step: MapChange) -> u64 {
     match step {
-        Step::Change(Change::Put { range, meta }) => {
+        MapChange::Change(Change::Put { range, meta }) => {
             meta_print(range_print(mixed(print, 1), range), meta)
         }
-        Step::Change(Change::Clear { range }) => range_print(mixed(print, 2), range),
-        Step::Change(Change::Protect { range, prot }) => {
+        MapChange::Change(Change::Clear { range }) => range_print(mixed(print, 2), range),
+        MapChange::Change(Change::Protect { range, prot }) => {
             mixed(range_print(mixed(print, 3), range), prot_print(prot))
         }
-        Step::Copy { page } => mixed(mixed(print, 4), page),
-        Step::Own { page, offset, byte } => {
+        MapChange::Copy { page } => mixed(mixed(print, 4), page),
+        MapChange::Own { page, offset, byte } => {
             mixed(mixed(mixed(mixed(print, 5), page), offset), u64::from(byte))
         }
-        Step::File {
+        MapChange::File {
             file,
             page,
             offset,
@@ -94,7 +94,7 @@ fn reply_print(print: u64, reply: Option<Reply>) -> u64 {
 }
 
 /// A number for a node of these replies and steps.
-pub(crate) fn print_of(told: &[Option<Reply>], steps: &[Step]) -> u64 {
+pub(crate) fn print_of(told: &[Option<Reply>], steps: &[MapChange]) -> u64 {
     let mut print = 0u64;
     'replies: for k in 0..told.len() {
         let reply = told[k];

@@ -4,7 +4,7 @@ ghost use Rattle.vm_base.specs.Apply.{HasPage, is_absent, is_read_only, is_read_
 ghost use Rattle.frames.specs.Files.{files_of};
 ghost use Rattle.litmus_merges.specs.Steps.{AreSound, map_of};
 
-use crate::change::Step;
+use crate::change::MapChange;
 use crate::reading::look;
 use crate::runs::run_end;
 use crate::seen::Spot;
@@ -13,7 +13,7 @@ use std::alloc::Allocator;
 use vm_base::{Back, PageRange};
 
 /// Tells whether a page isn't mapped.
-fn is_absent<A: Allocator>(objects: &Objects<A>, steps: &[Step], page: u64) -> bool
+fn is_absent<A: Allocator>(objects: &Objects<A>, steps: &[MapChange], page: u64) -> bool
     requires { AreSound steps.now }
     ensures { result ≡ is_absent ((map_of objects.now steps.now).entry page) }
 {
@@ -26,7 +26,7 @@ fn is_absent<A: Allocator>(objects: &Objects<A>, steps: &[Step], page: u64) -> b
 /// Tells whether some page of the range isn't mapped.
 pub(crate) fn has_absent<A: Allocator>(
     objects: &Objects<A>,
-    steps: &[Step],
+    steps: &[MapChange],
     range: PageRange,
 ) -> bool
     requires { AreSound steps.now }
@@ -56,7 +56,7 @@ fn is_read_only_back<A: Allocator>(objects: &Objects<A>, back: Back) -> bool
 }
 
 /// Tells whether a page is a shared one of a file that isn't open for writing.
-fn is_read_only<A: Allocator>(objects: &Objects<A>, steps: &[Step], page: u64) -> bool
+fn is_read_only<A: Allocator>(objects: &Objects<A>, steps: &[MapChange], page: u64) -> bool
     requires { AreSound steps.now }
     ensures { result ≡ is_read_only (map_of objects.now steps.now).file ((map_of objects.now steps.now).entry page) }
 {
@@ -69,7 +69,7 @@ fn is_read_only<A: Allocator>(objects: &Objects<A>, steps: &[Step], page: u64) -
 /// Tells whether some page of the range is a shared one of a file that isn't open for writing.
 pub(crate) fn has_read_only<A: Allocator>(
     objects: &Objects<A>,
-    steps: &[Step],
+    steps: &[MapChange],
     range: PageRange,
 ) -> bool
     requires { AreSound steps.now }

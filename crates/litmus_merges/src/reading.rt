@@ -1,11 +1,11 @@
 //! What the map that steps make shows at one place.
 ghost use Rattle.std.specs.Prelude.{◌≡◌, ◌<◌, Option};
-ghost use Rattle.vm_base.specs.Plain.{Entry, back_bytes, file_bytes};
+ghost use Rattle.vm_base.specs.Plain.{PageEntry, back_bytes, file_bytes};
 ghost use Rattle.slot_lock.specs.Plan.{IsSoundChange};
 ghost use Rattle.litmus_merges.specs.Seen.{byte_at, own_copied, seen_change, seen_copied, shown, shown_byte, stored_byte};
 ghost use Rattle.litmus_merges.specs.Steps.{AreSound, IsSoundStep, after, map_of};
 
-use crate::change::Step;
+use crate::change::MapChange;
 use crate::seen::{Seen, Spot, fresh, protected, with_byte};
 use frames::Objects;
 use slot_lock::Change;
@@ -13,11 +13,11 @@ use std::alloc::Allocator;
 use vm_base::Back;
 
 /// A byte of a file's page after a step, if there is such a page.
-fn stored_byte(step: Step, file: u32, spot: Spot, byte: u8) -> u8
+fn stored_byte(step: MapChange, file: u32, spot: Spot, byte: u8) -> u8
     ensures { result ≡ stored_byte step file spot.page spot.offset byte }
 {
     match step {
-        Step::File {
+        MapChange::File {
             file: other,
             page,
             offset,
@@ -29,14 +29,14 @@ fn stored_byte(step: Step, file: u32, spot: Spot, byte: u8) -> u8
                 byte
             }
         }
-        Step::Change(_) | Step::Copy { .. } | Step::Own { .. } => byte,
+        MapChange::Change(_) | MapChange::Copy { .. } | MapChange::Own { .. } => byte,
     }
 }
 
 /// A byte of a file's page, if there is such a page.
 pub(crate) fn file_byte<A: Allocator>(
     objects: &Objects<A>,
-    steps: &[Step],
+    steps: &[MapChange],
     file: u32,
     spot: Spot,
 ) -> Option<u8>
@@ -57,7 +57,7 @@ pub(crate) fn file_byte<A: Allocator>(
 /// The byte that a page without own bytes shows, if there is one.
 fn back_byte<A: Allocator>(
     objects: &Objects<A>,
-    steps: &[Step],
+    steps: &[MapChange],
     back: Back,
     offset: u64,
 ) -> Option<u8>
@@ -74,12 +74,12 @@ fn back_byte<A: Allocator>(
 /// The byte that a place shows, if there is one.
 pub(crate) fn shown_byte<A: Allocator>(
     objects: &Objects<A>,
-    steps: &[Step],
+    steps: &[MapChange],
     seen: Option<Seen>,
     offset: u64,
 ) -> Option<u8>
     requires { offset < 4096 }
-    ensures { (o : Option Entry) → seen ≡ shown offset o
+    ensures { (o : Option PageEntry) → seen ≡ shown offset o
         → result ≡ shown_byte (map_of objects.now steps.now).file o offset }
 {
     let Some(seen) = seen else {
@@ -144,8 +144,8 @@ fn seen_changed(change: Change, page: u64, seen: Option<Seen>) -> Option<Seen>
 /// What a place shows after a step.
 fn seen_after<A: Allocator>(
     objects: &Objects<A>,
-    before: &[Step],
-    step: Step,
+    before: &[MapChange],
+    step: MapChange,
     spot: Spot,
     seen: Option<Seen>,
 ) -> Option<Seen>
@@ -155,15 +155,15 @@ fn seen_after<A: Allocator>(
     ensures { result ≡ shown spot.offset ((after (map_of objects.now before.now) step).entry spot.page) }
 {
     match step {
-        Step::Change(change) => seen_changed(change, spot.page, seen),
-        Step::Copy { page } => {
+        MapChange::Change(change) => seen_changed(change, spot.page, seen),
+        MapChange::Copy { page } => {
             if spot.page != page {
                 return seen;
             }
             let byte = shown_byte(objects, before, seen, spot.offset);
             copied(seen, byte)
         }
-        Step::Own { page, offset, byte } => {
+        MapChange::Own { page, offset, byte } => {
             if spot.page != page {
                 return seen;
             }
@@ -172,12 +172,12 @@ fn seen_after<A: Allocator>(
             }
             with_byte(seen, byte)
         }
-        Step::File { .. } => seen,
+        MapChange::File { .. } => seen,
     }
 }
 
 /// What a place shows, if its page is mapped.
-pub(crate) fn look<A: Allocator>(objects: &Objects<A>, steps: &[Step], spot: Spot) -> Option<Seen>
+pub(crate) fn look<A: Allocator>(objects: &Objects<A>, steps: &[MapChange], spot: Spot) -> Option<Seen>
     requires offset { spot.offset < 4096 }
     requires sound { AreSound steps.now }
     ensures { result ≡ shown spot.offset ((map_of objects.now steps.now).entry spot.page) }

@@ -2,7 +2,7 @@
 ghost use Rattle.std.specs.Prelude.{◌<◌, ◌≤◌};
 ghost use Rattle.litmus_merges.specs.Runs.{AreOneRun, IsOneRun};
 
-use crate::change::Step;
+use crate::change::MapChange;
 use vm_base::PageRange;
 
 /// Where a run that begins at this page and ends at the latest there ends by the bounds of a range.
@@ -23,20 +23,20 @@ fn range_end(range: PageRange, page: u64, end: u64) -> u64
 }
 
 /// Where it ends by a step.
-fn step_end(step: Step, page: u64, end: u64) -> u64
+fn step_end(step: MapChange, page: u64, end: u64) -> u64
     requires { page < end }
     ensures further { page < result }
     ensures within { result ≤ end }
     ensures run { IsOneRun step page result }
 {
     match step {
-        Step::Change(change) => range_end(change.range(), page, end),
-        Step::Copy { .. } | Step::Own { .. } | Step::File { .. } => end,
+        MapChange::Change(change) => range_end(change.range(), page, end),
+        MapChange::Copy { .. } | MapChange::Own { .. } | MapChange::File { .. } => end,
     }
 }
 
 /// Where the run of pages ends that begins at this page, or at the latest there.
-pub(crate) fn run_end(steps: &[Step], page: u64, end: u64) -> u64
+pub(crate) fn run_end(steps: &[MapChange], page: u64, end: u64) -> u64
     requires { page < end }
     ensures further { page < result }
     ensures within { result ≤ end }

@@ -9,7 +9,7 @@ ghost use Rattle.litmus_merges.specs.OneTurn.{TurnsTo};
 ghost use Rattle.litmus_merges.specs.Steps.{AreSound, IsSoundStep, after_any, map_of};
 ghost use Rattle.litmus_merges.specs.Turns.{IsChangeTurn, IsPlanTurn, IsTouchTurn, answer_alone, byte_turn, page_turn, store_turn, touch_turn};
 
-use crate::change::Step;
+use crate::change::MapChange;
 use crate::protecting::{has_absent, has_read_only};
 use crate::reading::{look, shown_byte};
 use crate::seen::{Seen, Spot};
@@ -27,7 +27,7 @@ pub(crate) struct Turn {
     /// The reply.
     pub reply: Option<Reply>,
     /// The step.
-    pub step: Option<Step>,
+    pub step: Option<MapChange>,
 }
 
 /// The request is answered, and nothing changes.
@@ -53,12 +53,12 @@ fn store_turn(back: Back, own: Option<u8>, touch: Touch) -> Turn
     match own {
         Some(_) => Turn {
             reply: Some(Reply::Done),
-            step: Some(Step::Own { page, offset, byte }),
+            step: Some(MapChange::Own { page, offset, byte }),
         },
         None => match back {
             Back::Shared { file, page: k } => Turn {
                 reply: Some(Reply::Done),
-                step: Some(Step::File {
+                step: Some(MapChange::File {
                     file,
                     page: k,
                     offset,
@@ -67,7 +67,7 @@ fn store_turn(back: Back, own: Option<u8>, touch: Touch) -> Turn
             },
             Back::Anon | Back::Private { .. } => Turn {
                 reply: None,
-                step: Some(Step::Copy { page }),
+                step: Some(MapChange::Copy { page }),
             },
         },
     }
@@ -110,7 +110,7 @@ fn touch_turn(seen: Option<Seen>, byte: Option<u8>, touch: Touch) -> Turn
 }
 
 /// The turn of an access.
-fn access_turn<A: Allocator>(objects: &Objects<A>, steps: &[Step], touch: Touch) -> Turn
+fn access_turn<A: Allocator>(objects: &Objects<A>, steps: &[MapChange], touch: Touch) -> Turn
     requires offset { touch.offset < 4096 }
     requires sound { AreSound steps.now }
     ensures { IsTouchTurn (map_of objects.now steps.now) touch result }
@@ -127,7 +127,7 @@ fn access_turn<A: Allocator>(objects: &Objects<A>, steps: &[Step], touch: Touch)
 /// The turn of an mprotect: refused where a page isn't mapped, or may not be made writable.
 fn protect_turn<A: Allocator>(
     objects: &Objects<A>,
-    steps: &[Step],
+    steps: &[MapChange],
     range: PageRange,
     prot: Prot,
 ) -> Turn
@@ -143,12 +143,12 @@ fn protect_turn<A: Allocator>(
     }
     Turn {
         reply: Some(Reply::Done),
-        step: Some(Step::Change(Change::Protect { range, prot })),
+        step: Some(MapChange::Change(Change::Protect { range, prot })),
     }
 }
 
 /// The turn of a change of a range.
-fn change_turn<A: Allocator>(objects: &Objects<A>, steps: &[Step], change: Change) -> Turn
+fn change_turn<A: Allocator>(objects: &Objects<A>, steps: &[MapChange], change: Change) -> Turn
     requires change { IsSoundChange change }
     requires sound { AreSound steps.now }
     ensures { IsChangeTurn (map_of objects.now steps.now) change result }
@@ -156,18 +156,18 @@ fn change_turn<A: Allocator>(objects: &Objects<A>, steps: &[Step], change: Chang
     match change {
         Change::Put { range, .. } => Turn {
             reply: Some(Reply::Mapped(range.first * PAGE_SIZE)),
-            step: Some(Step::Change(change)),
+            step: Some(MapChange::Change(change)),
         },
         Change::Clear { .. } => Turn {
             reply: Some(Reply::Done),
-            step: Some(Step::Change(change)),
+            step: Some(MapChange::Change(change)),
         },
         Change::Protect { range, prot } => protect_turn(objects, steps, range, prot),
     }
 }
 
 /// The turn of a plan, which isn't that of a mapping whose place is still open.
-fn plan_turn<A: Allocator>(objects: &Objects<A>, steps: &[Step], plan: Plan) -> Turn
+fn plan_turn<A: Allocator>(objects: &Objects<A>, steps: &[MapChange], plan: Plan) -> Turn
     requires plan { IsSoundPlan plan }
     requires named { (place : Place) → plan ≡ PlanOf.Place place → ⊥ }
     requires sound { AreSound steps.now }
@@ -183,7 +183,7 @@ fn plan_turn<A: Allocator>(objects: &Objects<A>, steps: &[Step], plan: Plan) -> 
 /// What the turn of a core's request comes to, which leaves no place open.
 pub(crate) fn turn_of<A: Allocator>(
     objects: &Objects<A>,
-    steps: &[Step],
+    steps: &[MapChange],
     core: CoreId,
     request: Request,
 ) -> Turn

@@ -17,7 +17,7 @@ use Rattle.core_steps.proofs.Keeping.{step_made}
 use Rattle.core_steps.proofs.Reached.{few_cores}
 use Rattle.frames.specs.Files.{FileParts, files_of}
 use Rattle.litmus_merges.specs.declared.asked.Asked.{Asked}
-use Rattle.litmus_merges.specs.declared.change.Step.{Step as StepOf}
+use Rattle.litmus_merges.specs.declared.change.MapChange.{MapChange}
 use Rattle.litmus_merges.specs.declared.ending.End.{End}
 use Rattle.litmus_merges.specs.Mappings.{AreMaps, IsSight}
 use Rattle.litmus_merges.specs.Nodes.{AreAll, AreOnce, HasEnd, HasEndOf}
@@ -25,9 +25,9 @@ use Rattle.litmus_merges.specs.Steps.{map_of}
 use Rattle.litmus_merges.proofs.Lists.{get_one, get_some, get_within, old_or_new, told_one}
 use Rattle.litmus_outcomes.specs.Performed.{ArePlain, FinalsAreShown}
 use Rattle.litmus_merges.specs.Finals.{loads_by}
-use Rattle.litmus_outcomes.specs.declared.outcome.Outcome.{Outcome as Found}
+use Rattle.litmus_outcomes.specs.declared.outcome.LitmusOutcome.{LitmusOutcome}
 use Rattle.litmus_outcomes.specs.declared.outcome.Outcomes.{Outcomes}
-use Rattle.trace_words.specs.Declarations.{Asked as Declared}
+use Rattle.trace_words.specs.Declarations.{DeclarationView}
 use Rattle.litmus_outcomes.specs.declared.fault.Late.{Late}
 use Rattle.litmus_outcomes.specs.declared.fault.Late.TheVariants as LateOf
 use Rattle.litmus_outcomes.specs.Faults.{Faults, fault_by}
@@ -114,7 +114,7 @@ witnessed made es w v u calls loads maps replies finals lines first later calm o
 
 -- ---- what is explored
 
-pub all_from : {A : Type 0} (objects : List FileParts) (steps : List StepOf) (w : World) (calls : List Asked) (addrs : List ℕ) (maps : Bool) (ends : List (End A))
+pub all_from : {A : Type 0} (objects : List FileParts) (steps : List MapChange) (w : World) (calls : List Asked) (addrs : List ℕ) (maps : Bool) (ends : List (End A))
     → files_of objects ≡ w.made.file → AreOfLog objects w.calls.requests w.calls.log steps → AreAll calls addrs maps (map_of objects steps) ends
     → (t : Plain) → LeadsTo w t → AreAll calls addrs maps t ends
 all_from objects steps w calls addrs maps ends files of all t leads =
@@ -123,7 +123,7 @@ all_from objects steps w calls addrs maps ends files of all t leads =
 
 -- ---- the list
 
-pub has_listed : {A : Type 0} (ends : List (End A)) (list : List (Found A)) (replies finals : List Reply) (lines : List MapLine) → AreListed ends list
+pub has_listed : {A : Type 0} (ends : List (End A)) (list : List (LitmusOutcome A)) (replies finals : List Reply) (lines : List MapLine) → AreListed ends list
     → HasEnd ends replies finals lines → Has list replies finals lines
 has_listed ends list replies finals lines listed has =
     let within = get_within ends has.0 has.1 has.2 in
@@ -132,7 +132,7 @@ has_listed ends list replies finals lines listed has =
     let of = listed.1 has.0 has.1 one.0 has.2 one.1 in
     (has.0, one.0, one.1, of.replies ∙ has.3, of.finals ∙ has.4, of.maps ∙ has.5)
 
-pub once_listed : {A : Type 0} (ends : List (End A)) (list : List (Found A)) → AreListed ends list → AreOnce ends → (j k : ℕ) (one other : Found A)
+pub once_listed : {A : Type 0} (ends : List (End A)) (list : List (LitmusOutcome A)) → AreListed ends list → AreOnce ends → (j k : ℕ) (one other : LitmusOutcome A)
     → slice_get list j ≡ Some one → slice_get list k ≡ Some other → one.replies.items ≡ other.replies.items
     → one.finals.items ≡ other.finals.items → one.maps.items ≡ other.maps.items → j ≡ k
 once_listed ends list listed once j k one other e f same alike mapped =
@@ -196,37 +196,37 @@ are_outcomes {A} made calls loads addrs maps it ends w law are calm listed once 
 -- ---- one outcome more
 
 -- the outcome at a place is that of the end there
-abbrev pub EachListed : {A : Type 0} → List (End A) → List (Found A) → Type 0
-EachListed {A} ends list = (k : ℕ) (end : End A) (one : Found A) → slice_get ends k ≡ Some end → slice_get list k ≡ Some one → IsOf end one
+abbrev pub EachListed : {A : Type 0} → List (End A) → List (LitmusOutcome A) → Type 0
+EachListed {A} ends list = (k : ℕ) (end : End A) (one : LitmusOutcome A) → slice_get ends k ≡ Some end → slice_get list k ≡ Some one → IsOf end one
 
-pub listed_none : {A : Type 0} (ends : List (End A)) (list : List (Found A)) → list ≡ [] → EachListed ends list
+pub listed_none : {A : Type 0} (ends : List (End A)) (list : List (LitmusOutcome A)) → list ≡ [] → EachListed ends list
 listed_none ends list none = subst (EachListed ends) (sym none) (λ k end one e f. absurd cc)
 
-pub listed_more : {A : Type 0} (ends : List (End A)) (list new : List (Found A)) (end : End A) (one : Found A) → new ≡ list ++ one ∷ [] → EachListed ends list
+pub listed_more : {A : Type 0} (ends : List (End A)) (list new : List (LitmusOutcome A)) (end : End A) (one : LitmusOutcome A) → new ≡ list ++ one ∷ [] → EachListed ends list
     → slice_get ends (length list) ≡ Some end → IsOf end one → EachListed ends new
 listed_more {A} ends list new end one more each is of = subst (EachListed ends) (sym more) (λ k other x e f. by k other x e (old_or_new list one x k f))
   where
-    by : (k : ℕ) (other : End A) (x : Found A) → slice_get ends k ≡ Some other → (slice_get list k ≡ Some x) ⊎ ((k ≡ length list) × (one ≡ x)) → IsOf other x
+    by : (k : ℕ) (other : End A) (x : LitmusOutcome A) → slice_get ends k ≡ Some other → (slice_get list k ≡ Some x) ⊎ ((k ≡ length list) × (one ≡ x)) → IsOf other x
     by k other x e (inl old) = each k other x e old
     by k other x e (inr here) =
         let same : end ≡ other = get_one ends (length list) end other is (subst (λ (n : ℕ). slice_get ends n ≡ Some other) here.0 e) in
         subst (λ (y : End A). IsOf y x) same (subst (IsOf end) here.1 of)
 
-pub seen_none : {A : Type 0} (made : Made) (es : List Event) (t : Plain) (calls loads : List Asked) (maps : Bool) (list : List (Found A)) → list ≡ []
+pub seen_none : {A : Type 0} (made : Made) (es : List Event) (t : Plain) (calls loads : List Asked) (maps : Bool) (list : List (LitmusOutcome A)) → list ≡ []
     → AreSeen made es t calls loads maps list
 seen_none made es t calls loads maps list none = subst (AreSeen made es t calls loads maps) (sym none) (λ k one e. absurd cc)
 
-pub seen_more : {A : Type 0} (made : Made) (es : List Event) (t : Plain) (calls loads : List Asked) (maps : Bool) (list new : List (Found A)) (one : Found A)
+pub seen_more : {A : Type 0} (made : Made) (es : List Event) (t : Plain) (calls loads : List Asked) (maps : Bool) (list new : List (LitmusOutcome A)) (one : LitmusOutcome A)
     → new ≡ list ++ one ∷ [] → AreSeen made es t calls loads maps list → IsSeen made es t calls loads maps one → AreSeen made es t calls loads maps new
 seen_more {A} made es t calls loads maps list new one more seen h =
     subst (AreSeen made es t calls loads maps) (sym more) (λ k x e. by k x (old_or_new list one x k e))
   where
-    by : (k : ℕ) (x : Found A) → (slice_get list k ≡ Some x) ⊎ ((k ≡ length list) × (one ≡ x)) → IsSeen made es t calls loads maps x
+    by : (k : ℕ) (x : LitmusOutcome A) → (slice_get list k ≡ Some x) ⊎ ((k ≡ length list) × (one ≡ x)) → IsSeen made es t calls loads maps x
     by k x (inl old) = seen k x old
     by k x (inr here) = subst (IsSeen made es t calls loads maps) here.1 h
 
 -- a witness, if one was found
-pub seen_by : {A : Type 0} (made : Made) (es : List Event) (w : World) (calls loads : List Asked) (maps : Bool) (end : End A) (one : Found A) → IsOf end one
+pub seen_by : {A : Type 0} (made : Made) (es : List Event) (w : World) (calls loads : List Asked) (maps : Bool) (end : End A) (one : LitmusOutcome A) → IsOf end one
     → IfSome one.witness (λ events. (t : Plain) → LeadsTo w t → IsWitness made es t calls loads maps end.replies.items end.finals.items
     end.maps.items events.items) → (t : Plain) → LeadsTo w t → IsSeen made es t calls loads maps one
 seen_by made es w calls loads maps end one of found t leads events is =
@@ -238,7 +238,7 @@ seen_by made es w calls loads maps end one of found t leads events is =
 
 -- ---- faults
 
-pub late_faults : (declared : Declared) (calls : List Asked) (late : Late) → Faults declared calls (fault_by late)
+pub late_faults : (declared : DeclarationView) (calls : List Asked) (late : Late) → Faults declared calls (fault_by late)
 late_faults declared calls (LateOf.Open core) = tt
 late_faults declared calls LateOf.NotLed = tt
 late_faults declared calls LateOf.NoMemory = tt

@@ -11,7 +11,7 @@ use Rattle.vm_base.specs.Apply.{Applies, access_reply, bytes_reply, copied, deta
 use Rattle.vm_base.specs.Copies.{if_copied, or_else, page_due, with_copy}
 use Rattle.vm_base.specs.Log.{CanAccess}
 use Rattle.vm_base.specs.Pages.{is_page, offset_of, page_of}
-use Rattle.vm_base.specs.Plain.{Bytes, Entry as PageEntry, bytes_of, nothing_mapped}
+use Rattle.vm_base.specs.Plain.{Bytes, PageEntry, bytes_of, nothing_mapped}
 use Rattle.vm_base.specs.Rights.{is_allowed}
 use Rattle.std.proofs.lemmas.Bool.Decides.{nat_tests}
 use Rattle.std.proofs.Common.{is_some, ◌^◌, ◌<◌, ◌≤◌}

@@ -26,8 +26,8 @@ use Rattle.vm_base.specs.Requests.{is_placed}
 use Rattle.frames.specs.Files.{FileParts, files_of}
 use Rattle.litmus_merges.specs.OneTurn.{TurnsTo}
 use Rattle.litmus_merges.proofs.OneTurn.{one_end}
-use Rattle.litmus_merges.specs.declared.change.Step.{Step}
-use Rattle.litmus_merges.specs.declared.change.Step.TheVariants as StepOf
+use Rattle.litmus_merges.specs.declared.change.MapChange.{MapChange}
+use Rattle.litmus_merges.specs.declared.change.MapChange.TheVariants as StepOf
 use Rattle.litmus_merges.specs.Steps.{AreSound, after, map_of}
 use Rattle.litmus_merges.proofs.Maps.{after_push, sound_push}
 use Rattle.litmus_outcomes.proofs.Entries.{answer_turns}
@@ -210,27 +210,27 @@ unasked_one requests t v step call core y is u leads = let theirs : nth requests
 pub copy_one : (requests : List Request) (t : Plain) (step call page : ℕ) → LeadsToOne requests t (Detach step call page) (after t (StepOf.Copy page))
 copy_one requests t step call page u leads = sym (ap (or_else t) leads.1)
 
-pub copied_one : (objects : List FileParts) (requests : List Request) (old new : List Step) (step call page : ℕ) → new ≡ old ++ StepOf.Copy page ∷ []
+pub copied_one : (objects : List FileParts) (requests : List Request) (old new : List MapChange) (step call page : ℕ) → new ≡ old ++ StepOf.Copy page ∷ []
     → LeadsToOne requests (map_of objects old) (Detach step call page) (map_of objects new)
 copied_one objects requests old new step call page more =
     subst (LeadsToOne requests (map_of objects old) (Detach step call page))
     (sym (ap (map_of objects) more ∙ after_push (nothing_mapped (files_of objects)) old (StepOf.Copy page)))
     (copy_one requests (map_of objects old) step call page)
 
-pub copied_sound : (old new : List Step) (page : ℕ) → new ≡ old ++ StepOf.Copy page ∷ [] → AreSound old → AreSound new
+pub copied_sound : (old new : List MapChange) (page : ℕ) → new ≡ old ++ StepOf.Copy page ∷ [] → AreSound old → AreSound new
 copied_sound old new page more sound = subst AreSound (sym more) (sound_push old (StepOf.Copy page) sound tt)
 
 -- ---- a log
 
 -- what is left of it, from the map of these steps
-abbrev pub LeadsOn : List FileParts → List Request → List Entry → ℕ → List Step → Type 0
+abbrev pub LeadsOn : List FileParts → List Request → List Entry → ℕ → List MapChange → Type 0
 LeadsOn objects requests log k steps = (u : Plain) → Replays requests (nothing_mapped (files_of objects)) log u
     → Replays requests (map_of objects steps) (drop k log) u
 
-pub leads_first : (objects : List FileParts) (requests : List Request) (log : List Entry) (steps : List Step) → steps ≡ [] → LeadsOn objects requests log 0 steps
-leads_first objects requests log steps none u h = subst (λ (xs : List Step). Replays requests (map_of objects xs) log u) (sym none) h
+pub leads_first : (objects : List FileParts) (requests : List Request) (log : List Entry) (steps : List MapChange) → steps ≡ [] → LeadsOn objects requests log 0 steps
+leads_first objects requests log steps none u h = subst (λ (xs : List MapChange). Replays requests (map_of objects xs) log u) (sym none) h
 
-pub leads_next : (objects : List FileParts) (requests : List Request) (log : List Entry) (k : ℕ) (steps more : List Step) (e : Entry) → k < length log
+pub leads_next : (objects : List FileParts) (requests : List Request) (log : List Entry) (k : ℕ) (steps more : List MapChange) (e : Entry) → k < length log
     → e ≡ get_or log k e → LeadsOn objects requests log k steps → LeadsToOne requests (map_of objects steps) e (map_of objects more)
     → LeadsOn objects requests log (k + 1) more
 leads_next objects requests log k steps more e within is h one u all =
@@ -239,7 +239,7 @@ leads_next objects requests log k steps more e within is h one u all =
     (subst (λ (es : List Entry). Replays requests (map_of objects steps) es u) (drop_more log k e within) (h u all)) in
     subst (λ (m : Plain). Replays requests m (drop (k + 1) log) u) (one here.0 here.1) here.2
 
-pub leads_end : (objects : List FileParts) (requests : List Request) (log : List Entry) (k : ℕ) (steps : List Step) → length log ≤ k → AreSound steps
+pub leads_end : (objects : List FileParts) (requests : List Request) (log : List Entry) (k : ℕ) (steps : List MapChange) → length log ≤ k → AreSound steps
     → LeadsOn objects requests log k steps → AreOfLog objects requests log steps
 leads_end objects requests log k steps end sound h = record {
   sound = sound;

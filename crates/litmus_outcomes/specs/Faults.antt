@@ -2,14 +2,14 @@
 use Rattle.std.specs.Prelude.{◌≡◌, List, Some}
 use Rattle.litmus_merges.specs.declared.asked.Asked.{Asked}
 use Rattle.litmus_merges.specs.Laws.{AreNamed}
-use Rattle.trace_words.specs.Declarations.{Asked as Declared, asked_fault}
+use Rattle.trace_words.specs.Declarations.{DeclarationView, asked_fault}
 use Rattle.litmus_outcomes.specs.declared.fault.Late.{Late}
 use Rattle.litmus_outcomes.specs.declared.fault.Late.TheVariants as LateOf
 use Rattle.litmus_outcomes.specs.declared.fault.OutcomesFault.{OutcomesFault}
 use Rattle.litmus_outcomes.specs.declared.fault.OutcomesFault.TheVariants as Why
 
 -- a call leaves its place open, or the declaration has this fault; the others may come where these don't
-abbrev pub Faults : Declared → List Asked → OutcomesFault → Type 0
+abbrev pub Faults : DeclarationView → List Asked → OutcomesFault → Type 0
 Faults declared calls Why.Placed = ¬ AreNamed calls
 Faults declared calls (Why.Setup fault) = asked_fault declared ≡ Some fault
 Faults declared calls (Why.Open core) = Unit {0}

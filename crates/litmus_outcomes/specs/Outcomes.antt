@@ -17,7 +17,7 @@ use Rattle.litmus_merges.specs.Mappings.{AreMaps}
 use Rattle.litmus_outcomes.specs.Performed.{ArePlain, PerformsScript}
 use Rattle.litmus_outcomes.specs.declared.outcome.Opened.{Opened}
 use Rattle.litmus_outcomes.specs.declared.outcome.Opened.TheVariants as Line
-use Rattle.litmus_outcomes.specs.declared.outcome.Outcome.{Outcome}
+use Rattle.litmus_outcomes.specs.declared.outcome.LitmusOutcome.{LitmusOutcome}
 use Rattle.litmus_outcomes.specs.declared.outcome.Outcomes.{Outcomes}
 
 -- the events of a line: a call is followed by steps of its core
@@ -67,8 +67,8 @@ pub record IsWitness (made : Made) (opening : List Event) (t : Plain) (calls loa
   pub mapped : HasMaps maps after lines
 
 -- some outcome has these replies, finals and mappings
-abbrev pub Has : {A : Type 0} → List (Outcome A) → List Reply → List Reply → List MapLine → Type 0
-Has {A} list replies finals lines = (k : ℕ) × (it : Outcome A) × (slice_get list k ≡ Some it) × (it.replies.items ≡ replies)
+abbrev pub Has : {A : Type 0} → List (LitmusOutcome A) → List Reply → List Reply → List MapLine → Type 0
+Has {A} list replies finals lines = (k : ℕ) × (it : LitmusOutcome A) × (slice_get list k ≡ Some it) × (it.replies.items ≡ replies)
     × (it.finals.items ≡ finals) × (it.maps.items ≡ lines)
 
 -- Each outcome with a witness is reached. Where nothing else can come out, each list of events that performs the calls,
@@ -80,13 +80,13 @@ pub record AreOutcomes {A : Type 0} (made : Made) (calls : List Asked) (addrs : 
     pub map : Plain
     pub state : World
     pub opened : IsOpened made it.opening.items map state
-    pub reached : (k : ℕ) (one : Outcome A) (events : Vec Event A) → slice_get it.list.items k ≡ Some one
+    pub reached : (k : ℕ) (one : LitmusOutcome A) (events : Vec Event A) → slice_get it.list.items k ≡ Some one
         → one.witness ≡ Some events → IsWitness made it.opening.items map calls (loads_by 0 addrs) maps one.replies.items
         one.finals.items one.maps.items events.items
     pub all : it.whole ≡ true → (w v x : World) (events later : List Event) (replies finals : List Reply) (lines : List MapLine)
         (core : ℕ) → IsOpened made it.opening.items map w → Performs calls replies w events v → ArePlain replies
         → Performs (loads_by core addrs) finals v later x → ArePlain finals → HasMaps maps x lines
         → Has it.list.items replies finals lines
-    pub once : (j k : ℕ) (one other : Outcome A) → slice_get it.list.items j ≡ Some one
+    pub once : (j k : ℕ) (one other : LitmusOutcome A) → slice_get it.list.items j ≡ Some one
         → slice_get it.list.items k ≡ Some other → one.replies.items ≡ other.replies.items
         → one.finals.items ≡ other.finals.items → one.maps.items ≡ other.maps.items → j ≡ k

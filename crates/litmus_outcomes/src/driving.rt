@@ -4,7 +4,7 @@ ghost use Rattle.machine_model.specs.declared.event.Event.TheVariants.{Go as GoO
 ghost use Rattle.machine_model.specs.Step.{Step};
 ghost use Rattle.core_steps.specs.Machine.{state};
 
-use machine_log::Kept;
+use machine_log::KeepsAll;
 use core_steps::Machine;
 use machine_model::{Blocker, Event, Outcome};
 use slot_lock::SlotMap;
@@ -17,7 +17,7 @@ const STEPS: usize = 1 << 20;
 /// Gives the machine an event, and keeps it at the end of the list. After an `Err`, which says that memory was refused, the list is
 /// as it was.
 pub fn give<M: SlotMap, A: Allocator + Clone>(
-    machine: &mut Machine<M, A, Kept<A>>,
+    machine: &mut Machine<M, A, KeepsAll<A>>,
     events: &mut Vec<Event, A>,
     event: &Event,
 ) -> Result<Outcome, NoMemory>
@@ -31,7 +31,7 @@ pub fn give<M: SlotMap, A: Allocator + Clone>(
 
 /// Gives the machine steps of the core's call until one isn't Stepped.
 pub fn go_on<M: SlotMap, A: Allocator + Clone>(
-    machine: &mut Machine<M, A, Kept<A>>,
+    machine: &mut Machine<M, A, KeepsAll<A>>,
     events: &mut Vec<Event, A>,
     core: CoreId,
 ) -> Result<(), NoMemory>
@@ -48,7 +48,7 @@ pub fn go_on<M: SlotMap, A: Allocator + Clone>(
 
 // Lets each of the cores act on its message: it invalidates, and acknowledges.
 fn acknowledge<M: SlotMap, A: Allocator + Clone>(
-    machine: &mut Machine<M, A, Kept<A>>,
+    machine: &mut Machine<M, A, KeepsAll<A>>,
     events: &mut Vec<Event, A>,
     cores: CoreSet,
 ) -> Result<(), NoMemory> {
@@ -64,7 +64,7 @@ fn acknowledge<M: SlotMap, A: Allocator + Clone>(
 
 // Lets the cores act that are waited for, if any are.
 fn acknowledge_some<M: SlotMap, A: Allocator + Clone>(
-    machine: &mut Machine<M, A, Kept<A>>,
+    machine: &mut Machine<M, A, KeepsAll<A>>,
     events: &mut Vec<Event, A>,
     blocker: Blocker,
 ) -> Result<(), NoMemory> {
@@ -76,7 +76,7 @@ fn acknowledge_some<M: SlotMap, A: Allocator + Clone>(
 
 // One step of the call that holds the slot, with the takes that it waits for.
 fn let_go<M: SlotMap, A: Allocator + Clone>(
-    machine: &mut Machine<M, A, Kept<A>>,
+    machine: &mut Machine<M, A, KeepsAll<A>>,
     events: &mut Vec<Event, A>,
     holder: CoreId,
 ) -> Result<(), NoMemory> {
@@ -89,7 +89,7 @@ fn let_go<M: SlotMap, A: Allocator + Clone>(
 
 // Does a part of what a call waits for.
 fn help<M: SlotMap, A: Allocator + Clone>(
-    machine: &mut Machine<M, A, Kept<A>>,
+    machine: &mut Machine<M, A, KeepsAll<A>>,
     events: &mut Vec<Event, A>,
     blocker: Blocker,
 ) -> Result<(), NoMemory> {
@@ -101,7 +101,7 @@ fn help<M: SlotMap, A: Allocator + Clone>(
 
 // One step of the core's call, or a part of what it waits for. `false` where the call makes no other step.
 fn advance<M: SlotMap, A: Allocator + Clone>(
-    machine: &mut Machine<M, A, Kept<A>>,
+    machine: &mut Machine<M, A, KeepsAll<A>>,
     events: &mut Vec<Event, A>,
     core: CoreId,
 ) -> Result<bool, NoMemory> {
@@ -118,7 +118,7 @@ fn advance<M: SlotMap, A: Allocator + Clone>(
 
 /// Drives the core's call until the log has this many entries, or the call makes no other step, or made too many.
 pub(crate) fn reach<M: SlotMap, A: Allocator + Clone>(
-    machine: &mut Machine<M, A, Kept<A>>,
+    machine: &mut Machine<M, A, KeepsAll<A>>,
     events: &mut Vec<Event, A>,
     core: CoreId,
     entries: usize,
@@ -137,7 +137,7 @@ pub(crate) fn reach<M: SlotMap, A: Allocator + Clone>(
 
 /// Drives the core's call until it makes no other step, or made too many.
 pub(crate) fn finish<M: SlotMap, A: Allocator + Clone>(
-    machine: &mut Machine<M, A, Kept<A>>,
+    machine: &mut Machine<M, A, KeepsAll<A>>,
     events: &mut Vec<Event, A>,
     core: CoreId,
 ) -> Result<(), NoMemory> {

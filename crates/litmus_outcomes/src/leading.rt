@@ -7,12 +7,12 @@ ghost use Rattle.vm_base.specs.declared.requests.Request.{Request as RequestOf};
 ghost use Rattle.vm_base.specs.Log.{nth};
 ghost use Rattle.vm_base.specs.Plain.{Plain};
 ghost use Rattle.vm_base.specs.Requests.{is_placed};
-ghost use Rattle.litmus_merges.specs.declared.change.Step.TheVariants as StepOf;
+ghost use Rattle.litmus_merges.specs.declared.change.MapChange.TheVariants as StepOf;
 ghost use Rattle.litmus_merges.specs.Steps.{AreSound, map_of};
 ghost use Rattle.litmus_outcomes.specs.Leading.{AreOfLog, LeadsToOne, LeavesOne};
 
 use frames::Objects;
-use litmus_merges::{Step, lead};
+use litmus_merges::{MapChange, lead};
 use std::alloc::Allocator;
 use vm_base::{CoreId, Entry, Flags, NoMemory, Reply, Request};
 
@@ -59,7 +59,7 @@ fn is_mapped_at(got: Option<Reply>, addr: u64) -> bool
 // Leads a request that names its place.
 fn lead_named<A: Allocator>(
     objects: &Objects<A>,
-    steps: &mut Vec<Step, A>,
+    steps: &mut Vec<MapChange, A>,
     core: CoreId,
     request: Request,
     reply: Reply,
@@ -79,7 +79,7 @@ fn lead_named<A: Allocator>(
 // Leads a mapping that got its place there, as the one that names it. `false` where it can't be led, which never comes.
 fn lead_placed<A: Allocator>(
     objects: &Objects<A>,
-    steps: &mut Vec<Step, A>,
+    steps: &mut Vec<MapChange, A>,
     core: CoreId,
     request: Request,
     addr: u64,
@@ -142,7 +142,7 @@ fn place_of(reply: Reply) -> Option<u64>
 // Leads a mapping that leaves its place open.
 fn lead_open<A: Allocator>(
     objects: &Objects<A>,
-    steps: &mut Vec<Step, A>,
+    steps: &mut Vec<MapChange, A>,
     core: CoreId,
     request: Request,
     reply: Reply,
@@ -165,7 +165,7 @@ fn lead_open<A: Allocator>(
 // Leads a request that has this reply.
 fn lead_answer<A: Allocator>(
     objects: &Objects<A>,
-    steps: &mut Vec<Step, A>,
+    steps: &mut Vec<MapChange, A>,
     core: CoreId,
     request: Request,
     reply: Reply,
@@ -186,12 +186,12 @@ fn lead_answer<A: Allocator>(
 }
 
 // Leads the copy of a page.
-fn lead_copy<A: Allocator>(steps: &mut Vec<Step, A>, page: u64) -> Result<(), NoMemory>
+fn lead_copy<A: Allocator>(steps: &mut Vec<MapChange, A>, page: u64) -> Result<(), NoMemory>
     requires { AreSound steps.old.items }
     ensures items { OnOk result (steps.new.items ≡ steps.old.items ++ StepOf.Copy page ∷ []) }
     ensures sound { AreSound steps.new.items }
 {
-    steps.push(Step::Copy { page })?;
+    steps.push(MapChange::Copy { page })?;
     Ok(())
 }
 
@@ -208,7 +208,7 @@ fn request_of(requests: &[Request], call: u64) -> Option<Request>
 fn lead_reply<A: Allocator>(
     objects: &Objects<A>,
     requests: &[Request],
-    steps: &mut Vec<Step, A>,
+    steps: &mut Vec<MapChange, A>,
     call: u64,
     core: CoreId,
     reply: Reply,
@@ -229,7 +229,7 @@ fn lead_reply<A: Allocator>(
 fn lead_entry<A: Allocator>(
     objects: &Objects<A>,
     requests: &[Request],
-    steps: &mut Vec<Step, A>,
+    steps: &mut Vec<MapChange, A>,
     entry: Entry,
 ) -> Result<bool, NoMemory>
     requires sound { AreSound steps.old.items }
@@ -262,7 +262,7 @@ pub(crate) fn lead_log<A: Allocator>(
     requests: &[Request],
     log: &[Entry],
     alloc: A,
-) -> Result<Option<Vec<Step, A>>, NoMemory>
+) -> Result<Option<Vec<MapChange, A>>, NoMemory>
     ensures { IfOk result (λ led. IfSome led (λ steps. AreOfLog objects.now requests.now log.now steps.items)) }
 {
     let mut steps = Vec::new(alloc);

@@ -1,4 +1,11 @@
 //! What can come out of a litmus test, each outcome with events that show it.
+//!
+//! - `listing` (`list_outcomes`), `outcome`, `fault`: the list; `opening`, `machines`, `leading`: what comes before
+//!   the calls.
+//! - `performing`, `witnessing`, `driving`, `turns`, `same`: events that perform the calls with given replies.
+//!
+//! It exists for `listing::list_outcomes`, clause `outcomes`; it stands on `laws::scripts_are_merged`. It knows of no
+//! text.
 #![tactic(auto)]
 
 pub mod driving;
@@ -17,6 +24,6 @@ mod witnessing;
 pub use driving::{give, go_on};
 pub use fault::OutcomesFault;
 pub use listing::list_outcomes;
-pub use outcome::{Opened, Outcome, Outcomes};
+pub use outcome::{Opened, LitmusOutcome, Outcomes};
 pub use performing::perform;
 pub use turns::schedule;

@@ -17,15 +17,15 @@ use crate::fault::{Late, OutcomesFault, fault_by};
 use crate::leading::lead_log;
 use crate::machines::{open, setup_of};
 use crate::opening::events_of;
-use crate::outcome::{Opened, Outcome, Outcomes};
+use crate::outcome::{Opened, LitmusOutcome, Outcomes};
 use crate::witnessing::{find_witness, loads_of};
 use frames::Objects;
 use litmus_merges::Asked;
-use machine_log::Kept;
+use machine_log::KeepsAll;
 use core_steps::Machine;
 use machine_model::Setup;
 use machine_model::Event;
-use litmus_merges::{End, Explored, Step, are_named, explore};
+use litmus_merges::{End, Explored, MapChange, are_named, explore};
 use crate::laws::finals_are_shown;
 use radix_range::RadixMap;
 use slot_lock::{MapLine, SlotMap};
@@ -60,9 +60,9 @@ fn objects_of<A: Allocator + Clone>(alloc: &A, declared: &Declaration) -> Result
 // The steps of the map to which the machine's log leads.
 fn steps_of<M: SlotMap, A: Allocator + Clone>(
     alloc: &A,
-    machine: &Machine<M, A, Kept<A>>,
+    machine: &Machine<M, A, KeepsAll<A>>,
     objects: &Objects<A>,
-) -> Result<Vec<Step, A>, Late>
+) -> Result<Vec<MapChange, A>, Late>
     ensures { IfOk result (λ steps. AreOfLog objects.now (state machine.now).calls.requests
         (state machine.now).calls.log steps.items) }
 {
@@ -80,7 +80,7 @@ fn steps_of<M: SlotMap, A: Allocator + Clone>(
 fn explore_from<A: Allocator + Clone + Drop>(
     alloc: &A,
     declared: &Declaration,
-    machine: &Machine<RadixMap<A>, A, Kept<A>>,
+    machine: &Machine<RadixMap<A>, A, KeepsAll<A>>,
     calls: &[Asked],
     finals: &[u64],
     maps: bool,
@@ -132,13 +132,13 @@ fn lines_of<A: Allocator + Clone>(alloc: &A, lines: &[MapLine]) -> Result<Vec<Ma
 fn outcome_of<A: Allocator + Clone + Drop>(
     alloc: &A,
     declared: &Declaration,
-    first: &Machine<RadixMap<A>, A, Kept<A>>,
+    first: &Machine<RadixMap<A>, A, KeepsAll<A>>,
     opening: &[Event],
     calls: &[Asked],
     loads: &[Asked],
     maps: bool,
     end: &End<A>,
-) -> Result<Outcome<A>, Late>
+) -> Result<LitmusOutcome<A>, Late>
     requires fault { asked_fault declared.now ≡ None }
     requires first { IsCalm (made_by declared.now) opening.now (state first.now) }
     ensures is { IfOk result (λ one. IsOf end.now one) }
@@ -158,7 +158,7 @@ fn outcome_of<A: Allocator + Clone + Drop>(
     let Ok(lines) = lines_of(alloc, end.maps.as_slice()) else {
         return Err(Late::NoMemory);
     };
-    Ok(Outcome {
+    Ok(LitmusOutcome {
         replies,
         finals,
         maps: lines,
@@ -170,13 +170,13 @@ fn outcome_of<A: Allocator + Clone + Drop>(
 fn outcomes_of<A: Allocator + Clone + Drop>(
     alloc: &A,
     declared: &Declaration,
-    first: &Machine<RadixMap<A>, A, Kept<A>>,
+    first: &Machine<RadixMap<A>, A, KeepsAll<A>>,
     opening: &[Event],
     calls: &[Asked],
     loads: &[Asked],
     maps: bool,
     ends: &[End<A>],
-) -> Result<Vec<Outcome<A>, A>, Late>
+) -> Result<Vec<LitmusOutcome<A>, A>, Late>
     requires fault { asked_fault declared.now ≡ None }
     requires first { IsCalm (made_by declared.now) opening.now (state first.now) }
     ensures listed { IfOk result (λ list. AreListed ends.now list.items) }
@@ -203,7 +203,7 @@ fn outcomes_of<A: Allocator + Clone + Drop>(
 fn list_on<A: Allocator + Clone + Drop>(
     alloc: &A,
     declared: &Declaration,
-    first: &Machine<RadixMap<A>, A, Kept<A>>,
+    first: &Machine<RadixMap<A>, A, KeepsAll<A>>,
     opening: Vec<Event, A>,
     calls: &[Asked],
     finals: &[u64],

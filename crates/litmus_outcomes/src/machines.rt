@@ -9,7 +9,7 @@ ghost use Rattle.litmus_outcomes.specs.Opening.{AreAlike, IsCalm, IsRun};
 
 use crate::fault::Late;
 use crate::same::is_same_request;
-use machine_log::Kept;
+use machine_log::KeepsAll;
 use core_steps::{Machine, Run, run};
 use machine_model::Setup;
 use machine_model::{Event, Outcome};
@@ -42,7 +42,7 @@ fn run_all<A: Allocator + Clone + Drop>(
     alloc: &A,
     setup: Setup<A>,
     events: &[Event],
-) -> Result<Run<RadixMap<A>, A, Kept<A>>, Late>
+) -> Result<Run<RadixMap<A>, A, KeepsAll<A>>, Late>
     requires { fault_of setup ≡ None }
     ensures { IfOk result (λ done. IsRun (made_of setup) events.now (state done.machine)) }
 {
@@ -64,7 +64,7 @@ fn run_all<A: Allocator + Clone + Drop>(
 
 // Whether it is a core of the machine, and has a call.
 fn has_call<M: SlotMap, A: Allocator + Clone>(
-    machine: &Machine<M, A, Kept<A>>,
+    machine: &Machine<M, A, KeepsAll<A>>,
     core: CoreId,
 ) -> bool
     ensures { result ≡ false → core < (state machine.now).made.cores → (state machine.now).calls.phase core ≡ Free }
@@ -77,7 +77,7 @@ fn has_call<M: SlotMap, A: Allocator + Clone>(
 }
 
 // The first core that has a call.
-fn first_open<M: SlotMap, A: Allocator + Clone>(machine: &Machine<M, A, Kept<A>>) -> Option<CoreId>
+fn first_open<M: SlotMap, A: Allocator + Clone>(machine: &Machine<M, A, KeepsAll<A>>) -> Option<CoreId>
     ensures { IfNone result ((c : ℕ) → c < 64 → c < (state machine.now).made.cores
         → (state machine.now).calls.phase c ≡ Free) }
 {
@@ -95,7 +95,7 @@ pub(crate) fn open<A: Allocator + Clone + Drop>(
     alloc: &A,
     declared: &Declaration,
     events: &[Event],
-) -> Result<Run<RadixMap<A>, A, Kept<A>>, Late>
+) -> Result<Run<RadixMap<A>, A, KeepsAll<A>>, Late>
     requires { asked_fault declared.now ≡ None }
     ensures { IfOk result (λ done. IsCalm (made_by declared.now) events.now (state done.machine)) }
 {
@@ -154,8 +154,8 @@ fn are_same_entries(one: &[Entry], other: &[Entry]) -> bool
 
 /// Tells whether two machines have begun the same calls, and have the same log.
 pub(crate) fn are_alike<M: SlotMap, A: Allocator + Clone>(
-    one: &Machine<M, A, Kept<A>>,
-    other: &Machine<M, A, Kept<A>>,
+    one: &Machine<M, A, KeepsAll<A>>,
+    other: &Machine<M, A, KeepsAll<A>>,
 ) -> bool
     ensures { result ≡ true → AreAlike (state one.now) (state other.now) }
 {
@@ -166,7 +166,7 @@ pub(crate) fn are_alike<M: SlotMap, A: Allocator + Clone>(
 
 /// Gives the machine the events, in order, and hands back what they came to. `Err` says that memory was refused.
 pub(crate) fn give_all<M: SlotMap, A: Allocator + Clone>(
-    machine: &mut Machine<M, A, Kept<A>>,
+    machine: &mut Machine<M, A, KeepsAll<A>>,
     events: &[Event],
     alloc: A,
 ) -> Result<Vec<Outcome, A>, NoMemory>

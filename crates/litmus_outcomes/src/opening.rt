@@ -8,7 +8,7 @@ ghost use Rattle.litmus_outcomes.specs.Outcomes.{AreLines, IsLine};
 use crate::fault::Late;
 use crate::machines::setup_of;
 use crate::outcome::Opened;
-use machine_log::{Kept, Opening};
+use machine_log::{KeepsAll, Opening};
 use core_steps::Machine;
 use machine_model::Setup;
 use machine_model::{Event, Outcome};
@@ -21,7 +21,7 @@ use vm_base::{CoreId, NoMemory, Request};
 
 // A call with its steps, if it begins.
 fn call<M: SlotMap, A: Allocator + Clone>(
-    machine: &mut Machine<M, A, Kept<A>>,
+    machine: &mut Machine<M, A, KeepsAll<A>>,
     events: &mut Vec<Event, A>,
     core: CoreId,
     request: Request,
@@ -37,7 +37,7 @@ fn call<M: SlotMap, A: Allocator + Clone>(
 
 // The events of a line.
 fn give_line<M: SlotMap, A: Allocator + Clone>(
-    machine: &mut Machine<M, A, Kept<A>>,
+    machine: &mut Machine<M, A, KeepsAll<A>>,
     events: &mut Vec<Event, A>,
     line: &Opened,
 ) -> Result<(), NoMemory>
@@ -55,7 +55,7 @@ fn give_line<M: SlotMap, A: Allocator + Clone>(
 
 // The events of all lines.
 fn give_lines<M: SlotMap, A: Allocator + Clone>(
-    machine: &mut Machine<M, A, Kept<A>>,
+    machine: &mut Machine<M, A, KeepsAll<A>>,
     lines: &[Opened],
     alloc: A,
 ) -> Result<Vec<Event, A>, NoMemory>
@@ -72,7 +72,7 @@ fn give_lines<M: SlotMap, A: Allocator + Clone>(
 fn make<A: Allocator + Clone + Drop>(
     alloc: &A,
     setup: Setup<A>,
-) -> Result<Machine<RadixMap<A>, A, Kept<A>>, Late> {
+) -> Result<Machine<RadixMap<A>, A, KeepsAll<A>>, Late> {
     let Ok(for_map) = alloc.clone() else {
         return Err(Late::NoMemory);
     };

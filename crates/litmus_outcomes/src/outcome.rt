@@ -21,14 +21,14 @@ pub struct Outcomes<A: Allocator> {
     /// The opening, event by event.
     pub opening: Vec<Event, A>,
     /// What was found, no two with the same replies, finals and mappings.
-    pub list: Vec<Outcome<A>, A>,
+    pub list: Vec<LitmusOutcome<A>, A>,
     /// Whether nothing else can come out. `false` where the limit of points was reached.
     pub whole: bool,
 }
 
 /// One of the outcomes.
 #[derive(Drop)]
-pub struct Outcome<A: Allocator> {
+pub struct LitmusOutcome<A: Allocator> {
     /// The reply to each call, in the order of the calls.
     pub replies: Vec<Reply, A>,
     /// What a load of each address that was asked for is answered once all calls are.

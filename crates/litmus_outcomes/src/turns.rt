@@ -1,7 +1,7 @@
 //! Turns of calls, one after another.
 use crate::driving::{finish, give, reach};
 use litmus_merges::Asked;
-use machine_log::Kept;
+use machine_log::KeepsAll;
 use core_steps::Machine;
 use machine_model::Event;
 use slot_lock::SlotMap;
@@ -20,7 +20,7 @@ fn has(order: &[usize], at: usize) -> bool {
 
 // Begins the call, if this is its first turn.
 fn begin<M: SlotMap, A: Allocator + Clone>(
-    machine: &mut Machine<M, A, Kept<A>>,
+    machine: &mut Machine<M, A, KeepsAll<A>>,
     events: &mut Vec<Event, A>,
     call: &Asked,
     begins: bool,
@@ -34,7 +34,7 @@ fn begin<M: SlotMap, A: Allocator + Clone>(
 
 // Drives the call up to its answer, if this was its last turn.
 fn end<M: SlotMap, A: Allocator + Clone>(
-    machine: &mut Machine<M, A, Kept<A>>,
+    machine: &mut Machine<M, A, KeepsAll<A>>,
     events: &mut Vec<Event, A>,
     call: &Asked,
     ends: bool,
@@ -48,7 +48,7 @@ fn end<M: SlotMap, A: Allocator + Clone>(
 // The turn of a call: up to its next entry in the log, from its begin on where it hasn't begun, and up to its answer where that
 // is its last turn.
 fn take_turn<M: SlotMap, A: Allocator + Clone>(
-    machine: &mut Machine<M, A, Kept<A>>,
+    machine: &mut Machine<M, A, KeepsAll<A>>,
     events: &mut Vec<Event, A>,
     call: &Asked,
     begins: bool,
@@ -64,7 +64,7 @@ fn take_turn<M: SlotMap, A: Allocator + Clone>(
 /// page is copied first. A call begins at its first turn and is finished after its last; where it waits, the cores that it
 /// waits for act on their messages, or the call that holds a slot makes a step. `Err` says that memory was refused.
 pub fn schedule<M: SlotMap, A: Allocator + Clone>(
-    machine: &mut Machine<M, A, Kept<A>>,
+    machine: &mut Machine<M, A, KeepsAll<A>>,
     calls: &[Asked],
     order: &[usize],
     alloc: A,

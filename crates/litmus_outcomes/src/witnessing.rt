@@ -13,7 +13,7 @@ use crate::fault::Late;
 use crate::machines::{are_alike, give_all, open};
 use crate::performing::perform;
 use litmus_merges::Asked;
-use machine_log::Kept;
+use machine_log::KeepsAll;
 use core_steps::Machine;
 use machine_model::Event;
 use litmus_merges::{End, are_same_maps};
@@ -57,7 +57,7 @@ fn places_of<A: Allocator>(count: usize, alloc: A) -> Result<Vec<usize, A>, NoMe
 
 // Events that should perform the calls by turns in this order, and then the loads.
 fn schedule_both<M: SlotMap, A: Allocator + Clone>(
-    machine: &mut Machine<M, A, Kept<A>>,
+    machine: &mut Machine<M, A, KeepsAll<A>>,
     calls: &[Asked],
     order: &[usize],
     loads: &[Asked],
@@ -95,7 +95,7 @@ fn scheduled<A: Allocator + Clone + Drop>(
 
 // Whether a machine performs the calls with these replies by these events.
 fn does<M: SlotMap, A: Allocator + Clone>(
-    machine: &mut Machine<M, A, Kept<A>>,
+    machine: &mut Machine<M, A, KeepsAll<A>>,
     calls: &[Asked],
     replies: &[Reply],
     events: &[Event],
@@ -111,7 +111,7 @@ fn does<M: SlotMap, A: Allocator + Clone>(
 
 // Whether these are all mappings of the machine, where they are asked for; and else whether there are none.
 fn has_maps<M: SlotMap, A: Allocator + Clone>(
-    machine: &Machine<M, A, Kept<A>>,
+    machine: &Machine<M, A, KeepsAll<A>>,
     maps: bool,
     lines: &[MapLine],
     alloc: &A,
@@ -127,7 +127,7 @@ fn has_maps<M: SlotMap, A: Allocator + Clone>(
 
 // Whether it performs the calls with the end's replies, and then the loads with its finals, and has its mappings then.
 fn does_both<M: SlotMap, A: Allocator + Clone>(
-    machine: &mut Machine<M, A, Kept<A>>,
+    machine: &mut Machine<M, A, KeepsAll<A>>,
     calls: &[Asked],
     loads: &[Asked],
     maps: bool,
@@ -161,7 +161,7 @@ fn does_both<M: SlotMap, A: Allocator + Clone>(
 fn is_witness<A: Allocator + Clone + Drop>(
     alloc: &A,
     declared: &Declaration,
-    first: &Machine<RadixMap<A>, A, Kept<A>>,
+    first: &Machine<RadixMap<A>, A, KeepsAll<A>>,
     opening: &[Event],
     calls: &[Asked],
     loads: &[Asked],
@@ -203,7 +203,7 @@ fn joined<A: Allocator>(tried: Tried<A>) -> Result<Vec<Event, A>, NoMemory>
 pub(crate) fn find_witness<A: Allocator + Clone + Drop>(
     alloc: &A,
     declared: &Declaration,
-    first: &Machine<RadixMap<A>, A, Kept<A>>,
+    first: &Machine<RadixMap<A>, A, KeepsAll<A>>,
     opening: &[Event],
     calls: &[Asked],
     loads: &[Asked],

@@ -7,8 +7,8 @@ use Rattle.litmus_merges.specs.declared.asked.Asked.{Asked}
 use Rattle.litmus_report.specs.Reports.{Known, are_reached, end_text}
 use Rattle.litmus_report.specs.Texts.{finals_text, if_mapped, replies_text}
 use Rattle.litmus_report.specs.Verdicts.{Outcome}
-use Rattle.litmus_report.specs.declared.counting.Mark.{Mark}
-use Rattle.litmus_report.specs.declared.counting.Mark.TheVariants.{Passed, Bad, Listed, Outside}
+use Rattle.litmus_report.specs.declared.counting.CountMark.{CountMark}
+use Rattle.litmus_report.specs.declared.counting.CountMark.TheVariants.{Passed, Bad, Listed, Outside}
 use Rattle.litmus_report.specs.declared.reporting.Searched.{Searched}
 
 -- ---- a line
@@ -63,16 +63,16 @@ bytes_of text = text.items
 abbrev pub is_listed : List (List ℕ) → List ℕ → Bool
 is_listed texts outcome = list_any (λ text. bytes_eq text outcome) texts
 
-abbrev pub mark_by : List (List ℕ) → Option (List ℕ) → Mark
+abbrev pub mark_by : List (List ℕ) → Option (List ℕ) → CountMark
 mark_by texts None = Bad
 mark_by texts (Some outcome) = if is_listed texts outcome then Listed else Outside
 
 -- what a line is
-abbrev pub mark_of : List (List ℕ) → List ℕ → Mark
+abbrev pub mark_of : List (List ℕ) → List ℕ → CountMark
 mark_of texts line = if is_passed line then Passed else mark_by texts (counted line)
 
 -- the line again, with a mark where its outcome isn't listed
-abbrev pub marked_text : Mark → List ℕ → List ℕ
+abbrev pub marked_text : CountMark → List ℕ → List ℕ
 marked_text Passed line = []
 marked_text Bad line = []
 marked_text Listed line = line ++ codes "\n"
@@ -81,7 +81,7 @@ marked_text Outside line = line ++ codes " (outside)\n"
 abbrev pub count_line : List (List ℕ) → List ℕ → List ℕ
 count_line texts line = marked_text (mark_of texts line) line
 
-abbrev pub is_outside : Mark → Bool
+abbrev pub is_outside : CountMark → Bool
 is_outside Outside = true
 is_outside mark = false
 

@@ -11,8 +11,8 @@ use Rattle.litmus_report.specs.Texts.{clause_text, observation_text, outcome_tex
 use Rattle.litmus_report.specs.Verdicts.{Outcome, condition_holds, count_so, is_so, judged}
 use Rattle.litmus_report.specs.declared.reporting.Searched.{Searched}
 use Rattle.litmus_report.specs.declared.verdict.Named.{Named}
-use Rattle.litmus_report.specs.declared.verdict.Verdict.{Verdict}
-use Rattle.litmus_report.specs.declared.verdict.Verdict.TheVariants.{Holds, Fails, Open}
+use Rattle.litmus_report.specs.declared.verdict.ClauseVerdict.{ClauseVerdict}
+use Rattle.litmus_report.specs.declared.verdict.ClauseVerdict.TheVariants.{Holds, Fails, Open}
 
 -- ---- the order of outcomes
 
@@ -63,7 +63,7 @@ known named outcomes = record { calls = named.calls.now; addrs = named.addrs.now
 abbrev pub texts_of : Known → List (List ℕ)
 texts_of k = map (outcome_text k.calls k.addrs k.maps) k.outcomes
 
-abbrev pub verdict_on : Known → Bool → Claim → Verdict
+abbrev pub verdict_on : Known → Bool → Claim → ClauseVerdict
 verdict_on k whole c = judged c.quantifier (condition_holds k.calls k.addrs c.terms) k.outcomes whole
 
 -- a clause, and what it comes to
@@ -87,11 +87,11 @@ report_text name k searched claims texts = codes "outcomes " ++ decimal (length 
 
 -- ---- the status
 
-abbrev pub is_failed : Verdict → Bool
+abbrev pub is_failed : ClauseVerdict → Bool
 is_failed Fails = true
 is_failed verdict = false
 
-abbrev pub is_open : Verdict → Bool
+abbrev pub is_open : ClauseVerdict → Bool
 is_open Open = true
 is_open verdict = false
 

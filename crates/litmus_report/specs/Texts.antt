@@ -12,13 +12,13 @@ use Rattle.litmus_text.specs.Scripts.{Claim}
 use Rattle.litmus_report.specs.Verdicts.{Outcome, condition_holds, count_so, is_so, judged}
 use Rattle.litmus_text.specs.declared.facts.Fact.{Fact}
 use Rattle.litmus_text.specs.declared.facts.Fact.TheVariants.{Has, Lacks, Shows}
-use Rattle.litmus_text.specs.declared.facts.Joint.{Joint}
-use Rattle.litmus_text.specs.declared.facts.Joint.TheVariants.{And, Or}
+use Rattle.litmus_text.specs.declared.facts.Connective.{Connective}
+use Rattle.litmus_text.specs.declared.facts.Connective.TheVariants.{And, Or}
 use Rattle.litmus_text.specs.declared.facts.Term.{Term}
 use Rattle.litmus_text.specs.declared.kinds.Quantifier.{Quantifier}
 use Rattle.litmus_text.specs.declared.kinds.Quantifier.TheVariants.{Exists, Never, Forall}
-use Rattle.litmus_report.specs.declared.verdict.Verdict.{Verdict}
-use Rattle.litmus_report.specs.declared.verdict.Verdict.TheVariants.{Holds, Fails, Open}
+use Rattle.litmus_report.specs.declared.verdict.ClauseVerdict.{ClauseVerdict}
+use Rattle.litmus_report.specs.declared.verdict.ClauseVerdict.TheVariants.{Holds, Fails, Open}
 
 -- ---- an outcome
 
@@ -76,7 +76,7 @@ quantifier_text Exists = codes "exists"
 quantifier_text Never = codes "never"
 quantifier_text Forall = codes "forall"
 
-abbrev pub joint_text : Joint → List ℕ
+abbrev pub joint_text : Connective → List ℕ
 joint_text And = codes " and "
 joint_text Or = codes " or "
 
@@ -100,7 +100,7 @@ terms_text (t ∷ ts) = fact_text t.fact ++ more_text ts
 abbrev pub clause_text : Claim → List ℕ
 clause_text c = quantifier_text c.quantifier ++ codes " " ++ terms_text c.terms
 
-abbrev pub verdict_text : Verdict → List ℕ
+abbrev pub verdict_text : ClauseVerdict → List ℕ
 verdict_text Holds = codes ": holds\n"
 verdict_text Fails = codes ": fails\n"
 verdict_text Open = codes ": open\n"

@@ -13,13 +13,13 @@ use Rattle.litmus_merges.specs.declared.asked.Asked.{Asked}
 use Rattle.litmus_text.specs.Places.{call_at}
 use Rattle.litmus_text.specs.declared.facts.Fact.{Fact}
 use Rattle.litmus_text.specs.declared.facts.Fact.TheVariants.{Has, Lacks, Shows}
-use Rattle.litmus_text.specs.declared.facts.Joint.{Joint}
-use Rattle.litmus_text.specs.declared.facts.Joint.TheVariants.{And, Or}
+use Rattle.litmus_text.specs.declared.facts.Connective.{Connective}
+use Rattle.litmus_text.specs.declared.facts.Connective.TheVariants.{And, Or}
 use Rattle.litmus_text.specs.declared.facts.Term.{Term}
 use Rattle.litmus_text.specs.declared.kinds.Quantifier.{Quantifier}
 use Rattle.litmus_text.specs.declared.kinds.Quantifier.TheVariants.{Exists, Never, Forall}
-use Rattle.litmus_report.specs.declared.verdict.Verdict.{Verdict}
-use Rattle.litmus_report.specs.declared.verdict.Verdict.TheVariants.{Holds, Fails, Open}
+use Rattle.litmus_report.specs.declared.verdict.ClauseVerdict.{ClauseVerdict}
+use Rattle.litmus_report.specs.declared.verdict.ClauseVerdict.TheVariants.{Holds, Fails, Open}
 
 -- ---- replies
 
@@ -82,7 +82,7 @@ fact_holds calls addrs o (Has core number reply) = is_given (reply_to calls o.re
 fact_holds calls addrs o (Lacks core number reply) = not (is_given (reply_to calls o.replies core number) reply)
 fact_holds calls addrs o (Shows addr shown) = is_given (at_place o.finals (place_of addrs addr)) (Byte shown)
 
-abbrev pub is_or : Joint → Bool
+abbrev pub is_or : Connective → Bool
 is_or And = false
 is_or Or = true
 
@@ -105,17 +105,17 @@ is_so false held = not held
 -- ---- all outcomes
 
 -- It is so of one that is known to come about; or of none, where the outcomes are all; or that isn't known.
-abbrev pub existence : (Outcome → Bool) → List Outcome → Bool → Verdict
+abbrev pub existence : (Outcome → Bool) → List Outcome → Bool → ClauseVerdict
 existence is outcomes whole = if list_any (λ o. o.reached && is o) outcomes then Holds
     else if whole && not (list_any is outcomes) then Fails else Open
 
-abbrev pub opposite : Verdict → Verdict
+abbrev pub opposite : ClauseVerdict → ClauseVerdict
 opposite Holds = Fails
 opposite Fails = Holds
 opposite Open = Open
 
 -- `never C` fails where `exists C` holds, and `forall C` is never not C
-abbrev pub judged : Quantifier → (Outcome → Bool) → List Outcome → Bool → Verdict
+abbrev pub judged : Quantifier → (Outcome → Bool) → List Outcome → Bool → ClauseVerdict
 judged Exists is outcomes whole = existence is outcomes whole
 judged Never is outcomes whole = opposite (existence is outcomes whole)
 judged Forall is outcomes whole = opposite (existence (λ o. not (is o)) outcomes whole)

@@ -6,9 +6,9 @@ use Rattle.std.specs.List.{flat_map}
 use Rattle.machine_model.specs.declared.event.Event.{Event}
 use Rattle.machine_model.specs.declared.event.Event.TheVariants as Ev
 use Rattle.trace_words.specs.Written.{core_word, request_words, spaced}
-use Rattle.litmus_report.specs.declared.witness.Part.{Part}
+use Rattle.litmus_report.specs.declared.witness.WitnessLine.{WitnessLine}
 use Rattle.litmus_report.specs.declared.witness.Piece.{Piece}
-use Rattle.litmus_report.specs.declared.witness.Part.TheVariants.{Now, Finish, One}
+use Rattle.litmus_report.specs.declared.witness.WitnessLine.TheVariants.{Now, Finish, One}
 
 -- the next event of the core's call goes on with it, before a new call begins
 abbrev pub goes_on : ℕ → List Event → Bool
@@ -26,7 +26,7 @@ abbrev pub Ends : ℕ → ℕ → List Event → List Event → Type 0
 Ends core n events rest = (events ≡ replicate (suc n) (Ev.Go core) ++ rest) × (goes_on core rest ≡ false)
 
 -- Parts stand for events: a call with all its steps, where none of another comes between; the last steps of a call; or one event.
-abbrev pub StandFor : List Part → List Event → Type 0
+abbrev pub StandFor : List WitnessLine → List Event → Type 0
 StandFor [] events = events ≡ []
 StandFor (Now core request ∷ parts) events = (n : ℕ) × (more : List Event) × (rest : List Event)
     × (events ≡ Ev.Call core request ∷ more) × Ends core n more rest × StandFor parts rest
@@ -37,7 +37,7 @@ StandFor (One event ∷ parts) events = (rest : List Event) × (events ≡ event
 pub record IsPiece (events : List Event) (at : ℕ) (p : Piece) : Type 0 where
   pub more : at < p.next
   pub within : p.next ≤ length events
-  pub stands : (parts : List Part) → StandFor parts (drop p.next events) → StandFor (p.part ∷ parts) (drop at events)
+  pub stands : (parts : List WitnessLine) → StandFor parts (drop p.next events) → StandFor (p.part ∷ parts) (drop at events)
 
 -- a core's word, and words behind it
 abbrev pub core_line : ℕ → List ℕ → List ℕ
@@ -59,16 +59,16 @@ event_line (Ev.Fold page) = codes "fold " ++ start_of page
 event_line (Ev.GiveUp core) = core_line core (codes " giveup")
 
 -- a part as the line of a trace
-abbrev pub part_line : Part → List ℕ
+abbrev pub part_line : WitnessLine → List ℕ
 part_line (Now core request) = core_line core (codes "!" ++ spaced (request_words request))
 part_line (Finish core) = core_line core (codes " finish")
 part_line (One event) = event_line event
 
-abbrev pub part_text : Part → List ℕ
+abbrev pub part_text : WitnessLine → List ℕ
 part_text part = part_line part ++ codes "\n"
 
 -- A trace: a comment that tells the outcome, up to 250 bytes of it, the lines in front, and lines that stand for the events.
 pub record IsTrace (outcome front : List ℕ) (events : List Event) (text : List ℕ) : Type 0 where
-  pub parts : List Part
+  pub parts : List WitnessLine
   pub stand : StandFor parts events
   pub is : text ≡ codes "# " ++ take (min (length outcome) 250) outcome ++ codes "\n" ++ front ++ flat_map part_text parts

@@ -9,14 +9,14 @@ ghost use Rattle.litmus_report.specs.Reports.{known};
 
 use crate::reporting::{Searched, add_end, are_reached};
 use crate::texts::{add_text, plain_text};
-use crate::verdict::{Ended, Named};
+use crate::verdict::{HasOutcome, Named};
 use std::alloc::Allocator;
 use trace_io::lines::front_line;
 use vm_base::NoMemory;
 
 /// What a line is among counts of outcomes.
 #[derive(Clone, Copy)]
-pub enum Mark {
+pub enum CountMark {
     /// It is empty, or a comment.
     Passed,
     /// It is no count.
@@ -116,7 +116,7 @@ pub fn bad_count(counts: &[u8]) -> Option<u64>
 // ---- beside the outcomes that are listed
 
 // The texts of all outcomes, as counts have them.
-fn plain_texts<T: Ended, A: Allocator + Clone>(
+fn plain_texts<T: HasOutcome, A: Allocator + Clone>(
     alloc: &A,
     named: &Named<'_>,
     outcomes: &[T],
@@ -144,35 +144,35 @@ fn is_listed<A: Allocator>(texts: &[Vec<u8, A>], outcome: &[u8]) -> bool
 }
 
 // What a line is.
-fn mark_of<A: Allocator>(texts: &[Vec<u8, A>], line: &[u8]) -> Mark
+fn mark_of<A: Allocator>(texts: &[Vec<u8, A>], line: &[u8]) -> CountMark
     ensures { result ≡ mark_of (map bytes_of texts.now) line.now }
 {
     if is_passed(line) {
-        return Mark::Passed;
+        return CountMark::Passed;
     }
     match counted(line) {
         Some(outcome) => {
             if is_listed(texts, outcome) {
-                Mark::Listed
+                CountMark::Listed
             } else {
-                Mark::Outside
+                CountMark::Outside
             }
         }
-        None => Mark::Bad,
+        None => CountMark::Bad,
     }
 }
 
 // Appends a line again, by what it is.
-fn add_marked<A: Allocator>(out: &mut Vec<u8, A>, mark: Mark, line: &[u8]) -> Result<(), NoMemory>
+fn add_marked<A: Allocator>(out: &mut Vec<u8, A>, mark: CountMark, line: &[u8]) -> Result<(), NoMemory>
     ensures { OnOk result (out.new.items ≡ out.old.items ++ marked_text mark line.now) }
 {
     match mark {
-        Mark::Passed | Mark::Bad => Ok(()),
-        Mark::Listed => {
+        CountMark::Passed | CountMark::Bad => Ok(()),
+        CountMark::Listed => {
             out.extend_from_slice(line)?;
             add_text(out, "\n")
         }
-        Mark::Outside => {
+        CountMark::Outside => {
             out.extend_from_slice(line)?;
             add_text(out, " (outside)\n")
         }
@@ -197,10 +197,10 @@ fn add_counts<A: Allocator, B: Allocator>(
     Ok(())
 }
 
-fn is_outside(mark: Mark) -> bool
+fn is_outside(mark: CountMark) -> bool
     ensures { result ≡ is_outside mark }
 {
-    matches!(mark, Mark::Outside)
+    matches!(mark, CountMark::Outside)
 }
 
 // Tells whether the outcome of a count isn't listed.
@@ -233,7 +233,7 @@ fn outside_status(outside: bool, whole: bool) -> u8
 /// What these counts come to, lines `COUNT: OUTCOME` that another system gave: each again, with ` (outside)` behind one whose outcome isn't
 /// listed, and then how the search for outcomes ended. The status is 1 where one isn't listed, but 3 where not all outcomes are
 /// known; and else 0. `Err` says that memory was refused.
-pub fn judge_counts<T: Ended, A: Allocator + Clone>(
+pub fn judge_counts<T: HasOutcome, A: Allocator + Clone>(
     alloc: &A,
     named: &Named<'_>,
     outcomes: &[T],

@@ -1,4 +1,10 @@
-//! What is told of a litmus test: its outcomes, what its clauses come to by these, and a trace that is a witness of one.
+//! What is told of a litmus test: outcomes, clauses, witnesses, and its C.
+//!
+//! - `reporting`, `texts`, `outcome`, `mappings`: outcomes in order; `verdict`: what clauses come to; `witness`: a
+//!   trace that `run` reads.
+//! - `counting`: counts of another system, judged; `program`, `program_text`: a test as a program for a kernel.
+//!
+//! It exists for `counting::judge_counts` and `verdict::judge`. It lists nothing itself.
 #![tactic(auto)]
 
 pub mod counting;
@@ -16,5 +22,5 @@ pub use mappings::add_mappings;
 pub use program::{Program, program_of};
 pub use reporting::{Row, Searched, in_order, report, status_of};
 pub use texts::outcome_text;
-pub use verdict::{Ended, Named, Verdict, judge};
+pub use verdict::{HasOutcome, Named, ClauseVerdict, judge};
 pub use witness::trace_of;

@@ -1,13 +1,13 @@
 //! Listed outcomes, as they are told.
 ghost use Rattle.std.specs.Prelude.{is_some};
 
-use crate::verdict::Ended;
-use litmus_outcomes::Outcome;
+use crate::verdict::HasOutcome;
+use litmus_outcomes::LitmusOutcome;
 use slot_lock::MapLine;
 use std::alloc::Allocator;
 use vm_base::Reply;
 
-impl<A: Allocator> Ended for Outcome<A> {
+impl<A: Allocator> HasOutcome for LitmusOutcome<A> {
     ghost use Rattle.std.specs.Prelude.{is_some};
 
     ghost outcome = { λ o. record { replies = o.replies.items; finals = o.finals.items; maps = o.maps.items; reached = is_some o.witness } };

@@ -9,9 +9,9 @@ ghost use Rattle.litmus_report.specs.Counts.{plain_text};
 ghost use Rattle.litmus_report.specs.Texts.{observation_text, outcome_text, quantifier_text, reached_text, replies_text, terms_text, verdict_text};
 
 use crate::mappings::add_if_mapped;
-use crate::verdict::{Ended, Named, Verdict};
+use crate::verdict::{HasOutcome, Named, ClauseVerdict};
 use litmus_merges::Asked;
-use litmus_text::facts::{Fact, Joint, Term};
+use litmus_text::facts::{Fact, Connective, Term};
 use litmus_text::kinds::Quantifier;
 use litmus_text::script::Clause;
 use std::alloc::Allocator;
@@ -135,7 +135,7 @@ fn reached_word(is_reached: bool) -> &'static str
 
 /// The text of an outcome: `c0 done; c1 1, 2`, behind it `; ADDR BYTE` for each final address, `; maps ` and the mappings where they
 /// are asked for, and ` (open)` where it isn't known to come about.
-pub fn outcome_text<T: Ended, A: Allocator>(
+pub fn outcome_text<T: HasOutcome, A: Allocator>(
     alloc: A,
     named: &Named<'_>,
     outcome: &T,
@@ -151,7 +151,7 @@ pub fn outcome_text<T: Ended, A: Allocator>(
 }
 
 /// The text of an outcome without a mark where it isn't known to come about.
-pub(crate) fn plain_text<T: Ended, A: Allocator>(
+pub(crate) fn plain_text<T: HasOutcome, A: Allocator>(
     alloc: A,
     named: &Named<'_>,
     outcome: &T,
@@ -175,22 +175,22 @@ fn quantifier_word(quantifier: Quantifier) -> &'static str
     }
 }
 
-fn joint_word(joint: Joint) -> &'static str
+fn joint_word(joint: Connective) -> &'static str
     ensures { result.now ≡ joint_text joint }
 {
     match joint {
-        Joint::And => " and ",
-        Joint::Or => " or ",
+        Connective::And => " and ",
+        Connective::Or => " or ",
     }
 }
 
-fn verdict_word(verdict: Verdict) -> &'static str
+fn verdict_word(verdict: ClauseVerdict) -> &'static str
     ensures { result.now ≡ verdict_text verdict }
 {
     match verdict {
-        Verdict::Holds => ": holds\n",
-        Verdict::Fails => ": fails\n",
-        Verdict::Open => ": open\n",
+        ClauseVerdict::Holds => ": holds\n",
+        ClauseVerdict::Fails => ": fails\n",
+        ClauseVerdict::Open => ": open\n",
     }
 }
 
@@ -265,7 +265,7 @@ pub(crate) fn add_clause<A: Allocator, B: Allocator>(
 /// Appends what a clause comes to, and a newline.
 pub(crate) fn add_verdict<A: Allocator>(
     out: &mut Vec<u8, A>,
-    verdict: Verdict,
+    verdict: ClauseVerdict,
 ) -> Result<(), NoMemory>
     ensures { OnOk result (out.new.items ≡ out.old.items ++ verdict_text verdict) }
 {

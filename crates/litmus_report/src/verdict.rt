@@ -7,7 +7,7 @@ ghost use Rattle.litmus_report.specs.Verdicts.{is_or, is_so, judged, opposite, p
 ghost use Rattle.litmus_text.specs.declared.facts.Term.{Term as TermOf};
 
 use litmus_merges::Asked;
-use litmus_text::facts::{Fact, Joint, Term};
+use litmus_text::facts::{Fact, Connective, Term};
 use litmus_text::kinds::Quantifier;
 use litmus_text::places::call_at;
 use slot_lock::MapLine;
@@ -15,7 +15,7 @@ use vm_base::{CoreId, Errno, Reply, SegvCode};
 
 /// What a clause comes to.
 #[derive(Clone, Copy)]
-pub enum Verdict {
+pub enum ClauseVerdict {
     /// It is so.
     Holds,
     /// It isn't.
@@ -25,7 +25,7 @@ pub enum Verdict {
 }
 
 /// An outcome of a litmus test.
-pub trait Ended {
+pub trait HasOutcome {
     ghost use Rattle.std.specs.Prelude.{◌≡◌};
     ghost use Rattle.litmus_report.specs.Verdicts.{Outcome};
 
@@ -137,14 +137,14 @@ fn at_place(replies: &[Reply], place: Option<usize>) -> Option<Reply>
 }
 
 // The reply to the core's call with this number.
-fn reply_to<T: Ended>(named: &Named<'_>, outcome: &T, core: CoreId, number: u64) -> Option<Reply>
+fn reply_to<T: HasOutcome>(named: &Named<'_>, outcome: &T, core: CoreId, number: u64) -> Option<Reply>
     ensures { result ≡ reply_to named.now.calls.now (T.outcome outcome.now).replies core number }
 {
     at_place(outcome.replies(), call_at(named.calls, core, number))
 }
 
 /// Tells whether a fact holds of an outcome.
-pub fn fact_holds<T: Ended>(named: &Named<'_>, outcome: &T, fact: Fact) -> bool
+pub fn fact_holds<T: HasOutcome>(named: &Named<'_>, outcome: &T, fact: Fact) -> bool
     ensures { result ≡ fact_holds named.now.calls.now named.now.addrs.now (T.outcome outcome.now) fact }
 {
     match fact {
@@ -160,14 +160,14 @@ pub fn fact_holds<T: Ended>(named: &Named<'_>, outcome: &T, fact: Fact) -> bool
     }
 }
 
-fn is_or(joint: Joint) -> bool
+fn is_or(joint: Connective) -> bool
     ensures { result ≡ is_or joint }
 {
-    matches!(joint, Joint::Or)
+    matches!(joint, Connective::Or)
 }
 
 /// Tells whether the facts, joined as they stand, hold of an outcome. `and` binds closer than `or`.
-pub fn condition_holds<T: Ended>(named: &Named<'_>, terms: &[Term], outcome: &T) -> bool
+pub fn condition_holds<T: HasOutcome>(named: &Named<'_>, terms: &[Term], outcome: &T) -> bool
     ensures { result ≡ condition_holds named.now.calls.now named.now.addrs.now terms.now (T.outcome outcome.now) }
 {
     let mut held = false;
@@ -186,7 +186,7 @@ pub fn condition_holds<T: Ended>(named: &Named<'_>, terms: &[Term], outcome: &T)
 }
 
 // Tells whether the condition holds of an outcome, or whether it doesn't.
-fn is_so<T: Ended>(named: &Named<'_>, terms: &[Term], wanted: bool, outcome: &T) -> bool
+fn is_so<T: HasOutcome>(named: &Named<'_>, terms: &[Term], wanted: bool, outcome: &T) -> bool
     ensures { result ≡ is_so wanted (condition_holds named.now.calls.now named.now.addrs.now terms.now (T.outcome outcome.now)) }
 {
     let held = condition_holds(named, terms, outcome);
@@ -194,7 +194,7 @@ fn is_so<T: Ended>(named: &Named<'_>, terms: &[Term], wanted: bool, outcome: &T)
 }
 
 // Tells whether it is so of an outcome.
-fn is_some<T: Ended>(named: &Named<'_>, terms: &[Term], wanted: bool, outcomes: &[T]) -> bool
+fn is_some<T: HasOutcome>(named: &Named<'_>, terms: &[Term], wanted: bool, outcomes: &[T]) -> bool
     ensures { result ≡ list_any (λ o. is_so wanted (condition_holds named.now.calls.now named.now.addrs.now terms.now o))
         (map T.outcome outcomes.now) }
 {
@@ -207,7 +207,7 @@ fn is_some<T: Ended>(named: &Named<'_>, terms: &[Term], wanted: bool, outcomes: 
 }
 
 // Tells whether it is so of an outcome that is known to come about.
-fn is_some_reached<T: Ended>(
+fn is_some_reached<T: HasOutcome>(
     named: &Named<'_>,
     terms: &[Term],
     wanted: bool,
@@ -225,44 +225,44 @@ fn is_some_reached<T: Ended>(
 }
 
 // Whether there is an outcome of which it is so.
-fn existence<T: Ended>(
+fn existence<T: HasOutcome>(
     named: &Named<'_>,
     terms: &[Term],
     wanted: bool,
     outcomes: &[T],
     whole: bool,
-) -> Verdict
+) -> ClauseVerdict
     ensures { result ≡ existence (λ o. is_so wanted (condition_holds named.now.calls.now named.now.addrs.now terms.now o))
         (map T.outcome outcomes.now) whole }
 {
     if is_some_reached(named, terms, wanted, outcomes) {
-        Verdict::Holds
+        ClauseVerdict::Holds
     } else if whole && !is_some(named, terms, wanted, outcomes) {
-        Verdict::Fails
+        ClauseVerdict::Fails
     } else {
-        Verdict::Open
+        ClauseVerdict::Open
     }
 }
 
-fn opposite(verdict: Verdict) -> Verdict
+fn opposite(verdict: ClauseVerdict) -> ClauseVerdict
     ensures { result ≡ opposite verdict }
 {
     match verdict {
-        Verdict::Holds => Verdict::Fails,
-        Verdict::Fails => Verdict::Holds,
-        Verdict::Open => Verdict::Open,
+        ClauseVerdict::Holds => ClauseVerdict::Fails,
+        ClauseVerdict::Fails => ClauseVerdict::Holds,
+        ClauseVerdict::Open => ClauseVerdict::Open,
     }
 }
 
 /// What a clause comes to, by these outcomes: all that there are, where they are `whole`. One that isn't known to come about
 /// decides none.
-pub fn judge<T: Ended>(
+pub fn judge<T: HasOutcome>(
     named: &Named<'_>,
     quantifier: Quantifier,
     terms: &[Term],
     outcomes: &[T],
     whole: bool,
-) -> Verdict
+) -> ClauseVerdict
     ensures { result ≡ judged quantifier (condition_holds named.now.calls.now named.now.addrs.now terms.now)
         (map T.outcome outcomes.now) whole }
 {
@@ -274,7 +274,7 @@ pub fn judge<T: Ended>(
 }
 
 /// Of how many outcomes that are known to come about the condition holds, or doesn't hold, as is wanted.
-pub fn count_so<T: Ended>(named: &Named<'_>, terms: &[Term], wanted: bool, outcomes: &[T]) -> usize
+pub fn count_so<T: HasOutcome>(named: &Named<'_>, terms: &[Term], wanted: bool, outcomes: &[T]) -> usize
     ensures { result ≡ count_so (λ o. is_so wanted (condition_holds named.now.calls.now named.now.addrs.now terms.now o))
         (map T.outcome outcomes.now) }
 {

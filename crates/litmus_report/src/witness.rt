@@ -18,7 +18,7 @@ const COMMENT: usize = 250;
 
 /// What a line of a witness stands for.
 #[derive(Clone, Copy)]
-pub enum Part {
+pub enum WitnessLine {
     /// `cC! REQ`: a call and all its steps.
     Now(CoreId, Request),
     /// `cC finish`: the last steps of the core's call.
@@ -94,7 +94,7 @@ fn ends_before(core: CoreId, events: &[Event], place: usize) -> bool
 // A part, and the place of the event behind those for which it stands.
 #[derive(Clone, Copy)]
 struct Piece {
-    part: Part,
+    part: WitnessLine,
     next: usize,
 }
 
@@ -105,7 +105,7 @@ fn one_at(events: &[Event], at: usize) -> Piece
     ensures { IsPiece events.now at result }
 {
     Piece {
-        part: Part::One(events[at]),
+        part: WitnessLine::One(events[at]),
         next: at + 1,
     }
 }
@@ -121,7 +121,7 @@ fn call_at(events: &[Event], at: usize, core: CoreId, request: Request) -> Piece
     let next = at + 1 + count;
     if count > 0 && ends_before(core, events, next) {
         return Piece {
-            part: Part::Now(core, request),
+            part: WitnessLine::Now(core, request),
             next,
         };
     }
@@ -138,7 +138,7 @@ fn step_at(events: &[Event], at: usize, core: CoreId) -> Piece
     let next = at + count;
     if count > 0 && ends_before(core, events, next) {
         return Piece {
-            part: Part::Finish(core),
+            part: WitnessLine::Finish(core),
             next,
         };
     }
@@ -160,10 +160,10 @@ fn piece_at(events: &[Event], at: usize) -> Piece
 
 /// Parts that stand for the events. `Err` says that memory was refused.
 #[tactic(auto, using(crate::proofs::PartLemmas::parts_more, crate::proofs::PartLemmas::parts_all))]
-pub fn parts_of<A: Allocator>(alloc: A, events: &[Event]) -> Result<Vec<Part, A>, NoMemory>
+pub fn parts_of<A: Allocator>(alloc: A, events: &[Event]) -> Result<Vec<WitnessLine, A>, NoMemory>
     ensures { IfOk result (λ parts. StandFor parts.items events.now) }
 {
-    let mut parts: Vec<Part, A> = Vec::new(alloc);
+    let mut parts: Vec<WitnessLine, A> = Vec::new(alloc);
     let mut at = 0;
     'events: while at < events.len() {
         let piece = piece_at(events, at);
@@ -269,18 +269,18 @@ fn add_event<A: Allocator>(out: &mut Vec<u8, A>, event: Event) -> Result<(), NoM
 }
 
 // Appends a part, as a line of a trace has it.
-fn add_part<A: Allocator>(out: &mut Vec<u8, A>, part: Part) -> Result<(), NoMemory>
+fn add_part<A: Allocator>(out: &mut Vec<u8, A>, part: WitnessLine) -> Result<(), NoMemory>
     ensures { OnOk result (out.new.items ≡ out.old.items ++ part_line part) }
 {
     match part {
-        Part::Now(core, request) => add_asking(out, core, "!", request),
-        Part::Finish(core) => add_line(out, core, " finish"),
-        Part::One(event) => add_event(out, event),
+        WitnessLine::Now(core, request) => add_asking(out, core, "!", request),
+        WitnessLine::Finish(core) => add_line(out, core, " finish"),
+        WitnessLine::One(event) => add_event(out, event),
     }
 }
 
 // Appends parts, each as a line with its newline.
-fn add_parts<A: Allocator>(out: &mut Vec<u8, A>, parts: &[Part]) -> Result<(), NoMemory>
+fn add_parts<A: Allocator>(out: &mut Vec<u8, A>, parts: &[WitnessLine]) -> Result<(), NoMemory>
     ensures { OnOk result (out.new.items ≡ out.old.items ++ flat_map part_text parts.now) }
 {
     for part in parts {

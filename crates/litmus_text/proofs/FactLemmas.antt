@@ -5,11 +5,11 @@ use Rattle.trace_text.specs.Request.{◌>>=◌}
 use Rattle.trace_text.specs.Words.{Word}
 use Rattle.litmus_text.specs.Facts.{front_fact, joined, joint_of, term, terms_from}
 use Rattle.litmus_text.specs.declared.facts.Fact.{Fact}
-use Rattle.litmus_text.specs.declared.facts.Joint.{Joint}
+use Rattle.litmus_text.specs.declared.facts.Connective.{Connective}
 use Rattle.litmus_text.specs.declared.facts.Term.{Term}
 
 -- one more, and a joint behind it
-pub term_more : (left : ℕ) (joint next : Joint) (fact : Fact) (terms new : List Term) (words more others : List Word) (due : Option (List Term))
+pub term_more : (left : ℕ) (joint next : Connective) (fact : Fact) (terms new : List Term) (words more others : List Word) (due : Option (List Term))
     → 0 < left → front_fact words ≡ Some (fact, more) → ((w : Word) × (more ≡ w ∷ others) × (joint_of w ≡ Some next))
     → new ≡ terms ++ term joint fact ∷ [] → option_map (λ ts. terms ++ ts) (terms_from left joint words) ≡ due
     → option_map (λ ts. new ++ ts) (terms_from (left - 1) next others) ≡ due

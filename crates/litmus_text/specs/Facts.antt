@@ -12,8 +12,8 @@ use Rattle.audit_text.specs.Replies.{reply_of}
 use Rattle.import_forms.specs.Tokens.{split_at_last}
 use Rattle.litmus_text.specs.declared.facts.Fact.{Fact}
 use Rattle.litmus_text.specs.declared.facts.Fact.TheVariants.{Has, Lacks, Shows}
-use Rattle.litmus_text.specs.declared.facts.Joint.{Joint}
-use Rattle.litmus_text.specs.declared.facts.Joint.TheVariants.{And, Or}
+use Rattle.litmus_text.specs.declared.facts.Connective.{Connective}
+use Rattle.litmus_text.specs.declared.facts.Connective.TheVariants.{And, Or}
 use Rattle.litmus_text.specs.declared.facts.Term.{Term}
 
 -- `cC.N`: a core, and the number of one of its calls
@@ -77,20 +77,20 @@ front_fact words = do
   fact ← fact_of place.0 sign.0 value.0
   Some (fact, value.1)
 
-abbrev pub joint_of : Word → Option Joint
+abbrev pub joint_of : Word → Option Connective
 joint_of word = if bytes_eq word (codes "and") then Some And else if bytes_eq word (codes "or") then Some Or else None
 
 -- A fact is the last, or `and` or `or` stands behind it, and then more.
-abbrev pub joined : (Joint → List Word → Option (List Term)) → Term → List Word → Option (List Term)
+abbrev pub joined : (Connective → List Word → Option (List Term)) → Term → List Word → Option (List Term)
 joined more term [] = Some (term ∷ [])
 joined more term (w ∷ ws) = joint_of w >>= λ joint. option_map (λ terms. term ∷ terms) (more joint ws)
 
 -- a fact behind its joint
-abbrev pub term : Joint → Fact → Term
+abbrev pub term : Connective → Fact → Term
 term joint fact = record { joint = joint; fact = fact }
 
 -- facts, so many at most, the first of them behind this joint
-abbrev pub terms_from : ℕ → Joint → List Word → Option (List Term)
+abbrev pub terms_from : ℕ → Connective → List Word → Option (List Term)
 terms_from zero joint words = None
 terms_from (suc n) joint words = front_fact words >>= λ first. joined (terms_from n) (term joint first.0) first.1
 

@@ -3,12 +3,12 @@ use Rattle.std.specs.Prelude.{ℕ, Bool, true, false, List, [], ◌∷◌, if◌
 use Rattle.std.specs.List.{list_any}
 use Rattle.std.specs.Str.{bytes_eq}
 use Rattle.trace_text.specs.Words.{Word, words_of}
-use Rattle.litmus_text.specs.declared.kinds.Kind.{Kind}
-use Rattle.litmus_text.specs.declared.kinds.Kind.TheVariants.{Space, File, Together, Final, Clause, Event}
+use Rattle.litmus_text.specs.declared.kinds.LineKind.{LineKind}
+use Rattle.litmus_text.specs.declared.kinds.LineKind.TheVariants.{Space, File, Together, Final, Clause, Event}
 use Rattle.litmus_text.specs.declared.kinds.Quantifier.TheVariants.{Exists, Never, Forall}
 
 -- by its first word
-abbrev pub kind_named : Word → Kind
+abbrev pub kind_named : Word → LineKind
 kind_named name = if bytes_eq name (codes "vm") then Space
     else if bytes_eq name (codes "file") then File
     else if bytes_eq name (codes "together") then Together
@@ -17,7 +17,7 @@ kind_named name = if bytes_eq name (codes "vm") then Space
     else if bytes_eq name (codes "never") then Clause Never
     else if bytes_eq name (codes "forall") then Clause Forall else Event
 
-abbrev pub kind_of : List Word → Kind
+abbrev pub kind_of : List Word → LineKind
 kind_of [] = Event
 kind_of (name ∷ args) = kind_named name
 

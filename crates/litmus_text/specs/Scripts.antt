@@ -12,7 +12,7 @@ use Rattle.trace_text.specs.Line.{are_printable, line_of}
 use Rattle.trace_text.specs.Words.{Word, words_of}
 use Rattle.trace_text.specs.declared.line.Line.{Line}
 use Rattle.trace_text.specs.declared.line.Line.TheVariants as Of
-use Rattle.trace_words.specs.Declarations.{Asked, asks_for, is_next, with_file, asked_fault}
+use Rattle.trace_words.specs.Declarations.{DeclarationView, asks_for, is_next, with_file, asked_fault}
 use Rattle.litmus_text.specs.Facts.{terms_of}
 use Rattle.litmus_text.specs.Kinds.{args_of, has_none, has_together, is_maps, kind_of}
 use Rattle.litmus_text.specs.Places.{call_at}
@@ -21,11 +21,11 @@ use Rattle.litmus_text.specs.declared.facts.Fact.TheVariants.{Has, Lacks, Shows}
 use Rattle.litmus_text.specs.declared.facts.Term.{Term}
 use Rattle.litmus_text.specs.declared.faults.LitmusFault.{LitmusFault}
 use Rattle.litmus_text.specs.declared.faults.LitmusFault.TheVariants.{BadLine, TooLong, Placed, NoCall, NoFinal, NoVmLine, Setup, NoCalls, Io}
-use Rattle.litmus_text.specs.declared.kinds.Kind.{Kind}
-use Rattle.litmus_text.specs.declared.kinds.Kind.TheVariants.{Space, File, Together, Final, Clause, Event}
+use Rattle.litmus_text.specs.declared.kinds.LineKind.{LineKind}
+use Rattle.litmus_text.specs.declared.kinds.LineKind.TheVariants.{Space, File, Together, Final, Clause, Event}
 use Rattle.litmus_text.specs.declared.kinds.Quantifier.{Quantifier}
 use Rattle.litmus_text.specs.declared.script.Clause.{Clause as KeptClause}
-use Rattle.litmus_text.specs.declared.script.Script.{Script}
+use Rattle.litmus_text.specs.declared.script.LitmusTest.{LitmusTest}
 
 -- a clause: the number of its line, of which outcomes it speaks, and what it says of them
 pub record Claim : Type 0 where
@@ -37,7 +37,7 @@ pub record Claim : Type 0 where
 -- no opening; the lines of the declaration and of the opening as they stand; the opening; the calls of the lists; the
 -- addresses of `final` lines, and whether one asks for the mappings; and the clauses.
 pub record Read : Type 0 where
-  pub asked : Option Asked
+  pub asked : Option DeclarationView
   pub begun : Bool
   pub together : Bool
   pub front : List ℕ
@@ -69,11 +69,11 @@ unless None next = next
 unless (Some f) next = Err f
 
 -- why no machine is made of what is declared
-abbrev pub unmade : Option Asked → Option LitmusFault
+abbrev pub unmade : Option DeclarationView → Option LitmusFault
 unmade None = Some NoVmLine
 unmade (Some asked) = option_map Setup (asked_fault asked)
 
-abbrev pub cores_of : Option Asked → ℕ
+abbrev pub cores_of : Option DeclarationView → ℕ
 cores_of None = 0
 cores_of (Some asked) = asked.cores
 
@@ -82,7 +82,7 @@ abbrev pub with_line : List ℕ → List ℕ → List ℕ
 with_line front line = front ++ line ++ codes "\n"
 
 -- with the line of a declaration
-abbrev pub declares : Read → Asked → List ℕ → Read
+abbrev pub declares : Read → DeclarationView → List ℕ → Read
 declares r asked line = record {
   asked = Some asked;
   begun = r.begun;
@@ -138,13 +138,13 @@ asks_maps r = record {
 }
 
 -- the `vm` line is the first, and else there may be a fault of what is declared
-abbrev pub space_after : ℕ → Read → List ℕ → Option Asked → Option Line → Result Read LitmusFault
+abbrev pub space_after : ℕ → Read → List ℕ → Option DeclarationView → Option Line → Result Read LitmusFault
 space_after number r line (Some asked) said = unless (option_map Setup (asked_fault asked)) (Err (BadLine number))
 space_after number r line None (Some (Of.Space cores frames calls)) = Ok (declares r (asks_for cores frames calls) line)
 space_after number r line None said = Err (BadLine number)
 
 -- the `file` lines stand behind it, in front of all others
-abbrev pub file_after : ℕ → Read → List ℕ → Option Asked → Option Line → Result Read LitmusFault
+abbrev pub file_after : ℕ → Read → List ℕ → Option DeclarationView → Option Line → Result Read LitmusFault
 file_after number r line None said = Err NoVmLine
 file_after number r line (Some asked) (Some (Of.File n mode len seed)) = if r.begun then Err (BadLine number)
     else if is_next asked n then Ok (declares r (with_file asked (record { mode = mode; len = len; seed = seed })) line)
@@ -195,7 +195,7 @@ abbrev pub event_after : ℕ → Read → List ℕ → Option Line → Result Re
 event_after number r line said = if r.together then listed_after number r said else opened_after number r line said
 
 -- by what the line is
-abbrev pub kind_after : ℕ → Read → List ℕ → Kind → Result Read LitmusFault
+abbrev pub kind_after : ℕ → Read → List ℕ → LineKind → Result Read LitmusFault
 kind_after number r line Space = space_after number r line r.asked (line_of line)
 kind_after number r line File = file_after number r line r.asked (line_of line)
 kind_after number r line Together = unless (unmade r.asked) (together_after number r (args_of (words_of line)))
@@ -287,7 +287,7 @@ litmus_of lines = then_on (lines_after 1 (unread (not (has_together lines))) lin
 abbrev pub claim_of : {A : Type 0} → KeptClause A → Claim
 claim_of c = record { line = c.line; quantifier = c.quantifier; terms = c.terms.items }
 
-abbrev pub read_of : {A : Type 0} → Script A → Read
+abbrev pub read_of : {A : Type 0} → LitmusTest A → Read
 read_of s = record {
   asked = s.declaration;
   begun = s.begun;

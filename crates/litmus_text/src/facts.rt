@@ -30,7 +30,7 @@ pub enum Fact {
 
 /// What stands between facts. `and` binds closer than `or`.
 #[derive(Clone, Copy)]
-pub enum Joint {
+pub enum Connective {
     And,
     Or,
 }
@@ -38,7 +38,7 @@ pub enum Joint {
 /// A fact, and the joint in front of it. The first of a clause has `or`.
 #[derive(Clone, Copy)]
 pub struct Term {
-    pub joint: Joint,
+    pub joint: Connective,
     pub fact: Fact,
 }
 
@@ -48,7 +48,7 @@ enum Next<'a> {
     // Nothing.
     End,
     // A joint, and these words.
-    Joined(Joint, &'a [u8]),
+    Joined(Connective, &'a [u8]),
     // Another word.
     Other,
 }
@@ -171,13 +171,13 @@ fn next_fact(words: &[u8]) -> Option<(Fact, &[u8])>
     Some((fact, rest))
 }
 
-fn read_joint(word: &[u8]) -> Option<Joint>
+fn read_joint(word: &[u8]) -> Option<Connective>
     ensures { result ≡ joint_of word.now }
 {
     if word == b"and".as_slice() {
-        Some(Joint::And)
+        Some(Connective::And)
     } else if word == b"or".as_slice() {
-        Some(Joint::Or)
+        Some(Connective::Or)
     } else {
         None
     }
@@ -201,7 +201,7 @@ pub fn read_terms<A: Allocator>(alloc: A, words: &[u8]) -> Result<Option<Vec<Ter
     ensures { IfOk result (λ terms. option_map (λ t. t.items) terms ≡ terms_of (words_of words.now)) }
 {
     let mut terms: Vec<Term, A> = Vec::new(alloc);
-    let mut joint = Joint::Or;
+    let mut joint = Connective::Or;
     let mut rest = words;
     let mut left = TERM_LIMIT;
     'terms: while left > 0 {

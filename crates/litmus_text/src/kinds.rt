@@ -20,7 +20,7 @@ pub enum Quantifier {
 
 /// What a line is, by its first word.
 #[derive(Clone, Copy)]
-pub enum Kind {
+pub enum LineKind {
     /// `vm CORES FRAMES CALLS`
     Space,
     /// `file N MODE LEN SEED`
@@ -36,35 +36,35 @@ pub enum Kind {
 }
 
 // What a line is that begins with this word.
-fn kind_named(name: &[u8]) -> Kind
+fn kind_named(name: &[u8]) -> LineKind
     ensures { result ≡ kind_named name.now }
 {
     if name == b"vm".as_slice() {
-        Kind::Space
+        LineKind::Space
     } else if name == b"file".as_slice() {
-        Kind::File
+        LineKind::File
     } else if name == b"together".as_slice() {
-        Kind::Together
+        LineKind::Together
     } else if name == b"final".as_slice() {
-        Kind::Final
+        LineKind::Final
     } else if name == b"exists".as_slice() {
-        Kind::Clause(Quantifier::Exists)
+        LineKind::Clause(Quantifier::Exists)
     } else if name == b"never".as_slice() {
-        Kind::Clause(Quantifier::Never)
+        LineKind::Clause(Quantifier::Never)
     } else if name == b"forall".as_slice() {
-        Kind::Clause(Quantifier::Forall)
+        LineKind::Clause(Quantifier::Forall)
     } else {
-        Kind::Event
+        LineKind::Event
     }
 }
 
 /// What a line is, by its first word.
-pub fn kind_of(line: &[u8]) -> Kind
+pub fn kind_of(line: &[u8]) -> LineKind
     ensures { result ≡ kind_of (words_of line.now) }
 {
     match next_word(line) {
         Some((name, _)) => kind_named(name),
-        None => Kind::Event,
+        None => LineKind::Event,
     }
 }
 

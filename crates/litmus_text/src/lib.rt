@@ -1,4 +1,9 @@
-//! Litmus tests as text: what is declared, an opening, a list of calls for each core, and clauses on what comes of them.
+//! A litmus test as text, read to the test or to its first fault.
+//!
+//! - `script` (`read_litmus`), `kinds`, `facts`: the test, its lines and its clauses; `places`: where a call stands;
+//!   `faults`: why it is none.
+//!
+//! It exists for `script::read_litmus`. It knows nothing of what comes out.
 #![tactic(auto)]
 
 pub mod facts;
@@ -7,7 +12,7 @@ pub mod kinds;
 pub mod places;
 pub mod script;
 
-pub use facts::{Fact, Joint, Term};
+pub use facts::{Fact, Connective, Term};
 pub use faults::LitmusFault;
 pub use kinds::Quantifier;
-pub use script::{Clause, Script, read_litmus};
+pub use script::{Clause, LitmusTest, read_litmus};

@@ -12,7 +12,7 @@ ghost use Rattle.litmus_text.specs.Scripts.{read_of, terms_fault, unmade, unread
 
 use crate::facts::{Fact, Term, read_terms};
 use crate::faults::LitmusFault;
-use crate::kinds::{Kind, Quantifier, args_of, has_none, has_together, is_maps, kind_of};
+use crate::kinds::{LineKind, Quantifier, args_of, has_none, has_together, is_maps, kind_of};
 use crate::places::{by_core, call_at};
 use litmus_merges::Asked;
 use std::alloc::Allocator;
@@ -37,7 +37,7 @@ pub struct Clause<A: Allocator> {
 
 /// A litmus test, or what its lines so far say.
 #[derive(Drop)]
-pub struct Script<A: Allocator> {
+pub struct LitmusTest<A: Allocator> {
     /// The space and its files, where they are declared.
     pub declaration: Option<Declaration>,
     /// Whether a line stands behind the declaration.
@@ -125,22 +125,22 @@ fn keep_line<A: Allocator>(front: &mut Vec<u8, A>, line: &[u8]) -> Result<(), No
 
 const NO_MEMORY: LitmusFault = LitmusFault::Io(IoFault::NoMemory);
 
-impl<A: Allocator + Clone> Script<A> {
+impl<A: Allocator + Clone> LitmusTest<A> {
     ghost use Rattle.std.specs.Prelude.{◌≡◌, ◌≢◌, ◌++◌, ◌∷◌, [], IfOk, OnErr, OnOk, Some, None, Ok, Err, true};
     ghost use Rattle.trace_text.specs.Action.{number_alone};
     ghost use Rattle.trace_text.specs.Line.{line_of};
     ghost use Rattle.trace_text.specs.Words.{words_of};
-    ghost use Rattle.trace_words.specs.Declarations.{Asked as Declared};
+    ghost use Rattle.trace_words.specs.Declarations.{DeclarationView};
     ghost use Rattle.litmus_text.specs.Facts.{terms_of};
     ghost use Rattle.litmus_text.specs.Kinds.{args_of, kind_of};
     ghost use Rattle.litmus_text.specs.Scripts.{Comes, call_after, clause_after, declares, ends_after, event_after, file_after, final_after, goes_on, kind_after, maps_after};
     ghost use Rattle.litmus_text.specs.Scripts.{line_after, listed_after, opened_after, opens, read_of, space_after, together_after, unless, unmade, unread, with_line};
 
     // Nothing is read yet.
-    fn new(alloc: &A, together: bool) -> Result<Script<A>, NoMemory>
+    fn new(alloc: &A, together: bool) -> Result<LitmusTest<A>, NoMemory>
         ensures { IfOk result (λ s. read_of s ≡ unread together) }
     {
-        Ok(Script {
+        Ok(LitmusTest {
             declaration: None,
             begun: false,
             together,
@@ -375,7 +375,7 @@ impl<A: Allocator + Clone> Script<A> {
         alloc: &A,
         number: u64,
         line: &[u8],
-        kind: Kind,
+        kind: LineKind,
     ) -> Result<(), LitmusFault>
         requires made { unmade self.old.declaration ≡ None }
         requires space { kind ≢ Kind.Space }
@@ -383,11 +383,11 @@ impl<A: Allocator + Clone> Script<A> {
         ensures { Comes result (read_of self.new) (kind_after number (read_of self.old) line.now kind) }
     {
         match kind {
-            Kind::Together => self.take_together(number, args_of(line)),
-            Kind::Final => self.take_end(number, args_of(line)),
-            Kind::Clause(quantifier) => self.take_clause(alloc, number, quantifier, args_of(line)),
+            LineKind::Together => self.take_together(number, args_of(line)),
+            LineKind::Final => self.take_end(number, args_of(line)),
+            LineKind::Clause(quantifier) => self.take_clause(alloc, number, quantifier, args_of(line)),
             // (a line of a declaration never comes here)
-            Kind::Event | Kind::Space | Kind::File => self.take_event(number, line),
+            LineKind::Event | LineKind::Space | LineKind::File => self.take_event(number, line),
         }
     }
 
@@ -397,14 +397,14 @@ impl<A: Allocator + Clone> Script<A> {
         alloc: &A,
         number: u64,
         line: &[u8],
-        kind: Kind,
+        kind: LineKind,
     ) -> Result<(), LitmusFault>
         ensures { Comes result (read_of self.new) (kind_after number (read_of self.old) line.now kind) }
     {
-        if let Kind::Space = kind {
+        if let LineKind::Space = kind {
             return self.take_space(number, line);
         }
-        if let Kind::File = kind {
+        if let LineKind::File = kind {
             return self.take_file(number, line);
         }
         if let Some(fault) = unmade(&self.declaration) {
@@ -434,7 +434,7 @@ impl<A: Allocator + Clone> Script<A> {
 // Takes in all lines of a text.
 #[tactic(auto, using(crate::proofs::LineLemmas::lines_more, crate::proofs::LineLemmas::lines_stop, crate::proofs::LineLemmas::lines_end, audit_text::proofs::TextLemmas::lines_empty, audit_text::proofs::TextLemmas::some_left))]
 fn take_lines<A: Allocator + Clone>(
-    script: &mut Script<A>,
+    script: &mut LitmusTest<A>,
     alloc: &A,
     text: &[u8],
 ) -> Result<(), LitmusFault>
@@ -529,7 +529,7 @@ fn calls_fault(calls: &[Asked]) -> Option<LitmusFault>
 
 // The litmus test that all lines make.
 fn make_whole<A: Allocator + Clone + Drop>(
-    script: &mut Script<A>,
+    script: &mut LitmusTest<A>,
     alloc: &A,
 ) -> Result<(), LitmusFault>
     ensures { Comes result (read_of script.new) (whole (read_of script.old)) }
@@ -566,11 +566,11 @@ fn make_whole<A: Allocator + Clone + Drop>(
 pub fn read_litmus<A: Allocator + Clone + Drop>(
     alloc: &A,
     text: &[u8],
-) -> Result<Script<A>, LitmusFault>
+) -> Result<LitmusTest<A>, LitmusFault>
     ensures ok { IfOk result (λ script. litmus_of (lines_of text.now) ≡ Ok (read_of script)) }
     ensures err { IfErr result (λ f. (f ≡ LitmusFault.Io IoFault.NoMemory) ⊎ (litmus_of (lines_of text.now) ≡ Err f)) }
 {
-    let Ok(mut script) = Script::new(alloc, !has_together(text)) else {
+    let Ok(mut script) = LitmusTest::new(alloc, !has_together(text)) else {
         return Err(NO_MEMORY);
     };
     if let Err(fault) = take_lines(&mut script, alloc, text) {

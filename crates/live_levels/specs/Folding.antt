@@ -4,7 +4,7 @@ use Rattle.vm_base.specs.declared.info.PageInfo.{PageInfo}
 use Rattle.vm_base.specs.Info.{info_from, is_leaf, unused}
 use Rattle.live_levels.specs.declared.act.Act.{Act}
 use Rattle.live_levels.specs.declared.act.Act.TheVariants.{Put, Clear}
-use Rattle.live_levels.specs.declared.joint.Joint.{Joint}
+use Rattle.live_levels.specs.declared.joint.Foldable.{Foldable}
 use Rattle.live_levels.specs.Replay.{dated, replay}
 use Rattle.live_levels.specs.Slots.{SlotView}
 
@@ -16,18 +16,18 @@ pub record CanBegin (s : SlotView) : Type 0 where
 
 -- the slot follows on: it can be a part, begins where the others end, and its mapping goes on from
 -- theirs
-pub record CanFollow (j : Joint) (s : SlotView) : Type 0 where
+pub record CanFollow (j : Foldable) (s : SlotView) : Type 0 where
   pub part : CanBegin s
   pub next : s.first ≡ j.end
   pub goes_on : s.content ≡ info_from j.content (s.first - j.first)
 
 -- the slot can be the first part, or one more
-abbrev pub CanJoin : Option Joint → SlotView → Type 0
+abbrev pub CanJoin : Option Foldable → SlotView → Type 0
 CanJoin None s = CanBegin s
 CanJoin (Some j) s = CanFollow j s
 
 -- what the parts are together with the slot
-abbrev pub Joins : Option Joint → SlotView → Joint → Type 0
+abbrev pub Joins : Option Foldable → SlotView → Foldable → Type 0
 Joins None s k = (k.first ≡ s.first) × (k.end ≡ s.first + s.count) × (k.content ≡ s.content)
 Joins (Some j) s k = (k.first ≡ j.first) × (k.end ≡ j.end + s.count) × (k.content ≡ j.content)
 
@@ -38,7 +38,7 @@ begun_act None = Clear
 begun_act (Some info) = Put info.meta
 
 -- the slot stands for its parts: it has what they have, by a history of one change under the ticket
-pub record StandsFor (j : Joint) (ticket : ℕ) (s t : SlotView) : Type 0 where
+pub record StandsFor (j : Foldable) (ticket : ℕ) (s t : SlotView) : Type 0 where
   pub pages : (j.first ≡ s.first) × (j.end ≡ s.first + s.count)
   pub place : (t.first ≡ s.first) × (t.count ≡ s.count)
   pub owner : t.owner ≡ None
@@ -47,6 +47,6 @@ pub record StandsFor (j : Joint) (ticket : ℕ) (s t : SlotView) : Type 0 where
 
 module _ {S : Type 0} (stepped : S → ℕ → S → Type 0) (before now : S) where
   -- the slot stands for its parts under the ticket of the step, which was noted, or nothing changed
-  abbrev pub Replaces : Joint → SlotView → SlotView → Bool → Type 0
+  abbrev pub Replaces : Foldable → SlotView → SlotView → Bool → Type 0
   Replaces j s t true = (ticket : ℕ) × stepped before ticket now × StandsFor j ticket s t
   Replaces j s t false = (now ≡ before) × (t ≡ s)

@@ -5,7 +5,7 @@ ghost use Rattle.live_levels.specs.Folding.{CanBegin, CanFollow, CanJoin, Joins,
 ghost use Rattle.live_levels.specs.Slots.{Suits};
 
 use crate::act::Act;
-use crate::joint::Joint;
+use crate::joint::Foldable;
 use crate::level::Stepper;
 use crate::slot::SlotState;
 use std::alloc::Allocator;
@@ -21,7 +21,7 @@ fn can_begin<A: Allocator>(slot: &SlotState<A>) -> bool
 
 // One slot, where it can be a part of a larger one: no core is to lock it first, and it has no
 // frame and no recorded core.
-fn begin_joint<A: Allocator>(slot: &SlotState<A>) -> Option<Joint>
+fn begin_joint<A: Allocator>(slot: &SlotState<A>) -> Option<Foldable>
     ensures some { IfSome result (λ j. (j.first ≡ slot.now.first)
         × (j.end ≡ slot.now.first + slot.now.count) × (j.content ≡ slot.now.content)) }
     ensures can { IfSome result (λ j. CanBegin slot.now) }
@@ -33,7 +33,7 @@ fn begin_joint<A: Allocator>(slot: &SlotState<A>) -> Option<Joint>
     let first = slot.first();
     let end = first + slot.count();
     let content = slot.content();
-    Some(Joint {
+    Some(Foldable {
         first,
         end,
         content,
@@ -41,7 +41,7 @@ fn begin_joint<A: Allocator>(slot: &SlotState<A>) -> Option<Joint>
 }
 
 // The slots with one more, where it follows on.
-fn join_next<A: Allocator>(joint: Joint, slot: &SlotState<A>) -> Option<Joint>
+fn join_next<A: Allocator>(joint: Foldable, slot: &SlotState<A>) -> Option<Foldable>
     ensures some { IfSome result (λ j. (j.first ≡ joint.first) × (j.end ≡ joint.end + slot.now.count)
         × (j.content ≡ joint.content)) }
     ensures can { IfSome result (λ j. CanFollow joint slot.now) }
@@ -54,7 +54,7 @@ fn join_next<A: Allocator>(joint: Joint, slot: &SlotState<A>) -> Option<Joint>
     if !goes_on(joint.content, next.content, next.first - joint.first) {
         return None;
     }
-    Some(Joint {
+    Some(Foldable {
         first: joint.first,
         end: next.end,
         content: joint.content,
@@ -62,7 +62,10 @@ fn join_next<A: Allocator>(joint: Joint, slot: &SlotState<A>) -> Option<Joint>
 }
 
 /// The slots so far, if there are any, with one more, where it can begin or follows on.
-pub(crate) fn with_next<A: Allocator>(joint: Option<Joint>, slot: &SlotState<A>) -> Option<Joint>
+pub(crate) fn with_next<A: Allocator>(
+    joint: Option<Foldable>,
+    slot: &SlotState<A>,
+) -> Option<Foldable>
     ensures some { IfSome result (Joins joint slot.now) }
     ensures can { IfSome result (λ _. CanJoin joint slot.now) }
     ensures none { IfNone result (¬ CanJoin joint slot.now) }
@@ -78,7 +81,7 @@ pub(crate) fn with_next<A: Allocator>(joint: Option<Joint>, slot: &SlotState<A>)
 /// they have other pages. It takes no memory.
 pub(crate) fn replace<A: Allocator, S: Stepper>(
     slot: &mut SlotState<A>,
-    joint: &Joint,
+    joint: &Foldable,
     stepper: &mut S,
 ) -> bool
     requires { S.can_step stepper.old }
@@ -95,7 +98,7 @@ pub(crate) fn replace<A: Allocator, S: Stepper>(
 }
 
 // The change with which a slot begins that stands for its parts.
-fn begun_act(joint: &Joint) -> Act
+fn begun_act(joint: &Foldable) -> Act
     ensures act { result ≡ begun_act joint.now.content }
     ensures suits { Suits result (joint.now.end - joint.now.first) }
 {

@@ -8,7 +8,7 @@ ghost use Rattle.live_levels.specs.Histories.{Grew};
 use crate::ask::{Asked, ask, with_page};
 use crate::close::SlotHistory;
 use crate::fold::with_next;
-use crate::joint::Joint;
+use crate::joint::Foldable;
 use crate::level::{Level, Next, SlotCut, Stepper, index_of, put};
 use crate::parts::SLOTS;
 use crate::place::{Place, Reached, Unshared};
@@ -128,8 +128,8 @@ impl<C: Level<A>, A: Allocator + Clone> Level<A> for Inner<C, A> {
         }
     }
 
-    fn joint(&mut self) -> Option<Joint> {
-        let mut joint: Option<Joint> = None;
+    fn joint(&mut self) -> Option<Foldable> {
+        let mut joint: Option<Foldable> = None;
         'places: for place in self.places.iter_mut() {
             let slot = match place.reach_mut() {
                 Unshared::Below(_) => return None,

@@ -7,7 +7,7 @@ use vm_base::PageInfo;
 /// Slots side by side that can be one: their pages from `first` up to `end`, and what the first
 /// page has.
 #[derive(Clone, Copy)]
-pub struct Joint {
+pub struct Foldable {
     pub first: u64,
     pub end: u64,
     pub content: Option<PageInfo>,

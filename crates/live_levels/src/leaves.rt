@@ -8,7 +8,7 @@ ghost use Rattle.live_levels.specs.Histories.{Grew};
 use crate::ask::{Asked, ask, with_page};
 use crate::close::{SlotHistory, gather_slot};
 use crate::fold::with_next;
-use crate::joint::Joint;
+use crate::joint::Foldable;
 use crate::level::{Level, Next, SlotCut, Stepper, index_of, put};
 use crate::parts::SLOTS;
 use crate::slot::SlotState;
@@ -91,8 +91,8 @@ impl<A: Allocator + Clone> Level<A> for Leaves<A> {
         false
     }
 
-    fn joint(&mut self) -> Option<Joint> {
-        let mut joint: Option<Joint> = None;
+    fn joint(&mut self) -> Option<Foldable> {
+        let mut joint: Option<Foldable> = None;
         'slots: for slot in self.slots.iter_mut() {
             let Some(next) = with_next(joint, slot.get_mut()) else {
                 return None;

@@ -8,7 +8,7 @@ ghost use Rattle.live_levels.specs.Slots.{HasPage};
 ghost use Rattle.live_levels.specs.Histories.{Grew};
 
 use crate::close::SlotHistory;
-use crate::joint::Joint;
+use crate::joint::Foldable;
 use crate::parts::{Divided, SLOTS};
 use crate::place::Division;
 use crate::slot::SlotState;
@@ -112,7 +112,7 @@ pub trait Level<A: Allocator + Clone>: Drop {
     fn is_divided(&mut self, page: u64) -> bool;
 
     /// All slots of this level, where none is divided and they can be one.
-    fn joint(&mut self) -> Option<Joint>;
+    fn joint(&mut self) -> Option<Foldable>;
 
     /// Makes one slot of the deepest level that has the page, where that isn't this one and its
     /// slots can be one, which is noted. Answers the slot's pages.

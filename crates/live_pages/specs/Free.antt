@@ -8,8 +8,8 @@ use Rattle.frames.specs.Bits.{bit_in, count_below}
 use Rattle.machine_model.specs.Accesses.{NoneFree}
 use Rattle.refcache.specs.declared.reports.Review.{Review}
 use Rattle.refcache.specs.declared.reports.Review.TheVariants.{Idle, Freed, Dropped, Requeued}
-use Rattle.live_pages.specs.declared.frame.Wanted.{Wanted}
-use Rattle.live_pages.specs.declared.frame.Wanted.TheVariants.{Taken, NoFrame, Lost}
+use Rattle.live_pages.specs.declared.frame.FrameSearch.{FrameSearch}
+use Rattle.live_pages.specs.declared.frame.FrameSearch.TheVariants.{Taken, NoFrame, Lost}
 
 -- the frames that are free, by a bit for each, how many frames there are, and how many of them are free
 pub record FreeView : Type 0 where
@@ -79,7 +79,7 @@ free_in None = record { words = []; frames = 0; count = 0 }
 free_in (Some guard) = mutex_guard_value guard
 
 -- the next free frame was taken; or no frame is free
-abbrev pub TakesNext : ℕ → FreeView → FreeView → Wanted → Type 0
+abbrev pub TakesNext : ℕ → FreeView → FreeView → FrameSearch → Type 0
 TakesNext from old new (Taken f) = IsNextFree (free_frames old) from f × TakesOne f old new
 TakesNext from old new NoFrame = NoneFree (free_frames old) × (new ≡ old)
 TakesNext from old new Lost = new ≡ old

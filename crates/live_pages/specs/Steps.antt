@@ -12,9 +12,9 @@ use Rattle.slot_lock.specs.declared.plan.Touch.{Touch}
 use Rattle.vm_base.specs.Apply.{byte_reply}
 use Rattle.vm_base.specs.declared.replies.Reply.{Reply}
 use Rattle.live_pages.specs.Ending.{Answers}
-use Rattle.live_pages.specs.declared.frame.Wanted.{Wanted}
-use Rattle.live_pages.specs.declared.frame.Wanted.TheVariants as WantedOf
-use Rattle.live_pages.specs.declared.frame.Wanted.TheVariants.{Taken, NoFrame}
+use Rattle.live_pages.specs.declared.frame.FrameSearch.{FrameSearch}
+use Rattle.live_pages.specs.declared.frame.FrameSearch.TheVariants as WantedOf
+use Rattle.live_pages.specs.declared.frame.FrameSearch.TheVariants.{Taken, NoFrame}
 use Rattle.live_pages.specs.declared.touching.Tried.{Tried}
 use Rattle.live_pages.specs.declared.touching.Tried.TheVariants.{Served, Fault, Lost}
 
@@ -50,7 +50,7 @@ Takes s frame t = (ticket : ℕ)
     × (t ≡ record (with_note s (noted ticket (FrameOf s.core frame) Stepped)) { next_frame = frame + 1 })
 
 -- a frame was taken, or a plain step says that none is free
-abbrev pub Wants : SeatView → SeatView → Wanted → Type 0
+abbrev pub Wants : SeatView → SeatView → FrameSearch → Type 0
 Wants s t (Taken frame) = Takes s frame t
 Wants s t NoFrame = StepsOnce s t
 Wants s t WantedOf.Lost = t ≡ s

@@ -19,7 +19,7 @@ use std::sync::{Mutex, Wait};
 
 /// The result of the search for a free frame.
 #[derive(Clone, Copy)]
-pub enum Wanted {
+pub enum FrameSearch {
     /// This frame was taken.
     Taken(u32),
     /// No frame is free.
@@ -35,7 +35,7 @@ pub fn want<R: Wait, A: Allocator + Clone>(
     rt: &R,
     pieces: &Pieces<'_, A>,
     seat: &mut Seat<A>,
-) -> Wanted
+) -> FrameSearch
     requires { CanNote seat.old }
     ensures { Wants seat.old seat.new result }
 {
@@ -72,19 +72,19 @@ fn want_next<R: Wait, A: Allocator + Clone>(
     free: &mut FreeFrames<A>,
     seat: &mut Seat<A>,
     from: u32,
-) -> Wanted
+) -> FrameSearch
     requires { CanNote seat.old }
     ensures noted { Wants seat.old seat.new result }
     ensures free { TakesNext from free.old free.new result }
 {
     let Some(number) = free.next(from) else {
         let _ticket = seat.step();
-        return Wanted::NoFrame;
+        return FrameSearch::NoFrame;
     };
     if take_at(rt, frames, free, seat, number) {
-        Wanted::Taken(number)
+        FrameSearch::Taken(number)
     } else {
-        Wanted::Lost
+        FrameSearch::Lost
     }
 }
 

@@ -47,14 +47,14 @@ type Places<'a, A> = SmallVec<Option<LockedCore<'a, A>>, 8, &'a A>;
 /// range. Just those are locked, each under its own number, and none has a message of that one, so
 /// that all of them can be told.
 #[derive(Drop)]
-pub struct Telling<'a, A: Allocator + Clone> {
+pub struct ShootdownTargets<'a, A: Allocator + Clone> {
     places: Places<'a, A>,
     core: CoreId,
     set: CoreSet,
     range: PageRange,
 }
 
-impl<'a, A: Allocator + Clone> Model for Telling<'a, A> {
+impl<'a, A: Allocator + Clone> Model for ShootdownTargets<'a, A> {
     ghost use Rattle.std.specs.Prelude.{◌≡◌, true};
     ghost use Rattle.vm_base.specs.Pages.{are_pages};
     ghost use Rattle.live_pages.specs.Posting.{AreLocked, TellingView};
@@ -66,7 +66,7 @@ impl<'a, A: Allocator + Clone> Model for Telling<'a, A> {
     ghost invariant = { λ t. AreLocked t.core t.set 64 t.places.items × (are_pages t.range ≡ true) };
 }
 
-impl<'a, A: Allocator + Clone> Telling<'a, A> {
+impl<'a, A: Allocator + Clone> ShootdownTargets<'a, A> {
     ghost use Rattle.vm_base.specs.Cores.{with_member};
 
     /// Locks the core and each other one of the set. None where one isn't there or can't be told,
@@ -78,7 +78,7 @@ impl<'a, A: Allocator + Clone> Telling<'a, A> {
         core: CoreId,
         set: CoreSet,
         range: PageRange,
-    ) -> Option<Telling<'a, A>>
+    ) -> Option<ShootdownTargets<'a, A>>
         ensures { IfSome result (λ telling. telling
             ≡ record { core = core; set = with_member set core; range = range }) }
     {
@@ -90,7 +90,7 @@ impl<'a, A: Allocator + Clone> Telling<'a, A> {
         if !lock_set(rt, cores, &mut places, core, set) {
             return None;
         }
-        Some(Telling {
+        Some(ShootdownTargets {
             places,
             core,
             set,
@@ -104,7 +104,7 @@ impl<'a, A: Allocator + Clone> Telling<'a, A> {
         requires { CanNote seat.old }
         ensures { Steps seat.old result seat.new }
     {
-        let Telling {
+        let ShootdownTargets {
             mut places,
             core,
             range,

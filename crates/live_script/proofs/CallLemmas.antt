@@ -7,7 +7,7 @@ use Rattle.std.specs.Prelude.{slice_get, is_some}
 use Rattle.seats.specs.declared.noted.Noted.{Noted}
 use Rattle.orders.specs.declared.history.Timed.{Timed}
 use Rattle.live_script.specs.History.{begun_at, calls_of, ended_at, first_answer, first_of, history_of, timed}
-use Rattle.live_script.specs.declared.calls.Ended.{Ended}
+use Rattle.live_script.specs.declared.calls.Response.{Response}
 
 -- the first, and those behind it
 pub first_and_rest : (ns ms : List Noted) (n : Noted) → slice_get ns 0 ≡ Some n → ms ≡ drop 1 ns → ns ≡ n ∷ ms
@@ -24,18 +24,18 @@ fewer (x ∷ xs) ms n is rest = let e : length ms ≡ length xs = ap length rest
 
 -- ---- the first answer
 
-pub answer_none : (ns : List Noted) (want : Option Ended) → first_answer ns ≡ want → length ns ≡ 0 → None ≡ want
+pub answer_none : (ns : List Noted) (want : Option Response) → first_answer ns ≡ want → length ns ≡ 0 → None ≡ want
 answer_none ns want held none = sym (ap first_answer (none_left ns none)) ∙ held
 
 pub answer_begun : (ns : List Noted) (n : Noted) (ms : List Noted) → ns ≡ n ∷ ms → is_some (begun_at n) ≡ true → None ≡ first_answer ns
 answer_begun ns n ms is b =
     sym (ap first_answer is ∙ ap (λ c. cond c None (first_of (ended_at n.ticket n.outcome) (first_answer ms))) b)
 
-answer_here : (o rest : Option Ended) → is_some o ≡ true → first_of o rest ≡ o
+answer_here : (o rest : Option Response) → is_some o ≡ true → first_of o rest ≡ o
 answer_here None rest e = absurd (cc)
 answer_here (Some x) rest e = refl
 
-answer_not : (o rest : Option Ended) → is_some o ≡ false → first_of o rest ≡ rest
+answer_not : (o rest : Option Response) → is_some o ≡ false → first_of o rest ≡ rest
 answer_not None rest e = refl
 answer_not (Some x) rest e = absurd (cc)
 

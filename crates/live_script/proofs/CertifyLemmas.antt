@@ -10,10 +10,10 @@ use Rattle.seats.specs.declared.noted.Noted.{Noted}
 use Rattle.certifier.specs.declared.result.CertifyFault.{CertifyFault}
 use Rattle.certifier.specs.declared.result.CertifyFault.TheVariants.{Setup as OfSetup, Ticket, Differs, Slot, NoMemory}
 use Rattle.certifier.specs.Following.{IsCertified, Fails}
-use Rattle.trace_words.specs.Declarations.{Asked, asked_fault, made_by}
+use Rattle.trace_words.specs.Declarations.{DeclarationView, asked_fault, made_by}
 use Rattle.notes_text.specs.Verdicts.{Made}
 use Rattle.trace_words.specs.Scripts.{Scripted}
-use Rattle.notes_text.specs.declared.verdict.Verdict.{Verdict}
+use Rattle.notes_text.specs.declared.verdict.NotesVerdict.{NotesVerdict}
 use Rattle.live_tree.specs.Named.{AreOf}
 use Rattle.live_tree.specs.declared.histories.Histories.{Histories}
 use Rattle.live_space.specs.Space.{LiveView}
@@ -24,10 +24,10 @@ use Rattle.live_script.specs.Certified.{IsCertifiedRun, FailsRun}
 use Rattle.live_script.specs.Runs.{RunsAll}
 use Rattle.live_script.specs.Sums.{sums_of}
 use Rattle.live_script.specs.Texts.{JudgedNotes, JudgesRun}
-use Rattle.live_script.specs.declared.texts.Judgement.{Judgement}
+use Rattle.live_script.specs.declared.texts.RunVerdict.{RunVerdict}
 
 module _ {A : Type 0} (parts : PageRange → ℕ → ℕ → Bool) (CanFold : Slots → ℕ → Type 0) (Folds : Slots → Slots → ℕ → Type 0)
-    (asked declared : Asked) (setup : Setup A) (notes : List Noted) (slots : List (SlotHistory A))
+    (asked declared : DeclarationView) (setup : Setup A) (notes : List Noted) (slots : List (SlotHistory A))
     (read : declared ≡ asked) (made : made_of setup ≡ made_by declared) where
   is_made : Made A asked
   is_made = record { setup = setup; made = made ∙ ap made_by read }
@@ -49,7 +49,7 @@ module _ {A : Type 0} (parts : PageRange → ℕ → ℕ → Bool) (CanFold : Sl
 
 -- what certifying what a script's seats noted beside the histories of its space comes to
 pub judged_run : {A : Type 0} (parts : PageRange → ℕ → ℕ → Bool) (CanFold : Slots → ℕ → Type 0) (Folds : Slots → Slots → ℕ → Type 0) (script : Scripted)
-    (live : LiveView) (seats : List SeatView) (histories : Histories A) (left all : List (List Noted)) (judgement : Judgement) → RunsAll script live seats
+    (live : LiveView) (seats : List SeatView) (histories : Histories A) (left all : List (List Noted)) (judgement : RunVerdict) → RunsAll script live seats
     → AreOf live.word histories → left ≡ map (λ s. s.notes) seats → AreWhole left → all ≡ left
     → judgement.sums ≡ sums_of (all_notes all)
     → JudgesRun A parts CanFold Folds script.asked (all_notes all) histories.slots.items judgement.verdict

@@ -6,7 +6,7 @@ use Rattle.seats.specs.Packing.{shown}
 use Rattle.seats.specs.declared.noted.Noted.{Noted}
 use Rattle.seats.specs.declared.note_list.Notes.{Notes}
 use Rattle.certifier.specs.Order.{all_notes}
-use Rattle.trace_words.specs.Declarations.{Asked}
+use Rattle.trace_words.specs.Declarations.{DeclarationView}
 use Rattle.trace_words.specs.declared.fault.TraceFault.{TraceFault}
 use Rattle.trace_words.specs.declared.fault.TraceFault.TheVariants as Of
 use Rattle.live_space.specs.Space.{LiveView}
@@ -49,7 +49,7 @@ sums_are slice all sums seats same are is =
     is ∙ ap (λ (l : List Notes). sums_of (all_notes (map shown l))) same ∙ ap (λ (l : List (List Noted)). sums_of (all_notes l)) are
 
 -- the text of the calls, with the numbers of the notes
-pub history_given : (script : Scripted) (live : LiveView) (seats : List SeatView) (calls : List Timed) (all : List (List Noted)) (asked : Asked) (sums : Sums)
+pub history_given : (script : Scripted) (live : LiveView) (seats : List SeatView) (calls : List Timed) (all : List (List Noted)) (asked : DeclarationView) (sums : Sums)
     → RunsAll script live seats → All AreRising all → all ≡ map (λ s. s.notes) seats → calls ≡ calls_in seats → asked ≡ script.asked
     → sums ≡ sums_of (all_notes (map (λ s. s.notes) seats)) → IsSummedHistory script sums (history_text asked calls)
 history_given script live seats calls all asked sums runs rising are is declared counted = record {

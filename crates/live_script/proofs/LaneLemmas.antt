@@ -12,7 +12,7 @@ use Rattle.seats.specs.declared.noted.Noted.{Noted}
 use Rattle.live_space.proofs.Own.{fresh_own}
 use Rattle.live_space.specs.Space.{AreFresh, IsFresh, IsMade, IsOf, LiveView}
 use Rattle.live_space.specs.declared.fault.LiveFault.{LiveFault}
-use Rattle.trace_words.specs.Declarations.{Asked, asked_fault, made_by}
+use Rattle.trace_words.specs.Declarations.{DeclarationView, asked_fault, made_by}
 use Rattle.trace_words.specs.Scripts.{Scripted}
 use Rattle.live_script.specs.declared.lane.Lane.{Lane}
 use Rattle.live_script.specs.Certified.{AreRising}
@@ -133,14 +133,14 @@ module _ {A : Type 0} (script : Scripted) (l : LiveView) (before after : List (L
 -- ---- the beginning
 
 -- the seats of a space that was just made are its own
-lanes_own : {A : Type 0} (asked : Asked) (l : LiveView) (lanes : List (Lane A)) → IsBegun asked l (map (λ lane. lane.seat) lanes)
+lanes_own : {A : Type 0} (asked : DeclarationView) (l : LiveView) (lanes : List (Lane A)) → IsBegun asked l (map (λ lane. lane.seat) lanes)
     → All (λ lane. IsOf l lane.seat) lanes
 lanes_own asked l lanes begun k d lt =
     subst (λ s. IsOf l s) (get_or-map seat_of lanes k d d.seat lt)
     (fresh_own l asked.cores (map seat_of lanes) begun.declared.cores begun.fresh k d.seat (omega (arith, lt, length-map lanes seat_of)))
 
 -- a space that was made of what is declared
-begun_by : {A : Type 0} (asked : Asked) (setup : Setup A) (l : LiveView) (seats : List SeatView) → asked_fault asked ≡ None
+begun_by : {A : Type 0} (asked : DeclarationView) (setup : Setup A) (l : LiveView) (seats : List SeatView) → asked_fault asked ≡ None
     → made_of setup ≡ made_by asked → IsMade setup l seats → IsBegun asked l seats
 begun_by asked setup l seats sound made h = record {
   declared = record {
@@ -154,7 +154,7 @@ begun_by asked setup l seats sound made h = record {
 }
 
 -- with a lane for each seat, where the declaration was read
-pub begun_lanes : {A : Type 0} (asked declared : Asked) (setup : Setup A) (l : LiveView) (seats : List SeatView) (lanes : List (Lane A))
+pub begun_lanes : {A : Type 0} (asked declared : DeclarationView) (setup : Setup A) (l : LiveView) (seats : List SeatView) (lanes : List (Lane A))
     → declared ≡ asked → asked_fault declared ≡ None → made_of setup ≡ made_by declared → IsMade setup l seats
     → map (λ lane. lane.seat) lanes ≡ seats → IsBegun asked l (map (λ lane. lane.seat) lanes)
 begun_lanes asked declared setup l seats lanes read sound made h same =
@@ -167,7 +167,7 @@ begun_lanes asked declared setup l seats lanes read sound made h same =
 abbrev pub ran_of : {A : Type 0} → LiveView → List (Lane A) → RanView
 ran_of live lanes = record { live = live; seats = map (λ lane. lane.seat) lanes }
 
-pub own_in : {A : Type 0} (asked : Asked) (ran : RanView) (l : LiveView) (items first : List (Lane A)) → ran_of l items ≡ ran
+pub own_in : {A : Type 0} (asked : DeclarationView) (ran : RanView) (l : LiveView) (items first : List (Lane A)) → ran_of l items ≡ ran
     → IsBegun asked ran.live ran.seats → first ≡ items → All (λ lane. IsOf l lane.seat) first
 own_in asked ran l items first view begun same =
     subst (λ lanes. All (λ lane. IsOf l lane.seat) lanes) (sym same)

@@ -10,7 +10,7 @@ use Rattle.seats.specs.Notes.{SeatView}
 use Rattle.seats.specs.declared.noted.Noted.{Noted}
 use Rattle.certifier.specs.Order.{all_notes}
 use Rattle.live_space.specs.Space.{LiveView}
-use Rattle.trace_words.specs.Declarations.{Asked, asked_fault}
+use Rattle.trace_words.specs.Declarations.{DeclarationView, asked_fault}
 use Rattle.trace_words.specs.declared.fault.TraceFault.{TraceFault}
 use Rattle.trace_words.specs.declared.fault.TraceFault.TheVariants as Of
 use Rattle.seats.specs.Fitting.{FitsTypes}
@@ -27,9 +27,9 @@ use Rattle.live_script.specs.Runs.{Fails, RunsAll}
 use Rattle.live_script.specs.Sums.{sums_of}
 use Rattle.live_script.specs.Texts.{Ceases, unrun, unwritten, EndsText, IsSummedText, IsVerdictText, JudgedNotes, Yields, fault_of_run}
 use Rattle.live_script.specs.declared.sums.Sums.{Sums}
-use Rattle.live_script.specs.declared.texts.Judgement.{Judgement}
-use Rattle.live_script.specs.declared.fault.RunFault.{RunFault}
-use Rattle.live_script.specs.declared.fault.RunFault.TheVariants.{Setup, Live, NoMemory}
+use Rattle.live_script.specs.declared.texts.RunVerdict.{RunVerdict}
+use Rattle.live_script.specs.declared.fault.ScriptFault.{ScriptFault}
+use Rattle.live_script.specs.declared.fault.ScriptFault.TheVariants.{Setup, Live, NoMemory}
 use Rattle.live_script.specs.declared.texts.TextFault.{TextFault}
 use Rattle.live_script.specs.declared.texts.TextFault.TheVariants.{Text}
 use Rattle.live_script.proofs.FitLemmas.{order_fits}
@@ -101,6 +101,6 @@ module _ (script : Scripted) (live : LiveView) (seats : List SeatView) (slices :
 
 -- the line of a verdict
 pub verdict_given : {A : Type 0} (parts : PageRange → ℕ → ℕ → Bool) (CanFold : Slots → ℕ → Type 0) (Folds : Slots → Slots → ℕ → Type 0)
-    (script : Scripted) (told : Judgement) → JudgedNotes A parts CanFold Folds script told
+    (script : Scripted) (told : RunVerdict) → JudgedNotes A parts CanFold Folds script told
     → IsVerdictText A parts CanFold Folds script told (verdict_text told.verdict)
 verdict_given parts CanFold Folds script told judged = record { judged = judged; says = refl }

@@ -10,7 +10,7 @@ use Rattle.certifier.specs.declared.result.CertifyFault.{CertifyFault}
 use Rattle.certifier.specs.declared.result.CertifyFault.TheVariants.{NoMemory, Setup, Ticket}
 use Rattle.certifier.specs.Following.{IsCertified, Fails}
 use Rattle.certifier.specs.Order.{all_notes}
-use Rattle.trace_words.specs.Declarations.{Asked, asked_fault}
+use Rattle.trace_words.specs.Declarations.{DeclarationView, asked_fault}
 use Rattle.notes_text.specs.Verdicts.{Made}
 
 -- all that the seats noted
@@ -23,7 +23,7 @@ AreRising notes = Rises (map ticket_of notes)
 
 -- in a space as it is asked for these notes are certified beside these histories
 pub record IsCertifiedRun (A : Type 0) (parts : PageRange → ℕ → ℕ → Bool) (CanFold : Slots → ℕ → Type 0)
-    (Folds : Slots → Slots → ℕ → Type 0) (asked : Asked) (notes : List Noted) (slots : List (SlotHistory A)) (calls : ℕ) : Type 0 where
+    (Folds : Slots → Slots → ℕ → Type 0) (asked : DeclarationView) (notes : List Noted) (slots : List (SlotHistory A)) (calls : ℕ) : Type 0 where
   pub made : Made A asked
   pub certified : IsCertified parts CanFold Folds made.setup notes slots calls
 
@@ -34,7 +34,7 @@ IsNoTicket fault = ⊤
 
 -- Why they aren't: the declaration is at fault, or memory is wanting, or as certifying says.
 abbrev pub FailsRun : (A : Type 0) → (PageRange → ℕ → ℕ → Bool) → (Slots → ℕ → Type 0) → (Slots → Slots → ℕ → Type 0)
-    → Asked → List Noted → List (SlotHistory A) → CertifyFault → Type 0
+    → DeclarationView → List Noted → List (SlotHistory A) → CertifyFault → Type 0
 FailsRun A parts CanFold Folds asked notes slots (Setup fault) = asked_fault asked ≡ Some fault
 FailsRun A parts CanFold Folds asked notes slots NoMemory = asked_fault asked ≡ None
 FailsRun A parts CanFold Folds asked notes slots fault = (made : Made A asked) × Fails parts CanFold Folds made.setup notes slots fault

@@ -7,34 +7,34 @@ use Rattle.machine_model.specs.declared.event.Outcome.{Outcome}
 use Rattle.machine_model.specs.declared.event.Outcome.TheVariants.{Stepped, Answered}
 use Rattle.seats.specs.declared.noted.Noted.{Noted}
 use Rattle.orders.specs.declared.history.Timed.{Timed}
-use Rattle.live_script.specs.declared.calls.Begun.{Begun}
-use Rattle.live_script.specs.declared.calls.Ended.{Ended}
+use Rattle.live_script.specs.declared.calls.Invocation.{Invocation}
+use Rattle.live_script.specs.declared.calls.Response.{Response}
 
 -- the call that begins by this event, if it could
-abbrev pub begun_by : Event → Outcome → Option Begun
+abbrev pub begun_by : Event → Outcome → Option Invocation
 begun_by (Call core request) Stepped = Some (record { core = core; request = request })
 begun_by event outcome = None
 
 -- the call that begins at a note
-abbrev pub begun_at : Noted → Option Begun
+abbrev pub begun_at : Noted → Option Invocation
 begun_at note = begun_by note.event note.outcome
 
 -- the answer of a note, if it has one
-abbrev pub ended_at : ℕ → Outcome → Option Ended
+abbrev pub ended_at : ℕ → Outcome → Option Response
 ended_at ticket (Answered reply) = Some (record { ticket = ticket; reply = reply })
 ended_at ticket outcome = None
 
-abbrev pub first_of : Option Ended → Option Ended → Option Ended
+abbrev pub first_of : Option Response → Option Response → Option Response
 first_of None other = other
 first_of (Some ended) other = Some ended
 
 -- the first answer of these notes of a core, before another call of it begins
-abbrev pub first_answer : List Noted → Option Ended
+abbrev pub first_answer : List Noted → Option Response
 first_answer [] = None
 first_answer (n ∷ ns) = if is_some (begun_at n) then None else first_of (ended_at n.ticket n.outcome) (first_answer ns)
 
 -- a call from its beginning to its answer
-abbrev pub timed : ℕ → Option Begun → Option Ended → List Timed
+abbrev pub timed : ℕ → Option Invocation → Option Response → List Timed
 timed ticket (Some begun) (Some ended) = record {
   begin = ticket;
   end = ended.ticket;

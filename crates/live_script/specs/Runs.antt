@@ -5,11 +5,11 @@ use Rattle.machine_model.specs.declared.setup.SetupFault.TheVariants as Wrong
 use Rattle.seats.specs.Notes.{SeatView}
 use Rattle.live_space.specs.Space.{AreFresh, IsFresh, LiveView}
 use Rattle.live_space.specs.declared.fault.LiveFault.{LiveFault}
-use Rattle.trace_words.specs.Declarations.{Asked, asked_fault, file_at}
+use Rattle.trace_words.specs.Declarations.{DeclarationView, asked_fault, file_at}
 use Rattle.trace_words.specs.Scripts.{Scripted}
 use Rattle.trace_words.specs.declared.script.Task.{Task}
-use Rattle.live_script.specs.declared.fault.RunFault.{RunFault}
-use Rattle.live_script.specs.declared.fault.RunFault.TheVariants.{Setup, Live, NoMemory}
+use Rattle.live_script.specs.declared.fault.ScriptFault.{ScriptFault}
+use Rattle.live_script.specs.declared.fault.ScriptFault.TheVariants.{Setup, Live, NoMemory}
 use Rattle.live_script.specs.declared.lane.Lane.{Lane}
 use Rattle.live_script.specs.Tasks.{DoesAll, EndsAs, Stops}
 
@@ -19,7 +19,7 @@ pub record RanView : Type 0 where
   pub seats : List SeatView
 
 -- the space is as it was declared, and each seat may begin an even share of the calls
-pub record IsDeclared (asked : Asked) (l : LiveView) : Type 0 where
+pub record IsDeclared (asked : DeclarationView) (l : LiveView) : Type 0 where
   pub sound : asked_fault asked ≡ None
   pub cores : l.cores ≡ asked.cores
   pub frames : l.frames ≡ asked.frames
@@ -59,7 +59,7 @@ pub record IsLeastStop (script : Scripted) (fault : LiveFault) : Type 0 where
   pub below : (k : ℕ) → k < core → (t : SeatView) × HasDone live script k t
 
 -- what each fault says of the script
-abbrev pub Fails : Scripted → RunFault → Type 0
+abbrev pub Fails : Scripted → ScriptFault → Type 0
 Fails script (Setup fault) =
     (asked_fault script.asked ≡ Some fault) ⊎ ((asked_fault script.asked ≡ None) × (fault ≡ Wrong.NoMemory))
 Fails script (Live fault) = IsLeastStop script fault
@@ -68,7 +68,7 @@ Fails script NoMemory = asked_fault script.asked ≡ None
 -- ---- on the way
 
 -- the declared space, with its fresh seats
-pub record IsBegun (asked : Asked) (l : LiveView) (seats : List SeatView) : Type 0 where
+pub record IsBegun (asked : DeclarationView) (l : LiveView) (seats : List SeatView) : Type 0 where
   pub declared : IsDeclared asked l
   pub fresh : AreFresh l.word asked.cores seats
 

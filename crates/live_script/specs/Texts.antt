@@ -14,7 +14,7 @@ use Rattle.certifier.specs.declared.result.CertifyFault.TheVariants as By
 use Rattle.live_space.specs.Space.{LiveView}
 use Rattle.trace_io.specs.Sink.{AppendsFront}
 use Rattle.trace_io.specs.Io.{ReadFrom, TellsSent, WrittenTo}
-use Rattle.trace_words.specs.Declarations.{Asked}
+use Rattle.trace_words.specs.Declarations.{DeclarationView}
 use Rattle.trace_words.specs.Faults.{fault_named}
 use Rattle.trace_words.specs.declared.fault.TraceFault.{TraceFault}
 use Rattle.trace_words.specs.declared.fault.TraceFault.TheVariants as Of
@@ -23,15 +23,15 @@ use Rattle.notes_text.specs.TextLaws.{FitsLine}
 use Rattle.trace_words.specs.Scripts.{ReadWhole, Scripted, Unread}
 use Rattle.notes_text.specs.Verdicts.{verdict_text}
 use Rattle.notes_text.specs.NotesWritten.{notes_text}
-use Rattle.notes_text.specs.declared.verdict.Verdict.{Verdict}
-use Rattle.notes_text.specs.declared.verdict.Verdict.TheVariants.{Certified, Ticket, Differs, Slot}
+use Rattle.notes_text.specs.declared.verdict.NotesVerdict.{NotesVerdict}
+use Rattle.notes_text.specs.declared.verdict.NotesVerdict.TheVariants.{Certified, Ticket, Differs, Slot}
 use Rattle.live_script.specs.Certified.{FailsRun, IsCertifiedRun, notes_in}
 use Rattle.live_script.specs.Runs.{Fails, RunsAll}
 use Rattle.live_script.specs.Sums.{sums_of}
 use Rattle.live_script.specs.declared.sums.Sums.{Sums}
-use Rattle.live_script.specs.declared.texts.Judgement.{Judgement}
-use Rattle.live_script.specs.declared.fault.RunFault.{RunFault}
-use Rattle.live_script.specs.declared.fault.RunFault.TheVariants.{Setup, Live, NoMemory}
+use Rattle.live_script.specs.declared.texts.RunVerdict.{RunVerdict}
+use Rattle.live_script.specs.declared.fault.ScriptFault.{ScriptFault}
+use Rattle.live_script.specs.declared.fault.ScriptFault.TheVariants.{Setup, Live, NoMemory}
 use Rattle.live_script.specs.declared.texts.TextFault.{TextFault}
 use Rattle.live_script.specs.declared.texts.TextFault.TheVariants as Told
 use Rattle.live_script.specs.declared.texts.TextFault.TheVariants.{Text}
@@ -57,7 +57,7 @@ pub record IsSummedText (script : Scripted) (told : Sums) (text : List ℕ) : Ty
 
 -- What certifying all notes of a space beside histories of slots comes to: that a ticket doesn't stand once, it never does.
 abbrev pub JudgesRun : (A : Type 0) → (PageRange → ℕ → ℕ → Bool) → (Slots → ℕ → Type 0) → (Slots → Slots → ℕ → Type 0)
-    → Asked → List Noted → List (SlotHistory A) → Verdict → Type 0
+    → DeclarationView → List Noted → List (SlotHistory A) → NotesVerdict → Type 0
 JudgesRun A parts CanFold Folds asked notes slots (Certified calls) = IsCertifiedRun A parts CanFold Folds asked notes slots calls
 JudgesRun A parts CanFold Folds asked notes slots (Ticket t) = ⊥
 JudgesRun A parts CanFold Folds asked notes slots (Differs t noted expected) =
@@ -67,7 +67,7 @@ JudgesRun A parts CanFold Folds asked notes slots (Slot page) = FailsRun A parts
 -- the script was run, and this is what certifying what its seats noted beside the histories of all pages comes to, those of
 -- the same space
 pub record JudgedRun (A : Type 0) (parts : PageRange → ℕ → ℕ → Bool) (CanFold : Slots → ℕ → Type 0)
-    (Folds : Slots → Slots → ℕ → Type 0) (script : Scripted) (verdict : Verdict) : Type 0 where
+    (Folds : Slots → Slots → ℕ → Type 0) (script : Scripted) (verdict : NotesVerdict) : Type 0 where
   pub live : LiveView
   pub seats : List SeatView
   pub runs : RunsAll script live seats
@@ -78,20 +78,20 @@ pub record JudgedRun (A : Type 0) (parts : PageRange → ℕ → ℕ → Bool) (
 
 -- the same, with the numbers of what its seats noted
 pub record JudgedNotes (A : Type 0) (parts : PageRange → ℕ → ℕ → Bool) (CanFold : Slots → ℕ → Type 0)
-    (Folds : Slots → Slots → ℕ → Type 0) (script : Scripted) (judgement : Judgement) : Type 0 where
+    (Folds : Slots → Slots → ℕ → Type 0) (script : Scripted) (judgement : RunVerdict) : Type 0 where
   pub run : JudgedRun A parts CanFold Folds script judgement.verdict
   pub sums : judgement.sums ≡ sums_of (notes_in run.seats)
 
 -- this is the line that tells it
 pub record IsVerdictText (A : Type 0) (parts : PageRange → ℕ → ℕ → Bool) (CanFold : Slots → ℕ → Type 0)
-    (Folds : Slots → Slots → ℕ → Type 0) (script : Scripted) (told : Judgement) (text : List ℕ) : Type 0 where
+    (Folds : Slots → Slots → ℕ → Type 0) (script : Scripted) (told : RunVerdict) (text : List ℕ) : Type 0 where
   pub judged : JudgedNotes A parts CanFold Folds script told
   pub says : text ≡ verdict_text told.verdict
 
 -- ---- how it ends
 
 -- as what a fault of running is told
-abbrev pub fault_of_run : RunFault → TextFault
+abbrev pub fault_of_run : ScriptFault → TextFault
 fault_of_run (Setup fault) = Text (Of.Setup fault)
 fault_of_run (Live fault) = Told.Live fault
 fault_of_run NoMemory = Text Of.NoMemory
@@ -100,7 +100,7 @@ fault_of_run NoMemory = Text Of.NoMemory
 -- written; or a write or a flush failed, and a front of it was.
 pub data Ceases {T : Type 0} (Gives : Scripted → T → List ℕ → Type 0) (script : Scripted) (old new : Option (List ℕ))
     (f : TextFault) : Type 0 where
-  unrun : (fault : RunFault) → Fails script fault → f ≡ fault_of_run fault → Keeps old new → Ceases Gives script old new f
+  unrun : (fault : ScriptFault) → Fails script fault → f ≡ fault_of_run fault → Keeps old new → Ceases Gives script old new f
   unwritten : f ≡ Text Of.WriteFailed → (x : T) (text : List ℕ) → Gives script x text → AppendsFront old new text
       → Ceases Gives script old new f
 

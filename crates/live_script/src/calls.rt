@@ -12,25 +12,25 @@ use vm_base::{CoreId, NoMemory, Reply, Request};
 
 /// A call that begins.
 #[derive(Clone, Copy)]
-pub struct Begun {
+pub struct Invocation {
     pub core: CoreId,
     pub request: Request,
 }
 
 /// An answer, and the ticket of its note.
 #[derive(Clone, Copy)]
-pub struct Ended {
+pub struct Response {
     pub ticket: u64,
     pub reply: Reply,
 }
 
 // The call that begins at the note.
-fn begun_at(note: &Noted) -> Option<Begun>
+fn begun_at(note: &Noted) -> Option<Invocation>
     ensures { result ≡ begun_at note.now }
 {
     match note.event {
         Event::Call(core, request) => match note.outcome {
-            Outcome::Stepped => Some(Begun { core, request }),
+            Outcome::Stepped => Some(Invocation { core, request }),
             _ => None,
         },
         _ => None,
@@ -38,11 +38,11 @@ fn begun_at(note: &Noted) -> Option<Begun>
 }
 
 // The answer that the note has.
-fn ended_at(note: &Noted) -> Option<Ended>
+fn ended_at(note: &Noted) -> Option<Response>
     ensures { result ≡ ended_at note.now.ticket note.now.outcome }
 {
     match note.outcome {
-        Outcome::Answered(reply) => Some(Ended {
+        Outcome::Answered(reply) => Some(Response {
             ticket: note.ticket,
             reply,
         }),
@@ -51,7 +51,7 @@ fn ended_at(note: &Noted) -> Option<Ended>
 }
 
 // The first answer of notes, before another call begins.
-fn first_answer(notes: Notes<'_>) -> Option<Ended>
+fn first_answer(notes: Notes<'_>) -> Option<Response>
     ensures { result ≡ first_answer (shown notes.entry) }
 {
     let mut rest = notes;
@@ -76,8 +76,8 @@ fn first_answer(notes: Notes<'_>) -> Option<Ended>
 fn add_call<A: Allocator>(
     calls: &mut Vec<Timed, A>,
     ticket: u64,
-    begun: Option<Begun>,
-    ended: Option<Ended>,
+    begun: Option<Invocation>,
+    ended: Option<Response>,
 ) -> Result<(), AllocError>
     ensures { OnOk result (calls.new.items ≡ calls.old.items ++ timed ticket begun ended) }
 {

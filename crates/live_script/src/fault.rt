@@ -5,7 +5,7 @@ use thiserror::Error;
 
 /// Why a script wasn't run, or not to its end.
 #[derive(Clone, Copy, Debug, Error)]
-pub enum RunFault {
+pub enum ScriptFault {
     /// What the script declares makes no space.
     #[error("setup {0}")]
     Setup(SetupFault),

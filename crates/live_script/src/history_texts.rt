@@ -10,7 +10,7 @@ use crate::calls::history_of;
 use crate::writing::write_history;
 use crate::sums::sums_of;
 use crate::texts::TextFault;
-use crate::{RunFault, Runner, Sums};
+use crate::{ScriptFault, Runner, Sums};
 use trace_words::{Script, read_script};
 use std::alloc::Allocator;
 use std::sync::Wait;
@@ -20,13 +20,13 @@ use trace_io::sink::Sink;
 use trace_io::source::Source;
 
 // As what a fault of running is told.
-fn fault_of_run(fault: RunFault) -> TextFault
+fn fault_of_run(fault: ScriptFault) -> TextFault
     ensures { result ≡ fault_of_run fault }
 {
     match fault {
-        RunFault::Setup(fault) => TextFault::Text(TraceFault::Setup(fault)),
-        RunFault::Live(fault) => TextFault::Live(fault),
-        RunFault::NoMemory => TextFault::Text(TraceFault::NoMemory),
+        ScriptFault::Setup(fault) => TextFault::Text(TraceFault::Setup(fault)),
+        ScriptFault::Live(fault) => TextFault::Live(fault),
+        ScriptFault::NoMemory => TextFault::Text(TraceFault::NoMemory),
     }
 }
 

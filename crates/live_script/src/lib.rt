@@ -1,4 +1,13 @@
-//! Scripts that are run: each core's tasks on a thread of its own, all in one space, and their results.
+//! A script run on threads in one space: its notes, their verdict, or its history.
+//!
+//! - `running` (`run_script`), `runner`, `tasks`, `lane`, `fault`: each core's tasks by a seat of its own; `ran`,
+//!   `sums`: what there is afterwards.
+//! - `texts` (`run_text`), `certifying` (`certify_ran`): the notes as text, or their certificate.
+//! - `history_texts` (`history_of_text`), `calls`, `line`, `writing`: the answered calls, with the tickets of begin
+//!   and answer.
+//!
+//! It exists for `texts::run_text`, clause `ends`: the text of what was noted went out, in order of tickets.
+//! `laws::texts_are_read_back` says that it is read as it was meant.
 #![tactic(auto)]
 
 pub mod calls;
@@ -17,9 +26,9 @@ pub mod texts;
 pub mod writing;
 
 pub use certifying::certify_ran;
-pub use fault::RunFault;
+pub use fault::ScriptFault;
 pub use history_texts::history_of_text;
-pub use ran::{Ended, Ran};
+pub use ran::{RunNotes, RunSpace};
 pub use runner::{InTurn, OnThreads, Runner};
 pub use running::{begin, finish_in_turn, finish_side_by_side, run_in_turn, run_script};
 pub use sums::Sums;

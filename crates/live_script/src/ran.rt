@@ -17,12 +17,12 @@ use vm_base::NoMemory;
 
 /// A space in which a script was run, with all its seats, one for each core.
 #[derive(Drop)]
-pub struct Ran<A: Allocator + Clone> {
+pub struct RunSpace<A: Allocator + Clone> {
     pub(crate) live: Live<A>,
     pub(crate) lanes: Vec<Lane<A>, A>,
 }
 
-impl<A: Allocator + Clone> Model for Ran<A> {
+impl<A: Allocator + Clone> Model for RunSpace<A> {
     ghost use Rattle.std.specs.Prelude.{map};
     ghost use Rattle.seats.specs.Gathered.{AreAll};
     ghost use Rattle.live_script.specs.Runs.{RanView};
@@ -34,7 +34,7 @@ impl<A: Allocator + Clone> Model for Ran<A> {
     ghost invariant = { λ r. AreAll r.live.word (map (λ lane. lane.seat) r.lanes.items) };
 }
 
-impl<A: Allocator + Clone> Ran<A> {
+impl<A: Allocator + Clone> RunSpace<A> {
     /// What each seat noted, in order of cores. The tickets of each seat rise.
     pub fn notes(&self, alloc: A) -> Result<Vec<Notes<'_>, A>, NoMemory>
         ensures are { IfOk result (λ all. map shown all.items ≡ map (λ s. s.notes) self.now.seats) }
@@ -49,7 +49,7 @@ impl<A: Allocator + Clone> Ran<A> {
         ensures are { IfOk result (λ all. map (λ list. list.notes) all.items ≡ map (λ s. s.notes) self.seats) }
         ensures whole { IfOk result (λ all. AreWhole (map (λ list. list.notes) all.items)) }
     {
-        let Ran { live, lanes } = self;
+        let RunSpace { live, lanes } = self;
         let seats = seats_of(alloc, lanes)?;
         match live.gather(seats) {
             Ok(notes) => Ok(notes),
@@ -59,19 +59,19 @@ impl<A: Allocator + Clone> Ran<A> {
 
     /// Ends the space: what is left is what its seats noted, as of `into_notes`, and the histories of its own slots.
     /// Memory for these may be wanting.
-    pub fn end(self, alloc: A) -> Result<Ended<A>, NoMemory>
+    pub fn end(self, alloc: A) -> Result<RunNotes<A>, NoMemory>
         ensures are { IfOk result (λ ended. map (λ list. list.notes) ended.notes.items
             ≡ map (λ s. s.notes) self.seats) }
         ensures whole { IfOk result (λ ended. AreWhole (map (λ list. list.notes) ended.notes.items)) }
         ensures own { IfOk result (λ ended. AreOf self.live.word ended.histories) }
     {
-        let Ran { live, lanes } = self;
+        let RunSpace { live, lanes } = self;
         let seats = seats_of(alloc, lanes)?;
         let Ok(notes) = live.gather(seats) else {
             return Err(NoMemory);
         };
         match live.close() {
-            Ok(histories) => Ok(Ended { notes, histories }),
+            Ok(histories) => Ok(RunNotes { notes, histories }),
             Err(_) => Err(NoMemory),
         }
     }
@@ -79,12 +79,12 @@ impl<A: Allocator + Clone> Ran<A> {
 
 /// What is left of a space in which a script was run: what its seats noted, and the histories of its slots.
 #[derive(Drop)]
-pub struct Ended<A: Allocator> {
+pub struct RunNotes<A: Allocator> {
     pub(crate) notes: Vec<NoteList<A>, A>,
     pub histories: Histories<A>,
 }
 
-impl<A: Allocator> Ended<A> {
+impl<A: Allocator> RunNotes<A> {
     /// What each seat noted, in order of cores.
     pub fn notes(&self, alloc: A) -> Result<Vec<Notes<'_>, A>, NoMemory>
         ensures { IfOk result (λ all. map shown all.items

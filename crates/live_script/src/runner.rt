@@ -3,8 +3,8 @@ ghost use Rattle.std.specs.Prelude.{IfErr, IfOk};
 ghost use Rattle.std.specs.Thread.{IsSync};
 ghost use Rattle.live_script.specs.Runs.{Fails, RunsAll};
 
-use crate::fault::RunFault;
-use crate::ran::Ran;
+use crate::fault::ScriptFault;
+use crate::ran::RunSpace;
 use crate::running::{run_in_turn, run_script};
 use trace_words::Script;
 use std::alloc::{Allocator, Global};
@@ -20,7 +20,7 @@ pub trait Runner<A: Allocator + Clone> {
         rt: &R,
         alloc: A,
         script: &Script<A>,
-    ) -> Result<Ran<A>, RunFault>
+    ) -> Result<RunSpace<A>, ScriptFault>
         requires { IsSync R.row }
         ensures ran { IfOk result (λ ran. RunsAll script.now ran.live ran.seats) }
         ensures fault { IfErr result (λ fault. Fails script.now fault) };
@@ -36,7 +36,7 @@ impl Runner<Global> for OnThreads {
         rt: &R,
         alloc: Global,
         script: &Script<Global>,
-    ) -> Result<Ran<Global>, RunFault> {
+    ) -> Result<RunSpace<Global>, ScriptFault> {
         run_script(rt, alloc, script)
     }
 }
@@ -51,7 +51,7 @@ impl<A: Allocator + Clone> Runner<A> for InTurn {
         rt: &R,
         alloc: A,
         script: &Script<A>,
-    ) -> Result<Ran<A>, RunFault> {
+    ) -> Result<RunSpace<A>, ScriptFault> {
         run_in_turn(rt, alloc, script)
     }
 }

@@ -4,9 +4,9 @@ ghost use Rattle.live_space.specs.Space.{IsOf};
 ghost use Rattle.live_script.specs.Tasks.{EndsAs};
 ghost use Rattle.live_script.specs.Runs.{EndEach, Fails, IsBegun, RunsAll, first_fault};
 
-use crate::fault::RunFault;
+use crate::fault::ScriptFault;
 use crate::lane::Lane;
-use crate::ran::Ran;
+use crate::ran::RunSpace;
 use crate::tasks::run_lane;
 use machine_model::SetupFault;
 use live_space::fault::LiveFault;
@@ -32,31 +32,31 @@ fn lanes_of<A: Allocator>(alloc: A, seats: Vec<Seat<A>, A>) -> Result<Vec<Lane<A
 /// Makes the space that the script declares, in which no task is done yet: then `finish_in_turn` does them.
 ///
 /// A fault of the declaration is reported before anything is made.
-pub fn begin<A: Allocator + Clone>(alloc: A, script: &Script<A>) -> Result<Ran<A>, RunFault>
+pub fn begin<A: Allocator + Clone>(alloc: A, script: &Script<A>) -> Result<RunSpace<A>, ScriptFault>
     ensures begun { IfOk result (λ ran. IsBegun script.now.asked ran.live ran.seats) }
     ensures fault { IfErr result (λ fault. Fails script.now fault) }
 {
     let declaration = script.declaration();
     if let Some(fault) = declaration.fault() {
-        return Err(RunFault::Setup(fault));
+        return Err(ScriptFault::Setup(fault));
     }
     let Ok(for_files) = alloc.clone() else {
-        return Err(RunFault::Setup(SetupFault::NoMemory));
+        return Err(ScriptFault::Setup(SetupFault::NoMemory));
     };
     let Ok(setup) = declaration.setup(for_files) else {
-        return Err(RunFault::Setup(SetupFault::NoMemory));
+        return Err(ScriptFault::Setup(SetupFault::NoMemory));
     };
     let Ok(for_lanes) = alloc.clone() else {
-        return Err(RunFault::NoMemory);
+        return Err(ScriptFault::NoMemory);
     };
     let (live, seats) = match Live::new(alloc, setup) {
         Ok(made) => made,
-        Err(fault) => return Err(RunFault::Setup(fault)),
+        Err(fault) => return Err(ScriptFault::Setup(fault)),
     };
     let Ok(lanes) = lanes_of(for_lanes, seats) else {
-        return Err(RunFault::NoMemory);
+        return Err(ScriptFault::NoMemory);
     };
-    Ok(Ran { live, lanes })
+    Ok(RunSpace { live, lanes })
 }
 
 // Does the tasks of each lane's core, each core in a thread of its own where one can be made.
@@ -112,15 +112,15 @@ fn first_fault<A: Allocator>(lanes: &[Lane<A>]) -> Option<LiveFault>
 pub fn finish_side_by_side<R: Threads + Wait + Sync>(
     rt: &R,
     script: &Script<Global>,
-    mut ran: Ran<Global>,
-) -> Result<Ran<Global>, RunFault>
+    mut ran: RunSpace<Global>,
+) -> Result<RunSpace<Global>, ScriptFault>
     requires { IsBegun script.now.asked ran.live ran.seats }
     ensures ran { IfOk result (λ ran. RunsAll script.now ran.live ran.seats) }
     ensures fault { IfErr result (λ fault. Fails script.now fault) }
 {
     run_side_by_side(rt, &ran.live, script, ran.lanes.as_mut_slice());
     match first_fault(ran.lanes.as_slice()) {
-        Some(fault) => Err(RunFault::Live(fault)),
+        Some(fault) => Err(ScriptFault::Live(fault)),
         None => Ok(ran),
     }
 }
@@ -133,15 +133,15 @@ pub fn finish_side_by_side<R: Threads + Wait + Sync>(
 pub fn finish_in_turn<R: Wait, A: Allocator + Clone>(
     rt: &R,
     script: &Script<A>,
-    mut ran: Ran<A>,
-) -> Result<Ran<A>, RunFault>
+    mut ran: RunSpace<A>,
+) -> Result<RunSpace<A>, ScriptFault>
     requires { IsBegun script.now.asked ran.live ran.seats }
     ensures ran { IfOk result (λ ran. RunsAll script.now ran.live ran.seats) }
     ensures fault { IfErr result (λ fault. Fails script.now fault) }
 {
     run_in_order(rt, &ran.live, script, ran.lanes.as_mut_slice());
     match first_fault(ran.lanes.as_slice()) {
-        Some(fault) => Err(RunFault::Live(fault)),
+        Some(fault) => Err(ScriptFault::Live(fault)),
         None => Ok(ran),
     }
 }
@@ -156,7 +156,7 @@ pub fn run_script<R: Threads + Wait + Sync>(
     rt: &R,
     alloc: Global,
     script: &Script<Global>,
-) -> Result<Ran<Global>, RunFault>
+) -> Result<RunSpace<Global>, ScriptFault>
     ensures ran { IfOk result (λ ran. RunsAll script.now ran.live ran.seats) }
     ensures fault { IfErr result (λ fault. Fails script.now fault) }
 {
@@ -169,7 +169,7 @@ pub fn run_in_turn<R: Wait, A: Allocator + Clone>(
     rt: &R,
     alloc: A,
     script: &Script<A>,
-) -> Result<Ran<A>, RunFault>
+) -> Result<RunSpace<A>, ScriptFault>
     ensures ran { IfOk result (λ ran. RunsAll script.now ran.live ran.seats) }
     ensures fault { IfErr result (λ fault. Fails script.now fault) }
 {

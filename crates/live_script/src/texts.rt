@@ -9,13 +9,13 @@ ghost use Rattle.live_script.specs.Runs.{Fails};
 ghost use Rattle.live_script.specs.Texts.{EndsText, IsSummedText, IsVerdictText, JudgedNotes, TellsText, Yields, fault_of_run};
 
 use crate::certifying::certify_ran;
-use crate::fault::RunFault;
+use crate::fault::ScriptFault;
 use crate::ran::lend;
 use crate::runner::Runner;
 use crate::sums::{Sums, sums_of};
 use certifier::CertifyFault;
 use live_space::fault::LiveFault;
-use notes_text::verdict::{Verdict, write_verdict};
+use notes_text::verdict::{NotesVerdict, write_verdict};
 use trace_words::{Script, read_script};
 use notes_text::write_notes;
 use radix_range::RadixMap;
@@ -40,13 +40,13 @@ pub enum TextFault {
 }
 
 // As what a fault of running is told.
-fn fault_of_run(fault: RunFault) -> TextFault
+fn fault_of_run(fault: ScriptFault) -> TextFault
     ensures { result ≡ fault_of_run fault }
 {
     match fault {
-        RunFault::Setup(fault) => TextFault::Text(TraceFault::Setup(fault)),
-        RunFault::Live(fault) => TextFault::Live(fault),
-        RunFault::NoMemory => TextFault::Text(TraceFault::NoMemory),
+        ScriptFault::Setup(fault) => TextFault::Text(TraceFault::Setup(fault)),
+        ScriptFault::Live(fault) => TextFault::Live(fault),
+        ScriptFault::NoMemory => TextFault::Text(TraceFault::NoMemory),
     }
 }
 
@@ -117,8 +117,8 @@ pub fn run_text<
 
 /// What certifying a run came to, and the numbers of what its seats noted.
 #[derive(Clone, Copy)]
-pub struct Judgement {
-    pub verdict: Verdict,
+pub struct RunVerdict {
+    pub verdict: NotesVerdict,
     pub sums: Sums,
 }
 
@@ -128,7 +128,7 @@ fn judge_run<A: Allocator + Clone + Drop, T: Threads + Wait + Sync, R: Runner<A>
     runner: &R,
     alloc: A,
     script: &Script<A>,
-) -> Result<Judgement, TextFault>
+) -> Result<RunVerdict, TextFault>
     requires { asked_fault script.now.asked ≡ None }
     ensures judged { IfOk result (λ judgement. JudgedNotes A ⟦<RadixMap<A> as SlotMap>⟧.parts
         ⟦<RadixMap<A> as SlotMap>⟧.can_fold ⟦<RadixMap<A> as SlotMap>⟧.folds script.now judgement) }
@@ -155,8 +155,8 @@ fn judge_run<A: Allocator + Clone + Drop, T: Threads + Wait + Sync, R: Runner<A>
     };
     let sums = sums_of(notes.as_slice());
     match certify_ran(alloc, script, notes.as_slice(), &ended.histories) {
-        Ok(done) => Ok(Judgement {
-            verdict: Verdict::Certified(done.calls),
+        Ok(done) => Ok(RunVerdict {
+            verdict: NotesVerdict::Certified(done.calls),
             sums,
         }),
         // (the notes of all seats have the tickets below their number, each once)
@@ -167,16 +167,16 @@ fn judge_run<A: Allocator + Clone + Drop, T: Threads + Wait + Sync, R: Runner<A>
                 noted,
                 expected,
             },
-        ) => Ok(Judgement {
-            verdict: Verdict::Differs {
+        ) => Ok(RunVerdict {
+            verdict: NotesVerdict::Differs {
                 ticket,
                 noted,
                 expected,
             },
             sums,
         }),
-        Err(CertifyFault::Slot { page }) => Ok(Judgement {
-            verdict: Verdict::Slot(page),
+        Err(CertifyFault::Slot { page }) => Ok(RunVerdict {
+            verdict: NotesVerdict::Slot(page),
             sums,
         }),
         // (the declaration has no fault)
@@ -187,7 +187,7 @@ fn judge_run<A: Allocator + Clone + Drop, T: Threads + Wait + Sync, R: Runner<A>
 }
 
 // Writes the line that tells the verdict, and hands it on.
-fn send_verdict<W: Sink>(writer: &mut W, verdict: Verdict) -> Result<(), WriteFailed>
+fn send_verdict<W: Sink>(writer: &mut W, verdict: NotesVerdict) -> Result<(), WriteFailed>
     ensures wrote { IsWritten result (written_to W.Sink writer.old writer.new) (verdict_text verdict) }
     ensures out { OnOk result (W.is_flushed writer.new ≡ true) }
 {
@@ -204,7 +204,7 @@ fn certify_read<A: Allocator + Clone + Drop, T: Threads + Wait + Sync, R: Runner
     alloc: A,
     script: &Script<A>,
     writer: &mut W,
-) -> Result<Judgement, TextFault>
+) -> Result<RunVerdict, TextFault>
     requires { asked_fault script.now.asked ≡ None }
     ensures ends { Yields (λ script told text. IsVerdictText A ⟦<RadixMap<A> as SlotMap>⟧.parts
         ⟦<RadixMap<A> as SlotMap>⟧.can_fold ⟦<RadixMap<A> as SlotMap>⟧.folds script told text)
@@ -232,7 +232,7 @@ pub fn certify_run<
     R: Runner<A>,
     S: Source,
     W: Sink,
->(rt: &T, runner: &R, alloc: A, reader: &mut S, writer: &mut W) -> Result<Judgement, TextFault>
+>(rt: &T, runner: &R, alloc: A, reader: &mut S, writer: &mut W) -> Result<RunVerdict, TextFault>
     ensures ends { Reads (S.stream reader.old) (S.stream reader.new) (λ input unread. EndsText
         (λ script told text. IsVerdictText A ⟦<RadixMap<A> as SlotMap>⟧.parts ⟦<RadixMap<A> as SlotMap>⟧.can_fold
         ⟦<RadixMap<A> as SlotMap>⟧.folds script told text)

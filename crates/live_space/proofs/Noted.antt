@@ -12,9 +12,9 @@ use Rattle.live_tree.specs.declared.held.cut.Cutting.{Cutting}
 use Rattle.live_tree.specs.declared.held.cut.Cutting.TheVariants as CuttingOf
 use Rattle.live_tree.specs.declared.held.cut.Cutting.TheVariants.{Cut, Fits}
 use Rattle.vm_base.specs.declared.page.PageRange.{PageRange}
-use Rattle.live_tree.specs.declared.held.Got.{Got}
-use Rattle.live_tree.specs.declared.held.Got.TheVariants as GotOf
-use Rattle.live_tree.specs.declared.held.Got.TheVariants.{Locked, Split, Unseen, Owned}
+use Rattle.live_tree.specs.declared.held.HoldStep.{HoldStep}
+use Rattle.live_tree.specs.declared.held.HoldStep.TheVariants as GotOf
+use Rattle.live_tree.specs.declared.held.HoldStep.TheVariants.{Locked, Split, Unseen, Owned}
 use Rattle.seats.specs.Growing.{Grew, Steps}
 use Rattle.seats.specs.Notes.{SeatView, noted, with_note}
 use Rattle.seats.proofs.Growing.{grew_note, grew_steps, own_core, grew_none, grew_room, grew_next_page, grew_trans}
@@ -27,9 +27,9 @@ use Rattle.slot_lock.specs.declared.plan.Touch.{Touch}
 use Rattle.slot_lock.specs.Plan.{IsSoundPlace}
 use Rattle.vm_base.specs.Pages.{is_page}
 use Rattle.live_space.specs.Placing.{IsInWindow}
-use Rattle.live_pages.specs.declared.frame.Wanted.{Wanted}
-use Rattle.live_pages.specs.declared.frame.Wanted.TheVariants as WantedOf
-use Rattle.live_pages.specs.declared.frame.Wanted.TheVariants.{Taken, NoFrame}
+use Rattle.live_pages.specs.declared.frame.FrameSearch.{FrameSearch}
+use Rattle.live_pages.specs.declared.frame.FrameSearch.TheVariants as WantedOf
+use Rattle.live_pages.specs.declared.frame.FrameSearch.TheVariants.{Taken, NoFrame}
 use Rattle.live_pages.proofs.Noting.{grew_takes, same_count}
 use Rattle.live_space.specs.InFlight.{GoesOn, HasStepsLeft}
 
@@ -89,7 +89,7 @@ pub one_if : (act : Act) (s t : SeatView) (h k : HeldView) (done : Bool) → (do
 one_if act s t h k true steps stays = one_with act s t h k (steps refl)
 one_if act s t h k false steps stays = one_stays s t h k (stays refl)
 
-pub one_wants : (s t : SeatView) (h : HeldView) (wanted : Wanted) → Wants s t wanted → AtMostOne s h t h
+pub one_wants : (s t : SeatView) (h : HeldView) (wanted : FrameSearch) → Wants s t wanted → AtMostOne s h t h
 one_wants s t h (Taken frame) e = record {
   grew = grew_takes s t frame e;
   room = (let room = ap (λ (v : SeatView). v.room) e.1 in omega (arith, room));
@@ -116,7 +116,7 @@ left_after n s t h k left one =
 
 -- ---- what a step towards holding pages notes, and what it leaves
 
-pub grew_acquires : (s t : SeatView) (h k : HeldView) (core end room : ℕ) (got : Got) → Acquires Steps s t h k core end room got → Grew s t
+pub grew_acquires : (s t : SeatView) (h k : HeldView) (core end room : ℕ) (got : HoldStep) → Acquires Steps s t h k core end room got → Grew s t
 grew_acquires s t h k core end room Locked e = grew_steps s t e.0.0 e.0.1
 grew_acquires s t h k core end room Split e = grew_steps s t e.0.0 e.0.1
 grew_acquires s t h k core end room Unseen e = grew_steps s t e.0.0 e.0.1
@@ -124,7 +124,7 @@ grew_acquires s t h k core end room (Owned other) e = grew_none s t e.0
 grew_acquires s t h k core end room GotOf.NoMemory e = grew_none s t e.0
 grew_acquires s t h k core end room GotOf.Lost e = grew_none s t e.0
 
-pub first_acquired : (s t : SeatView) (h k : HeldView) (core end room : ℕ) (got : Got) → Acquires Steps s t h k core end room got → k.first ≡ h.first
+pub first_acquired : (s t : SeatView) (h k : HeldView) (core end room : ℕ) (got : HoldStep) → Acquires Steps s t h k core end room got → k.first ≡ h.first
 first_acquired s t h k core end room Locked e = ap (λ (v : HeldView). v.first) e.1.now
 first_acquired s t h k core end room Split e = ap (λ (v : HeldView). v.first) e.1
 first_acquired s t h k core end room Unseen e = ap (λ (v : HeldView). v.first) e.1
@@ -133,7 +133,7 @@ first_acquired s t h k core end room GotOf.NoMemory e = ap (λ (v : HeldView). v
 first_acquired s t h k core end room GotOf.Lost e = ap (λ (v : HeldView). v.first) e.1
 
 -- nothing behind the end is locked
-pub end_acquired : (s t : SeatView) (h k : HeldView) (core end room : ℕ) (got : Got) → Acquires Steps s t h k core end room got → h.end ≤ end → k.end ≤ end
+pub end_acquired : (s t : SeatView) (h k : HeldView) (core end room : ℕ) (got : HoldStep) → Acquires Steps s t h k core end room got → h.end ≤ end → k.end ≤ end
 end_acquired s t h k core end room Locked e le = subst (λ (v : HeldView). v.end ≤ end) (sym e.1.now) e.1.whole.ends
 end_acquired s t h k core end room Split e le = subst (λ (v : HeldView). v.end ≤ end) (sym e.1) le
 end_acquired s t h k core end room Unseen e le = subst (λ (v : HeldView). v.end ≤ end) (sym e.1) le

@@ -19,10 +19,10 @@ use crate::gate::{Gate, Point};
 use crate::in_call::InCall;
 use live_pages::copy::copy_page;
 use live_pages::filling::fill;
-use live_pages::frame::{Wanted, want};
+use live_pages::frame::{FrameSearch, want};
 use live_pages::installing::install;
 use live_pages::settling::settle_page;
-use live_pages::telling::{TAKES, Telling, count_of, take_all};
+use live_pages::telling::{TAKES, ShootdownTargets, count_of, take_all};
 use live_pages::touching::{Tried, try_touch};
 use machine_model::answers::page_of_touch;
 use slot_lock::Touch;
@@ -149,9 +149,9 @@ impl<'c, R: Wait, G: Gate, A: Allocator + Clone> InCall<'c, '_, '_, '_, R, G, A>
             return Some(Ending::GiveUp);
         }
         match want(self.rt, &self.space.pieces(), self.seat) {
-            Wanted::Taken(own) => self.use_frame(touch, shown, own),
-            Wanted::NoFrame => Some(Ending::Answer(Reply::NoFrame)),
-            Wanted::Lost => Some(Ending::GiveUp),
+            FrameSearch::Taken(own) => self.use_frame(touch, shown, own),
+            FrameSearch::NoFrame => Some(Ending::Answer(Reply::NoFrame)),
+            FrameSearch::Lost => Some(Ending::GiveUp),
         }
     }
 
@@ -209,7 +209,7 @@ impl<'c, R: Wait, G: Gate, A: Allocator + Clone> InCall<'c, '_, '_, '_, R, G, A>
         }
         let space = self.space;
         let range = page_of_touch(touch);
-        match Telling::of(
+        match ShootdownTargets::of(
             self.rt,
             space.tree.alloc(),
             &space.cores,

@@ -21,9 +21,9 @@ use crate::in_call::InCall;
 use crate::space::Live;
 use live_levels::level::Stepper;
 use live_pages::pieces::CoreState;
-use live_pages::telling::{TAKES, Telling, count_of, take_all};
+use live_pages::telling::{TAKES, ShootdownTargets, count_of, take_all};
 use live_tree::held::Held;
-use live_tree::held::losses::Losses;
+use live_tree::held::losses::FramesLost;
 use machine_model::answers::reply_to;
 use seats::Seat;
 use slot_lock::Change;
@@ -123,7 +123,7 @@ impl<'c, R: Wait, G: Gate, A: Allocator + Clone> InCall<'c, '_, '_, '_, R, G, A>
 
     // Makes the change, whose pages are held. False where the call has to be given up.
     #[tactic(auto, using(crate::proofs::Noted::steps, crate::proofs::Lost::loses_alike, crate::proofs::Lost::others_of, crate::proofs::Lost::none_of))]
-    fn make(&mut self, change: Change, losses: Losses<'c, A>) -> bool
+    fn make(&mut self, change: Change, losses: FramesLost<'c, A>) -> bool
         requires sound { IsSoundChange change }
         requires lost { Loses (shown self.old.held.slots) change losses.frames.items }
         requires users { AreUsers (shown self.old.held.slots) (range_of change) losses.cores }
@@ -134,7 +134,7 @@ impl<'c, R: Wait, G: Gate, A: Allocator + Clone> InCall<'c, '_, '_, '_, R, G, A>
         if !is_ready(&mut self.held, change) {
             return false;
         }
-        let Losses { cores, frames } = losses;
+        let FramesLost { cores, frames } = losses;
         let targets = cores.without(self.seat.core());
         if targets.is_empty() {
             self.make_alone(change, frames)
@@ -187,7 +187,7 @@ impl<'c, R: Wait, G: Gate, A: Allocator + Clone> InCall<'c, '_, '_, '_, R, G, A>
         let Some(counting) = space.counting(self.rt, core, lost) else {
             return false;
         };
-        match Telling::of(
+        match ShootdownTargets::of(
             self.rt,
             space.tree.alloc(),
             &space.cores,
@@ -235,7 +235,7 @@ impl<'c, R: Wait, G: Gate, A: Allocator + Clone> InCall<'c, '_, '_, '_, R, G, A>
 
 // The step that posts to these other cores, which are locked: they are to drop their translations of the range.
 fn tell_others<A: Allocator + Clone>(
-    telling: Telling<'_, A>,
+    telling: ShootdownTargets<'_, A>,
     seat: &mut Seat<A>,
     _range: PageRange,
     _others: CoreSet,

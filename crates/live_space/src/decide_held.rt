@@ -12,7 +12,7 @@ ghost use Rattle.live_space.specs.Losing.{DecidesHeld};
 
 use frames::Objects;
 use live_tree::held::Held;
-use live_tree::held::losses::Losses;
+use live_tree::held::losses::FramesLost;
 use slot_lock::{Change, Goal, SlotMap};
 use smallvec::SmallVec;
 use std::alloc::Allocator;
@@ -28,7 +28,7 @@ pub(crate) enum Decided<'a, A: Allocator> {
     /// It is refused, and changes nothing.
     Refuse(Errno),
     /// It changes the pages.
-    Act(Losses<'a, A>),
+    Act(FramesLost<'a, A>),
 }
 
 /// What a call of the core does that holds the pages of its change. None where memory is refused.
@@ -102,7 +102,7 @@ fn decide_one<'a, A: Allocator + Clone>(
     let info = held.page(change.range().first);
     let frames = frame_lost(alloc, change, &info)?;
     match decide_page(objects, change, info) {
-        Ok(cores) => Some(Decided::Act(Losses { cores, frames })),
+        Ok(cores) => Some(Decided::Act(FramesLost { cores, frames })),
         Err(errno) => Some(Decided::Refuse(errno)),
     }
 }
@@ -153,7 +153,7 @@ fn decide_protect<'a, A: Allocator + Clone>(
     let change = Change::Protect { range, prot };
     match decide_over(&lent, objects, Goal::Change(change)) {
         Decision::Refuse(errno) => Some(Decided::Refuse(errno)),
-        Decision::Act { shoot, .. } => Some(Decided::Act(Losses {
+        Decision::Act { shoot, .. } => Some(Decided::Act(FramesLost {
             cores: shoot,
             frames: SmallVec::new(alloc),
         })),

@@ -1,5 +1,13 @@
-//! One address space that threads share: its making, its calls, flushes, reviews and folds, its end,
-//! what ends a call before it begins, and where a test may hold one.
+//! One address space that threads share, from its making to its end.
+//!
+//! - `space` (`Live`), `making`, `closing`: what lies under its locks, from its making to its end; `fault`: why a
+//!   call didn't begin.
+//! - `call`, `in_call`, `access`, `placing`, `changing`, `commit`, `ending`, `giving_up`: a call on its way;
+//!   `locking`: its slots.
+//! - `counting`: a flush and a review; `gate`: where a test may hold a call.
+//!
+//! It exists for `call::Live::call`, clause `noted`: a call adds just its own steps to its seat's notes. That what
+//! threads do together is a run isn't proved: `certifier` checks each run.
 #![tactic(auto)]
 
 mod access;

@@ -8,7 +8,7 @@ use crate::gate::Gate;
 use crate::in_call::InCall;
 use live_levels::level::Stepper;
 use live_pages::answering::answer;
-use live_tree::held::{Got, Held};
+use live_tree::held::{HoldStep, Held};
 use live_tree::letting::Letting;
 use seats::Seat;
 use std::alloc::Allocator;
@@ -43,9 +43,9 @@ impl<'c, R: Wait, G: Gate, A: Allocator + Clone> InCall<'c, '_, '_, '_, R, G, A>
                 .held
                 .lock_next(rt, &space.tree, self.seat, core, end, changes)
             {
-                Got::Locked | Got::Split => {}
-                Got::Owned(_) => thread::yield_now(),
-                Got::Unseen | Got::NoMemory | Got::Lost => return false,
+                HoldStep::Locked | HoldStep::Split => {}
+                HoldStep::Owned(_) => thread::yield_now(),
+                HoldStep::Unseen | HoldStep::NoMemory | HoldStep::Lost => return false,
             }
         }
         unreachable!()

@@ -36,7 +36,7 @@ pub(crate) type Guards<'a, A> = SmallVec<Option<MutexGuard<'a, SlotState<A>>>, 4
 
 /// The result of a step towards holding pages.
 #[derive(Clone, Copy, PartialEq, Eq)]
-pub enum Got {
+pub enum HoldStep {
     /// One slot more is held, which was noted.
     Locked,
     /// A slot was divided, which was noted.
@@ -136,32 +136,32 @@ impl<'a, A: Allocator + Clone> Held<'a, A> {
         core: CoreId,
         end: u64,
         room: usize,
-    ) -> Got
+    ) -> HoldStep
         requires range { self.old.end < end }
         requires stepper { S.can_step stepper.old }
         ensures { Acquires S.stepped stepper.old stepper.new self.old self.new core end room result }
     {
         let mut guard = match tree.lock_next(rt, stepper, core, self.end, end) {
             Next::Whole(guard) => guard,
-            Next::Split => return Got::Split,
-            Next::Unseen => return Got::Unseen,
+            Next::Split => return HoldStep::Split,
+            Next::Unseen => return HoldStep::Unseen,
             Next::Owned(guard) => {
                 return match other_owner(&guard, core) {
-                    Some(other) => Got::Owned(other),
-                    None => Got::Lost,
+                    Some(other) => HoldStep::Owned(other),
+                    None => HoldStep::Lost,
                 };
             }
-            Next::NoMemory => return Got::NoMemory,
-            Next::Lost => return Got::Lost,
+            Next::NoMemory => return HoldStep::NoMemory,
+            Next::Lost => return HoldStep::Lost,
         };
         if guard.reserve(room).is_err() {
-            return Got::NoMemory;
+            return HoldStep::NoMemory;
         }
         if self.push(guard).is_err() {
-            return Got::NoMemory;
+            return HoldStep::NoMemory;
         }
         stepper.step();
-        Got::Locked
+        HoldStep::Locked
     }
 
     /// Ends, where no slot is held.

@@ -1,4 +1,12 @@
-//! The tree of slots that threads share, and the slots that a call holds.
+//! The shared tree of slots, and the slots that a call holds.
+//!
+//! - `tree` (`SharedTree`): four levels, from its making to its end, with the word of tickets; `histories`: what it
+//!   hands out.
+//! - `held` (`Held`): how a call takes slots, cuts them, and changes them; `letting`: lets them go, from left to
+//!   right.
+//!
+//! It exists for `held::Held::lock_next`, held slots lie side by side, and `held::Held::commit`: it changes those of
+//! its range and no other. It knows nothing of frames' bytes or of cores' tables.
 #![tactic(auto)]
 
 pub mod held;

@@ -1,7 +1,7 @@
 -- An order of calls at one moment each is one by the loose rule, in which each call ends as soon as it has taken effect
 use Rattle.slot_lock.proofs.Words.{◌≡◌, ◌∙◌, ◌⊎◌, ℕ, zero, suc, ◌<◌, ◌≤◌, Bool, List, [], ◌∷◌, Option, None, Some, ap, arith, inl, inr, length, put, refl, subst, sym}
 use Rattle.std.proofs.Common.{slice_get}
-use Rattle.vm_base.specs.Plain.{Entry, Plain}
+use Rattle.vm_base.specs.Plain.{PageEntry, Plain}
 use Rattle.vm_base.specs.Places.{PlaceRule}
 use Rattle.audit.specs.Placing.{rule_of}
 use Rattle.orders.specs.declared.history.Item.{Item}
@@ -26,7 +26,7 @@ effects_of (Copy i ∷ xs) = ap (λ (ys : List Item). Copy i ∷ ys) (effects_of
 
 -- ---- where they lead
 
-one_end : (i : ℕ) (f : ℕ → Option (Option Entry)) → (λ (call page : ℕ). None) ≡ put (put (λ (call page : ℕ). None) i f) i (λ page. None)
+one_end : (i : ℕ) (f : ℕ → Option (Option PageEntry)) → (λ (call page : ℕ). None) ≡ put (put (λ (call page : ℕ). None) i f) i (λ page. None)
 one_end i f = sym (put_put (λ (call page : ℕ). None) i f (λ page. None) ∙ put_back (λ (call page : ℕ). None) i (λ page. None) refl)
 
 lead_so : (rule : PlaceRule) (h : List Timed) (t u : Plain) (xs : List Item) → ItemsLead rule h t xs u → LeadAll rule h (begun t) (steps_of xs) (begun u)

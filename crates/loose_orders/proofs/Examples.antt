@@ -10,7 +10,7 @@ use Rattle.vm_base.specs.Apply.{after_unmapping}
 use Rattle.vm_base.specs.Functions.{put}
 use Rattle.vm_base.specs.Pages.{pages_of}
 use Rattle.vm_base.specs.Places.{IsFirstPlace}
-use Rattle.vm_base.specs.Plain.{Entry, Plain}
+use Rattle.vm_base.specs.Plain.{PageEntry, Plain}
 use Rattle.orders.specs.declared.history.Item.TheVariants as Of
 use Rattle.orders.specs.declared.history.Timed.{Timed}
 use Rattle.orders.specs.Once.{AllMarked}
@@ -41,7 +41,7 @@ load_replaces_nothing = refl
 -- ---- an order by the rule
 
 -- each page shows this byte, and may be read and written
-abbrev page : Entry
+abbrev page : PageEntry
 page = record { back = Anon; prot = rw; own = Some (λ i. 5) }
 
 abbrev first : Plain

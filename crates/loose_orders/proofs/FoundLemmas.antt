@@ -1,6 +1,6 @@
 -- What is found of an entry that a call is about to replace
 use Rattle.slot_lock.proofs.Words.{◌≡◌, ◌∙◌, ℕ, Bool, true, false, cond, Option, None, Some, IfSome, ap, subst, sym}
-use Rattle.slot_lock.proofs.Words.{Back, Bytes, Entry, PageInfo, Plain, Prot, Byte, Bus, Segv, MapErr, entry_reply, is_page, page_of}
+use Rattle.slot_lock.proofs.Words.{Back, Bytes, PageEntry, PageInfo, Plain, Prot, Byte, Bus, Segv, MapErr, entry_reply, is_page, page_of}
 use Rattle.vm_base.specs.declared.info.Back.TheVariants as BackOf
 use Rattle.vm_base.specs.declared.rights.Access.TheVariants as By
 use Rattle.vm_base.specs.declared.requests.Request.TheVariants.{Load, Fetch}
@@ -12,31 +12,31 @@ use Rattle.vm_base.specs.Plain.{zeros}
 use Rattle.vm_base.specs.Rights.{is_allowed}
 use Rattle.audit.specs.Judging.{Judges}
 use Rattle.audit.specs.Keeping.{entry_kept, own_kept}
-use Rattle.audit.specs.declared.judging.Verdict.{Verdict}
-use Rattle.audit.specs.declared.judging.Verdict.TheVariants.{Legal, Illegal}
+use Rattle.audit.specs.declared.judging.ReplyVerdict.{ReplyVerdict}
+use Rattle.audit.specs.declared.judging.ReplyVerdict.TheVariants.{Legal, Illegal}
 use Rattle.loose_orders.specs.declared.keeping.Was.{Was}
 use Rattle.loose_orders.specs.declared.keeping.Was.TheVariants.{Unmapped, Own}
 use Rattle.loose_orders.specs.Kept.{IsWas}
 
 -- ---- reads that were judged
 
-pub load_same : (rule : PlaceRule) (t : Plain) (core addr : ℕ) (v : Verdict) (u : Plain) → Judges rule t core (Load addr) Bus v u → u ≡ t
+pub load_same : (rule : PlaceRule) (t : Plain) (core addr : ℕ) (v : ReplyVerdict) (u : Plain) → Judges rule t core (Load addr) Bus v u → u ≡ t
 load_same rule t core addr Legal u j = j.1
 load_same rule t core addr (Illegal due) u j = j.2
 
-pub fetch_same : (rule : PlaceRule) (t : Plain) (core addr : ℕ) (v : Verdict) (u : Plain) → Judges rule t core (Fetch addr) Bus v u → u ≡ t
+pub fetch_same : (rule : PlaceRule) (t : Plain) (core addr : ℕ) (v : ReplyVerdict) (u : Plain) → Judges rule t core (Fetch addr) Bus v u → u ≡ t
 fetch_same rule t core addr Legal u j = j.1
 fetch_same rule t core addr (Illegal due) u j = j.2
 
-pub load_found : (rule : PlaceRule) (t : Plain) (core addr : ℕ) (b : ℕ) (v : Verdict) (u : Plain) → v ≡ Illegal (Byte b) → Judges rule t core (Load addr) Bus v u
+pub load_found : (rule : PlaceRule) (t : Plain) (core addr : ℕ) (b : ℕ) (v : ReplyVerdict) (u : Plain) → v ≡ Illegal (Byte b) → Judges rule t core (Load addr) Bus v u
     → access_reply t addr By.Load ≡ Some (Byte b)
 load_found rule t core addr b v u is j =
-    let k = subst (λ (x : Verdict). Judges rule t core (Load addr) Bus x u) is j in k.1.1.0
+    let k = subst (λ (x : ReplyVerdict). Judges rule t core (Load addr) Bus x u) is j in k.1.1.0
 
-pub fetch_found : (rule : PlaceRule) (t : Plain) (core addr : ℕ) (b : ℕ) (v : Verdict) (u : Plain) → v ≡ Illegal (Byte b) → Judges rule t core (Fetch addr) Bus v u
+pub fetch_found : (rule : PlaceRule) (t : Plain) (core addr : ℕ) (b : ℕ) (v : ReplyVerdict) (u : Plain) → v ≡ Illegal (Byte b) → Judges rule t core (Fetch addr) Bus v u
     → access_reply t addr By.Fetch ≡ Some (Byte b)
 fetch_found rule t core addr b v u is j =
-    let k = subst (λ (x : Verdict). Judges rule t core (Fetch addr) Bus x u) is j in k.1.1.0
+    let k = subst (λ (x : ReplyVerdict). Judges rule t core (Fetch addr) Bus x u) is j in k.1.1.0
 
 -- ---- the byte of anonymous memory
 
@@ -46,20 +46,20 @@ byte_there true false x b h = absurd cc
 byte_there false w x b h = absurd cc
 
 -- an entry with bytes of its own
-abbrev owned : Back → Prot → Bytes → Option Entry
+abbrev owned : Back → Prot → Bytes → Option PageEntry
 owned back prot own = Some (record { back = back; prot = prot; own = Some own })
 
 load_byte : (t : Plain) (addr b : ℕ) (back : Back) (prot : Prot) (own : Bytes) → t.entry (page_of addr) ≡ owned back prot own
     → access_reply t addr By.Load ≡ Some (Byte b) → own (offset_of addr) ≡ b
 load_byte t addr b back prot own is h =
     byte_there (is_page (page_of addr)) (is_allowed prot By.Load) (own (offset_of addr)) b
-    (subst (λ (o : Option Entry). cond (is_page (page_of addr)) (entry_reply t.file o By.Load (offset_of addr)) (Some (Segv MapErr)) ≡ Some (Byte b)) is h)
+    (subst (λ (o : Option PageEntry). cond (is_page (page_of addr)) (entry_reply t.file o By.Load (offset_of addr)) (Some (Segv MapErr)) ≡ Some (Byte b)) is h)
 
 fetch_byte : (t : Plain) (addr b : ℕ) (back : Back) (prot : Prot) (own : Bytes) → t.entry (page_of addr) ≡ owned back prot own
     → access_reply t addr By.Fetch ≡ Some (Byte b) → own (offset_of addr) ≡ b
 fetch_byte t addr b back prot own is h =
     byte_there (is_page (page_of addr)) (is_allowed prot By.Fetch) (own (offset_of addr)) b
-    (subst (λ (o : Option Entry). cond (is_page (page_of addr)) (entry_reply t.file o By.Fetch (offset_of addr)) (Some (Segv MapErr)) ≡ Some (Byte b)) is h)
+    (subst (λ (o : Option PageEntry). cond (is_page (page_of addr)) (entry_reply t.file o By.Fetch (offset_of addr)) (Some (Segv MapErr)) ≡ Some (Byte b)) is h)
 
 pub was_unmapped : (bytes : ℕ → Bytes) (o : Option PageInfo) (i : ℕ) → o ≡ None → IsWas (entry_kept bytes o) i Unmapped
 was_unmapped bytes o i e = ap (entry_kept bytes) e
@@ -78,7 +78,7 @@ pub copied_own : (bytes : ℕ → Bytes) (back : Back) (frame : Option ℕ) (fil
 copied_own bytes back frame file page f is has =
     (bytes f, ap (λ (b : Back). own_kept bytes b frame) is ∙ ap (own_kept bytes (BackOf.Private file page)) has)
 
-own_entry : (bytes : ℕ → Bytes) (o : Option PageInfo) (info : PageInfo) (entry : Option Entry) → entry ≡ entry_kept bytes o → o ≡ Some info
+own_entry : (bytes : ℕ → Bytes) (o : Option PageInfo) (info : PageInfo) (entry : Option PageEntry) → entry ≡ entry_kept bytes o → o ≡ Some info
     → (h : HasOwn bytes info) → entry ≡ owned info.meta.back info.meta.prot h.0
 own_entry bytes o info entry at is h =
     at ∙ (ap (entry_kept bytes) is
@@ -87,7 +87,7 @@ own_entry bytes o info entry at is h =
 pub was_shown : (t : Plain) (bytes : ℕ → Bytes) (o : Option PageInfo) (info : PageInfo) (addr : ℕ) (was : Was) → t.entry (page_of addr) ≡ entry_kept bytes o
     → o ≡ Some info → IsWas (entry_kept bytes (Some info)) (offset_of addr) was → IsWas (t.entry (page_of addr)) (offset_of addr) was
 was_shown t bytes o info addr was at is w =
-    subst (λ (e : Option Entry). IsWas e (offset_of addr) was) (sym (at ∙ ap (entry_kept bytes) is)) w
+    subst (λ (e : Option PageEntry). IsWas e (offset_of addr) was) (sym (at ∙ ap (entry_kept bytes) is)) w
 
 pub was_loaded : (t : Plain) (bytes : ℕ → Bytes) (o : Option PageInfo) (info : PageInfo) (addr : ℕ) (byte : Option ℕ) → t.entry (page_of addr) ≡ entry_kept bytes o
     → o ≡ Some info → HasOwn bytes info → IfSome byte (λ b. access_reply t addr By.Load ≡ Some (Byte b))

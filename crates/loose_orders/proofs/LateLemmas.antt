@@ -1,6 +1,6 @@
 -- Accesses that go as before a call
 use Rattle.slot_lock.proofs.Words.{◌≡◌, ◌==◌, ◌∙◌, ℕ, Bool, true, false, cond, List, Option, None, Some, IfSome, ap, map, refl, subst, sym, put, put_same, put_other, eq_true, eq_false}
-use Rattle.slot_lock.proofs.Words.{Back, Bytes, Entry, File, Plain, Request, Reply, Mapped, Done, Byte, Refused, Segv, Bus, NoFrame, NoMemory, MapErr, Access, entry_reply, is_page, is_some, page_of, Prot}
+use Rattle.slot_lock.proofs.Words.{Back, Bytes, PageEntry, File, Plain, Request, Reply, Mapped, Done, Byte, Refused, Segv, Bus, NoFrame, NoMemory, MapErr, Access, entry_reply, is_page, is_some, page_of, Prot}
 use Rattle.std.specs.Prelude.{◌&&◌}
 use Rattle.std.proofs.lemmas.List.Elements.{All-map, All-weaker}
 use Rattle.vm_base.specs.declared.info.Back.TheVariants as BackOf
@@ -27,13 +27,13 @@ use Rattle.loose_orders.proofs.Maps.{entries_back, entry_back, put_back}
 
 -- ---- one that changes nothing
 
-same_old : (old : Olds) (call page : ℕ) (e : Option Entry) (f : ℕ → Option Entry) → old call page ≡ Some e
+same_old : (old : Olds) (call page : ℕ) (e : Option PageEntry) (f : ℕ → Option PageEntry) → old call page ≡ Some e
     → old ≡ put old call (put (old call) page (Some (put f page e page)))
 same_old old call page e f is =
     sym (put_back old call (put (old call) page (Some (put f page e page)))
     (put_back (old call) page (Some (put f page e page)) (ap Some (put_same f page e) ∙ sym is)))
 
-stays : (rule : PlaceRule) (s : Loose) (c : Call) (call page : ℕ) (e : Option Entry) → page_accessed c.request ≡ Some page → s.old call page ≡ Some e
+stays : (rule : PlaceRule) (s : Loose) (c : Call) (call page : ℕ) (e : Option PageEntry) → page_accessed c.request ≡ Some page → s.old call page ≡ Some e
     → RepliesBy rule (with_entry s.plain page e) c.core c.request c.reply (with_entry s.plain page e) → GoesAsBefore rule s c s
 stays rule s c call page e accesses is r = record {
   page = page;
@@ -53,7 +53,7 @@ HasOf k kept = (old : Olds) → AllKept old kept → IsKept old k
 
 -- the entry's page and reply, in a state of which this is kept
 record Found (s : Loose) (k : Kept) (addr : ℕ) (a : Access) (y : Reply) : Type 0 where
-  entry : Option Entry
+  entry : Option PageEntry
   is_old : s.old k.call (page_of addr) ≡ Some entry
   valid : is_page (page_of addr) ≡ true
   was : IsWas entry (offset_of addr) k.was
@@ -101,23 +101,23 @@ fetch_goes t c addr k kept is at off has due any_place s e all =
 -- ---- a store to bytes of the page's own
 
 -- an entry with bytes of its own
-abbrev owned : Back → Prot → Bytes → Entry
+abbrev owned : Back → Prot → Bytes → PageEntry
 owned back prot own = record { back = back; prot = prot; own = Some own }
 
 -- one that shows a file's
-abbrev shown : Back → Prot → Entry
+abbrev shown : Back → Prot → PageEntry
 shown back prot = record { back = back; prot = prot; own = None }
 
 owned_not_shown : (back : Back) (prot : Prot) (own : Bytes) (b : Back) (p : Prot) → Some (owned back prot own) ≡ Some (shown b p) → ⊥
 owned_not_shown back prot own b p e =
     let same : owned back prot own ≡ shown b p = cc in
-    let owns : ◌≡◌ {A = Option Bytes} (Some own) None = ap (λ (x : Entry). x.own) same in absurd cc
+    let owns : ◌≡◌ {A = Option Bytes} (Some own) None = ap (λ (x : PageEntry). x.own) same in absurd cc
 
 some_same : {A : Type 0} (x y : A) → Some x ≡ Some y → x ≡ y
 some_same x y e = cc
 
 -- what is known of the entry holds of it behind the store
-was_after : (e : Option Entry) (back : Back) (prot : Prot) (own : Bytes) (i j byte : ℕ) (was : Was) → e ≡ Some (owned back prot own)
+was_after : (e : Option PageEntry) (back : Back) (prot : Prot) (own : Bytes) (i j byte : ℕ) (was : Was) → e ≡ Some (owned back prot own)
     → IsWas e j was → (b : Bool) → (j == i) ≡ b
     → IsWas (Some (owned back prot (put own i byte))) j (cond b (was_stored byte was) was)
 was_after e back prot own i j byte Unmapped is w b t = let amiss : Some (owned back prot own) ≡ None = sym is ∙ w in absurd cc
@@ -127,7 +127,7 @@ was_after e back prot own i j byte (Private file page p) is w b t =
     absurd (owned_not_shown back prot own (BackOf.Private file page) p (sym is ∙ w))
 was_after e back prot own i j byte (Own p known) is w true t =
     let both : owned back prot own ≡ owned w.0 p w.1 = some_same (owned back prot own) (owned w.0 p w.1) (sym is ∙ w.2) in
-    let same : prot ≡ p = ap (λ (x : Entry). x.prot) both in (
+    let same : prot ≡ p = ap (λ (x : PageEntry). x.prot) both in (
       back,
       put own i byte,
       ap (λ (q : Prot). Some (owned back q (put own i byte))) same,
@@ -135,8 +135,8 @@ was_after e back prot own i j byte (Own p known) is w true t =
     )
 was_after e back prot own i j byte (Own p known) is w false t =
     let both : owned back prot own ≡ owned w.0 p w.1 = some_same (owned back prot own) (owned w.0 p w.1) (sym is ∙ w.2) in
-    let same : prot ≡ p = ap (λ (x : Entry). x.prot) both in
-    let bytes : own ≡ w.1 = some_same own w.1 (ap (λ (x : Entry). x.own) both) in
+    let same : prot ≡ p = ap (λ (x : PageEntry). x.prot) both in
+    let bytes : own ≡ w.1 = some_same own w.1 (ap (λ (x : PageEntry). x.own) both) in
     (back, put own i byte, ap (λ (q : Prot). Some (owned back q (put own i byte))) same, known_still known w.3 bytes)
   where
     known_still : (k : Option ℕ) → IfSome k (λ b. w.1 j ≡ b) → own ≡ w.1 → IfSome k (λ b. put own i byte j ≡ b)
@@ -149,13 +149,13 @@ kept_after : (old : Olds) (call page i byte : ℕ) (back : Back) (prot : Prot) (
     → IsKept (put old call (put (old call) page (Some (Some (owned back prot (put own i byte)))))) (kept_stored call page i byte k)
 kept_after old call page i byte back prot own is k kk = by_call (k.call == call) refl
   where
-    e : Entry
+    e : PageEntry
     e = owned back prot (put own i byte)
 
     new : Olds
     new = put old call (put (old call) page (Some (Some (owned back prot (put own i byte)))))
 
-    stay : (b : Bool) → b ≡ false → (x : Option Entry) → x ≡ kk.entry → new k.call k.page ≡ Some x
+    stay : (b : Bool) → b ≡ false → (x : Option PageEntry) → x ≡ kk.entry → new k.call k.page ≡ Some x
         → IsKept new (cond b (record k { was = was_stored byte k.was }) k)
     stay true amiss x same at = absurd cc
     stay false t x same at = record { valid = kk.valid; entry = kk.entry; is_old = at ∙ ap Some same; was = kk.was }
@@ -164,7 +164,7 @@ kept_after old call page i byte back prot own is k kk = by_call (k.call == call)
     here b t c p =
         let at : new k.call k.page ≡ Some (Some (owned back prot (put own i byte))) =
         ap (λ (x : ℕ). put old call (put (old call) page (Some (Some e))) x k.page) c
-        ∙ (ap (λ (f : ℕ → Option (Option Entry)). f k.page) (put_same old call (put (old call) page (Some (Some e))))
+        ∙ (ap (λ (f : ℕ → Option (Option PageEntry)). f k.page) (put_same old call (put (old call) page (Some (Some e))))
         ∙ (ap (put (old call) page (Some (Some e))) p ∙ put_same (old call) page (Some (Some e)))) in
         let before : Some kk.entry ≡ Some (Some (owned back prot own)) =
         sym kk.is_old ∙ (ap (λ (x : ℕ). old x k.page) c ∙ (ap (old call) p ∙ is)) in
@@ -181,16 +181,16 @@ kept_after old call page i byte back prot own is k kk = by_call (k.call == call)
     by_page true t c = here (k.offset == i) refl c (eq_true k.page page t)
     by_page false t c = stay false refl kk.entry refl
         (ap (λ (x : ℕ). put old call (put (old call) page (Some (Some e))) x k.page) c
-        ∙ (ap (λ (f : ℕ → Option (Option Entry)). f k.page) (put_same old call (put (old call) page (Some (Some e))))
+        ∙ (ap (λ (f : ℕ → Option (Option PageEntry)). f k.page) (put_same old call (put (old call) page (Some (Some e))))
         ∙ (put_other (old call) page (Some (Some e)) k.page (eq_false k.page page t) ∙ (ap (λ (x : ℕ). old x k.page) (sym c) ∙ kk.is_old))))
 
     by_call : (b : Bool) → (k.call == call) ≡ b → IsKept new (cond ((b && (k.page == page)) && (k.offset == i)) (record k { was = was_stored byte k.was }) k)
     by_call true t = by_page (k.page == page) refl (eq_true k.call call t)
     by_call false t = stay false refl kk.entry refl
-        (ap (λ (f : ℕ → Option (Option Entry)). f k.page) (put_other old call (put (old call) page (Some (Some e))) k.call (eq_false k.call call t)) ∙ kk.is_old)
+        (ap (λ (f : ℕ → Option (Option PageEntry)). f k.page) (put_other old call (put (old call) page (Some (Some e))) k.call (eq_false k.call call t)) ∙ kk.is_old)
 
 -- by the call's own words
-as_called : (rule : PlaceRule) (t : Plain) (c : Call) (addr byte : ℕ) (e : Option Entry) (after : Plain) → c.request ≡ Store addr byte → c.reply ≡ Done
+as_called : (rule : PlaceRule) (t : Plain) (c : Call) (addr byte : ℕ) (e : Option PageEntry) (after : Plain) → c.request ≡ Store addr byte → c.reply ≡ Done
     → RepliesBy rule (with_entry t (page_of addr) e) c.core (Store addr byte) Done after
     → RepliesBy rule (with_entry t (page_of addr) e) c.core c.request c.reply after
 as_called rule t c addr byte e after is done r =
@@ -206,11 +206,11 @@ store_goes t c addr byte k kept new prot known is done at off has due owns made 
     let w : IsWas x.entry (offset_of addr) (Own prot known) = subst (λ (w : Was). IsWas x.entry (offset_of addr) w) owns x.was in
     let back = w.0 in
     let own = w.1 in
-    let e : Entry = owned back prot own in
-    let f : Entry = owned back prot (put own (offset_of addr) byte) in
+    let e : PageEntry = owned back prot own in
+    let f : PageEntry = owned back prot (put own (offset_of addr) byte) in
     let old : s.old k.call (page_of addr) ≡ Some (Some e) = x.is_old ∙ ap Some w.2 in
     let reply : entry_reply s.plain.file (Some e) By.Store (offset_of addr) ≡ Some Done =
-    subst (λ (o : Option Entry). entry_reply s.plain.file o By.Store (offset_of addr) ≡ Some Done) w.2 x.reply in
+    subst (λ (o : Option PageEntry). entry_reply s.plain.file o By.Store (offset_of addr) ≡ Some Done) w.2 x.reply in
     let after : Plain = with_entry (with_entry s.plain (page_of addr) (Some e)) (page_of addr) (Some f) in
     let r : RepliesBy rule (with_entry s.plain (page_of addr) (Some e)) c.core (Store addr byte) Done after =
     store_replies rule s.plain c.core addr byte e own x.valid refl reply in
@@ -226,7 +226,7 @@ store_goes t c addr byte k kept new prot known is done at off has due owns made 
         after = after;
         replies = as_called rule s.plain c addr byte (Some e) after is done r;
         plain = sym (entries_back s.plain (page_of addr) (Some e) (Some f));
-        old = ap (λ (x : Option Entry). put s.old k.call (put (s.old k.call) (page_of addr) (Some x)))
+        old = ap (λ (x : Option PageEntry). put s.old k.call (put (s.old k.call) (page_of addr) (Some x)))
             (sym (put_same (put s.plain.entry (page_of addr) (Some e)) (page_of addr) (Some f)));
       },
       e',
@@ -261,10 +261,10 @@ file_store_goes t u c addr byte k kept file page prot is done at off has due sha
     let rule = rule_of any_place in
     let x = found s t k kept addr By.Store Done e' at off has all due in
     let w : IsWas x.entry (offset_of addr) (Shared file page prot) = subst (λ (w : Was). IsWas x.entry (offset_of addr) w) shares x.was in
-    let e : Entry = shown (BackOf.Shared file page) prot in
+    let e : PageEntry = shown (BackOf.Shared file page) prot in
     let old : s.old k.call (page_of addr) ≡ Some (Some e) = x.is_old ∙ ap Some w in
     let reply : entry_reply s.plain.file (Some e) By.Store (offset_of addr) ≡ Some Done =
-    subst (λ (o : Option Entry). entry_reply s.plain.file o By.Store (offset_of addr) ≡ Some Done) w x.reply in
+    subst (λ (o : Option PageEntry). entry_reply s.plain.file o By.Store (offset_of addr) ≡ Some Done) w x.reply in
     let after : Plain = stored_back (with_entry s.plain (page_of addr) (Some e)) (BackOf.Shared file page) (offset_of addr) byte in
     let next : Plain = stored_back s.plain (BackOf.Shared file page) (offset_of addr) byte in (
       record { plain = next; old = s.old },
@@ -320,13 +320,13 @@ stored_kind prot copy bytes i y = go (is_allowed prot By.Store) copy bytes
     go true true (Some x) h = absurd cc
     go false copy bytes h = let same : Segv AccErr ≡ y = cc in subst IsStore same tt
 
-fault_kind : (files : ℕ → Option File) (was : Was) (e : Option Entry) (i : ℕ) (y : Reply) → IsWas e i was → FindsDue files i was By.Store y → IsStore y
+fault_kind : (files : ℕ → Option File) (was : Was) (e : Option PageEntry) (i : ℕ) (y : Reply) → IsWas e i was → FindsDue files i was By.Store y → IsStore y
 fault_kind files Unmapped e i y w due =
     let reply : entry_reply files None By.Store i ≡ Some y = due None refl in
     let same : Segv MapErr ≡ y = cc in subst IsStore same tt
 fault_kind files (Own prot byte) e i y w due =
     go (is_allowed prot By.Store) (is_uncopied w.0 (Some w.1))
-    (subst (λ (x : Option Entry). entry_reply files x By.Store i ≡ Some y) w.2 (due e w))
+    (subst (λ (x : Option PageEntry). entry_reply files x By.Store i ≡ Some y) w.2 (due e w))
   where
     go : (b copy : Bool) → cond b (cond copy None (Some Done)) (Some (Segv AccErr)) ≡ Some y → IsStore y
     go true false h = let same : Done ≡ y = cc in subst IsStore same tt
@@ -351,7 +351,7 @@ store_faults t c addr byte k kept is done at off has due any_place s e all =
       all,
     )
   where
-    fault_by : (rule : PlaceRule) (t : Plain) (core addr byte : ℕ) (e : Option Entry) (y : Reply) → (y ≡ Done → ⊥) → IsStore y → is_page (page_of addr) ≡ true
+    fault_by : (rule : PlaceRule) (t : Plain) (core addr byte : ℕ) (e : Option PageEntry) (y : Reply) → (y ≡ Done → ⊥) → IsStore y → is_page (page_of addr) ≡ true
         → entry_reply t.file e By.Store (offset_of addr) ≡ Some y
         → RepliesBy rule (with_entry t (page_of addr) e) core (Store addr byte) y (with_entry t (page_of addr) e)
     fault_by rule t core addr byte e (Mapped a) n k valid h = absurd k
@@ -379,6 +379,6 @@ uncopied_finds files i file page g j was prot p a byte (Some y) is at may shows 
     let allowed : is_allowed prot a ≡ true =
     subst (λ (q : Prot). is_allowed q a ≡ true) (private_prot g j file page p prot (sym at ∙ is)) may in
     subst (λ (w : Was). FindsDue files i w a y) (sym is) (λ entry w.
-    ap (λ (e : Option Entry). entry_reply files e a i) w
+    ap (λ (e : Option PageEntry). entry_reply files e a i) w
     ∙ (ap (λ (b : Bool). cond b (bytes_reply (needs_copy a (BackOf.Private file page) None) (file_bytes (files file) page) a i) (Some (Segv AccErr))) allowed
     ∙ due file page (file_bytes (files file) page) i shows))

@@ -1,6 +1,6 @@
 -- Steps, and what is kept behind them
 use Rattle.slot_lock.proofs.Words.{◌≡◌, ◌≢◌, ◌∙◌, ℕ, ◌+◌, ◌<◌, ◌≤◌, Bool, true, cond, List, [], ◌∷◌, ◌++◌, Option, None, Some, IfSome, ap, length, refl, subst, sym, take, take_all, take_more, put, put_same, put_other, get_or}
-use Rattle.slot_lock.proofs.Words.{Entry, Plain}
+use Rattle.slot_lock.proofs.Words.{PageEntry, Plain}
 use Rattle.std.proofs.Common.{slice_get}
 use Rattle.std.proofs.lemmas.List.Elements.{All-nil, All-push}
 use Rattle.vm_base.specs.Log.{RepliesBy}
@@ -48,8 +48,8 @@ noted_found h call c t kept more addr at page offset is found was there ea ep eo
 
 -- ---- one step
 
-others : (old : Olds) (call : ℕ) (f : ℕ → Option (Option Entry)) (other page : ℕ) → other ≢ call → put old call f other page ≡ old other page
-others old call f other page ne = ap (λ (g : ℕ → Option (Option Entry)). g page) (put_other old call f other ne)
+others : (old : Olds) (call : ℕ) (f : ℕ → Option (Option PageEntry)) (other page : ℕ) → other ≢ call → put old call f other page ≡ old other page
+others old call f other page ne = ap (λ (g : ℕ → Option (Option PageEntry)). g page) (put_other old call f other ne)
 
 pub replies_on : (rule : PlaceRule) (h : List Timed) (t u : Plain) (call : ℕ) (kept left more : List Kept) → Forgets call kept left → Notes h call t left more
     → (c : Timed) → slice_get h call ≡ Some c → RepliesBy rule t c.call.core c.call.request c.call.reply u
@@ -68,7 +68,7 @@ replies_on rule h t u call kept left more f n c is by s e all =
     has c is d is' page r =
         let both : Some d ≡ Some c = sym is' ∙ is in
         let same : d ≡ c = cc in
-        ap (λ (g : ℕ → Option (Option Entry)). g page) (put_same s.old call (replaced s.plain c.call))
+        ap (λ (g : ℕ → Option (Option PageEntry)). g page) (put_same s.old call (replaced s.plain c.call))
         ∙ (ap (λ (b : Bool). cond b (Some (s.plain.entry page)) None)
         (subst (λ (x : Timed). replaces x.call.request x.call.reply page ≡ true) same r)
         ∙ ap (λ (p : Plain). Some (p.entry page)) e)

@@ -6,7 +6,7 @@ use Rattle.vm_base.specs.declared.replies.Reply.{Reply}
 use Rattle.vm_base.specs.declared.rights.Access.{Access}
 use Rattle.vm_base.specs.Apply.{entry_reply}
 use Rattle.vm_base.specs.Pages.{is_page}
-use Rattle.vm_base.specs.Plain.{Bytes, Entry, File, Plain}
+use Rattle.vm_base.specs.Plain.{Bytes, PageEntry, File, Plain}
 use Rattle.orders.specs.declared.history.Timed.{Timed}
 use Rattle.loose_orders.specs.declared.keeping.Kept.{Kept}
 use Rattle.loose_orders.specs.declared.keeping.Was.{Was}
@@ -15,10 +15,10 @@ use Rattle.loose_orders.specs.Loose.{replaces}
 
 -- what calls have replaced
 abbrev pub Olds : Type 0
-Olds = ℕ → ℕ → Option (Option Entry)
+Olds = ℕ → ℕ → Option (Option PageEntry)
 
 -- an entry is as is known of it, at this offset
-abbrev pub IsWas : Option Entry → ℕ → Was → Type 0
+abbrev pub IsWas : Option PageEntry → ℕ → Was → Type 0
 IsWas entry i Unmapped = entry ≡ None
 IsWas entry i (Own prot byte) =
     (back : Back) × (own : Bytes) × (entry ≡ Some (record { back = back; prot = prot; own = Some own })) × IfSome byte (λ b. own i ≡ b)
@@ -28,7 +28,7 @@ IsWas entry i (Private file page prot) = entry ≡ Some (record { back = BackOf.
 -- so is what a call has replaced on the page
 pub record IsKept (old : Olds) (k : Kept) : Type 0 where
   pub valid : is_page k.page ≡ true
-  pub entry : Option Entry
+  pub entry : Option PageEntry
   pub is_old : old k.call k.page ≡ Some entry
   pub was : IsWas entry k.offset k.was
 
@@ -42,7 +42,7 @@ HasReplaced old h call t = (c : Timed) → slice_get h call ≡ Some c → (page
 
 -- an access at this offset that finds such an entry has this reply, with these files
 abbrev pub FindsDue : (ℕ → Option File) → ℕ → Was → Access → Reply → Type 0
-FindsDue files i was access reply = (entry : Option Entry) → IsWas entry i was → entry_reply files entry access i ≡ Some reply
+FindsDue files i was access reply = (entry : Option PageEntry) → IsWas entry i was → entry_reply files entry access i ≡ Some reply
 
 -- ---- stores
 

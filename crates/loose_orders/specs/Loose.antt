@@ -8,7 +8,7 @@ use Rattle.vm_base.specs.Functions.{has, put}
 use Rattle.vm_base.specs.Log.{RepliesBy}
 use Rattle.vm_base.specs.Pages.{page_of, pages_of}
 use Rattle.vm_base.specs.Places.{PlaceRule}
-use Rattle.vm_base.specs.Plain.{Entry, Plain}
+use Rattle.vm_base.specs.Plain.{PageEntry, Plain}
 use Rattle.audit.specs.declared.auditor.Call.{Call}
 use Rattle.orders.specs.declared.history.Item.{Item}
 use Rattle.orders.specs.declared.history.Item.TheVariants as Of
@@ -22,7 +22,7 @@ use Rattle.loose_orders.specs.declared.steps.Step.TheVariants.{Reply as Replied,
 -- The plain page map, and beside it what this call has replaced on this page, until it ends: an entry, or none where nothing was mapped.
 pub record Loose : Type 0 where
   pub plain : Plain
-  pub old : ℕ → ℕ → Option (Option Entry)
+  pub old : ℕ → ℕ → Option (Option PageEntry)
 
 -- no call has replaced anything
 abbrev pub begun : Plain → Loose
@@ -36,7 +36,7 @@ replaces (Mprotect addr len prot) Done page = has (pages_of addr len) page
 replaces request reply page = false
 
 -- what it replaces
-abbrev pub replaced : Plain → Call → ℕ → Option (Option Entry)
+abbrev pub replaced : Plain → Call → ℕ → Option (Option PageEntry)
 replaced t c page = if replaces c.request c.reply page then Some (t.entry page) else None
 
 -- ---- accesses that go as before a call
@@ -49,7 +49,7 @@ page_accessed (Fetch addr) = Some (page_of addr)
 page_accessed request = None
 
 -- the map with this entry at a page
-abbrev pub with_entry : Plain → ℕ → Option Entry → Plain
+abbrev pub with_entry : Plain → ℕ → Option PageEntry → Plain
 with_entry t page entry = record t { entry = put t.entry page entry }
 
 -- The access has its reply with an entry that a call has replaced which hasn't ended, in place of the page's. It stores to that entry; the
@@ -58,7 +58,7 @@ pub record GoesAsBefore (rule : PlaceRule) (s : Loose) (c : Call) (u : Loose) : 
   pub page : ℕ
   pub accesses : page_accessed c.request ≡ Some page
   pub call : ℕ
-  pub entry : Option Entry
+  pub entry : Option PageEntry
   pub is_old : s.old call page ≡ Some entry
   pub after : Plain
   pub replies : RepliesBy rule (with_entry s.plain page entry) c.core c.request c.reply after

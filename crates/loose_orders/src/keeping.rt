@@ -10,7 +10,7 @@ ghost use Rattle.audit.specs.Keeping.{entry_kept, own_kept};
 ghost use Rattle.loose_orders.specs.Kept.{AllKept, HasReplaced, IsWas, Olds};
 ghost use Rattle.loose_orders.specs.Loose.{replaces};
 
-use audit::{Auditor, Verdict};
+use audit::{Auditor, ReplyVerdict};
 use orders::Timed;
 use slot_lock::SlotMap;
 use std::alloc::Allocator;
@@ -105,7 +105,7 @@ fn loaded<M: SlotMap, A: Allocator>(
 {
     // (this reply is asked for since it changes nothing)
     match auditor.judge(core, Request::Load { addr }, Reply::Bus)? {
-        Verdict::Illegal(Reply::Byte(byte)) => Ok(Some(byte)),
+        ReplyVerdict::Illegal(Reply::Byte(byte)) => Ok(Some(byte)),
         _ => Ok(None),
     }
 }
@@ -122,7 +122,7 @@ fn fetched<M: SlotMap, A: Allocator>(
         access_reply (plain_of auditor.old) addr By.Fetch ≡ Some (ReplyOf.Byte byte))) }
 {
     match auditor.judge(core, Request::Fetch { addr }, Reply::Bus)? {
-        Verdict::Illegal(Reply::Byte(byte)) => Ok(Some(byte)),
+        ReplyVerdict::Illegal(Reply::Byte(byte)) => Ok(Some(byte)),
         _ => Ok(None),
     }
 }

@@ -13,7 +13,7 @@ ghost use Rattle.loose_orders.specs.declared.steps.Step.TheVariants as StepOf;
 use crate::keeping::{Kept, Use, call_at, forget, note};
 use crate::late::goes_late;
 use crate::steps::Step;
-use audit::{Auditor, Call, Verdict};
+use audit::{Auditor, Call, ReplyVerdict};
 use orders::Timed;
 use slot_lock::SlotMap;
 use std::alloc::Allocator;
@@ -49,8 +49,8 @@ fn is_plain<M: SlotMap, A: Allocator>(
         return Ok(auditor.would_serve(call.request));
     }
     match auditor.judge(call.core, call.request, call.reply)? {
-        Verdict::Legal => Ok(true),
-        Verdict::Illegal(_) => Ok(false),
+        ReplyVerdict::Legal => Ok(true),
+        ReplyVerdict::Illegal(_) => Ok(false),
     }
 }
 

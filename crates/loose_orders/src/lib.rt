@@ -1,4 +1,12 @@
-//! Calls that overlap, by the loose rule: until a call has ended, an access may still go as before it.
+//! Whether given steps are an order of overlapping calls by the loose rule.
+//!
+//! By this rule an access may still go as before a call, until that call has ended.
+//!
+//! - `steps`: what an order has at its places; `leading`, `late`, `keeping`: what steps lead to, and what is kept of
+//!   replaced entries.
+//!
+//! It exists for `following::follow`, whether given steps are such an order, and `laws::orders_are_loose`. It
+//! searches nothing.
 #![tactic(auto)]
 
 pub mod following;

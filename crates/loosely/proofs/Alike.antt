@@ -1,6 +1,6 @@
 -- What a load or fetch finds depends on its page's entry and on the files alone
 use Rattle.slot_lock.proofs.Words.{◌≡◌, ◌==◌, ◌∙◌, ℕ, Bool, true, false, cond, Option, None, Some, ap, arith, inl, inr, put, put_same, refl, subst, sym}
-use Rattle.slot_lock.proofs.Words.{Bytes, Entry, File, Plain, Request, Reply, Mapped, Done, Byte, Refused, Segv, Bus, NoFrame, NoMemory, MapErr, Access, Mmap, Munmap, Mprotect, bytes_of, entry_reply, is_page, page_of}
+use Rattle.slot_lock.proofs.Words.{Bytes, PageEntry, File, Plain, Request, Reply, Mapped, Done, Byte, Refused, Segv, Bus, NoFrame, NoMemory, MapErr, Access, Mmap, Munmap, Mprotect, bytes_of, entry_reply, is_page, page_of}
 use Rattle.std.proofs.Common.{◌⊎◌}
 use Rattle.std.specs.Prelude.{◌&&◌}
 use Rattle.std.proofs.lemmas.Bool.Decides.{nat_tests}
@@ -22,7 +22,7 @@ use Rattle.loosely.proofs.Tame.{AllTame, Tame, due_file, due_tame, is_shared, re
 reply_alike : (x y : Plain) (addr : ℕ) (a : Access) → y.file ≡ x.file → y.entry (page_of addr) ≡ x.entry (page_of addr)
     → access_reply y addr a ≡ access_reply x addr a
 reply_alike x y addr a f e =
-    ap (λ (o : Option Entry). cond (is_page (page_of addr)) (entry_reply y.file o a (offset_of addr)) (Some (Segv MapErr))) e
+    ap (λ (o : Option PageEntry). cond (is_page (page_of addr)) (entry_reply y.file o a (offset_of addr)) (Some (Segv MapErr))) e
     ∙ ap (λ (files : ℕ → Option File). cond (is_page (page_of addr)) (entry_reply files (x.entry (page_of addr)) a (offset_of addr)) (Some (Segv MapErr))) f
 
 load_alike : (rule : PlaceRule) (x y v : Plain) (core addr : ℕ) (z : Reply) → is_seen z ≡ true → y.file ≡ x.file
@@ -68,14 +68,14 @@ is_reading By.Fetch = true
 is_reading By.Store = false
 
 -- an entry, and what it is once it has got bytes of its own, which are these
-abbrev Own : (ℕ → Option File) → Option Entry → Option Entry → (Bytes → Bytes) → Type 0
-Own files e new f = (en : Entry) × (own : Bytes) × (e ≡ Some en) × (bytes_of files en.back en.own ≡ Some own) × (new ≡ Some (record en { own = Some (f own) }))
+abbrev Own : (ℕ → Option File) → Option PageEntry → Option PageEntry → (Bytes → Bytes) → Type 0
+Own files e new f = (en : PageEntry) × (own : Bytes) × (e ≡ Some en) × (bytes_of files en.back en.own ≡ Some own) × (new ≡ Some (record en { own = Some (f own) }))
 
 -- the copy of a page
-abbrev IsCopied : (ℕ → Option File) → Option Entry → Option Entry → Type 0
+abbrev IsCopied : (ℕ → Option File) → Option PageEntry → Option PageEntry → Type 0
 IsCopied files e new = (new ≡ e) ⊎ Own files e new (λ b. b)
 
-copied_entry : (t u : Plain) (page : ℕ) (en : Entry) (b : Bool) (o : Option Bytes) → t.entry page ≡ Some en → bytes_of t.file en.back en.own ≡ o
+copied_entry : (t u : Plain) (page : ℕ) (en : PageEntry) (b : Bool) (o : Option Bytes) → t.entry page ≡ Some en → bytes_of t.file en.back en.own ≡ o
     → copied t page en b o ≡ Some u → IsCopied t.file (t.entry page) (u.entry page)
 copied_entry t u page en false None is bytes h = absurd cc
 copied_entry t u page en false (Some own) is bytes h = absurd cc
@@ -89,7 +89,7 @@ copied_entry t u page en true (Some own) is bytes h =
 detached_is : (t u : Plain) (page : ℕ) → detached t page ≡ Some u → IsCopied t.file (t.entry page) (u.entry page)
 detached_is t u page h = go (t.entry page) refl h
   where
-    go : (o : Option Entry) → t.entry page ≡ o → detached_entry t page o ≡ Some u → IsCopied t.file (t.entry page) (u.entry page)
+    go : (o : Option PageEntry) → t.entry page ≡ o → detached_entry t page o ≡ Some u → IsCopied t.file (t.entry page) (u.entry page)
     go None is e = absurd cc
     go (Some en) is e = copied_entry t u page en (is_uncopied en.back en.own) (bytes_of t.file en.back en.own) is refl e
 
@@ -102,7 +102,7 @@ due_is t page = go (detached t page) refl
         subst (λ (p : Option Plain). IsCopied t.file (t.entry page) ((or_else t p).entry page)) (sym e) (detached_is t u page e)
 
 -- the entry of a page behind a store
-abbrev IsStored : (ℕ → Option File) → ℕ → ℕ → Option Entry → Option Entry → Type 0
+abbrev IsStored : (ℕ → Option File) → ℕ → ℕ → Option PageEntry → Option PageEntry → Type 0
 IsStored files i byte e new = (new ≡ e) ⊎ Own files e new (λ b. put b i byte)
 
 back_stays : (t : Plain) (page i byte : ℕ) (back : Back) → is_shared back ≡ false → (stored_back t back i byte).entry page ≡ t.entry page
@@ -110,7 +110,7 @@ back_stays t page i byte Anon n = refl
 back_stays t page i byte (Shared file k) n = absurd cc
 back_stays t page i byte (Private file k) n = refl
 
-stored_is : (t : Plain) (page i byte : ℕ) (o : Option Entry) → Tame o → t.entry page ≡ o
+stored_is : (t : Plain) (page i byte : ℕ) (o : Option PageEntry) → Tame o → t.entry page ≡ o
     → IsStored t.file i byte (t.entry page) ((stored_entry t page o i byte).entry page)
 stored_is t page i byte None tame is = inl refl
 stored_is t page i byte (Some en) tame is = go en.own refl
@@ -125,7 +125,7 @@ stored_is t page i byte (Some en) tame is = go en.own refl
 
 -- ---- what is found
 
-read_reply : (a : Access) → is_reading a ≡ true → (files : ℕ → Option File) (en : Entry) (own : Bytes) (i : ℕ)
+read_reply : (a : Access) → is_reading a ≡ true → (files : ℕ → Option File) (en : PageEntry) (own : Bytes) (i : ℕ)
     → bytes_of files en.back en.own ≡ Some own
     → entry_reply files (Some en) a i ≡ cond (is_allowed en.prot a) (Some (byte_reply a (own i))) (Some (Segv AccErr))
 read_reply By.Load r files en own i e =
@@ -134,13 +134,13 @@ read_reply By.Fetch r files en own i e =
     ap (λ (o : Option Bytes). cond (is_allowed en.prot By.Fetch) (bytes_reply false o By.Fetch i) (Some (Segv AccErr))) e
 read_reply By.Store r files en own i e = absurd cc
 
-copy_found : (files : ℕ → Option File) (e new : Option Entry) (a : Access) (i : ℕ) → is_reading a ≡ true → IsCopied files e new
+copy_found : (files : ℕ → Option File) (e new : Option PageEntry) (a : Access) (i : ℕ) → is_reading a ≡ true → IsCopied files e new
     → entry_reply files new a i ≡ entry_reply files e a i
-copy_found files e new a i r (inl same) = ap (λ (o : Option Entry). entry_reply files o a i) same
+copy_found files e new a i r (inl same) = ap (λ (o : Option PageEntry). entry_reply files o a i) same
 copy_found files e new a i r (inr (en, own, is, bytes, got)) =
-    ap (λ (o : Option Entry). entry_reply files o a i) got
+    ap (λ (o : Option PageEntry). entry_reply files o a i) got
     ∙ (read_reply a r files (record en { own = Some own }) own i refl
-    ∙ (sym (read_reply a r files en own i bytes) ∙ ap (λ (o : Option Entry). entry_reply files o a i) (sym is)))
+    ∙ (sym (read_reply a r files en own i bytes) ∙ ap (λ (o : Option PageEntry). entry_reply files o a i) (sym is)))
 
 -- another byte, or at another offset
 abbrev IsElse : ℕ → ℕ → ℕ → Reply → Type 0
@@ -163,16 +163,16 @@ reading_reply By.Load b r = refl
 reading_reply By.Fetch b r = refl
 reading_reply By.Store b r = absurd cc
 
-store_found : (files : ℕ → Option File) (e new : Option Entry) (a : Access) (i off byte : ℕ) (z : Reply) → is_reading a ≡ true
+store_found : (files : ℕ → Option File) (e new : Option PageEntry) (a : Access) (i off byte : ℕ) (z : Reply) → is_reading a ≡ true
     → IsStored files off byte e new → IsElse i off byte z → entry_reply files new a i ≡ Some z → entry_reply files e a i ≡ Some z
-store_found files e new a i off byte z r (inl same) other h = sym (ap (λ (o : Option Entry). entry_reply files o a i) same) ∙ h
+store_found files e new a i off byte z r (inl same) other h = sym (ap (λ (o : Option PageEntry). entry_reply files o a i) same) ∙ h
 store_found files e new a i off byte z r (inr (en, own, is, bytes, got)) other h =
-    ap (λ (o : Option Entry). entry_reply files o a i) is ∙ (read_reply a r files en own i bytes ∙ go (is_allowed en.prot a) there)
+    ap (λ (o : Option PageEntry). entry_reply files o a i) is ∙ (read_reply a r files en own i bytes ∙ go (is_allowed en.prot a) there)
   where
     there : cond (is_allowed en.prot a) (Some (byte_reply a (put own off byte i))) (Some (Segv AccErr)) ≡ Some z
     there =
         sym (read_reply a r files (record en { own = Some (put own off byte) }) (put own off byte) i refl)
-        ∙ (sym (ap (λ (o : Option Entry). entry_reply files o a i) got) ∙ h)
+        ∙ (sym (ap (λ (o : Option PageEntry). entry_reply files o a i) got) ∙ h)
 
     some_is : (y : Reply) → Some y ≡ Some z → y ≡ z
     some_is y k = cc
@@ -210,7 +210,7 @@ found_before rule x after v core addr at byte a z r same tame h other files entr
     stored : IsStored x.file (offset_of addr) byte (m.entry page) (after.entry page)
     stored =
         subst (λ (f : ℕ → Option File). IsStored f (offset_of addr) byte (m.entry page) (after.entry page)) m_file
-        (subst (λ (o : Option Entry). IsStored m.file (offset_of addr) byte (m.entry page) o) (sym (ap (λ (u : Plain). u.entry page) h.1))
+        (subst (λ (o : Option PageEntry). IsStored m.file (offset_of addr) byte (m.entry page) o) (sym (ap (λ (u : Plain). u.entry page) h.1))
         (stored_is m page (offset_of addr) byte (m.entry page) (m_tame page) refl))
 
     entry_found : entry_reply after.file (after.entry page) a (offset_of at) ≡ Some z → entry_reply x.file (x.entry page) a (offset_of at) ≡ Some z

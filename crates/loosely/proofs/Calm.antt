@@ -1,6 +1,6 @@
 -- An access that goes as before a call leaves the plain map as it was, where no such store changes a file
 use Rattle.slot_lock.proofs.Words.{◌≡◌, ◌==◌, ◌∙◌, ℕ, Bool, true, false, cond, List, Option, None, Some, ap, put, refl, subst, sym}
-use Rattle.slot_lock.proofs.Words.{Entry, Plain, Reply, Mapped, Done, Byte, Refused, Segv, Bus, NoFrame, NoMemory}
+use Rattle.slot_lock.proofs.Words.{PageEntry, Plain, Reply, Mapped, Done, Byte, Refused, Segv, Bus, NoFrame, NoMemory}
 use Rattle.std.proofs.Common.{slice_get}
 use Rattle.vm_base.specs.Log.{RepliesBy}
 use Rattle.vm_base.specs.Places.{PlaceRule}
@@ -18,7 +18,7 @@ use Rattle.loosely.proofs.Tame.{AllTame, Tame, copies_file, copies_tame, done_la
 -- nothing that is mapped, or was, shows a file that a store to it changes
 pub record IsTame (s : Loose) : Type 0 where
   pub plain : AllTame s.plain.entry
-  pub olds : (call page : ℕ) (e : Option Entry) → s.old call page ≡ Some e → Tame e
+  pub olds : (call page : ℕ) (e : Option PageEntry) → s.old call page ≡ Some e → Tame e
 
 -- no call maps such a file
 abbrev pub NoneShare : List Timed → Type 0
@@ -48,8 +48,8 @@ late_same rule s u c tame g = go c.reply refl
 pub tame_first : (t : Plain) → AllTame t.entry → IsTame (begun t)
 tame_first t all = record { plain = all; olds = λ call page e is. absurd cc }
 
-abbrev If : Option (Option Entry) → Type 0
-If o = (e : Option Entry) → o ≡ Some e → Tame e
+abbrev If : Option (Option PageEntry) → Type 0
+If o = (e : Option PageEntry) → o ≡ Some e → Tame e
 
 pub tame_on : (rule : PlaceRule) (h : List Timed) (step : Step) (s u : Loose) → NoneShare h → Leads rule h s step u → IsTame s → IsTame u
 tame_on rule h (Replied i) s u none l tame = record {

@@ -1,7 +1,7 @@
 -- What a call has replaced is there only while the call is under way
 use Rattle.slot_lock.proofs.Words.{◌≡◌, ◌≢◌, ◌==◌, ◌∙◌, ℕ, suc, ◌<◌, ◌≤◌, Bool, true, false, cond, List, Option, None, Some, ap, arith, length, put, refl, subst, sym, eq_true, eq_false}
 use Rattle.std.proofs.Common.{slice_get}
-use Rattle.slot_lock.proofs.Words.{Entry, Plain}
+use Rattle.slot_lock.proofs.Words.{PageEntry, Plain}
 use Rattle.vm_base.specs.Places.{PlaceRule}
 use Rattle.orders.specs.declared.history.Item.{Item}
 use Rattle.orders.specs.declared.history.Item.TheVariants.{Reply, Copy}
@@ -27,7 +27,7 @@ pub record IsLive (h : List Timed) (items : List Item) (at call page : ℕ) : Ty
 
 -- each that has replaced something
 abbrev pub AllLive : List Timed → List Item → ℕ → Olds → Type 0
-AllLive h items at old = (call page : ℕ) (e : Option Entry) → old call page ≡ Some e → IsLive h items at call page
+AllLive h items at old = (call page : ℕ) (e : Option PageEntry) → old call page ≡ Some e → IsLive h items at call page
 
 pub none_live : (h : List Timed) (items : List Item) (t : Plain) → AllLive h items 0 (begun t).old
 none_live h items t call page e is = absurd cc
@@ -70,8 +70,8 @@ starts h items n at call page c once is low of does =
       ended = end.1;
     }
 
-abbrev Holds : List Timed → List Item → ℕ → ℕ → ℕ → Option (Option Entry) → Type 0
-Holds h items at call page o = (e : Option Entry) → o ≡ Some e → IsLive h items at call page
+abbrev Holds : List Timed → List Item → ℕ → ℕ → ℕ → Option (Option PageEntry) → Type 0
+Holds h items at call page o = (e : Option PageEntry) → o ≡ Some e → IsLive h items at call page
 
 -- behind a step
 pub live_on : (rule : PlaceRule) (h : List Timed) (items : List Item) (at : ℕ) (step : Step) (s u : Loose) → EachOnce (length h) items
@@ -79,12 +79,12 @@ pub live_on : (rule : PlaceRule) (h : List Timed) (items : List Item) (at : ℕ)
 live_on rule h items at (Replied i) s u once is l all call page e has =
     go (call == i) refl e (ap (λ (f : Olds). f call page) (sym l.3) ∙ has)
   where
-    gives : (b : Bool) → replaces l.0.call.request l.0.call.reply page ≡ b → (e : Option Entry) → cond b (Some (s.plain.entry page)) None ≡ Some e
+    gives : (b : Bool) → replaces l.0.call.request l.0.call.reply page ≡ b → (e : Option PageEntry) → cond b (Some (s.plain.entry page)) None ≡ Some e
         → replaces l.0.call.request l.0.call.reply page ≡ true
     gives true is e has = is
     gives false is e has = absurd cc
 
-    go : (b : Bool) → (call == i) ≡ b → (e : Option Entry) → cond b (replaced s.plain l.0.call) (s.old call) page ≡ Some e → IsLive h items (suc at) call page
+    go : (b : Bool) → (call == i) ≡ b → (e : Option PageEntry) → cond b (replaced s.plain l.0.call) (s.old call) page ≡ Some e → IsLive h items (suc at) call page
     go true same e has =
         let one : call ≡ i = eq_true call i same in
         subst (λ (k : ℕ). IsLive h items (suc at) k page) (sym one)
@@ -94,17 +94,17 @@ live_on rule h items at (Replied i) s u once is l all call page e has =
 live_on rule h items at (Late i) s u once is l all call page e has =
     go (call == l.2.call) refl e (ap (λ (f : Olds). f call page) (sym l.2.old) ∙ has)
   where
-    still : (p : ℕ) (f : Option Entry) → s.old call p ≡ Some f → IsLive h items (suc at) call p
+    still : (p : ℕ) (f : Option PageEntry) → s.old call p ≡ Some f → IsLive h items (suc at) call p
     still p f old = on h items at call p (Copy i) is (λ same. cc) (all call p f old)
 
-    here : call ≡ l.2.call → (b : Bool) → (page == l.2.page) ≡ b → (e : Option Entry)
+    here : call ≡ l.2.call → (b : Bool) → (page == l.2.page) ≡ b → (e : Option PageEntry)
         → cond b (Some (l.2.after.entry l.2.page)) (s.old l.2.call page) ≡ Some e → IsLive h items (suc at) call page
     here one true same e has =
         let p : page ≡ l.2.page = eq_true page l.2.page same in
         still page l.2.entry (ap (λ (k : ℕ). s.old k page) one ∙ ap (λ (k : ℕ). s.old l.2.call k) p ∙ l.2.is_old)
     here one false other e has = still page e (ap (λ (k : ℕ). s.old k page) one ∙ has)
 
-    go : (b : Bool) → (call == l.2.call) ≡ b → (e : Option Entry)
+    go : (b : Bool) → (call == l.2.call) ≡ b → (e : Option PageEntry)
         → cond b (put (s.old l.2.call) l.2.page (Some (l.2.after.entry l.2.page))) (s.old call) page ≡ Some e → IsLive h items (suc at) call page
     go true same e has = here (eq_true call l.2.call same) (page == l.2.page) refl e has
     go false other e has = still page e has

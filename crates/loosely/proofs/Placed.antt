@@ -1,6 +1,6 @@
 -- The items of an order by the loose rule as those of one by the strict rule: a load or fetch that went as before a call stands before that
 use Rattle.slot_lock.proofs.Words.{◌≡◌, ◌≢◌, ◌==◌, ◌∙◌, ℕ, zero, suc, ◌+◌, ◌<◌, ◌≤◌, Bool, true, false, cond, List, [], ◌∷◌, ◌++◌, Option, None, Some, ap, arith, eq_true, eq_false, inl, inr, length, put, put_same, refl, subst, sym}
-use Rattle.slot_lock.proofs.Words.{Entry, File, Plain, Mapped, Done, Byte, Refused, Segv, Bus, NoFrame, NoMemory}
+use Rattle.slot_lock.proofs.Words.{PageEntry, File, Plain, Mapped, Done, Byte, Refused, Segv, Bus, NoFrame, NoMemory}
 use Rattle.std.proofs.Common.{◌⊎◌, slice_get}
 use Rattle.std.specs.Prelude.{◌&&◌, nat_le, not}
 use Rattle.std.proofs.lemmas.Bool.Decides.{nat_tests}
@@ -62,7 +62,7 @@ pub record Case (rule : PlaceRule) (ps : List Part) (h made : List Timed) (late 
 -- ---- reads that wait
 
 -- the call finds the same wherever its page has this entry
-abbrev pub Finds : PlaceRule → (ℕ → Option File) → ℕ → Option Entry → Call → Type 0
+abbrev pub Finds : PlaceRule → (ℕ → Option File) → ℕ → Option PageEntry → Call → Type 0
 Finds rule files page entry c = (x : Plain) → x.file ≡ files → x.entry page ≡ entry → RepliesBy rule x c.core c.request c.reply x
 
 -- it goes as before a call that isn't among the steps from this place on
@@ -72,7 +72,7 @@ pub record IsWaiting (rule : PlaceRule) (ps : List Part) (h made : List Timed) (
   pub is : slice_get h w.call ≡ Some call
   pub wide : IsWideAs ps (slice_get made w.call) call
   pub page : ℕ
-  pub entry : Option Entry
+  pub entry : Option PageEntry
   pub old : s.old w.behind page ≡ Some entry
   pub other : Part
   pub there : slice_get ps w.behind ≡ Some other
@@ -88,7 +88,7 @@ AllWaiting rule ps h made items files at s ws = (w : Wait) → IsIn w ws → IsW
 
 -- the entry there before a step, in which the call finds the same
 abbrev WasThere : PlaceRule → (ℕ → Option File) → Loose → Wait → ℕ → Call → Type 0
-WasThere rule files s w page c = (e : Option Entry) × (s.old w.behind page ≡ Some e) × Finds rule files page e c
+WasThere rule files s w page c = (e : Option PageEntry) × (s.old w.behind page ≡ Some e) × Finds rule files page e c
 
 -- the same from an earlier place on
 earlier : (rule : PlaceRule) (ps : List Part) (h made : List Timed) (items : List Item) (files : ℕ → Option File) (at : ℕ) (s m : Loose) (w : Wait)
@@ -373,11 +373,11 @@ build rule ps h made late items files Kept k = go
             by (inr e) = access_stays rule s.plain m.plain c.call.core w.0.page c.call.request c.call.reply w.0.accesses e l.2
         itself (inr (inr w)) = (record c { begin = w.begin }, w.is, l.2)
 
-        has_old : (w : Wait) (page : ℕ) (e : Option Entry) → m.old w.behind page ≡ Some e
+        has_old : (w : Wait) (page : ℕ) (e : Option PageEntry) → m.old w.behind page ≡ Some e
             → cond (w.behind == i) (replaced s.plain c.call) (s.old w.behind) page ≡ Some e
         has_old w page e old = ap (λ (f : Olds). f w.behind page) (sym l.3) ∙ old
 
-        gives : (x e : Option Entry) (y : Bool) → cond y (Some x) None ≡ Some e → x ≡ e
+        gives : (x e : Option PageEntry) (y : Bool) → cond y (Some x) None ≡ Some e → x ≡ e
         gives x e true f = let both : Some x ≡ Some e = f in cc
         gives x e false f = absurd cc
 
@@ -391,7 +391,7 @@ build rule ps h made late items files Kept k = go
             let q = b.all w r in
             (record q.call { begin = q.wide.begin }, q.wide.is, q.finds s.plain (k.fixed q.wide.none s kept) (entry_here w e q))
 
-        old_still : (w : Wait) (page : ℕ) (e : Option Entry) → (w.behind == i) ≡ false → m.old w.behind page ≡ Some e → s.old w.behind page ≡ Some e
+        old_still : (w : Wait) (page : ℕ) (e : Option PageEntry) → (w.behind == i) ≡ false → m.old w.behind page ≡ Some e → s.old w.behind page ≡ Some e
         old_still w page e other old =
             subst (λ (y : Bool). cond y (replaced s.plain c.call) (s.old w.behind) page ≡ Some e) other (has_old w page e old)
 
@@ -481,7 +481,7 @@ build rule ps h made late items files Kept k = go
         x : Plain
         x = with_entry s.plain g.page g.entry
 
-        same_page : (e : Option Entry) → q.page ≡ g.page → Finds rule files g.page e q.call.call → Finds rule files q.page e q.call.call
+        same_page : (e : Option PageEntry) → q.page ≡ g.page → Finds rule files g.page e q.call.call → Finds rule files q.page e q.call.call
         same_page e f = subst (λ (n : ℕ). Finds rule files n e q.call.call) (sym f)
 
         elsewhere : (y : Bool) → (w.behind == g.call) ≡ y
@@ -515,7 +515,7 @@ build rule ps h made late items files Kept k = go
             ap (λ (t : Plain). t.entry g.page)
             (access_stays rule x g.after c.call.core g.page c.call.request c.call.reply g.accesses e g.replies)
             ∙ put_same s.plain.entry g.page g.entry in
-            subst (λ (o : Option Entry). Finds rule files g.page o q.call.call) (is ∙ stays)
+            subst (λ (o : Option PageEntry). Finds rule files g.page o q.call.call) (is ∙ stays)
             (subst (λ (n : ℕ). Finds rule files n q.entry q.call.call) here q.finds)
 
         -- a store of what it found doesn't go as before that call
@@ -697,7 +697,7 @@ build rule ps h made late items files Kept k = go
       first = b.first;
     }
       where
-        old : (w : Wait) (page : ℕ) (e : Option Entry) → m.old w.behind page ≡ Some e → s.old w.behind page ≡ Some e
+        old : (w : Wait) (page : ℕ) (e : Option PageEntry) → m.old w.behind page ≡ Some e → s.old w.behind page ≡ Some e
         old w page e is = by (w.behind == i) (ap (λ (f : Olds). f w.behind page) (sym l.1) ∙ is)
           where
             by : (y : Bool) → cond y (λ (p : ℕ). None) (s.old w.behind) page ≡ Some e → s.old w.behind page ≡ Some e

@@ -1,6 +1,6 @@
 -- Where no file is mapped shared, a store changes its page's entry alone
 use Rattle.slot_lock.proofs.Words.{◌≡◌, ◌∙◌, ℕ, ◌-◌, Bool, true, false, Option, None, Some, ap, put, refl, subst, sym}
-use Rattle.slot_lock.proofs.Words.{Bytes, Entry, File, Plain, Request, Reply, Mapped, Done, Byte, Refused, Segv, Bus, NoFrame, NoMemory, Mmap, Munmap, Mprotect}
+use Rattle.slot_lock.proofs.Words.{Bytes, PageEntry, File, Plain, Request, Reply, Mapped, Done, Byte, Refused, Segv, Bus, NoFrame, NoMemory, Mmap, Munmap, Mprotect}
 use Rattle.std.specs.Prelude.{◌&&◌, not, if◌then◌else◌}
 use Rattle.vm_base.specs.declared.info.Back.{Back}
 use Rattle.vm_base.specs.declared.info.Back.TheVariants.{Anon, Shared, Private}
@@ -31,22 +31,22 @@ is_shared Anon = false
 is_shared (Shared file page) = true
 is_shared (Private file page) = false
 
-abbrev pub Tame : Option Entry → Type 0
+abbrev pub Tame : Option PageEntry → Type 0
 Tame None = Unit {0}
 Tame (Some e) = is_shared e.back ≡ false
 
-abbrev pub AllTame : (ℕ → Option Entry) → Type 0
+abbrev pub AllTame : (ℕ → Option PageEntry) → Type 0
 AllTame f = (page : ℕ) → Tame (f page)
 
 pub none_shared : (files : ℕ → Option File) → AllTame (nothing_mapped files).entry
 none_shared files page = tt
 
-pub put_tame : (f : ℕ → Option Entry) (k : ℕ) (v : Option Entry) → Tame v → AllTame f → AllTame (put f k v)
+pub put_tame : (f : ℕ → Option PageEntry) (k : ℕ) (v : Option PageEntry) → Tame v → AllTame f → AllTame (put f k v)
 put_tame f k v new all = put_all (λ j o. Tame o) f k v new (λ j ne. all j)
 
 -- ---- copies
 
-copied_tame : (t u : Plain) (page : ℕ) (e : Entry) (b : Bool) (o : Option Bytes) → is_shared e.back ≡ false → AllTame t.entry
+copied_tame : (t u : Plain) (page : ℕ) (e : PageEntry) (b : Bool) (o : Option Bytes) → is_shared e.back ≡ false → AllTame t.entry
     → copied t page e b o ≡ Some u → AllTame u.entry
 copied_tame t u page e false None is all h = absurd cc
 copied_tame t u page e false (Some bytes) is all h = absurd cc
@@ -60,7 +60,7 @@ copied_tame t u page e true (Some bytes) is all h =
 detached_tame : (t u : Plain) (page : ℕ) → AllTame t.entry → detached t page ≡ Some u → AllTame u.entry
 detached_tame t u page all h = go (t.entry page) (all page) h
   where
-    go : (o : Option Entry) → Tame o → detached_entry t page o ≡ Some u → AllTame u.entry
+    go : (o : Option PageEntry) → Tame o → detached_entry t page o ≡ Some u → AllTame u.entry
     go None is e = absurd cc
     go (Some d) is e = copied_tame t u page d (is_uncopied d.back d.own) (bytes_of t.file d.back d.own) is all e
 
@@ -91,12 +91,12 @@ back_tame t Anon i byte all = all
 back_tame t (Shared file k) i byte all = all
 back_tame t (Private file k) i byte all = all
 
-own_tame : (t : Plain) (page i byte : ℕ) (e : Entry) (own : Option Bytes) → is_shared e.back ≡ false → AllTame t.entry
+own_tame : (t : Plain) (page i byte : ℕ) (e : PageEntry) (own : Option Bytes) → is_shared e.back ≡ false → AllTame t.entry
     → AllTame (stored_own t page e own i byte).entry
 own_tame t page i byte e (Some own) is all = put_tame t.entry page (Some (record e { own = Some (put own i byte) })) is all
 own_tame t page i byte e None is all = back_tame t e.back i byte all
 
-stored_tame : (t : Plain) (page i byte : ℕ) (o : Option Entry) → Tame o → AllTame t.entry → AllTame (stored_entry t page o i byte).entry
+stored_tame : (t : Plain) (page i byte : ℕ) (o : Option PageEntry) → Tame o → AllTame t.entry → AllTame (stored_entry t page o i byte).entry
 stored_tame t page i byte None is all = all
 stored_tame t page i byte (Some e) is all = own_tame t page i byte e e.own is all
 
@@ -129,7 +129,7 @@ maps_tame t u (Some r) flags file off prot y apart all h =
     (λ page. across_all (λ j o. Tame o) t.entry (has r) (λ p. Some (new_entry (advance_back (back_at flags file off) (p - r.first)) prot))
     (λ j e. new_tame flags file off (j - r.first) apart) (λ j e. all j) page)
 
-prot_tame : (prot : Prot) (o : Option Entry) → Tame o → Tame (with_prot prot o)
+prot_tame : (prot : Prot) (o : Option PageEntry) → Tame o → Tame (with_prot prot o)
 prot_tame prot None is = is
 prot_tame prot (Some e) is = is
 
@@ -179,15 +179,15 @@ replies_tame rule t u core r NoMemory apart all h = subst (λ (x : Plain). AllTa
 
 -- the two maps differ at this page alone
 abbrev Off : ℕ → Plain → Plain → Type 0
-Off page t u = (o : Option Entry) → with_entry u page o ≡ with_entry t page o
+Off page t u = (o : Option PageEntry) → with_entry u page o ≡ with_entry t page o
 
-off_put : (t : Plain) (page : ℕ) (v : Option Entry) → Off page t (with_entry t page v)
-off_put t page v o = ap (λ (f : ℕ → Option Entry). record t { entry = f }) (put_put t.entry page v o)
+off_put : (t : Plain) (page : ℕ) (v : Option PageEntry) → Off page t (with_entry t page v)
+off_put t page v o = ap (λ (f : ℕ → Option PageEntry). record t { entry = f }) (put_put t.entry page v o)
 
 off_on : (page : ℕ) (t m u : Plain) → Off page t m → Off page m u → Off page t u
 off_on page t m u a b o = b o ∙ a o
 
-off_copied : (t u : Plain) (page : ℕ) (e : Entry) (b : Bool) (bs : Option Bytes) → copied t page e b bs ≡ Some u → Off page t u
+off_copied : (t u : Plain) (page : ℕ) (e : PageEntry) (b : Bool) (bs : Option Bytes) → copied t page e b bs ≡ Some u → Off page t u
 off_copied t u page e false None h = absurd cc
 off_copied t u page e false (Some bytes) h = absurd cc
 off_copied t u page e true None h = absurd cc
@@ -200,7 +200,7 @@ off_copied t u page e true (Some bytes) h =
 off_detached : (t u : Plain) (page : ℕ) → detached t page ≡ Some u → Off page t u
 off_detached t u page h = go (t.entry page) h
   where
-    go : (o : Option Entry) → detached_entry t page o ≡ Some u → Off page t u
+    go : (o : Option PageEntry) → detached_entry t page o ≡ Some u → Off page t u
     go None e = absurd cc
     go (Some d) e = off_copied t u page d (is_uncopied d.back d.own) (bytes_of t.file d.back d.own) e
 
@@ -216,11 +216,11 @@ off_back t page i byte Anon is o = refl
 off_back t page i byte (Shared file k) is o = absurd cc
 off_back t page i byte (Private file k) is o = refl
 
-off_own : (t : Plain) (page i byte : ℕ) (e : Entry) (own : Option Bytes) → is_shared e.back ≡ false → Off page t (stored_own t page e own i byte)
+off_own : (t : Plain) (page i byte : ℕ) (e : PageEntry) (own : Option Bytes) → is_shared e.back ≡ false → Off page t (stored_own t page e own i byte)
 off_own t page i byte e (Some own) is = off_put t page (Some (record e { own = Some (put own i byte) }))
 off_own t page i byte e None is = off_back t page i byte e.back is
 
-off_stored : (t : Plain) (page i byte : ℕ) (o : Option Entry) → Tame o → Off page t (stored_entry t page o i byte)
+off_stored : (t : Plain) (page i byte : ℕ) (o : Option PageEntry) → Tame o → Off page t (stored_entry t page o i byte)
 off_stored t page i byte None is = λ o. refl
 off_stored t page i byte (Some e) is = off_own t page i byte e e.own is
 
@@ -243,11 +243,11 @@ off_access rule t u core page (Munmap addr len) a all h = absurd cc
 off_access rule t u core page (Mprotect addr len prot) a all h = absurd cc
 
 -- so with the page's own entry again the map is as it was
-pub done_late : (rule : PlaceRule) (t u : Plain) (core page : ℕ) (r : Request) (e : Option Entry) → page_accessed r ≡ Some page → AllTame t.entry → Tame e
+pub done_late : (rule : PlaceRule) (t u : Plain) (core page : ℕ) (r : Request) (e : Option PageEntry) → page_accessed r ≡ Some page → AllTame t.entry → Tame e
     → RepliesBy rule (with_entry t page e) core r Done u → with_entry u page (t.entry page) ≡ t
 done_late rule t u core page r e a all is h =
     off_access rule (with_entry t page e) u core page r a (put_tame t.entry page e is all) h (t.entry page) ∙ off_put t page e (t.entry page)
-    ∙ ap (λ (f : ℕ → Option Entry). record t { entry = f }) (put_back t.entry page (t.entry page) refl)
+    ∙ ap (λ (f : ℕ → Option PageEntry). record t { entry = f }) (put_back t.entry page (t.entry page) refl)
 
 -- ---- files
 

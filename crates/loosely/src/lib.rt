@@ -1,5 +1,13 @@
-//! Judging a history of calls that overlap by the loose rule: each page of a range changes at a moment of its own, and until a call has ended
-//! an access may still go as before it.
+//! The judgement of a history by pages and the loose rule.
+//!
+//! It is legal where such an order is found and checked.
+//!
+//! - `judging` (`judge_text`): the ruling; `telling`: a text read whole; `grouping`: pages that are searched
+//!   together.
+//! - `searching`, `laying`: orders that a search finds, and their steps, which `loose_orders::following::follow`
+//!   checks.
+//!
+//! It exists for `judging::judge_text`, clause `ok`.
 #![tactic(auto)]
 
 mod easing;

@@ -1,10 +1,18 @@
 //! Ledgers: what a machine keeps of its requests and of its log.
+//!
+//! - `ledger`: the trait `Ledger`, and a file for each answer to it: nothing is kept, the log alone, or requests and
+//!   the log.
+//! - `ledger::packing`: an entry in sixteen bytes, where its numbers go into them; `ledger::packed_entries`,
+//!   `ledger::entries`: lists of them.
+//!
+//! A clause sees requests and log of each ledger alike, kept or not. It knows of no machine: it is only told what to
+//! keep.
 #![tactic(auto)]
 
 pub mod ledger;
 
-pub use ledger::{Ledger, Opening};
-pub use ledger::forgotten::Forgotten;
-pub use ledger::kept::Kept;
-pub use ledger::logged::Logged;
+pub use ledger::forgotten::KeepsNone;
+pub use ledger::kept::KeepsAll;
+pub use ledger::logged::KeepsLog;
 pub use ledger::logged_entries::LoggedEntries;
+pub use ledger::{Ledger, Opening};

@@ -6,7 +6,7 @@ use Rattle.machine_model.proofs.Words.{is_private_store, Event, Try, Settle, Wan
 use Rattle.machine_model.proofs.Words.{NoneFree, after_install, back_of, file_frame, shows_file, is_private, after_reply, translated_by, frame_reached}
 use Rattle.machine_model.proofs.Words.{after_translating, with_hardware, World, Memory}
 use Rattle.vm_base.specs.declared.rights.Access.TheVariants.{Load, Store}
-use Rattle.vm_base.specs.Plain.{Entry}
+use Rattle.vm_base.specs.Plain.{PageEntry}
 use Rattle.vm_calls.specs.declared.fault.Settled.TheVariants.{MapErr as NoMapping, AccErr as Forbidden, Bus as PastEnd}
 use Rattle.vm_calls.specs.Plainly.{touched_by}
 use Rattle.machine_model.specs.Accesses.{bytes_after}
@@ -142,7 +142,7 @@ recorded_whole : (file : ℕ → Option File) (c : ℕ) (o : Option PageInfo) �
 recorded_whole file c None = refl
 recorded_whole file c (Some info) = refl
 
-recorded_shown : (m : Memory) (c : ℕ) (o : Option PageInfo) (z : Option Entry) → ShowsPage m o z → ShowsPage m (info_with_core c o) z
+recorded_shown : (m : Memory) (c : ℕ) (o : Option PageInfo) (z : Option PageEntry) → ShowsPage m o z → ShowsPage m (info_with_core c o) z
 recorded_shown m c None None s = s
 recorded_shown m c _ _ s = s
 

@@ -9,7 +9,7 @@ use Rattle.vm_base.specs.declared.replies.SegvCode.TheVariants.{AccErr}
 use Rattle.vm_base.specs.declared.requests.Request.TheVariants as RequestOf
 use Rattle.vm_base.specs.declared.rights.Access.TheVariants.{Store}
 use Rattle.vm_base.specs.Apply.{bytes_reply}
-use Rattle.vm_base.specs.Plain.{Entry}
+use Rattle.vm_base.specs.Plain.{PageEntry}
 use Rattle.vm_calls.specs.Plainly.{touched_by}
 use Rattle.machine_model.specs.Orderly.{IsUsable}
 use Rattle.machine_model.proofs.Going.{call_sound, has_core}
@@ -83,7 +83,7 @@ owned Anon x = refl
 owned _ x = refl
 
 -- once the page has its copy a store to it is done
-copy_reply : (t : Plain) (page i : ℕ) (entry : Entry) (x : Bytes) → is_allowed entry.prot Store ≡ true
+copy_reply : (t : Plain) (page i : ℕ) (entry : PageEntry) (x : Bytes) → is_allowed entry.prot Store ≡ true
     → entry_reply (with_own t page entry x).file ((with_own t page entry x).entry page) Store i ≡ Some ReplyOf.Done
 copy_reply t page i entry x allowed =
     ap (λ z. entry_reply t.file z Store i) (put_same t.entry page (Some (record entry { own = Some x })))

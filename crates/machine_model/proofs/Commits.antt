@@ -4,7 +4,7 @@ use Rattle.machine_model.proofs.Words.{frame_of, info_with_prot, File, Plain, Ch
 use Rattle.machine_model.proofs.Words.{with_counts, slots_after, reply_to, after_commit, is_past_end, World, Memory}
 use Rattle.std.specs.Prelude.{◌-◌}
 use Rattle.vm_base.specs.Info.{advance_back}
-use Rattle.vm_base.specs.Plain.{Entry}
+use Rattle.vm_base.specs.Plain.{PageEntry}
 use Rattle.vm_base.specs.Apply.{new_entry, with_prot}
 use Rattle.machine_model.proofs.Changed.{changed_all}
 use Rattle.machine_model.proofs.Moves.{IsCallOf, call_at}
@@ -19,7 +19,7 @@ both_tests : {V W : Type 0} (P : V → W → Type 0) (b : Bool) (x y : V) (a d :
 both_tests P true x y a d h k = h refl
 both_tests P false x y a d h k = k refl
 
-protected_shown : (m : Memory) (prot : Prot) (o : Option PageInfo) (z : Option Entry) → ShowsPage m o z → ShowsPage m (info_with_prot prot o) (with_prot prot z)
+protected_shown : (m : Memory) (prot : Prot) (o : Option PageInfo) (z : Option PageEntry) → ShowsPage m o z → ShowsPage m (info_with_prot prot o) (with_prot prot z)
 protected_shown m prot None None h = tt
 protected_shown m prot (Some info) (Some page) h = (h.0, refl, h.2)
 protected_shown m prot _ _ h = absurd h

@@ -5,7 +5,7 @@ use Rattle.machine_model.proofs.Words.{zeros, is_anonymous, is_uncopied, detache
 use Rattle.machine_model.proofs.Words.{Event, Fill, CopyAcks, Install, is_past_end, back_of, file_frame, shows_file, with_cached, page_now, bytes_shown}
 use Rattle.machine_model.proofs.Words.{after_zeros, after_first_copy, after_caching, after_sharing, after_copy, taken_in, World, Memory, CanAccess}
 use Rattle.vm_base.specs.declared.rights.Access.TheVariants.{Store}
-use Rattle.vm_base.specs.Plain.{Entry, bytes_of, back_bytes}
+use Rattle.vm_base.specs.Plain.{PageEntry, bytes_of, back_bytes}
 use Rattle.vm_base.specs.Apply.{first_own, copied, detached_entry}
 use Rattle.machine_model.specs.Orderly.{IsUsable}
 use Rattle.machine_model.proofs.Moves.{IsCallOf, call_at}
@@ -105,7 +105,7 @@ no_frame_yet file access None u = refl
 no_frame_yet file access (Some info) u = u.2
 
 -- an anonymous page without frame has zero bytes, as its frame does now
-zeros_shown : (m : Memory) (f : ℕ) (o : Option PageInfo) (z : Option Entry) → back_of o ≡ Anon → frame_of o ≡ None → ShowsPage m o z
+zeros_shown : (m : Memory) (f : ℕ) (o : Option PageInfo) (z : Option PageEntry) → back_of o ≡ Anon → frame_of o ≡ None → ShowsPage m o z
     → ShowsPage (with_bytes m f zeros) (info_with_frame f o) z
 zeros_shown m f (Some info) (Some entry) a none s =
     let own : entry.own ≡ Some zeros = subst (λ x. Owns m Anon x entry.own) none (subst (λ x. Owns m x info.frame entry.own) a s.2) in
@@ -139,7 +139,7 @@ page_zeroed w event c touch f counts e anon well =
 -- a private page that shows its file's page, in the slots and in the plain page map
 pub record IsUncopied (w : World) (t : Plain) (page : ℕ) (x : Bytes) : Type 0 where
   pub info : PageInfo
-  pub entry : Entry
+  pub entry : PageEntry
   pub at_slot : w.slots.info page ≡ Some info
   pub at_page : t.entry page ≡ Some entry
   pub back : info.meta.back ≡ entry.back
@@ -179,7 +179,7 @@ first_uncopied : (w : World) (t : Plain) (page : ℕ) (access : Access) → Show
     → IsUncopied w t page (bytes_shown w.made.file w.memory (back_of (w.slots.info page)))
 first_uncopied w t page access g u store = go (w.slots.info page) (t.entry page) refl refl (g.pages page) u store
   where
-    go : (o : Option PageInfo) (z : Option Entry) → w.slots.info page ≡ o → t.entry page ≡ z → ShowsPage w.memory o z
+    go : (o : Option PageInfo) (z : Option PageEntry) → w.slots.info page ≡ o → t.entry page ≡ z → ShowsPage w.memory o z
         → IsUsable w.made.file o access None → is_private_store (back_of o) access ≡ true
         → IsUncopied w t page (bytes_shown w.made.file w.memory (back_of o))
     go None z a b s u store = absurd u
@@ -284,7 +284,7 @@ page_copied w event c touch f g counts e at well =
 -- ---- the frame that caches the file's page
 
 -- a page of a file without frame shows the file's page, as by its frame now
-file_shown : (m : Memory) (f : ℕ) (o : Option PageInfo) (z : Option Entry) → is_anonymous (back_of o) ≡ false → frame_of o ≡ None
+file_shown : (m : Memory) (f : ℕ) (o : Option PageInfo) (z : Option PageEntry) → is_anonymous (back_of o) ≡ false → frame_of o ≡ None
     → shows_file m.cached (back_of o) f ≡ true → (before : Memory) → ShowsPage before o z → ShowsPage m (info_with_frame f o) z
 file_shown m f None None of_file none h before s = s
 file_shown m f None (Some entry) of_file none h before s = s
@@ -401,7 +401,7 @@ files_cached w t f (Private m k) free none files of_file n =
     (λ e. ap (λ j. page_now w.memory (w.made.file j) m k) (sym e))
 
 -- a page that doesn't have the frame shows what it did
-page_uncached : (m : Memory) (back : Back) (f : ℕ) (x : Bytes) (o : Option PageInfo) (z : Option Entry) → file_frame m.cached back ≡ None → frame_of o ≢ Some f
+page_uncached : (m : Memory) (back : Back) (f : ℕ) (x : Bytes) (o : Option PageInfo) (z : Option PageEntry) → file_frame m.cached back ≡ None → frame_of o ≢ Some f
     → ShowsPage (with_bytes m f x) o z → ShowsPage (record (with_bytes m f x) { cached = with_cached m.cached back f }) o z
 page_uncached m back f x (Some info) (Some entry) none ne h = (h.0, h.1, go info.frame refl h.2)
   where

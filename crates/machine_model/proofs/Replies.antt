@@ -8,7 +8,7 @@ use Rattle.machine_model.proofs.Words.{touched, touch_of, place_of, Decides, pas
 use Rattle.std.specs.Prelude.{◌==◌, not}
 use Rattle.vm_base.specs.declared.rights.Access.TheVariants as By
 use Rattle.vm_base.specs.Pages.{is_aligned}
-use Rattle.vm_base.specs.Plain.{Entry}
+use Rattle.vm_base.specs.Plain.{PageEntry}
 use Rattle.vm_base.specs.Refusals.{file_refusal, is_one_kind}
 use Rattle.slot_lock.specs.declared.plan.Goal.TheVariants as To
 use Rattle.slot_lock.specs.declared.plan.Plan.TheVariants as PlanOf
@@ -34,7 +34,7 @@ mode_same bytes cached _ _ h = absurd h
 pub has_modes : (w : World) (t : Plain) → ShowsPlain w t → HasModes t w.made.file
 has_modes w t g n = mode_same w.memory.bytes (w.memory.cached n) (w.made.file n) (t.file n) (g.files n)
 
-page_shown : (m : Memory) (o : Option PageInfo) (z : Option Entry) → ShowsPage m o z → plainly.ShowsPage z o
+page_shown : (m : Memory) (o : Option PageInfo) (z : Option PageEntry) → ShowsPage m o z → plainly.ShowsPage z o
 page_shown m None None h = tt
 page_shown m (Some info) (Some page) h = (sym h.0, sym h.1)
 page_shown m _ _ h = absurd h

@@ -6,7 +6,7 @@ use Rattle.machine_model.proofs.Words.{Hint, Window, Touch, IsTarget, goal_range
 use Rattle.machine_model.proofs.Words.{entries, entry_of, free, taken, passed, Stepped, Phase, Check, Lock, Guess, Find, Cut, Decide, Acks, Unlock, Answer}
 use Rattle.machine_model.proofs.Words.{Try, Settle, Want, CopyAcks, Install, reply_of, taken_for, let_go, to, after_plan, checked_by, reply_to, all_locked}
 use Rattle.machine_model.proofs.Words.{held_after, locked_to, locking, guess_of, placing, Goes, Memory, World, nth, is_placed, Users}
-use Rattle.vm_base.specs.Plain.{Entry}
+use Rattle.vm_base.specs.Plain.{PageEntry}
 use Rattle.slot_lock.specs.declared.plan.Goal.TheVariants as To
 use Rattle.slot_lock.specs.declared.plan.Plan.TheVariants as PlanOf
 use Rattle.slot_lock.specs.declared.plan.Target.TheVariants.{Run}
@@ -59,7 +59,7 @@ IsSeeking t c request w = Seeks t c request (w.calls.phase c)
 
 -- ---- the plain page map that the slots show
 
-mapped_same : (m : Memory) (o : Option PageInfo) (z : Option Entry) → ShowsPage m o z → is_some (entry_of o) ≡ is_some z
+mapped_same : (m : Memory) (o : Option PageInfo) (z : Option PageEntry) → ShowsPage m o z → is_some (entry_of o) ≡ is_some z
 mapped_same m None (Some page) h = absurd h
 mapped_same m (Some info) None h = absurd h
 mapped_same m _ _ h = refl

@@ -6,7 +6,7 @@ use Rattle.machine_model.proofs.Words.{shows_file, is_private, page_now, bytes_s
 use Rattle.std.specs.Prelude.{not}
 use Rattle.vm_base.specs.declared.replies.SegvCode.TheVariants.{AccErr}
 use Rattle.vm_base.specs.declared.rights.Access.TheVariants.{Store}
-use Rattle.vm_base.specs.Plain.{Entry, bytes_of, back_bytes, file_bytes}
+use Rattle.vm_base.specs.Plain.{PageEntry, bytes_of, back_bytes, file_bytes}
 use Rattle.vm_base.specs.Apply.{bytes_reply, needs_copy, first_own}
 use Rattle.machine_model.specs.Accesses.{lies_past_end}
 use Rattle.machine_model.specs.Orderly.{IsUsable}
@@ -80,7 +80,7 @@ shown_by w t (Private n k) f files within h =
 
 pub record IsFramed (w : World) (t : Plain) (p f : ℕ) : Type 0 where
   pub info : PageInfo
-  pub entry : Entry
+  pub entry : PageEntry
   pub at_slot : w.slots.info p ≡ Some info
   pub at_page : t.entry p ≡ Some entry
   pub frame : info.frame ≡ Some f
@@ -93,14 +93,14 @@ pub record IsFramed (w : World) (t : Plain) (p f : ℕ) : Type 0 where
 pub framed : (w : World) (t : Plain) (p f : ℕ) → ShowsPlain w t → frame_of (w.slots.info p) ≡ Some f → IsFramed w t p f
 framed w t p f g h = go (w.slots.info p) (t.entry p) refl refl (g.pages p) (g.whole p f h) h
   where
-    bytes : (info : PageInfo) (entry : Entry) → info.meta.back ≡ entry.back → lies_past_end w.made.file info.meta.back ≡ false → (b : Bool)
+    bytes : (info : PageInfo) (entry : PageEntry) → info.meta.back ≡ entry.back → lies_past_end w.made.file info.meta.back ≡ false → (b : Bool)
         → shows_file w.memory.cached info.meta.back f ≡ b → cond b (entry.own ≡ None) (MayOwn info.meta.back × (entry.own ≡ Some (w.memory.bytes f)))
         → bytes_of t.file entry.back entry.own ≡ Some (w.memory.bytes f)
     bytes info entry back within true i own =
         ap (bytes_of t.file entry.back) own ∙ (ap (back_bytes t.file) (sym back) ∙ shown_by w t info.meta.back f g.files within i)
     bytes info entry back within false i own = ap (bytes_of t.file entry.back) own.1
 
-    go : (o : Option PageInfo) (z : Option Entry) → w.slots.info p ≡ o → t.entry p ≡ z → ShowsPage w.memory o z
+    go : (o : Option PageInfo) (z : Option PageEntry) → w.slots.info p ≡ o → t.entry p ≡ z → ShowsPage w.memory o z
         → is_past_end w.made.file o ≡ false → frame_of o ≡ Some f → IsFramed w t p f
     go None z a b s within h = absurd cc
     go (Some info) None a b s within h = absurd s
@@ -167,7 +167,7 @@ pub unmapped_reply : (w : World) (t : Plain) (p : ℕ) (access : Access) (i : �
     → entry_reply t.file (t.entry p) access i ≡ Some (Segv MapErr)
 unmapped_reply w t p access i g h = go (t.entry p) (subst (λ o. ShowsPage w.memory o (t.entry p)) h (g.pages p))
   where
-    go : (z : Option Entry) → ShowsPage w.memory None z → entry_reply t.file z access i ≡ Some (Segv MapErr)
+    go : (z : Option PageEntry) → ShowsPage w.memory None z → entry_reply t.file z access i ≡ Some (Segv MapErr)
     go None s = refl
     go (Some entry) s = absurd s
 
@@ -176,7 +176,7 @@ pub forbidden_reply : (w : World) (t : Plain) (p : ℕ) (access : Access) (i : �
     → entry_reply t.file (t.entry p) access i ≡ Some (Segv AccErr)
 forbidden_reply w t p access i info g h forbidden = go (t.entry p) (subst (λ o. ShowsPage w.memory o (t.entry p)) h (g.pages p))
   where
-    go : (z : Option Entry) → ShowsPage w.memory (Some info) z → entry_reply t.file z access i ≡ Some (Segv AccErr)
+    go : (z : Option PageEntry) → ShowsPage w.memory (Some info) z → entry_reply t.file z access i ≡ Some (Segv AccErr)
     go None s = absurd s
     go (Some entry) s = ap (λ b. answer_of t.file access i b entry.back entry.own) (sym (ap (λ prot. is_allowed prot access) s.1) ∙ forbidden)
 
@@ -198,7 +198,7 @@ none_owned w t (Private n k) files = there_still w.memory.bytes (w.memory.cached
     twice false = refl
 
 -- a mapped page has bytes unless its file page lies past its file's end
-pub has_bytes : (w : World) (t : Plain) (p : ℕ) (info : PageInfo) (entry : Entry) → ShowsPlain w t → w.slots.info p ≡ Some info → t.entry p ≡ Some entry
+pub has_bytes : (w : World) (t : Plain) (p : ℕ) (info : PageInfo) (entry : PageEntry) → ShowsPlain w t → w.slots.info p ≡ Some info → t.entry p ≡ Some entry
     → is_some (bytes_of t.file entry.back entry.own) ≡ not (is_past_end w.made.file (Some info))
 has_bytes w t p info entry g a b = go info.frame refl
   where
@@ -215,7 +215,7 @@ has_bytes w t p info entry g a b = go info.frame refl
         let k : IsFramed w t p f = framed w t p f g at in
         let same : k.entry ≡ entry = let x = k.at_page in cc in
         let within : is_past_end w.made.file (Some info) ≡ false = ap (is_past_end w.made.file) (sym a) ∙ g.whole p f at in
-        ap (λ (x : Entry). is_some (bytes_of t.file x.back x.own)) (sym same) ∙ (ap is_some k.bytes ∙ sym (ap not within))
+        ap (λ (x : PageEntry). is_some (bytes_of t.file x.back x.own)) (sym same) ∙ (ap is_some k.bytes ∙ sym (ap not within))
 
 -- an access to a page past the end of its file
 pub past_reply : (w : World) (t : Plain) (p : ℕ) (access : Access) (i : ℕ) (info : PageInfo) → ShowsPlain w t → w.slots.info p ≡ Some info
@@ -226,7 +226,7 @@ past_reply w t p access i info g h allowed past = go (t.entry p) refl (subst (λ
     bus copy None h = refl
     bus copy (Some x) h = absurd cc
 
-    go : (z : Option Entry) → t.entry p ≡ z → ShowsPage w.memory (Some info) z → entry_reply t.file z access i ≡ Some Bus
+    go : (z : Option PageEntry) → t.entry p ≡ z → ShowsPage w.memory (Some info) z → entry_reply t.file z access i ≡ Some Bus
     go None e s = absurd s
     go (Some entry) e s =
         ap (λ b. answer_of t.file access i b entry.back entry.own) (sym (ap (λ prot. is_allowed prot access) s.1) ∙ allowed)
@@ -236,7 +236,7 @@ pub can_access : (w : World) (t : Plain) (p : ℕ) (access : Access) (frame : Op
     → CanAccess t.file (t.entry p) access
 can_access w t p access frame g u = go (w.slots.info p) (t.entry p) refl refl (g.pages p) u
   where
-    go : (o : Option PageInfo) (z : Option Entry) → w.slots.info p ≡ o → t.entry p ≡ z → ShowsPage w.memory o z → IsUsable w.made.file o access frame
+    go : (o : Option PageInfo) (z : Option PageEntry) → w.slots.info p ≡ o → t.entry p ≡ z → ShowsPage w.memory o z → IsUsable w.made.file o access frame
         → CanAccess t.file z access
     go None z a b s u = absurd u
     go (Some info) None a b s u = absurd s
@@ -256,7 +256,7 @@ owns_kept m f x back (Some g) own ne h = go (shows_file m.cached back g) ne h
     go true ne h = h
     go false ne h = (h.0, h.1 ∙ ap Some (sym (put_other m.bytes f x g (λ e. ne (ap Some e)))))
 
-pub page_kept : (m : Memory) (f : ℕ) (x : Bytes) (o : Option PageInfo) (z : Option Entry)
+pub page_kept : (m : Memory) (f : ℕ) (x : Bytes) (o : Option PageInfo) (z : Option PageEntry)
     → own_frame m.cached o ≢ Some f → ShowsPage m o z → ShowsPage (with_bytes m f x) o z
 page_kept m f x (Some info) (Some entry) ne h = (h.0, h.1, owns_kept m f x info.meta.back info.frame entry.own ne h.2)
 page_kept m f x _ _ ne h = h

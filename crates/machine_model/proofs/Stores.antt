@@ -1,7 +1,7 @@
 -- A store to a page with a frame: its own bytes change, or those of its file's page
 use Rattle.machine_model.proofs.Words.{◌≡◌, ◌≢◌, ℕ, Bool, true, false, cond, refl, sym, ap, subst, Some, None, Option, ◌∙◌, ◌&&◌, Back, Anon, Shared, Private}
 use Rattle.machine_model.proofs.Words.{put, Bytes, File, Plain, bytes_in, put_all, put_same, put_other, shows_file, is_private, World, Memory}
-use Rattle.vm_base.specs.Plain.{Entry}
+use Rattle.vm_base.specs.Plain.{PageEntry}
 use Rattle.vm_base.specs.Apply.{stored_entry, stored_own, stored_back, with_byte}
 use Rattle.machine_model.specs.Counted.{FilePage, IsCountedState}
 use Rattle.machine_model.specs.Invariant.{ShowsPlain, Shows, ShowsPage, ShowsFile, Owns, MayOwn, own_frame, own_frame_of}
@@ -11,7 +11,7 @@ use Rattle.machine_model.proofs.SoundMoves.{shows_less}
 -- ---- own bytes
 
 -- the plain page map with other bytes of the page
-abbrev pub with_own : Plain → ℕ → Entry → Bytes → Plain
+abbrev pub with_own : Plain → ℕ → PageEntry → Bytes → Plain
 with_own t p entry x = record t { entry = put t.entry p (Some (record entry { own = Some x })) }
 
 stored_is : (w : World) (t : Plain) (p f i byte : ℕ) (k : IsFramed w t p f) → k.entry.own ≡ Some (w.memory.bytes f)

@@ -7,7 +7,7 @@ use Rattle.vm_base.specs.declared.info.PageInfo.{PageInfo}
 use Rattle.vm_base.specs.declared.requests.Request.{Request}
 use Rattle.vm_base.specs.Apply.{first_own}
 use Rattle.vm_base.specs.Info.{frame_of}
-use Rattle.vm_base.specs.Plain.{Bytes, File, Entry as PageEntry, Plain, nothing_mapped, bytes_in}
+use Rattle.vm_base.specs.Plain.{Bytes, File, PageEntry, Plain, nothing_mapped, bytes_in}
 use Rattle.slot_lock.specs.Slots.{Slots}
 use Rattle.vm_base.specs.declared.log.Entry.{Entry}
 use Rattle.machine_model.specs.declared.phase.Phase.{Phase}

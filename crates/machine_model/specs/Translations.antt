@@ -4,7 +4,7 @@ use Rattle.std.specs.Prelude.{◌≡◌, ℕ, ◌<◌, true, slice_get, Option, 
 use Rattle.vm_base.specs.declared.rights.Access.{Access}
 use Rattle.vm_base.specs.Info.{frame_of}
 use Rattle.vm_base.specs.Rights.{is_allowed}
-use Rattle.vm_base.specs.Plain.{Bytes, File, Entry as PageEntry, Plain, bytes_of}
+use Rattle.vm_base.specs.Plain.{Bytes, File, PageEntry, Plain, bytes_of}
 use Rattle.mmu.specs.declared.entry.Translation.{Translation}
 use Rattle.mmu.specs.Entry.{permits}
 use Rattle.machine_model.specs.World.{World, Hardware}

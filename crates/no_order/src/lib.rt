@@ -1,5 +1,10 @@
-//! A search of all orders of a few calls that overlap. Unlike `order_search` it leaves out nothing that it doesn't prove to be no
-//! order, so that it can tell that there is none.
+//! A search of all orders of a few calls, which can tell that there is none.
+//!
+//! - `searching` (`search_all`): the search; `placing`: which items may stand behind others; `fresh`: the map in
+//!   which nothing is mapped.
+//!
+//! Unlike `order_search` it leaves out nothing that isn't proved to be no order: `searching::search_all`. It takes at
+//! most 64 calls.
 #![tactic(auto)]
 
 mod fresh;

@@ -4,7 +4,7 @@ use Rattle.machine_model.specs.declared.event.Event.TheVariants.{Flush}
 use Rattle.machine_model.specs.declared.event.Outcome.TheVariants.{Idle}
 use Rattle.seats.specs.Notes.{noted}
 use Rattle.seats.specs.declared.noted.Noted.{Noted}
-use Rattle.trace_words.specs.Declarations.{Asked, asks_for}
+use Rattle.trace_words.specs.Declarations.{DeclarationView, asks_for}
 use Rattle.notes_text.specs.TextLaws.{FitsLine, IsDeclared, SaysNotes}
 use Rattle.notes_text.specs.NotesWritten.{notes_text}
 use Rattle.notes_text.proofs.ShortLines.{lines_are_short}
@@ -15,7 +15,7 @@ use Rattle.notes_text.proofs.TextWritten.{written_is_said}
 idle : Noted
 idle = noted 0 (Flush 0) Idle
 
-one_core : Asked
+one_core : DeclarationView
 one_core = asks_for 1 1 1
 
 is_declared : IsDeclared one_core

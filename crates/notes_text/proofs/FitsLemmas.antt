@@ -24,7 +24,7 @@ use Rattle.trace_text.specs.declared.line.Line.TheVariants.{Blank, File, Act, Fo
 use Rattle.trace_text.proofs.Choices.{chosen}
 use Rattle.trace_text.proofs.LineLemmas.{read_is_said}
 use Rattle.trace_words.specs.declared.declaration.FileLine.{FileLine}
-use Rattle.trace_words.specs.Declarations.{Asked, has_long, with_file}
+use Rattle.trace_words.specs.Declarations.{DeclarationView, has_long, with_file}
 use Rattle.trace_words.specs.Events.{event_of}
 use Rattle.notes_text.specs.Grammar.{Ascend, NamesNote, NamesOutcome, NamesReply, event_said, with_cores}
 use Rattle.trace_words.specs.Collected.{Collected, nothing, Says as SaysLine, TakesAll, blank, space, file as of_file, item}
@@ -117,11 +117,11 @@ named_fits note words (ticket, event, outcome, is, spells, (line, says, said), n
 -- ---- what is declared
 
 -- all files are kept, or so many that there are too many; their first bytes are bytes
-record KeepsFiles (asked : Asked) : Type 0 where
+record KeepsFiles (asked : DeclarationView) : Type 0 where
   count : (asked.next ≡ length asked.files) ⊎ (17 ≤ length asked.files)
   bytes : AllByRecursion (λ file. file.seed ≤ 255) asked.files
 
-abbrev Keeps : Option Asked → Type 0
+abbrev Keeps : Option DeclarationView → Type 0
 Keeps None = Unit {0}
 Keeps (Some asked) = KeepsFiles asked
 
@@ -130,7 +130,7 @@ seeds_more : (files : List FileLine) (file : FileLine) → AllByRecursion (λ fi
 seeds_more [] file all one = (one, tt)
 seeds_more (f ∷ fs) file (h, all) one = (h, seeds_more fs file all one)
 
-with_file_keeps : (asked : Asked) (file : FileLine) → KeepsFiles asked → file.seed ≤ 255 → KeepsFiles (with_file asked file)
+with_file_keeps : (asked : DeclarationView) (file : FileLine) → KeepsFiles asked → file.seed ≤ 255 → KeepsFiles (with_file asked file)
 with_file_keeps asked file k seed = go (ltb (length asked.files) 17) refl
   where
     more : length (asked.files ++ file ∷ []) ≡ length asked.files + 1
@@ -176,7 +176,7 @@ all_keep : {T : Type 0} (k : Bool) (N : ℕ → T → List Word → Type 0) (lin
 all_keep {T} k N [] old new h t = subst (λ (c : Collected T). Keeps c.asked) (sym t) h
 all_keep k N (line ∷ lines) old new h (mid, short, takes, t) = all_keep k N lines mid new (line_keeps k N old mid line h takes.says) t
 
-declared : {T : Type 0} (k : Bool) (N : ℕ → T → List Word → Type 0) (text : List ℕ) (asked : Asked) (items : List T)
+declared : {T : Type 0} (k : Bool) (N : ℕ → T → List Word → Type 0) (text : List ℕ) (asked : DeclarationView) (items : List T)
     → Collects k N text asked items → IsDeclared asked
 declared k N text asked items c =
     let all : KeepsFiles asked = all_keep k N (lines_of text) nothing (record { asked = Some asked; items = items }) tt c.takes in

@@ -8,7 +8,7 @@ use Rattle.trace_text.specs.declared.line.Line.{Line}
 use Rattle.trace_text.specs.declared.line.Line.TheVariants.{Blank, Space, File, Act, Fold, Finish, Now}
 use Rattle.trace_words.specs.declared.fault.TraceFault.{TraceFault}
 use Rattle.trace_words.specs.declared.fault.TraceFault.TheVariants.{NoMemory, ReadFailed}
-use Rattle.trace_words.specs.Declarations.{Asked, asked_fault, asks_for, with_file}
+use Rattle.trace_words.specs.Declarations.{DeclarationView, asked_fault, asks_for, with_file}
 use Rattle.trace_words.specs.Kinds.{OfFile, OfEvents}
 use Rattle.notes_text.specs.Grammar.{NamesNote}
 use Rattle.trace_words.specs.Collected.{Collected, nothing, Says, TakesAll, blank, space, file, item}
@@ -23,7 +23,7 @@ Single {T} N = (cores : ℕ) (x y : T) (line : List ℕ) → N cores x (words_of
 -- ---- a line
 
 -- what is declared by a line that says so
-declares : Option Asked → Option Line → Option Asked
+declares : Option DeclarationView → Option Line → Option DeclarationView
 declares None None = None
 declares None (Some Blank) = None
 declares None (Some (Space cores frames calls)) = Some (asks_for cores frames calls)
@@ -41,7 +41,7 @@ declares (Some asked) (Some (Fold page)) = Some asked
 declares (Some asked) (Some (Finish core)) = Some asked
 declares (Some asked) (Some (Now core request)) = Some asked
 
-with_asked : {T : Type 0} → Collected T → Option Asked → Collected T
+with_asked : {T : Type 0} → Collected T → Option DeclarationView → Collected T
 with_asked c o = record c { asked = o }
 
 with_item : {T : Type 0} → Collected T → T → Collected T
@@ -54,7 +54,7 @@ unfolding declares with_asked
 space_gives old new line cores frames calls none said is =
     is ∙ sym (ap (λ l. with_asked old (declares old.asked l)) said ∙ ap (λ o. with_asked old (declares o (Some (Space cores frames calls)))) none)
 
-file_gives : {T : Type 0} (old new : Collected T) (line : List ℕ) (asked : Asked) (n : ℕ) (mode : Mode) (len seed : ℕ) → old.asked ≡ Some asked
+file_gives : {T : Type 0} (old new : Collected T) (line : List ℕ) (asked : DeclarationView) (n : ℕ) (mode : Mode) (len seed : ℕ) → old.asked ≡ Some asked
     → line_of line ≡ Some (File n mode len seed)
     → new ≡ record old { asked = Some (with_file asked (record { mode = mode; len = len; seed = seed })) }
     → new ≡ with_asked old (declares old.asked (line_of line))
@@ -95,7 +95,7 @@ says_once k N one old line new also (item asked a sound some kind x names is) (f
 says_once k N one old line new also (item asked a sound some kind x names is) (item asked2 a2 sound2 some2 kind2 y names2 is2) =
     let both : Some asked2 ≡ Some asked = sym a2 ∙ a in
     let same : asked2 ≡ asked = cc in
-    let item_is : x ≡ y = one asked.cores x y line names (subst (λ (q : Asked). N q.cores y (words_of line)) same names2) in
+    let item_is : x ≡ y = one asked.cores x y line names (subst (λ (q : DeclarationView). N q.cores y (words_of line)) same names2) in
     is ∙ ap (with_item old) item_is ∙ sym is2
 
 -- ---- all lines
@@ -117,7 +117,7 @@ others_taken k N one (line ∷ lines) more old mid new (m, short, takes, t) (m2,
 
 -- ---- texts
 
-not_refused : {T : Type 0} (k : Bool) (N : ℕ → T → List Word → Type 0) → Single N → (text unread : List ℕ) (asked : Asked) (items : List T)
+not_refused : {T : Type 0} (k : Bool) (N : ℕ → T → List Word → Type 0) → Single N → (text unread : List ℕ) (asked : DeclarationView) (items : List T)
     (f : TraceFault) → Collects k N text asked items → Stops k N text unread f → (f ≡ ReadFailed) ⊎ (f ≡ NoMemory)
 not_refused {T} k N one text unread asked items f c s = go s
   where
@@ -127,7 +127,7 @@ not_refused {T} k N one text unread asked items f c s = go s
     left : (p : Front k N text) → TakesAll k N p.collected p.more end
     left p = others_taken k N one p.done p.more nothing p.collected end (subst (λ ls. TakesAll k N nothing ls end) p.lines c.takes) p.takes
 
-    made : (o : Option Asked) → Some asked ≡ o → CannotMake o f → ⊥
+    made : (o : Option DeclarationView) → Some asked ≡ o → CannotMake o f → ⊥
     made None e h = absurd (cc)
     made (Some a) e (own, fault, is) =
         let same : asked ≡ a = cc in

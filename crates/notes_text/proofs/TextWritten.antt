@@ -24,7 +24,7 @@ use Rattle.trace_text.proofs.PrintableLemmas.{read_is_printable}
 use Rattle.trace_text.proofs.WordLemmas.{IsWord}
 use Rattle.trace_text.proofs.SpellingLemmas.{reads_printed}
 use Rattle.trace_words.specs.declared.declaration.FileLine.{FileLine}
-use Rattle.trace_words.specs.Declarations.{Asked, asked_fault, asks_for, has_long, is_next, with_file}
+use Rattle.trace_words.specs.Declarations.{DeclarationView, asked_fault, asks_for, has_long, is_next, with_file}
 use Rattle.trace_words.specs.Kinds.{OfEvents, kind_of}
 use Rattle.trace_io.proofs.TakenLemmas.{lines-first}
 use Rattle.notes_text.specs.Grammar.{NamesNote}
@@ -124,10 +124,10 @@ file_words : ℕ → FileLine → List Word
 file_words n file = decimal n ∷ mode_text file.mode ∷ decimal file.len ∷ decimal file.seed ∷ []
 
 -- with the next file
-after : Asked → FileLine → Collected Noted
+after : DeclarationView → FileLine → Collected Noted
 after asked file = record { asked = Some (with_file asked file); items = [] }
 
-file_line_taken : (asked : Asked) (file : FileLine) → asked.next < 17 → file.len < 2 ^ 64 → file.seed ≤ 255
+file_line_taken : (asked : DeclarationView) (file : FileLine) → asked.next < 17 → file.len < 2 ^ 64 → file.seed ≤ 255
     → Takes true Names (record { asked = Some asked; items = [] }) (codes "file" ++ spaced (file_words asked.next file)) (after asked file)
 unfolding file_words after
 file_line_taken asked file n l s =
@@ -163,12 +163,12 @@ file_short n file m l s =
 abbrev Fits : FileLine → Type 0
 Fits file = (file.len < 2 ^ 64) × (file.seed ≤ 255)
 
-with_all : Asked → List FileLine → Asked
+with_all : DeclarationView → List FileLine → DeclarationView
 with_all asked [] = asked
 with_all asked (file ∷ files) = with_all (with_file asked file) files
 
 -- few files are all kept
-with_few : (asked : Asked) (file : FileLine) → length asked.files < 17
+with_few : (asked : DeclarationView) (file : FileLine) → length asked.files < 17
     → with_file asked file ≡ record asked { next = suc asked.next; files = asked.files ++ file ∷ [] }
 with_few asked file h =
     let few : ltb (length asked.files) 17 ≡ true = grind (arith, nat_tests, h) in
@@ -192,7 +192,7 @@ with_all_is cores frames calls n before (file ∷ files) h =
     ∙ ap (λ m. record { cores = cores; frames = frames; calls = calls; next = m; files = (before ++ file ∷ []) ++ files }) sum
     ∙ ap (λ l. record { cores = cores; frames = frames; calls = calls; next = n + suc (length files); files = l }) (append_assoc before (file ∷ []) files)
 
-files_taken : (asked : Asked) (files : List FileLine) (rest : List ℕ) (new : Collected Noted) → asked.next + length files < 17 → AllByRecursion Fits files
+files_taken : (asked : DeclarationView) (files : List FileLine) (rest : List ℕ) (new : Collected Noted) → asked.next + length files < 17 → AllByRecursion Fits files
     → TakesAll true Names (record { asked = Some (with_all asked files); items = [] }) (lines_of rest) new
     → TakesAll true Names (record { asked = Some asked; items = [] }) (lines_of (files_text asked.next files ++ rest)) new
 unfolding with_all file_words after
@@ -295,7 +295,7 @@ has_line note h =
       );
     }
 
-notes_taken : (asked : Asked) (before notes : List Noted) → asked_fault asked ≡ None → AllByRecursion FitsLine notes
+notes_taken : (asked : DeclarationView) (before notes : List Noted) → asked_fault asked ≡ None → AllByRecursion FitsLine notes
     → TakesAll true Names (record { asked = Some asked; items = before }) (lines_of (flat_map note_text notes))
     (record { asked = Some asked; items = before ++ notes })
 notes_taken asked before [] sound h = ap (λ l. record { asked = Some asked; items = l }) (append-nil before)
@@ -333,14 +333,14 @@ files_fit (file ∷ files) h (seed, seeds) = go (λ k. files_fit files k seeds) 
     go more true e h = absurd (cc)
     go more false e h = let low : file.len < 2 ^ 64 = grind (arith, nat_tests, e) in ((low, seed), more h)
 
-record Limits (asked : Asked) : Type 0 where
+record Limits (asked : DeclarationView) : Type 0 where
   cores : asked.cores < 2 ^ 64
   frames : asked.frames < 2 ^ 64
   calls : asked.calls < 2 ^ 64
   files : length asked.files < 17
   each : AllByRecursion Fits asked.files
 
-limits : (asked : Asked) → IsDeclared asked → Limits asked
+limits : (asked : DeclarationView) → IsDeclared asked → Limits asked
 limits asked d =
     let (c, f, n, l, k) = none_found (nat_lt asked.cores 1 || nat_lt 64 asked.cores) (nat_lt 65536 asked.frames) (nat_lt 16 (length asked.files))
     (has_long asked.files) (nat_lt 1048576 asked.calls) d.sound in
@@ -354,13 +354,13 @@ limits asked d =
 
 -- ---- the text
 
-declared_is : (asked : Asked) → IsDeclared asked → Limits asked → with_all (asks_for asked.cores asked.frames asked.calls) asked.files ≡ asked
+declared_is : (asked : DeclarationView) → IsDeclared asked → Limits asked → with_all (asks_for asked.cores asked.frames asked.calls) asked.files ≡ asked
 declared_is asked d l =
     let count : 0 + length asked.files ≡ asked.next = omega (arith, d.files) in
     with_all_is asked.cores asked.frames asked.calls 0 [] asked.files (omega (arith, l.files))
     ∙ ap (λ n. record { cores = asked.cores; frames = asked.frames; calls = asked.calls; next = n; files = asked.files }) count
 
-written_taken : (asked : Asked) (notes : List Noted) → IsDeclared asked → AllByRecursion FitsLine notes
+written_taken : (asked : DeclarationView) (notes : List Noted) → IsDeclared asked → AllByRecursion FitsLine notes
     → TakesAll true Names nothing (lines_of (notes_text asked notes)) (record { asked = Some asked; items = notes })
 written_taken asked notes d h =
     let l : Limits asked = limits asked d in

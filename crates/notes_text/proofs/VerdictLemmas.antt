@@ -11,7 +11,7 @@ use Rattle.machine_model.specs.Setups.{made_of}
 use Rattle.seats.specs.declared.noted.Noted.{Noted}
 use Rattle.certifier.specs.Order.{all_notes, AreNumbered, IsFirstAmiss}
 use Rattle.certifier.specs.Following.{IsCertified, DiffersAt}
-use Rattle.trace_words.specs.Declarations.{Asked, made_by, asked_fault}
+use Rattle.trace_words.specs.Declarations.{DeclarationView, made_by, asked_fault}
 use Rattle.trace_words.specs.declared.fault.TraceFault.{TraceFault}
 use Rattle.trace_words.specs.declared.fault.TraceFault.TheVariants.{NoMemory, WriteFailed}
 use Rattle.notes_text.specs.Grammar.{NamesNote}
@@ -19,8 +19,8 @@ use Rattle.trace_words.specs.Collected.{Collected}
 use Rattle.trace_words.specs.Ends.{Collects}
 use Rattle.notes_text.specs.Verdicts.{Made, Judges, verdict_text}
 use Rattle.notes_text.specs.CertifyEnds.{Judged, Unjudged, unread_text, unmade, wanting, FindsVerdict, Certifies}
-use Rattle.notes_text.specs.declared.verdict.Verdict.{Verdict}
-use Rattle.notes_text.specs.declared.verdict.Verdict.TheVariants.{Certified, Ticket, Differs}
+use Rattle.notes_text.specs.declared.verdict.NotesVerdict.{NotesVerdict}
+use Rattle.notes_text.specs.declared.verdict.NotesVerdict.TheVariants.{Certified, Ticket, Differs}
 use Rattle.trace_words.proofs.CollectLemmas.{stops_own}
 
 -- ---- what certifying says
@@ -29,13 +29,13 @@ one_seat : (notes : List Noted) → all_notes (notes ∷ []) ≡ notes
 one_seat notes = append-nil notes
 
 pub judged_certified : {A : Type 0} (parts : PageRange → ℕ → ℕ → Bool) (CanFold : Slots → ℕ → Type 0) (Folds : Slots → Slots → ℕ → Type 0)
-    (asked : Asked) (notes : List Noted) (setup : Setup A) (calls : ℕ) → made_of setup ≡ made_by asked
+    (asked : DeclarationView) (notes : List Noted) (setup : Setup A) (calls : ℕ) → made_of setup ≡ made_by asked
     → IsCertified parts CanFold Folds setup (all_notes (notes ∷ [])) [] calls → Judges A parts CanFold Folds asked notes (Certified calls)
 judged_certified {A} parts CanFold Folds asked notes setup calls m h =
     (record { setup = setup; made = m }, subst (λ l. IsCertified parts CanFold Folds setup l [] calls) (one_seat notes) h)
 
 pub judged_differs : {A : Type 0} (parts : PageRange → ℕ → ℕ → Bool) (CanFold : Slots → ℕ → Type 0) (Folds : Slots → Slots → ℕ → Type 0)
-    (asked : Asked) (notes : List Noted) (setup : Setup A) (t : ℕ) (noted expected : Outcome) → made_of setup ≡ made_by asked
+    (asked : DeclarationView) (notes : List Noted) (setup : Setup A) (t : ℕ) (noted expected : Outcome) → made_of setup ≡ made_by asked
     → AreNumbered (all_notes (notes ∷ [])) → DiffersAt parts CanFold Folds setup (all_notes (notes ∷ [])) t noted expected
     → Judges A parts CanFold Folds asked notes (Differs t noted expected)
 judged_differs {A} parts CanFold Folds asked notes setup t noted expected m n h = (
@@ -52,7 +52,7 @@ unjudged_own input unread f (unmade e u) w = let clash : NoMemory ≡ WriteFaile
 unjudged_own input unread f (wanting e a n c) w = let clash : NoMemory ≡ WriteFailed = sym e ∙ w in absurd (cc)
 
 -- what holds of what was asked for holds of the declaration
-pub sound_asked : {X : Type 0} (g : X → Asked) (o : Option X) (x : X) (asked : Option Asked) → option_map g o ≡ asked → o ≡ Some x
+pub sound_asked : {X : Type 0} (g : X → DeclarationView) (o : Option X) (x : X) (asked : Option DeclarationView) → option_map g o ≡ asked → o ≡ Some x
     → IsSomeAnd asked (λ a. asked_fault a ≡ None) → asked_fault (g x) ≡ None
 sound_asked g o x asked e i h = subst (λ a. IsSomeAnd a (λ a. asked_fault a ≡ None)) (sym e ∙ ap (option_map g) i) h
 
@@ -79,15 +79,15 @@ certifies_lost A parts CanFold Folds input unread a b c (Err f) (inr (e, inr p))
 -- ---- the verdict of a text
 
 pub judged_asked : {X : Type 0} (A : Type 0) (parts : PageRange → ℕ → ℕ → Bool) (CanFold : Slots → ℕ → Type 0) (Folds : Slots → Slots → ℕ → Type 0)
-    (g : X → Asked) (o : Option X) (x : X) (asked : Option Asked) (notes items : List Noted) (v : Verdict) → option_map g o ≡ asked → o ≡ Some x
+    (g : X → DeclarationView) (o : Option X) (x : X) (asked : Option DeclarationView) (notes items : List Noted) (v : NotesVerdict) → option_map g o ≡ asked → o ≡ Some x
     → notes ≡ items → Judges A parts CanFold Folds (g x) notes v → IsSomeAnd asked (λ a. Judges A parts CanFold Folds a items v)
 judged_asked A parts CanFold Folds g o x asked notes items v e i n h =
     subst (λ a. IsSomeAnd a (λ a. Judges A parts CanFold Folds a items v)) (ap (option_map g) (sym i) ∙ e)
     (subst (λ l. Judges A parts CanFold Folds (g x) l v) n h)
 
 pub found_verdict : (A : Type 0) (parts : PageRange → ℕ → ℕ → Bool) (CanFold : Slots → ℕ → Type 0) (Folds : Slots → Slots → ℕ → Type 0)
-    (input unread : List ℕ) (collected : Collected Noted) (r : Result Verdict TraceFault)
-    → ((asked : Asked) × (collected.asked ≡ Some asked) × Collects true (λ cores note words. NamesNote note words) input asked collected.items)
+    (input unread : List ℕ) (collected : Collected Noted) (r : Result NotesVerdict TraceFault)
+    → ((asked : DeclarationView) × (collected.asked ≡ Some asked) × Collects true (λ cores note words. NamesNote note words) input asked collected.items)
     → IfOk r (λ v. IsSomeAnd collected.asked (λ asked. Judges A parts CanFold Folds asked collected.items v)) → IfErr r (λ f. f ≡ NoMemory)
     → FindsVerdict A parts CanFold Folds input unread r
 found_verdict A parts CanFold Folds input unread collected (Ok v) p h n = record {

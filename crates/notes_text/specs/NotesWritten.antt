@@ -2,7 +2,7 @@
 use Rattle.std.specs.Prelude.{ℕ, List, ◌++◌, codes, decimal}
 use Rattle.std.specs.List.{flat_map}
 use Rattle.seats.specs.declared.noted.Noted.{Noted}
-use Rattle.trace_words.specs.Declarations.{Asked}
+use Rattle.trace_words.specs.Declarations.{DeclarationView}
 use Rattle.trace_words.specs.OutcomeText.{outcome_text}
 use Rattle.trace_words.specs.Written.{declared_text, event_words, spaced}
 
@@ -15,5 +15,5 @@ abbrev pub note_text : Noted → List ℕ
 note_text note = note_head note ++ outcome_text note.outcome
 
 -- those, and a line of each note
-abbrev pub notes_text : Asked → List Noted → List ℕ
+abbrev pub notes_text : DeclarationView → List Noted → List ℕ
 notes_text asked notes = declared_text asked ++ flat_map note_text notes

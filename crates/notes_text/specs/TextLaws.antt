@@ -8,7 +8,7 @@ use Rattle.seats.specs.declared.noted.Noted.{Noted}
 use Rattle.trace_text.specs.Words.{Word}
 use Rattle.trace_words.specs.declared.fault.TraceFault.{TraceFault}
 use Rattle.trace_words.specs.declared.fault.TraceFault.TheVariants.{NoMemory, ReadFailed}
-use Rattle.trace_words.specs.Declarations.{Asked, asked_fault}
+use Rattle.trace_words.specs.Declarations.{DeclarationView, asked_fault}
 use Rattle.notes_text.specs.Grammar.{NamesNote}
 use Rattle.trace_words.specs.Ends.{Collects, Stops}
 use Rattle.trace_words.specs.Scripts.{NamesTask}
@@ -17,13 +17,13 @@ use Rattle.notes_text.specs.NotesWritten.{note_text, notes_text}
 use Rattle.notes_text.specs.WrittenLaws.{FitsNote}
 
 -- the lines of the text declare this, and name these notes, in their order
-abbrev pub SaysNotes : List ℕ → Asked → List Noted → Type 0
+abbrev pub SaysNotes : List ℕ → DeclarationView → List Noted → Type 0
 SaysNotes text asked notes = Collects true (λ cores note words. NamesNote note words) text asked notes
 
 -- ---- what can be written
 
 -- A space can be made of what is declared. All its files are there, and the first byte of each is a byte.
-pub record IsDeclared (asked : Asked) : Type 0 where
+pub record IsDeclared (asked : DeclarationView) : Type 0 where
   pub sound : asked_fault asked ≡ None
   pub files : asked.next ≡ length asked.files
   pub bytes : AllByRecursion (λ file. file.seed ≤ 255) asked.files
@@ -37,17 +37,17 @@ pub record FitsLine (note : Noted) : Type 0 where
 
 -- What is written of notes says what was declared, and each of them.
 abbrev pub WrittenIsSaid : Type 0
-WrittenIsSaid = (asked : Asked) (notes : List Noted) → IsDeclared asked → AllByRecursion FitsLine notes
+WrittenIsSaid = (asked : DeclarationView) (notes : List Noted) → IsDeclared asked → AllByRecursion FitsLine notes
     → SaysNotes (notes_text asked notes) asked notes
 
 -- No text says two declarations, or two lists of notes.
 abbrev pub SaysOne : Type 0
-SaysOne = (text : List ℕ) (asked other : Asked) (notes others : List Noted) → SaysNotes text asked notes → SaysNotes text other others
+SaysOne = (text : List ℕ) (asked other : DeclarationView) (notes others : List Noted) → SaysNotes text asked notes → SaysNotes text other others
     → (asked ≡ other) × (notes ≡ others)
 
 -- Reading a text that says notes fails at no line: a read fails, or memory is wanting.
 abbrev pub SaidIsNotRefused : Type 0
-SaidIsNotRefused = (text unread : List ℕ) (asked : Asked) (notes : List Noted) (f : TraceFault) → SaysNotes text asked notes
+SaidIsNotRefused = (text unread : List ℕ) (asked : DeclarationView) (notes : List Noted) (f : TraceFault) → SaysNotes text asked notes
     → Stops true (λ (cores : ℕ) (note : Noted) words. NamesNote note words) text unread f → (f ≡ ReadFailed) ⊎ (f ≡ NoMemory)
 
 -- ---- what fits
@@ -58,10 +58,10 @@ NamedFits = (note : Noted) (words : List Word) → NamesNote note words → Fits
 
 -- So does what the lines of notes or of a script declare.
 abbrev pub NotesDeclare : Type 0
-NotesDeclare = (text : List ℕ) (asked : Asked) (notes : List Noted) → SaysNotes text asked notes → IsDeclared asked
+NotesDeclare = (text : List ℕ) (asked : DeclarationView) (notes : List Noted) → SaysNotes text asked notes → IsDeclared asked
 
 abbrev pub ScriptsDeclare : Type 0
-ScriptsDeclare = (text : List ℕ) (asked : Asked) (lines : List ScriptLine) → Collects false NamesTask text asked lines → IsDeclared asked
+ScriptsDeclare = (text : List ℕ) (asked : DeclarationView) (lines : List ScriptLine) → Collects false NamesTask text asked lines → IsDeclared asked
 
 -- only an event that goes on with a call has waited
 abbrev pub WaitsGoing : Noted → Type 0

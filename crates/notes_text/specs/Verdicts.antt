@@ -8,22 +8,22 @@ use Rattle.machine_model.specs.Setups.{made_of}
 use Rattle.seats.specs.declared.noted.Noted.{Noted}
 use Rattle.certifier.specs.Order.{AreNumbered, IsFirstAmiss}
 use Rattle.certifier.specs.Following.{IsCertified, DiffersAt}
-use Rattle.trace_words.specs.Declarations.{Asked, made_by}
+use Rattle.trace_words.specs.Declarations.{DeclarationView, made_by}
 use Rattle.trace_words.specs.OutcomeText.{outcome_text}
-use Rattle.notes_text.specs.declared.verdict.Verdict.{Verdict}
-use Rattle.notes_text.specs.declared.verdict.Verdict.TheVariants.{Certified, Ticket, Differs, Slot}
+use Rattle.notes_text.specs.declared.verdict.NotesVerdict.{NotesVerdict}
+use Rattle.notes_text.specs.declared.verdict.NotesVerdict.TheVariants.{Certified, Ticket, Differs, Slot}
 
 -- ---- what it comes to
 
 -- a setup of what is asked for
-pub record Made (A : Type 0) (asked : Asked) : Type 0 where
+pub record Made (A : Type 0) (asked : DeclarationView) : Type 0 where
   pub setup : Setup A
   pub made : made_of setup ≡ made_by asked
 
 -- The notes are certified, one ticket doesn't stand once, or one outcome differs, as certifying says. Beside no histories no
 -- slot is found.
 abbrev pub Judges : Type 0 → (PageRange → ℕ → ℕ → Bool) → (Slots → ℕ → Type 0) → (Slots → Slots → ℕ → Type 0)
-    → Asked → List Noted → Verdict → Type 0
+    → DeclarationView → List Noted → NotesVerdict → Type 0
 Judges A parts CanFold Folds asked notes (Certified calls) =
     (m : Made A asked) × IsCertified parts CanFold Folds m.setup notes [] calls
 Judges A parts CanFold Folds asked notes (Ticket t) = IsFirstAmiss notes t
@@ -44,14 +44,14 @@ abbrev pub differs_text : ℕ → Outcome → Outcome → List ℕ
 differs_text ticket noted expected =
     differs_head ticket ++ unended (outcome_text noted) ++ (codes ", expected " ++ outcome_text expected)
 
-abbrev pub verdict_text : Verdict → List ℕ
+abbrev pub verdict_text : NotesVerdict → List ℕ
 verdict_text (Certified calls) = codes "certified " ++ decimal calls ++ codes "\n"
 verdict_text (Ticket ticket) = codes "refused C1 " ++ decimal ticket ++ codes "\n"
 verdict_text (Differs ticket noted expected) = differs_text ticket noted expected
 verdict_text (Slot page) = codes "refused C5 " ++ decimal page ++ codes "\n"
 
 -- the notes are a run of the machine
-abbrev pub is_certified : Verdict → Bool
+abbrev pub is_certified : NotesVerdict → Bool
 is_certified (Certified calls) = true
 is_certified (Ticket t) = false
 is_certified (Differs t noted expected) = false

@@ -6,7 +6,7 @@ ghost use Rattle.machine_model.specs.Setups.{fault_of, made_of};
 ghost use Rattle.seats.specs.Packing.{shown};
 ghost use Rattle.trace_io.specs.Io.{read_from, written_to};
 ghost use Rattle.trace_io.specs.Source.{HasStopped, Reads};
-ghost use Rattle.trace_words.specs.Declarations.{Asked, asked_fault, made_by};
+ghost use Rattle.trace_words.specs.Declarations.{DeclarationView, asked_fault, made_by};
 ghost use Rattle.trace_words.specs.Faults.{TellsFaults};
 ghost use Rattle.trace_words.specs.declared.fault.TraceFault.TheVariants.{ReadFailed, WriteFailed};
 ghost use Rattle.notes_text.specs.CertifyEnds.{Certifies, FindsVerdict};
@@ -16,7 +16,7 @@ use trace_words::collecting::collect;
 use trace_words::collector::Collector;
 use crate::kept_notes::KeptNotes;
 use crate::noted_line::NoteLines;
-use crate::verdict::{Verdict, write_verdict};
+use crate::verdict::{NotesVerdict, write_verdict};
 use certifier::order::{Standing, standings};
 use certifier::{CertifyFault, certify_standing};
 use machine_model::Setup;
@@ -45,24 +45,24 @@ fn judge<A: Allocator + Clone + Drop>(
     setup: Setup<A>,
     notes: &Notes<'_>,
     standings: &[Standing],
-) -> Result<Verdict, NoMemory>
+) -> Result<NotesVerdict, NoMemory>
     requires sound { fault_of setup ≡ None }
     requires standings { AreStandings (shown notes.now ∷ []) standings.now }
-    ensures ok { IfOk result (λ verdict. (asked : Asked) → made_of setup ≡ made_by asked → Judges A
+    ensures ok { IfOk result (λ verdict. (asked : DeclarationView) → made_of setup ≡ made_by asked → Judges A
         ⟦<RadixMap<A> as SlotMap>⟧.parts ⟦<RadixMap<A> as SlotMap>⟧.can_fold
         ⟦<RadixMap<A> as SlotMap>⟧.folds asked (shown notes.now) verdict) }
     ensures err { IfErr result (λ _. AreNumbered (shown notes.now)) }
 {
     match certify_standing(alloc, setup, &[*notes], standings, no_histories()) {
-        Ok(done) => Ok(Verdict::Certified(done.calls)),
-        Err(CertifyFault::Ticket(ticket)) => Ok(Verdict::Ticket(ticket)),
+        Ok(done) => Ok(NotesVerdict::Certified(done.calls)),
+        Err(CertifyFault::Ticket(ticket)) => Ok(NotesVerdict::Ticket(ticket)),
         Err(
             CertifyFault::Differs {
                 ticket,
                 noted,
                 expected,
             },
-        ) => Ok(Verdict::Differs {
+        ) => Ok(NotesVerdict::Differs {
             ticket,
             noted,
             expected,
@@ -80,7 +80,7 @@ fn judge_declared<A: Allocator + Clone + Drop>(
     alloc: A,
     declaration: &Declaration,
     notes: &Notes<'_>,
-) -> Result<Verdict, NoMemory>
+) -> Result<NotesVerdict, NoMemory>
     requires { asked_fault declaration.now ≡ None }
     ensures { IfOk result (λ verdict. Judges A ⟦<RadixMap<A> as SlotMap>⟧.parts
         ⟦<RadixMap<A> as SlotMap>⟧.can_fold ⟦<RadixMap<A> as SlotMap>⟧.folds declaration.now (shown notes.now) verdict) }
@@ -107,7 +107,7 @@ fn judge_declared<A: Allocator + Clone + Drop>(
 fn judge_collected<A: Allocator + Clone + Drop>(
     alloc: A,
     collected: &Collector<Noted, KeptNotes<A>>,
-) -> Result<Verdict, TraceFault>
+) -> Result<NotesVerdict, TraceFault>
     requires { IsSomeAnd collected.now.asked (λ asked. asked_fault asked ≡ None) }
     ensures ok { IfOk result (λ verdict. IsSomeAnd collected.now.asked (λ asked. Judges A
         ⟦<RadixMap<A> as SlotMap>⟧.parts ⟦<RadixMap<A> as SlotMap>⟧.can_fold
@@ -129,7 +129,7 @@ fn judge_collected<A: Allocator + Clone + Drop>(
 fn find_verdict<A: Allocator + Clone + Drop, S: Source>(
     alloc: A,
     reader: &mut S,
-) -> Result<Verdict, TraceFault>
+) -> Result<NotesVerdict, TraceFault>
     ensures finds { Reads (S.stream reader.old) (S.stream reader.new) (λ input unread.
         FindsVerdict A ⟦<RadixMap<A> as SlotMap>⟧.parts ⟦<RadixMap<A> as SlotMap>⟧.can_fold
         ⟦<RadixMap<A> as SlotMap>⟧.folds input unread result) }

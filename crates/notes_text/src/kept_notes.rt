@@ -1,7 +1,7 @@
 //! Packed notes, as the items of a text are kept in them.
 ghost use Rattle.std.specs.Prelude.{◌≡◌, ◌++◌, ◌∷◌, ◌==◌, [], List, OnErr, OnOk, length};
 
-use trace_words::kept::Kept;
+use trace_words::kept::Collection;
 use seats::{NoteList, Noted};
 use std::alloc::Allocator;
 use vm_base::NoMemory;
@@ -12,7 +12,7 @@ pub struct KeptNotes<A: Allocator> {
     pub list: NoteList<A>,
 }
 
-impl<A: Allocator> Kept<Noted> for KeptNotes<A> {
+impl<A: Allocator> Collection<Noted> for KeptNotes<A> {
     ghost kept = { λ notes. notes.list.notes };
 
     fn has_none(&self) -> bool {

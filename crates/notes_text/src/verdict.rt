@@ -11,7 +11,7 @@ use trace_text::{LineText, push_number};
 
 /// The result of certifying the notes of a text.
 #[derive(Clone, Copy)]
-pub enum Verdict {
+pub enum NotesVerdict {
     /// They are certified, with this many answered calls.
     Certified(u64),
     /// Of the tickets below the number of the notes, this is the least that doesn't stand once.
@@ -102,39 +102,39 @@ fn write_count(text: &mut LineText, words: &str, number: u64)
 
 /// Writes the line that tells the verdict: `certified CALLS`, `refused C1 TICKET`,
 /// `refused C2 TICKET: noted OUTCOME, expected OUTCOME`, or `refused C5 PAGE`. At an `Err` a front of it was written.
-pub fn write_verdict<W: Sink>(writer: &mut W, verdict: Verdict) -> Result<(), WriteFailed>
+pub fn write_verdict<W: Sink>(writer: &mut W, verdict: NotesVerdict) -> Result<(), WriteFailed>
     ensures { IsWritten result (written_to W.Sink writer.old writer.new) (verdict_text verdict) }
 {
     let mut text = LineText::new();
     match verdict {
-        Verdict::Certified(calls) => {
+        NotesVerdict::Certified(calls) => {
             write_count(&mut text, "certified ", calls);
             write_all(writer, text.as_str().as_bytes())
         }
-        Verdict::Ticket(ticket) => {
+        NotesVerdict::Ticket(ticket) => {
             write_count(&mut text, "refused C1 ", ticket);
             write_all(writer, text.as_str().as_bytes())
         }
-        Verdict::Differs {
+        NotesVerdict::Differs {
             ticket,
             noted,
             expected,
         } => write_differs(writer, ticket, noted, expected),
-        Verdict::Slot(page) => {
+        NotesVerdict::Slot(page) => {
             write_count(&mut text, "refused C5 ", page);
             write_all(writer, text.as_str().as_bytes())
         }
     }
 }
 
-impl Verdict {
+impl NotesVerdict {
     /// Tells whether the notes are certified.
     pub fn is_certified(&self) -> bool
         ensures { result ≡ is_certified self.now }
     {
         match self {
-            Verdict::Certified(_) => true,
-            Verdict::Ticket(_) | Verdict::Differs { .. } | Verdict::Slot(_) => false,
+            NotesVerdict::Certified(_) => true,
+            NotesVerdict::Ticket(_) | NotesVerdict::Differs { .. } | NotesVerdict::Slot(_) => false,
         }
     }
 }

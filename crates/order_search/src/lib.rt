@@ -1,6 +1,14 @@
-//! A search for an order of calls that overlap. It goes through their begins and ends and keeps all maps that the calls so far can have
-//! led to: a call takes effect no sooner than some end needs it, and one that changes nothing as soon as it can (G. Lowe, Testing for
-//! linearizability, 2017). Nothing about it is believed: what it finds is judged by `orders::follow`.
+//! A search for an order of overlapping calls; nothing that it says is believed.
+//!
+//! It goes through begins and ends, and keeps all maps that the calls so far can have led to (G. Lowe, Testing for
+//! linearizability, 2017).
+//!
+//! - `search` (`find_order`, `find_whole`, `find_choice`, `find_lagging`): its face.
+//! - `configs`: a map and which calls took effect; `arena`, `runs`, `pages`: the maps, kept small; `seen`: which were
+//!   there already.
+//! - `under`, `leading`, `trail`, `olds`: calls under way, what they lead to, in which order, and what they replaced.
+//!
+//! It has no theorem but its safety, and that it ends.
 #![tactic(auto)]
 
 mod arena;

@@ -7,7 +7,7 @@ ghost use Rattle.audit.specs.Placing.{rule_of};
 ghost use Rattle.orders.specs.Orders.{CopiesFor, LeadAll, Leads};
 
 use crate::history::{Item, Timed, call_at};
-use audit::{Auditor, Call, Verdict};
+use audit::{Auditor, Call, ReplyVerdict};
 use slot_lock::SlotMap;
 use std::alloc::Allocator;
 use vm_base::{NoMemory, Reply, Request, page_of};
@@ -44,8 +44,8 @@ fn replies<M: SlotMap, A: Allocator>(
         return Ok(auditor.would_serve(call.request));
     }
     match auditor.judge(call.core, call.request, call.reply)? {
-        Verdict::Legal => Ok(true),
-        Verdict::Illegal(_) => Ok(false),
+        ReplyVerdict::Legal => Ok(true),
+        ReplyVerdict::Illegal(_) => Ok(false),
     }
 }
 

@@ -1,5 +1,12 @@
-//! Calls that overlap: whether an order of them, which keeps each behind all that ended before it began, gives their replies on
-//! the plain page map (linearizability: Herlihy and Wing, 1990).
+//! Overlapping calls: whether a given order keeps time and gives their replies on the plain map.
+//!
+//! The property is linearizability (Herlihy and Wing, 1990).
+//!
+//! - `history`: calls with their times, and the items of an order; `timing`: whether an order keeps time; `leading`:
+//!   what items lead to.
+//!
+//! It exists for `following::follow`: an order is taken just where it has each call once, keeps time, and gives each
+//! reply. All that is believed of the judges above rests on it. It searches nothing.
 #![tactic(auto)]
 
 mod choosing;

@@ -12,11 +12,11 @@ use Rattle.orders.specs.declared.history.Timed.{Timed}
 use Rattle.orders_text.specs.History.{Read, begun, between, by_lines, ended, event_after, may_event, read_after, with_call, with_waiting}
 use Rattle.orders_text.specs.Lines.{call_to}
 use Rattle.orders_text.specs.Steps.{Refuses, Unfit}
-use Rattle.orders_text.specs.declared.clock.Begun.{Begun}
+use Rattle.orders_text.specs.declared.clock.PendingCall.{PendingCall}
 use Rattle.orders_text.specs.declared.clock.Clock.TheVariants.{Lines}
 use Rattle.orders_text.specs.declared.faults.HistoryFault.{HistoryFault}
 use Rattle.orders_text.specs.declared.faults.HistoryFault.TheVariants.{BadLine, TooLong, NoVmLine, Backwards, Overlap, Io}
-use Rattle.orders_text.specs.declared.lines.Told.TheVariants.{Event}
+use Rattle.orders_text.specs.declared.lines.HistoryLine.TheVariants.{Event}
 
 -- ---- a call in one line
 
@@ -42,7 +42,7 @@ waits_bad n r core request busy =
 
 -- ---- its reply
 
-pub ends_ok : (n : ℕ) (r m q : Read) (core : ℕ) (reply : Reply) (b : Begun) (t : Timed) → begun r core ≡ Some b
+pub ends_ok : (n : ℕ) (r m q : Read) (core : ℕ) (reply : Reply) (b : PendingCall) (t : Timed) → begun r core ≡ Some b
     → t ≡ between b.line n (call_to core b.request reply) → m ≡ with_waiting r core None → q ≡ with_call Lines n m t
     → event_after n r (Says.Ends core reply) ≡ Some q
 ends_ok n r m q core reply b t is when there e =

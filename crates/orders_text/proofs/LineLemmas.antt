@@ -10,8 +10,8 @@ use Rattle.audit_text.proofs.OneReading.{lines_say_one}
 use Rattle.audit_text.specs.declared.reading.Said.{Said}
 use Rattle.orders.specs.declared.history.Timed.{Timed}
 use Rattle.orders_text.specs.Lines.{Means, Tells, TellsTimed, is_event, timed_of}
-use Rattle.orders_text.specs.declared.lines.Told.{Told}
-use Rattle.orders_text.specs.declared.lines.Told.TheVariants.{Part, Timed as TimedCall, Event}
+use Rattle.orders_text.specs.declared.lines.HistoryLine.{HistoryLine}
+use Rattle.orders_text.specs.declared.lines.HistoryLine.TheVariants.{Part, Timed as TimedCall, Event}
 
 pub timed_some : (r : Option Timed) (bytes front text : List ℕ) → AreHalves bytes front text → r ≡ timed_of (words_of front) text
     → IfSome r (λ c. TellsTimed c bytes)
@@ -33,7 +33,7 @@ pub part_some : (o : Option Said) (said : Said) (bytes : List ℕ) → are_print
 part_some o said bytes p e is = (p, sym e ∙ is)
 
 pub told_none : (o : Option Said) (bytes : List ℕ) → ((c : Timed) → TellsTimed c bytes → ⊥) → o ≡ declaration_of bytes → o ≡ None
-    → ((said : Said) → Tells (Event said) bytes → ⊥) → (told : Told) → Tells told bytes → ⊥
+    → ((said : Said) → Tells (Event said) bytes → ⊥) → (told : HistoryLine) → Tells told bytes → ⊥
 told_none o bytes n e is none (TimedCall c) t = n c t.1
 told_none o bytes n e is none (Part said) t = let wrong : None ≡ Some said = sym is ∙ (e ∙ t.1) in absurd cc
 told_none o bytes n e is none (Event said) t = none said t
@@ -51,5 +51,5 @@ other_event bytes said a not_one other t =
     let same : other ≡ said = lines_say_one bytes other said (t.0, t.1.0) a in
     let wrong : true ≡ false = sym t.1.1 ∙ (ap is_event same ∙ not_one) in absurd cc
 
-pub dark_none : (bytes : List ℕ) → are_printable bytes ≡ false → (told : Told) → Tells told bytes → ⊥
+pub dark_none : (bytes : List ℕ) → are_printable bytes ≡ false → (told : HistoryLine) → Tells told bytes → ⊥
 dark_none bytes dark told t = let wrong : false ≡ true = sym dark ∙ t.0 in absurd cc

@@ -14,15 +14,15 @@ use Rattle.orders_text.specs.History.{IsHistory, Leads, Read, begun, between, by
 use Rattle.orders_text.specs.History.{part_after, read_after, unread, with_call, with_declared, with_waiting}
 use Rattle.orders_text.specs.Lines.{Tells, call_to}
 use Rattle.orders_text.specs.Steps.{Refuses, SaysNothing, TellsOverlap}
-use Rattle.orders_text.specs.declared.clock.Begun.{Begun}
+use Rattle.orders_text.specs.declared.clock.PendingCall.{PendingCall}
 use Rattle.orders_text.specs.declared.clock.Clock.{Clock}
 use Rattle.orders_text.specs.declared.clock.Clock.TheVariants.{Unset, Stamps, Lines}
 use Rattle.orders_text.specs.declared.faults.HistoryFault.{HistoryFault}
 use Rattle.orders_text.specs.declared.faults.HistoryFault.TheVariants.{BadLine, TooLong, NoVmLine, Backwards, Overlap, Io}
-use Rattle.orders_text.specs.declared.lines.Told.{Told}
-use Rattle.orders_text.specs.declared.lines.Told.TheVariants.{Part, Timed as TimedCall, Event}
+use Rattle.orders_text.specs.declared.lines.HistoryLine.{HistoryLine}
+use Rattle.orders_text.specs.declared.lines.HistoryLine.TheVariants.{Part, Timed as TimedCall, Event}
 
-leads_more : (n : ℕ) (a : Read) (ls : List (List ℕ)) (m t : Read) (l : List ℕ) (told : Told) → Leads n a ls m → length l ≤ 512 → Tells told l
+leads_more : (n : ℕ) (a : Read) (ls : List (List ℕ)) (m t : Read) (l : List ℕ) (told : HistoryLine) → Leads n a ls m → length l ≤ 512 → Tells told l
     → read_after (n + length ls) m told ≡ Some t → Leads n a (ls ++ l ∷ []) t
 leads_more n a [] m t l told h short tells after =
     let same : n + 0 ≡ n = omega arith in
@@ -34,7 +34,7 @@ leads_more n a (x ∷ xs) m t l told h short tells after =
 pub place_first : (lines : List (List ℕ)) (r : Read) → r ≡ unread → IsPlace lines 0 lines r
 place_first lines r e = record { done = []; is = refl; count_is = refl; leads = e }
 
-pub place_more : (lines rest more : List (List ℕ)) (n : ℕ) (r q : Read) (line : List ℕ) (told : Told) → IsPlace lines n rest r → rest ≡ line ∷ more
+pub place_more : (lines rest more : List (List ℕ)) (n : ℕ) (r q : Read) (line : List ℕ) (told : HistoryLine) → IsPlace lines n rest r → rest ≡ line ∷ more
     → length line ≤ 512 → Tells told line → read_after (n + 1) r told ≡ Some q → IsPlace lines (n + 1) more q
 place_more lines rest more n r q line told p e short tells after =
     let number : n + 1 ≡ 1 + length p.done = omega (arith, p.count_is) in record {
@@ -77,7 +77,7 @@ fault_here lines rest more n r line (TooLong k) p e (is, long) = record {
 }
 fault_here lines rest more n r line f p e says = absurd says
 
-pub refused_here : (lines rest more : List (List ℕ)) (n : ℕ) (r : Read) (line : List ℕ) (told : Told) (f : HistoryFault) → IsPlace lines n rest r
+pub refused_here : (lines rest more : List (List ℕ)) (n : ℕ) (r : Read) (line : List ℕ) (told : HistoryLine) (f : HistoryFault) → IsPlace lines n rest r
     → rest ≡ line ∷ more → length line ≤ 512 → Tells told line → Refuses (n + 1) r told f → IsAtFault lines f
 refused_here lines rest more n r line told (BadLine k) p e short tells (is, out) = record {
   read = r;
@@ -135,7 +135,7 @@ one_more h c all forward i a is = go h i all is
 -- in front of this line calls have begun that are told, below their ends, or wait
 pub record IsTimely (n : ℕ) (r : Read) : Type 0 where
   pub forward : AreForward r.calls
-  pub before : (core : ℕ) (b : Begun) → begun r core ≡ Some b → b.line < n
+  pub before : (core : ℕ) (b : PendingCall) → begun r core ≡ Some b → b.line < n
 
 later : (n : ℕ) (r : Read) → IsTimely n r → IsTimely (suc n) r
 later n r t = record { forward = t.forward; before = λ core b e. let less = t.before core b e in omega (arith, less) }
@@ -148,14 +148,14 @@ set_either (y ∷ ys) zero (suc j) x d = inr refl
 set_either (y ∷ ys) (suc i) zero x d = inr refl
 set_either (y ∷ ys) (suc i) (suc j) x d = set_either ys i j x d
 
-one_waits : (n : ℕ) (r : Read) (core : ℕ) (o : Option Begun) → ((b : Begun) → o ≡ Some b → b.line < suc n) → IsTimely n r
+one_waits : (n : ℕ) (r : Read) (core : ℕ) (o : Option PendingCall) → ((b : PendingCall) → o ≡ Some b → b.line < suc n) → IsTimely n r
     → IsTimely (suc n) (with_waiting r core o)
 one_waits n r core o low t = record {
   forward = t.forward;
   before = λ k b e. go k b e (set_either r.waiting core k o None);
 }
   where
-    go : (k : ℕ) (b : Begun) → get_or (set r.waiting core o) k None ≡ Some b
+    go : (k : ℕ) (b : PendingCall) → get_or (set r.waiting core o) k None ≡ Some b
         → (get_or (set r.waiting core o) k None ≡ o) ⊎ (get_or (set r.waiting core o) k None ≡ get_or r.waiting k None) → b.line < suc n
     go k b e (inl is) = low b (sym is ∙ e)
     go k b e (inr is) = let less = t.before k b (sym is ∙ e) in omega (arith, less)
@@ -176,10 +176,10 @@ event_timely n r q (Says.Answered call) h t = go (is_some (begun r call.core)) h
         (later n (with_call Lines n r (between n n call)) (one_called Lines n n r (between n n call) (omega arith) t))
 event_timely n r q (Says.Waits core request) h t = go (is_some (begun r core)) h
   where
-    low : (b : Begun) → Some (record { line = n; request = request }) ≡ Some b → b.line < suc n
+    low : (b : PendingCall) → Some (record { line = n; request = request }) ≡ Some b → b.line < suc n
     low b e =
         let one : record { line = n; request = request } ≡ b = cc in
-        let same : n ≡ b.line = ap (λ (x : Begun). x.line) one in omega (arith, same)
+        let same : n ≡ b.line = ap (λ (x : PendingCall). x.line) one in omega (arith, same)
 
     go : (b : Bool) → cond b None (Some (with_waiting r core (Some (record { line = n; request = request })))) ≡ Some q → IsTimely (suc n) q
     go true e = absurd cc
@@ -187,7 +187,7 @@ event_timely n r q (Says.Waits core request) h t = go (is_some (begun r core)) h
         (one_waits n r core (Some (record { line = n; request = request })) low t)
 event_timely n r q (Says.Ends core reply) h t = go (begun r core) refl h
   where
-    go : (o : Option Begun) → begun r core ≡ o → option_map (ended n r core reply) o ≡ Some q → IsTimely (suc n) q
+    go : (o : Option PendingCall) → begun r core ≡ o → option_map (ended n r core reply) o ≡ Some q → IsTimely (suc n) q
     go None is e = absurd cc
     go (Some b) is e =
         let less : b.line < n = t.before core b is in
@@ -202,7 +202,7 @@ event_timely n r q Says.Passes h t =
     same_timely (suc n) (by_lines r) q h (later n (by_lines r) (record { forward = t.forward; before = t.before }))
 event_timely n r q said h t = absurd cc
 
-step_timely : (n : ℕ) (r q : Read) (told : Told) → read_after n r told ≡ Some q → IsTimely n r → IsTimely (suc n) q
+step_timely : (n : ℕ) (r q : Read) (told : HistoryLine) → read_after n r told ≡ Some q → IsTimely n r → IsTimely (suc n) q
 step_timely n r q (TimedCall c) h t = by r.declared.has_space (may_stamp r.clock) (nat_lt c.begin c.end) refl h
   where
     by : (s m b : Bool) → nat_lt c.begin c.end ≡ b → cond (s && m && b) (Some (with_call Stamps n r c)) None ≡ Some q → IsTimely (suc n) q
@@ -238,7 +238,7 @@ all_timely n a b (l ∷ ls) h t = all_timely (suc n) h.1 b ls h.5 (step_timely n
 unread_timely : IsTimely 1 unread
 unread_timely = record { forward = λ i a is. absurd cc; before = λ core b e. absurd (never 64 core b e) }
   where
-    never : (n core : ℕ) (b : Begun) → get_or (replicate n None) core None ≡ Some b → ⊥
+    never : (n core : ℕ) (b : PendingCall) → get_or (replicate n None) core None ≡ Some b → ⊥
     never zero core b e = absurd cc
     never (suc n) zero b e = absurd cc
     never (suc n) (suc core) b e = never n core b e

@@ -10,7 +10,7 @@ use Rattle.audit_text.specs.declared.reading.Said.{Said}
 use Rattle.audit_text.specs.declared.reading.Said.TheVariants as Says
 use Rattle.orders.specs.declared.history.Timed.{Timed}
 use Rattle.orders_text.specs.History.{Read, declared_after, may_stamp, part_after, read_after, unread, with_call, with_declared}
-use Rattle.orders_text.specs.declared.clock.Begun.{Begun}
+use Rattle.orders_text.specs.declared.clock.PendingCall.{PendingCall}
 use Rattle.orders_text.specs.declared.clock.Clock.{Clock}
 use Rattle.orders_text.specs.declared.clock.Clock.TheVariants.{Unset, Stamps, Lines}
 use Rattle.orders_text.specs.Faults.{IsOutOfPlace}
@@ -18,16 +18,16 @@ use Rattle.orders_text.specs.Lines.{needs_space}
 use Rattle.orders_text.specs.Steps.{ComesTo, Refuses}
 use Rattle.orders_text.specs.declared.faults.HistoryFault.{HistoryFault}
 use Rattle.orders_text.specs.declared.faults.HistoryFault.TheVariants.{BadLine, TooLong, NoVmLine, Backwards, Overlap, Io}
-use Rattle.orders_text.specs.declared.lines.Told.{Told}
-use Rattle.orders_text.specs.declared.lines.Told.TheVariants.{Part, Timed as TimedCall}
+use Rattle.orders_text.specs.declared.lines.HistoryLine.{HistoryLine}
+use Rattle.orders_text.specs.declared.lines.HistoryLine.TheVariants.{Part, Timed as TimedCall}
 
 -- nothing is read at first
-pub none_read : (d : Declared) (k : Clock) (ws : List (Option Begun)) (cs : List Timed) (ls : List ℕ) → d ≡ undeclared → k ≡ Unset
+pub none_read : (d : Declared) (k : Clock) (ws : List (Option PendingCall)) (cs : List Timed) (ls : List ℕ) → d ≡ undeclared → k ≡ Unset
     → ws ≡ replicate 64 None → cs ≡ [] → ls ≡ [] → record { declared = d; clock = k; waiting = ws; calls = cs; lines = ls } ≡ unread
 none_read d k ws cs ls e f g h i =
     ap (λ (x : Declared). record { declared = x; clock = k; waiting = ws; calls = cs; lines = ls }) e
     ∙ ap (λ (x : Clock). record { declared = undeclared; clock = x; waiting = ws; calls = cs; lines = ls }) f
-    ∙ ap (λ (x : List (Option Begun)). record { declared = undeclared; clock = Unset; waiting = x; calls = cs; lines = ls }) g
+    ∙ ap (λ (x : List (Option PendingCall)). record { declared = undeclared; clock = Unset; waiting = x; calls = cs; lines = ls }) g
     ∙ ap (λ (x : List Timed). record { declared = undeclared; clock = Unset; waiting = replicate 64 None; calls = x; lines = ls }) h
     ∙ ap (λ (x : List ℕ). record { declared = undeclared; clock = Unset; waiting = replicate 64 None; calls = []; lines = x }) i
 
@@ -51,7 +51,7 @@ declared_ok n r e said (Ok u) Is.Bad b calls part comes = absurd comes
 declared_ok n r e said (Ok u) Is.Ended b calls part comes = absurd comes
 declared_ok n r e said (Err f) d b calls part comes = tt
 
-bad_line : (n : ℕ) (r : Read) (told : Told) (f : HistoryFault) → f ≡ BadLine n → IsOutOfPlace n r told → Refuses n r told f
+bad_line : (n : ℕ) (r : Read) (told : HistoryLine) (f : HistoryFault) → f ≡ BadLine n → IsOutOfPlace n r told → Refuses n r told f
 bad_line n r told f e h = subst (λ x. Refuses n r told x) (sym e) (refl, h)
 
 pub declared_err : (n : ℕ) (r : Read) (said : Said) (res : Result Unit HistoryFault) (d : Declares) → said ≢ Says.Blank → r.clock ≡ Unset

@@ -5,8 +5,8 @@ use Rattle.orders.specs.declared.history.Timed.{Timed}
 use Rattle.orders_text.specs.Apart.{DoOverlap}
 use Rattle.orders_text.specs.History.{Leads, Read, read_after, unread}
 use Rattle.orders_text.specs.Lines.{Tells, needs_space}
-use Rattle.orders_text.specs.declared.lines.Told.{Told}
-use Rattle.orders_text.specs.declared.lines.Told.TheVariants.{Timed as TimedCall}
+use Rattle.orders_text.specs.declared.lines.HistoryLine.{HistoryLine}
+use Rattle.orders_text.specs.declared.lines.HistoryLine.TheVariants.{Timed as TimedCall}
 use Rattle.orders_text.specs.declared.faults.HistoryFault.{HistoryFault}
 use Rattle.orders_text.specs.declared.faults.HistoryFault.TheVariants.{BadLine, TooLong, NoVmLine, Backwards, Overlap, Io}
 
@@ -25,19 +25,19 @@ pub record IsAt (lines : List (List ℕ)) (number : ℕ) (line : List ℕ) (r : 
   pub place : IsPlace lines before (line ∷ more) r
 
 -- it is a call that doesn't begin below its end
-abbrev pub IsBackward : Told → Type 0
+abbrev pub IsBackward : HistoryLine → Type 0
 IsBackward (TimedCall c) = c.end ≤ c.begin
 IsBackward told = ⊥
 
 -- what the line with this number says may not stand here, and that isn't for want of a space, nor a call that begins too late
-pub record IsOutOfPlace (number : ℕ) (r : Read) (told : Told) : Type 0 where
+pub record IsOutOfPlace (number : ℕ) (r : Read) (told : HistoryLine) : Type 0 where
   pub refused : read_after number r told ≡ None
   pub space : needs_space told ≡ true → r.declared.has_space ≡ true
   pub forward : ¬ IsBackward told
 
 -- the line says nothing, or what it says is out of place
 abbrev pub IsMisplaced : ℕ → Read → List ℕ → Type 0
-IsMisplaced number r line = ((told : Told) → Tells told line → ⊥) ⊎ ((told : Told) × Tells told line × IsOutOfPlace number r told)
+IsMisplaced number r line = ((told : HistoryLine) → Tells told line → ⊥) ⊎ ((told : HistoryLine) × Tells told line × IsOutOfPlace number r told)
 
 pub record IsBad (lines : List (List ℕ)) (number : ℕ) : Type 0 where
   pub read : Read
@@ -66,7 +66,7 @@ pub record IsBackwards (lines : List (List ℕ)) (number : ℕ) : Type 0 where
 -- the text ends, or its next line would have to stand behind that of a space
 abbrev pub IsStuck : List (List ℕ) → Type 0
 IsStuck [] = ⊤
-IsStuck (line ∷ more) = (told : Told) × (length line ≤ 512) × Tells told line × (needs_space told ≡ true)
+IsStuck (line ∷ more) = (told : HistoryLine) × (length line ≤ 512) × Tells told line × (needs_space told ≡ true)
 
 pub record LacksSpace (lines : List (List ℕ)) : Type 0 where
   pub read : Read

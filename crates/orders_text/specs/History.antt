@@ -12,18 +12,18 @@ use Rattle.vm_base.specs.Plain.{file_with}
 use Rattle.orders.specs.declared.history.Timed.{Timed}
 use Rattle.orders_text.specs.Apart.{AreApart}
 use Rattle.orders_text.specs.Lines.{Tells, call_to}
-use Rattle.orders_text.specs.declared.clock.Begun.{Begun}
+use Rattle.orders_text.specs.declared.clock.PendingCall.{PendingCall}
 use Rattle.orders_text.specs.declared.clock.Clock.{Clock}
 use Rattle.orders_text.specs.declared.clock.Clock.TheVariants.{Unset, Stamps, Lines}
-use Rattle.orders_text.specs.declared.lines.Told.{Told}
-use Rattle.orders_text.specs.declared.lines.Told.TheVariants.{Part, Timed as TimedCall, Event}
+use Rattle.orders_text.specs.declared.lines.HistoryLine.{HistoryLine}
+use Rattle.orders_text.specs.declared.lines.HistoryLine.TheVariants.{Part, Timed as TimedCall, Event}
 
 -- What lines say so far: the space and its files; by which clock calls have their times; the call of each core that waits for its
 -- reply; and the calls that have one, in the order of their lines, with the numbers of these lines.
 pub record Read : Type 0 where
   pub declared : Declared
   pub clock : Clock
-  pub waiting : List (Option Begun)
+  pub waiting : List (Option PendingCall)
   pub calls : List Timed
   pub lines : List ℕ
 
@@ -64,13 +64,13 @@ may_event clock = true
 -- ---- events
 
 -- the call of a core that waits
-abbrev pub begun : Read → ℕ → Option Begun
+abbrev pub begun : Read → ℕ → Option PendingCall
 begun r core = get_or r.waiting core None
 
 abbrev pub by_lines : Read → Read
 by_lines r = record { declared = r.declared; clock = Lines; waiting = r.waiting; calls = r.calls; lines = r.lines }
 
-abbrev pub with_waiting : Read → ℕ → Option Begun → Read
+abbrev pub with_waiting : Read → ℕ → Option PendingCall → Read
 with_waiting r core b =
     record { declared = r.declared; clock = Lines; waiting = set r.waiting core b; calls = r.calls; lines = r.lines }
 
@@ -78,7 +78,7 @@ with_waiting r core b =
 abbrev pub between : ℕ → ℕ → Call → Timed
 between first last call = record { begin = 2 * first; end = 2 * last + 1; call = call }
 
-abbrev pub ended : ℕ → Read → ℕ → Reply → Begun → Read
+abbrev pub ended : ℕ → Read → ℕ → Reply → PendingCall → Read
 ended number r core reply b =
     with_call Lines number (with_waiting r core None) (between b.line number (call_to core b.request reply))
 
@@ -96,7 +96,7 @@ event_after number r said = None
 -- ---- all lines
 
 -- after the line with this number says this; none, where it may not stand here
-abbrev pub read_after : ℕ → Read → Told → Option Read
+abbrev pub read_after : ℕ → Read → HistoryLine → Option Read
 read_after number r (Part Says.Blank) = Some r
 read_after number r (Part said) = declared_after r r.clock said
 read_after number r (TimedCall c) =
@@ -106,7 +106,7 @@ read_after number r (Event said) = if r.declared.has_space && may_event r.clock 
 -- the lines, the first of which has this number, and none of which is longer than 512 bytes, lead from one to the other
 abbrev pub Leads : ℕ → Read → List (List ℕ) → Read → Type 0
 Leads number a [] b = b ≡ a
-Leads number a (l ∷ ls) b = (told : Told) × (m : Read) × (length l ≤ 512) × Tells told l × (read_after number a told ≡ Some m)
+Leads number a (l ∷ ls) b = (told : HistoryLine) × (m : Read) × (length l ≤ 512) × Tells told l × (read_after number a told ≡ Some m)
     × Leads (suc number) m ls b
 
 -- The lines are those of a history: a space is declared, each call begins below its end, and those of one core don't overlap.
@@ -122,12 +122,12 @@ abbrev pub last_line : ℕ
 last_line = 4611686018427387903
 
 -- A core's call that waits ends behind all lines. It may have any reply.
-abbrev pub left_open : ℕ → Option Begun → Reply → List Timed
+abbrev pub left_open : ℕ → Option PendingCall → Reply → List Timed
 left_open core None reply = []
 left_open core (Some b) reply = between b.line last_line (call_to core b.request reply) ∷ []
 
 -- those of cores from this one on, with the reply of each core
-abbrev pub all_open : (ℕ → Reply) → ℕ → List (Option Begun) → List Timed
+abbrev pub all_open : (ℕ → Reply) → ℕ → List (Option PendingCall) → List Timed
 all_open replies core [] = []
 all_open replies core (b ∷ bs) = left_open core b (replies core) ++ all_open replies (core + 1) bs
 

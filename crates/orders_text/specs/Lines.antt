@@ -15,8 +15,8 @@ use Rattle.audit_text.specs.Replies.{reply_of}
 use Rattle.audit_text.specs.declared.reading.Said.{Said}
 use Rattle.audit_text.specs.declared.reading.Said.TheVariants as Says
 use Rattle.orders.specs.declared.history.Timed.{Timed}
-use Rattle.orders_text.specs.declared.lines.Told.{Told}
-use Rattle.orders_text.specs.declared.lines.Told.TheVariants.{Part, Timed as TimedCall, Event}
+use Rattle.orders_text.specs.declared.lines.HistoryLine.{HistoryLine}
+use Rattle.orders_text.specs.declared.lines.HistoryLine.TheVariants.{Part, Timed as TimedCall, Event}
 
 abbrev pub call_to : ℕ → Request → Reply → Call
 call_to core request reply = record { core = core; request = request; reply = reply }
@@ -56,17 +56,17 @@ is_event (Says.StillWaits core) = true
 is_event Says.Passes = true
 is_event said = false
 
-abbrev pub Means : Told → List ℕ → Type 0
+abbrev pub Means : HistoryLine → List ℕ → Type 0
 Means (TimedCall c) bytes = TellsTimed c bytes
 Means (Part said) bytes = declaration_of bytes ≡ Some said
 Means (Event said) bytes = AuditMeans said bytes × (is_event said ≡ true)
 
 -- the bytes of a line say this, and all are printable
-abbrev pub Tells : Told → List ℕ → Type 0
+abbrev pub Tells : HistoryLine → List ℕ → Type 0
 Tells told bytes = (are_printable bytes ≡ true) × Means told bytes
 
 -- it may stand only behind the line of a space
-abbrev pub needs_space : Told → Bool
+abbrev pub needs_space : HistoryLine → Bool
 needs_space (TimedCall c) = true
 needs_space (Event said) = true
 needs_space (Part (Says.File number mode len seed)) = true

@@ -10,8 +10,8 @@ use Rattle.orders_text.specs.History.{Read, event_after, read_after}
 use Rattle.orders_text.specs.Lines.{Tells, needs_space}
 use Rattle.orders_text.specs.declared.faults.HistoryFault.{HistoryFault}
 use Rattle.orders_text.specs.declared.faults.HistoryFault.TheVariants.{BadLine, TooLong, NoVmLine, Backwards, Overlap, Io}
-use Rattle.orders_text.specs.declared.lines.Told.{Told}
-use Rattle.orders_text.specs.declared.lines.Told.TheVariants.{Part, Timed as TimedCall}
+use Rattle.orders_text.specs.declared.lines.HistoryLine.{HistoryLine}
+use Rattle.orders_text.specs.declared.lines.HistoryLine.TheVariants.{Part, Timed as TimedCall}
 use Rattle.orders_text.specs.declared.reading.History.{History}
 
 -- what a history that is kept says
@@ -30,12 +30,12 @@ HasPlaces h = length h.waiting.items ≡ 64
 
 -- the line, which has this number, can't be read
 abbrev pub SaysNothing : List ℕ → ℕ → HistoryFault → Type 0
-SaysNothing line number (BadLine n) = (n ≡ number) × (length line ≤ 512) × ((told : Told) → Tells told line → ⊥)
+SaysNothing line number (BadLine n) = (n ≡ number) × (length line ≤ 512) × ((told : HistoryLine) → Tells told line → ⊥)
 SaysNothing line number (TooLong n) = (n ≡ number) × (512 < length line)
 SaysNothing line number _ = ⊥
 
 -- what the line with this number says may not stand here
-abbrev pub Refuses : ℕ → Read → Told → HistoryFault → Type 0
+abbrev pub Refuses : ℕ → Read → HistoryLine → HistoryFault → Type 0
 Refuses number r told (BadLine n) = (n ≡ number) × IsOutOfPlace number r told
 Refuses number r told NoVmLine = (r.declared.has_space ≡ false) × (needs_space told ≡ true)
 Refuses number r told (Backwards n) = (n ≡ number) × (r.declared.has_space ≡ true) × IsBackward told

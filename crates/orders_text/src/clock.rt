@@ -55,7 +55,7 @@ impl Clock {
 
 /// A call that waits for its reply: the number of the line in which it began, and what it asks for.
 #[derive(Clone, Copy)]
-pub struct Begun {
+pub struct PendingCall {
     pub line: u64,
     pub request: Request,
 }
@@ -75,7 +75,7 @@ pub(crate) fn between(first: u64, last: u64, call: Call) -> Option<Timed>
 }
 
 // No call waits.
-pub(crate) fn none_waits<A: Allocator>(alloc: A) -> Result<Vec<Option<Begun>, A>, AllocError>
+pub(crate) fn none_waits<A: Allocator>(alloc: A) -> Result<Vec<Option<PendingCall>, A>, AllocError>
     ensures { IfOk result (λ waiting. waiting.items ≡ replicate 64 None) }
 {
     let mut waiting = Vec::with_capacity(alloc, CORES)?;

@@ -1,6 +1,11 @@
-//! Histories of calls that overlap, as text: each line has a call with its begin and end, or lines are an audited text's events, and
-//! their numbers are the times. A text is read to the history that it is, or to its first fault; a history is judged by an order of its
-//! calls, which a search or the user gives.
+//! Histories of overlapping calls as text, read to the history or to the first fault.
+//!
+//! - `lines`: what a line says, a call with its begin and end; `clock`: stamps, or the numbers of an audited text's
+//!   lines.
+//! - `reading` (`read_history`): the whole; `waiting`: calls that wait when a text ends; `apart`: calls of one core
+//!   don't overlap; `faults`.
+//!
+//! It exists for `reading::read_history`. It judges nothing: `overlapping` and those over it do.
 #![tactic(auto)]
 
 mod apart;

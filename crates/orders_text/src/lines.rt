@@ -3,7 +3,7 @@ ghost use Rattle.std.specs.Prelude.{◌≡◌, IfNone, IfSome};
 ghost use Rattle.trace_text.specs.Words.{words_of};
 ghost use Rattle.audit_text.specs.Grammar.{Tells as AuditTells};
 ghost use Rattle.orders_text.specs.Lines.{Tells, TellsTimed, call_of, is_event, timed_of};
-ghost use Rattle.orders_text.specs.declared.lines.Told.TheVariants.{Event};
+ghost use Rattle.orders_text.specs.declared.lines.HistoryLine.TheVariants.{Event};
 
 use audit::Call;
 use audit_text::reading::{Said, read_declared, read_said};
@@ -15,7 +15,7 @@ use trace_text::{Line, is_printable, read_words};
 
 /// What a line of a history says.
 #[derive(Clone, Copy)]
-pub enum Told {
+pub enum HistoryLine {
     /// A line of an audited text that tells no call.
     Part(Said),
     /// `BEGIN END cC! REQ = REPLY`: a call, and when it was under way.
@@ -102,7 +102,7 @@ fn read_event(line: &[u8]) -> Option<Said>
 
 /// What the line says; `None` where it says nothing that a history may have at any place.
 #[tactic(auto, using(crate::proofs::LineLemmas::dark_none, crate::proofs::LineLemmas::told_none, crate::proofs::LineLemmas::part_some))]
-pub(crate) fn read_told(line: &[u8]) -> Option<Told>
+pub(crate) fn read_told(line: &[u8]) -> Option<HistoryLine>
     ensures some { IfSome result (λ told. Tells told line.now) }
     ensures none { IfNone result ((told : Told) → Tells told line.now → ⊥) }
 {
@@ -110,13 +110,13 @@ pub(crate) fn read_told(line: &[u8]) -> Option<Told>
         return None;
     }
     if let Some(timed) = read_timed(line) {
-        return Some(Told::Timed(timed));
+        return Some(HistoryLine::Timed(timed));
     }
     if let Some(said) = read_declared(line) {
-        return Some(Told::Part(said));
+        return Some(HistoryLine::Part(said));
     }
     match read_event(line) {
-        Some(said) => Some(Told::Event(said)),
+        Some(said) => Some(HistoryLine::Event(said)),
         None => None,
     }
 }

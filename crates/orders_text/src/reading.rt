@@ -7,11 +7,11 @@ ghost use Rattle.orders_text.specs.Lines.{Tells};
 ghost use Rattle.orders_text.specs.Steps.{ComesTo, HasPlaces, SaysNothing, TellsOverlap, read_of};
 
 use crate::apart::find_overlap;
-use crate::clock::{Begun, Clock, between, none_waits};
+use crate::clock::{PendingCall, Clock, between, none_waits};
 use crate::faults::{HistoryFault, LINE_LIMIT};
-use crate::lines::{Told, read_told};
+use crate::lines::{HistoryLine, read_told};
 use audit::Call;
-use audit_text::declaring::{Declaration, Declares};
+use audit_text::declaring::{AuditHead, Declares};
 use audit_text::reading::Said;
 use orders::Timed;
 use std::alloc::{AllocError, Allocator};
@@ -23,11 +23,11 @@ use vm_base::{CoreId, NoMemory, Reply, Request};
 #[derive(Drop)]
 pub struct History<A: Allocator> {
     /// The space and its files.
-    pub declaration: Declaration<A>,
+    pub declaration: AuditHead<A>,
     /// By which clock the calls have their times.
     pub clock: Clock,
     /// The call of each core that waits for its reply, where lines are the clock.
-    pub waiting: Vec<Option<Begun>, A>,
+    pub waiting: Vec<Option<PendingCall>, A>,
     /// The calls that have a reply, with their times, in the order of their lines.
     pub calls: Vec<Timed, A>,
     /// The number of the line of each call: of its reply, where lines are the clock.
@@ -39,7 +39,7 @@ impl<A: Allocator + Clone> History<A> {
     ghost use Rattle.orders_text.specs.History.{begun, by_lines, event_after, may_event, read_after, unread, with_call, with_waiting};
     ghost use Rattle.orders_text.specs.Lines.{needs_space};
     ghost use Rattle.orders_text.specs.Steps.{HasPlaces, Refuses, Unfit, read_of};
-    ghost use Rattle.orders_text.specs.declared.lines.Told.TheVariants.{Event, Part, Timed as TimedCall};
+    ghost use Rattle.orders_text.specs.declared.lines.HistoryLine.TheVariants.{Event, Part, Timed as TimedCall};
 
     // Nothing is read yet, and there is room for so many calls.
     #[tactic(auto, using(crate::proofs::ReadLemmas::none_read))]
@@ -49,7 +49,7 @@ impl<A: Allocator + Clone> History<A> {
         ensures places { IfOk result (λ h. HasPlaces h) }
     {
         Ok(History {
-            declaration: Declaration::new(alloc.clone()?),
+            declaration: AuditHead::new(alloc.clone()?),
             clock: Clock::Unset,
             waiting: none_waits(alloc.clone()?)?,
             calls: Vec::with_capacity(alloc.clone()?, room)?,
@@ -162,7 +162,7 @@ impl<A: Allocator + Clone> History<A> {
     }
 
     // The call of a core that waits.
-    fn begun(&self, core: CoreId) -> Option<Begun>
+    fn begun(&self, core: CoreId) -> Option<PendingCall>
         requires { HasPlaces self.now }
         ensures { result ≡ begun (read_of self.now) core }
     {
@@ -170,7 +170,7 @@ impl<A: Allocator + Clone> History<A> {
     }
 
     // Takes in which call of a core waits, if one does.
-    fn put(&mut self, core: CoreId, waits: Option<Begun>)
+    fn put(&mut self, core: CoreId, waits: Option<PendingCall>)
         requires places { HasPlaces self.old }
         ensures read { read_of self.new ≡ with_waiting (read_of self.old) core waits }
         ensures files { self.new.declaration ≡ self.old.declaration }
@@ -218,7 +218,7 @@ impl<A: Allocator + Clone> History<A> {
         }
         self.put(
             core,
-            Some(Begun {
+            Some(PendingCall {
                 line: number,
                 request,
             }),
@@ -312,7 +312,7 @@ impl<A: Allocator + Clone> History<A> {
     }
 
     // Takes in what the line with this number says.
-    fn add(&mut self, alloc: &A, number: u64, told: &Told) -> Result<(), HistoryFault>
+    fn add(&mut self, alloc: &A, number: u64, told: &HistoryLine) -> Result<(), HistoryFault>
         requires few { length self.old.declaration.files.items ≤ 16 }
         requires places { HasPlaces self.old }
         ensures ok { OnOk result (read_after number (read_of self.old) told.now ≡ Some (read_of self.new)) }
@@ -321,9 +321,9 @@ impl<A: Allocator + Clone> History<A> {
         ensures places { HasPlaces self.new }
     {
         match told {
-            Told::Part(said) => self.add_part(alloc, number, said),
-            Told::Timed(timed) => self.add_call(number, *timed),
-            Told::Event(said) => self.add_event(number, said),
+            HistoryLine::Part(said) => self.add_part(alloc, number, said),
+            HistoryLine::Timed(timed) => self.add_call(number, *timed),
+            HistoryLine::Event(said) => self.add_event(number, said),
         }
     }
 }
@@ -347,7 +347,7 @@ fn is_blank(said: &Said) -> bool
 }
 
 // What the line says, which has this number. The fault is its own.
-fn told_at(line: &[u8], number: u64) -> Result<Told, HistoryFault>
+fn told_at(line: &[u8], number: u64) -> Result<HistoryLine, HistoryFault>
     ensures ok { IfOk result (λ told. (length line.now ≤ 512) × Tells told line.now) }
     ensures err { IfErr result (λ f. SaysNothing line.now number f) }
 {

@@ -3,7 +3,7 @@ ghost use Rattle.std.specs.Prelude.{◌≡◌, ◌<◌, ◌++◌, IfOk, OnOk};
 ghost use Rattle.orders_text.specs.History.{completed, left_open, replies_in};
 ghost use Rattle.orders_text.specs.Steps.{HasPlaces, read_of};
 
-use crate::clock::{Begun, between};
+use crate::clock::{PendingCall, between};
 use crate::reading::History;
 use audit::Call;
 use orders::Timed;
@@ -30,7 +30,7 @@ fn reply_of(replies: &[Reply], core: usize) -> Reply
 fn push_open<A: Allocator>(
     calls: &mut Vec<Timed, A>,
     core: usize,
-    waits: Option<Begun>,
+    waits: Option<PendingCall>,
     reply: Reply,
 ) -> Result<(), NoMemory>
     requires { core < 64 }

@@ -12,7 +12,7 @@ use Rattle.orders.specs.declared.history.Item.{Item}
 use Rattle.orders.specs.declared.history.Timed.{Timed}
 use Rattle.orders.specs.Orders.{HasOrder, IsOrder}
 use Rattle.orders_text.specs.History.{IsHistory, Read, all_open, completed, replies_in}
-use Rattle.orders_text.specs.declared.clock.Begun.{Begun}
+use Rattle.orders_text.specs.declared.clock.PendingCall.{PendingCall}
 use Rattle.orders_text.specs.Steps.{read_of}
 use Rattle.orders_text.specs.declared.reading.History.{History}
 use Rattle.cores.specs.Shown.{IsShown}
@@ -43,7 +43,7 @@ order_there history any_place calls all items g h = record {
       (subst (λ (p : Plain). IsOrder (rule_of any_place) p calls items) (ap nothing_mapped (same_files history.declaration.files.items)) h);
 }
 
-pub none_open : (replies : ℕ → Reply) (core : ℕ) (waiting : List (Option Begun)) → NoneWaits waiting → all_open replies core waiting ≡ []
+pub none_open : (replies : ℕ → Reply) (core : ℕ) (waiting : List (Option PendingCall)) → NoneWaits waiting → all_open replies core waiting ≡ []
 none_open replies core [] none = refl
 none_open replies core (None ∷ bs) none = none_open replies (core + 1) bs (λ k l. none (suc k) (omega (arith, l)))
 none_open replies core (Some b ∷ bs) none = let amiss : true ≡ false = none zero (omega arith) in absurd cc

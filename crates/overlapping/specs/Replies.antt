@@ -13,7 +13,7 @@ use Rattle.audit_text.specs.Legal.{IsIllegal, first_map}
 use Rattle.audit_text.specs.declared.allowing.Terms.{Terms}
 use Rattle.audit_text.specs.declared.input.AuditFault.{AuditFault}
 use Rattle.audit_text.specs.declared.input.AuditFault.TheVariants.{Io}
-use Rattle.audit_text.specs.declared.item.Item.{Item}
+use Rattle.audit_text.specs.declared.item.AuditItem.{AuditItem}
 use Rattle.audit_text.specs.declared.judging.Verdict.{Verdict}
 use Rattle.audit_text.specs.declared.judging.Verdict.TheVariants.{Legal, Illegal, Undecided}
 use Rattle.orders.specs.declared.history.Timed.{Timed}
@@ -48,7 +48,7 @@ pub record HasAnother (terms : Terms) (lines : List (List ℕ)) (counts : Counts
 -- In the order of the lines a reply may not be, or a copy, but that isn't certain.
 pub record IsUndecided (terms : Terms) (lines : List (List ℕ)) : Type 0 where
   pub line : ℕ
-  pub item : Item
+  pub item : AuditItem
   pub due : Option Reply
   pub around : List MapLine
   pub is : IsIllegal terms lines line item due false around

@@ -7,7 +7,7 @@ ghost use Rattle.overlapping.specs.Waiting.{NoneWaits};
 use frames::{FileSpec, Objects};
 use order_search::{Found, find_order};
 use orders::Item;
-use orders_text::clock::Begun;
+use orders_text::clock::PendingCall;
 use orders_text::{History, completed};
 use std::alloc::Allocator;
 use vm_base::{CoreSet, NoMemory, Reply, Request};
@@ -101,7 +101,7 @@ fn lose(replies: &mut [Reply], lost: CoreSet) {
 }
 
 /// A core whose call waits at a history's end, if there is one.
-pub(crate) fn waiting_core(waiting: &[Option<Begun>]) -> Option<usize>
+pub(crate) fn waiting_core(waiting: &[Option<PendingCall>]) -> Option<usize>
     ensures { IfNone result (NoneWaits waiting.now) }
 {
     'cores: for core in 0..waiting.len() {

@@ -1,5 +1,12 @@
-//! The judgement of a history of calls that overlap: it is legal where an order of its calls is found, or given, and checked. So is that
-//! of a text's replies, after calls that overlap.
+//! The judgement of overlapping calls, by an order that is found or given, and checked.
+//!
+//! - `judging` (`judge_text`): a history; `overlapping`: read whole and told; `found`, `given`, `order_text`: where
+//!   an order comes from.
+//! - `auditing` (`audit_text`), `replies`: a text of replies, in the order of its lines or in another; `story`: a
+//!   history as a text.
+//!
+//! It exists for `judging::judge_text`, clause `ok`, and `auditing::audit_text`, clause `ends`: `legal` and `no
+//! order` go out only where they hold.
 #![tactic(auto)]
 
 pub mod auditing;

@@ -13,7 +13,7 @@ use Rattle.orders.specs.declared.history.Timed.{Timed}
 use Rattle.orders.specs.Orders.{HasOrder, IsOrder}
 use Rattle.orders_text.specs.History.{IsHistory, Read, all_open, completed, replies_in}
 use Rattle.orders_text.specs.Steps.{read_of}
-use Rattle.orders_text.specs.declared.clock.Begun.{Begun}
+use Rattle.orders_text.specs.declared.clock.PendingCall.{PendingCall}
 use Rattle.orders_text.specs.declared.reading.History.{History}
 use Rattle.overlapping.specs.Waiting.{NoneWaits}
 use Rattle.overlapping.proofs.RuleLemmas.{none_open}
@@ -148,14 +148,14 @@ legal_bare any_place lines history replies parts all files told n e count f same
 
 -- ---- replies of calls that wait
 
-pub pushed_effects : (a b c : List Reply) (take_effect : Bool) (waiting rest : List (Option Begun)) (w : Option Begun) → waiting ≡ w ∷ rest
+pub pushed_effects : (a b c : List Reply) (take_effect : Bool) (waiting rest : List (Option PendingCall)) (w : Option PendingCall) → waiting ≡ w ∷ rest
     → b ≡ a ++ waiting_reply take_effect w ∷ [] → c ≡ b ++ map (waiting_reply take_effect) rest → c ≡ a ++ map (waiting_reply take_effect) waiting
 pushed_effects a b c take_effect waiting rest w e f g =
     g ∙ (ap (λ (x : List Reply). x ++ map (waiting_reply take_effect) rest) f
     ∙ (append_assoc a (waiting_reply take_effect w ∷ []) (map (waiting_reply take_effect) rest)
-    ∙ ap (λ (xs : List (Option Begun)). a ++ map (waiting_reply take_effect) xs) (sym e)))
+    ∙ ap (λ (xs : List (Option PendingCall)). a ++ map (waiting_reply take_effect) xs) (sym e)))
 
-pub pushed_none : (a : List Reply) (take_effect : Bool) (waiting : List (Option Begun)) → waiting ≡ []
+pub pushed_none : (a : List Reply) (take_effect : Bool) (waiting : List (Option PendingCall)) → waiting ≡ []
     → a ≡ a ++ map (waiting_reply take_effect) waiting
 pushed_none a take_effect waiting e =
-    sym (ap (λ (xs : List (Option Begun)). a ++ map (waiting_reply take_effect) xs) e ∙ append-nil a)
+    sym (ap (λ (xs : List (Option PendingCall)). a ++ map (waiting_reply take_effect) xs) e ∙ append-nil a)

@@ -24,7 +24,7 @@ use frames::FileSpec;
 use orders::{Part, chosen, split};
 use no_order::files_again;
 use orders::{Item, Timed, follow};
-use orders_text::clock::Begun;
+use orders_text::clock::PendingCall;
 use orders_text::{History, HistoryFault, completed, read_history};
 use overlapping::{Ruled, Ruling, Shown, Told, bare};
 use slot_lock::SlotMap;
@@ -41,7 +41,7 @@ struct Tried<A: Allocator> {
 }
 
 /// Tells whether no core's call waits.
-pub fn none_waits(waiting: &[Option<Begun>]) -> bool
+pub fn none_waits(waiting: &[Option<PendingCall>]) -> bool
     ensures { result ≡ true → NoneWaits waiting.now }
 {
     'cores: for core in 0..waiting.len() {
@@ -64,7 +64,7 @@ fn effect_of(request: Request) -> Reply
 }
 
 // The reply of a core's call, if it waits.
-fn waiting_reply(take_effect: bool, waits: Option<Begun>) -> Reply
+fn waiting_reply(take_effect: bool, waits: Option<PendingCall>) -> Reply
     ensures { result ≡ waiting_reply take_effect waits }
 {
     match waits {
@@ -77,7 +77,7 @@ fn waiting_reply(take_effect: bool, waits: Option<Begun>) -> Reply
 #[tactic(auto, using(crate::proofs::RuleLemmas::pushed_effects, crate::proofs::RuleLemmas::pushed_none))]
 fn push_effects<A: Allocator>(
     replies: &mut Vec<Reply, A>,
-    waiting: &[Option<Begun>],
+    waiting: &[Option<PendingCall>],
     take_effect: bool,
 ) -> Result<(), NoMemory>
     ensures { OnOk result (replies.new.items ≡ replies.old.items ++ map (waiting_reply take_effect) waiting.now) }
@@ -92,7 +92,7 @@ fn push_effects<A: Allocator>(
 /// The replies of the cores' calls that wait, if they take effect, and else that they found no memory.
 pub fn effects<A: Allocator + Clone + Drop>(
     alloc: &A,
-    waiting: &[Option<Begun>],
+    waiting: &[Option<PendingCall>],
     take_effect: bool,
 ) -> Result<Vec<Reply, A>, NoMemory>
     ensures { IfOk result (λ replies. replies.items ≡ map (waiting_reply take_effect) waiting.now) }

@@ -1,4 +1,13 @@
-//! The judgement of a history by pages: it is legal where an order is found of the calls of its pages, and checked.
+//! The judgement of a history by pages.
+//!
+//! It is legal where an order of the calls of its pages is found and checked.
+//!
+//! - `judging` (`judge_pages`): the ruling; `paging`: a text read whole; `explaining`, `order_text`: what is told of
+//!   it.
+//! - `joining`: which pages belong together; `found`, `wholes`, `choices`: where orders come from; `showing`: that
+//!   there is none.
+//!
+//! It exists for `judging::judge_pages`, clause `ok`.
 #![tactic(auto)]
 
 mod choices;

@@ -4,8 +4,8 @@ use Rattle.vm_base.specs.declared.info.Back.{Back}
 use Rattle.vm_base.specs.declared.info.Back.TheVariants.{Anon, Shared, Private}
 use Rattle.vm_base.specs.declared.info.PageInfo.{PageInfo}
 use Rattle.vm_base.specs.Info.{info_from, is_leaf}
-use Rattle.radix_node.specs.declared.state.Kind.{Kind}
-use Rattle.radix_node.specs.declared.state.Kind.TheVariants.{Unmapped, Zeros, OfFile, Copies}
+use Rattle.radix_node.specs.declared.state.BackKind.{BackKind}
+use Rattle.radix_node.specs.declared.state.BackKind.TheVariants.{Unmapped, Zeros, OfFile, Copies}
 use Rattle.radix_node.specs.declared.state.SlotState.{SlotState}
 
 -- what the first page has, and the core that holds the slot
@@ -14,7 +14,7 @@ pub record State : Type 0 where
   pub owner : Option ℕ
 
 -- what backs a page, by its kind, a file and a page of the file
-abbrev pub backing_of : Kind → ℕ → ℕ → Option Back
+abbrev pub backing_of : BackKind → ℕ → ℕ → Option Back
 backing_of Unmapped file page = None
 backing_of Zeros file page = Some Anon
 backing_of OfFile file page = Some (Shared file page)

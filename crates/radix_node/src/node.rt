@@ -54,7 +54,7 @@ impl<A: Allocator> Model for Node<A> {
 
 /// The slot that has a page.
 #[derive(Clone, Copy)]
-pub struct Found<'a> {
+pub struct FoundSlot<'a> {
     /// What the slot says of its first page.
     pub state: &'a SlotState,
     /// How many of the slot's pages lie before the page.
@@ -81,7 +81,7 @@ impl<A: Allocator> Node<A> {
     }
 
     /// The slot that has the page, which is counted from the node's first.
-    pub fn descend(&self, page: u64) -> Found<'_>
+    pub fn descend(&self, page: u64) -> FoundSlot<'_>
         requires { page < 512 * width_of self.now.level }
         ensures state { state_of result.state.now ≡ (cell_at (runs self.now) page).state }
         ensures offset { result.offset ≡ (cell_at (runs self.now) page).offset }
@@ -93,7 +93,7 @@ impl<A: Allocator> Node<A> {
             let place = place_of(node.level, rest);
             match &node.slots[place.slot] {
                 Slot::Own(state) => {
-                    return Found {
+                    return FoundSlot {
                         state,
                         offset: place.rest,
                         width: slot_pages(node.level),

@@ -7,7 +7,7 @@ pub const SLOTS: usize = 512;
 
 /// The slot of a node that has a page, and how many of the slot's pages lie before that page.
 #[derive(Clone, Copy)]
-pub struct Place {
+pub struct SlotPlace {
     pub slot: usize,
     pub rest: u64,
 }
@@ -23,7 +23,7 @@ pub fn slot_pages(level: u8) -> u64
 
 /// The place of a page in a node of the level, whose pages are counted from 0.
 #[inline(always)]
-pub(crate) fn place_of(level: u8, page: u64) -> Place
+pub(crate) fn place_of(level: u8, page: u64) -> SlotPlace
     requires level { level ≤ 3 }
     requires within { page < 512 * width_of level }
     ensures slot { result.slot < 512 }
@@ -32,7 +32,7 @@ pub(crate) fn place_of(level: u8, page: u64) -> Place
 {
     let width = slot_pages(level);
     let slot = page / width;
-    Place {
+    SlotPlace {
         slot: slot as usize,
         rest: page - slot * width,
     }
@@ -66,14 +66,14 @@ pub(crate) fn slots_of(level: u8, first: u64, end: u64) -> SlotSpan
 
 /// Pages of a slot, counted from the slot's first.
 #[derive(Clone, Copy)]
-pub struct Part {
+pub struct SlotPart {
     pub first: u64,
     pub end: u64,
 }
 
 /// The pages from `first` up to `end` that a slot of so many pages has which begins at `start`.
 #[inline(always)]
-pub(crate) fn part_in(first: u64, end: u64, start: u64, width: u64) -> Part
+pub(crate) fn part_in(first: u64, end: u64, start: u64, width: u64) -> SlotPart
     requires some { first < end }
     requires starts { start < end }
     requires ends { first < start + width }
@@ -84,7 +84,7 @@ pub(crate) fn part_in(first: u64, end: u64, start: u64, width: u64) -> Part
     ensures some { result.first < result.end }
     ensures within { result.end ≤ width }
 {
-    Part {
+    SlotPart {
         first: first.max(start) - start,
         end: end.min(start + width) - start,
     }

@@ -13,7 +13,7 @@ use vm_base::{Back, CoreId, CoreSet, Meta, PageInfo, Prot, goes_on, info_from, i
 
 /// What backs the pages of a slot.
 #[derive(Clone, Copy)]
-pub enum Kind {
+pub enum BackKind {
     /// Nothing is mapped.
     Unmapped,
     /// Zero bytes.
@@ -35,20 +35,20 @@ pub struct SlotState {
     file: u32,
     frame: u32,
     has_frame: bool,
-    kind: Kind,
+    kind: BackKind,
     prot: Prot,
     owner: Option<CoreId>,
 }
 
 // A backing as its kind, the file, and the page in it.
-fn parts_of(back: Back) -> (Kind, u32, u64)
+fn parts_of(back: Back) -> (BackKind, u32, u64)
     ensures back { backing_of result.0 result.1 result.2 ≡ Some back }
     ensures page { result.2 ≡ file_page back }
 {
     match back {
-        Back::Anon => (Kind::Zeros, 0, 0),
-        Back::Shared { file, page } => (Kind::OfFile, file, page),
-        Back::Private { file, page } => (Kind::Copies, file, page),
+        Back::Anon => (BackKind::Zeros, 0, 0),
+        Back::Shared { file, page } => (BackKind::OfFile, file, page),
+        Back::Private { file, page } => (BackKind::Copies, file, page),
     }
 }
 
@@ -73,7 +73,7 @@ impl SlotState {
             file: 0,
             frame: 0,
             has_frame: false,
-            kind: Kind::Unmapped,
+            kind: BackKind::Unmapped,
             prot: Prot {
                 read: false,
                 write: false,
@@ -110,13 +110,13 @@ impl SlotState {
         ensures { result ≡ backing_of self.now.kind self.now.file self.now.file_page }
     {
         match self.kind {
-            Kind::Unmapped => None,
-            Kind::Zeros => Some(Back::Anon),
-            Kind::OfFile => Some(Back::Shared {
+            BackKind::Unmapped => None,
+            BackKind::Zeros => Some(Back::Anon),
+            BackKind::OfFile => Some(Back::Shared {
                 file: self.file,
                 page: self.file_page,
             }),
-            Kind::Copies => Some(Back::Private {
+            BackKind::Copies => Some(Back::Private {
                 file: self.file,
                 page: self.file_page,
             }),
@@ -179,7 +179,7 @@ impl SlotState {
     pub(crate) fn clear(&mut self)
         ensures { state_of self.new ≡ record { info = None; owner = (state_of self.old).owner } }
     {
-        self.kind = Kind::Unmapped;
+        self.kind = BackKind::Unmapped;
     }
 
     // Gives the slot's pages this protection, and no recorded core.
@@ -210,7 +210,7 @@ impl SlotState {
         ensures { members result ≡ is_recorded (state_of self.now).info }
     {
         match self.kind {
-            Kind::Unmapped => CoreSet::empty(),
+            BackKind::Unmapped => CoreSet::empty(),
             _ => self.cores,
         }
     }
@@ -230,14 +230,14 @@ impl SlotState {
     pub fn is_shared(&self) -> bool
         ensures { result ≡ is_shared (state_of self.now).info }
     {
-        matches!(self.kind, Kind::OfFile)
+        matches!(self.kind, BackKind::OfFile)
     }
 
     /// Tells whether a page of the slot is mapped.
     pub fn is_mapped(&self) -> bool
         ensures { result ≡ is_some (state_of self.now).info }
     {
-        !matches!(self.kind, Kind::Unmapped)
+        !matches!(self.kind, BackKind::Unmapped)
     }
 
     /// What the slot says `by` pages on, as a slot of its own.

@@ -1,4 +1,6 @@
-//! The program: its words, over standard input and output, are those of `command_line`.
+//! The program: `command_line` over standard input and output.
+//!
+//! It opens the streams, and knows nothing else.
 #![tactic(auto)]
 
 use command_line::command::{WordsFault, program, refuse_words};
@@ -6,7 +8,7 @@ use command_line::terminals::Terminals;
 use live_script::OnThreads;
 use std::io::{BufWriter, IsTerminal};
 use std::process::ExitCode;
-use trace_io::sink::Noted;
+use trace_io::sink::TrackedSink;
 
 fn main(rt: HostRuntime) -> ExitCode {
     let alloc = rt.alloc();
@@ -14,7 +16,7 @@ fn main(rt: HostRuntime) -> ExitCode {
     let Ok(buffer) = BufWriter::new(alloc, rt.stdout()) else {
         return ExitCode::from(refuse_words(WordsFault::NoMemory, &mut errors));
     };
-    let mut out = Noted::new(buffer);
+    let mut out = TrackedSink::new(buffer);
     let terminals = Terminals {
         input: rt.stdin().is_terminal(),
         output: rt.stdout().is_terminal(),

@@ -15,13 +15,13 @@ use Rattle.core_steps.specs.declared.machine.Finished.{Finished}
 use Rattle.core_steps.specs.declared.machine.Finished.TheVariants.{Last, Stuck}
 use Rattle.machine_model.specs.declared.setup.SetupFault.TheVariants as Fault
 use Rattle.coded.specs.declared.codes.RawOutcome.{RawOutcome}
-use Rattle.coded.specs.declared.codes.Item.{Item}
-use Rattle.coded.specs.declared.codes.Item.TheVariants as To
+use Rattle.coded.specs.declared.codes.BatchItem.{BatchItem}
+use Rattle.coded.specs.declared.codes.BatchItem.TheVariants as To
 use Rattle.coded.specs.declared.logs.RawEntry.{RawEntry}
-use Rattle.coded.specs.declared.batch.Ended.{Ended}
+use Rattle.coded.specs.declared.batch.BatchEnd.{BatchEnd}
 use Rattle.coded.specs.declared.batch.Done.{Done}
-use Rattle.coded.specs.declared.batch.Stop.{Stop}
-use Rattle.coded.specs.declared.batch.Stop.TheVariants.{BadEvent, NoMemory}
+use Rattle.coded.specs.declared.batch.BatchStop.{BatchStop}
+use Rattle.coded.specs.declared.batch.BatchStop.TheVariants.{BadEvent, NoMemory}
 use Rattle.coded.specs.declared.opening.Refusal.{Refusal}
 use Rattle.coded.specs.declared.opening.Refusal.TheVariants as No
 use Rattle.coded.specs.Bits.{prot_of, flags_of, bits_of_prot, bits_of_flags}
@@ -93,7 +93,7 @@ event_read (Ev.Review core) h b = rw (core_read core h) refl
 event_read (Ev.Fold page) h b = refl
 event_read (Ev.GiveUp core) h b = rw (core_read core h) refl
 
-pub item_read : (i : Item) → IsSound i → item_of (item_code i) ≡ Some i
+pub item_read : (i : BatchItem) → IsSound i → item_of (item_code i) ≡ Some i
 item_read (To.Call core (Asks.Mmap addr len prot flags file off)) h = rw (core_read core h.0, prot_read prot, flags_read flags) refl
 item_read (To.Call core (Asks.Munmap addr len)) h = rw (core_read core h.0) refl
 item_read (To.Call core (Asks.Mprotect addr len prot)) h = rw (core_read core h.0, prot_read prot) refl
@@ -184,7 +184,7 @@ entries_apart requests d e same = sym (entry_read requests d) ∙ ap entry_in sa
 
 -- ---- ends
 
-abbrev end_in : Done → Result Ended Refusal
+abbrev end_in : Done → Result BatchEnd Refusal
 end_in d =
     if d.status == 0 then Ok (record { stop = None; count = d.count })
     else if d.status == 1 then Ok (record { stop = Some BadEvent; count = d.count })
@@ -202,12 +202,12 @@ end_in d =
     else if d.status == 15 then Err (No.Setup Fault.Calls)
     else Err (No.Setup Fault.NoMemory)
 
-ended_read : (stop : Option Stop) (count : ℕ) → end_in (done_of (Ok (record { stop = stop; count = count }))) ≡ Ok (record { stop = stop; count = count })
+ended_read : (stop : Option BatchStop) (count : ℕ) → end_in (done_of (Ok (record { stop = stop; count = count }))) ≡ Ok (record { stop = stop; count = count })
 ended_read None count = refl
 ended_read (Some BadEvent) count = refl
 ended_read (Some NoMemory) count = refl
 
-end_read : (r : Result Ended Refusal) → end_in (done_of r) ≡ r
+end_read : (r : Result BatchEnd Refusal) → end_in (done_of r) ≡ r
 end_read (Ok ended) = ended_read ended.stop ended.count
 end_read (Err No.NoRoom) = refl
 end_read (Err No.TooLong) = refl
@@ -222,5 +222,5 @@ end_read (Err (No.Setup Fault.FileTooLong)) = refl
 end_read (Err (No.Setup Fault.Calls)) = refl
 end_read (Err (No.Setup Fault.NoMemory)) = refl
 
-pub ends_apart : (r s : Result Ended Refusal) → done_of r ≡ done_of s → r ≡ s
+pub ends_apart : (r s : Result BatchEnd Refusal) → done_of r ≡ done_of s → r ≡ s
 ends_apart r s e = sym (end_read r) ∙ ap end_in e ∙ end_read s

@@ -14,8 +14,8 @@ use Rattle.core_steps.proofs.engine.Engine.TheSendSync as core_steps_engine
 use Rattle.core_steps.proofs.engine.calls.CallTable.TheSendSync as core_steps_calltable
 use Rattle.core_steps.proofs.engine.cores.Cores.TheSendSync as core_steps_cores
 use Rattle.machine_log.proofs.ledger.entries.KeptEntries.TheSendSync as core_steps_keptentries
-use Rattle.machine_log.proofs.ledger.forgotten.Forgotten.TheSendSync as core_steps_forgotten
-use Rattle.machine_log.proofs.ledger.kept.Kept.TheSendSync as core_steps_kept
+use Rattle.machine_log.proofs.ledger.forgotten.KeepsNone.TheSendSync as core_steps_forgotten
+use Rattle.machine_log.proofs.ledger.kept.KeepsAll.TheSendSync as core_steps_kept
 use Rattle.core_steps.proofs.machine.Machine.TheSendSync as core_steps_machine
 use Rattle.frames.proofs.byte_store.ByteStore.TheSendSync as frames_bytestore
 use Rattle.frames.proofs.frames.Frames.TheSendSync as frames_frames
@@ -28,14 +28,14 @@ use Rattle.mmu.proofs.level.Inner.TheSendSync as mmu_inner
 use Rattle.mmu.proofs.level.Leaf.TheSendSync as mmu_leaf
 use Rattle.mmu.proofs.tlb.Tlb.TheSendSync as mmu_tlb
 use Rattle.mmu.proofs.tlb.TlbEntry.TheSendSync as mmu_tlbentry
-use Rattle.radix_node.proofs.state.Kind.TheSendSync as radix_node_kind
+use Rattle.radix_node.proofs.state.BackKind.TheSendSync as radix_node_kind
 use Rattle.radix_node.proofs.state.SlotState.TheSendSync as radix_node_slotstate
 use Rattle.radix_range.proofs.tight.Tight.TheSendSync as radix_range_tight
 use Rattle.refcache.proofs.core_counts.CoreCounts.TheSendSync as refcache_corecounts
 use Rattle.refcache.proofs.epochs.Epochs.TheSendSync as refcache_epochs
 use Rattle.refcache.proofs.object_count.ObjectCount.TheSendSync as refcache_objectcount
 use Rattle.refcache.proofs.place_set.PlaceSet.TheSendSync as refcache_placeset
-use Rattle.refcache.proofs.places.Entry.TheSendSync as refcache_entry
+use Rattle.refcache.proofs.places.Delta.TheSendSync as refcache_entry
 use Rattle.refcache.proofs.reports.Queued.TheSendSync as refcache_queued
 use Rattle.refcache.proofs.table.CountTable.TheSendSync as refcache_counttable
 use Rattle.refcache.proofs.whole.Refcache.TheSendSync as refcache_refcache
@@ -63,12 +63,12 @@ use Rattle.vm_base.proofs.rights.Access.TheSendSync as vm_base_access
 use Rattle.vm_base.proofs.rights.Mode.TheSendSync as vm_base_mode
 use Rattle.vm_base.proofs.rights.Prot.TheSendSync as vm_base_prot
 use Rattle.radix_node.proofs.node.Node.TheLaws.TheKnot as knot
-use Rattle.shared.proofs.space.Space.TheSendSync as shared_space
-use Rattle.shared.proofs.space.Core.TheSendSync as shared_core
+use Rattle.shared.proofs.space.SharedMachine.TheSendSync as shared_space
+use Rattle.shared.proofs.space.CoreSeat.TheSendSync as shared_core
 use Rattle.shared.proofs.space.Known.TheSendSync as shared_known
-use Rattle.coded.specs.contracts.held.Held as held
+use Rattle.coded.specs.contracts.held.AnyMachine as held
 use Rattle.radixvm_c.specs.contracts.placed.Placed as placed
-use Rattle.radixvm_c.specs.contracts.chair.Seat as seat
+use Rattle.radixvm_c.specs.contracts.chair.HeldSeat as seat
 use Rattle.radixvm_c.specs.contracts.chair.Chair as chair
 
 ruleset parts = (

@@ -37,7 +37,7 @@ use Rattle.std.specs.contracts.alloc.Global as heap
 use Rattle.std.proofs.alloc.Global.TheLaws as heap_laws
 use Rattle.std.proofs.GlobalToken.{dealloc_token-Testable}
 use Rattle.radixvm_c.specs.Behind.{held_at}
-use Rattle.coded.specs.contracts.held.Held as vm
+use Rattle.coded.specs.contracts.held.AnyMachine as vm
 use Rattle.radixvm_c.specs.contracts.loose.Loose as loose
 use Rattle.radixvm_c.specs.contracts.handle.Handle as handle
 

@@ -5,13 +5,13 @@ use denote.RawPtr.{Ptr, null_ptr}
 use Rattle.std.specs.Box.Ownership.{box_owns}
 use Rattle.std.specs.declared.alloc.Global.{Global}
 use Rattle.std.specs.contracts.impls.GlobalAllocator.TheImpl.{ghosts}
-use Rattle.coded.specs.declared.held.Held.{Held}
+use Rattle.coded.specs.declared.held.AnyMachine.{AnyMachine}
 use Rattle.radixvm_c.specs.declared.chair.Chair.{Chair}
-use Rattle.coded.specs.contracts.held.Held.{the_row}
+use Rattle.coded.specs.contracts.held.AnyMachine.{the_row}
 use Rattle.radixvm_c.specs.contracts.chair.Chair.{the_row as chair_row}
 
 -- the pointer is null, or the machine lies there, in a block that may be freed
-abbrev pub held_at : Global → Ptr → Option Held → Fml
+abbrev pub held_at : Global → Ptr → Option AnyMachine → Fml
 held_at alloc p None = feq Ptr p null_ptr
 held_at alloc p (Some x) = box_owns (ghosts.dealloc_token alloc) the_row p x
 

@@ -1,21 +1,21 @@
 -- What a handle lends
 use Rattle.std.specs.Prelude.{Some}
 use Rattle.std.specs.Borrow.{Lends, MutBor, Fml}
-use Rattle.coded.specs.declared.held.Held.{Held}
+use Rattle.coded.specs.declared.held.AnyMachine.{AnyMachine}
 use Rattle.radixvm_c.specs.declared.handle.Handle.{Handle}
 use Rattle.radixvm_c.specs.declared.chair.Chair.{Chair}
 use Rattle.radixvm_c.specs.declared.chair_handle.ChairHandle.{ChairHandle}
 use Rattle.radixvm_c.specs.contracts.chair.Chair.{the_row as chair_row}
 use Rattle.radixvm_c.specs.contracts.chair_handle.ChairHandle.{the_row as chair_handle_row}
-use Rattle.coded.specs.contracts.held.Held.{the_row as held_row}
+use Rattle.coded.specs.contracts.held.AnyMachine.{the_row as held_row}
 use Rattle.radixvm_c.specs.contracts.handle.Handle.{the_row}
 
 -- the handle with another machine at the same place
-abbrev pub with_value : Handle → Held → Handle
+abbrev pub with_value : Handle → AnyMachine → Handle
 with_value h x = record h { value = Some x }
 
 -- once the borrow ends, the handle has the last machine behind r
-abbrev pub LendsHeld : MutBor Handle → MutBor Held → Fml
+abbrev pub LendsHeld : MutBor Handle → MutBor AnyMachine → Fml
 LendsHeld h r = Lends the_row held_row h r (with_value h.now)
 
 -- likewise of a seat

@@ -12,11 +12,11 @@ use Rattle.machine_model.specs.declared.event.Event.TheVariants as Ev
 use Rattle.machine_model.specs.Events.{core_of as core_that_takes}
 use Rattle.core_steps.specs.declared.machine.Finished.{Finished}
 use Rattle.coded.specs.declared.codes.RawEvent.{RawEvent}
-use Rattle.coded.specs.declared.codes.Item.{Item}
-use Rattle.coded.specs.declared.codes.Item.TheVariants as To
-use Rattle.coded.specs.declared.batch.Ended.{Ended}
+use Rattle.coded.specs.declared.codes.BatchItem.{BatchItem}
+use Rattle.coded.specs.declared.codes.BatchItem.TheVariants as To
+use Rattle.coded.specs.declared.batch.BatchEnd.{BatchEnd}
 use Rattle.coded.specs.declared.opening.Refusal.{Refusal}
-use Rattle.coded.specs.declared.held.Held.{Held}
+use Rattle.coded.specs.declared.held.AnyMachine.{AnyMachine}
 use Rattle.core_steps.specs.Machine.{IsLegal}
 use Rattle.coded.specs.Codes.{of_core, of_place, call_code, begin, event_of, item_of, finished_code}
 use Rattle.coded.specs.Holding.{held_state}
@@ -40,7 +40,7 @@ event_code (Ev.Fold page) = of_place 16 0 page
 event_code (Ev.GiveUp core) = of_core 17 core
 
 -- a call is whole where its kind is all that is written
-abbrev pub item_code : Item → RawEvent
+abbrev pub item_code : BatchItem → RawEvent
 item_code (To.Call core request) = call_code core request
 item_code (To.Finish core) = of_core 18 core
 item_code (To.Step event) =
@@ -60,7 +60,7 @@ HasByte (Ev.Call core request) = IsByte request
 HasByte _ = Unit {0}
 
 -- an item that C can write: of 64 cores and bytes below 256
-abbrev pub IsSound : Item → Type 0
+abbrev pub IsSound : BatchItem → Type 0
 IsSound (To.Call core request) = (core < 64) × IsByte request
 IsSound (To.Finish core) = core < 64
 IsSound (To.Step event) = IsCore (core_that_takes event) × HasByte event
@@ -71,7 +71,7 @@ AllEventsHaveCodes =
     (e : Event) → IsCore (core_that_takes e) → HasByte e → event_of (event_code e) ≡ Some e
 
 abbrev pub AllItemsHaveCodes : Type 0
-AllItemsHaveCodes = (i : Item) → IsSound i → item_of (item_code i) ≡ Some i
+AllItemsHaveCodes = (i : BatchItem) → IsSound i → item_of (item_code i) ≡ Some i
 
 -- ---- what C reads
 
@@ -85,12 +85,12 @@ AllEntriesDiffer =
 
 -- the number of taken events is told beside the code of each end
 abbrev pub AllEndsDiffer : Type 0
-AllEndsDiffer = (r s : Result Ended Refusal) → done_of r ≡ done_of s → r ≡ s
+AllEndsDiffer = (r s : Result BatchEnd Refusal) → done_of r ≡ done_of s → r ≡ s
 
 -- ---- what a handle has
 
 abbrev pub AllHeldAreLegal : Type 0
-AllHeldAreLegal = (held : Held) → IsLegal (held_state held).world
+AllHeldAreLegal = (held : AnyMachine) → IsLegal (held_state held).world
 
 -- each answer of its log is of a call whose request is known, so that it is told
 abbrev pub AllAnswersHaveRequests : Type 0

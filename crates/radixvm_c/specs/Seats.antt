@@ -10,18 +10,18 @@ use Rattle.shared.specs.declared.space.Passed.{Passed}
 use Rattle.shared.specs.declared.space.Passed.TheVariants as Past
 use Rattle.shared.specs.declared.space.Calls.{Calls}
 use Rattle.shared.specs.declared.space.Calls.TheVariants as Lists
-use Rattle.shared.specs.declared.space.Refusal.{Refusal as NotShared}
-use Rattle.shared.specs.declared.space.Refusal.TheVariants as Why
+use Rattle.shared.specs.declared.space.ShareFault.{ShareFault}
+use Rattle.shared.specs.declared.space.ShareFault.TheVariants as Why
 use Rattle.shared.specs.declared.asides.Aside.{Aside}
-use Rattle.shared.specs.declared.series.Stop.{Stop}
-use Rattle.shared.specs.declared.series.Stop.TheVariants as For
+use Rattle.shared.specs.declared.series.SeriesEnd.{SeriesEnd}
+use Rattle.shared.specs.declared.series.SeriesEnd.TheVariants as For
 use Rattle.shared.specs.Cores.{CoreView, Answers, AnswersAll, Agrees, IsBeside, IsKept, Passes, new_core, told_of}
 use Rattle.coded.specs.declared.codes.RawEvent.{RawEvent}
 use Rattle.coded.specs.declared.codes.RawOutcome.{RawOutcome}
-use Rattle.coded.specs.declared.held.Held.{Held}
+use Rattle.coded.specs.declared.held.AnyMachine.{AnyMachine}
 use Rattle.radixvm_c.specs.declared.placed.Placed.{Placed}
 use Rattle.radixvm_c.specs.declared.chair.Chair.{Chair}
-use Rattle.radixvm_c.specs.declared.chair.Seat.{Seat}
+use Rattle.radixvm_c.specs.declared.chair.HeldSeat.{HeldSeat}
 use Rattle.radixvm_c.specs.declared.chair.Chair.TheVariants.{Vacant, Taken}
 use Rattle.radixvm_c.specs.declared.sharing.Closed.{Closed}
 use Rattle.radixvm_c.specs.declared.sharing.Closed.TheVariants as Comes
@@ -73,26 +73,26 @@ limit_code = 20
 -- ---- sharing
 
 -- no memory, or a core has a call that isn't at its end
-abbrev pub CannotShare : Held → ℕ → Type 0
+abbrev pub CannotShare : AnyMachine → ℕ → Type 0
 CannotShare held status = (status ≡ no_memory_code)
     ⊎ ((status ≡ in_flight_code) × IsKept Why.NotCalm (held_state held).world)
 
-abbrev pub unshared_code : NotShared → ℕ
+abbrev pub unshared_code : ShareFault → ℕ
 unshared_code Why.NoMemory = no_memory_code
 unshared_code Why.NotCalm = in_flight_code
 
 -- core 0 of this machine, which made no call since it was shared, and may split off all others
-abbrev pub IsFirst : Held → View → Type 0
+abbrev pub IsFirst : AnyMachine → View → Type 0
 IsFirst held v = (placed : Placed) × (space : TableId) × (placed.held.value ≡ held)
     × (v ≡ new_core placed_state space 0 ((held_state held).world.made.cores - 1) (placed ∷ []))
 
-abbrev pub HasFirst : Held → Option View → Type 0
+abbrev pub HasFirst : AnyMachine → Option View → Type 0
 HasFirst held None = ⊥
 HasFirst held (Some v) = IsFirst held v
 
 -- the machine went into the seat; or all is as it was, since there is no machine, or a seat already, or
 -- it can't be shared
-abbrev pub TellsShare : Option Held → Option Chair → ℕ → Option Held → Option Chair → Type 0
+abbrev pub TellsShare : Option AnyMachine → Option Chair → ℕ → Option AnyMachine → Option Chair → Type 0
 TellsShare None chair status held' chair' =
     (status ≡ empty_code) × (held' ≡ None) × (chair' ≡ chair)
 TellsShare (Some held) (Some chair) status held' chair' =
@@ -112,11 +112,11 @@ IsSplit v other w = (0 < v.spare) × (w ≡ record v { spare = v.spare - 1 })
 abbrev pub CannotSplit : View → ℕ → Type 0
 CannotSplit v status = (status ≡ no_memory_code) ⊎ ((status ≡ absent_code) × (v.spare ≡ 0))
 
-abbrev pub SplitsSeat : View → Result Seat ℕ → View → Type 0
+abbrev pub SplitsSeat : View → Result HeldSeat ℕ → View → Type 0
 SplitsSeat v (Ok seat) w = IsSplit v seat.core w
 SplitsSeat v (Err status) w = CannotSplit v status × (w ≡ v)
 
-abbrev pub SplitsChair : Option View → Result Seat ℕ → Option View → Type 0
+abbrev pub SplitsChair : Option View → Result HeldSeat ℕ → Option View → Type 0
 SplitsChair None r w = (r ≡ Err empty_code) × (w ≡ None)
 SplitsChair (Some v) r None = ⊥
 SplitsChair (Some v) r (Some w) = SplitsSeat v r w
@@ -170,7 +170,7 @@ TellsTry (Some v) raw was status told (Some w) = TriesOn v raw was status told w
 
 -- ---- many calls
 
-abbrev pub stop_status : Stop → ℕ
+abbrev pub stop_status : SeriesEnd → ℕ
 stop_status For.Done = 0
 stop_status For.NoCall = 1
 stop_status For.NoMemory = no_memory_code
@@ -231,13 +231,13 @@ ClosesChair (Some v) closed w = Closes v closed × (w ≡ None)
 ClosesChair None closed w = (closed ≡ Comes.Beside) × (w ≡ None)
 
 -- the handle has a machine that agrees with all that the seat knew
-abbrev pub HasBack : View → Option Held → Type 0
+abbrev pub HasBack : View → Option AnyMachine → Type 0
 HasBack v None = ⊥
 HasBack v (Some held) = Agrees placed_state (held_state held).world v
 
 -- the machine came back, and the seat's handle is empty; or it is gone, only where a core has a seat that wasn't
 -- taken in; or another seat is left, or a handle is in use or empty, and all is as it was
-abbrev pub TellsUnshare : Option View → Option Held → ℕ → Option Chair → Option Held → Type 0
+abbrev pub TellsUnshare : Option View → Option AnyMachine → ℕ → Option Chair → Option AnyMachine → Type 0
 TellsUnshare None held status chair' held' =
     (status ≡ empty_code) × (core_in chair' ≡ None) × (held' ≡ held)
 TellsUnshare (Some v) (Some held) status chair' held' =

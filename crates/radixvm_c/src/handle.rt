@@ -1,10 +1,10 @@
 //! What C holds between two calls.
 ghost use Rattle.std.specs.Prelude.{Option};
-ghost use Rattle.coded.specs.declared.held.Held.{Held};
+ghost use Rattle.coded.specs.declared.held.AnyMachine.{AnyMachine};
 ghost use Rattle.radixvm_c.specs.Behind.{held_at};
 
 use crate::loose::Loose;
-use coded::held::Held;
+use coded::held::AnyMachine;
 use std::alloc::Global;
 use std::marker::Model;
 use std::mem::replace;
@@ -16,7 +16,7 @@ use std::ptr::null_mut;
 pub struct Handle {
     at: *mut u8,
     alloc: Global,
-    pub ghost value: { Option Held },
+    pub ghost value: { Option AnyMachine },
 }
 
 // What it points to may go to another thread.
@@ -40,12 +40,12 @@ impl Handle {
     }
 
     /// The machine, lent with the handle.
-    pub fn get_mut(&mut self) -> &mut Held
+    pub fn get_mut(&mut self) -> &mut AnyMachine
         requires { IsSome self.old.value }
         ensures* writes_back { sem 𝓛 (LendsHeld self.entry result) }
         ensures value { self.old.value ≡ Some result.now }
     {
-        unsafe { &mut *(self.at as *mut Held) }
+        unsafe { &mut *(self.at as *mut AnyMachine) }
     }
 
     fn empty(alloc: Global) -> Handle
@@ -57,7 +57,7 @@ impl Handle {
         }
     }
 
-    fn of(loose: Loose<Held, Global>) -> Handle
+    fn of(loose: Loose<AnyMachine, Global>) -> Handle
         ensures { result.value ≡ Some loose.value }
     {
         let Loose { at, alloc } = loose;
@@ -67,19 +67,19 @@ impl Handle {
         }
     }
 
-    fn into_loose(self) -> Loose<Held, Global>
+    fn into_loose(self) -> Loose<AnyMachine, Global>
         requires { IsSome self.value }
         ensures { self.value ≡ Some result.value }
     {
         let Handle { at, alloc } = self;
         Loose {
-            at: at as *mut Held,
+            at: at as *mut AnyMachine,
             alloc,
         }
     }
 
     /// Puts a machine into an empty handle.
-    pub fn put(&mut self, held: Box<Held, Global>)
+    pub fn put(&mut self, held: Box<AnyMachine, Global>)
         requires { self.old.value ≡ None }
         ensures { self.new.value ≡ Some held.value }
     {
@@ -87,7 +87,7 @@ impl Handle {
     }
 
     /// Takes the machine, and leaves the handle empty.
-    pub fn take(&mut self, alloc: Global) -> Box<Held, Global>
+    pub fn take(&mut self, alloc: Global) -> Box<AnyMachine, Global>
         requires { IsSome self.old.value }
         ensures taken { self.old.value ≡ Some result.value }
         ensures left { self.new.value ≡ None }

@@ -1,4 +1,12 @@
-//! The machine for C: a batch of events, or of whole calls, on a new machine or on one that C holds.
+//! The static library for C: batches, machines that C holds, and seats of shared ones.
+//!
+//! - The root has the functions of batches and of held machines; `threads`: those of shared ones. Their names begin
+//!   with `radixvm_`.
+//! - `handle`, `placed`, `loose`, `making`: what C keeps, and how it is made; `chair_handle`, `chair`, `seats`,
+//!   `sharing`: a seat.
+//!
+//! It exists for `radixvm_run_batch`, a batch has the outcomes of a run, and `laws::held_are_legal`. It knows no
+//! text.
 #![tactic(auto)]
 
 ghost use Rattle.std.specs.Prelude.{◌≡◌, None};

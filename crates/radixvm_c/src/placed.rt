@@ -1,9 +1,9 @@
 //! A held machine may be shared.
 ghost use Rattle.std.specs.Prelude.{◌≡◌};
 
-use coded::held::Held;
+use coded::held::AnyMachine;
 use machine_model::Outcome;
-use shared::{Aside, Ended, Whole};
+use shared::{Aside, CallEnd, Whole};
 use std::alloc::Global;
 use vm_base::{CoreId, Request};
 
@@ -11,7 +11,7 @@ use vm_base::{CoreId, Request};
 /// back without memory.
 #[derive(Drop)]
 pub struct Placed {
-    pub held: Box<Held, Global>,
+    pub held: Box<AnyMachine, Global>,
 }
 
 impl Whole for Placed {
@@ -28,7 +28,7 @@ impl Whole for Placed {
     }
 
     #[inline(always)]
-    fn call_whole(&mut self, core: CoreId, request: Request) -> Ended {
+    fn call_whole(&mut self, core: CoreId, request: Request) -> CallEnd {
         self.held.as_mut().call_whole(core, request)
     }
 

@@ -9,7 +9,7 @@ ghost use Rattle.radixvm_c.specs.Seats.{core_in, core_on, placed_state, IsSplit,
 ghost use Rattle.radixvm_c.specs.Seats.{TellsAnswer, TellsPassed, PassesOn, TriesOn, TellsTry, stop_status, calls_done, CallsOn, TellsCalls};
 ghost use Rattle.radixvm_c.specs.Seats.{AreBeside, TakesIn, TellsReturn};
 
-use crate::chair::{Chair, Room, Seat};
+use crate::chair::{Chair, Room, HeldSeat};
 use crate::chair_handle::ChairHandle;
 use crate::placed::Placed;
 use crate::sharing::{DONE, EMPTY, IN_USE, NO_MEMORY, new_chair};
@@ -18,7 +18,7 @@ use coded::batch::{Done, refusal_done, refusal_of};
 use coded::codes::{RawEvent, RawOutcome, outcome_code, reply_code};
 use coded::opening::Refusal;
 use machine_model::Outcome;
-use shared::{Answer, Aside, Calls, Core, Passed, Stop};
+use shared::{Answer, Aside, Calls, CoreSeat, Passed, SeriesEnd};
 use std::alloc::Global;
 use std::sync::Arc;
 use vm_base::Request;
@@ -38,7 +38,7 @@ const AT_LIMIT: u32 = 20;
 // ---- one more seat
 
 // One more core of the space that the room has.
-fn split_core(room: &Room, core: &mut Core<Placed>) -> Option<Core<Placed>>
+fn split_core(room: &Room, core: &mut CoreSeat<Placed>) -> Option<CoreSeat<Placed>>
     requires { IsIn (arc_value room.now) core.old }
     ensures some { IfSome result (λ other. IsSplit core.old other core.new) }
     ensures none { IfNone result ((core.old.spare ≡ 0) × (core.new ≡ core.old)) }
@@ -50,19 +50,19 @@ fn split_core(room: &Room, core: &mut Core<Placed>) -> Option<Core<Placed>>
 }
 
 // One more seat beside this one.
-fn split_seat(seat: &mut Seat) -> Result<Seat, u32>
+fn split_seat(seat: &mut HeldSeat) -> Result<HeldSeat, u32>
     ensures { SplitsSeat seat.old.core result seat.new.core }
 {
     let Ok(room) = Arc::try_clone(&seat.room) else {
         return Err(NO_MEMORY);
     };
     match split_core(&room, &mut seat.core) {
-        Some(core) => Ok(Seat { room, core }),
+        Some(core) => Ok(HeldSeat { room, core }),
         None => Err(ABSENT),
     }
 }
 
-fn split_chair(chair: &mut Chair) -> Result<Seat, u32>
+fn split_chair(chair: &mut Chair) -> Result<HeldSeat, u32>
     ensures { SplitsChair (core_on chair.old) result (core_on chair.new) }
 {
     match chair {
@@ -127,7 +127,7 @@ fn tell_passed(passed: Passed, told: &mut RawOutcome) -> u32
     }
 }
 
-fn call_on(room: &Room, core: &mut Core<Placed>, request: Request) -> Answer
+fn call_on(room: &Room, core: &mut CoreSeat<Placed>, request: Request) -> Answer
     requires here { IsIn (arc_value room.now) core.old }
     ensures answers { Answers placed_state core.old request result core.new }
     ensures here { IsIn (arc_value room.now) core.new }
@@ -138,7 +138,7 @@ fn call_on(room: &Room, core: &mut Core<Placed>, request: Request) -> Answer
     }
 }
 
-fn aside_on(room: &Room, core: &mut Core<Placed>, aside: Aside) -> Passed
+fn aside_on(room: &Room, core: &mut CoreSeat<Placed>, aside: Aside) -> Passed
     requires here { IsIn (arc_value room.now) core.old }
     ensures passes { Passes placed_state core.old aside result core.new }
     ensures here { IsIn (arc_value room.now) core.new }
@@ -150,7 +150,7 @@ fn aside_on(room: &Room, core: &mut Core<Placed>, aside: Aside) -> Passed
 }
 
 // What the event does beside calls, if it does that.
-fn pass_seat(seat: &mut Seat, raw: &RawEvent, told: &mut RawOutcome) -> u32
+fn pass_seat(seat: &mut HeldSeat, raw: &RawEvent, told: &mut RawOutcome) -> u32
     ensures { PassesOn seat.old.core (aside_of raw.now) told.old result told.new seat.new.core }
 {
     let Some(aside) = aside_of(raw) else {
@@ -159,7 +159,7 @@ fn pass_seat(seat: &mut Seat, raw: &RawEvent, told: &mut RawOutcome) -> u32
     tell_passed(aside_on(&seat.room, &mut seat.core, aside), told)
 }
 
-fn try_seat(seat: &mut Seat, raw: &RawEvent, told: &mut RawOutcome) -> u32
+fn try_seat(seat: &mut HeldSeat, raw: &RawEvent, told: &mut RawOutcome) -> u32
     ensures { TriesOn seat.old.core raw.now told.old result told.new seat.new.core }
 {
     let Some(request) = asked_of(raw) else {
@@ -182,7 +182,7 @@ pub fn try_chair(chair: &mut Chair, raw: &RawEvent, told: &mut RawOutcome) -> u3
 
 fn calls_on(
     room: &Room,
-    core: &mut Core<Placed>,
+    core: &mut CoreSeat<Placed>,
     raws: &[RawEvent],
     told: &mut [RawOutcome],
 ) -> Calls
@@ -197,14 +197,14 @@ fn calls_on(
     }
 }
 
-fn stop_status(stop: Stop) -> u32
+fn stop_status(stop: SeriesEnd) -> u32
     ensures { result ≡ stop_status stop }
 {
     match stop {
-        Stop::Done => DONE,
-        Stop::NoCall => BAD_EVENT,
-        Stop::NoMemory => NO_MEMORY,
-        Stop::Refused | Stop::Spent => AT_LIMIT,
+        SeriesEnd::Done => DONE,
+        SeriesEnd::NoCall => BAD_EVENT,
+        SeriesEnd::NoMemory => NO_MEMORY,
+        SeriesEnd::Refused | SeriesEnd::Spent => AT_LIMIT,
     }
 }
 
@@ -223,7 +223,7 @@ fn calls_done(calls: Calls) -> Done
     }
 }
 
-fn call_seat(seat: &mut Seat, raws: &[RawEvent], told: &mut [RawOutcome]) -> Done
+fn call_seat(seat: &mut HeldSeat, raws: &[RawEvent], told: &mut [RawOutcome]) -> Done
     ensures { CallsOn seat.old.core raws.now told.old result told.new seat.new.core }
 {
     if let Some(refusal) = refusal_of(0, 0, raws.len(), told.len()) {
@@ -244,7 +244,7 @@ pub fn call_chair(chair: &mut Chair, raws: &[RawEvent], told: &mut [RawOutcome])
 
 // ---- a seat that is done
 
-fn take_core(room: &Room, core: &mut Core<Placed>, other: Core<Placed>)
+fn take_core(room: &Room, core: &mut CoreSeat<Placed>, other: CoreSeat<Placed>)
     requires here { IsIn (arc_value room.now) core.old }
     requires beside { other.space ≡ core.old.space }
     ensures { core.new ≡ record core.old { others = core.old.others ++ told_of other ∷ [] } }
@@ -256,14 +256,14 @@ fn take_core(room: &Room, core: &mut Core<Placed>, other: Core<Placed>)
 }
 
 // The core of a seat, which gives its room up.
-fn core_from(seat: Seat) -> Core<Placed>
+fn core_from(seat: HeldSeat) -> CoreSeat<Placed>
     ensures { result ≡ seat.core }
 {
-    let Seat { room: _room, core } = seat;
+    let HeldSeat { room: _room, core } = seat;
     core
 }
 
-fn take_seat(first: &mut Seat, other: Seat)
+fn take_seat(first: &mut HeldSeat, other: HeldSeat)
     requires { other.core.space ≡ first.old.core.space }
     ensures { first.new.core ≡ record first.old.core { others = first.old.core.others ++ told_of other.core ∷ [] } }
 {

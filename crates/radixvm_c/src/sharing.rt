@@ -2,12 +2,12 @@
 ghost use Rattle.std.specs.Prelude.{◌≡◌, IfOk, IfErr};
 ghost use Rattle.radixvm_c.specs.Seats.{IsFirst, CannotShare, unshared_code, TellsShare, core_in, core_on, Closes, ClosesChair, TellsUnshare};
 
-use crate::chair::{Chair, Seat};
+use crate::chair::{Chair, HeldSeat};
 use crate::chair_handle::ChairHandle;
 use crate::handle::Handle;
 use crate::placed::Placed;
-use coded::held::Held;
-use shared::{Core, Refusal, Space, Unshared};
+use coded::held::AnyMachine;
+use shared::{CoreSeat, ShareFault, SharedMachine, Unshared};
 use std::alloc::Global;
 use std::mem::replace;
 use std::sync::Arc;
@@ -32,8 +32,8 @@ const LOST: u32 = 19;
 
 /// Why a machine isn't shared, with the machine as it was.
 #[derive(Drop)]
-pub struct Kept {
-    pub held: Box<Held, Global>,
+pub struct NotShared {
+    pub held: Box<AnyMachine, Global>,
     pub status: u32,
 }
 
@@ -42,49 +42,49 @@ pub fn new_chair(alloc: Global) -> Option<Box<Chair, Global>> {
     Box::new(alloc, Chair::Vacant).ok()
 }
 
-fn unshared_code(why: Refusal) -> u32
+fn unshared_code(why: ShareFault) -> u32
     ensures { result ≡ unshared_code why }
 {
     match why {
-        Refusal::NoMemory => NO_MEMORY,
-        Refusal::NotCalm => IN_FLIGHT,
+        ShareFault::NoMemory => NO_MEMORY,
+        ShareFault::NotCalm => IN_FLIGHT,
     }
 }
 
 // The machine as it was, and why it isn't shared.
-fn kept_from(unshared: Unshared<Placed>) -> Kept
+fn kept_from(unshared: Unshared<Placed>) -> NotShared
     ensures { (result.held ≡ unshared.machine.held) × (result.status ≡ unshared_code unshared.why) }
 {
     let Unshared { machine, why } = unshared;
     let Placed { held } = machine;
-    Kept {
+    NotShared {
         held,
         status: unshared_code(why),
     }
 }
 
 // The seat of core 0 of the machine. All memory is taken before the machine is, except for what
-// `Space::new` takes, which hands it back.
-fn seat_first(alloc: Global, held: Box<Held, Global>) -> Result<Seat, Kept>
+// `SharedMachine::new` takes, which hands it back.
+fn seat_first(alloc: Global, held: Box<AnyMachine, Global>) -> Result<HeldSeat, NotShared>
     ensures ok { IfOk result (λ seat. IsFirst held.value seat.core) }
     ensures err { IfErr result (λ kept. (kept.held ≡ held) × CannotShare held.value kept.status) }
 {
     let Ok(mut room) = Arc::new(alloc, None) else {
-        return Err(Kept {
+        return Err(NotShared {
             held,
             status: NO_MEMORY,
         });
     };
     let Some(place) = Arc::get_mut(&mut room) else {
-        return Err(Kept {
+        return Err(NotShared {
             held,
             status: NO_MEMORY,
         });
     };
-    match Space::new(alloc, Placed { held }) {
+    match SharedMachine::new(alloc, Placed { held }) {
         Ok((space, core)) => {
             *place = Some(space);
-            Ok(Seat { room, core })
+            Ok(HeldSeat { room, core })
         }
         Err(unshared) => Err(kept_from(unshared)),
     }
@@ -110,7 +110,7 @@ pub fn share(alloc: Global, handle: &mut Handle, chair: &mut ChairHandle) -> u32
             chair.put(place);
             DONE
         }
-        Err(Kept { held, status }) => {
+        Err(NotShared { held, status }) => {
             handle.put(held);
             status
         }
@@ -121,14 +121,14 @@ pub fn share(alloc: Global, handle: &mut Handle, chair: &mut ChairHandle) -> u32
 #[derive(Drop)]
 pub enum Closed {
     /// The machine, with its history.
-    Back(Box<Held, Global>),
+    Back(Box<AnyMachine, Global>),
     /// Another seat is left, and nothing was done.
     Beside,
     /// The machine is gone with a seat that was let go amid a call.
     Gone,
 }
 
-fn close_space(space: Space<Placed>, core: Core<Placed>) -> Closed
+fn close_space(space: SharedMachine<Placed>, core: CoreSeat<Placed>) -> Closed
     requires { core.space ≡ space.table.shared.table_id }
     ensures { Closes core result }
 {
@@ -144,11 +144,11 @@ fn close_seat(chair: &mut Chair) -> Closed
 {
     match replace(chair, Chair::Vacant) {
         Chair::Vacant => Closed::Beside,
-        Chair::Taken(Seat { room, core }) => match Arc::try_unwrap(room) {
+        Chair::Taken(HeldSeat { room, core }) => match Arc::try_unwrap(room) {
             Ok(Some(space)) => close_space(space, core),
             Ok(None) => unreachable!(),
             Err(room) => {
-                *chair = Chair::Taken(Seat { room, core });
+                *chair = Chair::Taken(HeldSeat { room, core });
                 Closed::Beside
             }
         },

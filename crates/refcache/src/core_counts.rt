@@ -10,7 +10,7 @@ ghost use Rattle.refcache.specs.Steps.{IsInTheWay, IsDelta};
 use crate::object_count::ObjectCount;
 use crate::place_set::PlaceSet;
 use crate::places::{
-    Entry, PLACES, count_entry, delta_of, drop_entry, entry_of, has_entry, in_the_way, no_entries,
+    Delta, PLACES, count_entry, delta_of, drop_entry, entry_of, has_entry, in_the_way, no_entries,
 };
 use crate::reports::{Queued, Review};
 use crate::way_ahead::WayAhead;
@@ -19,7 +19,7 @@ use std::collections::VecDeque;
 use std::marker::Model;
 
 /// The least object that has an entry, where these are the places in use.
-fn least(places: &[Option<Entry>], used: PlaceSet) -> Option<u32>
+fn least(places: &[Option<Delta>], used: PlaceSet) -> Option<u32>
     requires places { ArePlaces places.now }
     requires used { members used ≡ in_use places.now }
     ensures some { IfSome result (λ o. IsLeast (entries places.now) o) }
@@ -38,7 +38,7 @@ fn least(places: &[Option<Entry>], used: PlaceSet) -> Option<u32>
 }
 
 /// The lesser object of the two.
-fn lesser(least: Option<u32>, entry: Option<Entry>) -> Option<u32>
+fn lesser(least: Option<u32>, entry: Option<Delta>) -> Option<u32>
     ensures { result ≡ lesser_object least entry }
 {
     let Some(entry) = entry else { return least };
@@ -55,7 +55,7 @@ fn lesser(least: Option<u32>, entry: Option<Entry>) -> Option<u32>
 /// A core's delta entries, the places that have them, and its review queue.
 #[derive(Drop)]
 pub struct CoreCounts<A: Allocator> {
-    places: [Option<Entry>; PLACES],
+    places: [Option<Delta>; PLACES],
     used: PlaceSet,
     queue: VecDeque<Queued, A>,
 }

@@ -12,20 +12,20 @@ pub const PLACES: usize = 64;
 
 /// A core's delta of an object.
 #[derive(Clone, Copy)]
-pub struct Entry {
+pub struct Delta {
     pub object: u32,
     pub delta: i64,
 }
 
 /// Places without an entry.
-pub(crate) fn no_entries() -> [Option<Entry>; PLACES]
+pub(crate) fn no_entries() -> [Option<Delta>; PLACES]
     ensures { result ≡ replicate 64 None }
 {
     [None; PLACES]
 }
 
 /// The delta of an object, 0 where it has no entry.
-pub(crate) fn delta_of(places: &[Option<Entry>], object: u32) -> i64
+pub(crate) fn delta_of(places: &[Option<Delta>], object: u32) -> i64
     requires { length places.now ≡ 64 }
     ensures { result ≡ unwrap_or (entries places.now object) (pos 0) }
 {
@@ -37,7 +37,7 @@ pub(crate) fn delta_of(places: &[Option<Entry>], object: u32) -> i64
 }
 
 /// The delta of an object, if it has an entry.
-pub(crate) fn entry_of(places: &[Option<Entry>], object: u32) -> Option<i64>
+pub(crate) fn entry_of(places: &[Option<Delta>], object: u32) -> Option<i64>
     requires { length places.now ≡ 64 }
     ensures { result ≡ entries places.now object }
 {
@@ -49,7 +49,7 @@ pub(crate) fn entry_of(places: &[Option<Entry>], object: u32) -> Option<i64>
 }
 
 /// Tells whether an object has an entry.
-pub(crate) fn has_entry(places: &[Option<Entry>], object: u32) -> bool
+pub(crate) fn has_entry(places: &[Option<Delta>], object: u32) -> bool
     requires { length places.now ≡ 64 }
     ensures { result ≡ is_some (entries places.now object) }
 {
@@ -62,7 +62,7 @@ pub(crate) fn has_entry(places: &[Option<Entry>], object: u32) -> bool
 
 /// Gives an object this delta.
 #[tactic(auto, using(crate::proofs::Way::places_set, crate::proofs::Way::in_use_set))]
-fn put_entry(places: &mut [Option<Entry>], object: u32, delta: i64)
+fn put_entry(places: &mut [Option<Delta>], object: u32, delta: i64)
     requires places { ArePlaces places.old }
     requires free { IsFreeFor places.old object }
     requires small { IsDelta delta }
@@ -70,12 +70,12 @@ fn put_entry(places: &mut [Option<Entry>], object: u32, delta: i64)
     ensures entries { entries places.new ≡ put (entries places.old) object (Some delta) }
     ensures used { in_use places.new ≡ put (in_use places.old) (object % 64) true }
 {
-    places[object as usize % PLACES] = Some(Entry { object, delta });
+    places[object as usize % PLACES] = Some(Delta { object, delta });
 }
 
 /// Drops the entry of an object.
 #[tactic(auto, using(crate::proofs::Way::places_dropped, crate::proofs::Way::in_use_set))]
-pub(crate) fn drop_entry(places: &mut [Option<Entry>], object: u32)
+pub(crate) fn drop_entry(places: &mut [Option<Delta>], object: u32)
     requires places { ArePlaces places.old }
     requires free { IsFreeFor places.old object }
     ensures places { ArePlaces places.new }
@@ -96,7 +96,7 @@ fn is_delta(delta: i64) -> bool
 }
 
 /// The object whose entry must go before the delta of `object` changes by `by`.
-pub(crate) fn in_the_way(places: &[Option<Entry>], object: u32, by: i64) -> Option<u32>
+pub(crate) fn in_the_way(places: &[Option<Delta>], object: u32, by: i64) -> Option<u32>
     requires places { ArePlaces places.now }
     requires one { (neg_ℤ (pos 1) ≤ℤ by) × (by ≤ℤ pos 1) }
     ensures some { IfSome result (λ p. IsInTheWay (entries places.now) object by p) }
@@ -115,7 +115,7 @@ pub(crate) fn in_the_way(places: &[Option<Entry>], object: u32, by: i64) -> Opti
 }
 
 /// An object's delta with one more or less.
-fn counted_on(places: &[Option<Entry>], object: u32, by: i64) -> i64
+fn counted_on(places: &[Option<Delta>], object: u32, by: i64) -> i64
     requires places { ArePlaces places.now }
     requires one { (neg_ℤ (pos 1) ≤ℤ by) × (by ≤ℤ pos 1) }
     requires small { IsDelta (unwrap_or (entries places.now object) (pos 0)) }
@@ -126,7 +126,7 @@ fn counted_on(places: &[Option<Entry>], object: u32, by: i64) -> i64
 
 /// Adds 1 or -1 to the delta of an object, from 0 where it has no entry.
 #[tactic(auto, using(crate::proofs::Way::free_way, crate::proofs::Way::small_delta, crate::proofs::Way::next_small))]
-pub(crate) fn count_entry(places: &mut [Option<Entry>], object: u32, by: i64)
+pub(crate) fn count_entry(places: &mut [Option<Delta>], object: u32, by: i64)
     requires places { ArePlaces places.old }
     requires one { (neg_ℤ (pos 1) ≤ℤ by) × (by ≤ℤ pos 1) }
     requires free { (p : ℕ) → IsInTheWay (entries places.old) object by p → ⊥ }

@@ -5,13 +5,13 @@ ghost use Rattle.refcache.specs.Places.{entries};
 ghost use Rattle.refcache.specs.Pieces.{ArePlaces, without};
 ghost use Rattle.refcache.specs.Steps.{IsInTheWay};
 
-use crate::places::{Entry, PLACES, count_entry, drop_entry, in_the_way};
+use crate::places::{Delta, PLACES, count_entry, drop_entry, in_the_way};
 use std::marker::Model;
 
 /// Drops the entry that is in the way before the delta of `object` changes by `by`, and tells whose
 /// it was.
 #[tactic(auto, using(crate::proofs::Way::own_place))]
-fn clear_way(places: &mut [Option<Entry>], object: u32, by: i64) -> Option<u32>
+fn clear_way(places: &mut [Option<Delta>], object: u32, by: i64) -> Option<u32>
     requires places { ArePlaces places.old }
     requires one { (neg_ℤ (pos 1) ≤ℤ by) × (by ≤ℤ pos 1) }
     ensures some { IfSome result (λ p. IsInTheWay (entries places.old) object by p) }
@@ -29,15 +29,15 @@ fn clear_way(places: &mut [Option<Entry>], object: u32, by: i64) -> Option<u32>
 /// A clause sees it as the places of the entries.
 #[derive(Drop)]
 pub struct WayAhead {
-    places: [Option<Entry>; PLACES],
+    places: [Option<Delta>; PLACES],
 }
 
 impl Model for WayAhead {
     ghost use Rattle.std.specs.Prelude.{List, Option};
-    ghost use Rattle.refcache.specs.declared.places.Entry.{Entry};
+    ghost use Rattle.refcache.specs.declared.places.Delta.{Delta};
     ghost use Rattle.refcache.specs.Pieces.{ArePlaces};
 
-    ghost Value = { List (Option Entry) };
+    ghost Value = { List (Option Delta) };
 
     ghost view = { λ w. w.places };
 
@@ -53,7 +53,7 @@ impl WayAhead {
     ghost use Rattle.refcache.specs.Steps.{IsInTheWay};
 
     /// A copy of these places.
-    pub(crate) fn new(places: [Option<Entry>; PLACES]) -> Self
+    pub(crate) fn new(places: [Option<Delta>; PLACES]) -> Self
         requires { ArePlaces places }
         ensures { result ≡ places }
     {

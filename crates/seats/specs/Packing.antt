@@ -11,51 +11,51 @@ use Rattle.vm_base.specs.declared.requests.Request.TheVariants as Request
 use Rattle.seats.specs.Notes.{noted}
 use Rattle.seats.specs.declared.noted.Noted.{Noted}
 use Rattle.seats.specs.declared.packed.Brief.{Brief}
-use Rattle.seats.specs.declared.packed.Kind.{Kind}
-use Rattle.seats.specs.declared.packed.Kind.TheVariants as Kind
-use Rattle.seats.specs.declared.packed.Packed.{Packed}
+use Rattle.seats.specs.declared.packed.NoteKind.{NoteKind}
+use Rattle.seats.specs.declared.packed.NoteKind.TheVariants as Kind
+use Rattle.seats.specs.declared.packed.PackedNote.{PackedNote}
 use Rattle.seats.specs.declared.note_list.Notes.{Notes}
 
 -- the event of a note of this kind, with its core, its byte and its word
-abbrev pub event_said : Kind → ℕ → ℕ → ℕ → Event
-event_said Kind.Load core byte word = Call core (Request.Load word)
-event_said Kind.Store core byte word = Call core (Request.Store word byte)
-event_said Kind.Fetch core byte word = Call core (Request.Fetch word)
-event_said Kind.Frame core byte word = Frame core word
-event_said Kind.Guess core byte word = Guess core word
-event_said Kind.Whole core byte word = Whole core
-event_said Kind.Take core byte word = Take core
-event_said Kind.Walk core byte word = Walk core word
-event_said Kind.Evict core byte word = Evict core word
-event_said Kind.Flush core byte word = Flush core
-event_said Kind.Review core byte word = Review core
-event_said Kind.Fold core byte word = Fold word
-event_said Kind.GiveUp core byte word = GiveUp core
+abbrev pub event_said : NoteKind → ℕ → ℕ → ℕ → Event
+event_said NoteKind.Load core byte word = Call core (Request.Load word)
+event_said NoteKind.Store core byte word = Call core (Request.Store word byte)
+event_said NoteKind.Fetch core byte word = Call core (Request.Fetch word)
+event_said NoteKind.Frame core byte word = Frame core word
+event_said NoteKind.Guess core byte word = Guess core word
+event_said NoteKind.Whole core byte word = Whole core
+event_said NoteKind.Take core byte word = Take core
+event_said NoteKind.Walk core byte word = Walk core word
+event_said NoteKind.Evict core byte word = Evict core word
+event_said NoteKind.Flush core byte word = Flush core
+event_said NoteKind.Review core byte word = Review core
+event_said NoteKind.Fold core byte word = Fold word
+event_said NoteKind.GiveUp core byte word = GiveUp core
 event_said kind core byte word = Go core
 
 -- what it came to
-abbrev pub outcome_said : Kind → ℕ → ℕ → Outcome
-outcome_said Kind.Mapped byte word = Answered (Reply.Mapped word)
-outcome_said Kind.Done byte word = Answered Reply.Done
-outcome_said Kind.Byte byte word = Answered (Reply.Byte byte)
-outcome_said Kind.Einval byte word = Answered (Reply.Refused EINVAL)
-outcome_said Kind.Enomem byte word = Answered (Reply.Refused ENOMEM)
-outcome_said Kind.Eacces byte word = Answered (Reply.Refused EACCES)
-outcome_said Kind.Ebadf byte word = Answered (Reply.Refused EBADF)
-outcome_said Kind.Eoverflow byte word = Answered (Reply.Refused EOVERFLOW)
-outcome_said Kind.MapErr byte word = Answered (Reply.Segv Segv.MapErr)
-outcome_said Kind.AccErr byte word = Answered (Reply.Segv Segv.AccErr)
-outcome_said Kind.Bus byte word = Answered Reply.Bus
-outcome_said Kind.NoFrame byte word = Answered Reply.NoFrame
-outcome_said Kind.NoMemory byte word = Answered Reply.NoMemory
+abbrev pub outcome_said : NoteKind → ℕ → ℕ → Outcome
+outcome_said NoteKind.Mapped byte word = Answered (Reply.Mapped word)
+outcome_said NoteKind.Done byte word = Answered Reply.Done
+outcome_said NoteKind.Byte byte word = Answered (Reply.Byte byte)
+outcome_said NoteKind.Einval byte word = Answered (Reply.Refused EINVAL)
+outcome_said NoteKind.Enomem byte word = Answered (Reply.Refused ENOMEM)
+outcome_said NoteKind.Eacces byte word = Answered (Reply.Refused EACCES)
+outcome_said NoteKind.Ebadf byte word = Answered (Reply.Refused EBADF)
+outcome_said NoteKind.Eoverflow byte word = Answered (Reply.Refused EOVERFLOW)
+outcome_said NoteKind.MapErr byte word = Answered (Reply.Segv Segv.MapErr)
+outcome_said NoteKind.AccErr byte word = Answered (Reply.Segv Segv.AccErr)
+outcome_said NoteKind.Bus byte word = Answered Reply.Bus
+outcome_said NoteKind.NoFrame byte word = Answered Reply.NoFrame
+outcome_said NoteKind.NoMemory byte word = Answered Reply.NoMemory
 outcome_said kind byte word = Stepped
 
-abbrev pub is_in_full : Kind → Bool
-is_in_full Kind.InFull = true
+abbrev pub is_in_full : NoteKind → Bool
+is_in_full NoteKind.InFull = true
 is_in_full kind = false
 
 -- the ticket of a note that doesn't stand in full
-abbrev pub ticket_said : Packed → ℕ
+abbrev pub ticket_said : PackedNote → ℕ
 ticket_said p = p.low + 2 ^ 32 * p.high
 
 -- what stands where there is no note
@@ -63,15 +63,15 @@ abbrev pub nothing : Noted
 nothing = noted 0 (Fold 0) Stepped
 
 -- the note, beside those that stand in full
-abbrev pub note_by : Bool → List Noted → Packed → Noted
+abbrev pub note_by : Bool → List Noted → PackedNote → Noted
 note_by true in_full p = get_or in_full p.word nothing
 note_by false in_full p = noted (ticket_said p) (event_said p.kind p.core p.byte p.word) (outcome_said p.kind p.byte p.word)
 
-abbrev pub note_of : List Noted → Packed → Noted
+abbrev pub note_of : List Noted → PackedNote → Noted
 note_of in_full p = note_by (is_in_full p.kind) in_full p
 
 -- all notes
-abbrev pub unpacked : List Noted → List Packed → List Noted
+abbrev pub unpacked : List Noted → List PackedNote → List Noted
 unpacked in_full ps = map (note_of in_full) ps
 
 -- it says that the event came to the outcome
@@ -81,10 +81,10 @@ pub record Says (b : Brief) (event : Event) (outcome : Outcome) : Type 0 where
   pub came_to : outcome_said b.kind b.byte b.word ≡ outcome
 
 -- those that stand in full have places below n
-abbrev pub IsWithin : ℕ → Packed → Type 0
+abbrev pub IsWithin : ℕ → PackedNote → Type 0
 IsWithin n p = is_in_full p.kind ≡ true → p.word < n
 
-abbrev pub AreWithin : ℕ → List Packed → Type 0
+abbrev pub AreWithin : ℕ → List PackedNote → Type 0
 AreWithin n ps = All (IsWithin n) ps
 
 -- the notes of a list, and how many more take no memory
@@ -93,7 +93,7 @@ pub record ListView : Type 0 where
   pub room : ℕ
 
 -- the packed notes, or else the plain ones
-abbrev pub packed_or : List Packed → List Noted → List Noted → List Noted
+abbrev pub packed_or : List PackedNote → List Noted → List Noted → List Noted
 packed_or [] in_full plain = plain
 packed_or (p ∷ ps) in_full plain = unpacked in_full (p ∷ ps)
 

@@ -1,6 +1,10 @@
-//! Seats: what a core's thread draws tickets with, and the steps that were noted under them.
-//! All seats of a space together have noted each ticket from 0 on once.
-//! `tickets` has the word from which threads draw the numbers of their steps, each once.
+//! Seats: what a core's thread draws tickets with, and the steps that it noted under them.
+//!
+//! - `tickets`: the word from which threads draw, each number once; `typed`: how many notes its types allow.
+//! - `seat` (`Seat`), `noted`, `note_list`, `packed`: a seat, its notes, and their list in little memory.
+//!
+//! It exists for `gathering::gather`, clause `whole`: all seats together have noted each ticket from 0 on once. It
+//! knows of no space: what a note says is the caller's.
 #![tactic(auto)]
 
 mod gathering;

@@ -5,7 +5,7 @@ ghost use Rattle.seats.specs.Notes.{ticket_of};
 ghost use Rattle.seats.specs.Packing.{ListView, shown};
 
 use crate::noted::Noted;
-use crate::packed::{Packed, pack, placed, ticket_beside, unpacked};
+use crate::packed::{PackedNote, pack, placed, ticket_beside, unpacked};
 use crate::typed::note_fits;
 use std::alloc::{AllocError, Allocator};
 use std::marker::Model;
@@ -17,7 +17,7 @@ const LIMIT: usize = 1 << 32;
 /// many more take no memory.
 #[derive(Drop)]
 pub struct NoteList<A: Allocator> {
-    packed: Vec<Packed, A>,
+    packed: Vec<PackedNote, A>,
     in_full: Vec<Noted, A>,
     room: usize,
 }
@@ -40,7 +40,7 @@ impl<A: Allocator> Model for NoteList<A> {
 /// Notes that are lent: packed ones beside those that stand in full, or else a plain slice.
 #[derive(Clone, Copy)]
 pub struct Notes<'a> {
-    packed: &'a [Packed],
+    packed: &'a [PackedNote],
     in_full: &'a [Noted],
     plain: &'a [Noted],
 }

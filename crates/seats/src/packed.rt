@@ -11,7 +11,7 @@ use vm_base::{CoreId, Errno, Reply, Request, SegvCode};
 
 /// What a packed note is of.
 #[derive(Clone, Copy)]
-pub enum Kind {
+pub enum NoteKind {
     /// The core begins a load, a store or a fetch.
     Load,
     Store,
@@ -49,7 +49,7 @@ pub enum Kind {
 /// What a packed note says except for its ticket.
 #[derive(Clone, Copy)]
 pub struct Brief {
-    pub kind: Kind,
+    pub kind: NoteKind,
     pub core: CoreId,
     pub byte: u8,
     pub word: u64,
@@ -57,18 +57,18 @@ pub struct Brief {
 
 /// A note in sixteen bytes. Where its kind is `InFull` the word is a place in the list of notes that stand in full.
 #[derive(Clone, Copy)]
-pub struct Packed {
+pub struct PackedNote {
     pub word: u64,
     /// The ticket, by its lower 32 bits and the 8 above.
     pub low: u32,
     pub high: u8,
-    pub kind: Kind,
+    pub kind: NoteKind,
     pub core: CoreId,
     pub byte: u8,
 }
 
 // What says this of the core.
-fn say(kind: Kind, core: CoreId, byte: u8, word: u64) -> Brief
+fn say(kind: NoteKind, core: CoreId, byte: u8, word: u64) -> Brief
     ensures { result ≡ record { kind = kind; core = core; byte = byte; word = word } }
 {
     Brief {
@@ -85,9 +85,9 @@ fn brief_call(core: CoreId, request: &Request) -> Option<Brief>
     ensures { IfSome result (λ b. Says b (Call core request.now) Stepped) }
 {
     match request {
-        Request::Load { addr } => Some(say(Kind::Load, core, 0, *addr)),
-        Request::Store { addr, byte } => Some(say(Kind::Store, core, *byte, *addr)),
-        Request::Fetch { addr } => Some(say(Kind::Fetch, core, 0, *addr)),
+        Request::Load { addr } => Some(say(NoteKind::Load, core, 0, *addr)),
+        Request::Store { addr, byte } => Some(say(NoteKind::Store, core, *byte, *addr)),
+        Request::Fetch { addr } => Some(say(NoteKind::Fetch, core, 0, *addr)),
         Request::Mmap { .. } | Request::Munmap { .. } | Request::Mprotect { .. } => None,
     }
 }
@@ -99,30 +99,30 @@ fn brief_step(event: &Event) -> Option<Brief>
 {
     match event {
         Event::Call(core, request) => brief_call(*core, request),
-        Event::Go(core) => Some(say(Kind::Go, *core, 0, 0)),
-        Event::Frame(core, frame) => Some(say(Kind::Frame, *core, 0, *frame)),
-        Event::Guess(core, page) => Some(say(Kind::Guess, *core, 0, *page)),
-        Event::Whole(core) => Some(say(Kind::Whole, *core, 0, 0)),
-        Event::Take(core) => Some(say(Kind::Take, *core, 0, 0)),
-        Event::Walk(core, page) => Some(say(Kind::Walk, *core, 0, *page)),
-        Event::Evict(core, page) => Some(say(Kind::Evict, *core, 0, *page)),
-        Event::Flush(core) => Some(say(Kind::Flush, *core, 0, 0)),
-        Event::Review(core) => Some(say(Kind::Review, *core, 0, 0)),
-        Event::Fold(page) => Some(say(Kind::Fold, CoreId::new(0), 0, *page)),
-        Event::GiveUp(core) => Some(say(Kind::GiveUp, *core, 0, 0)),
+        Event::Go(core) => Some(say(NoteKind::Go, *core, 0, 0)),
+        Event::Frame(core, frame) => Some(say(NoteKind::Frame, *core, 0, *frame)),
+        Event::Guess(core, page) => Some(say(NoteKind::Guess, *core, 0, *page)),
+        Event::Whole(core) => Some(say(NoteKind::Whole, *core, 0, 0)),
+        Event::Take(core) => Some(say(NoteKind::Take, *core, 0, 0)),
+        Event::Walk(core, page) => Some(say(NoteKind::Walk, *core, 0, *page)),
+        Event::Evict(core, page) => Some(say(NoteKind::Evict, *core, 0, *page)),
+        Event::Flush(core) => Some(say(NoteKind::Flush, *core, 0, 0)),
+        Event::Review(core) => Some(say(NoteKind::Review, *core, 0, 0)),
+        Event::Fold(page) => Some(say(NoteKind::Fold, CoreId::new(0), 0, *page)),
+        Event::GiveUp(core) => Some(say(NoteKind::GiveUp, *core, 0, 0)),
     }
 }
 
 // The kind of a refusal.
-fn refusal(errno: &Errno) -> Kind
+fn refusal(errno: &Errno) -> NoteKind
     ensures { outcome_said result 0 0 ≡ Answered (Reply.Refused errno.now) }
 {
     match errno {
-        Errno::EINVAL => Kind::Einval,
-        Errno::ENOMEM => Kind::Enomem,
-        Errno::EACCES => Kind::Eacces,
-        Errno::EBADF => Kind::Ebadf,
-        Errno::EOVERFLOW => Kind::Eoverflow,
+        Errno::EINVAL => NoteKind::Einval,
+        Errno::ENOMEM => NoteKind::Enomem,
+        Errno::EACCES => NoteKind::Eacces,
+        Errno::EBADF => NoteKind::Ebadf,
+        Errno::EOVERFLOW => NoteKind::Eoverflow,
     }
 }
 
@@ -132,15 +132,15 @@ fn brief_answer(core: CoreId, reply: &Reply) -> Brief
     ensures { Says result (Go core) (Answered reply.now) }
 {
     match reply {
-        Reply::Mapped(addr) => say(Kind::Mapped, core, 0, *addr),
-        Reply::Done => say(Kind::Done, core, 0, 0),
-        Reply::Byte(byte) => say(Kind::Byte, core, *byte, 0),
+        Reply::Mapped(addr) => say(NoteKind::Mapped, core, 0, *addr),
+        Reply::Done => say(NoteKind::Done, core, 0, 0),
+        Reply::Byte(byte) => say(NoteKind::Byte, core, *byte, 0),
         Reply::Refused(errno) => say(refusal(errno), core, 0, 0),
-        Reply::Segv(SegvCode::MapErr) => say(Kind::MapErr, core, 0, 0),
-        Reply::Segv(SegvCode::AccErr) => say(Kind::AccErr, core, 0, 0),
-        Reply::Bus => say(Kind::Bus, core, 0, 0),
-        Reply::NoFrame => say(Kind::NoFrame, core, 0, 0),
-        Reply::NoMemory => say(Kind::NoMemory, core, 0, 0),
+        Reply::Segv(SegvCode::MapErr) => say(NoteKind::MapErr, core, 0, 0),
+        Reply::Segv(SegvCode::AccErr) => say(NoteKind::AccErr, core, 0, 0),
+        Reply::Bus => say(NoteKind::Bus, core, 0, 0),
+        Reply::NoFrame => say(NoteKind::NoFrame, core, 0, 0),
+        Reply::NoMemory => say(NoteKind::NoMemory, core, 0, 0),
     }
 }
 
@@ -162,7 +162,7 @@ fn brief_of(event: &Event, outcome: &Outcome) -> Option<Brief>
 /// The note in sixteen bytes, where it goes into them: `None` where its step has no kind of its own, or its ticket
 /// isn't below 2^40.
 #[inline(always)]
-pub(crate) fn pack(note: &Noted) -> Option<Packed>
+pub(crate) fn pack(note: &Noted) -> Option<PackedNote>
     ensures says { IfSome result (λ p. (in_full : List Noted) → note_of in_full p ≡ note.now) }
     ensures short { IfSome result (λ p. is_in_full p.kind ≡ false) }
 {
@@ -170,7 +170,7 @@ pub(crate) fn pack(note: &Noted) -> Option<Packed>
         return None;
     }
     let brief = brief_of(&note.event, &note.outcome)?;
-    Some(Packed {
+    Some(PackedNote {
         word: brief.word,
         low: (note.ticket % (1 << 32)) as u32,
         high: (note.ticket / (1 << 32)) as u8,
@@ -181,15 +181,15 @@ pub(crate) fn pack(note: &Noted) -> Option<Packed>
 }
 
 /// What stands for a note that stands in full, at this place of its list.
-pub(crate) fn placed(place: u64) -> Packed
+pub(crate) fn placed(place: u64) -> PackedNote
     ensures kind { result.kind ≡ Kind.InFull }
     ensures word { result.word ≡ place }
 {
-    Packed {
+    PackedNote {
         word: place,
         low: 0,
         high: 0,
-        kind: Kind::InFull,
+        kind: NoteKind::InFull,
         core: CoreId::new(0),
         byte: 0,
     }
@@ -197,53 +197,53 @@ pub(crate) fn placed(place: u64) -> Packed
 
 // The event of a note of this kind.
 #[inline(always)]
-fn event_of(packed: &Packed) -> Event
+fn event_of(packed: &PackedNote) -> Event
     ensures { result ≡ event_said packed.now.kind packed.now.core packed.now.byte packed.now.word }
 {
     let core = packed.core;
     match packed.kind {
-        Kind::Load => Event::Call(core, Request::Load { addr: packed.word }),
-        Kind::Store => Event::Call(
+        NoteKind::Load => Event::Call(core, Request::Load { addr: packed.word }),
+        NoteKind::Store => Event::Call(
             core,
             Request::Store {
                 addr: packed.word,
                 byte: packed.byte,
             },
         ),
-        Kind::Fetch => Event::Call(core, Request::Fetch { addr: packed.word }),
-        Kind::Frame => Event::Frame(core, packed.word),
-        Kind::Guess => Event::Guess(core, packed.word),
-        Kind::Whole => Event::Whole(core),
-        Kind::Take => Event::Take(core),
-        Kind::Walk => Event::Walk(core, packed.word),
-        Kind::Evict => Event::Evict(core, packed.word),
-        Kind::Flush => Event::Flush(core),
-        Kind::Review => Event::Review(core),
-        Kind::Fold => Event::Fold(packed.word),
-        Kind::GiveUp => Event::GiveUp(core),
+        NoteKind::Fetch => Event::Call(core, Request::Fetch { addr: packed.word }),
+        NoteKind::Frame => Event::Frame(core, packed.word),
+        NoteKind::Guess => Event::Guess(core, packed.word),
+        NoteKind::Whole => Event::Whole(core),
+        NoteKind::Take => Event::Take(core),
+        NoteKind::Walk => Event::Walk(core, packed.word),
+        NoteKind::Evict => Event::Evict(core, packed.word),
+        NoteKind::Flush => Event::Flush(core),
+        NoteKind::Review => Event::Review(core),
+        NoteKind::Fold => Event::Fold(packed.word),
+        NoteKind::GiveUp => Event::GiveUp(core),
         _ => Event::Go(core),
     }
 }
 
 // The result of a note of this kind.
 #[inline(always)]
-fn outcome_of(packed: &Packed) -> Outcome
+fn outcome_of(packed: &PackedNote) -> Outcome
     ensures { result ≡ outcome_said packed.now.kind packed.now.byte packed.now.word }
 {
     match packed.kind {
-        Kind::Mapped => Outcome::Answered(Reply::Mapped(packed.word)),
-        Kind::Done => Outcome::Answered(Reply::Done),
-        Kind::Byte => Outcome::Answered(Reply::Byte(packed.byte)),
-        Kind::Einval => Outcome::Answered(Reply::Refused(Errno::EINVAL)),
-        Kind::Enomem => Outcome::Answered(Reply::Refused(Errno::ENOMEM)),
-        Kind::Eacces => Outcome::Answered(Reply::Refused(Errno::EACCES)),
-        Kind::Ebadf => Outcome::Answered(Reply::Refused(Errno::EBADF)),
-        Kind::Eoverflow => Outcome::Answered(Reply::Refused(Errno::EOVERFLOW)),
-        Kind::MapErr => Outcome::Answered(Reply::Segv(SegvCode::MapErr)),
-        Kind::AccErr => Outcome::Answered(Reply::Segv(SegvCode::AccErr)),
-        Kind::Bus => Outcome::Answered(Reply::Bus),
-        Kind::NoFrame => Outcome::Answered(Reply::NoFrame),
-        Kind::NoMemory => Outcome::Answered(Reply::NoMemory),
+        NoteKind::Mapped => Outcome::Answered(Reply::Mapped(packed.word)),
+        NoteKind::Done => Outcome::Answered(Reply::Done),
+        NoteKind::Byte => Outcome::Answered(Reply::Byte(packed.byte)),
+        NoteKind::Einval => Outcome::Answered(Reply::Refused(Errno::EINVAL)),
+        NoteKind::Enomem => Outcome::Answered(Reply::Refused(Errno::ENOMEM)),
+        NoteKind::Eacces => Outcome::Answered(Reply::Refused(Errno::EACCES)),
+        NoteKind::Ebadf => Outcome::Answered(Reply::Refused(Errno::EBADF)),
+        NoteKind::Eoverflow => Outcome::Answered(Reply::Refused(Errno::EOVERFLOW)),
+        NoteKind::MapErr => Outcome::Answered(Reply::Segv(SegvCode::MapErr)),
+        NoteKind::AccErr => Outcome::Answered(Reply::Segv(SegvCode::AccErr)),
+        NoteKind::Bus => Outcome::Answered(Reply::Bus),
+        NoteKind::NoFrame => Outcome::Answered(Reply::NoFrame),
+        NoteKind::NoMemory => Outcome::Answered(Reply::NoMemory),
         _ => Outcome::Stepped,
     }
 }
@@ -270,10 +270,10 @@ fn full_note(place: u64, in_full: &[Noted]) -> Noted
 }
 
 /// The ticket of the note, beside those that stand in full.
-pub(crate) fn ticket_beside(packed: &Packed, in_full: &[Noted]) -> u64
+pub(crate) fn ticket_beside(packed: &PackedNote, in_full: &[Noted]) -> u64
     ensures { result ≡ (note_of in_full.now packed.now).ticket }
 {
-    if let Kind::InFull = packed.kind {
+    if let NoteKind::InFull = packed.kind {
         return full_note(packed.word, in_full).ticket;
     }
     ticket_of(packed.low, packed.high)
@@ -281,10 +281,10 @@ pub(crate) fn ticket_beside(packed: &Packed, in_full: &[Noted]) -> u64
 
 /// The note, beside those that stand in full.
 #[inline(always)]
-pub(crate) fn unpacked(packed: &Packed, in_full: &[Noted]) -> Noted
+pub(crate) fn unpacked(packed: &PackedNote, in_full: &[Noted]) -> Noted
     ensures { result ≡ note_of in_full.now packed.now }
 {
-    if let Kind::InFull = packed.kind {
+    if let NoteKind::InFull = packed.kind {
         return full_note(packed.word, in_full);
     }
     Noted {

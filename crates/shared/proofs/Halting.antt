@@ -18,8 +18,8 @@ use Rattle.core_steps.specs.declared.machine.Finished.TheVariants.{Last, Stuck}
 use Rattle.core_steps.specs.Finishing.{Calls, Finishes, FinishesAfter, IsCallRefused, IsRefused}
 use Rattle.core_steps.specs.Moving.{Tries}
 use Rattle.core_steps.specs.Machine.{IsLegal}
-use Rattle.shared.specs.declared.whole.Ended.{Ended}
-use Rattle.shared.specs.declared.whole.Ended.TheVariants as To
+use Rattle.shared.specs.declared.whole.CallEnd.{CallEnd}
+use Rattle.shared.specs.declared.whole.CallEnd.TheVariants as To
 use Rattle.shared.specs.Histories.{Ends, IsOver}
 use Rattle.shared.specs.Calling.{ComesTo, EndsFrom, Halts, HaltsTo, InCall, IsAnswered, IsLetGo, LeavesHalted, Rests, TakesPast, Wants, ended_by, is_answered}
 use Rattle.shared.proofs.InCalls.{Ends-at-once, along, began, call_begins, call_made, call_refused, calls_first, event_on, finish_ends}
@@ -72,14 +72,14 @@ call_comes w c request finished v here legal calm k = ⊎_elim
     (began k.0)
 
 -- a call and what settles it
-pub call_settles : (w : World) (c : ℕ) (request : Request) (finished : Finished) (m : World) (ended : Ended) (v : World) → c < w.made.cores → IsLegal w
+pub call_settles : (w : World) (c : ℕ) (request : Request) (finished : Finished) (m : World) (ended : CallEnd) (v : World) → c < w.made.cores → IsLegal w
     → IsCalm w
     → Calls w c request finished m → EndsFrom (ComesTo finished) m c ended v → Ends w c request ended v × (v.made ≡ w.made)
 call_settles w c request finished m ended v here legal calm called settled =
     settled w request (call_made w c request finished m called) (call_comes w c request finished m here legal calm called)
 
 -- a call that was refused memory, and how it is given up
-pub call_gives_up : (kept : Bool) (w : World) (c : ℕ) (request : Request) (m : World) (ended : Ended) (v : World) → IsLegal w → IsCalm w
+pub call_gives_up : (kept : Bool) (w : World) (c : ℕ) (request : Request) (m : World) (ended : CallEnd) (v : World) → IsLegal w → IsCalm w
     → IsCallRefused kept w c request m
     → EndsFrom Wants m c ended v → Ends w c request ended v × (v.made ≡ w.made)
 call_gives_up kept w c request m ended v legal calm k ends =
@@ -88,9 +88,9 @@ call_gives_up kept w c request m ended v legal calm k ends =
 
 -- ---- what settles a call
 
-pub settled_answered : (x : World) (c : ℕ) (finished : Finished) (ended : Ended) → is_answered finished ≡ true → ended ≡ ended_by finished
+pub settled_answered : (x : World) (c : ℕ) (finished : Finished) (ended : CallEnd) → is_answered finished ≡ true → ended ≡ ended_by finished
     → EndsFrom (ComesTo finished) x c ended x
-settled_answered x c (Last (Answered reply)) ended a e = λ w request made k. (subst (λ (e : Ended). Ends w c request e x) (sym e) k, made)
+settled_answered x c (Last (Answered reply)) ended a e = λ w request made k. (subst (λ (e : CallEnd). Ends w c request e x) (sym e) k, made)
 settled_answered x c (Last Stepped) ended a e = absurd cc
 settled_answered x c (Last (Wait by)) ended a e = absurd cc
 settled_answered x c (Last Idle) ended a e = absurd cc
@@ -114,7 +114,7 @@ settled_free x c finished a free = λ w request made k. (
   made,
 )
 
-pub settled_waits : (x : World) (c : ℕ) (finished : Finished) (ended : Ended) (v : World) → is_answered finished ≡ false → x.calls.phase c ≢ Free
+pub settled_waits : (x : World) (c : ℕ) (finished : Finished) (ended : CallEnd) (v : World) → is_answered finished ≡ false → x.calls.phase c ≢ Free
     → EndsFrom Halts x c ended v
     → EndsFrom (ComesTo finished) x c ended v
 settled_waits x c finished ended v a runs ends = λ w request made k.
@@ -214,11 +214,11 @@ halts_last set n u c v all before = λ w request k.
 -- ---- ending a call that is in flight
 
 -- one that was finished
-pub finish_by : (w : World) (c : ℕ) (request : Request) (x : World) (finished : Finished) (v : World) (ended : Ended) → InCall w c request x
+pub finish_by : (w : World) (c : ℕ) (request : Request) (x : World) (finished : Finished) (v : World) (ended : CallEnd) → InCall w c request x
     → Finishes x c finished v
     → AnswersOr finished v → ended ≡ ended_by finished → Ends w c request ended v × (v.made ≡ w.made)
 finish_by w c request x finished v ended k f answers is =
-    (subst (λ (e : Ended). Ends w c request e v) (sym is) (go finished f answers), finish_made x c finished v f ∙ k.made)
+    (subst (λ (e : CallEnd). Ends w c request e v) (sym is) (go finished f answers), finish_made x c finished v f ∙ k.made)
   where
     spent : (finished : Finished) → is_answered finished ≡ false → InCall w c request v → AnswersOr finished v → Ends w c request To.Spent v
     spent finished no_reply on answers = (
@@ -235,12 +235,12 @@ finish_by w c request x finished v ended k f answers is =
     go (Last Full) f a = spent (Last Full) refl (finish_on w c request x (Last Full) v k f refl) a
 
 -- where it was let go
-pub let_go_ends : (u x : World) (c : ℕ) (finished : Finished) (v : World) (ended : Ended) → LeavesHalted IsLetGo u c x → Finishes x c finished v
+pub let_go_ends : (u x : World) (c : ℕ) (finished : Finished) (v : World) (ended : CallEnd) → LeavesHalted IsLetGo u c x → Finishes x c finished v
     → ended ≡ ended_by finished → EndsFrom Halts u c ended v
 let_go_ends u x c finished v ended lets f is = λ w request made k.
     let h = lets w request k in finish_by w c request x finished v ended h.0 f (let_go_finishes x c request finished v h.1 f) is
 
-pub let_go_refused : (keeps : Bool) (u x : World) (c : ℕ) (m : World) (ended : Ended) (v : World) → LeavesHalted IsLetGo u c x → IsRefused keeps x c m
+pub let_go_refused : (keeps : Bool) (u x : World) (c : ℕ) (m : World) (ended : CallEnd) (v : World) → LeavesHalted IsLetGo u c x → IsRefused keeps x c m
     → EndsFrom Wants m c ended v
     → EndsFrom Halts u c ended v
 let_go_refused keeps u x c m ended v lets r ends = λ w request made k.
@@ -257,7 +257,7 @@ gives_then w c request x m r k t =
     let here : c < x.made.cores = ∥∥₁_elim k.0.reached (hlevel props) (λ r. has_core x c (reached_fine x r).order (wants_busy k.1.0 x c k.1.1)) in
     (event_on w c request x m (EventOf.GiveUp c) one.0 (gives_beside c) k.0 one.1, gives_up k.1.0 x c one.0 m here k.1.1 one.1)
 
-pub given_up_ends : (x m : World) (c : ℕ) (r : Result Outcome NoMemory) (finished : Finished) (v : World) (ended : Ended)
+pub given_up_ends : (x m : World) (c : ℕ) (r : Result Outcome NoMemory) (finished : Finished) (v : World) (ended : CallEnd)
     → Tries (Step x (EventOf.GiveUp c)) ⊥ x r m
     → Finishes m c finished v → ended ≡ ended_by finished → EndsFrom Wants x c ended v
 given_up_ends x m c r finished v ended t f is = λ w request made k.

@@ -27,7 +27,7 @@ use Rattle.core_steps.specs.Finishing.{Calls, Finishes, FinishesAfter, IsRefused
 use Rattle.core_steps.specs.Moving.{Tries}
 use Rattle.core_steps.specs.Machine.{IsLegal}
 use Rattle.core_steps.proofs.Keeping.{step_made}
-use Rattle.shared.specs.declared.history.History.{History}
+use Rattle.shared.specs.declared.history.SeenLog.{SeenLog}
 use Rattle.shared.specs.declared.history.Replied.{Replied}
 use Rattle.shared.specs.Histories.{Adds, history_of, replied, replied_by, replied_in}
 use Rattle.shared.specs.Calling.{CalmBelow, InCall, logged, reply_in}
@@ -60,25 +60,25 @@ open_still phase s e ne f = ne (sym e ∙ ap status f)
 
 -- ---- what a step adds
 
-abbrev history : List Request → List Entry → History
+abbrev history : List Request → List Entry → SeenLog
 history rs es = record { requests = rs; entries = es }
 
 -- the log and the requests stay
-adds_same : (c : ℕ) (added : List Replied) (h : History) (k l : History) → l ≡ k → Adds c added h k → Adds c added h l
+adds_same : (c : ℕ) (added : List Replied) (h : SeenLog) (k l : SeenLog) → l ≡ k → Adds c added h k → Adds c added h l
 adds_same c added h k l e a = subst (Adds c added h) (sym e) a
 
-pub adds_nothing : (c : ℕ) (h k : History) → k ≡ h → Adds c [] h k
+pub adds_nothing : (c : ℕ) (h k : SeenLog) → k ≡ h → Adds c [] h k
 adds_nothing c h k e = subst (Adds c [] h) (sym e)
     (record { begins = (begins_self h.requests, begins_self h.entries); own = sym (append-nil (replied_by c h)); others = λ d ne. refl })
 
 -- an entry more
-adds_entry : (c : ℕ) (old new : List Replied) (h : History) (x v : World) (entry : Entry) → v.calls.requests ≡ x.calls.requests
+adds_entry : (c : ℕ) (old new : List Replied) (h : SeenLog) (x v : World) (entry : Entry) → v.calls.requests ≡ x.calls.requests
     → v.calls.log ≡ x.calls.log ++ entry ∷ []
     → replied_in c x.calls.requests (x.calls.log ++ entry ∷ []) ≡ replied_by c h ++ new
     → ((d : ℕ) → d ≢ c → replied_in d x.calls.requests (x.calls.log ++ entry ∷ []) ≡ replied_by d (history_of x))
     → Adds c old h (history_of x) → Adds c new h (history_of v)
 adds_entry c old new h x v entry same log own others a =
-    let k : History = record { requests = x.calls.requests; entries = x.calls.log ++ entry ∷ [] } in
+    let k : SeenLog = record { requests = x.calls.requests; entries = x.calls.log ++ entry ∷ [] } in
     let is : history_of v ≡ k = ap (λ (p : List Request × List Entry). history p.0 p.1) (λ i. (same i, log i)) in
     subst (Adds c new h) (sym is) (record {
       begins = begins_through h (history_of x) k a.begins (begins_self x.calls.requests, begins_more x.calls.log (entry ∷ []));
@@ -250,8 +250,8 @@ begun_by_effect w c request m calm known reached effect = elim effect [
     begun_in : m ≡ after_call c request (with_event w) → InCall w c request m
     begun_in h =
         let phase : m.calls.phase c ≡ Check request = ap (λ (v : World). v.calls.phase c) h ∙ put_same w.calls.phase c (Check request) in
-        let h_w : History = history_of w in
-        let now : History = record { requests = w.calls.requests ++ request ∷ []; entries = w.calls.log } in
+        let h_w : SeenLog = history_of w in
+        let now : SeenLog = record { requests = w.calls.requests ++ request ∷ []; entries = w.calls.log } in
         let adds : Adds c [] h_w now = record {
           begins = (begins_more w.calls.requests (request ∷ []), begins_self w.calls.log);
           own = request_more c w.calls.requests request w.calls.log known ∙ sym (append-nil (replied_by c h_w));

@@ -19,9 +19,9 @@ use Rattle.machine_model.proofs.SoundKept.{reached_fine}
 use Rattle.machine_model.specs.World.{World, Made}
 use Rattle.machine_model.specs.Alone.{IsCalm}
 use Rattle.core_steps.specs.Machine.{IsLegal}
-use Rattle.shared.specs.declared.history.History.{History}
+use Rattle.shared.specs.declared.history.SeenLog.{SeenLog}
 use Rattle.shared.specs.declared.history.Replied.{Replied}
-use Rattle.shared.specs.declared.history.Told.{Told}
+use Rattle.shared.specs.declared.history.JoinedCore.{JoinedCore}
 use Rattle.shared.specs.declared.space.Answer.{Answer}
 use Rattle.shared.specs.declared.space.Answer.TheVariants as Tells
 use Rattle.shared.specs.declared.space.Passed.TheVariants as By
@@ -31,12 +31,12 @@ use Rattle.machine_model.specs.declared.event.Outcome.{Outcome}
 use Rattle.machine_model.specs.declared.event.Outcome.TheVariants.{Full}
 use Rattle.shared.specs.declared.space.Calls.TheVariants as Lists
 use Rattle.shared.specs.declared.series.Series.{Series}
-use Rattle.shared.specs.declared.series.Stop.{Stop}
-use Rattle.shared.specs.declared.series.Stop.TheVariants as For
+use Rattle.shared.specs.declared.series.SeriesEnd.{SeriesEnd}
+use Rattle.shared.specs.declared.series.SeriesEnd.TheVariants as For
 use Rattle.shared.specs.Serial.{AreTold, EndsSeries, LeavesFor}
 use Rattle.shared.specs.declared.space.Known.{Known}
-use Rattle.shared.specs.declared.whole.Ended.{Ended}
-use Rattle.shared.specs.declared.whole.Ended.TheVariants as To
+use Rattle.shared.specs.declared.whole.CallEnd.{CallEnd}
+use Rattle.shared.specs.declared.whole.CallEnd.TheVariants as To
 use Rattle.shared.specs.Histories.{Adds, Begins, Ends, IsFull, IsOver, StepsAside, event_of, history_of, replied, replied_by}
 use Rattle.shared.specs.Cores.{Agrees, Answers, AnswersAll, Came, Extends, GoesFor, IsBeside, IsLater, IsTold, Passes, history_first, made_of}
 use Rattle.shared.specs.Rules.{CanGive, Fits, Gives, Holds, Home, Kept, Learns, Makes, Out, Takes, Took, after, answer_of, first_known}
@@ -46,7 +46,7 @@ use Rattle.shared.proofs.Limits.{over_full}
 use Rattle.shared.proofs.Lists.{begins_self, begins_through}
 use Rattle.shared.proofs.Views.{above_spare, as_elem, each_at, each_end, not_both, not_true, one_entry, set_there, still_at}
 
-pub begins_again : (h : History) → Begins h h
+pub begins_again : (h : SeenLog) → Begins h h
 begins_again h = (begins_self h.requests, begins_self h.entries)
 
 module _ {S : Type 0} (state : S → World) (key : List S) where
@@ -231,12 +231,12 @@ module _ {S : Type 0} (state : S → World) (key : List S) where
       (λ (o : Out state s k.history).
       let fits = k.each id me.0 at in
       let here = o.one_holds id me.0 at can.holds in
-      let h : History = history_of (state d) in
+      let h : SeenLog = history_of (state d) in
       let w : Known S = after me.0 (history_carried state me.1) in
       let first : history_carried state me.1 ≡ h = ap (history_carried state) has in
       let adds : Adds me.0.core can.adds.0 k.history h = subst (λ x. Adds me.0.core can.adds.0 x h) here.1 can.adds.1 in
-      let further : (x : History) → Begins x k.history → Begins x h = λ x b. begins_through x k.history h b adds.begins in
-      let told_more : (t : Told) → IsTold k.history t × (k.gone t.core ≡ true) → IsTold h t × (k.gone t.core ≡ true) = λ t old.
+      let further : (x : SeenLog) → Begins x k.history → Begins x h = λ x b. begins_through x k.history h b adds.begins in
+      let told_more : (t : JoinedCore) → IsTold k.history t × (k.gone t.core ≡ true) → IsTold h t × (k.gone t.core ≡ true) = λ t old.
       let differ : t.core ≢ me.0.core = λ same. not_both (k.gone t.core) (ap k.gone same ∙ fits.stays can.live) old.1 in
       ((further t.seen old.0.0, adds.others t.core differ ∙ old.0.1), old.1) in (
         w,
@@ -413,9 +413,9 @@ module _ {S : Type 0} (state : S → World) (key : List S) where
       let last = k.each other w there in
       let gone : ℕ → Bool = λ c. cond (eqb c w.core) true (k.gone c) in
       let still_here : (c : ℕ) → c ≢ w.core → k.gone c ≡ false → gone c ≡ false = λ c not e. ap (λ y. cond y true (k.gone c)) (ne_eqb c w.core not) ∙ e in
-      let told_still : (t : Told) → IsTold k.history t × (k.gone t.core ≡ true) → IsTold k.history t × (gone t.core ≡ true) =
+      let told_still : (t : JoinedCore) → IsTold k.history t × (k.gone t.core ≡ true) → IsTold k.history t × (gone t.core ≡ true) =
       λ t old. (old.0, still (eqb t.core w.core) (k.gone t.core) old.1) in
-      let new : Told = record { core = w.core; seen = w.seen; mine = w.mine } in
+      let new : JoinedCore = record { core = w.core; seen = w.seen; mine = w.mine } in
       record {
         history = k.history;
         seat_of = k.seat_of;
@@ -558,23 +558,23 @@ module _ {S : Type 0} (state : S → World) (key : List S) where
       → IsBeside state (view_of space m.0)
   busy_beside space n m w ne zero t live idle = (took_none n m w ne t).2 zero live idle space
 
-  what_added : (w : World) (core : ℕ) (request : Request) (ended : Ended) (v : World) → Ends w core request ended v
+  what_added : (w : World) (core : ℕ) (request : Request) (ended : CallEnd) (v : World) → Ends w core request ended v
       → (added : List Replied) × Adds core added (history_of w) (history_of v)
   what_added w core request (To.Reply reply) v h = (replied request reply ∷ [], h.1)
   what_added w core request To.Refused v h = ([], h.1)
   what_added w core request To.Spent v h = h.0
 
-  over_then : (w : World) (core : ℕ) (request : Request) (ended : Ended) (v : World) → Ends w core request ended v → word_of ended ≢ 1 → IsOver v
+  over_then : (w : World) (core : ℕ) (request : Request) (ended : CallEnd) (v : World) → Ends w core request ended v → word_of ended ≢ 1 → IsOver v
   over_then w core request (To.Reply reply) v h ne = absurd (ne refl)
   over_then w core request To.Refused v h ne = absurd (ne refl)
   over_then w core request To.Spent v h ne = h.1
 
-  is_calm_then : (w : World) (core : ℕ) (request : Request) (ended : Ended) (v : World) → Ends w core request ended v → word_of ended ≡ 1 → IsCalm v
+  is_calm_then : (w : World) (core : ℕ) (request : Request) (ended : CallEnd) (v : World) → Ends w core request ended v → word_of ended ≡ 1 → IsCalm v
   is_calm_then w core request (To.Reply reply) v h e = h.0
   is_calm_then w core request To.Refused v h e = h.0
   is_calm_then w core request To.Spent v h e = absurd (omega (arith, e))
 
-  never_out : (ended : Ended) → word_of ended ≢ 0
+  never_out : (ended : CallEnd) → word_of ended ≢ 0
   never_out (To.Reply reply) e = omega (arith, e)
   never_out To.Refused e = omega (arith, e)
   never_out To.Spent e = omega (arith, e)
@@ -601,7 +601,7 @@ module _ {S : Type 0} (state : S → World) (key : List S) where
   )
 
   -- after a call
-  pub call_gives : (v now : Known S) (d : S) (number : ℕ) (request : Request) (ended : Ended) (carried : List (ℕ × S)) (word : ℕ) → v.live ≡ true
+  pub call_gives : (v now : Known S) (d : S) (number : ℕ) (request : Request) (ended : CallEnd) (carried : List (ℕ × S)) (word : ℕ) → v.live ≡ true
       → number ≡ v.core → Learns state v d
       → Makes state d (λ x y. Ends x number request ended y) carried → now ≡ holding v (history_of (state d)) → word ≡ word_of ended
       → (x : S) × (carried ≡ (0, x) ∷ []) × CanGive state now x word
@@ -615,7 +615,7 @@ module _ {S : Type 0} (state : S → World) (key : List S) where
       (what_added (state d) v.core request ended e ends)
 
   -- after calls one after another
-  series_added : (stop : Stop) (w : World) (core : ℕ) (added : List Replied) (v : World) → LeavesFor stop w core added v
+  series_added : (stop : SeriesEnd) (w : World) (core : ℕ) (added : List Replied) (v : World) → LeavesFor stop w core added v
       → (all : List Replied) × Adds core all (history_of w) (history_of v)
   series_added For.Done w core added v h = (added, h.1)
   series_added For.NoCall w core added v h = (added, h.1)
@@ -623,18 +623,18 @@ module _ {S : Type 0} (state : S → World) (key : List S) where
   series_added For.Refused w core added v h = (added, h.1)
   series_added For.Spent w core added v h = (added ++ h.0.0, h.0.1)
 
-  series_over : (stop : Stop) (w : World) (core : ℕ) (added : List Replied) (v : World) → LeavesFor stop w core added v → word_after stop ≢ 1 → IsOver v
+  series_over : (stop : SeriesEnd) (w : World) (core : ℕ) (added : List Replied) (v : World) → LeavesFor stop w core added v → word_after stop ≢ 1 → IsOver v
   series_over For.Spent w core added v h ne = h.1
   series_over _ w core added v h ne = absurd (ne refl)
 
-  series_calm : (stop : Stop) (w : World) (core : ℕ) (added : List Replied) (v : World) → LeavesFor stop w core added v → word_after stop ≡ 1 → IsCalm v
+  series_calm : (stop : SeriesEnd) (w : World) (core : ℕ) (added : List Replied) (v : World) → LeavesFor stop w core added v → word_after stop ≡ 1 → IsCalm v
   series_calm For.Done w core added v h e = h.0
   series_calm For.NoCall w core added v h e = h.0
   series_calm For.NoMemory w core added v h e = h.0
   series_calm For.Refused w core added v h e = h.0
   series_calm For.Spent w core added v h e = absurd (omega (arith, e))
 
-  never_out_after : (stop : Stop) → word_after stop ≢ 0
+  never_out_after : (stop : SeriesEnd) → word_after stop ≢ 0
   never_out_after For.Spent e = omega (arith, e)
   never_out_after _ e = omega (arith, e)
 
@@ -669,7 +669,7 @@ module _ {S : Type 0} (state : S → World) (key : List S) where
   abbrev Idle : ℕ → ℕ → Me S (Known S) → Type 0
   Idle number left me = (me.1 ≡ []) × (me.0.holds ≡ false) × (me.0.live ≡ true) × (number ≡ me.0.core) × (left ≡ me.0.spare) × (left < 64)
 
-  pub is_idle : (number left : ℕ) (start held gave : Me S (Known S)) (h k : History) → Idle number left start → held.0 ≡ holding start.0 h
+  pub is_idle : (number left : ℕ) (start held gave : Me S (Known S)) (h k : SeenLog) → Idle number left start → held.0 ≡ holding start.0 h
       → gave ≡ (after held.0 k, []) → Idle number left gave
   is_idle number left start held gave h k idle holds back =
       subst (Idle number left) (sym (back ∙ ap (λ (u : Known S). (after u k, [])) holds)) (refl, refl, idle.2, idle.3, idle.4, idle.5)
@@ -691,7 +691,7 @@ module _ {S : Type 0} (state : S → World) (key : List S) where
       → IsLater state v.first (history_of (state e)) (state e)
   later v d e live learns made legal = record { legal = legal; made = made ∙ learns.made live; begun = begins_again (history_of (state e)) }
 
-  pub call_answers : (space other : TableId) (v w : Known S) (d : S) (number : ℕ) (request : Request) (ended : Ended) (answer : Answer)
+  pub call_answers : (space other : TableId) (v w : Known S) (d : S) (number : ℕ) (request : Request) (ended : CallEnd) (answer : Answer)
       (carried : List (ℕ × S)) → other ≡ space → v.live ≡ true
       → number ≡ v.core → Learns state v d → (makes : Makes state d (λ x y. Ends x number request ended y) carried)
       → w ≡ after (holding v (history_of (state d))) (history_of (state makes.machine)) → answer ≡ answer_of ended
@@ -707,7 +707,7 @@ module _ {S : Type 0} (state : S → World) (key : List S) where
       full : IsFull (state e) → (u : World) × IsLater state v.first (history_of (state e)) u × IsFull u
       full limit = (state e, later v d e live learns makes.made makes.legal, limit)
 
-      go : (ended : Ended) → Ends (state d) v.core request ended (state e)
+      go : (ended : CallEnd) → Ends (state d) v.core request ended (state e)
           → Answers state (view_of space v) request (answer_of ended) (view_of space (after (holding v (history_of (state d))) (history_of (state e))))
       go (To.Reply reply) h = extends space v d e (replied request reply ∷ []) live learns h.1 makes.made makes.legal
       go To.Refused h = (inr ([], extends space v d e [] live learns h.1 makes.made makes.legal), full h.2)
@@ -745,7 +745,7 @@ module _ {S : Type 0} (state : S → World) (key : List S) where
       full : IsFull (state e) → (u : World) × IsLater state v.first (history_of (state e)) u × IsFull u
       full limit = (state e, later v d e live learns makes.made makes.legal, limit)
 
-      go : (stop : Stop) → LeavesFor stop (state d) v.core added (state e) → GoesFor state stop (view_of space v) added (view_of space now)
+      go : (stop : SeriesEnd) → LeavesFor stop (state d) v.core added (state e) → GoesFor state stop (view_of space v) added (view_of space now)
       go For.Done h = on added h.1
       go For.NoCall h = on added h.1
       go For.NoMemory h = on added h.1

@@ -5,7 +5,7 @@ use Rattle.machine_model.proofs.Words.{Plain, Replays}
 use Rattle.std.proofs.Common.{eq-eqb, ne_eqb}
 use Rattle.machine_model.proofs.Numbered.{at_old}
 use Rattle.vm_base.specs.declared.log.Entry.TheVariants.{Answer, Detach}
-use Rattle.shared.specs.declared.history.History.{History}
+use Rattle.shared.specs.declared.history.SeenLog.{SeenLog}
 use Rattle.shared.specs.declared.history.Replied.{Replied}
 use Rattle.shared.specs.Histories.{Begins, replied, replied_in, with_reply}
 
@@ -31,7 +31,7 @@ begins_trans {A = A} (x ∷ xs) (y ∷ ys) (z ∷ zs) e f =
     let d : take (length ys) zs ≡ ys = cc in
     ap (λ (p : A × List A). p.0 ∷ p.1) (λ i. ((c ∙ a) i, begins_trans xs ys zs b d i))
 
-pub begins_through : (h k l : History) → Begins h k → Begins k l → Begins h l
+pub begins_through : (h k l : SeenLog) → Begins h k → Begins k l → Begins h l
 begins_through h k l b c = (begins_trans h.requests k.requests l.requests b.0 c.0, begins_trans h.entries k.entries l.entries b.1 c.1)
 
 -- ---- calls

@@ -5,12 +5,12 @@ use Rattle.std.specs.Prelude.{slice_get}
 use Rattle.std.proofs.lemmas.List.{get_or-map, length-map, map_push}
 use Rattle.vm_base.specs.declared.replies.Reply.TheVariants.{NoMemory}
 use Rattle.machine_model.specs.Alone.{IsCalm}
-use Rattle.shared.specs.declared.history.History.{History}
+use Rattle.shared.specs.declared.history.SeenLog.{SeenLog}
 use Rattle.shared.specs.declared.history.Replied.{Replied}
-use Rattle.shared.specs.declared.series.Stop.{Stop}
-use Rattle.shared.specs.declared.series.Stop.TheVariants as For
-use Rattle.shared.specs.declared.whole.Ended.{Ended}
-use Rattle.shared.specs.declared.whole.Ended.TheVariants as To
+use Rattle.shared.specs.declared.series.SeriesEnd.{SeriesEnd}
+use Rattle.shared.specs.declared.series.SeriesEnd.TheVariants as For
+use Rattle.shared.specs.declared.whole.CallEnd.{CallEnd}
+use Rattle.shared.specs.declared.whole.CallEnd.TheVariants as To
 use Rattle.shared.specs.Histories.{Adds, Ends, IsFull, IsOver, history_of, replied, replied_by}
 use Rattle.shared.specs.Serial.{AllGranted, AreFirst, AreTold, EndsSeries, MakesOne, stop_after, stop_for, told_for}
 use Rattle.shared.proofs.Lists.{begins_through}
@@ -19,7 +19,7 @@ use Rattle.shared.proofs.Places.{one_longer, same_place, told_more}
 
 -- ---- what histories grow by
 
-pub adds_more : (c : ℕ) (a b : List Replied) (h k l : History) → Adds c a h k → Adds c b k l → Adds c (a ++ b) h l
+pub adds_more : (c : ℕ) (a b : List Replied) (h k l : SeenLog) → Adds c a h k → Adds c b k l → Adds c (a ++ b) h l
 adds_more c a b h k l x y = record {
   begins = begins_through h k l x.begins y.begins;
   own = y.own ∙ (ap (λ r. r ++ b) x.own ∙ append_assoc (replied_by c h) a b);
@@ -70,7 +70,7 @@ module _ {T : Type 0} (told_of : Reply → T) (m : World) (c : ℕ) where
   one_done None was put v k = absurd (let z = k.0 in cc)
   one_done (Some request) was put v k = go k.0 k.1 k.2 k.3
     where
-      go : (ended : Ended) → Ends m c request ended v → For.Done ≡ stop_for ended → put ≡ told_for told_of ended was
+      go : (ended : CallEnd) → Ends m c request ended v → For.Done ≡ stop_for ended → put ≡ told_for told_of ended was
           → (call : Replied) × IsMade (Some request) put call v × (call.reply ≢ NoMemory)
       go (To.Reply reply) e s p = (replied request reply, made_by request reply was put v e p, is_granted reply s)
       go To.Refused e s p = absurd cc
@@ -81,7 +81,7 @@ module _ {T : Type 0} (told_of : Reply → T) (m : World) (c : ℕ) where
   one_refused None was put v k = absurd (let z = k.0 in cc)
   one_refused (Some request) was put v k = go k.0 k.1 k.2 k.3
     where
-      go : (ended : Ended) → Ends m c request ended v → For.NoMemory ≡ stop_for ended → put ≡ told_for told_of ended was
+      go : (ended : CallEnd) → Ends m c request ended v → For.NoMemory ≡ stop_for ended → put ≡ told_for told_of ended was
           → (call : Replied) × IsMade (Some request) put call v × (call.reply ≡ NoMemory)
       go (To.Reply reply) e s p = (replied request reply, made_by request reply was put v e p, is_refused reply s)
       go To.Refused e s p = absurd cc
@@ -91,7 +91,7 @@ module _ {T : Type 0} (told_of : Reply → T) (m : World) (c : ℕ) where
   one_no_call None was put v k = (refl, k.1, k.2)
   one_no_call (Some request) was put v k = absurd (go k.0 k.2)
     where
-      go : (ended : Ended) → For.NoCall ≡ stop_for ended → ⊥
+      go : (ended : CallEnd) → For.NoCall ≡ stop_for ended → ⊥
       go (To.Reply reply) s = no_call_after reply s
       go To.Refused s = cc
       go To.Spent s = cc
@@ -101,7 +101,7 @@ module _ {T : Type 0} (told_of : Reply → T) (m : World) (c : ℕ) where
   one_limited None was put v k = absurd (let z = k.0 in cc)
   one_limited (Some request) was put v k = go k.0 k.1 k.2 k.3
     where
-      go : (ended : Ended) → Ends m c request ended v → For.Refused ≡ stop_for ended → put ≡ told_for told_of ended was
+      go : (ended : CallEnd) → Ends m c request ended v → For.Refused ≡ stop_for ended → put ≡ told_for told_of ended was
           → (put ≡ was) × IsCalm v × Adds c [] (history_of m) (history_of v) × IsFull v
       go (To.Reply reply) e s p = absurd (no_limit_after reply s)
       go To.Refused e s p = (p, e.0, e.1, e.2)
@@ -112,7 +112,7 @@ module _ {T : Type 0} (told_of : Reply → T) (m : World) (c : ℕ) where
   one_spent None was put v k = absurd (let z = k.0 in cc)
   one_spent (Some request) was put v k = go k.0 k.1 k.2 k.3
     where
-      go : (ended : Ended) → Ends m c request ended v → For.Spent ≡ stop_for ended → put ≡ told_for told_of ended was
+      go : (ended : CallEnd) → Ends m c request ended v → For.Spent ≡ stop_for ended → put ≡ told_for told_of ended was
           → (put ≡ was) × ((more : List Replied) × Adds c more (history_of m) (history_of v)) × IsOver v
       go (To.Reply reply) e s p = absurd (none_spent_after reply s)
       go To.Refused e s p = absurd cc
@@ -132,7 +132,7 @@ module _ {Q T : Type 0} (request_of : Q → Option Request) (told_of : Reply →
     pub adds : Adds c added (history_of w) (history_of v)
 
   -- what the series comes to
-  abbrev pub SeriesEnds : ℕ → List T → Stop → List T → World → Type 0
+  abbrev pub SeriesEnds : ℕ → List T → SeriesEnd → List T → World → Type 0
   SeriesEnds made was stop told v = (added : List Replied) × AreTold told_of added was told × (made ≡ length added)
       × EndsSeries w c (map request_of asks) added stop v
 

@@ -5,7 +5,7 @@ use mathlib.Core.Bool.{Bool, true, false}
 use mathlib.Core.Option.{some, some-ne-none, some-injective}
 use lib.ListN.{get_elem?}
 use Rattle.atomic_table.proofs.Lists.{at_set}
-use Rattle.shared.specs.declared.history.Told.{Told}
+use Rattle.shared.specs.declared.history.JoinedCore.{JoinedCore}
 
 module _ {A : Type 0} where
   pub each_at : (P : ℕ → A → Type 0) (l : List A) (i : ℕ) (w : A) → ((k : ℕ) (v : A) → k ≢ i → get_elem? l k ≡ some v → P k v) → P i w
@@ -41,7 +41,7 @@ module _ {A : Type 0} where
   pub one_entry : (l : List A) (i j : ℕ) (v w : A) → get_elem? l i ≡ some v → get_elem? l j ≡ some w → i ≡ j → v ≡ w
   one_entry l i j v w here there same = some-injective v w (sym here ∙ (ap (get_elem? l) same ∙ there))
 
-pub as_elem : (ts : List Told) (n : ℕ) (t : Told) → slice_get ts n ≡ Some t → get_elem? ts n ≡ some t
+pub as_elem : (ts : List JoinedCore) (n : ℕ) (t : JoinedCore) → slice_get ts n ≡ Some t → get_elem? ts n ≡ some t
 as_elem [] n t e = absurd cc
 as_elem (x ∷ xs) zero t e = ap some cc
 as_elem (x ∷ xs) (suc n) t e = as_elem xs n t e

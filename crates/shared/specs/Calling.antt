@@ -15,8 +15,8 @@ use Rattle.machine_model.specs.Sound.{IsReached}
 use Rattle.machine_model.specs.Alone.{IsWaiting, left_to}
 use Rattle.core_steps.specs.Moving.{MayWant}
 use Rattle.shared.specs.declared.history.Replied.{Replied}
-use Rattle.shared.specs.declared.whole.Ended.{Ended}
-use Rattle.shared.specs.declared.whole.Ended.TheVariants as To
+use Rattle.shared.specs.declared.whole.CallEnd.{CallEnd}
+use Rattle.shared.specs.declared.whole.CallEnd.TheVariants as To
 use Rattle.shared.specs.Histories.{Adds, Ends, IsOver, history_of, replied}
 
 -- the reply that a call in this phase has in the log
@@ -66,12 +66,12 @@ ComesTo (Last (Answered reply)) w core request v = Ends w core request (To.Reply
 ComesTo _ w core request v = Halts w core request v ⊎ Ends w core request To.Refused v
 
 -- what is done from x on, where the call stands so, ends it
-abbrev pub EndsFrom : (World → ℕ → Request → World → Type 0) → World → ℕ → Ended → World → Type 0
+abbrev pub EndsFrom : (World → ℕ → Request → World → Type 0) → World → ℕ → CallEnd → World → Type 0
 EndsFrom Stands x core ended v = (w : World) (request : Request) → x.made ≡ w.made
     → Stands w core request x → Ends w core request ended v × (v.made ≡ w.made)
 
 -- what finishing a call came to
-abbrev pub ended_by : Finished → Ended
+abbrev pub ended_by : Finished → CallEnd
 ended_by (Last (Answered reply)) = To.Reply reply
 ended_by _ = To.Spent
 

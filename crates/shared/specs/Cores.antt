@@ -9,17 +9,17 @@ use Rattle.machine_model.specs.World.{World, Made}
 use Rattle.machine_model.specs.Alone.{IsCalm}
 use Rattle.core_steps.specs.Machine.{IsLegal}
 use Rattle.shared.specs.declared.asides.Aside.{Aside}
-use Rattle.shared.specs.declared.history.History.{History}
+use Rattle.shared.specs.declared.history.SeenLog.{SeenLog}
 use Rattle.shared.specs.declared.history.Replied.{Replied}
-use Rattle.shared.specs.declared.history.Told.{Told}
+use Rattle.shared.specs.declared.history.JoinedCore.{JoinedCore}
 use Rattle.shared.specs.declared.space.Answer.{Answer}
 use Rattle.shared.specs.declared.space.Answer.TheVariants as To
 use Rattle.shared.specs.declared.space.Passed.{Passed}
 use Rattle.shared.specs.declared.space.Passed.TheVariants as By
-use Rattle.shared.specs.declared.space.Refusal.{Refusal}
-use Rattle.shared.specs.declared.space.Refusal.TheVariants as Why
-use Rattle.shared.specs.declared.series.Stop.{Stop}
-use Rattle.shared.specs.declared.series.Stop.TheVariants as For
+use Rattle.shared.specs.declared.space.ShareFault.{ShareFault}
+use Rattle.shared.specs.declared.space.ShareFault.TheVariants as Why
+use Rattle.shared.specs.declared.series.SeriesEnd.{SeriesEnd}
+use Rattle.shared.specs.declared.series.SeriesEnd.TheVariants as For
 use Rattle.shared.specs.declared.space.Calls.{Calls}
 use Rattle.shared.specs.declared.space.Calls.TheVariants as Lists
 use Rattle.shared.specs.Serial.{AreFirst, AreTold, StopsFor}
@@ -33,22 +33,22 @@ pub record CoreView (S : Type 0) : Type 0 where
   -- the machine, as it was shared
   pub first : List S
   -- the machine's history, as it was when this core's last call ended
-  pub seen : History
+  pub seen : SeenLog
   -- the calls of this core, each with the reply that it was told
   pub mine : List Replied
   -- what the cores knew that it took in
-  pub others : List Told
+  pub others : List JoinedCore
 
-abbrev pub told_of : {S : Type 0} → CoreView S → Told
+abbrev pub told_of : {S : Type 0} → CoreView S → JoinedCore
 told_of c = record { core = c.core; seen = c.seen; mine = c.mine }
 
 -- why a machine stays with its owner: a core of it has a call, or it has none; else memory was refused
-abbrev pub IsKept : Refusal → World → Type 0
+abbrev pub IsKept : ShareFault → World → Type 0
 IsKept Why.NotCalm w = (w.made.cores ≡ 0) ⊎ (IsCalm w → ⊥)
 IsKept Why.NoMemory w = IsCalm w
 
 -- the core's calls in the history are those of t, which saw how it began
-abbrev pub IsTold : History → Told → Type 0
+abbrev pub IsTold : SeenLog → JoinedCore → Type 0
 IsTold h t = Begins t.seen h × (replied_by t.core h ≡ t.mine)
 
 module _ {S : Type 0} (state : S → World) where
@@ -58,7 +58,7 @@ module _ {S : Type 0} (state : S → World) where
   made_of (x ∷ xs) = (state x).made
 
   -- its history when it was shared
-  abbrev pub history_first : List S → History
+  abbrev pub history_first : List S → SeenLog
   history_first [] = record { requests = []; entries = [] }
   history_first (x ∷ xs) = history_of (state x)
 
@@ -84,7 +84,7 @@ module _ {S : Type 0} (state : S → World) where
     pub same : w ≡ record v { seen = w.seen; mine = w.mine }
 
   -- a legal state of the machine that was shared, whose history began so
-  pub record IsLater (first : List S) (known : History) (u : World) : Type 0 where
+  pub record IsLater (first : List S) (known : SeenLog) (u : World) : Type 0 where
     pub legal : IsLegal u
     pub made : u.made ≡ made_of first
     pub begun : Begins known (history_of u)
@@ -101,7 +101,7 @@ module _ {S : Type 0} (state : S → World) where
     pub here : core < (made_of c.first).cores
     pub other : core ≢ c.core
     pub split : (core ≡ 0) ⊎ (c.spare < core)
-    pub away : (k : ℕ) (t : Told) → slice_get c.others k ≡ Some t → t.core ≢ core
+    pub away : (k : ℕ) (t : JoinedCore) → slice_get c.others k ≡ Some t → t.core ≢ core
 
   -- a core has such a seat
   abbrev pub IsBeside : CoreView S → Type 0
@@ -117,7 +117,7 @@ module _ {S : Type 0} (state : S → World) where
 
   -- The core's view goes on by these calls. At a limit it may not have looked, and the call that the limit of events
   -- stopped may stand in the log too.
-  abbrev pub GoesFor : Stop → CoreView S → List Replied → CoreView S → Type 0
+  abbrev pub GoesFor : SeriesEnd → CoreView S → List Replied → CoreView S → Type 0
   GoesFor For.Refused v added w = IsLimited v added w
   GoesFor For.Spent v added w = IsLimited v added w
   GoesFor _ v added w = Extends v added w
@@ -150,4 +150,4 @@ module _ {S : Type 0} (state : S → World) where
     pub legal : IsLegal u
     pub made : u.made ≡ made_of c.first
     pub own : IsTold (history_of u) (told_of c)
-    pub others : (k : ℕ) (t : Told) → slice_get c.others k ≡ Some t → IsTold (history_of u) t
+    pub others : (k : ℕ) (t : JoinedCore) → slice_get c.others k ≡ Some t → IsTold (history_of u) t

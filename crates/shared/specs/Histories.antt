@@ -13,12 +13,12 @@ use Rattle.machine_model.specs.World.{World}
 use Rattle.machine_model.specs.Alone.{IsCalm}
 use Rattle.shared.specs.declared.asides.Aside.{Aside}
 use Rattle.shared.specs.declared.asides.Aside.TheVariants as Does
-use Rattle.shared.specs.declared.history.History.{History}
+use Rattle.shared.specs.declared.history.SeenLog.{SeenLog}
 use Rattle.shared.specs.declared.history.Replied.{Replied}
-use Rattle.shared.specs.declared.whole.Ended.{Ended}
-use Rattle.shared.specs.declared.whole.Ended.TheVariants as To
+use Rattle.shared.specs.declared.whole.CallEnd.{CallEnd}
+use Rattle.shared.specs.declared.whole.CallEnd.TheVariants as To
 
-abbrev pub history_of : World → History
+abbrev pub history_of : World → SeenLog
 history_of w = record { requests = w.calls.requests; entries = w.calls.log }
 
 abbrev pub replied : Request → Reply → Replied
@@ -37,16 +37,16 @@ replied_in core requests (Answer step call by reply ∷ es) =
     (replied_in core requests es)
 replied_in core requests (Detach step call page ∷ es) = replied_in core requests es
 
-abbrev pub replied_by : ℕ → History → List Replied
+abbrev pub replied_by : ℕ → SeenLog → List Replied
 replied_by core h = replied_in core h.requests h.entries
 
 -- h is how k began
-abbrev pub Begins : History → History → Type 0
+abbrev pub Begins : SeenLog → SeenLog → Type 0
 Begins h k = (take (length h.requests) k.requests ≡ h.requests)
     × (take (length h.entries) k.entries ≡ h.entries)
 
 -- h went on to k, and of all cores only this one was replied to: to these calls
-pub record Adds (core : ℕ) (added : List Replied) (h k : History) : Type 0 where
+pub record Adds (core : ℕ) (added : List Replied) (h k : SeenLog) : Type 0 where
   pub begins : Begins h k
   pub own : replied_by core k ≡ replied_by core h ++ added
   pub others : (d : ℕ) → d ≢ core → replied_by d k ≡ replied_by d h
@@ -61,7 +61,7 @@ IsFull w = (w.made.calls ≤ length w.calls.requests) ⊎ IsOver w
 
 -- A whole call was replied, which left no call in flight. Or none could begin, and nothing was done;
 -- or it couldn't be ended: only where a limit is reached.
-abbrev pub Ends : World → ℕ → Request → Ended → World → Type 0
+abbrev pub Ends : World → ℕ → Request → CallEnd → World → Type 0
 Ends w core request (To.Reply reply) v =
     IsCalm v × Adds core (replied request reply ∷ []) (history_of w) (history_of v)
 Ends w core request To.Refused v =

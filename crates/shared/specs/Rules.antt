@@ -7,16 +7,16 @@ use Rattle.atomic_table.specs.Seated.{TableId}
 use Rattle.machine_model.specs.World.{World}
 use Rattle.machine_model.specs.Alone.{IsCalm}
 use Rattle.core_steps.specs.Machine.{IsLegal}
-use Rattle.shared.specs.declared.history.History.{History}
+use Rattle.shared.specs.declared.history.SeenLog.{SeenLog}
 use Rattle.shared.specs.declared.history.Replied.{Replied}
-use Rattle.shared.specs.declared.history.Told.{Told}
+use Rattle.shared.specs.declared.history.JoinedCore.{JoinedCore}
 use Rattle.shared.specs.declared.space.Answer.{Answer}
 use Rattle.shared.specs.declared.space.Answer.TheVariants as Tells
 use Rattle.shared.specs.declared.space.Known.{Known}
-use Rattle.shared.specs.declared.series.Stop.{Stop}
-use Rattle.shared.specs.declared.series.Stop.TheVariants as For
-use Rattle.shared.specs.declared.whole.Ended.{Ended}
-use Rattle.shared.specs.declared.whole.Ended.TheVariants as To
+use Rattle.shared.specs.declared.series.SeriesEnd.{SeriesEnd}
+use Rattle.shared.specs.declared.series.SeriesEnd.TheVariants as For
+use Rattle.shared.specs.declared.whole.CallEnd.{CallEnd}
+use Rattle.shared.specs.declared.whole.CallEnd.TheVariants as To
 use Rattle.shared.specs.Histories.{Adds, Begins, IsOver, history_of, replied_by}
 use Rattle.shared.specs.Cores.{CoreView, IsBeside, IsLater, IsTold, history_first, made_of}
 
@@ -27,7 +27,7 @@ middle = 8
 abbrev pub padded : ℕ → List ℕ
 padded word = 1 ∷ 1 ∷ 1 ∷ 1 ∷ 1 ∷ 1 ∷ 1 ∷ 1 ∷ word ∷ 1 ∷ 1 ∷ 1 ∷ 1 ∷ 1 ∷ 1 ∷ 1 ∷ 1 ∷ []
 
-abbrev pub known : {S : Type 0} → ℕ → ℕ → List S → History → List Replied → Known S
+abbrev pub known : {S : Type 0} → ℕ → ℕ → List S → SeenLog → List Replied → Known S
 known core spare first seen mine = record {
   core = core;
   spare = spare;
@@ -59,11 +59,11 @@ view_of space v = record {
 }
 
 -- the core has the machine, and knows its history
-abbrev pub holding : {S : Type 0} → Known S → History → Known S
+abbrev pub holding : {S : Type 0} → Known S → SeenLog → Known S
 holding v h = record v { seen = h; holds = true }
 
 -- the core gave it back with this history
-abbrev pub after : {S : Type 0} → Known S → History → Known S
+abbrev pub after : {S : Type 0} → Known S → SeenLog → Known S
 after v h = record v { seen = h; mine = replied_by v.core h; holds = false }
 
 -- a core that calls has the machine
@@ -84,7 +84,7 @@ module _ {S : Type 0} (state : S → World) where
 
   -- What a core knows is so, of the history h, of which core each seat has, and of the cores that are
   -- gone and make no call any more. The cores from 1 to `left` have no seat yet.
-  pub record Fits (key : List S) (h : History) (seat_of : ℕ → ℕ) (gone : ℕ → Bool) (left id : ℕ)
+  pub record Fits (key : List S) (h : SeenLog) (seat_of : ℕ → ℕ) (gone : ℕ → Bool) (left id : ℕ)
       (v : Known S) : Type 0 where
     pub seen : Begins v.seen h
     pub mine : v.live ≡ true → replied_by v.core h ≡ v.mine
@@ -94,11 +94,11 @@ module _ {S : Type 0} (state : S → World) where
     pub first : v.live ≡ true → v.first ≡ key
     pub stays : v.live ≡ true → gone v.core ≡ false
     pub spare : 0 < v.spare → (v.live ≡ true) × (v.core ≡ 0) × (v.spare ≡ left)
-    pub told : (k : ℕ) (t : Told) → get_elem? v.others k ≡ some t → IsTold h t × (gone t.core ≡ true)
+    pub told : (k : ℕ) (t : JoinedCore) → get_elem? v.others k ≡ some t → IsTold h t × (gone t.core ≡ true)
 
   -- the machine is at home, and nobody has it; where the word is 1, a call can begin, and else the
   -- limit of events is reached
-  pub record Home (key : List S) (s : State S (Known S)) (h : History) : Type 0 where
+  pub record Home (key : List S) (s : State S (Known S)) (h : SeenLog) : Type 0 where
     pub machine : S
     pub word : ℕ
     pub words : s.words ≡ padded word
@@ -112,7 +112,7 @@ module _ {S : Type 0} (state : S → World) where
     pub none_holds : (id : ℕ) (v : Known S) → get_elem? s.views id ≡ some v → v.holds ≡ false
 
   -- one core has it, which knows the whole history
-  pub record Out (s : State S (Known S)) (h : History) : Type 0 where
+  pub record Out (s : State S (Known S)) (h : SeenLog) : Type 0 where
     pub holder : ℕ
     pub words : s.words ≡ padded 0
     pub homes : s.homes ≡ none ∷ []
@@ -121,7 +121,7 @@ module _ {S : Type 0} (state : S → World) where
         → (id ≡ holder) × (v.seen ≡ h)
 
   pub record Kept (key : List S) (s : State S (Known S)) : Type 0 where
-    pub history : History
+    pub history : SeenLog
     pub seat_of : ℕ → ℕ
     pub gone : ℕ → Bool
     pub left : ℕ
@@ -154,7 +154,7 @@ module _ {S : Type 0} (state : S → World) where
   abbrev pub Takes : Step S → Me S (Known S) → ℕ → Me S (Known S) → Type 0
   Takes st m n w = Took n m w
 
-  abbrev pub history_carried : List (ℕ × S) → History
+  abbrev pub history_carried : List (ℕ × S) → SeenLog
   history_carried [] = record { requests = []; entries = [] }
   history_carried (x ∷ xs) = history_of (state x.1)
 
@@ -181,17 +181,17 @@ module _ {S : Type 0} (state : S → World) where
     pub legal : IsLegal (state machine)
 
 -- the word with which the machine is given back, after a call that came to this
-abbrev pub word_of : Ended → ℕ
+abbrev pub word_of : CallEnd → ℕ
 word_of (To.Reply reply) = 1
 word_of To.Refused = 1
 word_of To.Spent = 2
 
 -- and after calls that came to this
-abbrev pub word_after : Stop → ℕ
+abbrev pub word_after : SeriesEnd → ℕ
 word_after For.Spent = 2
 word_after _ = 1
 
 -- what the caller is told then
-abbrev pub answer_of : Ended → Answer
+abbrev pub answer_of : CallEnd → Answer
 answer_of (To.Reply reply) = Tells.Reply reply
 answer_of _ = Tells.Full

@@ -6,10 +6,10 @@ use Rattle.vm_base.specs.declared.replies.Reply.TheVariants.{NoMemory}
 use Rattle.machine_model.specs.World.{World}
 use Rattle.machine_model.specs.Alone.{IsCalm}
 use Rattle.shared.specs.declared.history.Replied.{Replied}
-use Rattle.shared.specs.declared.series.Stop.{Stop}
-use Rattle.shared.specs.declared.series.Stop.TheVariants as For
-use Rattle.shared.specs.declared.whole.Ended.{Ended}
-use Rattle.shared.specs.declared.whole.Ended.TheVariants as To
+use Rattle.shared.specs.declared.series.SeriesEnd.{SeriesEnd}
+use Rattle.shared.specs.declared.series.SeriesEnd.TheVariants as For
+use Rattle.shared.specs.declared.whole.CallEnd.{CallEnd}
+use Rattle.shared.specs.declared.whole.CallEnd.TheVariants as To
 use Rattle.shared.specs.Histories.{Adds, Ends, IsFull, IsOver, history_of, replied}
 
 -- these are the first of the calls that were asked for, each with the reply that it got
@@ -33,7 +33,7 @@ LastRefused added = (front : List Replied) × (request : Request)
 
 -- why no more than these calls were made: they are all; or what comes next is no call; or memory was
 -- refused to the last; or the machine is at a limit
-abbrev pub StopsFor : Stop → List (Option Request) → List Replied → Type 0
+abbrev pub StopsFor : SeriesEnd → List (Option Request) → List Replied → Type 0
 StopsFor For.Done asked added = (length added ≡ length asked) × AllGranted added
 StopsFor For.NoCall asked added = (slice_get asked (length added) ≡ Some None) × AllGranted added
 StopsFor For.NoMemory asked added = LastRefused added
@@ -42,7 +42,7 @@ StopsFor For.Spent asked added = AllGranted added
 
 -- The core's calls are all that the history grew by, and none is in flight; where the limit of events
 -- stopped one, that one may stand there too.
-abbrev pub LeavesFor : Stop → World → ℕ → List Replied → World → Type 0
+abbrev pub LeavesFor : SeriesEnd → World → ℕ → List Replied → World → Type 0
 LeavesFor For.Refused w core added v =
     IsCalm v × Adds core added (history_of w) (history_of v) × IsFull v
 LeavesFor For.Spent w core added v =
@@ -51,28 +51,28 @@ LeavesFor _ w core added v = IsCalm v × Adds core added (history_of w) (history
 
 -- whole calls, in order
 pub record EndsSeries (w : World) (core : ℕ) (asked : List (Option Request)) (added : List Replied)
-    (stop : Stop) (v : World) : Type 0 where
+    (stop : SeriesEnd) (v : World) : Type 0 where
   pub first : AreFirst asked added
   pub stops : StopsFor stop asked added
   pub leaves : LeavesFor stop w core added v
 
 -- ---- one of them
 
-abbrev pub stop_after : Reply → Stop
+abbrev pub stop_after : Reply → SeriesEnd
 stop_after NoMemory = For.NoMemory
 stop_after _ = For.Done
 
-abbrev pub stop_for : Ended → Stop
+abbrev pub stop_for : CallEnd → SeriesEnd
 stop_for (To.Reply reply) = stop_after reply
 stop_for To.Refused = For.Refused
 stop_for To.Spent = For.Spent
 
-abbrev pub told_for : {T : Type 0} → (Reply → T) → Ended → T → T
+abbrev pub told_for : {T : Type 0} → (Reply → T) → CallEnd → T → T
 told_for told_of (To.Reply reply) was = told_of reply
 told_for told_of _ was = was
 
 -- it is no call, and nothing changes; or it ends, and its reply is told
-abbrev pub MakesOne : {T : Type 0} → (Reply → T) → World → ℕ → Option Request → T → Stop → T → World → Type 0
+abbrev pub MakesOne : {T : Type 0} → (Reply → T) → World → ℕ → Option Request → T → SeriesEnd → T → World → Type 0
 MakesOne told_of w core None was stop told v = (stop ≡ For.NoCall) × (told ≡ was) × (v ≡ w)
-MakesOne told_of w core (Some request) was stop told v = (ended : Ended)
+MakesOne told_of w core (Some request) was stop told v = (ended : CallEnd)
     × Ends w core request ended v × (stop ≡ stop_for ended) × (told ≡ told_for told_of ended was)

@@ -6,7 +6,7 @@ ghost use Rattle.shared.specs.Histories.{Ends};
 ghost use Rattle.shared.specs.Calling.{ComesTo, EndsFrom, Halts, HaltsTo, IsLetGo, LeavesHalted};
 ghost use Rattle.shared.specs.Calling.{TakesPast, Wants, ended_by, is_answered};
 
-use crate::whole::Ended;
+use crate::whole::CallEnd;
 use core_steps::{Finished, Machine};
 use machine_log::Ledger;
 use machine_model::{Event, Outcome};
@@ -21,7 +21,7 @@ pub fn call_whole<M: SlotMap, A: Allocator + Clone, L: Ledger>(
     machine: &mut Machine<M, A, L>,
     core: CoreId,
     request: Request,
-) -> Ended
+) -> CallEnd
     requires here { core < (state machine.old).made.cores }
     requires calm { IsCalm (state machine.old) }
     ensures ends { Ends (state machine.old) core request result (state machine.new) }
@@ -40,7 +40,7 @@ fn call_settled<M: SlotMap, A: Allocator + Clone, L: Ledger>(
     machine: &mut Machine<M, A, L>,
     core: CoreId,
     finished: Finished,
-) -> Ended
+) -> CallEnd
     requires here { core < (state machine.old).made.cores }
     requires legal { IsLegal (state machine.old) }
     ensures ends { EndsFrom (ComesTo finished) (state machine.old) core result (state machine.new) }
@@ -50,7 +50,7 @@ fn call_settled<M: SlotMap, A: Allocator + Clone, L: Ledger>(
         return ended_by(finished);
     }
     if machine.phase(core).is_free() {
-        return Ended::Refused;
+        return CallEnd::Refused;
     }
     call_waited(machine, core)
 }
@@ -71,7 +71,7 @@ fn is_answered(finished: &Finished) -> bool
 fn call_waited<M: SlotMap, A: Allocator + Clone, L: Ledger>(
     machine: &mut Machine<M, A, L>,
     core: CoreId,
-) -> Ended
+) -> CallEnd
     ensures ends { EndsFrom Halts (state machine.old) core result (state machine.new) }
     ensures legal { IsLegal (state machine.new) }
 {
@@ -87,26 +87,26 @@ fn call_waited<M: SlotMap, A: Allocator + Clone, L: Ledger>(
 fn call_given_up<M: SlotMap, A: Allocator + Clone, L: Ledger>(
     machine: &mut Machine<M, A, L>,
     core: CoreId,
-) -> Ended
+) -> CallEnd
     ensures ends { EndsFrom Wants (state machine.old) core result (state machine.new) }
     ensures legal { IsLegal (state machine.new) }
 {
     let _given_up = machine.step(Event::GiveUp(core));
     match machine.finish(core) {
         Ok(finished) => ended_by(finished),
-        Err(_) => Ended::Spent,
+        Err(_) => CallEnd::Spent,
     }
 }
 
 // The result of finishing a call.
 #[inline(always)]
-fn ended_by(finished: Finished) -> Ended
+fn ended_by(finished: Finished) -> CallEnd
     ensures { result ≡ ended_by finished }
 {
     if let Finished::Last(Outcome::Answered(reply)) = finished {
-        return Ended::Reply(reply);
+        return CallEnd::Reply(reply);
     }
-    Ended::Spent
+    CallEnd::Spent
 }
 
 // The cores that the call waits for take what they were told.

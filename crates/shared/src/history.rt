@@ -3,7 +3,7 @@ use std::collections::LinkedList;
 use vm_base::{Entry, Reply, Request};
 
 /// The requests of the calls begun, and the entries of the log. No value of it is made.
-pub struct History {
+pub struct SeenLog {
     pub requests: LinkedList<Request>,
     pub entries: LinkedList<Entry>,
 }
@@ -16,8 +16,8 @@ pub struct Replied {
 }
 
 /// What a core that was taken in had seen, and the calls that it had made. No value of it is made.
-pub struct Told {
+pub struct JoinedCore {
     pub core: u64,
-    pub seen: History,
+    pub seen: SeenLog,
     pub mine: LinkedList<Replied>,
 }

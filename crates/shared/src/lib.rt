@@ -1,5 +1,13 @@
-//! One machine for threads, each of which makes whole calls as a core of its own. No thread ever
-//! waits: who finds the machine with another seat gets a busy answer.
+//! One machine for threads, each of which makes whole calls; nobody waits.
+//!
+//! Who finds the machine with another seat gets a busy answer.
+//!
+//! - `space`: the space, and a core with which one thread calls; `history`: what cores know of the machine;
+//!   `machine`: it may be shared.
+//! - `whole`, `calling`: whole calls; `series`: calls in a list; `asides`: what a core does beside its calls.
+//!
+//! It exists for the `call` of `space`, clause `answers`: in every schedule the replies are those of one plain page
+//! map, in one order. It knows of no notes and no certificate.
 #![tactic(auto)]
 
 pub mod asides;
@@ -11,17 +19,17 @@ pub mod space;
 pub mod whole;
 
 pub use asides::Aside;
-pub use history::{History, Replied, Told};
-pub use series::{Ask, Series, Stop, Tell};
-pub use space::{Answer, Calls, Core, Known, Passed, Refusal, Space, Unshared};
-pub use whole::{Ended, Whole};
+pub use history::{SeenLog, Replied, JoinedCore};
+pub use series::{Ask, Series, SeriesEnd, Tell};
+pub use space::{Answer, Calls, CoreSeat, Known, Passed, ShareFault, SharedMachine, Unshared};
+pub use whole::{CallEnd, Whole};
 
 fn is_send<T: Send>(_one: &T) {}
 
 fn is_sync<T: Sync>(_one: &T) {}
 
 /// Threads may share the space, and a core may go to another thread, where the machine may.
-pub fn may_cross<S: Whole + Send>(space: &Space<S>, core: &Core<S>) {
+pub fn may_cross<S: Whole + Send>(space: &SharedMachine<S>, core: &CoreSeat<S>) {
     is_send(space);
     is_sync(space);
     is_send(core);

@@ -5,7 +5,7 @@ ghost use Rattle.shared.specs.Calling.{CalmBelow};
 
 use crate::asides::{Aside, step_aside};
 use crate::calling::call_whole;
-use crate::whole::{Ended, Whole};
+use crate::whole::{CallEnd, Whole};
 use machine_log::Ledger;
 use core_steps::Machine;
 use machine_model::Outcome;
@@ -33,7 +33,7 @@ impl<M: SlotMap, A: Allocator + Clone, L: Ledger> Whole for Machine<M, A, L> {
     }
 
     #[inline(always)]
-    fn call_whole(&mut self, core: CoreId, request: Request) -> Ended {
+    fn call_whole(&mut self, core: CoreId, request: Request) -> CallEnd {
         call_whole(self, core, request)
     }
 

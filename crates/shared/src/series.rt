@@ -7,7 +7,7 @@ ghost use Rattle.vm_base.specs.declared.replies.Reply.{Reply as ReplyOf};
 ghost use Rattle.shared.specs.declared.history.Replied.{Replied as RepliedOf};
 ghost use Rattle.shared.specs.Serial.{AreTold, EndsSeries, MakesOne, stop_after};
 
-use crate::whole::{Ended, Whole};
+use crate::whole::{CallEnd, Whole};
 use vm_base::{CoreId, Reply, Request};
 
 /// What may ask for a call.
@@ -50,7 +50,7 @@ impl Tell for Reply {
 
 /// Why a series of calls ended.
 #[derive(Clone, Copy, PartialEq, Eq)]
-pub enum Stop {
+pub enum SeriesEnd {
     /// All calls were made.
     Done,
     /// What comes next is no call.
@@ -69,23 +69,23 @@ pub struct Series {
     /// How many calls were made, and told.
     pub made: usize,
     /// Why it ended.
-    pub stop: Stop,
+    pub stop: SeriesEnd,
 }
 
 // Why a series ends after a call with this reply, if it does.
-fn stop_after(reply: Reply) -> Stop
+fn stop_after(reply: Reply) -> SeriesEnd
     ensures { result ≡ stop_after reply }
 {
     if reply == Reply::NoMemory {
-        Stop::NoMemory
+        SeriesEnd::NoMemory
     } else {
-        Stop::Done
+        SeriesEnd::Done
     }
 }
 
 // Makes a call, if it is one, and tells its reply, if it gets one.
 #[inline(always)]
-fn make_one<S: Whole, Q: Ask, T: Tell>(machine: &mut S, core: CoreId, ask: &Q, told: &mut T) -> Stop
+fn make_one<S: Whole, Q: Ask, T: Tell>(machine: &mut S, core: CoreId, ask: &Q, told: &mut T) -> SeriesEnd
     requires here { core < (S.state machine.old).made.cores }
     requires calm { IsCalm (S.state machine.old) }
     requires legal { IsLegal (S.state machine.old) }
@@ -95,15 +95,15 @@ fn make_one<S: Whole, Q: Ask, T: Tell>(machine: &mut S, core: CoreId, ask: &Q, t
     ensures legal { IsLegal (S.state machine.new) }
 {
     let Some(request) = ask.request() else {
-        return Stop::NoCall;
+        return SeriesEnd::NoCall;
     };
     match machine.call_whole(core, request) {
-        Ended::Reply(reply) => {
+        CallEnd::Reply(reply) => {
             *told = T::tell(reply);
             stop_after(reply)
         }
-        Ended::Refused => Stop::Refused,
-        Ended::Spent => Stop::Spent,
+        CallEnd::Refused => SeriesEnd::Refused,
+        CallEnd::Spent => SeriesEnd::Spent,
     }
 }
 
@@ -126,35 +126,35 @@ pub fn call_each<S: Whole, Q: Ask, T: Tell>(
 {
     'calls: for at in 0..asks.len() {
         match make_one(machine, core, &asks[at], &mut told[at]) {
-            Stop::Done => {}
-            Stop::NoMemory => {
+            SeriesEnd::Done => {}
+            SeriesEnd::NoMemory => {
                 return Series {
                     made: at + 1,
-                    stop: Stop::NoMemory,
+                    stop: SeriesEnd::NoMemory,
                 };
             }
-            Stop::NoCall => {
+            SeriesEnd::NoCall => {
                 return Series {
                     made: at,
-                    stop: Stop::NoCall,
+                    stop: SeriesEnd::NoCall,
                 };
             }
-            Stop::Refused => {
+            SeriesEnd::Refused => {
                 return Series {
                     made: at,
-                    stop: Stop::Refused,
+                    stop: SeriesEnd::Refused,
                 };
             }
-            Stop::Spent => {
+            SeriesEnd::Spent => {
                 return Series {
                     made: at,
-                    stop: Stop::Spent,
+                    stop: SeriesEnd::Spent,
                 };
             }
         }
     }
     Series {
         made: asks.len(),
-        stop: Stop::Done,
+        stop: SeriesEnd::Done,
     }
 }

@@ -9,9 +9,9 @@ ghost use Rattle.core_steps.specs.Machine.{IsLegal};
 ghost use Rattle.shared.specs.Rules.{CanGive, Makes, Took, after, answer_of, word_after, word_of};
 
 use crate::asides::Aside;
-use crate::history::{History, Replied, Told};
-use crate::series::{Ask, Series, Stop, Tell, call_each};
-use crate::whole::{Ended, Whole};
+use crate::history::{SeenLog, Replied, JoinedCore};
+use crate::series::{Ask, Series, SeriesEnd, Tell, call_each};
+use crate::whole::{CallEnd, Whole};
 use atomic_table::{Join, Play, Refused, Seat, Split, Table, TableRule};
 use ghost_list::GhostList;
 use machine_model::Outcome;
@@ -41,11 +41,11 @@ pub struct Known<S> {
     pub core: u64,
     pub spare: u64,
     pub first: LinkedList<S>,
-    pub seen: History,
+    pub seen: SeenLog,
     pub mine: LinkedList<Replied>,
     pub holds: bool,
     pub live: bool,
-    pub others: LinkedList<Told>,
+    pub others: LinkedList<JoinedCore>,
 }
 
 /// What a call is answered.
@@ -133,13 +133,13 @@ impl<S> Join<Known<S>> for TakeIn {
 
 /// The right to call as one core.
 #[derive(Drop)]
-pub struct Core<S> {
+pub struct CoreSeat<S> {
     number: CoreId,
     left: u8,
     seat: Seat<S, Known<S>>,
 }
 
-impl<S> Model for Core<S> {
+impl<S> Model for CoreSeat<S> {
     ghost use Rattle.std.specs.Prelude.{◌≡◌, ◌<◌, true, false, []};
     ghost use Rattle.shared.specs.Cores.{CoreView};
     ghost use Rattle.shared.specs.Rules.{view_of};
@@ -155,14 +155,14 @@ impl<S> Model for Core<S> {
 
 /// What all threads share: the machine, behind a word. It has no lock that waits.
 #[derive(Drop)]
-pub struct Space<S: Whole> {
+pub struct SharedMachine<S: Whole> {
     table: Table<S, Known<S>, GhostList<S>, OneLog, Global>,
     ghost one: { (table.shared.table_id.words ≡ 17) × (table.shared.table_id.slots ≡ 1) },
 }
 
 /// Why a machine can't be shared.
 #[derive(Clone, Copy)]
-pub enum Refusal {
+pub enum ShareFault {
     /// There was no memory.
     NoMemory,
     /// A core has a call, or there is no core.
@@ -173,12 +173,12 @@ pub enum Refusal {
 #[derive(Drop)]
 pub struct Unshared<S> {
     pub machine: S,
-    pub why: Refusal,
+    pub why: ShareFault,
 }
 
-impl<S: Whole + Drop> Space<S> {
+impl<S: Whole + Drop> SharedMachine<S> {
     /// A space, and core 0, which may split off the machine's other cores. A machine that a core has a call of isn't shared.
-    pub fn new(alloc: Global, machine: S) -> Result<(Space<S>, Core<S>), Unshared<S>>
+    pub fn new(alloc: Global, machine: S) -> Result<(SharedMachine<S>, CoreSeat<S>), Unshared<S>>
         ensures ok { IfOk result (λ r. (r.1.first ≡ machine ∷ [])
             × (r.1 ≡ new_core S.state r.0.table.shared.table_id 0 ((S.state machine).made.cores - 1) (machine ∷ []))) }
         ensures err { IfErr result (λ r. (r.machine ≡ machine) × IsKept r.why (S.state machine)) }
@@ -187,22 +187,22 @@ impl<S: Whole + Drop> Space<S> {
         if cores == 0 || !machine.is_calm() {
             return Err(Unshared {
                 machine,
-                why: Refusal::NotCalm,
+                why: ShareFault::NotCalm,
             });
         }
         let left = (cores - 1) as u8;
         let Ok(mut slots) = Vec::with_capacity(alloc, 1) else {
             return Err(Unshared {
                 machine,
-                why: Refusal::NoMemory,
+                why: ShareFault::NoMemory,
             });
         };
         let first = GhostList::new().and(&machine);
         slots.push_reserved(machine);
         match Table::new(alloc, &[HOME; ROW], slots, &first) {
             Ok((table, seat)) => Ok((
-                Space { table },
-                Core {
+                SharedMachine { table },
+                CoreSeat {
                     number: CoreId::new(0),
                     left,
                     seat,
@@ -210,7 +210,7 @@ impl<S: Whole + Drop> Space<S> {
             )),
             Err(Refused { slots }) => Err(Unshared {
                 machine: only(slots),
-                why: Refusal::NoMemory,
+                why: ShareFault::NoMemory,
             }),
         }
     }
@@ -228,7 +228,7 @@ impl<S: Whole + Drop> Space<S> {
     }
 
     // A whole call of the machine that the seat has.
-    fn make(&self, seat: &mut Seat<S, Known<S>>, core: CoreId, request: Request) -> Ended
+    fn make(&self, seat: &mut Seat<S, Known<S>>, core: CoreId, request: Request) -> CallEnd
         requires here { seat.old.table_id ≡ self.now.table.shared.table_id }
         requires has { (d : S) × (seat.old.me.1 ≡ (0, d) ∷ []) × (core < (S.state d).made.cores)
             × IsCalm (S.state d) }
@@ -288,7 +288,7 @@ impl<S: Whole + Drop> Space<S> {
     /// seen of the machine's history is a beginning of it, whose log is that of a plain page map
     /// (POSIX.1-2017, mmap, munmap and mprotect), and in which this core's calls are just those that
     /// it made, in order, each with the reply that it got.
-    pub fn call(&self, core: &mut Core<S>, request: Request) -> Answer
+    pub fn call(&self, core: &mut CoreSeat<S>, request: Request) -> Answer
         requires here { core.old.space ≡ self.now.table.shared.table_id }
         ensures answers { Answers S.state core.old request result core.new }
         ensures here { core.new.space ≡ core.old.space }
@@ -309,7 +309,7 @@ impl<S: Whole + Drop> Space<S> {
     /// far as calls were made, and the other places stay as they were: up to what is no call, to a call to which memory is refused,
     /// or to a limit of the machine. Of each that was made the same is so as of `call`. Where another core is in a call, nothing
     /// is done.
-    pub fn call_all<Q: Ask, T: Tell>(&self, core: &mut Core<S>, asks: &[Q], told: &mut [T]) -> Calls
+    pub fn call_all<Q: Ask, T: Tell>(&self, core: &mut CoreSeat<S>, asks: &[Q], told: &mut [T]) -> Calls
         requires here { core.old.space ≡ self.now.table.shared.table_id }
         requires room { length asks.now ≤ length told.old }
         ensures answers { AnswersAll S.state core.old (map Q.request asks.now) T.told told.old result told.new core.new }
@@ -322,7 +322,7 @@ impl<S: Whole + Drop> Space<S> {
         if found != HOME {
             return Calls::Made(Series {
                 made: 0,
-                stop: Stop::Refused,
+                stop: SeriesEnd::Refused,
             });
         }
         let series = self.make_each(&mut core.seat, core.number, asks, told);
@@ -332,7 +332,7 @@ impl<S: Whole + Drop> Space<S> {
 
     /// An aside of this core: the machine's own step, which adds nothing to the history. This core's
     /// calls stay as they are. Where another core is in a call, nothing is done. It takes no memory.
-    pub fn aside(&self, core: &mut Core<S>, aside: Aside) -> Passed
+    pub fn aside(&self, core: &mut CoreSeat<S>, aside: Aside) -> Passed
         requires here { core.old.space ≡ self.now.table.shared.table_id }
         ensures passes { Passes S.state core.old aside result core.new }
         ensures here { core.new.space ≡ core.old.space }
@@ -350,7 +350,7 @@ impl<S: Whole + Drop> Space<S> {
     }
 
     /// Splits off a core that has made no call since the machine was shared.
-    pub fn split(&self, core: &mut Core<S>) -> Option<Core<S>>
+    pub fn split(&self, core: &mut CoreSeat<S>) -> Option<CoreSeat<S>>
         requires here { core.old.space ≡ self.now.table.shared.table_id }
         ensures some { IfSome result (λ c. (0 < core.old.spare)
             × (core.new ≡ record core.old { spare = core.old.spare - 1 })
@@ -363,7 +363,7 @@ impl<S: Whole + Drop> Space<S> {
         let number = CoreId::new(core.left);
         let seat = self.table.shared.split_seat::<SplitOff>(&mut core.seat);
         core.left -= 1;
-        Some(Core {
+        Some(CoreSeat {
             number,
             left: 0,
             seat,
@@ -371,7 +371,7 @@ impl<S: Whole + Drop> Space<S> {
     }
 
     /// Takes a core in: from now on this core knows what the other one knew.
-    pub fn take_in(&self, core: &mut Core<S>, other: Core<S>)
+    pub fn take_in(&self, core: &mut CoreSeat<S>, other: CoreSeat<S>)
         requires here { (core.old.space ≡ self.now.table.shared.table_id)
             × (other.space ≡ self.now.table.shared.table_id) }
         ensures { core.new ≡ record core.old { others = core.old.others ++ told_of other ∷ [] } }
@@ -383,12 +383,12 @@ impl<S: Whole + Drop> Space<S> {
 
     /// Ends the space, and hands out the machine. Its log agrees with all that this core knows, of
     /// itself and of those that it took in. `None`: a core had it that was let go amid a call, and so is none of these.
-    pub fn close(self, core: Core<S>) -> Option<S>
+    pub fn close(self, core: CoreSeat<S>) -> Option<S>
         requires here { core.space ≡ self.table.shared.table_id }
         ensures back { IfSome result (λ machine. Agrees S.state (S.state machine) core) }
         ensures lost { IfNone result (IsBeside S.state core) }
     {
-        let Space { table } = self;
+        let SharedMachine { table } = self;
         let mut closed = table.close_with(core.seat);
         let word = closed.word(MIDDLE);
         let machine = closed.take(0);
@@ -410,28 +410,28 @@ fn only<S>(mut slots: Vec<S, Global>) -> S
 }
 
 // The word with which the machine is given back.
-fn word_of(ended: Ended) -> u64
+fn word_of(ended: CallEnd) -> u64
     ensures { result ≡ word_of ended }
 {
     match ended {
-        Ended::Reply(_) | Ended::Refused => HOME,
-        Ended::Spent => SPENT,
+        CallEnd::Reply(_) | CallEnd::Refused => HOME,
+        CallEnd::Spent => SPENT,
     }
 }
 
 // The word with which the machine is given back after a series of calls.
-fn word_after(stop: Stop) -> u64
+fn word_after(stop: SeriesEnd) -> u64
     ensures { result ≡ word_after stop }
 {
-    if stop == Stop::Spent { SPENT } else { HOME }
+    if stop == SeriesEnd::Spent { SPENT } else { HOME }
 }
 
 // What the caller gets.
-fn answer_of(ended: Ended) -> Answer
+fn answer_of(ended: CallEnd) -> Answer
     ensures { result ≡ answer_of ended }
 {
     match ended {
-        Ended::Reply(reply) => Answer::Reply(reply),
-        Ended::Refused | Ended::Spent => Answer::Full,
+        CallEnd::Reply(reply) => Answer::Reply(reply),
+        CallEnd::Refused | CallEnd::Spent => Answer::Full,
     }
 }

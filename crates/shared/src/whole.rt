@@ -11,7 +11,7 @@ use vm_base::{CoreId, Reply, Request};
 
 /// The result of a whole call.
 #[derive(Clone, Copy)]
-pub enum Ended {
+pub enum CallEnd {
     /// It was made, and has this reply.
     Reply(Reply),
     /// None could begin, and nothing was done: the limit of calls is reached, or that of events.
@@ -36,7 +36,7 @@ pub trait Whole {
         ensures busy { result ≡ false → IsCalm (state self.now) → ⊥ };
 
     /// Makes a call of this core, where no core has one, and leaves none.
-    fn call_whole(&mut self, core: CoreId, request: Request) -> Ended
+    fn call_whole(&mut self, core: CoreId, request: Request) -> CallEnd
         requires here { core < (state self.old).made.cores }
         requires calm { IsCalm (state self.old) }
         ensures ends { Ends (state self.old) core request result (state self.new) }

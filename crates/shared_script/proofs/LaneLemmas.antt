@@ -9,13 +9,13 @@ use Rattle.machine_model.specs.World.{World, Made}
 use Rattle.machine_model.specs.Setups.{first_fault_within}
 use Rattle.machine_model.specs.declared.setup.CallLimit.{CallLimit}
 use Rattle.machine_model.specs.declared.setup.CallLimit.TheVariants.{Usual}
-use Rattle.trace_words.specs.Declarations.{Asked, asked_fault, has_long, made_by}
+use Rattle.trace_words.specs.Declarations.{DeclarationView, asked_fault, has_long, made_by}
 use Rattle.trace_words.specs.Scripts.{Scripted}
 use Rattle.trace_words.specs.declared.script.Task.{Task}
 use Rattle.shared.specs.Cores.{Agrees, CoreView, IsTold, history_first, made_of, new_core, told_of}
 use Rattle.shared.specs.Histories.{history_of, replied_by, replied_in}
 use Rattle.shared.specs.declared.history.Replied.{Replied}
-use Rattle.shared.specs.declared.history.Told.{Told}
+use Rattle.shared.specs.declared.history.JoinedCore.{JoinedCore}
 use Rattle.shared_script.specs.Lanes.{AreCores, AreOf, EndEach, EndsAs, IsDone, IsFresh, last_stop}
 use Rattle.shared_script.specs.Runs.{Fails, IsRun}
 use Rattle.shared_script.specs.Tasks.{ArePassed, IsMade, asked_in, calls_of}
@@ -30,7 +30,7 @@ some_core : (limit : CallLimit) (c f n : ℕ) (b : Bool) (k : ℕ) → first_fau
 some_core limit zero f n b k e = absurd (cc)
 some_core limit (suc c) f n b k e = omega arith
 
-pub cores_asked : (asked : Asked) → asked_fault asked ≡ None → 0 < asked.cores
+pub cores_asked : (asked : DeclarationView) → asked_fault asked ≡ None → 0 < asked.cores
 cores_asked asked e = some_core Usual asked.cores asked.frames (length asked.files) (has_long asked.files) asked.calls e
 
 -- ---- the beginning
@@ -231,7 +231,7 @@ fresh_at {S = S} state now space first k left lanes e is a =
 -- ---- cores that are taken in
 
 -- what is known of all cores that were taken in, and of the one that knows it
-abbrev known_by : {S : Type 0} → CoreView S → List Told
+abbrev known_by : {S : Type 0} → CoreView S → List JoinedCore
 known_by v = told_of v ∷ v.others
 
 module _ {S : Type 0} (made : Made) (tasks : List (List Task)) (space : TableId) (first : List S) (left : ℕ) where
@@ -240,10 +240,10 @@ module _ {S : Type 0} (made : Made) (tasks : List (List Task)) (space : TableId)
     pub each : Each (λ at lane. IsDone made tasks space first (left - at) lane) lanes
     pub space_is : now.space ≡ space
     pub first_is : now.first ≡ first
-    pub cores : Each (λ k (t : Told). t.core ≡ k) (known_by now)
-    pub mine : map (λ (t : Told). t.mine) (known_by now) ≡ told
+    pub cores : Each (λ k (t : JoinedCore). t.core ≡ k) (known_by now)
+    pub mine : map (λ (t : JoinedCore). t.mine) (known_by now) ≡ told
     pub asked : Each (λ k (l : List Replied). asked_in l ≡ calls_of (get_or tasks k [])) told
-    pub passed : Each (λ k (t : Told). ArePassed made k [] (get_or tasks k []) t.seen) (known_by now)
+    pub passed : Each (λ k (t : JoinedCore). ArePassed made k [] (get_or tasks k []) t.seen) (known_by now)
 
   -- core 0 is the last lane's
   pub gathers_first : (all lanes : List (Lane S)) (lane : Lane S) → AreCores left (IsDone made tasks space first) all → all ≡ lanes ++ lane ∷ []
@@ -258,13 +258,13 @@ module _ {S : Type 0} (made : Made) (tasks : List (List Task)) (space : TableId)
         each = each_front P lanes (lane ∷ []) each;
         space_is = done.space_is;
         first_is = done.first_is;
-        cores = subst (λ l. Each (λ k (t : Told). t.core ≡ k) (told_of lane.core ∷ l)) (sym done.others)
-            (each_snoc (λ k (t : Told). t.core ≡ k) [] (told_of lane.core) (λ at d lt. absurd (omega (arith, lt))) done.core_is);
-        mine = (λ i. lane.core.mine ∷ map (λ (t : Told). t.mine) (done.others i)) ∙ ap (λ l. l ∷ []) done.mine;
+        cores = subst (λ l. Each (λ k (t : JoinedCore). t.core ≡ k) (told_of lane.core ∷ l)) (sym done.others)
+            (each_snoc (λ k (t : JoinedCore). t.core ≡ k) [] (told_of lane.core) (λ at d lt. absurd (omega (arith, lt))) done.core_is);
+        mine = (λ i. lane.core.mine ∷ map (λ (t : JoinedCore). t.mine) (done.others i)) ∙ ap (λ l. l ∷ []) done.mine;
         asked = each_snoc (λ k (l : List Replied). asked_in l ≡ calls_of (get_or tasks k [])) [] lane.told.items
             (λ at d lt. absurd (omega (arith, lt))) done.asked;
-        passed = subst (λ l. Each (λ k (t : Told). ArePassed made k [] (get_or tasks k []) t.seen) (told_of lane.core ∷ l)) (sym done.others)
-            (each_snoc (λ k (t : Told). ArePassed made k [] (get_or tasks k []) t.seen) [] (told_of lane.core) (λ at d lt. absurd (omega (arith, lt)))
+        passed = subst (λ l. Each (λ k (t : JoinedCore). ArePassed made k [] (get_or tasks k []) t.seen) (told_of lane.core ∷ l)) (sym done.others)
+            (each_snoc (λ k (t : JoinedCore). ArePassed made k [] (get_or tasks k []) t.seen) [] (told_of lane.core) (λ at d lt. absurd (omega (arith, lt)))
             done.passed);
       }
 
@@ -279,20 +279,20 @@ module _ {S : Type 0} (made : Made) (tasks : List (List Task)) (space : TableId)
       let here : left - length lanes ≡ length told = omega (arith, g.count, size) in
       let done : IsDone made tasks space first (length told) lane = subst (λ n. IsDone made tasks space first n lane) here (each_last P lanes lane each) in
       let knows : known_by new ≡ known_by now ++ told_of lane.core ∷ [] = ap known_by e in
-      let long : length (known_by now) ≡ length told = sym (length-map (known_by now) (λ (t : Told). t.mine)) ∙ ap length g.mine in
+      let long : length (known_by now) ≡ length told = sym (length-map (known_by now) (λ (t : JoinedCore). t.mine)) ∙ ap length g.mine in
       record {
         count = omega (arith, g.count, size, ap length m, length-append told (lane.told.items ∷ []));
         each = each_front P lanes (lane ∷ []) each;
         space_is = ap (λ (v : CoreView S). v.space) e ∙ g.space_is;
         first_is = ap (λ (v : CoreView S). v.first) e ∙ g.first_is;
-        cores = subst (Each (λ k (t : Told). t.core ≡ k)) (sym knows)
-            (each_snoc (λ k (t : Told). t.core ≡ k) (known_by now) (told_of lane.core) g.cores (done.core_is ∙ sym long));
-        mine = ap (map (λ (t : Told). t.mine)) knows ∙ map-append (λ (t : Told). t.mine) (known_by now) (told_of lane.core ∷ [])
+        cores = subst (Each (λ k (t : JoinedCore). t.core ≡ k)) (sym knows)
+            (each_snoc (λ k (t : JoinedCore). t.core ≡ k) (known_by now) (told_of lane.core) g.cores (done.core_is ∙ sym long));
+        mine = ap (map (λ (t : JoinedCore). t.mine)) knows ∙ map-append (λ (t : JoinedCore). t.mine) (known_by now) (told_of lane.core ∷ [])
             ∙ (λ i. g.mine i ++ done.mine i ∷ []) ∙ sym m;
         asked = subst (Each (λ k (l : List Replied). asked_in l ≡ calls_of (get_or tasks k []))) (sym m)
             (each_snoc (λ k (l : List Replied). asked_in l ≡ calls_of (get_or tasks k [])) told lane.told.items g.asked done.asked);
-        passed = subst (Each (λ k (t : Told). ArePassed made k [] (get_or tasks k []) t.seen)) (sym knows)
-            (each_snoc (λ k (t : Told). ArePassed made k [] (get_or tasks k []) t.seen) (known_by now) (told_of lane.core) g.passed
+        passed = subst (Each (λ k (t : JoinedCore). ArePassed made k [] (get_or tasks k []) t.seen)) (sym knows)
+            (each_snoc (λ k (t : JoinedCore). ArePassed made k [] (get_or tasks k []) t.seen) (known_by now) (told_of lane.core) g.passed
             (subst (λ k. ArePassed made k [] (get_or tasks k []) lane.core.seen) (sym long) done.passed));
       }
 
@@ -315,14 +315,14 @@ gathered {S = S} state script space first left lanes now told w g none cores mad
       let within : core < length (known_by now) = omega (arith, lt, count, long) in
       let t = get_or (known_by now) core (told_of now) in
       ap (λ c. replied_by c (history_of w)) (sym (g.cores core (told_of now) within)) ∙ (knows core within).1
-      ∙ sym (get_or-map (λ (t : Told). t.mine) (known_by now) core (told_of now) [] within) ∙ ap (λ l. get_or l core []) g.mine;
+      ∙ sym (get_or-map (λ (t : JoinedCore). t.mine) (known_by now) core (told_of now) [] within) ∙ ap (λ l. get_or l core []) g.mine;
 }
   where
     count : length told ≡ script.asked.cores
     count = omega (arith, g.count, none, cores)
 
     long : length (known_by now) ≡ length told
-    long = sym (length-map (known_by now) (λ (t : Told). t.mine)) ∙ ap length g.mine
+    long = sym (length-map (known_by now) (λ (t : JoinedCore). t.mine)) ∙ ap length g.mine
 
     knows : (k : ℕ) → k < length (known_by now) → IsTold (history_of w) (get_or (known_by now) k (told_of now))
     knows zero lt = a.own

@@ -10,7 +10,7 @@ use Rattle.machine_model.specs.declared.event.Outcome.{Outcome}
 use Rattle.machine_model.specs.declared.event.Outcome.TheVariants.{Full}
 use Rattle.shared.specs.declared.asides.Aside.{Aside}
 use Rattle.shared.specs.declared.asides.Aside.TheVariants as Does
-use Rattle.shared.specs.declared.history.History.{History}
+use Rattle.shared.specs.declared.history.SeenLog.{SeenLog}
 use Rattle.shared.specs.Cores.{Came, CoreView, Extends, made_of}
 use Rattle.shared.specs.Histories.{Begins, history_of, replied, replied_by}
 use Rattle.shared.proofs.Keeping.{begins_again}
@@ -18,7 +18,7 @@ use Rattle.shared.proofs.Lists.{begins_through}
 use Rattle.shared.specs.declared.history.Replied.{Replied}
 use Rattle.shared_script.specs.Tasks.{ArePassed, IsMade, WasPassed, asked_in, calls_of}
 
-further : (made : Made) (core : ℕ) (aside : Aside) (calls : List Request) (h k : History) → Begins h k → WasPassed made core aside calls h
+further : (made : Made) (core : ℕ) (aside : Aside) (calls : List Request) (h k : SeenLog) → Begins h k → WasPassed made core aside calls h
     → WasPassed made core aside calls k
 further made core aside calls h k b p = record {
   before = p.before;
@@ -40,7 +40,7 @@ calls_append (Review ∷ ts) us = calls_append ts us
 -- ---- flushes and reviews
 
 -- what was passed by then stays so
-pub still_passed : (made : Made) (core : ℕ) (calls : List Request) (ts : List Task) (h k : History) → Begins h k → ArePassed made core calls ts h
+pub still_passed : (made : Made) (core : ℕ) (calls : List Request) (ts : List Task) (h k : SeenLog) → Begins h k → ArePassed made core calls ts h
     → ArePassed made core calls ts k
 still_passed made core calls [] h k b p = tt
 still_passed made core calls (Call request ∷ ts) h k b p = still_passed made core (calls ++ request ∷ []) ts h k b p
@@ -48,7 +48,7 @@ still_passed made core calls (Flush ∷ ts) h k b p = (further made core Does.Fl
 still_passed made core calls (Review ∷ ts) h k b p = (further made core Does.Review calls h k b p.0, still_passed made core calls ts h k b p.1)
 
 -- and more behind them
-passed_more : (made : Made) (core : ℕ) (calls : List Request) (ts us : List Task) (h : History) → ArePassed made core calls ts h
+passed_more : (made : Made) (core : ℕ) (calls : List Request) (ts us : List Task) (h : SeenLog) → ArePassed made core calls ts h
     → ArePassed made core (calls ++ calls_of ts) us h → ArePassed made core calls (ts ++ us) h
 passed_more made core calls [] us h p q = subst (λ cs. ArePassed made core cs us h) (append-nil calls) q
 passed_more made core calls (Call request ∷ ts) us h p q =

@@ -5,7 +5,7 @@ use Rattle.std.proofs.Common.{Result, Ok, Err, map, Vec, Global}
 use Rattle.std.proofs.lemmas.List.{get_or_default, get_or-map, length-map, take-append-drop}
 use Rattle.machine_model.specs.World.{World}
 use Rattle.shared.specs.Histories.{history_of}
-use Rattle.trace_words.specs.Declarations.{Asked}
+use Rattle.trace_words.specs.Declarations.{DeclarationView}
 use Rattle.trace_io.specs.Sink.{AppendsFront}
 use Rattle.trace_io.proofs.IoLemmas.{each_front, front_longer, front_more}
 use Rattle.trace_words.specs.declared.fault.TraceFault.{TraceFault}
@@ -35,7 +35,7 @@ pub fails_own : {X : Type 0} (f : SharedFault) → Fails f → f ≡ Text Of.Wri
 fails_own f p e = let none : Fails (Text Of.WriteFailed) = subst Fails e p in absurd none
 
 -- the text of a script that was run
-pub text_given : (script : Scripted) (asked : Asked) (told : List (List Replied)) (w : World) → asked ≡ script.asked → IsRun script told w
+pub text_given : (script : Scripted) (asked : DeclarationView) (told : List (List Replied)) (w : World) → asked ≡ script.asked → IsRun script told w
     → IsSharedText script (shared_text asked told (history_of w))
 text_given script asked told w e runs =
     record { told = told; world = w; runs = runs; says = ap (λ a. shared_text a told (history_of w)) e }

@@ -10,7 +10,7 @@ use Rattle.shared.specs.Cores.{CoreView}
 use Rattle.shared.specs.Histories.{Begins, StepsAside, event_of, history_of, replied_by}
 use Rattle.shared.specs.declared.asides.Aside.{Aside}
 use Rattle.shared.specs.declared.asides.Aside.TheVariants as Does
-use Rattle.shared.specs.declared.history.History.{History}
+use Rattle.shared.specs.declared.history.SeenLog.{SeenLog}
 use Rattle.shared.specs.declared.history.Replied.{Replied}
 
 -- the calls among the tasks, in order
@@ -36,7 +36,7 @@ pub record IsMade {S : Type 0} (v : CoreView S) (before : List Replied) (calls :
 
 -- The aside was a step of the machine's own, from a legal state, when the core had made these calls and no others; what was logged
 -- by then is how h began.
-pub record WasPassed (made : Made) (core : ℕ) (aside : Aside) (calls : List Request) (h : History) : Type 0 where
+pub record WasPassed (made : Made) (core : ℕ) (aside : Aside) (calls : List Request) (h : SeenLog) : Type 0 where
   pub before : World
   pub after : World
   pub outcome : Outcome
@@ -47,7 +47,7 @@ pub record WasPassed (made : Made) (core : ℕ) (aside : Aside) (calls : List Re
   pub begins : Begins (history_of before) h
 
 -- each flush and each review of the tasks was passed in its place, where these calls came before all
-abbrev pub ArePassed : Made → ℕ → List Request → List Task → History → Type 0
+abbrev pub ArePassed : Made → ℕ → List Request → List Task → SeenLog → Type 0
 ArePassed made core calls [] h = Unit {0}
 ArePassed made core calls (Call request ∷ tasks) h = ArePassed made core (calls ++ request ∷ []) tasks h
 ArePassed made core calls (Flush ∷ tasks) h =

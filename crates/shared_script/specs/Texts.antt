@@ -9,12 +9,12 @@ use Rattle.vm_base.specs.declared.replies.Reply.{Reply}
 use Rattle.vm_base.specs.declared.requests.Request.{Request}
 use Rattle.machine_model.specs.World.{World}
 use Rattle.shared.specs.Histories.{history_of, replied}
-use Rattle.shared.specs.declared.history.History.{History}
+use Rattle.shared.specs.declared.history.SeenLog.{SeenLog}
 use Rattle.shared.specs.declared.history.Replied.{Replied}
 use Rattle.trace_io.specs.Io.{ReadFrom, TellsSent, WrittenTo}
 use Rattle.trace_io.specs.Sink.{AppendsFront}
 use Rattle.trace_text.specs.Printing.{reply_text}
-use Rattle.trace_words.specs.Declarations.{Asked}
+use Rattle.trace_words.specs.Declarations.{DeclarationView}
 use Rattle.trace_words.specs.Faults.{fault_named}
 use Rattle.trace_words.specs.declared.fault.TraceFault.{TraceFault}
 use Rattle.trace_words.specs.declared.fault.TraceFault.TheVariants as Of
@@ -50,11 +50,11 @@ entry_line requests (Answer step call core reply) = answer_line core (nth reques
 entry_line requests (Detach step call page) = []
 
 -- all calls in the order of the log
-abbrev pub log_lines : History → List ℕ
+abbrev pub log_lines : SeenLog → List ℕ
 log_lines h = flat_map (entry_line h.requests) h.entries
 
 -- what is declared, what each core was told, and the log
-abbrev pub shared_text : Asked → List (List Replied) → History → List ℕ
+abbrev pub shared_text : DeclarationView → List (List Replied) → SeenLog → List ℕ
 shared_text asked told h = (declared_text asked ++ told_lines 0 told) ++ log_lines h
 
 -- ---- how it ends

@@ -1,5 +1,11 @@
-//! Scripts that are run on threads over one machine that all of them share: each core's replies are proved for every
-//! order in which the threads take turns, so that no run needs a certificate.
+//! A script run on threads over one machine that all share: its replies and its log.
+//!
+//! - `running` (`run_shared`), `tasks`, `lane`: each core's tasks on a thread; `logged`: machines that keep their
+//!   log.
+//! - `texts` (`share_text`), `writing`: what is written of it; `fault`: why it wasn't run.
+//!
+//! It exists for `running::run_shared`, clause `ran`: the log has the calls with the replies that each thread was
+//! told. No run needs a certificate.
 #![tactic(auto)]
 
 pub mod fault;
@@ -12,5 +18,5 @@ pub mod writing;
 
 pub use fault::SharedFault;
 pub use logged::{Logged, Tree};
-pub use running::{Ran, run_shared};
+pub use running::{RunMachine, run_shared};
 pub use texts::share_text;

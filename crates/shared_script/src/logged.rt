@@ -1,11 +1,11 @@
 //! Machines whose log is kept, which threads may share.
 ghost use Rattle.std.specs.Prelude.{◌≡◌};
 
-use machine_log::Kept;
+use machine_log::KeepsAll;
 use core_steps::Machine;
 use machine_model::Outcome;
 use radix_range::RadixMap;
-use shared::{Aside, Ended, Whole};
+use shared::{Aside, CallEnd, Whole};
 use std::alloc::Global;
 use vm_base::{CoreId, Entry, Request};
 
@@ -22,7 +22,7 @@ pub trait Logged: Whole {
 
 /// A machine over a tree that keeps its log.
 pub struct Tree {
-    pub machine: Machine<RadixMap<Global>, Global, Kept<Global>>,
+    pub machine: Machine<RadixMap<Global>, Global, KeepsAll<Global>>,
 }
 
 impl Drop for Tree {
@@ -44,7 +44,7 @@ impl Whole for Tree {
         self.machine.is_calm()
     }
 
-    fn call_whole(&mut self, core: CoreId, request: Request) -> Ended {
+    fn call_whole(&mut self, core: CoreId, request: Request) -> CallEnd {
         self.machine.call_whole(core, request)
     }
 

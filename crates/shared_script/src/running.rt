@@ -9,7 +9,7 @@ use crate::fault::SharedFault;
 use crate::lane::Lane;
 use crate::tasks::run_lane;
 use trace_words::Script;
-use shared::{Core, Replied, Space, Whole};
+use shared::{CoreSeat, Replied, SharedMachine, Whole};
 use std::alloc::Global;
 use std::sync::Wait;
 use std::thread::{self, Threads};
@@ -18,13 +18,13 @@ use vm_base::NoMemory;
 
 /// A machine on which a script was run, and the calls of each core with the replies that its thread was told.
 #[derive(Drop)]
-pub struct Ran<S> {
+pub struct RunMachine<S> {
     pub machine: S,
     pub told: Vec<Vec<Replied>>,
 }
 
 // The core with this number, which has done nothing yet.
-fn lane_of<S>(alloc: Global, number: usize, core: Core<S>) -> Lane<S>
+fn lane_of<S>(alloc: Global, number: usize, core: CoreSeat<S>) -> Lane<S>
     ensures { (result.number ≡ number) × (result.core ≡ core) × (result.told.items ≡ []) }
 {
     Lane {
@@ -38,8 +38,8 @@ fn lane_of<S>(alloc: Global, number: usize, core: Core<S>) -> Lane<S>
 // Splits off all cores of the space, of which this many are left: a lane for each, from the last to the first.
 fn lanes_of<S: Whole + Drop>(
     alloc: Global,
-    space: &Space<S>,
-    mut first: Core<S>,
+    space: &SharedMachine<S>,
+    mut first: CoreSeat<S>,
     left: usize,
 ) -> Result<Vec<Lane<S>>, NoMemory>
     requires here { first.space ≡ space.now.table.shared.table_id }
@@ -60,7 +60,7 @@ fn lanes_of<S: Whole + Drop>(
 // Does the tasks of each lane's core, each core in a thread of its own where one can be made.
 fn run_side_by_side<S: Whole + Drop + Send, R: Threads + Wait + Sync>(
     rt: &R,
-    space: &Space<S>,
+    space: &SharedMachine<S>,
     script: &Script<Global>,
     lanes: &mut [Lane<S>],
 )
@@ -94,10 +94,10 @@ fn last_stop<S>(lanes: &[Lane<S>]) -> Option<SharedFault>
 // Takes all other cores in, and ends the space.
 fn gather<S: Whole + Drop>(
     alloc: Global,
-    space: Space<S>,
+    space: SharedMachine<S>,
     script: &Script<Global>,
     mut lanes: Vec<Lane<S>>,
-) -> Result<Ran<S>, SharedFault>
+) -> Result<RunMachine<S>, SharedFault>
     requires cores { 0 < script.now.asked.cores }
     requires done { (first : List S) × (made_of S.state first ≡ made_by script.now.asked)
         × AreCores (script.now.asked.cores - 1) (IsDone (made_of S.state first) script.now.tasks space.table.shared.table_id first) lanes.items }
@@ -117,7 +117,7 @@ fn gather<S: Whole + Drop>(
         told.push_reserved(lane.told);
     }
     match space.close(first) {
-        Some(machine) => Ok(Ran { machine, told }),
+        Some(machine) => Ok(RunMachine { machine, told }),
         // (no core was let go, so that none has the machine)
         None => Err(SharedFault::Text(TraceFault::NoMemory)),
     }
@@ -131,7 +131,7 @@ pub fn run_shared<S: Whole + Drop + Send, R: Threads + Wait + Sync>(
     alloc: Global,
     script: &Script<Global>,
     machine: S,
-) -> Result<Ran<S>, SharedFault>
+) -> Result<RunMachine<S>, SharedFault>
     requires cores { 0 < script.now.asked.cores }
     requires made { (S.state machine).made ≡ made_by script.now.asked }
     requires new { (S.state machine).calls.log ≡ [] }
@@ -139,7 +139,7 @@ pub fn run_shared<S: Whole + Drop + Send, R: Threads + Wait + Sync>(
     ensures fails { IfErr result Fails }
 {
     let left = machine.core_count() - 1;
-    let Ok((space, first)) = Space::new(alloc, machine) else {
+    let Ok((space, first)) = SharedMachine::new(alloc, machine) else {
         return Err(SharedFault::Text(TraceFault::NoMemory));
     };
     let Ok(mut lanes) = lanes_of(alloc, &space, first, left) else {

@@ -11,7 +11,7 @@ use crate::fault::SharedFault;
 use crate::lane::Lane;
 use machine_model::Outcome;
 use trace_words::{Script, Task};
-use shared::{Answer, Aside, Core, Passed, Replied, Space, Whole};
+use shared::{Answer, Aside, CoreSeat, Passed, Replied, SharedMachine, Whole};
 use std::alloc::Global;
 use std::hint::spin_loop;
 use std::sync::Wait;
@@ -34,8 +34,8 @@ fn pause(tries: u64) {
 // A call of the core, which is tried until no other core is in one. `None`: the machine is at a limit.
 fn call<S: Whole + Drop, R: Wait>(
     rt: &R,
-    space: &Space<S>,
-    core: &mut Core<S>,
+    space: &SharedMachine<S>,
+    core: &mut CoreSeat<S>,
     request: Request,
 ) -> Option<Reply>
     requires here { core.old.space ≡ space.now.table.shared.table_id }
@@ -57,8 +57,8 @@ fn call<S: Whole + Drop, R: Wait>(
 // An aside of the core, which is tried until no other core is in a call, and what it came to.
 fn pass<S: Whole + Drop, R: Wait>(
     rt: &R,
-    space: &Space<S>,
-    core: &mut Core<S>,
+    space: &SharedMachine<S>,
+    core: &mut CoreSeat<S>,
     aside: Aside,
 ) -> Outcome
     requires here { core.old.space ≡ space.now.table.shared.table_id }
@@ -79,8 +79,8 @@ fn pass<S: Whole + Drop, R: Wait>(
 // Makes the aside, if it is possible now. At the machine's limit of events it is refused.
 fn step<S: Whole + Drop, R: Wait>(
     rt: &R,
-    space: &Space<S>,
-    core: &mut Core<S>,
+    space: &SharedMachine<S>,
+    core: &mut CoreSeat<S>,
     aside: Aside,
 ) -> Result<(), SharedFault>
     requires here { core.old.space ≡ space.now.table.shared.table_id }
@@ -98,8 +98,8 @@ fn step<S: Whole + Drop, R: Wait>(
 // Makes the call, and keeps it with the reply that it got. There is room for it.
 fn make<S: Whole + Drop, R: Wait>(
     rt: &R,
-    space: &Space<S>,
-    core: &mut Core<S>,
+    space: &SharedMachine<S>,
+    core: &mut CoreSeat<S>,
     told: &mut Vec<Replied>,
     request: Request,
 ) -> Result<(), SharedFault>
@@ -122,8 +122,8 @@ fn make<S: Whole + Drop, R: Wait>(
 #[tactic(auto, using(crate::proofs::TaskLemmas::flush_passed, crate::proofs::TaskLemmas::review_passed))]
 fn run_task<S: Whole + Drop, R: Wait>(
     rt: &R,
-    space: &Space<S>,
-    core: &mut Core<S>,
+    space: &SharedMachine<S>,
+    core: &mut CoreSeat<S>,
     told: &mut Vec<Replied>,
     task: &Task,
 ) -> Result<(), SharedFault>
@@ -149,8 +149,8 @@ fn run_task<S: Whole + Drop, R: Wait>(
 // Does the tasks, one after another, up to the first that can't be done.
 fn run_tasks<S: Whole + Drop, R: Wait>(
     rt: &R,
-    space: &Space<S>,
-    core: &mut Core<S>,
+    space: &SharedMachine<S>,
+    core: &mut CoreSeat<S>,
     told: &mut Vec<Replied>,
     tasks: &[Task],
 ) -> Result<(), SharedFault>
@@ -169,7 +169,7 @@ fn run_tasks<S: Whole + Drop, R: Wait>(
 /// Does the tasks of the lane's core, one after another, and keeps why it stopped, where it did.
 pub(crate) fn run_lane<S: Whole + Drop, R: Wait>(
     rt: &R,
-    space: &Space<S>,
+    space: &SharedMachine<S>,
     script: &Script<Global>,
     lane: &mut Lane<S>,
 )

@@ -9,7 +9,7 @@ ghost use Rattle.shared_script.specs.Texts.{EndsShared, TellsShared, Yields};
 
 use crate::fault::SharedFault;
 use crate::logged::Tree;
-use crate::running::{Ran, run_shared};
+use crate::running::{RunMachine, run_shared};
 use crate::writing::write_ran;
 use core_steps::Machine;
 use machine_model::SetupFault;
@@ -38,7 +38,7 @@ pub fn run_script<T: Threads + Wait + Sync>(
     rt: &T,
     alloc: Global,
     script: &Script<Global>,
-) -> Result<Ran<Tree>, SharedFault>
+) -> Result<RunMachine<Tree>, SharedFault>
     requires { asked_fault script.now.asked ≡ None }
     ensures ran { IfOk result (λ ran. IsRun script.now (map (λ told. told.items) ran.told.items) (state ran.machine.machine)) }
     ensures fails { IfErr result Fails }

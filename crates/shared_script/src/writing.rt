@@ -7,7 +7,7 @@ ghost use Rattle.shared.specs.Histories.{history_of};
 ghost use Rattle.shared_script.specs.Texts.{call_line, entry_line, shared_text, told_line, told_lines};
 
 use crate::logged::Logged;
-use crate::running::Ran;
+use crate::running::RunMachine;
 use trace_words::request_text::push_request;
 use trace_words::declaring::write_declaration;
 use shared::Replied;
@@ -125,7 +125,7 @@ fn write_log<W: Sink>(
 fn write_lines<S: Logged, W: Sink>(
     writer: &mut W,
     declaration: &Declaration,
-    ran: &Ran<S>,
+    ran: &RunMachine<S>,
 ) -> Result<(), WriteFailed>
     ensures { IsWritten result (written_to W.Sink writer.old writer.new)
         (shared_text declaration.now (map (λ told. told.items) ran.now.told.items) (history_of (S.state ran.now.machine))) }
@@ -145,7 +145,7 @@ fn write_lines<S: Logged, W: Sink>(
 pub fn write_ran<S: Logged, W: Sink>(
     writer: &mut W,
     declaration: &Declaration,
-    ran: &Ran<S>,
+    ran: &RunMachine<S>,
 ) -> Result<(), WriteFailed>
     ensures wrote { IsWritten result (written_to W.Sink writer.old writer.new)
         (shared_text declaration.now (map (λ told. told.items) ran.now.told.items) (history_of (S.state ran.now.machine))) }

@@ -21,7 +21,7 @@ pub use Rattle.vm_base.specs.Functions.{has, put}
 pub use Rattle.vm_base.specs.Info.{advance, advance_back, file_page, frame_of, info_file_page, info_from, info_with_prot, is_leaf, is_recorded, unused}
 pub use Rattle.vm_base.specs.Pages.{IsPage, IsPageRange, are_pages, is_page, page_count, page_of, pages_from, pages_of, window_of}
 pub use Rattle.vm_base.specs.Places.{IsFree, IsLeastRoom, IsRoom}
-pub use Rattle.vm_base.specs.Plain.{Bytes, Entry, File, Plain, bytes_of, is_mapped, mode_of}
+pub use Rattle.vm_base.specs.Plain.{Bytes, PageEntry, File, Plain, bytes_of, is_mapped, mode_of}
 pub use Rattle.vm_base.specs.Refusals.{refusal}
 pub use Rattle.vm_base.specs.Runs.{NoneIn}
 pub use Rattle.vm_base.specs.declared.info.Back.{Back}

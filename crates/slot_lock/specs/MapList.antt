@@ -5,11 +5,11 @@ use Rattle.vm_base.specs.declared.info.Meta.{Meta}
 use Rattle.vm_base.specs.Runs.{NoneIn}
 use Rattle.vm_base.specs.Info.{advance}
 use Rattle.vm_base.specs.Pages.{IsPageRange}
-use Rattle.vm_base.specs.Plain.{Entry, Plain}
+use Rattle.vm_base.specs.Plain.{PageEntry, Plain}
 use Rattle.slot_lock.specs.declared.map_list.MapLine.{MapLine}
 
 -- what a page of a plain page map is mapped to, if it is mapped
-abbrev pub entry_meta : Option Entry → Option Meta
+abbrev pub entry_meta : Option PageEntry → Option Meta
 entry_meta None = None
 entry_meta (Some e) = Some (record { back = e.back; prot = e.prot })
 

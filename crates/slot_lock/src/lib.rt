@@ -1,5 +1,13 @@
-//! Slots of pages that cores hold: what a slot map does, a first slot map, and how a call takes its
-//! pages. `map_list` is the list of mappings as a user sees them, read from slots.
+//! What a slot map does, slots in a list, and how a call takes its pages from left to right.
+//!
+//! - `slot_map`: the trait `SlotMap` that a list and a tree of slots meet; `slot_list`, `slot`: the list.
+//! - `plan`: what a request is to do once its arguments pass (`Plan`, `Change`); `footprint`: the pages that it
+//!   locks.
+//! - `acquire`: locks a footprint slot by slot; `survey`, `walk`, `framed`, `lent`: what slots of a range have.
+//! - `map_list`: the list of mappings as a user sees them.
+//!
+//! It exists for `acquire::Acquire::next`, the whole footprint is held once it is done, and
+//! `laws::division_adds_an_edge`. It knows of no cores' tables and of no log.
 #![tactic(auto)]
 
 pub mod acquire;

@@ -18,7 +18,7 @@ use Rattle.trace_text.specs.Line.{line_of}
 use Rattle.trace_text.specs.declared.line.Line.{Line}
 use Rattle.trace_text.specs.declared.line.Line.TheVariants.{Blank, Space, File, Act, Fold, Finish, Now}
 use Rattle.trace_words.specs.declared.show.Show.{Show}
-use Rattle.trace_words.specs.Declarations.{Asked, made_by}
+use Rattle.trace_words.specs.Declarations.{DeclarationView, made_by}
 use Rattle.trace.specs.EventRuns.{Asks, AllAsk, AsksCall, AsksFinish}
 use Rattle.trace.specs.Seen.{IsSeen, SeesAll}
 use Rattle.trace.specs.Stage.{CanOpen, Declared, Running, Stage, Start, new_machine}
@@ -195,10 +195,10 @@ front (suc n) (l ∷ ls) one w es os text v r ms a x whole seen k m =
 -- ---- a whole trace
 
 -- a new machine has no mappings
-none_mapped : (a : Asked) → ListsMaps (new_machine a) []
+none_mapped : (a : DeclarationView) → ListsMaps (new_machine a) []
 none_mapped a t leads p low high = ap (λ (x : Plain). plain_metas x p) leads
 
-begins_so : (one : Recorded) (a : Asked) → IsFresh one → Shows one (new_machine a)
+begins_so : (one : Recorded) (a : DeclarationView) → IsFresh one → Shows one (new_machine a)
 unfolding maps_text
 begins_so one a fresh = record {
   maps = [];
@@ -214,7 +214,7 @@ pub states_shown : (one r : Recorded) (show : Show) (input : List ℕ) (old new 
     → r.whole ≡ true → r.seen.whole ≡ true → ShowsStates (lines_of input) r
 states_shown one r show input old new fresh s whole seen = go s.0 s.1.opens s.1.holds
   where
-    from : (asked : Asked) (es : List Event) (os : List Outcome) (v : World) → AllAsk (lines_of input) es os s.1.text
+    from : (asked : DeclarationView) (es : List Event) (os : List Outcome) (v : World) → AllAsk (lines_of input) es os s.1.text
         → Watches Records one (new_machine asked) es os v r → ShowsStates (lines_of input) r
     from asked es os v asks x n =
         let begun = since one (new_machine asked) es os v r x whole (begins_so one asked fresh) in

@@ -1,12 +1,12 @@
 -- One part more, applied or found
 use Rattle.std.proofs.Common.{◌≡◌, ℕ, zero, suc, ◌+◌, ◌<◌, ◌≤◌, List, [], ◌∷◌, ◌++◌, length, take, drop, get_or, refl, sym, ap, subst, ◌∙◌, arith, append_assoc, append-nil}
 use Rattle.std.proofs.lemmas.List.{drop_more, take-append-drop, take-append-le, length-take-le}
-use Rattle.state_changes.specs.declared.part.Part.{Part}
-use Rattle.state_changes.specs.declared.part.Part.TheVariants.{Keep, Skip, Add}
+use Rattle.state_changes.specs.declared.part.DiffOp.{DiffOp}
+use Rattle.state_changes.specs.declared.part.DiffOp.TheVariants.{Keep, Skip, Add}
 use Rattle.state_changes.specs.Applied.{IsNext, applied, fresh, given, kept, taken}
 
 -- what the first part leaves to the others
-pub one_applied : (p : Part) (ps : List Part) (added text : List ℕ)
+pub one_applied : (p : DiffOp) (ps : List DiffOp) (added text : List ℕ)
     → applied (p ∷ ps) added text ≡ (take (kept p) text ++ take (fresh p) added) ++ applied ps (drop (fresh p) added) (drop (taken p) text)
 one_applied (Keep n) ps added text = ap (λ l. l ++ applied ps added (drop n text)) (sym (append-nil (take n text)))
 one_applied (Skip n) ps added text = refl
@@ -23,7 +23,7 @@ take_cut zero xs ys lt = refl
 take_cut (suc n) [] ys lt = absurd (omega (arith, lt))
 take_cut (suc n) (x ∷ xs) ys lt = ap (λ l. x ∷ l) (take_cut n xs ys (omega (arith, lt)))
 
-next_applied : (p : Part) (more : List Part) (others old new : List ℕ) → IsNext p old new
+next_applied : (p : DiffOp) (more : List DiffOp) (others old new : List ℕ) → IsNext p old new
     → applied (p ∷ more) (take (fresh p) new ++ others) old ≡ take (given p) new ++ applied more others (drop (taken p) old)
 next_applied (Keep n) more others old new is = ap (λ l. l ++ applied more others (drop n old)) is.3
 next_applied (Skip n) more others old new is = refl
@@ -32,15 +32,15 @@ next_applied (Add n) more others old new is =
     ∙ ap (λ l. take n new ++ applied more l old) (drop_cut n new others is.1)
 
 -- the parts so far make what comes before the rest of the new text, and leave the rest of the old one
-pub record IsPartWay (parts : List Part) (added before old after new : List ℕ) : Type 0 where
+pub record IsPartWay (parts : List DiffOp) (added before old after new : List ℕ) : Type 0 where
   pub done : List ℕ
   pub rest : after ≡ done ++ new
-  pub leads : (more : List Part) (others : List ℕ) → applied (parts ++ more) (added ++ others) before ≡ done ++ applied more others old
+  pub leads : (more : List DiffOp) (others : List ℕ) → applied (parts ++ more) (added ++ others) before ≡ done ++ applied more others old
 
 pub way_begins : (before after : List ℕ) → IsPartWay [] [] before before after after
 way_begins before after = record { done = []; rest = refl; leads = λ more others. refl }
 
-pub way_goes : (p : Part) (parts : List Part) (added before old after new : List ℕ) → IsNext p old new → IsPartWay parts added before old after new
+pub way_goes : (p : DiffOp) (parts : List DiffOp) (added before old after new : List ℕ) → IsNext p old new → IsPartWay parts added before old after new
     → IsPartWay (parts ++ p ∷ []) (added ++ take (fresh p) new) before (drop (taken p) old) after (drop (given p) new)
 way_goes p parts added before old after new is w = record {
   done = w.done ++ take (given p) new;
@@ -53,7 +53,7 @@ way_goes p parts added before old after new is w = record {
       ∙ sym (append_assoc w.done (take (given p) new) (applied more others (drop (taken p) old)));
 }
 
-pub way_ends : (parts : List Part) (added before old after new : List ℕ) → length old ≡ 0 → length new ≡ 0 → IsPartWay parts added before old after new
+pub way_ends : (parts : List DiffOp) (added before old after new : List ℕ) → length old ≡ 0 → length new ≡ 0 → IsPartWay parts added before old after new
     → applied parts added before ≡ after
 way_ends parts added before [] after [] o n w =
     ap (λ l. applied l added before) (sym (append-nil parts)) ∙ ap (λ l. applied (parts ++ []) l before) (sym (append-nil added))
@@ -62,13 +62,13 @@ way_ends parts added before (x ∷ old) after new o n w = absurd (omega (arith, 
 way_ends parts added before [] after (x ∷ new) o n w = absurd (omega (arith, n))
 
 -- how many bytes it passes is within the texts
-pub next_fits : (p : Part) (old new : List ℕ) → IsNext p old new → (fresh p ≤ length new) × (taken p ≤ length old) × (given p ≤ length new) × (0 < taken p + given p)
+pub next_fits : (p : DiffOp) (old new : List ℕ) → IsNext p old new → (fresh p ≤ length new) × (taken p ≤ length old) × (given p ≤ length new) × (0 < taken p + given p)
 next_fits (Keep n) old new is = (omega arith, is.1, is.2, omega (arith, is.0))
 next_fits (Skip n) old new is = (omega arith, is.1, omega arith, omega (arith, is.0))
 next_fits (Add n) old new is = (is.1, omega arith, is.1, omega (arith, is.0))
 
 -- one part more is applied
-pub part_applied : (parts : List Part) (at : ℕ) (d p : Part) (out fresh_now rest stays line others more mid new all : List ℕ) → at < length parts
+pub part_applied : (parts : List DiffOp) (at : ℕ) (d p : DiffOp) (out fresh_now rest stays line others more mid new all : List ℕ) → at < length parts
     → get_or parts at d ≡ p → stays ≡ take (kept p) rest → line ≡ take (fresh p) fresh_now → others ≡ drop (fresh p) fresh_now
     → more ≡ drop (taken p) rest → mid ≡ out ++ stays → new ≡ mid ++ line → out ++ applied (drop at parts) fresh_now rest ≡ all
     → new ++ applied (drop (at + 1) parts) others more ≡ all
@@ -87,7 +87,7 @@ part_applied parts at d p out fresh_now rest stays line others more mid new all 
     ∙ same
 
 -- the same, of what came of it
-pub way_on : (p : Part) (parts parts_now : List Part) (added added_now line before old old_now after new new_now : List ℕ) (n m k : ℕ) → IsNext p old new
+pub way_on : (p : DiffOp) (parts parts_now : List DiffOp) (added added_now line before old old_now after new new_now : List ℕ) (n m k : ℕ) → IsNext p old new
     → IsPartWay parts added before old after new → parts_now ≡ parts ++ p ∷ [] → added_now ≡ added ++ line → n ≡ fresh p → line ≡ take n new
     → m ≡ taken p → old_now ≡ drop m old → k ≡ given p → new_now ≡ drop k new → IsPartWay parts_now added_now before old_now after new_now
 way_on p parts parts_now added added_now line before old old_now after new new_now n m k is w ps a f l t o g e =

@@ -8,7 +8,7 @@ use Rattle.trace_words.specs.declared.show.Show.TheVariants.{Maps}
 use Rattle.trace_text.specs.Listing.{maps_text}
 use Rattle.trace.specs.Shown.{IsBehind}
 use Rattle.radix_range.proofs.New.{new_tree_new}
-use Rattle.trace_words.specs.Declarations.{Asked, made_by}
+use Rattle.trace_words.specs.Declarations.{DeclarationView, made_by}
 use Rattle.trace.specs.EventRuns.{AllAsk}
 use Rattle.trace.specs.Seen.{HasMachine, IsSeenWith, SeesAll}
 use Rattle.trace.specs.Stage.{CanOpen, Declared, Running, Stage, Start, new_machine}
@@ -39,7 +39,7 @@ pub seen_as : (form : Form) (seen : List ℕ → Seen → List ℕ) (state : Lis
     → r.whole ≡ true → Tells form seen state (lines_of input) list machine r
 seen_as form seen state shown one r machine input list n s whole = go s.0 s.1 s.2.opens s.2.holds s.2.is
   where
-    start : (a : Asked) → Knows one (new_machine a)
+    start : (a : DeclarationView) → Knows one (new_machine a)
     start a = opening one (made_by a) new_tree new_tree_new n
 
     both : (maps : List ℕ) (w : World) → seen list r ≡ state maps w → counts_at form machine ≡ counts_text form w

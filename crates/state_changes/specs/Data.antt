@@ -2,20 +2,20 @@
 use Rattle.std.specs.Prelude.{ℕ, List, [], ◌∷◌, ◌++◌, codes, decimal, take, drop}
 use Rattle.std.specs.List.{flat_map}
 use Rattle.state_changes.specs.Applied.{Differs, fresh}
-use Rattle.state_changes.specs.declared.part.Part.{Part}
-use Rattle.state_changes.specs.declared.part.Part.TheVariants.{Keep, Skip, Add}
+use Rattle.state_changes.specs.declared.part.DiffOp.{DiffOp}
+use Rattle.state_changes.specs.declared.part.DiffOp.TheVariants.{Keep, Skip, Add}
 use Rattle.trace_io.specs.Lines.{lines_of}
 use Rattle.state_changes.specs.Json.{string_text}
 use Rattle.state_changes.specs.Recorded.{MomentOf, Recorded}
 use Rattle.state_changes.specs.Spans.{span_of}
 
 -- a part of a change: how many bytes stay, below 0 how many go, or what is added
-abbrev pub part_text : Part → List ℕ → List ℕ
+abbrev pub part_text : DiffOp → List ℕ → List ℕ
 part_text (Keep n) added = codes "," ++ decimal n
 part_text (Skip n) added = codes ",-" ++ decimal n
 part_text (Add n) added = codes "," ++ string_text (take n added)
 
-abbrev pub parts_text : List Part → List ℕ → List ℕ
+abbrev pub parts_text : List DiffOp → List ℕ → List ℕ
 parts_text [] added = []
 parts_text (p ∷ ps) added = part_text p added ++ parts_text ps (drop (fresh p) added)
 

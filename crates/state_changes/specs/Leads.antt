@@ -4,7 +4,7 @@ use Rattle.machine_model.specs.Step.{Run}
 use Rattle.machine_model.specs.World.{World}
 use Rattle.machine_model.specs.declared.event.Event.{Event}
 use Rattle.machine_model.specs.declared.event.Outcome.{Outcome}
-use Rattle.trace_words.specs.Declarations.{Asked}
+use Rattle.trace_words.specs.Declarations.{DeclarationView}
 use Rattle.trace.specs.EventRuns.{AllAsk}
 use Rattle.trace.specs.Shown.{ListsUpTo}
 use Rattle.trace.specs.Stage.{Opens, Stage, new_machine}
@@ -13,7 +13,7 @@ use Rattle.state_text.specs.Traces.{Told}
 -- The lines ask for these events of a new machine, which came to these outcomes, one after another,
 -- and led to the state.
 pub record ComesTo (lines : List (List ℕ)) (w : World) : Type 0 where
-  pub asked : Asked
+  pub asked : DeclarationView
   pub events : List Event
   pub outcomes : List Outcome
   pub text : List ℕ

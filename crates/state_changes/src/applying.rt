@@ -2,7 +2,7 @@
 ghost use Rattle.std.specs.Prelude.{◌≡◌, ◌++◌, OnOk, drop, take};
 ghost use Rattle.state_changes.specs.Applied.{applied};
 
-use crate::part::Part;
+use crate::part::DiffOp;
 use std::alloc::AllocError;
 
 // The first bytes of a text, or all where there are fewer, and what follows.
@@ -17,7 +17,7 @@ fn cut(text: &[u8], count: usize) -> (&[u8], &[u8])
 /// Appends what the text becomes.
 pub(crate) fn apply_to(
     out: &mut Vec<u8>,
-    parts: &[Part],
+    parts: &[DiffOp],
     added: &[u8],
     text: &[u8],
 ) -> Result<(), AllocError>

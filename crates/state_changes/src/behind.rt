@@ -9,10 +9,10 @@ use crate::marks::difference_text;
 use std::alloc::{AllocError, Global};
 use trace_io::lines::front_line;
 use crate::spans::span_of;
-use crate::{Moment, StateRecorder};
+use crate::{StateStep, StateRecorder};
 
 // What the steps make of the text, one after another.
-fn text_after(alloc: Global, text: &[u8], moments: &[Moment]) -> Result<Vec<u8>, AllocError>
+fn text_after(alloc: Global, text: &[u8], moments: &[StateStep]) -> Result<Vec<u8>, AllocError>
     ensures { IfOk result (λ after. after.items ≡ all_changed text.now moments.now) }
 {
     let mut after = Vec::new(alloc);

@@ -6,21 +6,21 @@ ghost use Rattle.trace_io.specs.Lines.{lines_of};
 ghost use Rattle.state_changes.specs.Data.{change_text, data_text, field_text, group_text, groups_text, moment_text, page_text, part_text, parts_text, steps_text};
 
 use crate::json::put_string;
-use crate::recorder::{Moment, StateRecorder};
+use crate::recorder::{StateStep, StateRecorder};
 use crate::spans::span_of;
-use crate::{Difference, Part};
+use crate::{Difference, DiffOp};
 use trace_text::pieces::{Piece, put, put_all};
 use std::alloc::{AllocError, Global};
 use trace_io::lines::front_line;
 
 // Appends a part of a change.
-fn put_part(out: &mut Vec<u8>, part: Part, added: &[u8]) -> Result<(), AllocError>
+fn put_part(out: &mut Vec<u8>, part: DiffOp, added: &[u8]) -> Result<(), AllocError>
     ensures { OnOk result (out.new.items ≡ out.old.items ++ part_text part added.now) }
 {
     match part {
-        Part::Keep(count) => put_all(out, &[Piece::Words(","), Piece::Number(count as u64)]),
-        Part::Skip(count) => put_all(out, &[Piece::Words(",-"), Piece::Number(count as u64)]),
-        Part::Add(count) => {
+        DiffOp::Keep(count) => put_all(out, &[Piece::Words(","), Piece::Number(count as u64)]),
+        DiffOp::Skip(count) => put_all(out, &[Piece::Words(",-"), Piece::Number(count as u64)]),
+        DiffOp::Add(count) => {
             let (text, _) = added.split_at(count.min(added.len()));
             put(out, ",")?;
             put_string(out, text)
@@ -29,7 +29,7 @@ fn put_part(out: &mut Vec<u8>, part: Part, added: &[u8]) -> Result<(), AllocErro
 }
 
 // Appends the parts of a change.
-fn put_parts(out: &mut Vec<u8>, parts: &[Part], added: &[u8]) -> Result<(), AllocError>
+fn put_parts(out: &mut Vec<u8>, parts: &[DiffOp], added: &[u8]) -> Result<(), AllocError>
     ensures { OnOk result (out.new.items ≡ out.old.items ++ parts_text parts.now added.now) }
 {
     let mut fresh = added;
@@ -54,7 +54,7 @@ fn put_change(out: &mut Vec<u8>, change: &Difference) -> Result<(), AllocError>
 }
 
 // Appends the steps of a line.
-fn put_group(out: &mut Vec<u8>, moments: &[Moment]) -> Result<(), AllocError>
+fn put_group(out: &mut Vec<u8>, moments: &[StateStep]) -> Result<(), AllocError>
     ensures { OnOk result (out.new.items ≡ out.old.items ++ group_text moments.now) }
 {
     put(out, ",[0")?;
@@ -67,7 +67,7 @@ fn put_group(out: &mut Vec<u8>, moments: &[Moment]) -> Result<(), AllocError>
 }
 
 // Appends the steps of each line.
-fn put_groups(out: &mut Vec<u8>, trace: &[u8], moments: &[Moment]) -> Result<(), AllocError>
+fn put_groups(out: &mut Vec<u8>, trace: &[u8], moments: &[StateStep]) -> Result<(), AllocError>
     ensures { OnOk result (out.new.items ≡ out.old.items ++ groups_text (lines_of trace.now) moments.now) }
 {
     let mut rest = trace;
@@ -97,7 +97,7 @@ fn put_steps(
     out: &mut Vec<u8>,
     front: &str,
     trace: &[u8],
-    moments: &[Moment],
+    moments: &[StateStep],
     back: &str,
 ) -> Result<(), AllocError>
     ensures { OnOk result (out.new.items ≡ out.old.items ++ steps_text front.now (lines_of trace.now) moments.now back.now) }

@@ -4,14 +4,14 @@ ghost use Rattle.state_changes.specs.Applied.{applied};
 
 use crate::applying::apply_to;
 use crate::finding::next_part;
-use crate::part::Part;
+use crate::part::DiffOp;
 use std::alloc::{AllocError, Global};
 use std::marker::Model;
 
 /// How one text becomes another. A clause sees it as `Differs`.
 #[derive(Drop)]
 pub struct Difference {
-    parts: Vec<Part>,
+    parts: Vec<DiffOp>,
     added: Vec<u8>,
 }
 
@@ -28,7 +28,7 @@ impl Difference {
     ghost use Rattle.state_changes.specs.Applied.{applied};
 
     /// Its parts, from front to back.
-    pub fn parts(&self) -> &[Part]
+    pub fn parts(&self) -> &[DiffOp]
         ensures { result.now ≡ self.now.parts }
     {
         self.parts.as_slice()

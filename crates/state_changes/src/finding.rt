@@ -2,7 +2,7 @@
 ghost use Rattle.std.specs.Prelude.{◌≡◌, ◌+◌, ◌<◌, ◌≤◌, take, length};
 ghost use Rattle.state_changes.specs.Applied.{IsNext};
 
-use crate::part::Part;
+use crate::part::DiffOp;
 use memchr::memchr;
 
 // How many bytes the first lines have that are the same in both texts.
@@ -49,33 +49,33 @@ fn stands_in(line: &[u8], text: &[u8]) -> bool {
 }
 
 // What becomes of two lines that differ: that of the old text goes, unless it comes later in the new one.
-fn other_part(old: &[u8], new: &[u8]) -> Part
+fn other_part(old: &[u8], new: &[u8]) -> DiffOp
     requires { 0 < length old.now + length new.now }
     ensures { IsNext result old.now new.now }
 {
     if old.is_empty() {
-        return Part::Add(new.len());
+        return DiffOp::Add(new.len());
     }
     if new.is_empty() {
-        return Part::Skip(old.len());
+        return DiffOp::Skip(old.len());
     }
     let count = line_len(old);
     let (line, _) = old.split_at(count);
     if stands_in(line, new) {
-        Part::Add(line_len(new))
+        DiffOp::Add(line_len(new))
     } else {
-        Part::Skip(count)
+        DiffOp::Skip(count)
     }
 }
 
 /// The part by which the rest of the old text begins to become that of the new one.
-pub(crate) fn next_part(old: &[u8], new: &[u8]) -> Part
+pub(crate) fn next_part(old: &[u8], new: &[u8]) -> DiffOp
     requires { 0 < length old.now + length new.now }
     ensures { IsNext result old.now new.now }
 {
     let count = same_lines(old, new);
     if count > 0 {
-        return Part::Keep(count);
+        return DiffOp::Keep(count);
     }
     other_part(old, new)
 }

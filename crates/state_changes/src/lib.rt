@@ -1,4 +1,10 @@
-//! What each line of a trace changes in the state: the lines of its text that go, and those that come.
+//! What each line of a trace changes in the state, and a page that steps through it.
+//!
+//! - `behind` (`changes_of`), `recorder`, `spans`: states beside a line; `differing`, `finding`, `marks`, `part`,
+//!   `applying`: texts that differ.
+//! - `data`, `json`, `listing`, `template`: the page of HTML that steps through a trace.
+//!
+//! It exists for `behind::changes_of`. The word `page` and `run --state` call it.
 #![tactic(auto)]
 
 mod applying;
@@ -16,5 +22,5 @@ pub mod template;
 
 pub use behind::changes_of;
 pub use differing::{Difference, difference_of};
-pub use part::Part;
-pub use recorder::{Moment, StateRecorder};
+pub use part::DiffOp;
+pub use recorder::{StateStep, StateRecorder};

@@ -1,7 +1,7 @@
 //! A part of a difference.
 /// What becomes of the next bytes of a text.
 #[derive(Clone, Copy)]
-pub enum Part {
+pub enum DiffOp {
     /// So many of them stay.
     Keep(usize),
     /// So many of them go.
@@ -10,7 +10,7 @@ pub enum Part {
     Add(usize),
 }
 
-impl Part {
+impl DiffOp {
     ghost use Rattle.std.specs.Prelude.{◌≡◌};
     ghost use Rattle.state_changes.specs.Applied.{fresh, given, kept, taken};
 
@@ -19,8 +19,8 @@ impl Part {
         ensures { result ≡ taken self }
     {
         match self {
-            Part::Keep(count) | Part::Skip(count) => count,
-            Part::Add(_) => 0,
+            DiffOp::Keep(count) | DiffOp::Skip(count) => count,
+            DiffOp::Add(_) => 0,
         }
     }
 
@@ -29,8 +29,8 @@ impl Part {
         ensures { result ≡ kept self }
     {
         match self {
-            Part::Keep(count) => count,
-            Part::Skip(_) | Part::Add(_) => 0,
+            DiffOp::Keep(count) => count,
+            DiffOp::Skip(_) | DiffOp::Add(_) => 0,
         }
     }
 
@@ -39,8 +39,8 @@ impl Part {
         ensures { result ≡ given self }
     {
         match self {
-            Part::Keep(count) | Part::Add(count) => count,
-            Part::Skip(_) => 0,
+            DiffOp::Keep(count) | DiffOp::Add(count) => count,
+            DiffOp::Skip(_) => 0,
         }
     }
 
@@ -49,8 +49,8 @@ impl Part {
         ensures { result ≡ fresh self }
     {
         match self {
-            Part::Add(count) => count,
-            Part::Keep(_) | Part::Skip(_) => 0,
+            DiffOp::Add(count) => count,
+            DiffOp::Keep(_) | DiffOp::Skip(_) => 0,
         }
     }
 }

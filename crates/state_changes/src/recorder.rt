@@ -24,12 +24,12 @@ use watched::Watch;
 
 /// A step that was made.
 #[derive(Drop)]
-pub struct Moment {
+pub struct StateStep {
     goes_on: bool,
     change: Difference,
 }
 
-impl Model for Moment {
+impl Model for StateStep {
     ghost use Rattle.state_changes.specs.Recorded.{MomentOf};
 
     ghost Value = { MomentOf };
@@ -46,7 +46,7 @@ pub struct StateRecorder {
     mirror: Mirror<Global>,
     first: Vec<u8>,
     text: Vec<u8>,
-    moments: Vec<Moment>,
+    moments: Vec<StateStep>,
 }
 
 impl Model for StateRecorder {
@@ -63,7 +63,7 @@ impl Model for StateRecorder {
     } };
 }
 
-impl Moment {
+impl StateStep {
     ghost use Rattle.std.specs.Prelude.{◌≡◌};
 
     /// Whether its call may go on: the outcome was a plain step.
@@ -153,7 +153,7 @@ impl StateRecorder {
     }
 
     /// The steps, in order.
-    pub fn moments(&self) -> &[Moment]
+    pub fn moments(&self) -> &[StateStep]
         ensures { result.now ≡ self.now.moments }
     {
         self.moments.as_slice()
@@ -173,7 +173,7 @@ impl StateRecorder {
         let maps = mappings_of(self.alloc, machine)?;
         let text = text_of(self.alloc, &self.mirror, maps.as_slice(), machine)?;
         let change = difference_of(self.alloc, self.text.as_slice(), text.as_slice())?;
-        self.moments.push(Moment { goes_on, change })?;
+        self.moments.push(StateStep { goes_on, change })?;
         self.text = text;
         Ok(())
     }

@@ -4,14 +4,14 @@ ghost use Rattle.core_steps.specs.Finishing.{finish_limit};
 ghost use Rattle.trace_text.specs.Line.{line_of};
 ghost use Rattle.state_changes.specs.Spans.{call_len, count_of, span_of, steps_to_end};
 
-use crate::recorder::Moment;
+use crate::recorder::StateStep;
 use trace_text::{Line, read_line};
 
 /// How many steps finish a call at the most.
 const FINISH_LIMIT: usize = 1 << 40;
 
 // How many steps there are up to the first behind which the call doesn't go on, or how many all are.
-fn steps_to_end(moments: &[Moment]) -> usize
+fn steps_to_end(moments: &[StateStep]) -> usize
     ensures value { result ≡ steps_to_end moments.now }
     ensures within { result ≤ length moments.now }
 {
@@ -27,7 +27,7 @@ fn steps_to_end(moments: &[Moment]) -> usize
 }
 
 // How many steps finish a call.
-fn finish_len(moments: &[Moment]) -> usize
+fn finish_len(moments: &[StateStep]) -> usize
     ensures value { result ≡ min (steps_to_end moments.now) finish_limit }
     ensures within { result ≤ length moments.now }
 {
@@ -35,7 +35,7 @@ fn finish_len(moments: &[Moment]) -> usize
 }
 
 // How many steps begin and finish a call, if it can begin.
-fn call_len(moments: &[Moment]) -> usize
+fn call_len(moments: &[StateStep]) -> usize
     ensures value { result ≡ call_len moments.now }
     ensures within { result ≤ length moments.now }
 {
@@ -50,7 +50,7 @@ fn call_len(moments: &[Moment]) -> usize
 }
 
 // How many steps a line that says this makes.
-fn count_of(said: &Option<Line>, moments: &[Moment]) -> usize
+fn count_of(said: &Option<Line>, moments: &[StateStep]) -> usize
     ensures value { result ≡ count_of said.now moments.now }
     ensures within { result ≤ length moments.now }
 {
@@ -63,7 +63,7 @@ fn count_of(said: &Option<Line>, moments: &[Moment]) -> usize
 }
 
 /// How many steps a line makes, of those from its first one on.
-pub fn span_of(line: &[u8], moments: &[Moment]) -> usize
+pub fn span_of(line: &[u8], moments: &[StateStep]) -> usize
     ensures value { result ≡ span_of line.now moments.now }
     ensures within { result ≤ length moments.now }
 {

@@ -25,8 +25,8 @@ use Rattle.machine_model.proofs.Shapes.{reviews, frees}
 use Rattle.machine_model.proofs.Shapes.{IsGoing, going, picking, IsAiming, at_run, at_window, Shape, rests, begins, ends, goes, aims}
 use Rattle.machine_model.proofs.Shapes.{gives_up, works, joins}
 use Rattle.machine_model.proofs.Shapes.{Comes, stopped, acts as happens, comes}
-use Rattle.state_seen.specs.declared.deed.Deed.{Deed}
-use Rattle.state_seen.specs.declared.deed.Deed.TheVariants.{Nothing, Translate, Shoot, Take, Walk, Evict}
+use Rattle.state_seen.specs.declared.deed.HardwareStep.{HardwareStep}
+use Rattle.state_seen.specs.declared.deed.HardwareStep.TheVariants.{Nothing, Translate, Shoot, Take, Walk, Evict}
 use Rattle.state_seen.specs.Deeds.{deed_at, deed_of, if_here}
 use Rattle.state_seen.specs.Held.{Holds, done, invalidated, own_part, taken, told}
 use Rattle.state_seen.specs.Shown.{after_step, holds_of}
@@ -69,7 +69,7 @@ nothing_done Idle h = refl
 nothing_done (Answered reply) h = refl
 nothing_done Full h = refl
 
-rests_still : (w : World) (e : Event) (o : Outcome) (deed : Deed) (h : ℕ → Holds) → Rests w e o → after_step o deed h ≡ h
+rests_still : (w : World) (e : Event) (o : Outcome) (deed : HardwareStep) (h : ℕ → Holds) → Rests w e o → after_step o deed h ≡ h
 rests_still w e o deed h (absent g i) = ap (λ x. after_step x deed h) i
 rests_still w e o deed h (busy c request g n i) = ap (λ x. after_step x deed h) i
 rests_still w e o deed h (full c request g n i) = ap (λ x. after_step x deed h) i
@@ -87,12 +87,12 @@ nothing w e o v n same d =
     same d ∙ sym (ap (λ x. after_step o x (holds_of w) d) n ∙ ap (λ f. f d) (nothing_done o (holds_of w)))
 
 -- a deed that is made
-made : (w : World) (e : Event) (o : Outcome) (v : World) (deed : Deed) → o ≡ Stepped → deed_of w e ≡ deed
+made : (w : World) (e : Event) (o : Outcome) (v : World) (deed : HardwareStep) → o ≡ Stepped → deed_of w e ≡ deed
     → ((d : ℕ) → holds_of v d ≡ done deed (holds_of w) d) → Kept w e o v
 made w e o v deed s n same d =
     same d ∙ sym (ap (λ x. after_step x (deed_of w e) (holds_of w) d) s ∙ ap (λ x. done x (holds_of w) d) n)
 
-here : (w : World) (c : ℕ) (deed : Deed) → c < w.made.cores → if_here w c deed ≡ deed
+here : (w : World) (c : ℕ) (deed : HardwareStep) → c < w.made.cores → if_here w c deed ≡ deed
 here w c deed lt = let is : nat_lt c w.made.cores ≡ true = grind (arith, nat_tests) in ap (λ b. cond b deed Nothing) is
 
 -- the event of a call that goes on

@@ -25,8 +25,8 @@ use Rattle.machine_model.proofs.Shapes.{reviews, frees}
 use Rattle.machine_model.proofs.Shapes.{IsGoing, going, picking, IsAiming, at_run, at_window, Shape, rests, begins, ends, goes, aims}
 use Rattle.machine_model.proofs.Shapes.{gives_up, works, joins}
 use Rattle.machine_model.proofs.Shapes.{Comes, stopped, acts as happens, comes}
-use Rattle.state_seen.specs.declared.edit.Edit.{Edit}
-use Rattle.state_seen.specs.declared.edit.Edit.TheVariants.{Nothing, Clear, Take, Install}
+use Rattle.state_seen.specs.declared.edit.TableStep.{TableStep}
+use Rattle.state_seen.specs.declared.edit.TableStep.TheVariants.{Nothing, Clear, Take, Install}
 use Rattle.state_seen.specs.Edits.{after_edit, edit_at, edit_of, edited, if_edits, taken_from}
 
 abbrev Tables : Type 0
@@ -51,7 +51,7 @@ nothing_edited Idle i v t = refl
 nothing_edited (Answered reply) i v t = refl
 nothing_edited Full i v t = refl
 
-rests_still : (w : World) (e : Event) (o : Outcome) (edit : Edit) (i : Inboxes) (v t : Tables) → Rests w e o → after_edit o edit i v t ≡ t
+rests_still : (w : World) (e : Event) (o : Outcome) (edit : TableStep) (i : Inboxes) (v t : Tables) → Rests w e o → after_edit o edit i v t ≡ t
 rests_still w e o edit i v t (absent g h) = ap (λ x. after_edit x edit i v t) h
 rests_still w e o edit i v t (busy c request g n h) = ap (λ x. after_edit x edit i v t) h
 rests_still w e o edit i v t (full c request g n h) = ap (λ x. after_edit x edit i v t) h
@@ -74,13 +74,13 @@ nothing w e o v n same d p =
     ∙ ap (λ f. f d p) (nothing_edited o w.hardware.inbox v.hardware.table w.hardware.table))
 
 -- an edit that is made
-made : (w : World) (e : Event) (o : Outcome) (v : World) (edit : Edit) → o ≡ Stepped → edit_of w e ≡ edit
+made : (w : World) (e : Event) (o : Outcome) (v : World) (edit : TableStep) → o ≡ Stepped → edit_of w e ≡ edit
     → ((d p : ℕ) → v.hardware.table d p ≡ edited edit w.hardware.inbox v.hardware.table w.hardware.table d p) → Kept w e o v
 made w e o v edit s n same d p =
     same d p ∙ sym (ap (λ x. after_edit x (edit_of w e) w.hardware.inbox v.hardware.table w.hardware.table d p) s
     ∙ ap (λ x. edited x w.hardware.inbox v.hardware.table w.hardware.table d p) n)
 
-here : (w : World) (c : ℕ) (edit : Edit) → c < w.made.cores → if_edits w c edit ≡ edit
+here : (w : World) (c : ℕ) (edit : TableStep) → c < w.made.cores → if_edits w c edit ≡ edit
 here w c edit lt = let is : nat_lt c w.made.cores ≡ true = grind (arith, nat_tests) in ap (λ b. cond b edit Nothing) is
 
 -- the event of a call that goes on

@@ -12,8 +12,8 @@ use Rattle.mmu.specs.declared.message.Message.{Message}
 use Rattle.mmu.specs.declared.message.Took.{Took}
 use Rattle.mmu.specs.declared.message.Took.TheVariants.{Clear, Invalidate, Idle}
 use Rattle.mmu.specs.Messages.{asked, posted, remaining}
-use Rattle.state_seen.specs.declared.deed.Deed.{Deed}
-use Rattle.state_seen.specs.declared.deed.Deed.TheVariants.{Nothing, Translate, Shoot, Take, Walk, Evict}
+use Rattle.state_seen.specs.declared.deed.HardwareStep.{HardwareStep}
+use Rattle.state_seen.specs.declared.deed.HardwareStep.TheVariants.{Nothing, Translate, Shoot, Take, Walk, Evict}
 
 -- a core's TLB, the oldest filled first, and its inbox, the oldest message first
 pub record Holds : Type 0 where
@@ -55,7 +55,7 @@ told from range h = record h { inbox = h.inbox ++ posted from range ∷ [] }
 -- ---- deeds
 
 -- what a deed does to the core whose deed it is
-abbrev pub own_part : Deed → Holds → Holds
+abbrev pub own_part : HardwareStep → Holds → Holds
 own_part Nothing h = h
 own_part (Translate c touch entry) h = record h { tlb = translated_on touch entry h.tlb }
 own_part (Shoot c set range) h = record h { tlb = tlb_without (has range) h.tlb }
@@ -72,7 +72,7 @@ abbrev pub told_by : ℕ → (ℕ → Bool) → PageRange → (ℕ → Holds) �
 told_by from to range h d = cond (to d) (told from range (h d)) (h d)
 
 -- what a deed does to all
-abbrev pub done : Deed → (ℕ → Holds) → ℕ → Holds
+abbrev pub done : HardwareStep → (ℕ → Holds) → ℕ → Holds
 done Nothing h = h
 done (Translate c touch entry) h = put h c (own_part (Translate c touch entry) (h c))
 done (Shoot c set range) h =

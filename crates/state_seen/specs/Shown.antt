@@ -14,7 +14,7 @@ use Rattle.machine_model.specs.declared.event.Outcome.{Outcome}
 use Rattle.machine_model.specs.declared.event.Outcome.TheVariants.{Stepped}
 use Rattle.machine_model.specs.declared.phase.Phase.{Phase}
 use Rattle.machine_model.specs.declared.phase.Phase.TheVariants.{Free}
-use Rattle.state_seen.specs.declared.deed.Deed.{Deed}
+use Rattle.state_seen.specs.declared.deed.HardwareStep.{HardwareStep}
 use Rattle.state_seen.specs.Deeds.{deed_of}
 use Rattle.state_seen.specs.Edits.{after_edit, edit_of, table_at}
 use Rattle.state_seen.specs.Held.{Holds, done, held, nothing_held}
@@ -68,7 +68,7 @@ pub record IsShown (r : Seen) (w : World) : Type 0 where
 -- ---- a step
 
 -- only a plain step does something
-abbrev pub after_step : Outcome → Deed → (ℕ → Holds) → ℕ → Holds
+abbrev pub after_step : Outcome → HardwareStep → (ℕ → Holds) → ℕ → Holds
 after_step Stepped deed h = done deed h
 after_step _ deed h = h
 

@@ -5,7 +5,7 @@ use vm_base::{CoreId, CoreSet, PageRange};
 
 /// What a step does to TLBs and inboxes, where it is made.
 #[derive(Clone, Copy)]
-pub enum Deed {
+pub enum HardwareStep {
     /// Nothing.
     Nothing,
     /// The core translates an access to a page of which its tables have this entry.

@@ -3,7 +3,7 @@ use vm_base::{CoreId, PageRange};
 
 /// What a step does to the tables of its core, where it is made.
 #[derive(Clone, Copy)]
-pub enum Edit {
+pub enum TableStep {
     /// Nothing.
     Nothing,
     /// They lose the pages of the range.

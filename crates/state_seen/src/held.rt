@@ -5,7 +5,7 @@ ghost use Rattle.vm_base.specs.Functions.{put};
 ghost use Rattle.mmu.specs.Messages.{asked, posted, remaining};
 ghost use Rattle.state_seen.specs.Held.{held, invalidated, nothing_held, own_part, told, told_by, told_one, taken, translated_on, walked};
 
-use crate::deed::Deed;
+use crate::deed::HardwareStep;
 use crate::tlb_lists::{PLACES, drop_page, fill, find, invalidate, permits};
 use arrayvec::ArrayVec;
 use mmu::entry::Translation;
@@ -18,12 +18,12 @@ use vm_base::{CoreId, CoreSet, PageRange};
 
 /// A core's TLB, the oldest filled first, and its inbox, the oldest message first.
 #[derive(Drop)]
-pub struct Held {
+pub struct CoreHeld {
     tlb: ArrayVec<TlbEntry, PLACES>,
     inbox: ArrayVec<Message, PLACES>,
 }
 
-impl Model for Held {
+impl Model for CoreHeld {
     ghost use Rattle.state_seen.specs.Held.{Holds};
 
     ghost Value = { Holds };
@@ -108,12 +108,12 @@ fn deliver(inbox: &mut ArrayVec<Message, PLACES>, from: CoreId, range: PageRange
     true
 }
 
-impl Held {
+impl CoreHeld {
     /// A core that holds nothing.
-    pub fn new() -> Held
+    pub fn new() -> CoreHeld
         ensures { result ≡ nothing_held }
     {
-        Held {
+        CoreHeld {
             tlb: ArrayVec::new(),
             inbox: ArrayVec::new(),
         }
@@ -134,19 +134,19 @@ impl Held {
     }
 
     // What the deed does to the core whose deed it is.
-    fn act(&mut self, deed: &Deed)
+    fn act(&mut self, deed: &HardwareStep)
         ensures { self.new ≡ own_part deed.now self.old }
     {
         match deed {
-            Deed::Nothing => {}
-            Deed::Translate { touch, entry, .. } => translate(&mut self.tlb, *touch, *entry),
-            Deed::Shoot { range, .. } => invalidate(&mut self.tlb, *range),
-            Deed::Take(_) => {
+            HardwareStep::Nothing => {}
+            HardwareStep::Translate { touch, entry, .. } => translate(&mut self.tlb, *touch, *entry),
+            HardwareStep::Shoot { range, .. } => invalidate(&mut self.tlb, *range),
+            HardwareStep::Take(_) => {
                 obey(&mut self.tlb, self.inbox.as_slice());
                 pass(&mut self.inbox);
             }
-            Deed::Walk { page, entry, .. } => walk(&mut self.tlb, *page, *entry),
-            Deed::Evict { page, .. } => drop_page(&mut self.tlb, *page),
+            HardwareStep::Walk { page, entry, .. } => walk(&mut self.tlb, *page, *entry),
+            HardwareStep::Evict { page, .. } => drop_page(&mut self.tlb, *page),
         }
     }
 
@@ -160,7 +160,7 @@ impl Held {
 }
 
 /// What the deed does to the core whose deed it is, among all.
-pub(crate) fn act_at<A: Allocator>(all: &mut Vec<Held, A>, core: CoreId, deed: &Deed)
+pub(crate) fn act_at<A: Allocator>(all: &mut Vec<CoreHeld, A>, core: CoreId, deed: &HardwareStep)
     requires { length all.old.items ≡ 64 }
     ensures cores { length all.new.items ≡ length all.old.items }
     ensures held { held all.new.items ≡ put (held all.old.items) core (own_part deed.now (held all.old.items core)) }
@@ -170,7 +170,7 @@ pub(crate) fn act_at<A: Allocator>(all: &mut Vec<Held, A>, core: CoreId, deed: &
 
 // One core is told.
 fn tell_at<A: Allocator>(
-    all: &mut Vec<Held, A>,
+    all: &mut Vec<CoreHeld, A>,
     core: CoreId,
     from: CoreId,
     range: PageRange,
@@ -184,7 +184,7 @@ fn tell_at<A: Allocator>(
 
 // One core is told, if it is in the set.
 fn tell_if<A: Allocator>(
-    all: &mut Vec<Held, A>,
+    all: &mut Vec<CoreHeld, A>,
     core: CoreId,
     from: CoreId,
     to: CoreSet,
@@ -202,7 +202,7 @@ fn tell_if<A: Allocator>(
 
 /// Each core of the set is told; false where there was no room.
 pub(crate) fn tell_all<A: Allocator>(
-    all: &mut Vec<Held, A>,
+    all: &mut Vec<CoreHeld, A>,
     from: CoreId,
     to: CoreSet,
     range: PageRange,

@@ -4,7 +4,7 @@ ghost use Rattle.state_seen.specs.Edits.{table_at};
 ghost use Rattle.state_seen.specs.Held.{held, nothing_held};
 ghost use Rattle.state_seen.specs.Shown.{IsNothing, Seen};
 
-use crate::held::Held;
+use crate::held::CoreHeld;
 use machine_model::Phase;
 use mmu::entry::Translation;
 use crate::PageList;
@@ -25,7 +25,7 @@ pub struct Mirror<A: Allocator> {
     /// Where the calls of the cores stand.
     pub(crate) phases: [Phase; CORES],
     /// What the cores hold.
-    pub(crate) cores: Vec<Held, A>,
+    pub(crate) cores: Vec<CoreHeld, A>,
     /// The cores' tables.
     pub(crate) tables: Vec<PageList<Translation, A>, A>,
     /// The pages that have a frame, or on which a core is recorded.
@@ -49,13 +49,13 @@ impl<A: Allocator> Model for Mirror<A> {
 
 // This many cores that hold nothing.
 #[tactic(auto, using(crate::proofs::Lines::held_pushed))]
-fn empty_cores<A: Allocator>(alloc: A) -> Result<Vec<Held, A>, AllocError>
+fn empty_cores<A: Allocator>(alloc: A) -> Result<Vec<CoreHeld, A>, AllocError>
     ensures full { IfOk result (λ cores. length cores.items ≡ 64) }
     ensures empty { IfOk result (λ cores. (c : ℕ) → held cores.items c ≡ nothing_held) }
 {
     let mut cores = Vec::with_capacity(alloc, CORES)?;
     'cores: for _core in 0..64u8 {
-        cores.push_reserved(Held::new());
+        cores.push_reserved(CoreHeld::new());
     }
     Ok(cores)
 }
@@ -126,7 +126,7 @@ impl<A: Allocator> Mirror<A> {
     }
 
     /// What the cores hold.
-    pub fn cores(&self) -> &[Held]
+    pub fn cores(&self) -> &[CoreHeld]
         ensures value { result.now ≡ self.now.cores }
         ensures full { length result.now ≡ 64 }
     {

@@ -4,13 +4,13 @@ ghost use Rattle.vm_base.specs.Info.{recorded_cores};
 ghost use Rattle.core_steps.specs.Machine.{state};
 ghost use Rattle.machine_model.specs.Holding.{page_of_touch};
 ghost use Rattle.machine_model.specs.declared.phase.Phase.TheVariants.{CopyPost};
-ghost use Rattle.state_seen.specs.declared.deed.Deed.TheVariants.{Walk};
+ghost use Rattle.state_seen.specs.declared.deed.HardwareStep.TheVariants.{Walk};
 ghost use Rattle.state_seen.specs.Deeds.{deed_at, deed_of, if_here};
 ghost use Rattle.state_seen.specs.Edits.{edit_at, edit_of, if_edits};
-ghost use Rattle.state_seen.specs.declared.edit.Edit.TheVariants as To;
+ghost use Rattle.state_seen.specs.declared.edit.TableStep.TheVariants as To;
 
-use crate::deed::Deed;
-use crate::edit::Edit;
+use crate::deed::HardwareStep;
+use crate::edit::TableStep;
 use machine_log::Ledger;
 use core_steps::Machine;
 use machine_model::{Event, Phase};
@@ -105,28 +105,28 @@ fn deed_at<M: SlotMap, A: Allocator + Clone, L: Ledger>(
     machine: &Machine<M, A, L>,
     core: CoreId,
     phase: &Phase,
-) -> Deed
+) -> HardwareStep
     requires here { core < (state machine.now).made.cores }
     requires stands { (state machine.now).calls.phase core ≡ phase.now }
     ensures { result ≡ deed_at (state machine.now) core phase.now }
 {
     match phase {
-        Phase::Try(touch) => Deed::Translate {
+        Phase::Try(touch) => HardwareStep::Translate {
             core,
             touch: *touch,
             entry: entry_of(machine, core, touch.page),
         },
-        Phase::Post { change, shoot } => Deed::Shoot {
+        Phase::Post { change, shoot } => HardwareStep::Shoot {
             core,
             set: *shoot,
             range: change.range(),
         },
-        Phase::CopyPost { touch, frame } => Deed::Shoot {
+        Phase::CopyPost { touch, frame } => HardwareStep::Shoot {
             core,
             set: recorded_on(machine, touch.page),
             range: page_of_copy(machine, core, *touch, *frame),
         },
-        _ => Deed::Nothing,
+        _ => HardwareStep::Nothing,
     }
 }
 
@@ -134,12 +134,12 @@ fn deed_at<M: SlotMap, A: Allocator + Clone, L: Ledger>(
 fn deed_of_call<M: SlotMap, A: Allocator + Clone, L: Ledger>(
     machine: &Machine<M, A, L>,
     core: CoreId,
-) -> Deed
+) -> HardwareStep
     ensures { result ≡ if_here (state machine.now) core
         (deed_at (state machine.now) core ((state machine.now).calls.phase core)) }
 {
     if usize::from(core.index()) >= machine.cores() {
-        return Deed::Nothing;
+        return HardwareStep::Nothing;
     }
     let phase = machine.phase(core);
     deed_at(machine, core, &phase)
@@ -150,27 +150,27 @@ fn deed_of_walk<M: SlotMap, A: Allocator + Clone, L: Ledger>(
     machine: &Machine<M, A, L>,
     core: CoreId,
     page: u64,
-) -> Deed
+) -> HardwareStep
     ensures { result ≡ if_here (state machine.now) core
         (Walk core page ((state machine.now).hardware.table core page)) }
 {
     if usize::from(core.index()) >= machine.cores() {
-        return Deed::Nothing;
+        return HardwareStep::Nothing;
     }
     let entry = entry_of(machine, core, page);
-    Deed::Walk { core, page, entry }
+    HardwareStep::Walk { core, page, entry }
 }
 
 // This deed, if its core is there.
 fn if_here<M: SlotMap, A: Allocator + Clone, L: Ledger>(
     machine: &Machine<M, A, L>,
     core: CoreId,
-    deed: Deed,
-) -> Deed
+    deed: HardwareStep,
+) -> HardwareStep
     ensures { result ≡ if_here (state machine.now) core deed }
 {
     if usize::from(core.index()) >= machine.cores() {
-        return Deed::Nothing;
+        return HardwareStep::Nothing;
     }
     deed
 }
@@ -179,23 +179,23 @@ fn if_here<M: SlotMap, A: Allocator + Clone, L: Ledger>(
 pub(crate) fn deed_of<M: SlotMap, A: Allocator + Clone, L: Ledger>(
     machine: &Machine<M, A, L>,
     event: &Event,
-) -> Deed
+) -> HardwareStep
     ensures { result ≡ deed_of (state machine.now) event.now }
 {
     match event {
         Event::Go(core) => deed_of_call(machine, *core),
         Event::Frame(core, _) => deed_of_call(machine, *core),
-        Event::Take(core) => if_here(machine, *core, Deed::Take(*core)),
+        Event::Take(core) => if_here(machine, *core, HardwareStep::Take(*core)),
         Event::Walk(core, page) => deed_of_walk(machine, *core, *page),
         Event::Evict(core, page) => if_here(
             machine,
             *core,
-            Deed::Evict {
+            HardwareStep::Evict {
                 core: *core,
                 page: *page,
             },
         ),
-        _ => Deed::Nothing,
+        _ => HardwareStep::Nothing,
     }
 }
 
@@ -206,24 +206,24 @@ fn edit_at<M: SlotMap, A: Allocator + Clone, L: Ledger>(
     machine: &Machine<M, A, L>,
     core: CoreId,
     phase: &Phase,
-) -> Edit
+) -> TableStep
     requires { (state machine.now).calls.phase core ≡ phase.now }
     ensures { result ≡ edit_at core phase.now }
 {
     match phase {
-        Phase::Post { change, .. } => Edit::Clear {
+        Phase::Post { change, .. } => TableStep::Clear {
             core,
             range: change.range(),
         },
-        Phase::CopyPost { touch, frame } => Edit::Clear {
+        Phase::CopyPost { touch, frame } => TableStep::Clear {
             core,
             range: page_of_copy(machine, core, *touch, *frame),
         },
-        Phase::Install(touch) => Edit::Install {
+        Phase::Install(touch) => TableStep::Install {
             core,
             page: touch.page,
         },
-        _ => Edit::Nothing,
+        _ => TableStep::Nothing,
     }
 }
 
@@ -231,11 +231,11 @@ fn edit_at<M: SlotMap, A: Allocator + Clone, L: Ledger>(
 fn edit_of_call<M: SlotMap, A: Allocator + Clone, L: Ledger>(
     machine: &Machine<M, A, L>,
     core: CoreId,
-) -> Edit
+) -> TableStep
     ensures { result ≡ if_edits (state machine.now) core (edit_at core ((state machine.now).calls.phase core)) }
 {
     if usize::from(core.index()) >= machine.cores() {
-        return Edit::Nothing;
+        return TableStep::Nothing;
     }
     let phase = machine.phase(core);
     edit_at(machine, core, &phase)
@@ -245,26 +245,26 @@ fn edit_of_call<M: SlotMap, A: Allocator + Clone, L: Ledger>(
 fn edit_of_take<M: SlotMap, A: Allocator + Clone, L: Ledger>(
     machine: &Machine<M, A, L>,
     core: CoreId,
-) -> Edit
+) -> TableStep
     ensures { result ≡ if_edits (state machine.now) core (To.Take core) }
 {
     if usize::from(core.index()) >= machine.cores() {
-        return Edit::Nothing;
+        return TableStep::Nothing;
     }
-    Edit::Take(core)
+    TableStep::Take(core)
 }
 
 /// What the event does to tables.
 pub(crate) fn edit_of<M: SlotMap, A: Allocator + Clone, L: Ledger>(
     machine: &Machine<M, A, L>,
     event: &Event,
-) -> Edit
+) -> TableStep
     ensures { result ≡ edit_of (state machine.now) event.now }
 {
     match event {
         Event::Go(core) => edit_of_call(machine, *core),
         Event::Frame(core, _) => edit_of_call(machine, *core),
         Event::Take(core) => edit_of_take(machine, *core),
-        _ => Edit::Nothing,
+        _ => TableStep::Nothing,
     }
 }

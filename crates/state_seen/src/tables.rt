@@ -6,8 +6,8 @@ ghost use Rattle.core_steps.specs.Machine.{state};
 ghost use Rattle.state_seen.specs.Edits.{after_edit, edited, table_at, taken_from};
 ghost use Rattle.state_seen.specs.Shown.{inboxes};
 
-use crate::edit::Edit;
-use crate::held::Held;
+use crate::edit::TableStep;
+use crate::held::CoreHeld;
 use crate::reading::entry_of;
 use machine_log::Ledger;
 use core_steps::Machine;
@@ -90,8 +90,8 @@ fn install_at<M: SlotMap, A: Allocator + Clone, L: Ledger, B: Allocator>(
 fn do_edit<M: SlotMap, A: Allocator + Clone, L: Ledger, B: Allocator>(
     machine: &Machine<M, A, L>,
     tables: &mut Vec<PageList<Translation, B>, B>,
-    cores: &[Held],
-    edit: &Edit,
+    cores: &[CoreHeld],
+    edit: &TableStep,
 ) -> bool
     requires tables { length tables.old.items ≡ 64 }
     requires cores { length cores.now ≡ 64 }
@@ -100,16 +100,16 @@ fn do_edit<M: SlotMap, A: Allocator + Clone, L: Ledger, B: Allocator>(
         (state machine.now).hardware.table (table_at tables.old.items) c p }
 {
     match edit {
-        Edit::Nothing => true,
-        Edit::Clear { core, range } => {
+        TableStep::Nothing => true,
+        TableStep::Clear { core, range } => {
             clear_at(tables, *core, *range);
             true
         }
-        Edit::Take(core) => {
+        TableStep::Take(core) => {
             take_at(tables, *core, cores[core.index() as usize].inbox());
             true
         }
-        Edit::Install { core, page } => install_at(machine, tables, *core, *page),
+        TableStep::Install { core, page } => install_at(machine, tables, *core, *page),
     }
 }
 
@@ -118,8 +118,8 @@ fn do_edit<M: SlotMap, A: Allocator + Clone, L: Ledger, B: Allocator>(
 pub(crate) fn edit_tables<M: SlotMap, A: Allocator + Clone, L: Ledger, B: Allocator>(
     machine: &Machine<M, A, L>,
     tables: &mut Vec<PageList<Translation, B>, B>,
-    cores: &[Held],
-    edit: &Edit,
+    cores: &[CoreHeld],
+    edit: &TableStep,
     outcome: &Outcome,
 ) -> bool
     requires tables { length tables.old.items ≡ 64 }

@@ -6,9 +6,9 @@ ghost use Rattle.machine_model.specs.declared.phase.Phase.TheVariants.{Free};
 ghost use Rattle.state_seen.specs.Held.{done, held};
 ghost use Rattle.state_seen.specs.Shown.{Follows, after_step, is_of, phase_at, phase_in};
 
-use crate::deed::Deed;
-use crate::edit::Edit;
-use crate::held::{Held, act_at, tell_all};
+use crate::deed::HardwareStep;
+use crate::edit::TableStep;
+use crate::held::{CoreHeld, act_at, tell_all};
 use crate::mirror::{CORES, Mirror};
 use crate::reading::{deed_of, edit_of};
 use crate::tables::edit_tables;
@@ -22,30 +22,30 @@ use vm_base::{CoreId, NoMemory, PageRange};
 use watched::Watch;
 
 // What the deed does to all; false where there was no room for a message.
-fn do_deed<A: Allocator>(all: &mut Vec<Held, A>, deed: &Deed) -> bool
+fn do_deed<A: Allocator>(all: &mut Vec<CoreHeld, A>, deed: &HardwareStep) -> bool
     requires { length all.old.items ≡ 64 }
     ensures cores { length all.new.items ≡ length all.old.items }
     ensures done { result ≡ true → (c : ℕ) → c < 64 → held all.new.items c ≡ done deed.now (held all.old.items) c }
 {
     match deed {
-        Deed::Nothing => true,
-        Deed::Translate { core, .. } => {
+        HardwareStep::Nothing => true,
+        HardwareStep::Translate { core, .. } => {
             act_at(all, *core, deed);
             true
         }
-        Deed::Take(core) => {
+        HardwareStep::Take(core) => {
             act_at(all, *core, deed);
             true
         }
-        Deed::Walk { core, .. } => {
+        HardwareStep::Walk { core, .. } => {
             act_at(all, *core, deed);
             true
         }
-        Deed::Evict { core, .. } => {
+        HardwareStep::Evict { core, .. } => {
             act_at(all, *core, deed);
             true
         }
-        Deed::Shoot { core, set, range } => {
+        HardwareStep::Shoot { core, set, range } => {
             act_at(all, *core, deed);
             tell_all(all, *core, set.without(*core), *range)
         }
@@ -53,7 +53,7 @@ fn do_deed<A: Allocator>(all: &mut Vec<Held, A>, deed: &Deed) -> bool
 }
 
 // What a step does to all by its deed; false where there was no room for a message.
-fn do_step<A: Allocator>(all: &mut Vec<Held, A>, deed: &Deed, outcome: &Outcome) -> bool
+fn do_step<A: Allocator>(all: &mut Vec<CoreHeld, A>, deed: &HardwareStep, outcome: &Outcome) -> bool
     requires { length all.old.items ≡ 64 }
     ensures cores { length all.new.items ≡ length all.old.items }
     ensures done { result ≡ true → (c : ℕ) → c < 64
@@ -128,7 +128,7 @@ impl<B: Allocator> Mirror<B> {
     fn follow_tables<M: SlotMap, A: Allocator + Clone, L: Ledger>(
         &mut self,
         machine: &Machine<M, A, L>,
-        edit: &Edit,
+        edit: &TableStep,
         outcome: &Outcome,
     )
         ensures whole { self.new.whole ≡ true → self.old.whole ≡ true }
@@ -150,7 +150,7 @@ impl<B: Allocator> Mirror<B> {
     }
 
     // The cores hold what the step, which had this deed, leaves them.
-    fn follow(&mut self, deed: &Deed, outcome: &Outcome)
+    fn follow(&mut self, deed: &HardwareStep, outcome: &Outcome)
         ensures whole { self.new.whole ≡ true → self.old.whole ≡ true }
         ensures phases { self.new.phases ≡ self.old.phases }
         ensures held { self.new.whole ≡ true → (c : ℕ) → c < 64

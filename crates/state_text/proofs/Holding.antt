@@ -9,8 +9,8 @@ use Rattle.machine_model.specs.Holding.{holds}
 use Rattle.machine_model.specs.declared.phase.Phase.TheVariants as At
 use Rattle.machine_model.specs.Sound.{IsReached}
 use Rattle.machine_model.proofs.SoundKept.{reached_fine}
-use Rattle.state_text.specs.declared.words.Spot.{Spot}
-use Rattle.state_text.specs.declared.words.Spot.TheVariants.{Nowhere, Page, Pages}
+use Rattle.state_text.specs.declared.words.WorkPages.{WorkPages}
+use Rattle.state_text.specs.declared.words.WorkPages.TheVariants.{Nowhere, Page, Pages}
 use Rattle.state_text.specs.Words.{goal_spot, held_spot, pages_if, spot_has}
 
 some_pages : (r : PageRange) (p : ℕ) → spot_has (pages_if r) p ≡ has r p

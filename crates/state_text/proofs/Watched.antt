@@ -11,12 +11,12 @@ use Rattle.std.specs.List.{flat_map}
 use Rattle.mmu.specs.declared.message.Took.{Took}
 use Rattle.mmu.specs.declared.message.Took.TheVariants as took
 use Rattle.watched.specs.Watching.{Watches}
-use Rattle.state_seen.specs.declared.deed.Deed.{Deed}
-use Rattle.state_seen.specs.declared.deed.Deed.TheVariants.{Nothing, Translate, Shoot, Take, Walk, Evict}
+use Rattle.state_seen.specs.declared.deed.HardwareStep.{HardwareStep}
+use Rattle.state_seen.specs.declared.deed.HardwareStep.TheVariants.{Nothing, Translate, Shoot, Take, Walk, Evict}
 use Rattle.vm_base.specs.Functions.{across, over}
 use Rattle.state_seen.specs.Deeds.{deed_of}
-use Rattle.state_seen.specs.declared.edit.Edit.{Edit}
-use Rattle.state_seen.specs.declared.edit.Edit.TheVariants as to
+use Rattle.state_seen.specs.declared.edit.TableStep.{TableStep}
+use Rattle.state_seen.specs.declared.edit.TableStep.TheVariants as to
 use Rattle.state_seen.specs.Edits.{after_edit, edit_of, edited, table_at, taken_from}
 use Rattle.state_seen.specs.Held.{Holds, done, held, own_part, told}
 use Rattle.state_text.specs.Laws.{Knows}
@@ -49,7 +49,7 @@ put_at f h g c same d lt = go (d == c) refl
     go true e = ap f (same c (subst (λ n. n < 64) (eq_true d c e) lt))
     go false e = same d lt
 
-done_same : (deed : Deed) (h g : ℕ → Holds) → Same h g → Same (done deed h) (done deed g)
+done_same : (deed : HardwareStep) (h g : ℕ → Holds) → Same h g → Same (done deed h) (done deed g)
 done_same Nothing h g same = same
 done_same (Translate c touch entry) h g same = put_at (own_part (Translate c touch entry)) h g c same
 done_same (Take c) h g same = put_at (own_part (Take c)) h g c same
@@ -58,7 +58,7 @@ done_same (Evict c page) h g same = put_at (own_part (Evict c page)) h g c same
 done_same (Shoot c set range) h g same = λ d lt.
     ap (λ x. cond (put (members set) c false d) (told c range x) x) (put_at (own_part (Shoot c set range)) h g c same d lt)
 
-after_same : (o : Outcome) (deed : Deed) (h g : ℕ → Holds) → Same h g → Same (after_step o deed h) (after_step o deed g)
+after_same : (o : Outcome) (deed : HardwareStep) (h g : ℕ → Holds) → Same h g → Same (after_step o deed h) (after_step o deed g)
 after_same Stepped deed h g same = done_same deed h g same
 after_same (Wait blocker) deed h g same = same
 after_same Idle deed h g same = same
@@ -97,7 +97,7 @@ took_same t u c m n is alike d p lt = go (d == c) refl
         taken_same m (t c) (u c) (λ q. alike c q low) p ∙ ap (λ x. taken_from x (u c) p) (is low)
     go false e = alike d p lt
 
-edited_same : (edit : Edit) (i j : ℕ → List Message) (v t u : Tables) → ((c : ℕ) → c < 64 → i c ≡ j c) → Alike t u
+edited_same : (edit : TableStep) (i j : ℕ → List Message) (v t u : Tables) → ((c : ℕ) → c < 64 → i c ≡ j c) → Alike t u
     → Alike (edited edit i v t) (edited edit j v u)
 edited_same to.Nothing i j v t u box alike = alike
 edited_same (to.Clear c range) i j v t u box alike = alike_at (λ x. over x (has range) None) t u c (over_same (has range)) alike
@@ -105,7 +105,7 @@ edited_same (to.Take c) i j v t u box alike = took_same t u c (asked (i c)) (ask
 edited_same (to.Install c page) i j v t u box alike =
     alike_at (λ x. put x page (v c page)) t u c (λ x y same p. ap (λ e. cond (p == page) (v c page) e) (same p)) alike
 
-after_alike : (o : Outcome) (edit : Edit) (i j : ℕ → List Message) (v t u : Tables) → ((c : ℕ) → c < 64 → i c ≡ j c) → Alike t u
+after_alike : (o : Outcome) (edit : TableStep) (i j : ℕ → List Message) (v t u : Tables) → ((c : ℕ) → c < 64 → i c ≡ j c) → Alike t u
     → Alike (after_edit o edit i v t) (after_edit o edit j v u)
 after_alike Stepped edit i j v t u box alike = edited_same edit i j v t u box alike
 after_alike (Wait blocker) edit i j v t u box alike = alike

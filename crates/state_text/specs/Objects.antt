@@ -16,8 +16,8 @@ use Rattle.machine_model.specs.declared.phase.Phase.{Phase}
 use Rattle.machine_model.specs.declared.phase.Phase.TheVariants.{Free}
 use Rattle.state_text.specs.declared.counts.Form.TheVariants.{Json}
 use Rattle.state_text.specs.Counts.{counts_text}
-use Rattle.state_text.specs.declared.words.Spot.{Spot}
-use Rattle.state_text.specs.declared.words.Spot.TheVariants.{Nowhere, Page, Pages}
+use Rattle.state_text.specs.declared.words.WorkPages.{WorkPages}
+use Rattle.state_text.specs.declared.words.WorkPages.TheVariants.{Nowhere, Page, Pages}
 use Rattle.state_seen.specs.Edits.{table_at}
 use Rattle.state_seen.specs.Held.{Holds, held}
 use Rattle.state_seen.specs.Shown.{Seen, holds_of, phase_in}
@@ -31,7 +31,7 @@ use Rattle.state_text.specs.PageObjects.{mappings_json, used_json}
 -- ---- a call
 
 -- where it is, and the end of its object
-unfoldable pub spot_json : Spot → List ℕ
+unfoldable pub spot_json : WorkPages → List ℕ
 spot_json Nowhere = codes "}\n"
 spot_json (Page page) = concat (codes ",\"page\":\"" ∷ start_of page ∷ codes "\"}\n" ∷ [])
 spot_json (Pages range) =
@@ -48,10 +48,10 @@ call_json c Free = []
 call_json c phase = call_object c phase
 
 -- the pages that it holds
-unfoldable pub holds_object : ℕ → Spot → List ℕ
+unfoldable pub holds_object : ℕ → WorkPages → List ℕ
 holds_object c spot = concat (codes "{\"core\":" ∷ decimal c ∷ codes ",\"holds\":true" ∷ []) ++ spot_json spot
 
-abbrev pub holds_json : ℕ → Spot → List ℕ
+abbrev pub holds_json : ℕ → WorkPages → List ℕ
 holds_json c Nowhere = []
 holds_json c spot = holds_object c spot
 

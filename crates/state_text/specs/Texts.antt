@@ -15,8 +15,8 @@ use Rattle.state_seen.specs.Lists.{at_page}
 use Rattle.state_seen.specs.PageTexts.{pages_text, texts_below}
 use Rattle.machine_model.specs.declared.phase.Phase.{Phase}
 use Rattle.machine_model.specs.declared.phase.Phase.TheVariants.{Free}
-use Rattle.state_text.specs.declared.words.Spot.{Spot}
-use Rattle.state_text.specs.declared.words.Spot.TheVariants.{Nowhere, Page, Pages}
+use Rattle.state_text.specs.declared.words.WorkPages.{WorkPages}
+use Rattle.state_text.specs.declared.words.WorkPages.TheVariants.{Nowhere, Page, Pages}
 use Rattle.state_seen.specs.Edits.{table_at}
 use Rattle.state_seen.specs.Held.{Holds, held}
 use Rattle.state_seen.specs.Shown.{Seen, holds_of, phase_in}
@@ -27,7 +27,7 @@ use Rattle.state_seen.specs.Used.{used_in}
 -- ---- a call
 
 -- and the end of its line
-unfoldable pub spot_text : Spot → List ℕ
+unfoldable pub spot_text : WorkPages → List ℕ
 spot_text Nowhere = codes "\n"
 spot_text (Page page) = concat (codes " " ∷ start_of page ∷ codes "\n" ∷ [])
 spot_text (Pages range) =
@@ -44,10 +44,10 @@ call_text c Free = []
 call_text c phase = call_line c phase
 
 -- the pages that it holds
-unfoldable pub holds_line : ℕ → Spot → List ℕ
+unfoldable pub holds_line : ℕ → WorkPages → List ℕ
 holds_line c spot = concat (codes "core " ∷ decimal c ∷ codes " holds" ∷ []) ++ spot_text spot
 
-abbrev pub holds_text : ℕ → Spot → List ℕ
+abbrev pub holds_text : ℕ → WorkPages → List ℕ
 holds_text c Nowhere = []
 holds_text c spot = holds_line c spot
 

@@ -14,8 +14,8 @@ use Rattle.slot_lock.specs.Plan.{goal_range, range_of, target_range}
 use Rattle.slot_lock.specs.Slots.{between}
 use Rattle.machine_model.specs.declared.phase.Phase.{Phase}
 use Rattle.machine_model.specs.declared.phase.Phase.TheVariants as At
-use Rattle.state_text.specs.declared.words.Spot.{Spot}
-use Rattle.state_text.specs.declared.words.Spot.TheVariants.{Nowhere, Page, Pages}
+use Rattle.state_text.specs.declared.words.WorkPages.{WorkPages}
+use Rattle.state_text.specs.declared.words.WorkPages.TheVariants.{Nowhere, Page, Pages}
 
 -- ---- the call
 
@@ -92,12 +92,12 @@ doing_word (At.Release touch) = codes " unlocks"
 -- ---- where it is at work
 
 -- the pages that it locks: an access its page
-abbrev pub goal_spot : Goal → Spot
+abbrev pub goal_spot : Goal → WorkPages
 goal_spot (To.Place place target) = Pages (target_range place target)
 goal_spot (To.Change change) = Pages (range_of change)
 goal_spot (To.Access touch) = Page touch.page
 
-abbrev pub spot_of : Phase → Spot
+abbrev pub spot_of : Phase → WorkPages
 spot_of At.Free = Nowhere
 spot_of (At.Check request) = Nowhere
 spot_of (At.Lock goal cursor) = goal_spot goal
@@ -121,10 +121,10 @@ spot_of (At.Release touch) = Page touch.page
 
 -- ---- what it holds
 
-abbrev pub pages_if : PageRange → Spot
+abbrev pub pages_if : PageRange → WorkPages
 pages_if r = if r.first == r.end then Nowhere else Pages r
 
-abbrev pub held_spot : Phase → Spot
+abbrev pub held_spot : Phase → WorkPages
 held_spot (At.Lock goal cursor) = pages_if (between (goal_range goal).first cursor)
 held_spot (At.Find place target) = Pages (target_range place target)
 held_spot (At.Back place target held) = pages_if held
@@ -143,7 +143,7 @@ held_spot (At.Release touch) = Page touch.page
 held_spot _ = Nowhere
 
 -- the pages that are there
-abbrev pub spot_has : Spot → ℕ → Bool
+abbrev pub spot_has : WorkPages → ℕ → Bool
 spot_has Nowhere p = false
 spot_has (Page q) p = p == q
 spot_has (Pages r) p = has r p

@@ -17,9 +17,9 @@ use mmu::tlb::TlbEntry;
 use state_seen::{OfPage, PageList};
 use trace_text::pieces::{Piece, put, put_all};
 use mmu::Message;
-use state_seen::held::Held;
+use state_seen::held::CoreHeld;
 use state_seen::mirror::Mirror;
-use crate::words::{Spot, call_word, doing_word, held_spot, spot_of, taken_in};
+use crate::words::{WorkPages, call_word, doing_word, held_spot, spot_of, taken_in};
 use std::alloc::{AllocError, Allocator};
 use vm_base::{CoreId, Prot};
 
@@ -101,7 +101,7 @@ fn put_entry(
 }
 
 // Appends the objects of a TLB.
-fn put_tlb(out: &mut Vec<u8>, core: CoreId, held: &Held) -> Result<(), AllocError>
+fn put_tlb(out: &mut Vec<u8>, core: CoreId, held: &CoreHeld) -> Result<(), AllocError>
     ensures { OnOk result (out.new.items ≡ out.old.items ++ flat_map (tlb_json core held.now.inbox) held.now.tlb) }
 {
     put_entries(out, ",\"tlb\":\"", core, held.inbox(), held.tlb())
@@ -194,12 +194,12 @@ fn put_inbox(out: &mut Vec<u8>, core: CoreId, inbox: &[Message]) -> Result<(), A
 
 // Appends where a call is at work, and the end of the object.
 #[tactic(auto, unfolding(crate::specs::Objects::spot_json))]
-fn put_spot(out: &mut Vec<u8>, spot: &Spot) -> Result<(), AllocError>
+fn put_spot(out: &mut Vec<u8>, spot: &WorkPages) -> Result<(), AllocError>
     ensures { OnOk result (out.new.items ≡ out.old.items ++ spot_json spot.now) }
 {
     match spot {
-        Spot::Nowhere => put(out, "}\n"),
-        Spot::Page(page) => put_all(
+        WorkPages::Nowhere => put(out, "}\n"),
+        WorkPages::Page(page) => put_all(
             out,
             &[
                 Piece::Words(",\"page\":\""),
@@ -207,7 +207,7 @@ fn put_spot(out: &mut Vec<u8>, spot: &Spot) -> Result<(), AllocError>
                 Piece::Words("\"}\n"),
             ],
         ),
-        Spot::Pages(range) => put_all(
+        WorkPages::Pages(range) => put_all(
             out,
             &[
                 Piece::Words(",\"first\":\""),
@@ -253,7 +253,7 @@ fn put_call(out: &mut Vec<u8>, core: CoreId, phase: &Phase) -> Result<(), AllocE
 }
 
 // Appends the object of the pages that a call holds.
-fn put_spot_held(out: &mut Vec<u8>, core: CoreId, spot: &Spot) -> Result<(), AllocError>
+fn put_spot_held(out: &mut Vec<u8>, core: CoreId, spot: &WorkPages) -> Result<(), AllocError>
     ensures { OnOk result (out.new.items ≡ out.old.items ++ holds_object core spot.now) }
 {
     put_all(
@@ -269,10 +269,10 @@ fn put_spot_held(out: &mut Vec<u8>, core: CoreId, spot: &Spot) -> Result<(), All
 }
 
 // Appends that object, if it holds some.
-fn put_holds(out: &mut Vec<u8>, core: CoreId, spot: &Spot) -> Result<(), AllocError>
+fn put_holds(out: &mut Vec<u8>, core: CoreId, spot: &WorkPages) -> Result<(), AllocError>
     ensures { OnOk result (out.new.items ≡ out.old.items ++ holds_json core spot.now) }
 {
-    if let Spot::Nowhere = spot {
+    if let WorkPages::Nowhere = spot {
         return Ok(());
     }
     put_spot_held(out, core, spot)
@@ -315,7 +315,7 @@ fn put_core<A: Allocator>(
     out: &mut Vec<u8>,
     core: CoreId,
     phase: &Phase,
-    held: &Held,
+    held: &CoreHeld,
     table: &PageList<Translation, A>,
 ) -> Result<(), AllocError>
     ensures { OnOk result (out.new.items ≡ out.old.items ++ core_json core phase.now held.now (at_page table.now)) }
@@ -331,7 +331,7 @@ fn put_core<A: Allocator>(
 fn put_cores<A: Allocator>(
     out: &mut Vec<u8>,
     phases: &[Phase],
-    cores: &[Held],
+    cores: &[CoreHeld],
     tables: &[PageList<Translation, A>],
 ) -> Result<(), AllocError>
     requires phases { length phases.now ≡ 64 }

@@ -9,9 +9,9 @@ ghost use Rattle.state_text.specs.Texts.{tlb_line, took_line, took_text, work_te
 ghost use Rattle.state_text.specs.Words.{held_spot};
 ghost use Rattle.machine_model.specs.Holding.{taken_in};
 
-use state_seen::held::Held;
+use state_seen::held::CoreHeld;
 use state_seen::mirror::Mirror;
-use crate::words::{Spot, call_word, doing_word, held_spot, spot_of, taken_in};
+use crate::words::{WorkPages, call_word, doing_word, held_spot, spot_of, taken_in};
 use machine_model::Phase;
 use mmu::entry::Translation;
 use mmu::tlb::TlbEntry;
@@ -99,7 +99,7 @@ fn put_entry(
 }
 
 // Appends the lines of a TLB.
-fn put_tlb(out: &mut Vec<u8>, core: CoreId, held: &Held) -> Result<(), AllocError>
+fn put_tlb(out: &mut Vec<u8>, core: CoreId, held: &CoreHeld) -> Result<(), AllocError>
     ensures { OnOk result (out.new.items ≡ out.old.items ++ flat_map (tlb_line core held.now.inbox) held.now.tlb) }
 {
     put_entries(out, " tlb ", core, held.inbox(), held.tlb())
@@ -192,16 +192,16 @@ fn put_inbox(out: &mut Vec<u8>, core: CoreId, inbox: &[Message]) -> Result<(), A
 
 // Appends where a call is at work, and the end of the line.
 #[tactic(auto, unfolding(crate::specs::Texts::spot_text))]
-fn put_spot(out: &mut Vec<u8>, spot: &Spot) -> Result<(), AllocError>
+fn put_spot(out: &mut Vec<u8>, spot: &WorkPages) -> Result<(), AllocError>
     ensures { OnOk result (out.new.items ≡ out.old.items ++ spot_text spot.now) }
 {
     match spot {
-        Spot::Nowhere => put(out, "\n"),
-        Spot::Page(page) => put_all(
+        WorkPages::Nowhere => put(out, "\n"),
+        WorkPages::Page(page) => put_all(
             out,
             &[Piece::Words(" "), Piece::Start(*page), Piece::Words("\n")],
         ),
-        Spot::Pages(range) => put_all(
+        WorkPages::Pages(range) => put_all(
             out,
             &[
                 Piece::Words(" "),
@@ -246,7 +246,7 @@ fn put_call(out: &mut Vec<u8>, core: CoreId, phase: &Phase) -> Result<(), AllocE
 }
 
 // Appends the line of the pages that a call holds.
-fn put_spot_held(out: &mut Vec<u8>, core: CoreId, spot: &Spot) -> Result<(), AllocError>
+fn put_spot_held(out: &mut Vec<u8>, core: CoreId, spot: &WorkPages) -> Result<(), AllocError>
     ensures { OnOk result (out.new.items ≡ out.old.items ++ holds_line core spot.now) }
 {
     put_all(
@@ -262,10 +262,10 @@ fn put_spot_held(out: &mut Vec<u8>, core: CoreId, spot: &Spot) -> Result<(), All
 }
 
 // Appends that line, if it holds some.
-fn put_holds(out: &mut Vec<u8>, core: CoreId, spot: &Spot) -> Result<(), AllocError>
+fn put_holds(out: &mut Vec<u8>, core: CoreId, spot: &WorkPages) -> Result<(), AllocError>
     ensures { OnOk result (out.new.items ≡ out.old.items ++ holds_text core spot.now) }
 {
-    if let Spot::Nowhere = spot {
+    if let WorkPages::Nowhere = spot {
         return Ok(());
     }
     put_spot_held(out, core, spot)
@@ -308,7 +308,7 @@ fn put_core<A: Allocator>(
     out: &mut Vec<u8>,
     core: CoreId,
     phase: &Phase,
-    held: &Held,
+    held: &CoreHeld,
     table: &PageList<Translation, A>,
 ) -> Result<(), AllocError>
     ensures { OnOk result (out.new.items ≡ out.old.items ++ core_text core phase.now held.now (at_page table.now)) }
@@ -324,7 +324,7 @@ fn put_core<A: Allocator>(
 fn put_cores<A: Allocator>(
     out: &mut Vec<u8>,
     phases: &[Phase],
-    cores: &[Held],
+    cores: &[CoreHeld],
     tables: &[PageList<Translation, A>],
 ) -> Result<(), AllocError>
     requires phases { length phases.now ≡ 64 }

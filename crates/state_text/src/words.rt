@@ -10,7 +10,7 @@ use vm_base::{Access, PageRange, Request};
 
 /// Where a call is at work.
 #[derive(Clone, Copy)]
-pub enum Spot {
+pub enum WorkPages {
     /// Nowhere yet, or no more.
     Nowhere,
     /// At this page.
@@ -116,36 +116,36 @@ pub fn doing_word(phase: &Phase) -> &'static str
 }
 
 // Where a call with this goal is at work.
-fn goal_spot(goal: &Goal) -> Spot
+fn goal_spot(goal: &Goal) -> WorkPages
     ensures { result ≡ goal_spot goal.now }
 {
     match goal {
-        Goal::Place { place, target } => Spot::Pages(target.range(*place)),
-        Goal::Change(change) => Spot::Pages(change.range()),
-        Goal::Access(touch) => Spot::Page(touch.page),
+        Goal::Place { place, target } => WorkPages::Pages(target.range(*place)),
+        Goal::Change(change) => WorkPages::Pages(change.range()),
+        Goal::Access(touch) => WorkPages::Page(touch.page),
     }
 }
 
 /// Where the call is at work.
-pub fn spot_of(phase: &Phase) -> Spot
+pub fn spot_of(phase: &Phase) -> WorkPages
     ensures { result ≡ spot_of phase.now }
 {
     match phase {
-        Phase::Free | Phase::Check(_) | Phase::Guess(_) | Phase::Answer(_) => Spot::Nowhere,
+        Phase::Free | Phase::Check(_) | Phase::Guess(_) | Phase::Answer(_) => WorkPages::Nowhere,
         Phase::Lock { goal, .. } => goal_spot(goal),
-        Phase::Find { place, target } => Spot::Pages(target.range(*place)),
-        Phase::Back { held, .. } => Spot::Pages(*held),
-        Phase::Cut { range, .. } => Spot::Pages(*range),
-        Phase::Decide(change) => Spot::Pages(change.range()),
-        Phase::Post { change, .. } => Spot::Pages(change.range()),
-        Phase::Acks { change, .. } => Spot::Pages(change.range()),
-        Phase::Unlock { held, .. } => Spot::Pages(*held),
+        Phase::Find { place, target } => WorkPages::Pages(target.range(*place)),
+        Phase::Back { held, .. } => WorkPages::Pages(*held),
+        Phase::Cut { range, .. } => WorkPages::Pages(*range),
+        Phase::Decide(change) => WorkPages::Pages(change.range()),
+        Phase::Post { change, .. } => WorkPages::Pages(change.range()),
+        Phase::Acks { change, .. } => WorkPages::Pages(change.range()),
+        Phase::Unlock { held, .. } => WorkPages::Pages(*held),
         Phase::Try(touch) | Phase::Settle(touch) | Phase::Install(touch) | Phase::Release(touch) =>
-            { Spot::Page(touch.page) }
+            { WorkPages::Page(touch.page) }
         Phase::Want { touch, .. }
         | Phase::Fill { touch, .. }
         | Phase::CopyPost { touch, .. }
-        | Phase::CopyAcks { touch, .. } => Spot::Page(touch.page),
+        | Phase::CopyAcks { touch, .. } => WorkPages::Page(touch.page),
     }
 }
 
@@ -163,42 +163,42 @@ fn goal_first(goal: &Goal) -> u64
 }
 
 // These pages, if there are some.
-fn pages_if(range: PageRange) -> Spot
+fn pages_if(range: PageRange) -> WorkPages
     ensures { result ≡ pages_if range }
 {
     if range.first == range.end {
-        Spot::Nowhere
+        WorkPages::Nowhere
     } else {
-        Spot::Pages(range)
+        WorkPages::Pages(range)
     }
 }
 
 /// The pages that the call holds.
-pub fn held_spot(phase: &Phase) -> Spot
+pub fn held_spot(phase: &Phase) -> WorkPages
     ensures { result ≡ held_spot phase.now }
 {
     match phase {
         Phase::Free | Phase::Check(_) | Phase::Guess(_) | Phase::Answer(_) | Phase::Try(_) => {
-            Spot::Nowhere
+            WorkPages::Nowhere
         }
         Phase::Lock { goal, cursor } => pages_if(PageRange {
             first: goal_first(goal),
             end: *cursor,
         }),
-        Phase::Find { place, target } => Spot::Pages(target.range(*place)),
+        Phase::Find { place, target } => WorkPages::Pages(target.range(*place)),
         Phase::Back { held, .. } => pages_if(*held),
-        Phase::Cut { place, target, .. } => Spot::Pages(target.range(*place)),
-        Phase::Decide(change) => Spot::Pages(change.range()),
-        Phase::Post { change, .. } => Spot::Pages(change.range()),
+        Phase::Cut { place, target, .. } => WorkPages::Pages(target.range(*place)),
+        Phase::Decide(change) => WorkPages::Pages(change.range()),
+        Phase::Post { change, .. } => WorkPages::Pages(change.range()),
         Phase::Acks { goal, .. } => goal_spot(goal),
         Phase::Unlock { held, .. } => pages_if(*held),
         Phase::Settle(touch) | Phase::Install(touch) | Phase::Release(touch) => {
-            Spot::Page(touch.page)
+            WorkPages::Page(touch.page)
         }
         Phase::Want { touch, .. }
         | Phase::Fill { touch, .. }
         | Phase::CopyPost { touch, .. }
-        | Phase::CopyAcks { touch, .. } => Spot::Page(touch.page),
+        | Phase::CopyAcks { touch, .. } => WorkPages::Page(touch.page),
     }
 }
 

@@ -1,14 +1,14 @@
-//! Logs of real programs (data/), imported and replayed: five of strace, each behind the list of
-//! mappings that its program began with, and one of lackey, of touch.c. Told are how many lines
-//! became what, and how many replies were an address, done, a byte, or anything else, which is a
-//! request that was refused. The numbers in the file stdout are counted out of the logs by
-//! `bench/import_counts.py`, which shares nothing with the program.
+//! Logs of real programs, imported and replayed.
+//!
+//! Told are how many lines became what, and what the replies were. There are five logs of strace, each behind the
+//! list of mappings that its program began with, and one of lackey, of touch.c. The numbers in the file stdout are
+//! counted out of the logs by `bench/import_counts.py`, which shares nothing with the program.
 #![tactic(auto)]
 
 use import_lackey::traced::trace_log;
 use import_maps::entries::Entries;
-use import_maps::mapped::{Told, import_mapped};
-use import_text::counts::Counts;
+use import_maps::mapped::{MapsReport, import_mapped};
+use import_text::counts::LineCounts;
 use import_text::meter::Unmetered;
 use import_text::processes::Choice;
 use std::alloc::Global;
@@ -17,7 +17,7 @@ use std::io::Write;
 use std::process::ExitCode;
 use trace::replay::replay;
 use trace_words::show::Show;
-use trace_io::sink::Noted;
+use trace_io::sink::TrackedSink;
 use trace_io::source::{Counted, read_all};
 
 // How many lines of a text begin with an address, are `done`, are a byte, and are anything else.
@@ -47,10 +47,10 @@ fn imported(
     list: &[u8],
     log: &[u8],
     thread: Option<u64>,
-) -> Option<(Vec<u8>, Told)> {
+) -> Option<(Vec<u8>, MapsReport)> {
     let mut list = Counted::new(list);
     let mut log = Counted::new(log);
-    let mut out = Noted::unbuffered(alloc, Vec::new(alloc));
+    let mut out = TrackedSink::unbuffered(alloc, Vec::new(alloc));
     let choice = Choice {
         thread,
         joined: false,
@@ -62,9 +62,9 @@ fn imported(
 }
 
 // What a log of accesses becomes, and what becomes of its lines.
-fn traced(alloc: Global, log: &[u8]) -> Option<(Vec<u8>, Counts)> {
+fn traced(alloc: Global, log: &[u8]) -> Option<(Vec<u8>, LineCounts)> {
     let mut log = Counted::new(log);
-    let mut out = Noted::unbuffered(alloc, Vec::new(alloc));
+    let mut out = TrackedSink::unbuffered(alloc, Vec::new(alloc));
     match trace_log(alloc, &mut log, &mut out) {
         Ok(told) => Some((out.writer.into_parts().0, told.counts)),
         Err(_) => None,
@@ -74,7 +74,7 @@ fn traced(alloc: Global, log: &[u8]) -> Option<(Vec<u8>, Counts)> {
 // The replies of the trace's requests, if it is replayed to its end.
 fn replied(alloc: Global, trace: &[u8]) -> Option<Vec<u8>> {
     let mut trace = Counted::new(trace);
-    let mut out = Noted::unbuffered(alloc, Vec::new(alloc));
+    let mut out = TrackedSink::unbuffered(alloc, Vec::new(alloc));
     match replay(alloc, &mut trace, &mut out, Show::Outcomes) {
         Ok(()) => Some(out.writer.into_parts().0),
         Err(_) => None,
@@ -127,7 +127,7 @@ fn tell_entries<W: Write>(out: &mut W, name: &str, entries: &Entries) {
 }
 
 // Prints what became of a log's lines.
-fn tell_counts<W: Write>(out: &mut W, name: &str, counts: &Counts) {
+fn tell_counts<W: Write>(out: &mut W, name: &str, counts: &LineCounts) {
     let (kept, heap, moves, files) = (counts.kept, counts.heap, counts.moves, counts.files);
     let (half, failed, elsewhere) = (counts.half, counts.failed, counts.elsewhere);
     let (before, unread, still, other) = (counts.before, counts.unread, counts.still, counts.other);

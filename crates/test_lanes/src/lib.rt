@@ -1,8 +1,10 @@
-//! What the tests of one space that threads share are made of: they run rows of text. `rows` runs a script line by line, by a seat for
-//! each core (`lane`) or by one that owns its space (`alone`), and compares what its lines come to; `meeting` holds one core's call at a
-//! point of its way while another core makes its own (`gates`); `starving` has something done while memory is full, and given back piece
-//! by piece; and `scripts` runs scripts that look random on threads. What was noted is certified beside the histories of the slots
-//! (`ending`).
+//! What tests of one space that threads share are made of: they run rows of text.
+//!
+//! - `rows`: a script line by line, by a seat for each core (`lane`) or by one that owns its space (`alone`), told
+//!   and compared; `script`: what it asks.
+//! - `meeting`: one core's call is held at a point of its way while another makes its own (`gates`); `starving`:
+//!   memory is full.
+//! - `scripts`: random scripts on threads; `ending`: notes are certified beside the histories of the slots.
 #![tactic(auto)]
 
 pub mod alone;

@@ -4,7 +4,7 @@ use crate::script::setup_of;
 use audit::{Auditor, Call};
 use certifier::CertifyFault;
 use machine_model::Setup;
-use live_script::{OnThreads, Ran, Runner, begin, certify_ran, run_in_turn};
+use live_script::{OnThreads, RunSpace, Runner, begin, certify_ran, run_in_turn};
 use machine_model::{Event, Outcome};
 use trace_words::{Script, read_script};
 use radix_range::RadixMap;
@@ -148,7 +148,7 @@ fn push_calls(notes: Notes<'_>, calls: &mut Vec<Call, Global>) -> Result<(), NoM
 }
 
 /// The calls of all cores, one core after another.
-fn calls_of(alloc: Global, ran: &Ran<Global>) -> Result<Vec<Call, Global>, NoMemory> {
+fn calls_of(alloc: Global, ran: &RunSpace<Global>) -> Result<Vec<Call, Global>, NoMemory> {
     let notes = ran.notes(alloc)?;
     let mut calls = Vec::new(alloc);
     for core in 0..notes.len() {
@@ -184,7 +184,7 @@ fn is_certified(
     alloc: Global,
     space: &str,
     script: &Script<Global>,
-    ran: Ran<Global>,
+    ran: RunSpace<Global>,
 ) -> Result<bool, NoMemory> {
     let calls = calls_of(alloc, &ran)?;
     let are_plain = are_plain(alloc, space, calls.as_slice())?;

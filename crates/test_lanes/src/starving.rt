@@ -16,7 +16,7 @@ use crate::scripts::script_of;
 use certifier::CertifyFault;
 use machine_model::SetupFault;
 use linked_list_allocator::LocalHeap;
-use live_script::{InTurn, Ran, RunFault, Runner, begin, certify_ran, finish_in_turn};
+use live_script::{InTurn, RunSpace, ScriptFault, Runner, begin, certify_ran, finish_in_turn};
 use live_space::fault::LiveFault;
 use live_space::gate::Point;
 use live_space::space::Live;
@@ -25,7 +25,7 @@ use seats::Seat;
 use std::alloc::{Allocator, Global};
 use std::sync::Wait;
 use std::thread::Threads;
-use test_support::heaps::{Piece, fill};
+use test_support::heaps::{HeapBlock, fill};
 use trace_text::read_line;
 use vm_base::{NoMemory, Reply};
 
@@ -74,7 +74,7 @@ fn row_of(row: &str) -> Option<Row<'_>> {
 /// Fills the heap but for so many of the least pieces.
 fn fill_but<'h>(
     heap: &'h LocalHeap,
-    taken: &mut Vec<Piece<'h>>,
+    taken: &mut Vec<HeapBlock<'h>>,
     given: usize,
 ) -> Result<(), NoMemory> {
     fill(heap, taken)?;
@@ -247,12 +247,12 @@ fn end_once<R: Wait>(
 
 // ---- a script
 
-fn came_of_fault(fault: RunFault) -> Came {
+fn came_of_fault(fault: ScriptFault) -> Came {
     match fault {
-        RunFault::Setup(SetupFault::NoMemory)
-        | RunFault::Live(LiveFault::NoMemory)
-        | RunFault::NoMemory => Came::Refused,
-        RunFault::Setup(_) | RunFault::Live(_) => Came::Otherwise,
+        ScriptFault::Setup(SetupFault::NoMemory)
+        | ScriptFault::Live(LiveFault::NoMemory)
+        | ScriptFault::NoMemory => Came::Refused,
+        ScriptFault::Setup(_) | ScriptFault::Live(_) => Came::Otherwise,
     }
 }
 
@@ -260,7 +260,7 @@ fn came_of_fault(fault: RunFault) -> Came {
 fn came_of_ran<'h>(
     heap: &'h LocalHeap,
     script: &Script<&'h LocalHeap>,
-    ran: Ran<&'h LocalHeap>,
+    ran: RunSpace<&'h LocalHeap>,
 ) -> Came {
     let Ok(ended) = ran.end(heap) else {
         return Came::RefusedLate;
@@ -278,7 +278,7 @@ fn came_of_ran<'h>(
 fn came_of_run<'h>(
     heap: &'h LocalHeap,
     script: &Script<&'h LocalHeap>,
-    run: Result<Ran<&'h LocalHeap>, RunFault>,
+    run: Result<RunSpace<&'h LocalHeap>, ScriptFault>,
 ) -> Came {
     match run {
         Ok(ran) => came_of_ran(heap, script, ran),

@@ -1,7 +1,9 @@
-//! Tests of one space that threads share, of its pages, and of scripts that are run in it, as rows of text that `test_lanes` runs.
-//! `row_tests` has scripts and what they come to; `meeting_tests` holds one core's call at each point of its way while another core makes
-//! its own; `starved_tests` refuses memory to calls, ends and scripts, and gives it back piece by piece; `thread_tests` has threads of
-//! requests that look random; and `telling_tests` what a space and faults tell.
+//! Tests of one space that threads share, and of scripts in it.
+//!
+//! - `row_tests`: scripts and what they come to; `meeting_tests`: a call held at each point of its way while another
+//!   core makes its own.
+//! - `starved_tests`: memory refused, and given back piece by piece; `thread_tests`: random requests;
+//!   `telling_tests`: what is told.
 #![tactic(auto)]
 
 #[cfg(test)]

@@ -1,6 +1,6 @@
 //! What a space tells of itself, the texts of faults, and what is said about histories that are another space's.
 use machine_model::SetupFault;
-use live_script::RunFault;
+use live_script::ScriptFault;
 use live_space::fault::LiveFault;
 use std::test::Fail;
 use test_lanes::rows::shape_of;
@@ -14,9 +14,9 @@ fn a_space_tells_of_itself(rt: HostRuntime) -> Result<(), Fail> {
 
 #[test]
 fn faults_have_texts(rt: HostRuntime) -> Result<(), Fail> {
-    let live = RunFault::Live(LiveFault::Notes);
-    let setup = RunFault::Setup(SetupFault::NoMemory);
-    let told = format!(in rt.alloc(); "{live}, {setup}, {}", RunFault::NoMemory)?;
+    let live = ScriptFault::Live(LiveFault::Notes);
+    let setup = ScriptFault::Setup(SetupFault::NoMemory);
+    let told = format!(in rt.alloc(); "{live}, {setup}, {}", ScriptFault::NoMemory)?;
     assert_eq!(rt; told.as_str(), "live V2, setup S6, out of memory");
     Ok(())
 }

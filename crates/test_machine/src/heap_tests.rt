@@ -3,7 +3,7 @@
 ghost use Rattle.slot_lock.specs.Slots.{IsNew};
 
 use crate::machines::{Space, machine_over, push_outcomes};
-use machine_log::Kept;
+use machine_log::KeepsAll;
 use core_steps::{RunFault, run};
 use machine_model::{Setup, SetupFault};
 use linked_list_allocator::LocalHeap;
@@ -15,7 +15,7 @@ use test_support::setups::declared;
 use trace_words::fault::TraceFault;
 use trace::replay::replay;
 use trace_words::show::Show;
-use trace_io::sink::Noted;
+use trace_io::sink::TrackedSink;
 use trace_io::source::Counted;
 use vm_base::{CoreId, Flags, NoMemory, Prot, Request};
 
@@ -61,7 +61,7 @@ fn fault<A: Allocator + Clone + Drop, B: Allocator + Clone + Drop>(
         calls,
     };
     let events = mmap_and_go();
-    match run::<SlotList<B>, A, Kept<A>>(alloc, map, setup, events.as_slice()) {
+    match run::<SlotList<B>, A, KeepsAll<A>>(alloc, map, setup, events.as_slice()) {
         Ok(_) => Ok(None),
         Err(fault) => Ok(Some(fault)),
     }
@@ -202,7 +202,7 @@ const COPIED: &[u8] = b"0x10000\n7\ndone\n9\n";
 fn end_in(alloc: Global, size: usize) -> Result<usize, NoMemory> {
     let heap = LocalHeap::new(alloc, size)?;
     let mut reader = Counted::new(COPYING);
-    let mut writer = Noted::unbuffered(alloc, Vec::new(alloc));
+    let mut writer = TrackedSink::unbuffered(alloc, Vec::new(alloc));
     let result = replay(&heap, &mut reader, &mut writer, Show::Outcomes);
     let written = writer.writer.get_ref().as_slice();
     let lines = written.iter().filter(|byte| **byte == b'\n').count();
@@ -252,7 +252,7 @@ fn each_heap_that_is_too_small(rt: HostRuntime) -> Result<(), Fail> {
 fn fault_in_a_heap(alloc: Global, trace: &str) -> Result<String<Global>, NoMemory> {
     let heap = LocalHeap::new(alloc, 100_000)?;
     let mut reader = Counted::new(trace.as_bytes());
-    let mut writer = Noted::unbuffered(alloc, Vec::new(alloc));
+    let mut writer = TrackedSink::unbuffered(alloc, Vec::new(alloc));
     match replay(&heap, &mut reader, &mut writer, Show::Outcomes) {
         Ok(()) => Ok(String::new(alloc)),
         Err(fault) => Ok(format!(in alloc; "{fault}")?),

@@ -9,7 +9,7 @@ use machine_model::Setup;
 use linked_list_allocator::LocalHeap;
 use live_levels::act::Act;
 use live_levels::level::Stepper;
-use live_tree::held::{Got, Held};
+use live_tree::held::{HoldStep, Held};
 use live_tree::histories::Histories;
 use live_tree::tree::SharedTree;
 use seats::{Noted, Notes};
@@ -108,8 +108,8 @@ fn lock_page<'a, A: Allocator + Clone, R: Wait>(
             return true;
         }
         match held.lock_next(rt, tree, dealer, CoreId::new(0), page + 1, 1) {
-            Got::Locked | Got::Split => {}
-            Got::Owned(_) | Got::Unseen | Got::NoMemory | Got::Lost => return false,
+            HoldStep::Locked | HoldStep::Split => {}
+            HoldStep::Owned(_) | HoldStep::Unseen | HoldStep::NoMemory | HoldStep::Lost => return false,
         }
     }
     false

@@ -1,8 +1,14 @@
-//! Tests of the machine, of its traces and of notes of its steps. `row_tests` has rows of what the program can't show (`rows`, read by
-//! `table`): entries of tables, and memory that is refused (`starved`). `random_tests` has random traces (`random_traces`), by the replay
-//! and event by event (`machines`, over `by_hand`), and their logs beside the plain page map. `heap_tests` has heaps that are too small, and `stream_tests` reads, writes and flushes that fail, `log_tests` entries of a log that pass sixteen bytes. `notes_tests` has
-//! notes of random runs (`noting`) as text (`note_texts`), `starved_text_tests` refuses memory to these, and `history_tests` has
-//! histories of slots beside them. What the program can show, rows of data have: those of `test_words`.
+//! Tests of the machine and of traces: random ones, and memory that is refused.
+//!
+//! - `row_tests` (`rows`, read by `table`): what the program can't show; `log_tests`: entries past sixteen bytes;
+//!   `starved`: refused memory.
+//! - `random_tests` (`random_traces`, `machines` over `by_hand`): a replay beside events one by one, over both slot
+//!   maps.
+//! - `heap_tests`, `stream_tests`: heaps that are too small, and streams that fail.
+//! - `notes_tests` (`noting`, `note_texts`), `history_tests`, `starved_text_tests`: notes of random runs, beside
+//!   histories, and short of memory.
+//!
+//! What the program can show, rows of data have: those of `test_words`.
 #![tactic(auto)]
 
 #[cfg(test)]

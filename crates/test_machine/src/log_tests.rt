@@ -1,5 +1,5 @@
 //! A log of entries at the edges of what goes into sixteen bytes, and past them.
-use machine_log::{Ledger, Logged, Opening};
+use machine_log::{Ledger, KeepsLog, Opening};
 use std::alloc::{AllocError, Global};
 use vm_base::{CoreId, Entry, Errno, Reply, SegvCode};
 
@@ -42,7 +42,7 @@ fn entries() -> [Entry; 16] {
 // Tells whether a log with room for two gives the entries back as they were, and those behind the first nine.
 fn gives_back(alloc: Global) -> Result<bool, AllocError> {
     let entries = entries();
-    let mut log: Logged<Global> = Logged::open(alloc, 2)?;
+    let mut log: KeepsLog<Global> = KeepsLog::open(alloc, 2)?;
     'pushed: for k in 0..entries.len() {
         log.push_beyond(entries[k])?;
     }

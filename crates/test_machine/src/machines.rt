@@ -4,7 +4,7 @@ ghost use Rattle.slot_lock.specs.Slots.{IsNew};
 ghost use Rattle.core_steps.specs.Machine.{state};
 
 use crate::by_hand::{Moves, outcome_of};
-use machine_log::Kept;
+use machine_log::KeepsAll;
 use core_steps::Machine;
 use machine_model::{Event, Outcome};
 use radix_range::RadixMap;
@@ -15,7 +15,7 @@ use trace_words::declaration::Declaration;
 use trace_words::outcome_text::write_outcome;
 use trace::replay::replay;
 use trace_words::show::Show;
-use trace_io::sink::Noted;
+use trace_io::sink::TrackedSink;
 use trace_io::source::Counted;
 use trace_text::{
     LineText, address_text, number_text, read_line, write_answer, write_detach, write_map_line,
@@ -23,7 +23,7 @@ use trace_text::{
 use vm_base::{CoreId, Entry, NoMemory};
 
 /// A machine as the program has it. It is named here alone.
-pub type Space<M, A> = Machine<M, A, Kept<A>>;
+pub type Space<M, A> = Machine<M, A, KeepsAll<A>>;
 
 /// The machine that is declared, over a new slot map.
 pub fn machine_over<M: SlotMap + Drop, A: Allocator + Clone + Drop>(
@@ -156,18 +156,18 @@ pub enum Over {
 /// What a run gives, line by line, and what can be seen of the machine behind it: the lines of its log, which begin with `log`, those
 /// of its mappings, which begin with `0x`, and those of its cores' entries, which begin with `c`.
 #[derive(Drop)]
-pub struct Told {
+pub struct RunOutput {
     pub lines: String<Global>,
     pub state: String<Global>,
 }
 
 /// Moves a machine by a trace, and tells of it.
-fn told_of<S: Moves>(machine: &mut S, alloc: Global, trace: &str) -> Result<Told, NoMemory> {
+fn told_of<S: Moves>(machine: &mut S, alloc: Global, trace: &str) -> Result<RunOutput, NoMemory> {
     let mut lines = String::new(alloc);
     push_outcomes(machine, trace, &mut lines)?;
     let mut state = String::new(alloc);
     machine.push_state(alloc, &mut state)?;
-    Ok(Told { lines, state })
+    Ok(RunOutput { lines, state })
 }
 
 /// What is told of a new machine over this map, with this memory, moved by a trace.
@@ -176,7 +176,7 @@ pub fn told_with<M: SlotMap + Drop, A: Allocator + Clone + Drop>(
     memory: A,
     map: M,
     trace: &str,
-) -> Result<Told, NoMemory>
+) -> Result<RunOutput, NoMemory>
     requires { IsNew (M.slots map) }
 {
     let mut machine = machine_over(memory, map, &declared(trace))?;
@@ -184,7 +184,7 @@ pub fn told_with<M: SlotMap + Drop, A: Allocator + Clone + Drop>(
 }
 
 /// The same over a map of this kind.
-pub fn told_over(alloc: Global, over: Over, trace: &str) -> Result<Told, NoMemory> {
+pub fn told_over(alloc: Global, over: Over, trace: &str) -> Result<RunOutput, NoMemory> {
     match over {
         Over::Tree => told_with(alloc, alloc, RadixMap::new(alloc)?, trace),
         Over::List => told_with(alloc, alloc, SlotList::new(alloc)?, trace),
@@ -206,7 +206,7 @@ pub fn lines_from(alloc: Global, text: &str, begin: &str) -> Result<String<Globa
 /// What the program's replay gives.
 pub fn replayed(alloc: Global, trace: &str, show: Show) -> Result<String<Global>, NoMemory> {
     let mut reader = Counted::new(trace.as_bytes());
-    let mut writer = Noted::unbuffered(alloc, Vec::new(alloc));
+    let mut writer = TrackedSink::unbuffered(alloc, Vec::new(alloc));
     if replay(alloc, &mut reader, &mut writer, show).is_err() {
         return Err(NoMemory);
     }

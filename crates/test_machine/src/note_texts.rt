@@ -37,7 +37,7 @@ pub fn text_of<A: Allocator + Clone + Drop>(
     script: &Script<A>,
     seats: &[Notes<'_>],
 ) -> Result<String<Global>, NoMemory> {
-    let mut writer = sink::Noted::unbuffered(alloc, Vec::new(alloc));
+    let mut writer = sink::TrackedSink::unbuffered(alloc, Vec::new(alloc));
     let end = write_notes(script, seats, &mut writer);
     written(alloc, writer.writer.get_ref(), end)
 }
@@ -49,7 +49,7 @@ pub fn verdict_in<A: Allocator + Clone + Drop>(
     text: &str,
 ) -> Result<String<Global>, NoMemory> {
     let mut reader = Counted::new(text.as_bytes());
-    let mut writer = sink::Noted::unbuffered(alloc, Vec::new(alloc));
+    let mut writer = sink::TrackedSink::unbuffered(alloc, Vec::new(alloc));
     let end = match certify_text(memory, &mut reader, &mut writer) {
         Ok(_) => Ok(()),
         Err(fault) => Err(fault),

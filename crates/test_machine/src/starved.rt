@@ -9,7 +9,7 @@ use machine_model::{Event, Outcome};
 use radix_range::RadixMap;
 use slot_lock::{SlotList, SlotMap};
 use std::alloc::{Allocator, Global};
-use test_support::heaps::{Piece, fill};
+use test_support::heaps::{HeapBlock, fill};
 use test_support::setups::declared;
 use trace_words::outcome_text::write_outcome;
 use trace_text::{LineText, read_line};
@@ -31,7 +31,7 @@ struct Starved<'s, 'h, S> {
     space: &'s mut S,
     alloc: Global,
     heap: &'h LocalHeap,
-    taken: Vec<Piece<'h>>,
+    taken: Vec<HeapBlock<'h>>,
     /// An event of the line was refused.
     is_refused: bool,
     /// An event was refused.

@@ -9,7 +9,7 @@ use trace_words::Script;
 use seats::{Noted, Notes};
 use std::alloc::{Allocator, Global};
 use std::test::Fail;
-use test_support::heaps::{Piece, fill};
+use test_support::heaps::{HeapBlock, fill};
 use vm_base::{CoreId, NoMemory, Reply, Request, SegvCode};
 
 /// What is told of a refusal, with nothing before it.
@@ -20,7 +20,7 @@ fn all_but<'h>(
     alloc: Global,
     heap: &'h LocalHeap,
     given: usize,
-) -> Result<Vec<Piece<'h>>, NoMemory> {
+) -> Result<Vec<HeapBlock<'h>>, NoMemory> {
     let mut taken = Vec::new(alloc);
     fill(heap, &mut taken)?;
     for _piece in 0..given {

@@ -5,7 +5,7 @@ use std::io::{ErrorKind, Read, Write};
 use trace_words::fault::TraceFault;
 use trace::replay::replay;
 use trace_words::show::Show;
-use trace_io::sink::Noted;
+use trace_io::sink::TrackedSink;
 use trace_io::source::Counted;
 
 /// Gives one byte a read, and fails at the read with this number, counted from 0.
@@ -93,7 +93,7 @@ fn replayed(alloc: Global, fails_at: u64, way: Writes) -> Came {
         writes: 0,
         way,
     };
-    let mut writer = Noted::unbuffered(alloc, filling);
+    let mut writer = TrackedSink::unbuffered(alloc, filling);
     let fault = match replay(alloc, &mut reader, &mut writer, Show::Outcomes) {
         Ok(()) => None,
         Err(fault) => Some(fault),
@@ -275,13 +275,13 @@ impl Write for Closing {
     }
 }
 
-fn failing_at(alloc: Global, fails_at: u64) -> Noted<Closing, Global> {
+fn failing_at(alloc: Global, fails_at: u64) -> TrackedSink<Closing, Global> {
     let closing = Closing {
         held: Vec::new(alloc),
         flushes: 0,
         fails_at,
     };
-    Noted::unbuffered(alloc, closing)
+    TrackedSink::unbuffered(alloc, closing)
 }
 
 /// Tells whether a replay of lines that are typed, to a writer that fails at this flush, ends so: with this fault, these bytes held, and

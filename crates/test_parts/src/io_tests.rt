@@ -3,8 +3,8 @@ use std::alloc::{AllocError, Global};
 use std::io;
 use std::io::{ErrorKind, Read, Write};
 use std::test::Fail;
-use trace_io::lines::{Found, LineReader, NoLine};
-use trace_io::sink::{Noted, Sink, WriteFailed, write_all};
+use trace_io::lines::{NextLine, LineReader, NoLine};
+use trace_io::sink::{TrackedSink, Sink, WriteFailed, write_all};
 use trace_io::source::{Counted, ReadFailed, Source};
 
 // Gives one byte a read, and fails at a read.
@@ -62,13 +62,13 @@ impl Write for Filling {
     }
 }
 
-fn full_at(alloc: Global, full_at: u64) -> Noted<Filling, Global> {
+fn full_at(alloc: Global, full_at: u64) -> TrackedSink<Filling, Global> {
     let filling = Filling {
         held: Vec::new(alloc),
         writes: 0,
         full_at,
     };
-    Noted::unbuffered(alloc, filling)
+    TrackedSink::unbuffered(alloc, filling)
 }
 
 const TEXT: &[u8] = b"vm 1 4\n\nc0 go";
@@ -88,7 +88,7 @@ fn next_is<S: Source, W: Sink>(
     sink: &mut W,
     line: &[u8],
 ) -> bool {
-    lines.next_line(source, sink) == Ok(Found::Line) && lines.line() == line
+    lines.next_line(source, sink) == Ok(NextLine::Line) && lines.line() == line
 }
 
 // Whether two lines come, the read fails, and again, and the third line comes once it doesn't.
@@ -96,8 +96,8 @@ fn read_failing(alloc: Global) -> Result<[bool; 5], AllocError> {
     let mut lines = LineReader::new(alloc)?;
     let mut source = drip(TEXT, 9);
     let mut sink = full_at(alloc, 1);
-    let first = lines.next_line(&mut source, &mut sink) == Ok(Found::Line);
-    let second = lines.next_line(&mut source, &mut sink) == Ok(Found::Line);
+    let first = lines.next_line(&mut source, &mut sink) == Ok(NextLine::Line);
+    let second = lines.next_line(&mut source, &mut sink) == Ok(NextLine::Line);
     let failed = lines.next_line(&mut source, &mut sink);
     let fails = failed == Err(NoLine::ReadFailed) && source.failed;
     let again = lines.next_line(&mut source, &mut sink) == Err(NoLine::ReadFailed);
@@ -130,9 +130,9 @@ fn written_goes_out(alloc: Global) -> Result<[bool; 5], AllocError> {
     let mut lines = LineReader::new(alloc)?;
     let mut source = Counted::new(b"c0 go\nc1 go\nc2".as_slice());
     let mut sink = full_at(alloc, 1);
-    let first = lines.next_line(&mut source, &mut sink) == Ok(Found::Line);
+    let first = lines.next_line(&mut source, &mut sink) == Ok(NextLine::Line);
     let is_held = write_all(&mut sink, b"ok\n") == Ok(()) && !sink.flushed;
-    let second = lines.next_line(&mut source, &mut sink) == Ok(Found::Line) && source.reads == 1;
+    let second = lines.next_line(&mut source, &mut sink) == Ok(NextLine::Line) && source.reads == 1;
     let stops = lines.next_line(&mut source, &mut sink) == Err(NoLine::WriteFailed)
         && sink.failed
         && source.reads == 1;
@@ -148,7 +148,7 @@ fn what_was_written_goes_out_before_a_read(rt: HostRuntime) -> Result<(), Fail> 
 }
 
 // What two texts and a flush after each come to, and whether the second text failed by itself.
-fn write_twice(sink: &mut Noted<Filling, Global>) -> ([Result<(), WriteFailed>; 4], bool) {
+fn write_twice(sink: &mut TrackedSink<Filling, Global>) -> ([Result<(), WriteFailed>; 4], bool) {
     let first = write_all(sink, b"done\n");
     let flushed = sink.flush();
     let second = write_all(sink, b"segv maperr\n");

@@ -1,8 +1,9 @@
-//! Tests of the parts of a machine, of its slot maps, and of its text. Each memory that is refused (`memory_tests`); values of
-//! the manual, and functions that nothing else runs (`known_tests`); worked rows of Refcache (`refcache_tests`, over `trial`)
-//! and of both slot maps (`map_tests`, over `script`); the tree that threads share (`tree_tests`), and two threads at once
-//! (`race_tests`); threads that draw tickets (`ticket_tests`); reads and writes that fail (`io_tests`); lines and what they say
-//! (`line_tests`); and that the texts of pictures are apart (`picture_tests`).
+//! Tests of a machine's parts, of slot maps and of text, where the program can't show it.
+//!
+//! - `memory_tests`: each memory that is refused; `known_tests`: values of the manual; `refcache_tests` (over
+//!   `trial`): worked rows.
+//! - `map_tests` (over `script`): both slot maps; `tree_tests`, `race_tests`, `ticket_tests`: what threads share.
+//! - `line_tests`, `io_tests`: lines, and streams that fail; `picture_tests`: the texts of pictures are apart.
 #![tactic(auto)]
 
 #[cfg(test)]

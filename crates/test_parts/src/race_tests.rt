@@ -3,7 +3,7 @@ ghost use Rattle.std.specs.Prelude.{◌≡◌, ◌+◌, ◌*◌, ◌<◌, ◌≤
 
 use crate::tree_tests::{Counter, change, change_held, let_all_go, lock_all};
 use live_levels::act::Act;
-use live_tree::held::{Got, Held};
+use live_tree::held::{HoldStep, Held};
 use live_tree::tree::SharedTree;
 use std::alloc::Global;
 use std::sync::Wait;
@@ -75,7 +75,7 @@ fn ask_for_all<R: Wait>(rt: &R, tree: &SharedTree<Global>, first: u64) -> bool
     let got = held.lock_next(rt, tree, &mut counter, CoreId::new(0), first + 512, 1);
     let is_mapped = change_held(&mut held, &Act::Put(MAPPED));
     let_all_go(&mut counter, held);
-    got == Got::Locked && is_mapped
+    got == HoldStep::Locked && is_mapped
 }
 
 // Asks for the page alone, which divides the slot that has it. Whether it got it.

@@ -6,7 +6,7 @@ use crate::words::numbers_of;
 use live_levels::act::Act;
 use live_levels::level::{Next, SlotCut, Stepper};
 use live_tree::held::cut::Cutting;
-use live_tree::held::{Got, Held};
+use live_tree::held::{HoldStep, Held};
 use live_tree::tree::SharedTree;
 use std::alloc::Global;
 use std::sync::Wait;
@@ -69,9 +69,9 @@ pub(crate) fn lock_all<'a, R: Wait>(
             return Some(splits);
         }
         match held.lock_next(rt, tree, counter, core, end, 1) {
-            Got::Locked => {}
-            Got::Split => splits = splits.saturating_add(1),
-            Got::Owned(_) | Got::Unseen | Got::NoMemory | Got::Lost => return None,
+            HoldStep::Locked => {}
+            HoldStep::Split => splits = splits.saturating_add(1),
+            HoldStep::Owned(_) | HoldStep::Unseen | HoldStep::NoMemory | HoldStep::Lost => return None,
         }
     }
     None
@@ -206,9 +206,9 @@ fn asked<R: Wait>(
     let got = held.lock_next(rt, tree, &mut counter, core, end, 0);
     let_all_go(&mut counter, held);
     match got {
-        Got::Locked => [1, 0, counter.steps],
-        Got::Owned(owner) => [2, u64::from(owner.index()), counter.steps],
-        Got::Split | Got::Unseen | Got::NoMemory | Got::Lost => [0, 0, counter.steps],
+        HoldStep::Locked => [1, 0, counter.steps],
+        HoldStep::Owned(owner) => [2, u64::from(owner.index()), counter.steps],
+        HoldStep::Split | HoldStep::Unseen | HoldStep::NoMemory | HoldStep::Lost => [0, 0, counter.steps],
     }
 }
 
@@ -373,7 +373,7 @@ fn change_often<R: Wait>(rt: &R, tree: &SharedTree<Global>, core: CoreId) -> boo
         let got = held.lock_next(rt, tree, &mut counter, core, 17, 1);
         let is_changed = change_held(&mut held, &Act::Clear);
         let_all_go(&mut counter, held);
-        if got != Got::Locked || !is_changed {
+        if got != HoldStep::Locked || !is_changed {
             return false;
         }
     }

@@ -1,7 +1,7 @@
 //! The audit and the oracle, side by side.
 ghost use Rattle.std.specs.Prelude.{◌≤◌, IfOk, length};
 
-use audit::{Auditor, Verdict};
+use audit::{Auditor, ReplyVerdict};
 use frames::FileSpec;
 use radix_range::RadixMap;
 use std::alloc::Global;
@@ -59,7 +59,7 @@ pub fn agreed(
     let due = oracle.answer(core, request)?;
     let wrong = audit.judge(core, request, other(due))?;
     let right = audit.judge(core, request, due)?;
-    if wrong == Verdict::Illegal(due) && right == Verdict::Legal {
+    if wrong == ReplyVerdict::Illegal(due) && right == ReplyVerdict::Legal {
         return Ok(Some(due));
     }
     Ok(None)

@@ -1,4 +1,7 @@
-//! Shared machines, and requests of one core beside a slow program of lists.
+//! Tests of shared machines, and of requests beside a slow program of lists.
+//!
+//! - `request_tests` (`rows`, `agreeing`): requests on which the machine, the audit and `test_support::oracle` agree.
+//! - `turn_tests`, `thread_tests` (`together`, `logged`, `asks`): cores that call in a shared machine.
 #![tactic(auto)]
 
 #[cfg(test)]

@@ -8,7 +8,7 @@ use test_support::oracle::Oracle;
 use test_support::random::Random;
 use trace::replay::replay;
 use trace_words::show::Show;
-use trace_io::sink::Noted;
+use trace_io::sink::TrackedSink;
 use trace_io::source::Counted;
 use trace_text::{Line, LineText, push_reply, read_line};
 use vm_base::{CoreId, NoMemory, Reply, Request, SegvCode};
@@ -92,7 +92,7 @@ fn halves_of(alloc: Global, table: &str) -> Result<(String<Global>, String<Globa
 /// Whether the machine's replay of a trace is this text.
 fn is_replayed_so(alloc: Global, trace: &str, text: &str) -> bool {
     let mut reader = Counted::new(trace.as_bytes());
-    let mut writer = Noted::unbuffered(alloc, Vec::new(alloc));
+    let mut writer = TrackedSink::unbuffered(alloc, Vec::new(alloc));
     let result = replay(alloc, &mut reader, &mut writer, Show::Outcomes);
     result.is_ok() && writer.writer.get_ref().as_slice() == text.as_bytes()
 }

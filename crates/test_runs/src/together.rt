@@ -1,9 +1,9 @@
 //! Scripts that look random, whose cores share a machine, each on a thread of its own.
 use crate::logged::machine;
 use trace_words::read_script;
-use shared::{Answer, Space};
+use shared::{Answer, SharedMachine};
 use shared_script::texts::run_script;
-use shared_script::{Ran, Tree};
+use shared_script::{RunMachine, Tree};
 use std::alloc::Global;
 use std::sync::Wait;
 use std::thread::Threads;
@@ -68,7 +68,7 @@ fn call_of(entry: &Entry, requests: &[Request]) -> Option<(u8, Request, Reply)> 
 }
 
 /// Whether the log has of each core just the calls that its thread was told, in order.
-fn is_logged(alloc: Global, ran: &Ran<Tree>) -> Result<bool, NoMemory> {
+fn is_logged(alloc: Global, ran: &RunMachine<Tree>) -> Result<bool, NoMemory> {
     let mut seen = vec![in alloc; 0usize; ran.told.len()]?;
     for entry in ran.machine.machine.log() {
         let Some((core, request, reply)) = call_of(entry, ran.machine.machine.requests()) else {
@@ -94,11 +94,11 @@ fn is_logged(alloc: Global, ran: &Ran<Tree>) -> Result<bool, NoMemory> {
 }
 
 /// Whether one core of a new machine is replied the same to the log's calls, in their order.
-fn is_replied_again(alloc: Global, ran: &Ran<Tree>) -> Result<bool, NoMemory> {
+fn is_replied_again(alloc: Global, ran: &RunMachine<Tree>) -> Result<bool, NoMemory> {
     let Some(machine) = machine(alloc, 1, FRAMES, 4096) else {
         return Err(NoMemory);
     };
-    let Ok((space, mut one)) = Space::new(alloc, machine) else {
+    let Ok((space, mut one)) = SharedMachine::new(alloc, machine) else {
         return Err(NoMemory);
     };
     for entry in ran.machine.machine.log() {

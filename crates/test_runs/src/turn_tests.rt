@@ -5,7 +5,7 @@ ghost use Rattle.std.specs.Prelude.{◌≡◌};
 use crate::asks::{FIRST, maps};
 use crate::logged::machine;
 use machine_model::{Event, Outcome};
-use shared::{Answer, Aside, Calls, Core, Passed, Refusal, Series, Space, Stop, Whole};
+use shared::{Answer, Aside, Calls, CoreSeat, Passed, ShareFault, Series, SharedMachine, SeriesEnd, Whole};
 use shared_script::Tree;
 use std::alloc::Global;
 use std::test::Fail;
@@ -13,8 +13,8 @@ use vm_base::{CoreId, Entry, Reply, Request, SegvCode};
 
 /// Whether the call is answered so.
 fn is_told<S: Whole + Drop>(
-    space: &Space<S>,
-    core: &mut Core<S>,
+    space: &SharedMachine<S>,
+    core: &mut CoreSeat<S>,
     request: Request,
     due: Reply,
 ) -> bool
@@ -26,7 +26,7 @@ fn is_told<S: Whole + Drop>(
 
 /// Whether all calls of the two cores are answered as they are on a machine of one thread. The page
 /// that is unmapped has a translation on both cores, so that the unmapping waits for the other.
-fn are_told<S: Whole + Drop>(space: &Space<S>, one: &mut Core<S>, two: &mut Core<S>) -> bool
+fn are_told<S: Whole + Drop>(space: &SharedMachine<S>, one: &mut CoreSeat<S>, two: &mut CoreSeat<S>) -> bool
     requires one { one.old.space ≡ space.now.table.shared.table_id }
     requires two { two.old.space ≡ space.now.table.shared.table_id }
     ensures one { one.new.space ≡ one.old.space }
@@ -65,7 +65,7 @@ fn answers_of(log: &[Entry], core: u8) -> u64 {
 
 /// Two cores make six calls; the machine that comes back has three of each in its log.
 fn goes_well(alloc: Global, machine: Tree) -> Option<bool> {
-    let Ok((space, mut one)) = Space::new(alloc, machine) else {
+    let Ok((space, mut one)) = SharedMachine::new(alloc, machine) else {
         return None;
     };
     let mut two = space.split(&mut one)?;
@@ -79,7 +79,7 @@ fn goes_well(alloc: Global, machine: Tree) -> Option<bool> {
 
 /// After as many calls as the machine may have, each is told so.
 fn ends_full(alloc: Global, machine: Tree) -> Option<bool> {
-    let Ok((space, mut one)) = Space::new(alloc, machine) else {
+    let Ok((space, mut one)) = SharedMachine::new(alloc, machine) else {
         return None;
     };
     let first = space.call(&mut one, maps(4096)) == Answer::Reply(Reply::Mapped(FIRST));
@@ -92,16 +92,16 @@ fn ends_full(alloc: Global, machine: Tree) -> Option<bool> {
 fn is_refused(alloc: Global, mut busy: Tree) -> Option<bool> {
     let core = CoreId::new(0);
     let _begun = busy.machine.step(Event::Call(core, maps(4096)));
-    let Err(unshared) = Space::new(alloc, busy) else {
+    let Err(unshared) = SharedMachine::new(alloc, busy) else {
         return Some(false);
     };
     let has_call = unshared.machine.machine.requests().len() == 1;
-    Some(unshared.why == Refusal::NotCalm && has_call)
+    Some(unshared.why == ShareFault::NotCalm && has_call)
 }
 
 /// Calls in a list are answered in their places, up to the limit of calls; a core may act beside them.
 fn lists_go_well(alloc: Global, machine: Tree) -> Option<bool> {
-    let Ok((space, mut one)) = Space::new(alloc, machine) else {
+    let Ok((space, mut one)) = SharedMachine::new(alloc, machine) else {
         return None;
     };
     let load = Request::Load { addr: FIRST };
@@ -113,16 +113,16 @@ fn lists_go_well(alloc: Global, machine: Tree) -> Option<bool> {
     let mut told = [Reply::Bus; 3];
     let first = space.call_all(&mut one, &asks, &mut told);
     let due = [Reply::Mapped(FIRST), Reply::Done, Reply::Byte(7)];
-    let are_all = told == due && is_made(first, 3, Stop::Done);
+    let are_all = told == due && is_made(first, 3, SeriesEnd::Done);
     let second = space.call_all(&mut one, &asks, &mut told);
-    let is_limited = is_made(second, 1, Stop::Refused) && told[1] == Reply::Done;
+    let is_limited = is_made(second, 1, SeriesEnd::Refused) && told[1] == Reply::Done;
     let passed = space.aside(&mut one, Aside::Flush) == Passed::Came(Outcome::Stepped);
     let back = space.close(one)?;
     Some(are_all && is_limited && passed && answers_of(back.machine.log(), 0) == 4)
 }
 
 /// Whether so many calls were made.
-fn is_made(calls: Calls, made: usize, stop: Stop) -> bool {
+fn is_made(calls: Calls, made: usize, stop: SeriesEnd) -> bool {
     calls == Calls::Made(Series { made, stop })
 }
 

@@ -1,5 +1,7 @@
-//! What tests of several crates share: numbers that look random (`random`), heaps that are full (`heaps`), what the first lines of a
-//! trace or a script ask for (`setups`), and the plain page map as a program (`oracle`).
+//! What tests share: random numbers, full heaps, and a slow plain page map.
+//!
+//! - `random`: numbers that look random; `heaps`: heaps that are full; `setups`: what first lines ask for.
+//! - `oracle`: the plain page map as a program, nothing but lists, and proved.
 #![tactic(auto)]
 
 pub mod heaps;

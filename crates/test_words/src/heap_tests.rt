@@ -13,7 +13,7 @@ use std::sync::Wait;
 use std::test::Fail;
 use std::thread::Threads;
 use trace_words::show::Show;
-use trace_io::sink::Noted;
+use trace_io::sink::TrackedSink;
 use trace_io::source::Counted;
 use word_parts::asked::Shows;
 
@@ -51,7 +51,7 @@ fn do_in<T: Threads + Wait + Sync>(
     heap: &LocalHeap,
     word: &str,
     reader: &mut Counted<Dripping<'_>>,
-    out: &mut Noted<Filling, Global>,
+    out: &mut TrackedSink<Filling, Global>,
     errors: &mut Vec<u8>,
 ) -> u8 {
     let ended = match word {

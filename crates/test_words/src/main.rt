@@ -1,6 +1,10 @@
-//! Rows of data, in the files of data/ that its words name: each row says what the program writes and with which status
-//! it ends, given some words and an input. Each is run through the program's own library; told are how many there are,
-//! and which come to something else.
+//! Cases of data: what the program writes for words and an input, and its status.
+//!
+//! The rows stand in the files of data/ that this program's words name. Each is run through the program's own
+//! library; told are how many there are, and which come to something else.
+//!
+//! - `row`, `text`: a row is run and compared; `heap_tests`: heaps that are too small; `stream_tests`, `streams`:
+//!   streams that fail.
 //!
 //! A file is lines of ASCII, the first a comment. Empty lines, and those that begin with `#!`, say nothing. A row begins with
 //! a line `== WORDS`, of the words of a command line, or of several (`== run == maps`), which have to come to the same. The

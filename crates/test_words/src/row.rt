@@ -8,7 +8,7 @@ use std::env::{Env, FillError};
 use std::io::Write;
 use std::sync::Wait;
 use std::thread::Threads;
-use trace_io::sink::Noted;
+use trace_io::sink::TrackedSink;
 use word_parts::input::Files;
 
 // The words of a command line, with a zero byte between them, and whether `NO_COLOR` is set.
@@ -70,7 +70,7 @@ fn came_of<F: Files, T: Threads + Wait + Sync>(
     words: &[u8],
     input: &[u8],
 ) -> Came {
-    let mut out = Noted::unbuffered(alloc, Vec::new(alloc));
+    let mut out = TrackedSink::unbuffered(alloc, Vec::new(alloc));
     let mut errors = Vec::new(alloc);
     let status = program(
         Words {

@@ -8,7 +8,7 @@ use std::io;
 use std::io::{ErrorKind, Read, Write};
 use std::sync::Wait;
 use std::thread::Threads;
-use trace_io::sink::Noted;
+use trace_io::sink::TrackedSink;
 use word_parts::input::Files;
 
 /// At which read and write the streams fail.
@@ -138,7 +138,7 @@ pub fn dripping_of(input: &[u8], limits: Limits) -> Dripping<'_> {
 }
 
 /// A writer without a buffer, which holds what it took.
-pub fn sink_of(alloc: Global, limits: Limits) -> Noted<Filling, Global> {
+pub fn sink_of(alloc: Global, limits: Limits) -> TrackedSink<Filling, Global> {
     let filling = Filling {
         held: Vec::new(alloc),
         writes: 0,
@@ -146,11 +146,11 @@ pub fn sink_of(alloc: Global, limits: Limits) -> Noted<Filling, Global> {
         fails: limits.fails,
         is_closed: limits.is_closed,
     };
-    Noted::unbuffered(alloc, filling)
+    TrackedSink::unbuffered(alloc, filling)
 }
 
 /// What came of a writer.
-pub fn ran_of(out: Noted<Filling, Global>, errors: Vec<u8>, status: u8) -> Ran {
+pub fn ran_of(out: TrackedSink<Filling, Global>, errors: Vec<u8>, status: u8) -> Ran {
     let filling = out.writer.into_parts().0;
     Ran {
         writes: filling.writes,

@@ -12,36 +12,36 @@ use Rattle.trace_text.specs.declared.line.Line.TheVariants.{Blank, Space, File, 
 use Rattle.machine_model.specs.declared.setup.CallLimit.{CallLimit}
 use Rattle.trace_words.specs.declared.fault.TraceFault.{TraceFault}
 use Rattle.trace_words.specs.declared.fault.TraceFault.TheVariants.{BadLine, NoMemory, NoVmLine}
-use Rattle.trace_words.specs.Declarations.{Asked, asks_for}
+use Rattle.trace_words.specs.Declarations.{DeclarationView, asks_for}
 use Rattle.trace.specs.Gives.{is_event}
 use Rattle.trace.specs.Stage.{Stage, stage_of, Acts, EventActs, Opens, OpenFails, LateFails, BadFails}
-use Rattle.trace_words.specs.Kinds.{Kind, OfSpace, OfFile, OfEvents, kind_of}
+use Rattle.trace_words.specs.Kinds.{FirstWord, OfSpace, OfFile, OfEvents, kind_of}
 use Rattle.trace.specs.Stage.{BytesFail, EventFails, EventWants, LineActs, LineFails, LineWants, SaidFails, SpaceFails}
 
 -- ---- at which a machine is to be made
 
-pub late_ok : (limit : CallLimit) (d : Option Asked) (w : World) (n : ℕ) → Opens (stage_of limit d None) w → IfSome d (λ a. LateFails limit a n (BadLine n))
+pub late_ok : (limit : CallLimit) (d : Option DeclarationView) (w : World) (n : ℕ) → Opens (stage_of limit d None) w → IfSome d (λ a. LateFails limit a n (BadLine n))
 late_ok limit None w n o = tt
 late_ok limit (Some a) w n o = inr (o.0, refl)
 
-pub late_err : (limit : CallLimit) (d : Option Asked) (n : ℕ) (f : TraceFault) → OpenFails (stage_of limit d None) f → IfSome d (λ a. LateFails limit a n f)
+pub late_err : (limit : CallLimit) (d : Option DeclarationView) (n : ℕ) (f : TraceFault) → OpenFails (stage_of limit d None) f → IfSome d (λ a. LateFails limit a n f)
 late_err limit None n f h = tt
 late_err limit (Some a) n f h = inl h
 
 -- ---- the vm line
 
-pub space_running : {X : Type 0} (g : X → World) (limit : CallLimit) (d : Option Asked) (m : Option X) (n : ℕ) → is_some m ≡ true
+pub space_running : {X : Type 0} (g : X → World) (limit : CallLimit) (d : Option DeclarationView) (m : Option X) (n : ℕ) → is_some m ≡ true
     → SpaceFails (stage_of limit d (option_map g m)) n (BadLine n)
 space_running g limit d None n e = absurd cc
 space_running g limit d (Some x) n e = refl
 
-pub space_late : {X : Type 0} (g : X → World) (limit : CallLimit) (d : Option Asked) (m : Option X) (n : ℕ) (f : TraceFault) → is_some m ≡ false
+pub space_late : {X : Type 0} (g : X → World) (limit : CallLimit) (d : Option DeclarationView) (m : Option X) (n : ℕ) (f : TraceFault) → is_some m ≡ false
     → is_some d ≡ true → IfSome d (λ a. LateFails limit a n f) → SpaceFails (stage_of limit d (option_map g m)) n f
 space_late g limit d (Some x) n f e i h = absurd cc
 space_late g limit None None n f e i h = absurd cc
 space_late g limit (Some a) None n f e i h = h
 
-pub space_taken : {X : Type 0} (g : X → World) (limit : CallLimit) (d : Option Asked) (m : Option X) (cores frames calls : ℕ) → is_some m ≡ false
+pub space_taken : {X : Type 0} (g : X → World) (limit : CallLimit) (d : Option DeclarationView) (m : Option X) (cores frames calls : ℕ) → is_some m ≡ false
     → is_some d ≡ false → LineActs (stage_of limit d (option_map g m)) (Space cores frames calls)
     (stage_of limit (Some (asks_for cores frames calls)) (option_map g m)) []
 space_taken g limit d (Some x) cores frames calls e i = absurd cc
@@ -57,19 +57,19 @@ no_both (name ∷ args) h =
     let same : name ≡ codes "file" = (bytes_eq-Decides name (codes "file")).0 h in
     ap (λ w. bytes_eq w (codes "vm")) same
 
-pub bad_running : {X : Type 0} (g : X → World) (limit : CallLimit) (d : Option Asked) (m : Option X) (n : ℕ) (k : Kind) → is_some m ≡ true
+pub bad_running : {X : Type 0} (g : X → World) (limit : CallLimit) (d : Option DeclarationView) (m : Option X) (n : ℕ) (k : FirstWord) → is_some m ≡ true
     → BadFails (stage_of limit d (option_map g m)) n k (BadLine n)
 bad_running g limit d None n k e = absurd cc
 bad_running g limit d (Some x) n k e = refl
 
-pub bad_space : {X : Type 0} (g : X → World) (limit : CallLimit) (d : Option Asked) (m : Option X) (n : ℕ) (words : List Word) → is_some m ≡ false
+pub bad_space : {X : Type 0} (g : X → World) (limit : CallLimit) (d : Option DeclarationView) (m : Option X) (n : ℕ) (words : List Word) → is_some m ≡ false
     → is_none d ≡ true → begins_with_vm words ≡ true → BadFails (stage_of limit d (option_map g m)) n (kind_of words) (BadLine n)
 bad_space g limit d (Some x) n words e i h = absurd cc
 bad_space g limit (Some a) None n words e i h = absurd cc
 bad_space g limit None None n words e i h =
     subst (λ b. BadFails (stage_of limit None None) n (if b then OfSpace else if begins_with_file words then OfFile else OfEvents) (BadLine n)) (sym h) refl
 
-pub bad_other : {X : Type 0} (g : X → World) (limit : CallLimit) (d : Option Asked) (m : Option X) (n : ℕ) (words : List Word) → is_some m ≡ false
+pub bad_other : {X : Type 0} (g : X → World) (limit : CallLimit) (d : Option DeclarationView) (m : Option X) (n : ℕ) (words : List Word) → is_some m ≡ false
     → is_none d ≡ true → begins_with_vm words ≡ false → BadFails (stage_of limit d (option_map g m)) n (kind_of words) NoVmLine
 bad_other g limit d (Some x) n words e i h = absurd cc
 bad_other g limit (Some a) None n words e i h = absurd cc
@@ -81,7 +81,7 @@ bad_other g limit None None n words e i h =
     go true = refl
     go false = refl
 
-pub bad_file : {X : Type 0} (g : X → World) (limit : CallLimit) (d : Option Asked) (m : Option X) (n : ℕ) (words : List Word) → is_some m ≡ false
+pub bad_file : {X : Type 0} (g : X → World) (limit : CallLimit) (d : Option DeclarationView) (m : Option X) (n : ℕ) (words : List Word) → is_some m ≡ false
     → is_none d ≡ false → begins_with_file words ≡ true → BadFails (stage_of limit d (option_map g m)) n (kind_of words) (BadLine n)
 bad_file g limit d (Some x) n words e i h = absurd cc
 bad_file g limit None None n words e i h = absurd cc
@@ -90,7 +90,7 @@ bad_file g limit (Some a) None n words e i h =
     (sym (no_both words h))
     (subst (λ b. BadFails (stage_of limit (Some a) None) n (if b then OfFile else OfEvents) (BadLine n)) (sym h) refl)
 
-pub bad_late : {X : Type 0} (g : X → World) (limit : CallLimit) (d : Option Asked) (m : Option X) (n : ℕ) (words : List Word) (f : TraceFault)
+pub bad_late : {X : Type 0} (g : X → World) (limit : CallLimit) (d : Option DeclarationView) (m : Option X) (n : ℕ) (words : List Word) (f : TraceFault)
     → is_some m ≡ false → is_none d ≡ false → begins_with_file words ≡ false → IfSome d (λ a. LateFails limit a n f)
     → BadFails (stage_of limit d (option_map g m)) n (kind_of words) f
 bad_late g limit d (Some x) n words f e i h l = absurd cc
@@ -103,7 +103,7 @@ bad_late g limit (Some a) None n words f e i h l = go (begins_with_vm words)
 
 -- ---- the line of an event
 
-said_failed : (s : Stage) (n : ℕ) (kind : Kind) (line : Option Line) (f : TraceFault) → is_event line ≡ true → EventFails s n line f
+said_failed : (s : Stage) (n : ℕ) (kind : FirstWord) (line : Option Line) (f : TraceFault) → is_event line ≡ true → EventFails s n line f
     → SaidFails s n kind line f
 said_failed s n kind None f e h = absurd cc
 said_failed s n kind (Some Blank) f e h = absurd cc

@@ -9,7 +9,7 @@ use Rattle.radix_range.specs.Folds.{CanFold, FoldsNode}
 use Rattle.radix_range.specs.Tree.{root_edges, new_tree}
 use Rattle.radix_range.proofs.New.{is_new_tree}
 use Rattle.machine_model.specs.declared.setup.CallLimit.{CallLimit}
-use Rattle.trace_words.specs.Declarations.{Asked, asked_fault_within, made_by}
+use Rattle.trace_words.specs.Declarations.{DeclarationView, asked_fault_within, made_by}
 use Rattle.trace_words.specs.declared.fault.TraceFault.{TraceFault}
 use Rattle.trace_words.specs.declared.fault.TraceFault.TheVariants as By
 use Rattle.trace.specs.Stage.{Stage, Start, Declared, Running, CanOpen, EventActs, EventFails, EventWants, Opens, stage_of}
@@ -53,7 +53,7 @@ pub line_gives : {U : Type 0} (line : Option Line) (l : Line) (r : Result U NoMe
 line_gives line l r u P e k h = subst (λ o. IsSomeAnd o P) (sym e) (subst (λ r. OnOk r (P l)) k h)
 
 -- a machine is made of what is asked for
-pub opened : (limit : CallLimit) (asked : Option Asked) (a : Asked) (made : Made) (slots : Slots) (w : World) → asked ≡ Some a
+pub opened : (limit : CallLimit) (asked : Option DeclarationView) (a : DeclarationView) (made : Made) (slots : Slots) (w : World) → asked ≡ Some a
     → asked_fault_within limit a ≡ None → IsNew slots
     → slots.edge ≡ root_edges → made ≡ made_by a → w ≡ new_world made slots → Opens (stage_of limit asked None) w
 opened limit asked a made slots w e none new edges same is =

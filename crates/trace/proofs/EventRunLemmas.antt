@@ -14,7 +14,7 @@ use Rattle.core_steps.specs.declared.machine.Finished.TheVariants.{Last, Stuck}
 use Rattle.core_steps.specs.Finishing.{EndsIn}
 use Rattle.machine_model.specs.declared.setup.CallLimit.{CallLimit}
 use Rattle.watched.proofs.Watched.{replicate_more}
-use Rattle.trace_words.specs.Declarations.{Asked, made_by}
+use Rattle.trace_words.specs.Declarations.{DeclarationView, made_by}
 use Rattle.trace_text.specs.Line.{line_of}
 use Rattle.trace_text.specs.declared.line.Line.{Line}
 use Rattle.trace_text.specs.declared.line.Line.TheVariants.{Blank, Space, File, Act, Fold, Finish, Now}
@@ -122,7 +122,7 @@ moved (Now core request) w v text h = called core request h.0 w h.1 v text h.2 h
 -- ---- stages
 
 pub record HasRun (w : World) (es : List Event) (os : List Outcome) : Type 0 where
-  pub asked : Asked
+  pub asked : DeclarationView
   pub few : asked.cores ≤ 64
   pub run : Run (new_machine asked) es os w
 
@@ -174,11 +174,11 @@ event_next line old new es os text r (w, v, opens, gives, is) =
           });
     }
 
-space_next : (limit : CallLimit) (a : Asked) (old new : Stage) (es : List Event) (os : List Outcome) → HasReached old es os → old ≡ Start limit
+space_next : (limit : CallLimit) (a : DeclarationView) (old new : Stage) (es : List Event) (os : List Outcome) → HasReached old es os → old ≡ Start limit
     → new ≡ Declared limit a → HasReached new es os
 space_next limit a old new es os r e n = subst (λ x. HasReached x es os) (sym n) (subst (λ x. HasReached x es os) e r)
 
-file_next : (limit : CallLimit) (a b : Asked) (old new : Stage) (es : List Event) (os : List Outcome) → HasReached old es os → old ≡ Declared limit a
+file_next : (limit : CallLimit) (a b : DeclarationView) (old new : Stage) (es : List Event) (os : List Outcome) → HasReached old es os → old ≡ Declared limit a
     → new ≡ Declared limit b → HasReached new es os
 file_next limit a b old new es os r e n = subst (λ x. HasReached x es os) (sym n) (subst (λ x. HasReached x es os) e r)
 

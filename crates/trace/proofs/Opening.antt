@@ -8,7 +8,7 @@ use Rattle.machine_model.specs.declared.setup.SetupFault.{SetupFault}
 use Rattle.machine_model.specs.declared.setup.SetupFault.TheVariants.{Cores, Frames, TooManyFiles, FileTooLong, Calls}
 use Rattle.machine_model.specs.Setups.{most_calls}
 use Rattle.trace_words.specs.declared.declaration.FileLine.{FileLine}
-use Rattle.trace_words.specs.Declarations.{Asked, asks_for, asked_fault_within, bytes_of, file_at, declared_file, has_long, is_next, with_file}
+use Rattle.trace_words.specs.Declarations.{DeclarationView, asks_for, asked_fault_within, bytes_of, file_at, declared_file, has_long, is_next, with_file}
 use Rattle.trace.specs.PlainText.{Reached, nothing_reached, with_opened}
 
 -- ---- one file more
@@ -32,7 +32,7 @@ one_more files file n e = fun_ext (put_all (λ j o. o ≡ file_at (files ++ file
 -- ---- what a declaration comes to
 
 -- how far a trace has come that declares this
-abbrev pub declared_so : Asked → Reached
+abbrev pub declared_so : DeclarationView → Reached
 declared_so a = record nothing_reached {
   cores = a.cores;
   frames = a.frames;
@@ -42,7 +42,7 @@ declared_so a = record nothing_reached {
 }
 
 -- as long as there aren't too many files, which are counted
-abbrev pub IsDeclared : Asked → Reached → Type 0
+abbrev pub IsDeclared : DeclarationView → Reached → Type 0
 IsDeclared a s = length a.files < 17 → (a.next ≡ length a.files) × (s ≡ declared_so a)
 
 -- the vm line
@@ -55,7 +55,7 @@ declares_space cores frames calls s e l =
           ∙ ap (λ f. record nothing_reached { cores = cores; frames = frames; calls = calls; files = f; plain = nothing_mapped f }) none,
     )
 
-number_of : (a : Asked) (n : ℕ) → is_next a n ≡ true → n ≡ a.next
+number_of : (a : DeclarationView) (n : ℕ) → is_next a n ≡ true → n ≡ a.next
 number_of a n h = go (n == a.next) refl h
   where
     go : (b : Bool) → (n == a.next) ≡ b → (b && nat_lt (suc n) (2 ^ 64)) ≡ true → n ≡ a.next
@@ -63,7 +63,7 @@ number_of a n h = go (n == a.next) refl h
     go false e k = absurd cc
 
 -- the line of a file
-pub declares_file : (a : Asked) (n : ℕ) (file : FileLine) (s : Reached) → is_next a n ≡ true → IsDeclared a s
+pub declares_file : (a : DeclarationView) (n : ℕ) (file : FileLine) (s : Reached) → is_next a n ≡ true → IsDeclared a s
     → IsDeclared (with_file a file) (with_opened s n (file_with file.mode (bytes_of file)))
 declares_file a n file s next d = go (nat_lt (length a.files) 17) refl
   where
@@ -81,7 +81,7 @@ declares_file a n file s next d = go (nat_lt (length a.files) 17) refl
     go false many l = absurd (let few : nat_lt (length a.files) 17 ≡ true = grind (arith, nat_tests) in cc)
 
 -- where a machine is made, there aren't too many
-pub few_files : (limit : CallLimit) (a : Asked) → asked_fault_within limit a ≡ None → length a.files < 17
+pub few_files : (limit : CallLimit) (a : DeclarationView) → asked_fault_within limit a ≡ None → length a.files < 17
 few_files limit a none = go (nat_lt a.cores 1 || nat_lt 64 a.cores) (nat_lt 65536 a.frames) (nat_lt 16 (length a.files)) refl none
   where
     go : (x y z : Bool) → nat_lt 16 (length a.files) ≡ z
@@ -94,7 +94,7 @@ few_files limit a none = go (nat_lt a.cores 1 || nat_lt 64 a.cores) (nat_lt 6553
     go false false false e h = grind (arith, nat_tests)
 
 -- nor one that is too long
-pub none_long : (limit : CallLimit) (a : Asked) → asked_fault_within limit a ≡ None → has_long a.files ≡ false
+pub none_long : (limit : CallLimit) (a : DeclarationView) → asked_fault_within limit a ≡ None → has_long a.files ≡ false
 none_long limit a none = go (nat_lt a.cores 1 || nat_lt 64 a.cores) (nat_lt 65536 a.frames) (nat_lt 16 (length a.files)) (has_long a.files) none
   where
     go : (x y z b : Bool) → (if x then Some Cores else if y then Some Frames else if z then Some TooManyFiles
@@ -106,7 +106,7 @@ none_long limit a none = go (nat_lt a.cores 1 || nat_lt 64 a.cores) (nat_lt 6553
     go false false false false h = refl
 
 -- nor too many cores
-pub few_cores : (limit : CallLimit) (a : Asked) → asked_fault_within limit a ≡ None → a.cores ≤ 64
+pub few_cores : (limit : CallLimit) (a : DeclarationView) → asked_fault_within limit a ≡ None → a.cores ≤ 64
 few_cores limit a none = grind (arith, nat_tests, not_many (nat_lt a.cores 1 || nat_lt 64 a.cores) _ none)
   where
     not_many : (b : Bool) (rest : Option SetupFault) → (if b then Some Cores else rest) ≡ None → b ≡ false

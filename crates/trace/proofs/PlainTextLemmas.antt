@@ -30,7 +30,7 @@ use Rattle.trace_words.specs.declared.declaration.FileLine.{FileLine}
 use Rattle.trace_words.specs.declared.show.Show.{Show}
 use Rattle.trace_words.specs.declared.show.Show.TheVariants.{Outcomes, OutcomesAndLog, Maps}
 use Rattle.machine_model.specs.declared.setup.CallLimit.{CallLimit}
-use Rattle.trace_words.specs.Declarations.{Asked, asked_fault_within, made_by}
+use Rattle.trace_words.specs.Declarations.{DeclarationView, asked_fault_within, made_by}
 use Rattle.trace_words.specs.Events.{event_of}
 use Rattle.trace_words.specs.OutcomeText.{outcome_text}
 use Rattle.trace.specs.FinishedText.{finished_text}
@@ -344,7 +344,7 @@ ReachedAt (Start limit) s = s ≡ nothing_reached
 ReachedAt (Declared limit a) s = IsDeclared a s
 ReachedAt (Running w) s = Meets w s
 
-meets_opening : (a : Asked) (slots : Slots) (s : Reached) → a.cores ≤ 64 → IsNew slots → s ≡ declared_so a → Meets (new_world (made_by a) slots) s
+meets_opening : (a : DeclarationView) (slots : Slots) (s : Reached) → a.cores ≤ 64 → IsNew slots → s ≡ declared_so a → Meets (new_world (made_by a) slots) s
 meets_opening a slots s few new e = subst (Meets (new_world (made_by a) slots)) (sym e) (record {
   reached = reached_opening (made_by a) slots few new;
   cores = refl;
@@ -448,7 +448,7 @@ all_plain End (l ∷ ls) old new s text below ends r (mid, front, rest, short, a
 
 -- ---- behind the lines
 
-declared_at : (limit : CallLimit) (a : Asked) (r : Reached) → asked_fault_within limit a ≡ None → IsDeclared a r → r ≡ declared_so a
+declared_at : (limit : CallLimit) (a : DeclarationView) (r : Reached) → asked_fault_within limit a ≡ None → IsDeclared a r → r ≡ declared_so a
 declared_at limit a r none at = (at (few_files limit a none)).1
 
 log_of : (stage : Stage) (r : Reached) → CanOpen stage → ReachedAt stage r → IsLogOf r (log_at stage)

@@ -16,7 +16,7 @@ use Rattle.trace_text.specs.declared.line.Line.{Line}
 use Rattle.trace_text.specs.declared.line.Line.TheVariants.{Blank, Space, File, Act, Fold, Finish, Now}
 use Rattle.trace_words.specs.declared.fault.TraceFault.{TraceFault}
 use Rattle.trace_words.specs.declared.show.Show.{Show}
-use Rattle.trace_words.specs.Declarations.{Asked}
+use Rattle.trace_words.specs.Declarations.{DeclarationView}
 use Rattle.trace.specs.EventRuns.{AllAsk, Asks, AsksCall, AsksFinish, AsksOne}
 use Rattle.trace_words.specs.OutcomeText.{outcome_text}
 use Rattle.trace.specs.FinishedText.{finished_text}
@@ -100,7 +100,7 @@ all_ask_more (l ∷ lines) line es fs os ps text more h a = record {
 
 -- the run up to the machine that a line finds
 opened : {S : Type 0} (after : S → World → Event → Outcome → World → S → Type 0) (first mid : S) (s : Stage) (w : World) (es : List Event) (os : List Outcome)
-    → Leads after first s es os mid → Opens s w → (asked : Asked) × Watches after first (new_machine asked) es os w mid
+    → Leads after first s es os mid → Opens s w → (asked : DeclarationView) × Watches after first (new_machine asked) es os w mid
 opened after first mid (Start limit) w es os r o = absurd o
 opened after first mid (Declared limit a) w es os r o = (
   a,
@@ -249,13 +249,13 @@ is_seen after one first last other stage show input a b e f h = (
 )
 
 -- the machine at a stage that is told by its parts
-has_machine : (limit : CallLimit) (asked : Option Asked) (machine : Option World) → HasMachine (stage_of limit asked machine) machine
+has_machine : (limit : CallLimit) (asked : Option DeclarationView) (machine : Option World) → HasMachine (stage_of limit asked machine) machine
 has_machine limit asked (Some w) = refl
 has_machine limit (Some a) None = refl
 has_machine limit None None = refl
 
 -- the same with the machine at the end
-pub seen_with : {S : Type 0} (after : S → World → Event → Outcome → World → S → Type 0) (one first last other : S) (limit : CallLimit) (asked : Option Asked)
+pub seen_with : {S : Type 0} (after : S → World → Event → Outcome → World → S → Type 0) (one first last other : S) (limit : CallLimit) (asked : Option DeclarationView)
     (now machine : Option World) (show : Show) (input : List ℕ) (a b : Option (List ℕ)) → first ≡ one → other ≡ last → machine ≡ now
     → Writes (λ lines text. SeesAll after first (stage_of limit asked now) lines text last) (stage_of limit asked now) show input a b
     → IsSeenWith after one other machine show input a b

@@ -12,14 +12,14 @@ use Rattle.machine_model.specs.declared.setup.SetupFault.{SetupFault}
 use Rattle.trace_words.specs.declared.fault.TraceFault.{TraceFault}
 use Rattle.trace_words.specs.declared.fault.TraceFault.TheVariants.{BadLine, TooLong, ReadFailed, NoVmLine, NoMemory, Setup, WriteFailed}
 use Rattle.trace.specs.Stage.{Stage, Start, Declared, Running, SetupFails, OpenFails, LineWants}
-use Rattle.trace_words.specs.Kinds.{Kind, OfSpace, OfFile, OfEvents, kind_of}
+use Rattle.trace_words.specs.Kinds.{FirstWord, OfSpace, OfFile, OfEvents, kind_of}
 use Rattle.trace.specs.Stage.{LateFails, BadFails, SpaceFails, FileFails, SaidFails, BytesFail, LineFails, Acts}
 use Rattle.machine_model.specs.declared.setup.CallLimit.{CallLimit}
-use Rattle.trace_words.specs.Declarations.{Asked, asked_fault_within}
+use Rattle.trace_words.specs.Declarations.{DeclarationView, asked_fault_within}
 use Rattle.trace.specs.Turns.{Scene, Advances, IsHeld, Fails, no_memory, refused, unwritten}
 use Rattle.trace_words.proofs.OwnFaults.{is_own}
 
-own_setup : (a : Asked) (o : Option SetupFault) (f : TraceFault) → SetupFails a o f → is_own f ≡ true
+own_setup : (a : DeclarationView) (o : Option SetupFault) (f : TraceFault) → SetupFails a o f → is_own f ≡ true
 unfolding is_own
 own_setup a None f (inl e) = ap is_own e.1
 own_setup a None f (inr e) = ap is_own e
@@ -31,12 +31,12 @@ own_open (Start limit) f e = ap is_own e
 own_open (Declared limit a) f e = own_setup a (asked_fault_within limit a) f e
 own_open (Running w) f e = absurd e
 
-own_late : (limit : CallLimit) (a : Asked) (n : ℕ) (f : TraceFault) → LateFails limit a n f → is_own f ≡ true
+own_late : (limit : CallLimit) (a : DeclarationView) (n : ℕ) (f : TraceFault) → LateFails limit a n f → is_own f ≡ true
 unfolding is_own
 own_late limit a n f (inl e) = own_setup a (asked_fault_within limit a) f e
 own_late limit a n f (inr e) = ap is_own e.1
 
-own_bad : (s : Stage) (n : ℕ) (k : Kind) (f : TraceFault) → BadFails s n k f → is_own f ≡ true
+own_bad : (s : Stage) (n : ℕ) (k : FirstWord) (f : TraceFault) → BadFails s n k f → is_own f ≡ true
 unfolding is_own
 own_bad (Start limit) n OfSpace f e = ap is_own e
 own_bad (Start limit) n OfFile f e = ap is_own e
@@ -58,7 +58,7 @@ own_file (Start limit) n next f e = ap is_own e
 own_file (Declared limit a) n next f e = ap is_own e.1
 own_file (Running w) n next f e = ap is_own e
 
-own_said : (s : Stage) (n : ℕ) (k : Kind) (l : Option Line) (f : TraceFault) → SaidFails s n k l f → is_own f ≡ true
+own_said : (s : Stage) (n : ℕ) (k : FirstWord) (l : Option Line) (f : TraceFault) → SaidFails s n k l f → is_own f ≡ true
 own_said s n k None f e = own_bad s n k f e
 own_said s n k (Some Blank) f e = absurd e
 own_said s n k (Some (Space x y z)) f e = own_space s n f e

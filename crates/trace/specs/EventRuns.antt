@@ -16,7 +16,7 @@ use Rattle.machine_model.specs.declared.setup.CallLimit.{CallLimit}
 use Rattle.trace_text.specs.Line.{line_of}
 use Rattle.trace_text.specs.declared.line.Line.{Line}
 use Rattle.trace_text.specs.declared.line.Line.TheVariants.{Blank, Space, File, Act, Fold, Finish, Now}
-use Rattle.trace_words.specs.Declarations.{Asked}
+use Rattle.trace_words.specs.Declarations.{DeclarationView}
 use Rattle.trace_words.specs.Events.{event_of}
 use Rattle.trace_words.specs.OutcomeText.{outcome_text}
 use Rattle.trace.specs.FinishedText.{finished_text}
@@ -80,7 +80,7 @@ AllAsk (line ∷ lines) es os text = AsksFirst line (AllAsk lines) es os text
 -- text says. The run is sound: its log is that of a plain page map, in which each reply that was
 -- handed out stands once, between its call and its answer.
 pub record IsRun (lines : List (List ℕ)) (text : List ℕ) (w : World) : Type 0 where
-  pub asked : Asked
+  pub asked : DeclarationView
   pub events : List Event
   pub outcomes : List Outcome
   pub asks : AllAsk lines events outcomes text

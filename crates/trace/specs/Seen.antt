@@ -9,7 +9,7 @@ use Rattle.trace_io.specs.Lines.{lines_of}
 use Rattle.trace_text.specs.declared.line.Line.{Line}
 use Rattle.watched.specs.Watching.{Watches}
 use Rattle.trace_words.specs.declared.show.Show.{Show}
-use Rattle.trace_words.specs.Declarations.{Asked}
+use Rattle.trace_words.specs.Declarations.{DeclarationView}
 use Rattle.trace.specs.EventRuns.{Asks, AllAsk}
 use Rattle.trace.specs.Stage.{Stage, Start, Declared, Running, CanOpen, Opens, new_machine}
 use Rattle.trace.specs.Shown.{IsBehind, told}
@@ -35,7 +35,7 @@ abbrev pub Leads : {S : Type 0} → (S → World → Event → Outcome → World
 Leads after one (Start limit) es os other = (es ≡ []) × (os ≡ []) × (other ≡ one)
 Leads after one (Declared limit a) es os other = (es ≡ []) × (os ≡ []) × (other ≡ one)
 Leads after one (Running w) es os other =
-    (asked : Asked) × Watches after one (new_machine asked) es os w other
+    (asked : DeclarationView) × Watches after one (new_machine asked) es os w other
 
 -- the lines ask for the events that came up to this stage, and this is their text
 abbrev pub SeesAll : {S : Type 0} → (S → World → Event → Outcome → World → S → Type 0) → S → Stage

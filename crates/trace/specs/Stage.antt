@@ -13,26 +13,26 @@ use Rattle.trace_text.specs.declared.line.Line.{Line}
 use Rattle.trace_text.specs.declared.line.Line.TheVariants.{Blank, Space, File, Act, Fold, Finish, Now}
 use Rattle.trace_words.specs.declared.fault.TraceFault.{TraceFault}
 use Rattle.trace_words.specs.declared.fault.TraceFault.TheVariants as By
-use Rattle.trace_words.specs.Declarations.{Asked, asks_for, is_next, with_file, made_by}
+use Rattle.trace_words.specs.Declarations.{DeclarationView, asks_for, is_next, with_file, made_by}
 use Rattle.trace_words.specs.Declarations.{asked_fault_within}
 use Rattle.trace.specs.Gives.{Gives, Wants, is_event}
-use Rattle.trace_words.specs.Kinds.{Kind, OfSpace, OfFile, OfEvents, kind_of}
+use Rattle.trace_words.specs.Kinds.{FirstWord, OfSpace, OfFile, OfEvents, kind_of}
 
 -- No line with words yet; the vm line, and the file lines behind it; a machine. Up to the machine
 -- there is a limit of the calls that may be asked for.
 pub data Stage : Type 0 where
   Start : CallLimit → Stage
-  Declared : CallLimit → Asked → Stage
+  Declared : CallLimit → DeclarationView → Stage
   Running : World → Stage
 
 -- how far a replay has come, from its parts
-abbrev pub stage_of : CallLimit → Option Asked → Option World → Stage
+abbrev pub stage_of : CallLimit → Option DeclarationView → Option World → Stage
 stage_of limit asked (Some w) = Running w
 stage_of limit (Some a) None = Declared limit a
 stage_of limit None None = Start limit
 
 -- the machine that is asked for, over a new tree of slots
-abbrev pub new_machine : Asked → World
+abbrev pub new_machine : DeclarationView → World
 new_machine a = new_world (made_by a) new_tree
 
 -- the machine that an event's line finds: a new one, if there was none before
@@ -49,7 +49,7 @@ CanOpen (Running w) = ⊤
 
 -- Why no machine was made of what is asked for: its own first fault, or want of memory, for the
 -- bytes of files where there are some, or for the machine.
-abbrev pub SetupFails : Asked → Option SetupFault → TraceFault → Type 0
+abbrev pub SetupFails : DeclarationView → Option SetupFault → TraceFault → Type 0
 SetupFails a (Some own) f = f ≡ By.Setup own
 SetupFails a None f = ((a.files ≢ []) × (f ≡ By.NoMemory)) ⊎ (f ≡ By.Setup Of.NoMemory)
 
@@ -60,12 +60,12 @@ OpenFails (Declared limit a) f = SetupFails a (asked_fault_within limit a) f
 OpenFails (Running w) f = ⊥
 
 -- The setup's fault comes before that of a line at which a machine is to be made.
-abbrev pub LateFails : CallLimit → Asked → ℕ → TraceFault → Type 0
+abbrev pub LateFails : CallLimit → DeclarationView → ℕ → TraceFault → Type 0
 LateFails limit a number f = SetupFails a (asked_fault_within limit a) f
     ⊎ ((asked_fault_within limit a ≡ None) × (f ≡ By.BadLine number))
 
 -- why a bad line isn't acted on: at the line of a file no machine is made
-abbrev pub BadFails : Stage → ℕ → Kind → TraceFault → Type 0
+abbrev pub BadFails : Stage → ℕ → FirstWord → TraceFault → Type 0
 BadFails (Start limit) number OfSpace f = f ≡ By.BadLine number
 BadFails (Start limit) number OfFile f = f ≡ By.NoVmLine
 BadFails (Start limit) number OfEvents f = f ≡ By.NoVmLine
@@ -87,7 +87,7 @@ FileFails (Declared limit a) number n f = (is_next a n ≡ false) × (f ≡ By.B
 FileFails (Running w) number n f = f ≡ By.BadLine number
 
 -- why a line of printable bytes that says this isn't acted on
-abbrev pub SaidFails : Stage → ℕ → Kind → Option Line → TraceFault → Type 0
+abbrev pub SaidFails : Stage → ℕ → FirstWord → Option Line → TraceFault → Type 0
 SaidFails s number kind None f = BadFails s number kind f
 SaidFails s number kind (Some Blank) f = ⊥
 SaidFails s number kind (Some (Space cores frames calls)) f = SpaceFails s number f
@@ -126,7 +126,7 @@ LineActs old Blank new text = (new ≡ old) × (text ≡ [])
 LineActs old (Space cores frames calls) new text = (limit : CallLimit) × (old ≡ Start limit)
     × (new ≡ Declared limit (asks_for cores frames calls)) × (text ≡ [])
 LineActs old (File n mode len seed) new text =
-    (limit : CallLimit) × (a : Asked) × (old ≡ Declared limit a) × (is_next a n ≡ true)
+    (limit : CallLimit) × (a : DeclarationView) × (old ≡ Declared limit a) × (is_next a n ≡ true)
     × (new ≡ Declared limit (with_file a (record { mode = mode; len = len; seed = seed })))
     × (text ≡ [])
 LineActs old (Act core action) new text = EventActs old (Act core action) new text

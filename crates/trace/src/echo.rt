@@ -17,7 +17,7 @@ ghost use Rattle.trace.specs.Echo.{EchoEnds, added_text, echo, echo_limit, entry
 use crate::asking::{Asking, Asks};
 use arrayvec::ArrayVec;
 use machine_model::CallLimit;
-use machine_log::{Forgotten, Logged, LoggedEntries, Opening};
+use machine_log::{KeepsNone, KeepsLog, LoggedEntries, Opening};
 use crate::numbered::text_at;
 use std::alloc::Allocator;
 use trace_words::fault::TraceFault;
@@ -298,7 +298,7 @@ fn echo_text<A: Allocator + Clone + Drop, S: Source, W: Sink>(
     ensures told { TellsIo fault_named result (read_from S.Source reader.old reader.new) (written_to W.Sink writer.old writer.new) }
 {
     if logs {
-        echo_over::<Logged<A>, A, S, W>(
+        echo_over::<KeepsLog<A>, A, S, W>(
             alloc,
             lines,
             reader,
@@ -309,7 +309,7 @@ fn echo_text<A: Allocator + Clone + Drop, S: Source, W: Sink>(
             texts,
         )
     } else {
-        echo_over::<Forgotten, A, S, W>(alloc, lines, reader, writer, limit, coloured, false, texts)
+        echo_over::<KeepsNone, A, S, W>(alloc, lines, reader, writer, limit, coloured, false, texts)
     }
 }
 

@@ -22,10 +22,10 @@ use crate::replayer::{Replayer, Staged};
 use trace_words::show::Show;
 use crate::shown::{Showing, write_log, write_maps};
 use machine_model::CallLimit;
-use machine_log::{Forgotten, Logged, Opening};
+use machine_log::{KeepsNone, KeepsLog, Opening};
 use std::alloc::Allocator;
 use std::io::Write;
-use trace_io::lines::{Found, LineReader, NoLine, line_reader};
+use trace_io::lines::{NextLine, LineReader, NoLine, line_reader};
 use trace_io::sink::Sink;
 use trace_io::source::Source;
 use trace_text::LineText;
@@ -57,9 +57,9 @@ pub fn turn<A: Allocator, S: Source, W: Sink, R: Staged, H: Showing>(
     match lines.next_line(reader, writer) {
         Err(NoLine::ReadFailed) => Err(TraceFault::ReadFailed),
         Err(NoLine::WriteFailed) => Err(TraceFault::WriteFailed),
-        Ok(Found::End) => Ok(false),
-        Ok(Found::TooLong) => Err(TraceFault::TooLong(number + 1)),
-        Ok(Found::Line) => {
+        Ok(NextLine::End) => Ok(false),
+        Ok(NextLine::TooLong) => Err(TraceFault::TooLong(number + 1)),
+        Ok(NextLine::Line) => {
             let line = lines.line();
             if let Err(fault) = replayer.act(number + 1, line, text) {
                 return Err(fault);
@@ -197,7 +197,7 @@ fn replay_text<A: Allocator + Clone + Drop, S: Source, W: Sink, X: Watch + Drop>
     ensures told { TellsIo fault_named result.ended (read_from S.Source reader.old reader.new) (written_to W.Sink writer.old writer.new) }
 {
     match show {
-        Show::OutcomesAndLog => replay_over::<Logged<A>, A, S, W, X>(
+        Show::OutcomesAndLog => replay_over::<KeepsLog<A>, A, S, W, X>(
             alloc,
             lines,
             reader,
@@ -206,7 +206,7 @@ fn replay_text<A: Allocator + Clone + Drop, S: Source, W: Sink, X: Watch + Drop>
             CallLimit::Usual,
             watch,
         ),
-        Show::Outcomes | Show::Maps => replay_over::<Forgotten, A, S, W, X>(
+        Show::Outcomes | Show::Maps => replay_over::<KeepsNone, A, S, W, X>(
             alloc, lines, reader, writer, show, limit, watch,
         ),
     }

@@ -13,7 +13,7 @@ use trace_words::fault::TraceFault;
 use crate::replay::replay_lines;
 use crate::replayer::Replayer;
 use trace_words::show::Show;
-use machine_log::Forgotten;
+use machine_log::KeepsNone;
 use core_steps::Machine;
 use mmu::{Cpu, Hardware};
 use radix_range::RadixMap;
@@ -37,7 +37,7 @@ where
     /// Who watched its steps.
     pub watch: X,
     /// Its machine, if a line has made one.
-    pub machine: Option<Machine<RadixMap<A>, A, Forgotten>>,
+    pub machine: Option<Machine<RadixMap<A>, A, KeepsNone>>,
 }
 
 /// As `replay_watched` of a trace whose mappings are listed, and hands out the machine, too. What was written isn't flushed.
@@ -62,7 +62,7 @@ pub fn replay_standing<A: Allocator + Clone + Drop, S: Source, W: Sink, X: Watch
             machine: None,
         };
     };
-    let mut replayer = Replayer::<A, Forgotten, X>::new(alloc, watch);
+    let mut replayer = Replayer::<A, KeepsNone, X>::new(alloc, watch);
     let mut text = LineText::new();
     let ended = replay_lines(
         &mut lines,

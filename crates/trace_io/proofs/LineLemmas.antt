@@ -10,8 +10,8 @@ use Rattle.trace_io.specs.Founds.{Finds, TakesLast}
 use Rattle.trace_io.specs.Lines.{IsTooLong, IsUnbroken}
 use Rattle.trace_io.specs.Source.{Stream, Gives, Reads}
 use Rattle.trace_io.specs.Window.{Window, TakesHeld, left}
-use Rattle.trace_io.specs.declared.lines.Found.{Found}
-use Rattle.trace_io.specs.declared.lines.Found.TheVariants.{Line, TooLong, End}
+use Rattle.trace_io.specs.declared.lines.NextLine.{NextLine}
+use Rattle.trace_io.specs.declared.lines.NextLine.TheVariants.{Line, TooLong, End}
 
 -- no newline before place m, which is past the limit
 pub not_early : (bs : List ℕ) (m : ℕ) → 256 < length bs → 257 ≤ m → Nowhere (Passes (is_byte 10) bs) 0 m → IsTooLong bs
@@ -109,7 +109,7 @@ found_long ys before mid new kept h = (
 )
 
 -- all that is held is the last line, where nothing comes any more
-pub found_last : (ys before : List ℕ) (mid new : Window) (f : Found) → left ys mid ≡ before → ys ≡ [] → length mid.held ≤ 256
+pub found_last : (ys before : List ℕ) (mid new : Window) (f : NextLine) → left ys mid ≡ before → ys ≡ [] → length mid.held ≤ 256
     → IsUnbroken mid.held → TakesLast mid new f → Finds before (left ys new) new f
 found_last ys before mid new Line kept none short unbroken h = record {
   short = subst (λ (l : List ℕ). length l ≤ 256) (sym h.0) short;

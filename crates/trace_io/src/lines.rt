@@ -29,7 +29,7 @@ enum Scan {
 
 /// What the text goes on with.
 #[derive(Clone, Copy, PartialEq, Eq)]
-pub enum Found {
+pub enum NextLine {
     /// A line of at most `LINE_LIMIT` bytes. The last line need not have a newline.
     Line,
     /// A line of more bytes, which isn't taken.
@@ -148,23 +148,23 @@ impl<A: Allocator> LineReader<A> {
     }
 
     // Takes all that is held as the last line.
-    fn take_last(&mut self) -> Found
+    fn take_last(&mut self) -> NextLine
         requires short { length self.old.held ≤ 256 }
         requires unbroken { IsUnbroken self.old.held }
         ensures { TakesLast self.old self.new result }
     {
         if self.start == self.end {
-            return Found::End;
+            return NextLine::End;
         }
         self.line_start = self.start;
         self.line_end = self.end;
         self.start = self.end;
-        Found::Line
+        NextLine::Line
     }
 
     // Reads until a whole line is held, or the text ends.
     #[inline(never)]
-    fn read_line<S: Source>(&mut self, reader: &mut S) -> Result<Found, ReadFailed>
+    fn read_line<S: Source>(&mut self, reader: &mut S) -> Result<NextLine, ReadFailed>
         requires short { length self.old.held ≤ 256 }
         requires unbroken { IsUnbroken self.old.held }
         ensures found { IfOk result (λ f. Reads (S.stream reader.old) (S.stream reader.new)
@@ -182,8 +182,8 @@ impl<A: Allocator> LineReader<A> {
                 return Ok(self.take_last());
             }
             match self.scan() {
-                Scan::Line => return Ok(Found::Line),
-                Scan::TooLong => return Ok(Found::TooLong),
+                Scan::Line => return Ok(NextLine::Line),
+                Scan::TooLong => return Ok(NextLine::TooLong),
                 Scan::Nothing => {}
             }
         }
@@ -199,7 +199,7 @@ impl<A: Allocator> LineReader<A> {
         &mut self,
         reader: &mut S,
         writer: &mut W,
-    ) -> Result<Found, NoLine>
+    ) -> Result<NextLine, NoLine>
         ensures found { IfOk result (λ f. Reads (S.stream reader.old) (S.stream reader.new)
             (λ xs ys. Finds (left xs self.old) (left ys self.new) self.new f)) }
         // Each line takes a byte, and the reads are limited.
@@ -221,8 +221,8 @@ impl<A: Allocator> LineReader<A> {
             × (S.stream reader.new ≡ S.stream reader.old) }
     {
         match self.scan() {
-            Scan::Line => return Ok(Found::Line),
-            Scan::TooLong => return Ok(Found::TooLong),
+            Scan::Line => return Ok(NextLine::Line),
+            Scan::TooLong => return Ok(NextLine::TooLong),
             Scan::Nothing => {}
         }
         if let Err(_) = writer.flush() {

@@ -19,7 +19,7 @@ pub struct WriteFailed;
 /// A writer that tells what it took, whether all of it has gone out, and whether a write or a
 /// flush has failed or a write has taken no byte.
 pub trait Sink {
-    // The bytes that the writer took, where they are known; `Noted` knows them of any writer.
+    // The bytes that the writer took, where they are known; `TrackedSink` knows them of any writer.
     ghost contents: { Self → Option (List ℕ) };
     // Whether a write or a flush has failed, or a write taken no byte of some.
     ghost failed: { Self → Bool };
@@ -50,7 +50,7 @@ pub trait Sink {
 /// Any writer behind a buffer, with the bytes that it took as a ghost list, its failures noted,
 /// and whether it was flushed after its last write.
 #[derive(Drop)]
-pub struct Noted<W: Write + Drop, A: Allocator> {
+pub struct TrackedSink<W: Write + Drop, A: Allocator> {
     pub writer: BufWriter<W, A>,
     /// All bytes that were taken.
     pub taken: GhostList<u8>,
@@ -63,16 +63,16 @@ pub struct Noted<W: Write + Drop, A: Allocator> {
         → writer_contents W.contents writer ≡ Some (xs ++ taken.items) },
 }
 
-impl<W: Write + Drop, A: Allocator> Noted<W, A> {
+impl<W: Write + Drop, A: Allocator> TrackedSink<W, A> {
     /// The writer, before its first write.
-    pub fn new(writer: BufWriter<W, A>) -> Noted<W, A>
+    pub fn new(writer: BufWriter<W, A>) -> TrackedSink<W, A>
         ensures writer { result.writer ≡ writer }
         ensures taken { result.taken.items ≡ [] }
         ensures failed { result.failed ≡ false }
         ensures flushed { result.flushed ≡ true }
     {
         let first = Snapshot::of(&writer);
-        Noted {
+        TrackedSink {
             writer,
             taken: GhostList::new(),
             failed: false,
@@ -82,7 +82,7 @@ impl<W: Write + Drop, A: Allocator> Noted<W, A> {
     }
 
     /// A writer to which each write goes out at once, before its first write. It takes no memory.
-    pub fn unbuffered(alloc: A, writer: W) -> Noted<W, A>
+    pub fn unbuffered(alloc: A, writer: W) -> TrackedSink<W, A>
         ensures writer { writer_inner result.writer ≡ writer }
         ensures taken { result.taken.items ≡ [] }
         ensures failed { result.failed ≡ false }
@@ -91,11 +91,11 @@ impl<W: Write + Drop, A: Allocator> Noted<W, A> {
         let Ok(buffer) = BufWriter::with_capacity(alloc, 0, writer) else {
             unreachable!()
         };
-        Noted::new(buffer)
+        TrackedSink::new(buffer)
     }
 }
 
-impl<W: Write + Drop, A: Allocator> Sink for Noted<W, A> {
+impl<W: Write + Drop, A: Allocator> Sink for TrackedSink<W, A> {
     ghost contents = { λ s. Some s.taken.items };
 
     ghost failed = { λ s. s.failed };

@@ -1,5 +1,13 @@
-//! The text of traces: what a line says, and what replies, the log and the list of
-//! mappings are written as.
+//! The grammar of a trace's lines, and how replies, logs and mappings are written.
+//!
+//! - `line` (`Line`, `read_line`) reads any line; `access_line`, `call_line` and `step_line` are short ways for the
+//!   commonest.
+//! - `core_line`, `file_line`, `space_line`, `action`, `request`: the kinds of lines; `words`, `number`, `value`,
+//!   `sign`: their parts.
+//! - `printing`, `lists`: what is written, in buffers of fixed size; `pieces`: parts of which longer texts are made.
+//!
+//! It exists for `grammar::grammar`: what is read of a line is in the grammar, and all of it is read. It knows of no
+//! machine.
 #![tactic(auto)]
 
 pub mod access_line;
@@ -23,7 +31,13 @@ pub mod words;
 pub use access_line::{AskedAccess, read_access};
 pub use action::Action;
 pub use call_line::read_call;
-pub use line::{Line, first_word_is_file, first_word_is_vm, is_printable, is_printable_line, read_line, read_words};
+pub use line::{
+    Line, first_word_is_file, first_word_is_vm, is_printable, is_printable_line, read_line,
+    read_words,
+};
 pub use lists::{push_rights, push_start, write_answer, write_detach, write_map_line};
-pub use printing::{LineText, ShortText, address_text, number_text, push_address, push_count, push_letter, push_number, push_reply, push_word};
+pub use printing::{
+    LineText, ShortText, address_text, number_text, push_address, push_count, push_letter,
+    push_number, push_reply, push_word,
+};
 pub use step_line::{AskedStep, read_step};

@@ -6,8 +6,8 @@ ghost use Rattle.trace_text.specs.Lists.{start_of};
 ghost use Rattle.trace_text.specs.Printing.{address_of, text_of};
 ghost use Rattle.trace_text.specs.Spelling.{rights_text};
 
-use std::alloc::AllocError;
 use crate::{LineText, address_text, number_text, push_reply, push_rights, push_start};
+use std::alloc::AllocError;
 use vm_base::{CoreId, Prot, Reply};
 
 /// A piece of a text.

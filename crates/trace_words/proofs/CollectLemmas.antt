@@ -8,7 +8,7 @@ use Rattle.trace_io.specs.Lines.{lines_of, IsUnbroken, TakesLine}
 use Rattle.trace_text.specs.Words.{Word}
 use Rattle.trace_words.specs.declared.fault.TraceFault.{TraceFault}
 use Rattle.trace_words.specs.declared.fault.TraceFault.TheVariants.{BadLine, TooLong, ReadFailed, NoVmLine, NoMemory, Setup, WriteFailed}
-use Rattle.trace_words.specs.Declarations.{Asked, asked_fault}
+use Rattle.trace_words.specs.Declarations.{DeclarationView, asked_fault}
 use Rattle.trace_io.specs.Taken.{AreRead}
 use Rattle.trace_words.proofs.OwnFaults.{is_own}
 use Rattle.trace_io.proofs.TakenLemmas.{lines-first, long_first, HasTaken, none_taken, line_taken, all_taken, taken_more, known_read}
@@ -16,7 +16,7 @@ use Rattle.trace_text.specs.Words.{words_of}
 use Rattle.trace_text.specs.Line.{are_printable, line_of}
 use Rattle.trace_text.specs.declared.line.Line.TheVariants.{Blank, Space, File}
 use Rattle.trace_words.specs.Declarations.{is_next, with_file, asks_for}
-use Rattle.trace_words.specs.Kinds.{Kind, OfSpace, OfFile, OfEvents, kind_of}
+use Rattle.trace_words.specs.Kinds.{FirstWord, OfSpace, OfFile, OfEvents, kind_of}
 use Rattle.trace_words.specs.Collected.{Collected, nothing, Takes, TakesAll, Refuses, Wants, space, item, file, late, fault_of}
 use Rattle.machine_model.specs.declared.setup.SetupFault.{SetupFault}
 use Rattle.trace_words.specs.Turns.{Scene, Advances, IsOver, IsHeld, Fails, read_fails, too_long, no_memory, refused}
@@ -70,11 +70,11 @@ collected_fails k N input now next number f h (refused line t b) =
     refusing (front_of k N input now number h) line (lines_of next.left) (lines-first now.left line next.left t.unbroken t.first) t.short
     (subst (λ n. Refuses k N now.collected (n + 1) line f) h.at.count b)
 
-rebuilt : {T : Type 0} (c : Collected T) (asked : Asked) → c.asked ≡ Some asked → c ≡ record { asked = Some asked; items = c.items }
+rebuilt : {T : Type 0} (c : Collected T) (asked : DeclarationView) → c.asked ≡ Some asked → c ≡ record { asked = Some asked; items = c.items }
 rebuilt c asked e = ap (λ o. record { asked = o; items = c.items }) e
 
 -- the text has ended
-pub collected_ends : {T : Type 0} (k : Bool) (N : ℕ → T → List Word → Type 0) (input : List ℕ) (now next : Scene T) (number : ℕ) (asked : Asked)
+pub collected_ends : {T : Type 0} (k : Bool) (N : ℕ → T → List Word → Type 0) (input : List ℕ) (now next : Scene T) (number : ℕ) (asked : DeclarationView)
     → HasCollected k N input now number → IsOver now next → next.collected.asked ≡ Some asked → asked_fault asked ≡ None
     → Collects k N input asked next.collected.items
 collected_ends k N input now next number asked h v a sound =
@@ -90,12 +90,12 @@ collected_stops k N input now next number f h v c =
 
 -- ---- a line
 
-pub item_taken : {T : Type 0} (k : Bool) (N : ℕ → T → List Word → Type 0) (old new : Collected T) (line : List ℕ) (asked : Asked) (x : T)
+pub item_taken : {T : Type 0} (k : Bool) (N : ℕ → T → List Word → Type 0) (old new : Collected T) (line : List ℕ) (asked : DeclarationView) (x : T)
     → are_printable line ≡ true → line_of line ≢ Some Blank → kind_of (words_of line) ≡ OfEvents → old.asked ≡ Some asked
     → asked_fault asked ≡ None → N asked.cores x (words_of line) → new ≡ record old { items = old.items ++ x ∷ [] } → Takes k N old line new
 item_taken k N old new line asked x p s kind a sound names n = record { printable = p; says = item asked a sound s kind x names n }
 
-pub file_taken : {T : Type 0} (k : Bool) (N : ℕ → T → List Word → Type 0) (old new : Collected T) (line : List ℕ) (asked : Asked) (n : ℕ) (mode : Mode)
+pub file_taken : {T : Type 0} (k : Bool) (N : ℕ → T → List Word → Type 0) (old new : Collected T) (line : List ℕ) (asked : DeclarationView) (n : ℕ) (mode : Mode)
     (len seed : ℕ) → are_printable line ≡ true → kind_of (words_of line) ≡ OfFile → old.asked ≡ Some asked → old.items ≡ []
     → line_of line ≡ Some (File n mode len seed) → is_next asked n ≡ true
     → new ≡ record old { asked = Some (with_file asked (record { mode = mode; len = len; seed = seed })) } → Takes k N old line new
@@ -109,7 +109,7 @@ space_taken k N old new line cores frames calls p kind none said enough is =
     record { printable = p; says = space none kind cores frames calls said enough is }
 
 -- memory for an item was wanting
-pub item_wanted : {T : Type 0} (k : Bool) (N : ℕ → T → List Word → Type 0) (old : Collected T) (number : ℕ) (line : List ℕ) (asked : Asked) (x : T)
+pub item_wanted : {T : Type 0} (k : Bool) (N : ℕ → T → List Word → Type 0) (old : Collected T) (number : ℕ) (line : List ℕ) (asked : DeclarationView) (x : T)
     → are_printable line ≡ true → line_of line ≢ Some Blank → kind_of (words_of line) ≡ OfEvents → old.asked ≡ Some asked
     → asked_fault asked ≡ None → N asked.cores x (words_of line)
     → ((NoMemory ≡ NoMemory) × Wants k N old line) ⊎ Refuses k N old number line NoMemory
@@ -151,7 +151,7 @@ unfolding is_own
 own_late None n = refl
 own_late (Some s) n = refl
 
-own_at : (b : Bool) (a : Option Asked) (n : ℕ) (kind : Kind) → is_own (fault_of b a n kind) ≡ true
+own_at : (b : Bool) (a : Option DeclarationView) (n : ℕ) (kind : FirstWord) → is_own (fault_of b a n kind) ≡ true
 unfolding is_own
 own_at false a n kind = refl
 own_at true None n OfSpace = refl
@@ -168,7 +168,7 @@ not_read k N old n line f (inl h) e = let clash : NoMemory ≡ ReadFailed = sym 
 not_read k N old n line f (inr h) e =
     let clash : true ≡ false = sym (own_at (are_printable line) old.asked n (kind_of (words_of line))) ∙ ap is_own (sym h.fault ∙ e) in absurd (cc)
 
-pub end_not_read : {X : Type 0} (a : Option Asked) (r : Result Unit TraceFault) → IfErr r (CannotMake a) → r ≡ Err ReadFailed → X
+pub end_not_read : {X : Type 0} (a : Option DeclarationView) (r : Result Unit TraceFault) → IfErr r (CannotMake a) → r ≡ Err ReadFailed → X
 end_not_read a (Ok u) h e = absurd (cc)
 end_not_read None (Err f) h e =
     let same : f ≡ ReadFailed = cc in let clash : NoVmLine ≡ ReadFailed = sym h ∙ same in absurd (cc)
@@ -181,7 +181,7 @@ pub on_ok_then : {U E : Type 0} (r : Result U E) (X Y : Type 0) → OnOk r X →
 on_ok_then (Ok u) X Y h f = f h
 on_ok_then (Err e) X Y h f = tt
 
-pub some_asked : (o : Option Asked) → IsSomeAnd o (λ asked. asked_fault asked ≡ None) → (asked : Asked) × (o ≡ Some asked) × (asked_fault asked ≡ None)
+pub some_asked : (o : Option DeclarationView) → IsSomeAnd o (λ asked. asked_fault asked ≡ None) → (asked : DeclarationView) × (o ≡ Some asked) × (asked_fault asked ≡ None)
 some_asked None h = absurd h
 some_asked (Some a) h = (a, refl, h)
 
@@ -198,6 +198,6 @@ stops_own k N input unread f (refusing p line others m l r) w =
     ∙ ap is_own (sym r.fault ∙ w) in absurd (cc)
 stops_own k N input unread f (unopened p m c) w = go p.collected.asked c
   where
-    go : {X : Type 0} (a : Option Asked) → CannotMake a f → X
+    go : {X : Type 0} (a : Option DeclarationView) → CannotMake a f → X
     go None h = let clash : NoVmLine ≡ WriteFailed = sym h ∙ w in absurd (cc)
     go (Some a) h = let clash : Setup h.0 ≡ WriteFailed = sym h.2 ∙ w in absurd (cc)

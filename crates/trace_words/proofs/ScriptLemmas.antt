@@ -2,7 +2,7 @@
 use Rattle.machine_model.proofs.Words.{◌≡◌, ℕ, ◌<◌, inl, inr, Bool, true, false, cond, List, [], Option, Some, None, refl, sym, ap, ◌∙◌, subst, arith, ltb}
 use Rattle.machine_model.proofs.Words.{nat_tests, IfSome, IfNone, IfOk, IfErr, IsSomeAnd, Request}
 use Rattle.std.specs.Prelude.{Result, Ok, Err}
-use Rattle.trace_words.specs.Declarations.{Asked, asked_fault}
+use Rattle.trace_words.specs.Declarations.{DeclarationView, asked_fault}
 use Rattle.trace_words.specs.declared.fault.TraceFault.{TraceFault}
 use Rattle.trace_words.specs.declared.fault.TraceFault.TheVariants.{NoMemory}
 use Rattle.trace_words.specs.Collected.{Collected}
@@ -86,11 +86,11 @@ names_none cores (Some line) words e = tt
 -- ---- the whole script
 
 -- (an option that is this and that is one)
-one_asked : (o : Option Asked) (a b : Asked) → o ≡ Some a → o ≡ Some b → a ≡ b
+one_asked : (o : Option DeclarationView) (a b : DeclarationView) → o ≡ Some a → o ≡ Some b → a ≡ b
 one_asked o a b e f = let same : Some a ≡ Some b = sym e ∙ f in cc
 
 pub found_script : (input unread : List ℕ) (collected : Collected ScriptLine) (r : Result Scripted TraceFault)
-    → ((asked : Asked) × (collected.asked ≡ Some asked) × Collects false NamesTask input asked collected.items)
+    → ((asked : DeclarationView) × (collected.asked ≡ Some asked) × Collects false NamesTask input asked collected.items)
     → IfOk r (λ script. (collected.asked ≡ Some script.asked) × (script.tasks ≡ all_tasks script.asked.cores collected.items))
     → IfErr r (λ f. f ≡ NoMemory) → ReadsScript input unread r
 found_script input unread collected (Ok script) p h n = record {

@@ -8,12 +8,12 @@ use Rattle.trace_text.specs.Line.{are_printable, line_of}
 use Rattle.trace_text.specs.declared.line.Line.TheVariants.{Blank, Space, File}
 use Rattle.trace_words.specs.declared.fault.TraceFault.{TraceFault}
 use Rattle.trace_words.specs.declared.fault.TraceFault.TheVariants.{BadLine, NoVmLine, Setup}
-use Rattle.trace_words.specs.Declarations.{Asked, asks_for, is_next, with_file, asked_fault}
-use Rattle.trace_words.specs.Kinds.{Kind, OfSpace, OfFile, OfEvents, kind_of}
+use Rattle.trace_words.specs.Declarations.{DeclarationView, asks_for, is_next, with_file, asked_fault}
+use Rattle.trace_words.specs.Kinds.{FirstWord, OfSpace, OfFile, OfEvents, kind_of}
 
 -- what the vm line and the file lines ask for, once there is a vm line, and what the other lines name
 pub record Collected (T : Type 0) : Type 0 where
-  pub asked : Option Asked
+  pub asked : Option DeclarationView
   pub items : List T
 
 -- before the first line
@@ -30,11 +30,11 @@ pub data Says {T : Type 0} (needs_calls : Bool) (Names : ℕ → T → List Word
   space : old.asked ≡ None → kind_of (words_of line) ≡ OfSpace → (cores frames calls : ℕ)
       → line_of line ≡ Some (Space cores frames calls) → (needs_calls ≡ true → length (words_of line) ≡ 4)
       → new ≡ record old { asked = Some (asks_for cores frames calls) } → Says needs_calls Names old line new
-  file : (asked : Asked) → old.asked ≡ Some asked → old.items ≡ [] → kind_of (words_of line) ≡ OfFile
+  file : (asked : DeclarationView) → old.asked ≡ Some asked → old.items ≡ [] → kind_of (words_of line) ≡ OfFile
       → (n : ℕ) (mode : Mode) (len seed : ℕ) → line_of line ≡ Some (File n mode len seed) → is_next asked n ≡ true
       → new ≡ record old { asked = Some (with_file asked (record { mode = mode; len = len; seed = seed })) }
       → Says needs_calls Names old line new
-  item : (asked : Asked) → old.asked ≡ Some asked → asked_fault asked ≡ None → line_of line ≢ Some Blank
+  item : (asked : DeclarationView) → old.asked ≡ Some asked → asked_fault asked ≡ None → line_of line ≢ Some Blank
       → kind_of (words_of line) ≡ OfEvents → (x : T) → Names asked.cores x (words_of line)
       → new ≡ record old { items = old.items ++ x ∷ [] } → Says needs_calls Names old line new
 
@@ -50,7 +50,7 @@ late (Some own) number = Setup own
 late None number = BadLine number
 
 -- why a line that can't be taken isn't, by its first word
-abbrev pub fault_at : Option Asked → ℕ → Kind → TraceFault
+abbrev pub fault_at : Option DeclarationView → ℕ → FirstWord → TraceFault
 fault_at None number OfSpace = BadLine number
 fault_at None number OfFile = NoVmLine
 fault_at None number OfEvents = NoVmLine
@@ -59,7 +59,7 @@ fault_at (Some asked) number OfFile = BadLine number
 fault_at (Some asked) number OfEvents = late (asked_fault asked) number
 
 -- a byte that isn't printable makes any line bad
-abbrev pub fault_of : Bool → Option Asked → ℕ → Kind → TraceFault
+abbrev pub fault_of : Bool → Option DeclarationView → ℕ → FirstWord → TraceFault
 fault_of printable asked number kind = if printable then fault_at asked number kind else BadLine number
 
 -- the line with this number can't be taken, and this is why

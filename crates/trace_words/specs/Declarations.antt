@@ -13,7 +13,7 @@ use Rattle.trace_words.specs.declared.declaration.FileLine.{FileLine}
 
 -- The cores, frames and calls that the vm line asks for, the number that the next file has, and the
 -- files so far: of more than a space may have as many as show that there are too many.
-pub record Asked : Type 0 where
+pub record DeclarationView : Type 0 where
   pub cores : ℕ
   pub frames : ℕ
   pub calls : ℕ
@@ -21,16 +21,16 @@ pub record Asked : Type 0 where
   pub files : List FileLine
 
 -- by the vm line alone
-abbrev pub asks_for : ℕ → ℕ → ℕ → Asked
+abbrev pub asks_for : ℕ → ℕ → ℕ → DeclarationView
 asks_for cores frames calls =
     record { cores = cores; frames = frames; calls = calls; next = 0; files = [] }
 
 -- the files' numbers are 0, 1, 2 and so on, below 2^64 - 1
-abbrev pub is_next : Asked → ℕ → Bool
+abbrev pub is_next : DeclarationView → ℕ → Bool
 is_next asked number = number == asked.next && nat_lt (suc number) (2 ^ 64)
 
 -- with the next file
-abbrev pub with_file : Asked → FileLine → Asked
+abbrev pub with_file : DeclarationView → FileLine → DeclarationView
 with_file asked file = record asked {
   next = suc asked.next;
   files = if nat_lt (length asked.files) 17 then asked.files ++ file ∷ [] else asked.files;
@@ -57,16 +57,16 @@ abbrev pub has_long : List FileLine → Bool
 has_long files = list_any (λ file. is_too_long file.len) files
 
 -- what is wrong with it first, but for want of memory, where this limit of calls holds
-abbrev pub asked_fault_within : CallLimit → Asked → Option SetupFault
+abbrev pub asked_fault_within : CallLimit → DeclarationView → Option SetupFault
 asked_fault_within limit asked = first_fault_within limit asked.cores asked.frames
     (length asked.files) (has_long asked.files) asked.calls
 
 -- where no longer limit is asked for
-abbrev pub asked_fault : Asked → Option SetupFault
+abbrev pub asked_fault : DeclarationView → Option SetupFault
 asked_fault asked = asked_fault_within Usual asked
 
 -- what a machine is made with
-abbrev pub made_by : Asked → Made
+abbrev pub made_by : DeclarationView → Made
 made_by asked = record {
   cores = asked.cores;
   frames = asked.frames;

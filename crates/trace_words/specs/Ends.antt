@@ -5,13 +5,13 @@ use Rattle.trace_text.specs.Words.{Word}
 use Rattle.machine_model.specs.declared.setup.SetupFault.{SetupFault}
 use Rattle.trace_words.specs.declared.fault.TraceFault.{TraceFault}
 use Rattle.trace_words.specs.declared.fault.TraceFault.TheVariants.{TooLong, ReadFailed, NoVmLine, NoMemory, Setup}
-use Rattle.trace_words.specs.Declarations.{Asked, asked_fault}
+use Rattle.trace_words.specs.Declarations.{DeclarationView, asked_fault}
 use Rattle.trace_io.specs.Taken.{AreRead}
 use Rattle.trace_words.specs.Collected.{Collected, nothing, TakesAll, Refuses, Wants}
 
 -- all lines were taken, and a space can be made
 pub record Collects {T : Type 0} (needs_calls : Bool) (Names : ℕ → T → List Word → Type 0) (input : List ℕ)
-    (asked : Asked) (items : List T) : Type 0 where
+    (asked : DeclarationView) (items : List T) : Type 0 where
   pub takes : TakesAll needs_calls Names nothing (lines_of input) (record { asked = Some asked; items = items })
   pub sound : asked_fault asked ≡ None
 
@@ -25,7 +25,7 @@ pub record Front {T : Type 0} (needs_calls : Bool) (Names : ℕ → T → List W
   pub takes : TakesAll needs_calls Names nothing done collected
 
 -- why no space can be made at the end
-abbrev pub CannotMake : Option Asked → TraceFault → Type 0
+abbrev pub CannotMake : Option DeclarationView → TraceFault → Type 0
 CannotMake None f = f ≡ NoVmLine
 CannotMake (Some asked) f = (own : SetupFault) × (asked_fault asked ≡ Some own) × (f ≡ Setup own)
 

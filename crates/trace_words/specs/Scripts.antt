@@ -11,7 +11,7 @@ use Rattle.trace_text.specs.declared.line.Line.{Line}
 use Rattle.trace_text.specs.declared.line.Line.TheVariants.{Blank, Space, File, Act, Fold, Finish, Now}
 use Rattle.trace_words.specs.declared.fault.TraceFault.{TraceFault}
 use Rattle.trace_words.specs.declared.fault.TraceFault.TheVariants.{NoMemory}
-use Rattle.trace_words.specs.Declarations.{Asked}
+use Rattle.trace_words.specs.Declarations.{DeclarationView}
 use Rattle.trace_words.specs.Ends.{Collects, Stops}
 use Rattle.trace_words.specs.declared.script.Task.{Task}
 use Rattle.trace_words.specs.declared.script.Task.TheVariants.{Call, Flush, Review}
@@ -73,7 +73,7 @@ tasks_of core lines = map (λ line. line.task) (filter (λ line. line.core == co
 
 -- what is asked for, and the tasks of each core
 pub record Scripted : Type 0 where
-  pub asked : Asked
+  pub asked : DeclarationView
   pub tasks : List (List Task)
 
 -- the tasks of the cores that are asked for
@@ -90,7 +90,7 @@ pub record ReadWhole (input : List ℕ) (script : Scripted) : Type 0 where
 pub data Unread (input unread : List ℕ) (f : TraceFault) : Type 0 where
   unread_text : Stops false NamesTask input unread f → Unread input unread f
   unmade : f ≡ NoMemory → unread ≡ input → Unread input unread f
-  wanting : f ≡ NoMemory → (asked : Asked) (lines : List ScriptLine) → Collects false NamesTask input asked lines
+  wanting : f ≡ NoMemory → (asked : DeclarationView) (lines : List ScriptLine) → Collects false NamesTask input asked lines
       → Unread input unread f
 
 -- how the reading of a script ends: all read, or a fault of the text

@@ -10,7 +10,7 @@ use Rattle.trace_text.specs.Printing.{address_of}
 use Rattle.trace_text.specs.Lists.{start_of}
 use Rattle.trace_text.specs.Spelling.{letter, mode_text, rights_text}
 use Rattle.trace_words.specs.declared.declaration.FileLine.{FileLine}
-use Rattle.trace_words.specs.Declarations.{Asked}
+use Rattle.trace_words.specs.Declarations.{DeclarationView}
 
 -- words, each behind a space
 abbrev pub spaced : List Word → List ℕ
@@ -56,7 +56,7 @@ event_words (Ev.GiveUp core) = core_word core ∷ codes "giveup" ∷ []
 
 -- ---- what is declared
 
-abbrev pub space_text : Asked → List ℕ
+abbrev pub space_text : DeclarationView → List ℕ
 space_text asked = codes "vm" ++ spaced (decimal asked.cores ∷ decimal asked.frames ∷ decimal asked.calls ∷ []) ++ codes "\n"
 
 abbrev pub file_text : ℕ → FileLine → List ℕ
@@ -68,5 +68,5 @@ files_text n [] = []
 files_text n (file ∷ files) = file_text n file ++ files_text (suc n) files
 
 -- the vm line and the file lines
-abbrev pub declared_text : Asked → List ℕ
+abbrev pub declared_text : DeclarationView → List ℕ
 declared_text asked = space_text asked ++ files_text 0 asked.files

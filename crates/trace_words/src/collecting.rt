@@ -2,22 +2,22 @@
 ghost use Rattle.std.specs.Prelude.{◌≡◌, [], ◌+◌, ◌^◌, ◌<◌, Err, Some, None, IfErr, IfOk, OnOk, IsSomeAnd, true};
 ghost use Rattle.trace_io.specs.Source.{HasStopped, Reads};
 ghost use Rattle.trace_io.specs.Window.{left, budget, opening};
-ghost use Rattle.trace_words.specs.Declarations.{Asked, asked_fault};
+ghost use Rattle.trace_words.specs.Declarations.{DeclarationView, asked_fault};
 ghost use Rattle.trace_words.specs.declared.fault.TraceFault.TheVariants.{ReadFailed};
 ghost use Rattle.trace_words.specs.Collected.{nothing};
 ghost use Rattle.trace_words.specs.Ends.{Collects, Stops};
 ghost use Rattle.trace_words.specs.Turns.{Turns, Scene};
 
 use crate::collector::{Collector, LineOf};
-use crate::kept::Kept;
-use std::alloc::Allocator;
 use crate::fault::TraceFault;
-use trace_io::lines::{Found, LineReader, NoLine, line_reader};
+use crate::kept::Collection;
+use std::alloc::Allocator;
+use trace_io::lines::{LineReader, NextLine, NoLine, line_reader};
 use trace_io::sink::Nowhere;
 use trace_io::source::Source;
 
 // Takes in the next line, or answers false where there is none.
-fn turn<L: LineOf<T>, T: Copy + Drop, K: Kept<T> + Drop, A: Allocator, S: Source>(
+fn turn<L: LineOf<T>, T: Copy + Drop, K: Collection<T> + Drop, A: Allocator, S: Source>(
     lines: &mut LineReader<A>,
     reader: &mut S,
     nowhere: &mut Nowhere,
@@ -37,9 +37,9 @@ fn turn<L: LineOf<T>, T: Copy + Drop, K: Kept<T> + Drop, A: Allocator, S: Source
         Err(NoLine::ReadFailed) => Err(TraceFault::ReadFailed),
         // (this never comes, since a flush of what goes nowhere doesn't fail)
         Err(NoLine::WriteFailed) => Err(TraceFault::ReadFailed),
-        Ok(Found::End) => Ok(false),
-        Ok(Found::TooLong) => Err(TraceFault::TooLong(number + 1)),
-        Ok(Found::Line) => {
+        Ok(NextLine::End) => Ok(false),
+        Ok(NextLine::TooLong) => Err(TraceFault::TooLong(number + 1)),
+        Ok(NextLine::Line) => {
             if let Err(fault) = collector.take::<L>(number + 1, lines.line()) {
                 return Err(fault);
             }
@@ -49,14 +49,14 @@ fn turn<L: LineOf<T>, T: Copy + Drop, K: Kept<T> + Drop, A: Allocator, S: Source
 }
 
 // Takes in the lines until the text ends.
-fn collect_lines<L: LineOf<T>, T: Copy + Drop, K: Kept<T> + Drop, A: Allocator, S: Source>(
+fn collect_lines<L: LineOf<T>, T: Copy + Drop, K: Collection<T> + Drop, A: Allocator, S: Source>(
     lines: &mut LineReader<A>,
     reader: &mut S,
     collector: &mut Collector<T, K>,
 ) -> Result<(), TraceFault>
     requires fresh { lines.old ≡ opening }
     requires start { collector.old ≡ nothing }
-    ensures ok { IfOk result (λ done. Reads (S.stream reader.old) (S.stream reader.new) (λ input unread. (asked : Asked)
+    ensures ok { IfOk result (λ done. Reads (S.stream reader.old) (S.stream reader.new) (λ input unread. (asked : DeclarationView)
         × (collector.new.asked ≡ Some asked) × Collects L.needs_calls L.names input asked collector.new.items)) }
     ensures sound { OnOk result (IsSomeAnd collector.new.asked (λ asked. asked_fault asked ≡ None)) }
     ensures err { IfErr result (λ f. Reads (S.stream reader.old) (S.stream reader.new) (λ input unread.
@@ -77,13 +77,15 @@ fn collect_lines<L: LineOf<T>, T: Copy + Drop, K: Kept<T> + Drop, A: Allocator, 
 /// What the text declares and names, in order of its lines, in the list, which is empty at first. Where it can't be read whole,
 /// the first fault is told: a line can't be taken, no space can be made of the declaration, a read failed, or memory was
 /// refused. 64 KiB for a chunk of lines are taken before anything is read.
-pub fn collect<L: LineOf<T>, T: Copy + Drop, K: Kept<T> + Drop, A: Allocator + Clone, S: Source>(
-    alloc: A,
-    items: K,
-    reader: &mut S,
-) -> Result<Collector<T, K>, TraceFault>
+pub fn collect<
+    L: LineOf<T>,
+    T: Copy + Drop,
+    K: Collection<T> + Drop,
+    A: Allocator + Clone,
+    S: Source,
+>(alloc: A, items: K, reader: &mut S) -> Result<Collector<T, K>, TraceFault>
     requires { K.kept items ≡ [] }
-    ensures ok { IfOk result (λ collected. Reads (S.stream reader.old) (S.stream reader.new) (λ input unread. (asked : Asked)
+    ensures ok { IfOk result (λ collected. Reads (S.stream reader.old) (S.stream reader.new) (λ input unread. (asked : DeclarationView)
         × (collected.asked ≡ Some asked) × Collects L.needs_calls L.names input asked collected.items)) }
     ensures sound { IfOk result (λ collected. IsSomeAnd collected.asked (λ asked. asked_fault asked ≡ None)) }
     ensures err { IfErr result (λ f. Reads (S.stream reader.old) (S.stream reader.new) (λ input unread.

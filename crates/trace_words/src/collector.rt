@@ -8,11 +8,11 @@ ghost use Rattle.trace_words.specs.Declarations.{asked_fault};
 ghost use Rattle.trace_words.specs.Kinds.{OfSpace, OfFile, OfEvents, kind_of};
 ghost use Rattle.trace_words.specs.Collected.{Collected, nothing, late, Takes, Refuses, Wants};
 
-use crate::kept::Kept;
-use machine_model::SetupFault;
-use std::marker::{Model, PhantomData};
 use crate::declaration::{Declaration, FileLine};
 use crate::fault::TraceFault;
+use crate::kept::Collection;
+use machine_model::SetupFault;
+use std::marker::{Model, PhantomData};
 use trace_text::words::next_word;
 use trace_text::{Line, first_word_is_file, first_word_is_vm, is_printable_line, read_line};
 
@@ -39,13 +39,13 @@ pub trait LineOf<T> {
 
 /// What the lines so far declare, and what they name.
 #[derive(Drop)]
-pub struct Collector<T, K: Kept<T>> {
+pub struct Collector<T, K: Collection<T>> {
     declaration: Option<Declaration>,
     items: K,
     of: PhantomData<T>,
 }
 
-impl<T, K: Kept<T>> Model for Collector<T, K> {
+impl<T, K: Collection<T>> Model for Collector<T, K> {
     ghost use Rattle.trace_words.specs.Collected.{Collected};
 
     ghost Value = { Collected T };
@@ -88,7 +88,7 @@ fn late_fault(declaration: &Declaration, number: u64) -> TraceFault
     }
 }
 
-impl<T: Copy + Drop, K: Kept<T> + Drop> Collector<T, K> {
+impl<T: Copy + Drop, K: Collection<T> + Drop> Collector<T, K> {
     ghost use Rattle.std.specs.Prelude.{◌≡◌, ◌≢◌, ◌⊎◌, [], Some, None, OnOk, IfErr, IfOk, OnErr};
     ghost use Rattle.trace_text.specs.Words.{words_of};
     ghost use Rattle.trace_text.specs.Line.{are_printable, line_of};
@@ -97,7 +97,7 @@ impl<T: Copy + Drop, K: Kept<T> + Drop> Collector<T, K> {
     ghost use Rattle.trace_words.specs.Collected.{nothing, Takes, Refuses, Wants};
     ghost use Rattle.trace_words.specs.Ends.{CannotMake};
     ghost use Rattle.std.specs.Prelude.{option_map, IsSomeAnd};
-    ghost use Rattle.trace_words.specs.Declarations.{Asked, asked_fault};
+    ghost use Rattle.trace_words.specs.Declarations.{DeclarationView, asked_fault};
 
     /// Nothing is declared yet. Items come after those of the list. It takes no memory.
     pub fn new(items: K) -> Collector<T, K>

@@ -51,9 +51,9 @@ pub struct Declaration {
 
 impl Model for Declaration {
     ghost use Rattle.std.specs.Prelude.{◌≤◌, length};
-    ghost use Rattle.trace_words.specs.Declarations.{Asked};
+    ghost use Rattle.trace_words.specs.Declarations.{DeclarationView};
 
-    ghost Value = { Asked };
+    ghost Value = { DeclarationView };
 
     ghost view = { λ s. record {
       cores = s.cores;

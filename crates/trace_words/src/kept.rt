@@ -5,7 +5,7 @@ use std::alloc::Allocator;
 use vm_base::NoMemory;
 
 /// A list that grows at its end.
-pub trait Kept<T> {
+pub trait Collection<T> {
     /// What is in it, in order.
     ghost kept: { Self → List T };
 
@@ -19,7 +19,7 @@ pub trait Kept<T> {
         ensures err { OnErr result (kept self.new ≡ kept self.old) };
 }
 
-impl<T: Drop, A: Allocator> Kept<T> for Vec<T, A> {
+impl<T: Drop, A: Allocator> Collection<T> for Vec<T, A> {
     ghost kept = { λ all. all.items };
 
     fn has_none(&self) -> bool {

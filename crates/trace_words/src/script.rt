@@ -8,10 +8,10 @@ ghost use Rattle.trace_words.specs.Scripts.{NamesTask, ReadsScript, all_tasks, g
 
 use crate::collecting::collect;
 use crate::collector::{Collector, LineOf};
-use std::alloc::Allocator;
-use std::marker::Model;
 use crate::declaration::Declaration;
 use crate::fault::TraceFault;
+use std::alloc::Allocator;
+use std::marker::Model;
 use trace_io::source::Source;
 use trace_text::{Action, Line, read_words};
 use vm_base::{CoreId, NoMemory, Request};

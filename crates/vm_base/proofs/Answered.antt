@@ -16,7 +16,7 @@ use Rattle.vm_base.specs.Functions.{has}
 use Rattle.vm_base.specs.Pages.{are_pages, page_count, page_of, pages_from, pages_of, window_of}
 use Rattle.vm_base.specs.Places.{IsFree, IsHint, IsFirstPlace, IsLeastRoom, IsRoom}
 use Rattle.vm_base.specs.Places.IsFirstPlace.{at_hint, in_window}
-use Rattle.vm_base.specs.Plain.{Entry, Plain, mode_of, is_mapped}
+use Rattle.vm_base.specs.Plain.{PageEntry, Plain, mode_of, is_mapped}
 use Rattle.vm_base.specs.Refusals.{refusal}
 use Rattle.vm_base.specs.Apply.{AppliesAfter, NewMapping, Performs, Maps, MapsAt, Protects, HasPage, Accesses, access_reply, accessed, meta_of, Applies}
 use Rattle.vm_base.specs.Apply.{is_absent, is_read_only, after_mapping, after_protecting, range_at, after_unmapping}
@@ -139,7 +139,7 @@ maps_at false t m =
 protects : (t : Plain) (r : PageRange) (prot : Prot) → Replies (Protects t r prot)
 protects t r prot = go (seek_in (λ p. is_absent (t.entry p)) r) (seek_in (λ p. is_read_only t.file (t.entry p)) r) prot.write refl
   where
-    lacks : (test : Option Entry → Bool) → ((p : ℕ) → has r p ≡ true → test (t.entry p) ≡ false) → HasPage test t.entry r → ⊥
+    lacks : (test : Option PageEntry → Bool) → ((p : ℕ) → has r p ≡ true → test (t.entry p) ≡ false) → HasPage test t.entry r → ⊥
     lacks test none page = not_both (test (t.entry page.0)) page.2 (none page.0 page.1)
 
     go : SeeksIn (λ p. is_absent (t.entry p)) r → SeeksIn (λ p. is_read_only t.file (t.entry p)) r → (w : Bool) → prot.write ≡ w → Replies (Protects t r prot)

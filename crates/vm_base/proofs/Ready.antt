@@ -10,7 +10,7 @@ use Rattle.vm_base.specs.declared.requests.Request.{Request}
 use Rattle.vm_base.specs.declared.requests.Request.TheVariants.{Store as StoreOf}
 use Rattle.vm_base.specs.Rights.{is_allowed}
 use Rattle.vm_base.specs.Pages.{page_of, offset_of, is_page}
-use Rattle.vm_base.specs.Plain.{Bytes, File, Entry, Plain, bytes_of}
+use Rattle.vm_base.specs.Plain.{Bytes, File, PageEntry, Plain, bytes_of}
 use Rattle.vm_base.specs.Apply.{needs_copy, bytes_reply, entry_reply, access_reply, copied, detached, detached_entry, is_uncopied}
 use Rattle.vm_base.specs.Copies.{if_copied, or_else, page_copied, page_due, with_copy}
 use Rattle.vm_base.proofs.Due.{Due, after, detached_due}
@@ -20,7 +20,7 @@ with_bytes : (a : Access) (i : ℕ) (o : Option Bytes) → is_some (bytes_reply 
 with_bytes a i None = refl
 with_bytes a i (Some bytes) = refl
 
-of_entry : (files : ℕ → Option File) (o : Option Entry) (a : Access) (i : ℕ)
+of_entry : (files : ℕ → Option File) (o : Option PageEntry) (a : Access) (i : ℕ)
     → ((back : Back) (own : Option Bytes) → needs_copy a back own ≡ false) → is_some (entry_reply files o a i) ≡ true
 of_entry files None a i never = refl
 of_entry files (Some e) a i never = go (is_allowed e.prot a)
@@ -48,23 +48,23 @@ fetch_ready t addr = at_once t addr Fetch (λ b o. refl)
 undue : (t : Plain) (addr : ℕ) → access_reply t addr Store ≡ Some Done → detached t (page_of addr) ≡ None
 undue t addr h = go (is_page (page_of addr)) (t.entry (page_of addr)) refl h
   where
-    with_bytes : (e : Entry) (c : Bool) (b : Option Bytes) → is_allowed e.prot Store ≡ true → bytes_reply c b Store (offset_of addr) ≡ Some Done
+    with_bytes : (e : PageEntry) (c : Bool) (b : Option Bytes) → is_allowed e.prot Store ≡ true → bytes_reply c b Store (offset_of addr) ≡ Some Done
         → copied t (page_of addr) e c b ≡ None
     with_bytes e c None a h = absurd cc
     with_bytes e false (Some b) a h = refl
     with_bytes e true (Some b) a h = absurd cc
 
-    allowed : (e : Entry) (v : Bool) → is_allowed e.prot Store ≡ v
+    allowed : (e : PageEntry) (v : Bool) → is_allowed e.prot Store ≡ v
         → cond v (bytes_reply (is_uncopied e.back e.own) (bytes_of t.file e.back e.own) Store (offset_of addr)) (Some (Segv AccErr)) ≡ Some Done
         → detached_entry t (page_of addr) (Some e) ≡ None
     allowed e false a h = absurd cc
     allowed e true a h = with_bytes e (is_uncopied e.back e.own) (bytes_of t.file e.back e.own) a h
 
-    go : (v : Bool) (o : Option Entry) → t.entry (page_of addr) ≡ o
+    go : (v : Bool) (o : Option PageEntry) → t.entry (page_of addr) ≡ o
         → cond v (entry_reply t.file o Store (offset_of addr)) (Some (Segv MapErr)) ≡ Some Done → detached t (page_of addr) ≡ None
     go false o e h = absurd cc
     go true None e h = absurd cc
-    go true (Some x) e h = ap (λ (o : Option Entry). detached_entry t (page_of addr) o) e ∙ allowed x (is_allowed x.prot Store) refl h
+    go true (Some x) e h = ap (λ (o : Option PageEntry). detached_entry t (page_of addr) o) e ∙ allowed x (is_allowed x.prot Store) refl h
 
 -- where it is due, the store is done in the map with the copy,
 pub copy_due : (t : Plain) (addr byte : ℕ) (d : Due t addr) → with_copy t (page_copied t (StoreOf addr byte) Done) ≡ after t addr d

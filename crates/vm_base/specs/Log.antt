@@ -11,7 +11,7 @@ use Rattle.vm_base.specs.declared.rights.Access.{Access}
 use Rattle.vm_base.specs.declared.rights.Access.TheVariants.{Load, Store, Fetch}
 use Rattle.vm_base.specs.Pages.{page_of}
 use Rattle.vm_base.specs.Rights.{is_allowed}
-use Rattle.vm_base.specs.Plain.{File, Entry as PageEntry, Plain, bytes_of}
+use Rattle.vm_base.specs.Plain.{File, PageEntry, Plain, bytes_of}
 use Rattle.vm_base.specs.Apply.{Applies, detached}
 use Rattle.vm_base.specs.Copies.{page_copied, with_copy}
 use Rattle.vm_base.specs.Places.{PlaceRule, IsPlace}

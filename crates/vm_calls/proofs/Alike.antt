@@ -1,5 +1,5 @@
 -- A decision looks at the pages of its footprint alone
-use Rattle.slot_lock.proofs.Words.{ℕ, Bool, is_some, Option, sym, ◌∙◌, ap, PageRange, PageInfo, Prot, is_recorded, File, Entry, is_mapped, HasPage, is_absent}
+use Rattle.slot_lock.proofs.Words.{ℕ, Bool, is_some, Option, sym, ◌∙◌, ap, PageRange, PageInfo, Prot, is_recorded, File, PageEntry, is_mapped, HasPage, is_absent}
 use Rattle.slot_lock.proofs.Words.{is_read_only}
 use Rattle.slot_lock.specs.declared.plan.Change.{Change}
 use Rattle.slot_lock.specs.declared.plan.Change.TheVariants.{Put, Clear, Protect}
@@ -21,7 +21,7 @@ use Rattle.vm_calls.proofs.Places.{Alike, free-alike, least-alike}
 other-way : (r : PageRange) (s t : Slots) → AreAlike r s t → AreAlike r t s
 other-way r s t same p h = sym (same p h)
 
-page-alike : (test : Option Entry → Bool) (r : PageRange) (s t : Slots) → AreAlike r s t → HasPage test (entries s) r → HasPage test (entries t) r
+page-alike : (test : Option PageEntry → Bool) (r : PageRange) (s t : Slots) → AreAlike r s t → HasPage test (entries s) r → HasPage test (entries t) r
 page-alike test r s t same x = (x.0, x.1, ap (λ (o : Option PageInfo). test (entry_of o)) (sym (same x.0 x.1)) ∙ x.2)
 
 user-alike : (r : PageRange) (s t : Slots) (core : ℕ) → AreAlike r s t → IsUser s r core → IsUser t r core

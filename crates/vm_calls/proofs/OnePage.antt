@@ -1,6 +1,6 @@
 -- Decisions of a change of one page, by what the page has
 use Rattle.slot_lock.proofs.Words.{◌≡◌, ℕ, ◌+◌, Bool, true, false, not, is_some, Option, Some, None, refl, sym, subst, ap, ◌∙◌, arith, PageInfo, PageRange}
-use Rattle.slot_lock.proofs.Words.{Prot, ENOMEM, EACCES, HasPage, is_absent, is_read_only, members, has, is_recorded, Entry, File, has_in, in_has}
+use Rattle.slot_lock.proofs.Words.{Prot, ENOMEM, EACCES, HasPage, is_absent, is_read_only, members, has, is_recorded, PageEntry, File, has_in, in_has}
 use Rattle.slot_lock.specs.declared.plan.Change.{Change}
 use Rattle.slot_lock.specs.declared.plan.Change.TheVariants.{Put, Clear, Protect}
 use Rattle.slot_lock.specs.Plan.{range_of}
@@ -14,12 +14,12 @@ only : (range : PageRange) → range.end ≡ range.first + 1 → (p : ℕ) → h
 only range one p h = let in' = has_in range p h in omega (arith, one, in')
 
 -- some page of the range passes the test just where that page does
-pub page_passes : (test : Option Entry → Bool) (s : Slots) (range : PageRange) (info : Option PageInfo) → range.end ≡ range.first + 1
+pub page_passes : (test : Option PageEntry → Bool) (s : Slots) (range : PageRange) (info : Option PageInfo) → range.end ≡ range.first + 1
     → s.info range.first ≡ info → test (entry_of info) ≡ true → HasPage test (entries s) range
 page_passes test s range info one e h =
     (range.first, in_has range range.first (omega arith) (omega (arith, one)), ap (λ o. test (entry_of o)) e ∙ h)
 
-pub no_page_passes : (test : Option Entry → Bool) (s : Slots) (range : PageRange) (info : Option PageInfo) → range.end ≡ range.first + 1
+pub no_page_passes : (test : Option PageEntry → Bool) (s : Slots) (range : PageRange) (info : Option PageInfo) → range.end ≡ range.first + 1
     → s.info range.first ≡ info → test (entry_of info) ≡ false → ¬ HasPage test (entries s) range
 no_page_passes test s range info one e h (p, in', passes) =
     let at : p ≡ range.first = only range one p in' in

@@ -2,7 +2,7 @@
 use Rattle.slot_lock.proofs.Words.{◌≡◌, ℕ, ◌+◌, ◌*◌, ◌^◌, ◌<◌, ◌≤◌, not, Bool, true, false, Option, Some, None, Result, Ok, is_some, refl, sym, ◌∙◌, ap}
 use Rattle.slot_lock.proofs.Words.{subst, arith, if◌then◌else◌, fun_ext, nat_tests, PageRange, Back, Anon, Shared, Private, Meta, PageInfo, Flags, Request}
 use Rattle.slot_lock.proofs.Words.{Mmap, Munmap, Mprotect, Mode, Prot, Access, Load, Store, Fetch, ENOMEM, EACCES, Reply, Mapped, Done, Refused, has}
-use Rattle.slot_lock.proofs.Words.{are_pages, page_of, page_count, pages_of, pages_from, window_of, File, Entry, Plain, mode_of, is_mapped, refusal, IsFree}
+use Rattle.slot_lock.proofs.Words.{are_pages, page_of, page_count, pages_of, pages_from, window_of, File, PageEntry, Plain, mode_of, is_mapped, refusal, IsFree}
 use Rattle.slot_lock.proofs.Words.{IsRoom, IsLeastRoom, meta_of, AppliesAfter, HasPage, is_absent, is_read_only, Applies}
 use Rattle.vm_base.specs.declared.requests.Request.TheVariants.{Load as LoadOf, Store as StoreOf, Fetch as FetchOf}
 use Rattle.vm_base.specs.Rights.{can_write}
@@ -36,7 +36,7 @@ use Rattle.vm_calls.proofs.Places.{free-alike, least-alike}
 
 -- ---- the tests of a page say the same of the plain map and of the slots
 
-same-absent : (e : Option Entry) (o : Option PageInfo) → ShowsPage e o → is_some e ≡ is_some (entry_of o)
+same-absent : (e : Option PageEntry) (o : Option PageInfo) → ShowsPage e o → is_some e ≡ is_some (entry_of o)
 same-absent None None h = refl
 same-absent (Some e) (Some info) h = refl
 same-absent None (Some info) h = absurd h
@@ -53,7 +53,7 @@ same-back t files modes Anon = refl
 same-back t files modes (Shared file page) = same-forbids (t.file file) (files file) (modes file)
 same-back t files modes (Private file page) = refl
 
-same-read_only : (t : Plain) (files : ℕ → Option File) → HasModes t files → (e : Option Entry) (o : Option PageInfo) → ShowsPage e o
+same-read_only : (t : Plain) (files : ℕ → Option File) → HasModes t files → (e : Option PageEntry) (o : Option PageInfo) → ShowsPage e o
     → is_read_only t.file e ≡ is_read_only files (entry_of o)
 same-read_only t files modes None None h = refl
 same-read_only t files modes (Some e) (Some info) h = ap (λ (b : Back). is_read_only_back t.file b) h.0 ∙ same-back t files modes info.meta.back

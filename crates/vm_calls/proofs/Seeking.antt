@@ -1,6 +1,6 @@
 -- Whether some page of a range passes a test is found by going through it
 use Rattle.slot_lock.proofs.Words.{◌≡◌, ℕ, zero, suc, ◌+◌, ◌-◌, ◌<◌, ◌≤◌, ◌⊎◌, inl, inr, Bool, true, false, Option, refl, arith, cases_lt, PageRange, has}
-use Rattle.slot_lock.proofs.Words.{Entry, HasPage, has_in, in_has}
+use Rattle.slot_lock.proofs.Words.{PageEntry, HasPage, has_in, in_has}
 
 abbrev Found : (ℕ → Bool) → ℕ → ℕ → Type 0
 Found test first n = (p : ℕ) × (first ≤ p) × (p < first + n) × (test p ≡ true)
@@ -22,7 +22,7 @@ looked test first (suc n) = step (looked test first n) (test (first + n)) refl
     step (inr none) true e = inl (first + n, omega arith, omega arith, e)
     step (inr none) false e = inr (λ p a b. last none e p a b (cases_lt p (first + n)))
 
-pub seek : (test : Option Entry → Bool) (entry : ℕ → Option Entry) (range : PageRange)
+pub seek : (test : Option PageEntry → Bool) (entry : ℕ → Option PageEntry) (range : PageRange)
     → HasPage test entry range ⊎ ((p : ℕ) → has range p ≡ true → test (entry p) ≡ false)
 seek test entry range = by (looked (λ p. test (entry p)) range.first (range.end - range.first))
   where

@@ -8,7 +8,7 @@ use Rattle.vm_base.specs.Cores.{members}
 use Rattle.vm_base.specs.Functions.{has}
 use Rattle.vm_base.specs.Info.{info_from}
 use Rattle.vm_base.specs.Pages.{pages_from}
-use Rattle.vm_base.specs.Plain.{File, Entry, is_mapped}
+use Rattle.vm_base.specs.Plain.{File, PageEntry, is_mapped}
 use Rattle.vm_base.specs.Places.{IsFree, IsLeastRoom}
 use Rattle.vm_base.specs.Apply.{HasPage, is_absent, is_read_only}
 use Rattle.slot_lock.specs.declared.plan.Change.{Change}
@@ -41,12 +41,12 @@ IsNoAccess (To.Access touch) = ⊥
 -- ---- what slots say of the plain map's entries
 
 -- the entry of a page, which a slot shows apart from its own bytes
-abbrev pub entry_of : Option PageInfo → Option Entry
+abbrev pub entry_of : Option PageInfo → Option PageEntry
 entry_of None = None
 entry_of (Some info) = Some (record { back = info.meta.back; prot = info.meta.prot; own = None })
 
 -- what the slots have at each page
-abbrev pub entries : Slots → ℕ → Option Entry
+abbrev pub entries : Slots → ℕ → Option PageEntry
 entries s p = entry_of (s.info p)
 
 -- the slots say the same of each page of the range
@@ -72,7 +72,7 @@ ActsOn s range (Act changes shoot) =
     (changes ≡ range) × ((core : ℕ) → (members shoot core ≡ true) ↔ IsUser s range core)
 
 -- some page of the range is mapped
-abbrev pub HasMapped : (ℕ → Option Entry) → PageRange → Type 0
+abbrev pub HasMapped : (ℕ → Option PageEntry) → PageRange → Type 0
 HasMapped entry r = HasPage is_some entry r
 
 -- Under a hint or a guessed run a mapping goes there, if no page of it is mapped, and else looks

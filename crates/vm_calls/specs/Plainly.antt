@@ -7,7 +7,7 @@ use Rattle.vm_base.specs.declared.replies.Reply.{Reply}
 use Rattle.vm_base.specs.declared.replies.Reply.TheVariants.{Mapped, Done, Refused}
 use Rattle.vm_base.specs.declared.rights.Mode.{Mode}
 use Rattle.vm_base.specs.Functions.{has}
-use Rattle.vm_base.specs.Plain.{File, Entry, Plain, mode_of}
+use Rattle.vm_base.specs.Plain.{File, PageEntry, Plain, mode_of}
 use Rattle.vm_base.specs.Apply.{after_mapping, after_unmapping, after_protecting, entry_reply, stored_entry, Applies}
 use Rattle.slot_lock.specs.declared.plan.Change.TheVariants.{Put, Clear, Protect}
 use Rattle.slot_lock.specs.declared.plan.Touch.{Touch}
@@ -25,7 +25,7 @@ use Rattle.vm_base.specs.Places.{IsPlace}
 
 -- the plain map has the page as the slot shows it: backed and protected alike, with whatever own
 -- bytes
-abbrev pub ShowsPage : Option Entry → Option PageInfo → Type 0
+abbrev pub ShowsPage : Option PageEntry → Option PageInfo → Type 0
 ShowsPage None None = Unit {0}
 ShowsPage (Some e) (Some info) = (e.back ≡ info.meta.back) × (e.prot ≡ info.meta.prot)
 ShowsPage None (Some info) = ⊥

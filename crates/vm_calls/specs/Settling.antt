@@ -10,7 +10,7 @@ use Rattle.vm_base.specs.declared.replies.SegvCode.TheVariants as Code
 use Rattle.vm_base.specs.declared.replies.Reply.{Reply}
 use Rattle.vm_base.specs.declared.replies.Reply.TheVariants as ReplyOf
 use Rattle.vm_base.specs.Rights.{is_allowed}
-use Rattle.vm_base.specs.Plain.{File, Entry, bytes_of}
+use Rattle.vm_base.specs.Plain.{File, PageEntry, bytes_of}
 use Rattle.vm_base.specs.Apply.{byte_reply, is_anonymous}
 use Rattle.vm_calls.specs.declared.fault.Settled.{Settled}
 use Rattle.vm_calls.specs.declared.fault.Settled.TheVariants.{MapErr, AccErr, Bus, Has, Copies, Cached}
@@ -59,7 +59,7 @@ has_own (Private file page) (Some f) cached = not (is_cached cached f)
 -- The page's entry in a plain map: none where the page isn't mapped, else backed and protected
 -- alike, with bytes of its own or without, and with bytes unless the file page lies past its file's
 -- end
-abbrev pub IsEntryOf : (ℕ → Option File) → Option Entry → Option PageInfo → Bool → Option ℕ → Type 0
+abbrev pub IsEntryOf : (ℕ → Option File) → Option PageEntry → Option PageInfo → Bool → Option ℕ → Type 0
 IsEntryOf files None None past_end cached = Unit {0}
 IsEntryOf files (Some e) (Some info) past_end cached =
     (e.back ≡ info.meta.back) × (e.prot ≡ info.meta.prot)

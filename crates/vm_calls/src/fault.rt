@@ -1,6 +1,6 @@
 //! What an access finds at its page: a fault, a frame, or where its frame is to come from.
 ghost use Rattle.std.specs.Prelude.{◌≡◌, ℕ, Option};
-ghost use Rattle.vm_base.specs.Plain.{File, Entry};
+ghost use Rattle.vm_base.specs.Plain.{File, PageEntry};
 ghost use Rattle.vm_base.specs.Apply.{entry_reply, is_anonymous};
 ghost use Rattle.vm_calls.specs.Settling.{settled, source, is_private_store, IsSettled, IsEntryOf};
 
@@ -38,7 +38,7 @@ pub fn settle(
     cached: Option<u32>,
 ) -> Settled
     ensures value { result ≡ settled info access past_end cached }
-    ensures plain { (files : ℕ → Option File) (entry : Option Entry) (offset : ℕ)
+    ensures plain { (files : ℕ → Option File) (entry : Option PageEntry) (offset : ℕ)
         → IsEntryOf files entry info past_end cached
         → IsSettled result info access (entry_reply files entry access offset) }
 {

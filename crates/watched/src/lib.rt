@@ -1,5 +1,11 @@
-//! Who moves a machine may watch its steps: what each did adds to the numbers of a run. Who doesn't
-//! watch pays nothing.
+//! Who moves a machine may watch its steps, and who doesn't watch pays nothing.
+//!
+//! - `watch`: the ways in which a machine is moved, with one who may watch each step (`Watch`); `unwatched`: nobody
+//!   does.
+//! - `look`: what is looked at before and after a step (`Sight`, `Stand`); `summary`, `summing`: the numbers of a
+//!   run.
+//!
+//! A replay, pictures and states are watchers. A watcher sees each step that was made.
 #![tactic(auto)]
 
 pub mod look;

@@ -1,4 +1,8 @@
-//! The command audit.
+//! The word audit: replies and histories, judged by each rule.
+//!
+//! - `auditing`: in order and overlapping; `paging`: by pages; `loosening`: by the loose rule.
+//!
+//! Clauses `ends` say what goes out and with which status. `command_line` calls it.
 #![tactic(auto)]
 
 pub mod auditing;

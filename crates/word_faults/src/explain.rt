@@ -3,14 +3,14 @@ ghost use Rattle.std.specs.Prelude.{◌≡◌, ◌≤◌, ◌⊎◌, length};
 ghost use Rattle.std.specs.Io.KnownBytes.{Keeps};
 ghost use Rattle.trace_words.specs.declared.fault.TraceFault.TheVariants as Of;
 
-use crate::forms::{Kind, add_expected, is_line, reach};
+use crate::forms::{TextKind, add_expected, is_line, reach};
 use crate::naming::explain_outcome;
 use machine_model::{CallLimit, SetupFault};
 use std::io::Write;
 use trace_words::fault::TraceFault;
 use trace_text::number::read_number;
 use trace_text::{Line, first_word_is_vm, is_printable, read_line};
-use word_parts::keeping::Kept;
+use word_parts::keeping::KeptText;
 use word_parts::pointing::{
     Text, behind, expect, front, point, word_at, word_start, words_in, write_text,
 };
@@ -19,7 +19,7 @@ use word_parts::pointing::{
 #[derive(Clone, Copy)]
 pub struct Manner {
     /// Which lines it has.
-    pub kind: Kind,
+    pub kind: TextKind,
     /// How many calls it may ask for.
     pub limit: CallLimit,
     /// Whether the word has a flag by which it may ask for more.
@@ -55,10 +55,10 @@ fn byte_rule(byte: Option<&u8>) -> &'static str {
 // ---- words that are no line's
 
 // Where the event of a line begins: after the ticket of a note.
-fn event_start(kind: Kind, line: &[u8]) -> usize {
+fn event_start(kind: TextKind, line: &[u8]) -> usize {
     match kind {
-        Kind::Notes => word_start(line, 1),
-        Kind::Trace | Kind::Script | Kind::Replies => 0,
+        TextKind::Notes => word_start(line, 1),
+        TextKind::Trace | TextKind::Script | TextKind::Replies => 0,
     }
 }
 
@@ -94,7 +94,7 @@ fn explain_part<E: Write>(manner: Manner, line: &[u8], (from, to): (usize, usize
 
 // Tells of the line of an event with what it came to.
 fn explain_event<E: Write>(manner: Manner, line: &[u8], errors: &mut E) {
-    if manner.kind == Kind::Notes && read_number(word_at(line, 0)).is_none() {
+    if manner.kind == TextKind::Notes && read_number(word_at(line, 0)).is_none() {
         point(line, word_start(line, 0), manner.coloured, errors);
         expect(
             "a ticket, which is a number below 2^64, before the event",
@@ -115,10 +115,10 @@ fn explain_event<E: Write>(manner: Manner, line: &[u8], errors: &mut E) {
 fn explain_words<E: Write>(manner: Manner, line: &[u8], errors: &mut E) {
     let is_declaration = matches!(word_at(line, 0), b"vm" | b"file");
     match manner.kind {
-        Kind::Notes | Kind::Replies if !is_declaration => explain_event(manner, line, errors),
-        Kind::Notes => {
+        TextKind::Notes | TextKind::Replies if !is_declaration => explain_event(manner, line, errors),
+        TextKind::Notes => {
             let declaring = Manner {
-                kind: Kind::Trace,
+                kind: TextKind::Trace,
                 ..manner
             };
             explain_part(declaring, line, (0, line.len()), errors);
@@ -131,7 +131,7 @@ fn explain_words<E: Write>(manner: Manner, line: &[u8], errors: &mut E) {
 
 // Tells of a `vm` line: a second one, or one of notes without CALLS.
 fn explain_space<E: Write>(manner: Manner, line: &[u8], errors: &mut E) {
-    if manner.kind == Kind::Notes && words_in(line) == 3 {
+    if manner.kind == TextKind::Notes && words_in(line) == 3 {
         point(line, line.len(), manner.coloured, errors);
         expect("CALLS, which the vm line of notes always has", errors);
         return;
@@ -151,7 +151,7 @@ fn explain_place<E: Write>(manner: Manner, said: Line, line: &[u8], errors: &mut
                 errors,
             );
         }
-        _ if is_line(manner.kind, line) && manner.kind == Kind::Script => {
+        _ if is_line(manner.kind, line) && manner.kind == TextKind::Script => {
             point(line, word_start(line, 0), manner.coloured, errors);
             expect("a core of the vm line, whose cores are c0 and on", errors);
         }
@@ -218,7 +218,7 @@ fn explain_first<E: Write>(manner: Manner, text: &[u8], errors: &mut E) {
             break;
         }
     }
-    if manner.kind == Kind::Notes {
+    if manner.kind == TextKind::Notes {
         expect("vm CORES FRAMES CALLS as the first line with words", errors);
         return;
     }
@@ -292,7 +292,7 @@ fn explain_setup<E: Write>(manner: Manner, fault: SetupFault, text: &[u8], error
 
 /// Writes what is known of a fault beside its text, of which this is kept: the line, a caret below the place where it goes wrong,
 /// and what was expected. Nothing for a read, a write or memory that failed.
-pub fn explain<E: Write>(fault: TraceFault, manner: Manner, kept: &Kept, errors: &mut E)
+pub fn explain<E: Write>(fault: TraceFault, manner: Manner, kept: &KeptText, errors: &mut E)
     ensures quiet { (fault ≡ Of.ReadFailed) ⊎ (fault ≡ Of.NoMemory) ⊎ (fault ≡ Of.WriteFailed)
         → Keeps (E.contents errors.old) (E.contents errors.new) }
 {
@@ -303,7 +303,7 @@ pub fn explain<E: Write>(fault: TraceFault, manner: Manner, kept: &Kept, errors:
             }
         }
         TraceFault::NoVmLine => explain_first(manner, kept.text(), errors),
-        TraceFault::TooLong(_) if manner.kind == Kind::Replies => {
+        TraceFault::TooLong(_) if manner.kind == TextKind::Replies => {
             expect("at most 512 bytes in a line", errors);
         }
         TraceFault::TooLong(_) => expect("at most 256 bytes in a line", errors),

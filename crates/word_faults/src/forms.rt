@@ -7,7 +7,7 @@ use word_parts::pointing::{Text, behind, front, word_at, word_start, words_in};
 
 /// Which lines a text has.
 #[derive(Clone, Copy)]
-pub enum Kind {
+pub enum TextKind {
     /// Those of a trace.
     Trace,
     /// Those of a script.
@@ -100,11 +100,11 @@ fn begins_with(form: &str, fronts: &[&str]) -> bool {
 }
 
 // Whether a text of this kind may have events of this form, or lines that declare a space.
-fn may_have(kind: Kind, form: &str) -> bool {
+fn may_have(kind: TextKind, form: &str) -> bool {
     match kind {
-        Kind::Trace | Kind::Replies => true,
-        Kind::Script => begins_with(form, DECLARED) || begins_with(form, OF_SCRIPTS),
-        Kind::Notes => begins_with(form, OF_NOTES),
+        TextKind::Trace | TextKind::Replies => true,
+        TextKind::Script => begins_with(form, DECLARED) || begins_with(form, OF_SCRIPTS),
+        TextKind::Notes => begins_with(form, OF_NOTES),
     }
 }
 
@@ -156,7 +156,7 @@ fn reach_of(line: &[u8], form: &str) -> usize
 }
 
 /// How many of the first words are right in a text of this kind.
-pub fn reach(kind: Kind, line: &[u8]) -> usize {
+pub fn reach(kind: TextKind, line: &[u8]) -> usize {
     let mut most = 0;
     for form in FORMS.split('\n') {
         if may_have(kind, form) {
@@ -167,7 +167,7 @@ pub fn reach(kind: Kind, line: &[u8]) -> usize {
 }
 
 /// Whether it is a whole line of a text of this kind, if nothing more is to stand after it.
-pub fn is_line(kind: Kind, line: &[u8]) -> bool {
+pub fn is_line(kind: TextKind, line: &[u8]) -> bool {
     read_line(line).is_some() && reach(kind, line) == words_in(line)
 }
 
@@ -185,7 +185,7 @@ fn meaning_of(name: &[u8]) -> &[u8] {
 }
 
 /// Adds what may stand in place of the word with this index, each but once.
-pub fn add_expected(text: &mut Text, kind: Kind, line: &[u8], index: usize) {
+pub fn add_expected(text: &mut Text, kind: TextKind, line: &[u8], index: usize) {
     let mut is_first = true;
     for form in FORMS.split('\n') {
         let (names, _) = parts_of(form);

@@ -3,18 +3,18 @@
 use orders_text::HistoryFault;
 use std::io::Write;
 use word_parts::ended::Trouble;
-use word_parts::keeping::Kept;
+use word_parts::keeping::KeptText;
 use word_parts::pointing::{expect, show_line, tell};
 
 // Shows the line with this number.
-fn show_number<E: Write>(number: u64, kept: &Kept, errors: &mut E) {
+fn show_number<E: Write>(number: u64, kept: &KeptText, errors: &mut E) {
     if let Some(line) = kept.line(number) {
         show_line(line, errors);
     }
 }
 
 /// Writes what is known of a fault beside its text: its lines, and what was expected.
-pub fn explain_history<E: Write>(fault: HistoryFault, kept: &Kept, errors: &mut E) {
+pub fn explain_history<E: Write>(fault: HistoryFault, kept: &KeptText, errors: &mut E) {
     match fault {
         HistoryFault::BadLine(number) => {
             show_number(number, kept, errors);
@@ -46,7 +46,7 @@ pub fn explain_history<E: Write>(fault: HistoryFault, kept: &Kept, errors: &mut 
 }
 
 // Writes the call to whose end no order was found.
-fn explain_unordered<E: Write>(number: u64, kept: &Kept, errors: &mut E) {
+fn explain_unordered<E: Write>(number: u64, kept: &KeptText, errors: &mut E) {
     show_number(number, kept, errors);
     tell(
         "no order of the calls was found that gets to the end of this one, or the",
@@ -59,7 +59,7 @@ fn explain_unordered<E: Write>(number: u64, kept: &Kept, errors: &mut E) {
 }
 
 // Writes the call to whose end no order was found, where the calls have none.
-fn explain_no_order<E: Write>(number: u64, kept: &Kept, errors: &mut E) {
+fn explain_no_order<E: Write>(number: u64, kept: &KeptText, errors: &mut E) {
     show_number(number, kept, errors);
     tell(
         "all orders of the calls were tried, and none has their replies; none was",
@@ -69,7 +69,7 @@ fn explain_no_order<E: Write>(number: u64, kept: &Kept, errors: &mut E) {
 }
 
 /// Writes what is known of calls that have no order, or none that was found.
-pub fn explain_disorder<E: Write>(trouble: Trouble, kept: &Kept, errors: &mut E) {
+pub fn explain_disorder<E: Write>(trouble: Trouble, kept: &KeptText, errors: &mut E) {
     match trouble {
         Trouble::NoOrder(number) => explain_no_order(number, kept, errors),
         Trouble::Unordered(number) => explain_unordered(number, kept, errors),

@@ -1,6 +1,6 @@
 //! What is said about the outcome or the reply that a line names.
 
-use crate::forms::Kind;
+use crate::forms::TextKind;
 use std::io::Write;
 use word_parts::pointing::{behind, expect, point, tell, word_at, word_start};
 
@@ -48,31 +48,31 @@ fn may_reply(line: &[u8]) -> bool {
 }
 
 // What the outcome of an event may be that comes to no reply.
-fn passed_rule(kind: Kind, line: &[u8]) -> Option<&'static str> {
-    if kind == Kind::Replies && !may_reply(line) {
+fn passed_rule(kind: TextKind, line: &[u8]) -> Option<&'static str> {
+    if kind == TextKind::Replies && !may_reply(line) {
         return Some("step, idle or full");
     }
     None
 }
 
 // What may stand after the sign.
-fn outcome_rule(kind: Kind) -> &'static str {
+fn outcome_rule(kind: TextKind) -> &'static str {
     match kind {
-        Kind::Notes => "step, idle, full, wait slot C, wait acks C.., or a reply,",
+        TextKind::Notes => "step, idle, full, wait slot C, wait acks C.., or a reply,",
         _ => "wait .., or a reply,",
     }
 }
 
 // What is wrong with a line whose event and outcome are right each.
-fn named_rule(kind: Kind) -> &'static str {
+fn named_rule(kind: TextKind) -> &'static str {
     match kind {
-        Kind::Notes => "the event's core to be one of the vm line",
+        TextKind::Notes => "the event's core to be one of the vm line",
         _ => "one space on each side of =; a call that waits where one goes on, else none",
     }
 }
 
 // Tells what the reply may be.
-fn tell_replies<E: Write>(kind: Kind, errors: &mut E) {
+fn tell_replies<E: Write>(kind: TextKind, errors: &mut E) {
     expect(outcome_rule(kind), errors);
     tell(
         "which is an address as 0x1000, a byte, done, einval, enomem, ebadf,",
@@ -85,7 +85,7 @@ fn tell_replies<E: Write>(kind: Kind, errors: &mut E) {
 }
 
 // Tells of an outcome that is none, or that can't be read as it is written.
-fn explain_named<E: Write>(kind: Kind, line: &[u8], outcome: &[u8], errors: &mut E) {
+fn explain_named<E: Write>(kind: TextKind, line: &[u8], outcome: &[u8], errors: &mut E) {
     if let Some(rule) = passed_rule(kind, line) {
         expect(rule, errors);
         return;
@@ -102,7 +102,7 @@ fn explain_named<E: Write>(kind: Kind, line: &[u8], outcome: &[u8], errors: &mut
 
 /// Tells of a line whose event is right: of the sign at this place, and of what stands after it.
 pub fn explain_outcome<E: Write>(
-    kind: Kind,
+    kind: TextKind,
     line: &[u8],
     sign: usize,
     coloured: bool,

@@ -1,11 +1,11 @@
 //! What is said beside a text that was read: of lines that may be mistakes, and of the reply that is illegal.
 
 use crate::explain::Manner;
-use crate::forms::Kind;
+use crate::forms::TextKind;
 use std::io::Write;
 use trace_text::{Action, Line, read_line};
 use vm_base::{CoreId, Flags, Request};
-use word_parts::keeping::Kept;
+use word_parts::keeping::KeptText;
 use word_parts::pointing::{behind, point, show_line, tell, word_at, word_start};
 
 // ---- lines that are taken, and may be mistakes
@@ -129,8 +129,8 @@ fn notice_flags<E: Write>(
 
 /// Tells of the first line of a core that the vm line doesn't give, and of the first mapping whose flags have neither `p` nor `s`, or
 /// both, before the line with this number.
-pub fn tell_notes<E: Write>(manner: Manner, kept: &Kept, end: u64, errors: &mut E) {
-    if manner.kind != Kind::Trace {
+pub fn tell_notes<E: Write>(manner: Manner, kept: &KeptText, end: u64, errors: &mut E) {
+    if manner.kind != TextKind::Trace {
         return;
     }
     let mut cores = u64::MAX;
@@ -157,7 +157,7 @@ fn begins_call(line: &[u8], core: &[u8]) -> bool {
 }
 
 // The last line before this one at which the core's call begins that is answered here.
-fn line_that_waits<'a>(kept: &'a Kept, core: &[u8], end: u64) -> Option<&'a [u8]> {
+fn line_that_waits<'a>(kept: &'a KeptText, core: &[u8], end: u64) -> Option<&'a [u8]> {
     let mut found = None;
     let mut number = kept.before();
     for line in kept.text().split(|byte| *byte == b'\n') {
@@ -186,7 +186,7 @@ fn tell_line<E: Write>(number: u64, errors: &mut E) {
 }
 
 // Shows the line that asked first for what is answered here, where that is another one.
-fn show_asked<E: Write>(number: u64, line: &[u8], kept: &Kept, errors: &mut E) {
+fn show_asked<E: Write>(number: u64, line: &[u8], kept: &KeptText, errors: &mut E) {
     if matches!(word_at(line, 1), b"finish" | b"go" | b"giveup")
         && let Some(asked) = line_that_waits(kept, word_at(line, 0), number)
     {
@@ -196,7 +196,7 @@ fn show_asked<E: Write>(number: u64, line: &[u8], kept: &Kept, errors: &mut E) {
 
 /// Shows the request whose reply is illegal, which stands at the line with this number: that line, or where it finishes a call that
 /// waited, the line that asked for it first.
-pub fn show_request<E: Write>(number: u64, kept: &Kept, coloured: bool, errors: &mut E) {
+pub fn show_request<E: Write>(number: u64, kept: &KeptText, coloured: bool, errors: &mut E) {
     let Some(line) = kept.line(number) else {
         return;
     };

@@ -3,7 +3,7 @@
 ghost use Rattle.std.specs.Prelude.{◌≡◌, ℕ};
 ghost use Rattle.import_text.specs.declared.processes.Choice.{Choice};
 ghost use Rattle.word_parts.specs.declared.asked.Shows.{Shows};
-ghost use Rattle.litmus.specs.declared.telling.Wanted.{Wanted};
+ghost use Rattle.litmus.specs.declared.telling.LitmusAsk.{LitmusAsk};
 ghost use Rattle.word_parts.specs.declared.asked.WitnessPicture.{WitnessPicture};
 ghost use Rattle.machine_model.specs.declared.setup.CallLimit.{CallLimit};
 
@@ -13,10 +13,10 @@ use machine_model::CallLimit;
 use crate::grammar;
 use word_help::Topic;
 use import_text::processes::Choice;
-use litmus::{View, Wanted};
+use litmus::{Listing, LitmusAsk};
 use std::alloc::{AllocError, Allocator, Global};
 use trace_words::show::Show;
-use word_parts::asked::{Drawing, Echoed, Lines, Overlaps, Shows, Steps, WitnessPicture};
+use word_parts::asked::{Drawing, Echoed, LineRange, Overlaps, Shows, StepRange, WitnessPicture};
 
 /// What has to be done with a text.
 #[derive(Clone, Copy)]
@@ -66,7 +66,7 @@ pub enum Work {
     Picture(Drawing),
     /// What is told of a litmus test, of whose orders so many points are looked at, at most.
     Litmus {
-        wanted: Wanted,
+        wanted: LitmusAsk,
         limit: u64,
     },
     /// The picture of a witness of one of them.
@@ -78,7 +78,7 @@ const POINTS: u64 = 1_000_000;
 
 /// What is asked for.
 #[derive(Clone, Copy)]
-pub struct Task<'a> {
+pub struct Command<'a> {
     pub work: Work,
     /// The text's file, where it isn't standard input.
     pub file: Option<&'a str>,
@@ -94,13 +94,13 @@ pub struct Task<'a> {
 
 /// What is printed in its place.
 #[derive(Drop)]
-pub enum Told {
+pub enum Usage {
     /// Why the words are wrong, or what they ask for of the parser's own texts.
     Words(Error),
     /// A page of the help.
     Page(Topic),
     /// No step, or no line, is from the first of these to the last.
-    NoSteps(Steps),
+    NoSteps(StepRange),
     /// Lines are counted from 1.
     NoLine,
     /// Several files stand where one is read.
@@ -117,10 +117,10 @@ fn limit_of<'a>(words: &ArgMatches<'a>) -> CallLimit {
 }
 
 // This work with the text that the words name.
-fn working<'a>(work: Work, words: &ArgMatches<'a>) -> Task<'a>
+fn working<'a>(work: Work, words: &ArgMatches<'a>) -> Command<'a>
     ensures { result.work ≡ work }
 {
-    Task {
+    Command {
         work,
         file: words.get_str("FILE"),
         maps: None,
@@ -131,7 +131,7 @@ fn working<'a>(work: Work, words: &ArgMatches<'a>) -> Task<'a>
 }
 
 // What these words of a word that reads a trace ask for.
-fn replaying<'a>(show: Show, sums: bool, words: &ArgMatches<'a>) -> Task<'a>
+fn replaying<'a>(show: Show, sums: bool, words: &ArgMatches<'a>) -> Command<'a>
     ensures { (shows : Shows) × (result.work ≡ Work.Replay shows) × (shows.show ≡ show) × (shows.sums ≡ sums) }
 {
     let limit = limit_of(words);
@@ -146,26 +146,26 @@ fn drawing_of<'a>(words: &ArgMatches<'a>) -> Drawing {
     let first = words.get_one("from").unwrap_or(1).max(1);
     let last = words.get_one("to").unwrap_or(u64::MAX);
     if words.get_flag("steps") {
-        return Drawing::Steps(Steps { first, last });
+        return Drawing::Steps(StepRange { first, last });
     }
-    Drawing::Lines(Lines { first, last })
+    Drawing::Lines(LineRange { first, last })
 }
 
 // What the words behind `litmus` ask for.
-fn wanted_of<'a>(words: &ArgMatches<'a>) -> Wanted {
+fn wanted_of<'a>(words: &ArgMatches<'a>) -> LitmusAsk {
     if words.get_flag("to-c") {
-        return Wanted::Program;
+        return LitmusAsk::Program;
     }
     if words.get_str("observed").is_some() {
-        return Wanted::Observed;
+        return LitmusAsk::Observed;
     }
     if let Some(runs) = words.get_one("live") {
-        return Wanted::Live(runs);
+        return LitmusAsk::Live(runs);
     }
-    Wanted::Outcomes(match words.get_one("witness") {
-        Some(number) => View::Witness(number),
-        None if words.get_flag("list") => View::List,
-        None => View::Report,
+    LitmusAsk::Outcomes(match words.get_one("witness") {
+        Some(number) => Listing::Witness(number),
+        None if words.get_flag("list") => Listing::List,
+        None => Listing::Report,
     })
 }
 
@@ -175,13 +175,13 @@ fn points_of<'a>(words: &ArgMatches<'a>) -> u64 {
 }
 
 // The picture of the witness with this number, all of it.
-fn witness_asked<'a>(words: &ArgMatches<'a>, number: u64) -> Task<'a>
+fn witness_asked<'a>(words: &ArgMatches<'a>, number: u64) -> Command<'a>
     ensures { (asked : WitnessPicture) × (result.work ≡ Work.PictureWitness asked) }
 {
     let asked = WitnessPicture {
         number,
         limit: points_of(words),
-        drawing: Drawing::Lines(Lines {
+        drawing: Drawing::Lines(LineRange {
             first: 1,
             last: u64::MAX,
         }),
@@ -190,7 +190,7 @@ fn witness_asked<'a>(words: &ArgMatches<'a>, number: u64) -> Task<'a>
 }
 
 // What the words behind `litmus` ask for: a picture, or else what is told of the test.
-fn litmus_asked<'a>(words: &ArgMatches<'a>) -> Task<'a> {
+fn litmus_asked<'a>(words: &ArgMatches<'a>) -> Command<'a> {
     match words.get_one("picture") {
         Some(number) => witness_asked(words, number),
         None => testing(words),
@@ -198,10 +198,10 @@ fn litmus_asked<'a>(words: &ArgMatches<'a>) -> Task<'a> {
 }
 
 // A litmus test, with the counts that the words name.
-fn testing<'a>(words: &ArgMatches<'a>) -> Task<'a>
-    ensures { (wanted : Wanted) × (limit : ℕ) × (result.work ≡ Work.Litmus wanted limit) }
+fn testing<'a>(words: &ArgMatches<'a>) -> Command<'a>
+    ensures { (wanted : LitmusAsk) × (limit : ℕ) × (result.work ≡ Work.Litmus wanted limit) }
 {
-    Task {
+    Command {
         work: Work::Litmus {
             wanted: wanted_of(words),
             limit: points_of(words),
@@ -215,10 +215,10 @@ fn testing<'a>(words: &ArgMatches<'a>) -> Task<'a>
 }
 
 // An import, with the list of mappings that the words name.
-fn importing<'a>(words: &ArgMatches<'a>) -> Task<'a>
+fn importing<'a>(words: &ArgMatches<'a>) -> Command<'a>
     ensures { (choice : Choice) × (result.work ≡ Work.Import choice) }
 {
-    Task {
+    Command {
         work: Work::Import(Choice {
             thread: words.get_one("pid"),
             joined: words.get_flag("one-process"),
@@ -232,10 +232,10 @@ fn importing<'a>(words: &ArgMatches<'a>) -> Task<'a>
 }
 
 // An import of each process, into the folder that the words name.
-fn importing_each<'a>(words: &ArgMatches<'a>) -> Task<'a>
+fn importing_each<'a>(words: &ArgMatches<'a>) -> Command<'a>
     ensures { result.work ≡ Work.ImportEach }
 {
-    Task {
+    Command {
         work: Work::ImportEach,
         file: words.get_str("FILE"),
         maps: None,
@@ -246,7 +246,7 @@ fn importing_each<'a>(words: &ArgMatches<'a>) -> Task<'a>
 }
 
 // What the words after `run` ask for, in colours or without.
-fn running_asked<'a>(words: &ArgMatches<'a>, coloured: bool) -> Task<'a> {
+fn running_asked<'a>(words: &ArgMatches<'a>, coloured: bool) -> Command<'a> {
     let logs = words.get_flag("log");
     if words.get_flag("state") {
         let shows = Echoed { coloured, logs };
@@ -315,14 +315,14 @@ fn topic_of<'a>(words: &ArgMatches<'a>) -> Topic {
 }
 
 // What the words behind `audit` ask for of calls that overlap.
-fn overlapping<'a>(words: &ArgMatches<'a>) -> Task<'a> {
+fn overlapping<'a>(words: &ArgMatches<'a>) -> Command<'a> {
     let given = words.get_str("given");
     let overlaps = Overlaps {
         any_place: words.get_flag("any-place"),
         is_given: given.is_some(),
         is_wanted: words.get_str("order").is_some(),
     };
-    Task {
+    Command {
         work: if words.get_flag("loose") {
             Work::Loosely(overlaps.any_place)
         } else if words.get_flag("by-pages") {
@@ -347,7 +347,7 @@ fn terms_asked<'a>(words: &ArgMatches<'a>) -> Terms {
 }
 
 // What the words after one of the program's own ask for, or the page of the help.
-fn asked<'a>(name: &str, words: &ArgMatches<'a>, coloured: bool) -> Result<Task<'a>, Topic> {
+fn asked<'a>(name: &str, words: &ArgMatches<'a>, coloured: bool) -> Result<Command<'a>, Topic> {
     match name {
         "run" => Ok(running_asked(words, coloured)),
         "maps" if words.get_flag("names") => {
@@ -395,7 +395,7 @@ fn matched<'a, A: Allocator>(
     words: &'a [String<A>],
     coloured: bool,
     names: &mut Vec<&'a str>,
-) -> Result<Result<Task<'a>, Topic>, Error> {
+) -> Result<Result<Command<'a>, Topic>, Error> {
     let program = grammar(alloc)?;
     let matches = program.try_get_matches_from(words)?;
     match matches.subcommand() {
@@ -408,19 +408,19 @@ fn matched<'a, A: Allocator>(
 }
 
 // The task, if it may read so many files, a picture of steps has one that it may show, and a state is behind a line.
-fn checked<'a>(task: Task<'a>, files: usize) -> Result<Task<'a>, Told> {
+fn checked<'a>(task: Command<'a>, files: usize) -> Result<Command<'a>, Usage> {
     match task.work {
-        Work::ImportAccesses if files > 1 => Err(Told::ManyFiles),
+        Work::ImportAccesses if files > 1 => Err(Usage::ManyFiles),
         Work::Picture(Drawing::Steps(steps)) if steps.last < steps.first => {
-            Err(Told::NoSteps(steps))
+            Err(Usage::NoSteps(steps))
         }
-        Work::Picture(Drawing::Lines(lines)) if lines.last < lines.first => Err(Told::NoSteps(
-            Steps {
+        Work::Picture(Drawing::Lines(lines)) if lines.last < lines.first => Err(Usage::NoSteps(
+            StepRange {
                 first: lines.first,
                 last: lines.last,
             },
         )),
-        Work::Picture(Drawing::State(Some(0)) | Drawing::Objects(Some(0))) => Err(Told::NoLine),
+        Work::Picture(Drawing::State(Some(0)) | Drawing::Objects(Some(0))) => Err(Usage::NoLine),
         _ => Ok(task),
     }
 }
@@ -432,10 +432,10 @@ pub fn parse<'a, A: Allocator>(
     words: &'a [String<A>],
     coloured: bool,
     names: &mut Vec<&'a str>,
-) -> Result<Task<'a>, Told> {
+) -> Result<Command<'a>, Usage> {
     match matched(alloc, words, coloured, names) {
         Ok(Ok(task)) => checked(task, names.len()),
-        Ok(Err(topic)) => Err(Told::Page(topic)),
-        Err(error) => Err(Told::Words(error)),
+        Ok(Err(topic)) => Err(Usage::Page(topic)),
+        Err(error) => Err(Usage::Words(error)),
     }
 }

@@ -1,4 +1,8 @@
-//! The texts of the help.
+//! The texts of the help, a page for each word and topic.
+//!
+//! - The root has topics and their pages (`page`); `traces`: of `run` and `maps`; `texts`: of all other words.
+//!
+//! It knows no other crate, so that a changed text proves little anew.
 #![tactic(auto)]
 
 mod texts;

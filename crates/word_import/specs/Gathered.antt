@@ -1,7 +1,7 @@
 -- Several files that an import reads as one log, and the files that it writes.
 use Rattle.std.specs.Prelude.{◌≡◌, ℕ, List, ◌++◌, All, Option, codes, decimal, map}
 use Rattle.import_files.specs.Joined.{IsJoined, all_lines, thread_in, untimed}
-use Rattle.import_text.specs.declared.each.Part.{Part}
+use Rattle.import_text.specs.declared.each.ProcessTrace.{ProcessTrace}
 use Rattle.import_text.specs.declared.import.Ending.TheVariants.{Written}
 use denote.Ref.{Bor}
 
@@ -21,8 +21,8 @@ abbrev pub path_in : List ℕ → ℕ → List ℕ
 path_in folder number = folder ++ codes "/" ++ decimal number ++ codes ".trace"
 
 -- where a process has a trace, the file of it in the folder has that
-abbrev pub IsSaved : (List ℕ → List ℕ → Type 0) → List ℕ → Part → Type 0
+abbrev pub IsSaved : (List ℕ → List ℕ → Type 0) → List ℕ → ProcessTrace → Type 0
 IsSaved Has folder p = p.ending ≡ Written → Has (path_in folder p.process.number) p.text.items
 
-abbrev pub AreSaved : (List ℕ → List ℕ → Type 0) → List ℕ → List Part → Type 0
+abbrev pub AreSaved : (List ℕ → List ℕ → Type 0) → List ℕ → List ProcessTrace → Type 0
 AreSaved Has folder parts = All (IsSaved Has folder) parts

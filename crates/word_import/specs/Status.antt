@@ -1,8 +1,8 @@
 -- The status of an import.
 use Rattle.std.specs.Prelude.{ℕ, List, [], ◌∷◌, Result, Ok, Err, Vec, if◌then◌else◌, ◌==◌}
-use Rattle.import_lackey.specs.declared.traced.Told.{Told as ToldOfAccesses}
-use Rattle.import_maps.specs.declared.mapped.Told.{Told}
-use Rattle.import_text.specs.declared.each.Part.{Part}
+use Rattle.import_lackey.specs.declared.traced.LackeyReport.{LackeyReport}
+use Rattle.import_maps.specs.declared.mapped.MapsReport.{MapsReport}
+use Rattle.import_text.specs.declared.each.ProcessTrace.{ProcessTrace}
 use Rattle.import_text.specs.declared.import.Ending.{Ending}
 use Rattle.import_text.specs.declared.import.Ending.TheVariants.{Written, Nothing, Absent}
 use Rattle.trace_io.specs.declared.fault.IoFault.{IoFault}
@@ -13,20 +13,20 @@ ending_status Written = 0
 ending_status Nothing = 2
 ending_status Absent = 2
 
-abbrev pub log_status : Result Told IoFault → ℕ
+abbrev pub log_status : Result MapsReport IoFault → ℕ
 log_status (Ok told) = ending_status told.report.ending
 log_status (Err f) = 3
 
 -- of a log of strace, each process apart: 2 where none has a trace
-abbrev pub parts_status : List Part → ℕ
+abbrev pub parts_status : List ProcessTrace → ℕ
 parts_status [] = 2
 parts_status (p ∷ ps) = if ending_status p.ending == 0 then 0 else parts_status ps
 
-abbrev pub each_status : {A : Type 0} → Result (Vec Part A) IoFault → ℕ
+abbrev pub each_status : {A : Type 0} → Result (Vec ProcessTrace A) IoFault → ℕ
 each_status (Ok parts) = parts_status parts.items
 each_status (Err f) = 3
 
 -- of a log of lackey
-abbrev pub accesses_status : Result ToldOfAccesses IoFault → ℕ
+abbrev pub accesses_status : Result LackeyReport IoFault → ℕ
 accesses_status (Ok told) = ending_status told.ending
 accesses_status (Err f) = 3

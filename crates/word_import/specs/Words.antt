@@ -3,9 +3,9 @@ use Rattle.std.specs.Prelude.{◌≡◌, ℕ, Result, Err, Vec}
 use Rattle.word_import.specs.Status.{accesses_status, each_status, log_status}
 use Rattle.import_lackey.specs.Traced.{TraceEnds}
 use Rattle.import_maps.specs.Mapped.{MapsEnds, TellsMaps}
-use Rattle.import_maps.specs.declared.mapped.Told.{Told}
+use Rattle.import_maps.specs.declared.mapped.MapsReport.{MapsReport}
 use Rattle.import_text.specs.Each.{EachEnds}
-use Rattle.import_text.specs.declared.each.Part.{Part}
+use Rattle.import_text.specs.declared.each.ProcessTrace.{ProcessTrace}
 use Rattle.import_text.specs.declared.processes.Choice.{Choice}
 use Rattle.std.specs.declared.alloc.Global.{Global}
 use Rattle.trace_io.specs.Io.{ReadFrom, TellsSent, WrittenTo}
@@ -16,14 +16,14 @@ use Rattle.word_parts.specs.Ends.{EndsInOneWay}
 
 -- the trace of a log of strace, of the process that is chosen, behind that of a list of mappings
 abbrev pub ImportsLog : Choice → ReadFrom → ReadFrom → WrittenTo → ℕ → Type 0
-ImportsLog choice list text out n = (r : Result Told IoFault) × (n ≡ log_status r)
+ImportsLog choice list text out n = (r : Result MapsReport IoFault) × (n ≡ log_status r)
     × Reads list.before list.after (λ listed left.
     Reads text.before text.after (λ input unread. MapsEnds listed choice input out.before out.after r))
     × TellsMaps r list text out
 
 -- the traces of a log of strace, one for each process; `read failed` is told only of a read that failed or was one too many
 abbrev pub ImportsEach : ReadFrom → ℕ → Type 0
-ImportsEach text n = (r : Result (Vec Part Global) IoFault) × (n ≡ each_status r)
+ImportsEach text n = (r : Result (Vec ProcessTrace Global) IoFault) × (n ≡ each_status r)
     × Reads text.before text.after (λ input unread. EachEnds input r) × (r ≡ Err ReadFailed → HasStopped text.failed text.reads)
 
 -- the trace of a log of lackey

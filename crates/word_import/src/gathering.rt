@@ -2,8 +2,8 @@
 ghost use Rattle.std.specs.Prelude.{◌≡◌, IfOk, OnOk, map, string_bytes};
 ghost use Rattle.word_import.specs.Gathered.{AreSaved, IsGathered, IsSaved, path_in, thread_of};
 
-use import_files::joined::{Joined, Log, join_logs, thread_in};
-use import_text::each::Part;
+use import_files::joined::{JoinedLog, TimedLog, join_logs, thread_in};
+use import_text::each::ProcessTrace;
 use import_text::import::Ending;
 use std::alloc::{AllocError, Global};
 use std::io;
@@ -25,7 +25,7 @@ pub struct Ungathered<'a> {
 }
 
 // Reads a log to its end.
-fn read_log<'a, F: Files>(files: &F, alloc: Global, name: &'a str) -> Result<Log, Ungathered<'a>>
+fn read_log<'a, F: Files>(files: &F, alloc: Global, name: &'a str) -> Result<TimedLog, Ungathered<'a>>
     ensures { IfOk result (λ log. log.thread ≡ thread_of name.entry) }
 {
     let file = match files.open(name) {
@@ -40,7 +40,7 @@ fn read_log<'a, F: Files>(files: &F, alloc: Global, name: &'a str) -> Result<Log
     };
     let mut file = Counted::new(file);
     match read_all(alloc, &mut file) {
-        Ok(text) => Ok(Log {
+        Ok(text) => Ok(TimedLog {
             thread: thread_in(name.as_bytes()),
             text,
         }),
@@ -66,10 +66,10 @@ fn read_logs<'a, F: Files>(
     files: &F,
     alloc: Global,
     names: &[&'a str],
-) -> Result<Vec<Log>, Ungathered<'a>>
+) -> Result<Vec<TimedLog>, Ungathered<'a>>
     ensures { IfOk result (λ logs. map (λ l. l.thread) logs.items ≡ map thread_of names.now) }
 {
-    let mut logs: Vec<Log> = Vec::new(alloc);
+    let mut logs: Vec<TimedLog> = Vec::new(alloc);
     let mut at = 0;
     'names: while at < names.len() {
         let log = match read_log(files, alloc, names[at]) {
@@ -90,7 +90,7 @@ pub fn gather<'a, F: Files>(
     files: &F,
     alloc: Global,
     names: &[&'a str],
-) -> Result<Joined, Ungathered<'a>>
+) -> Result<JoinedLog, Ungathered<'a>>
     ensures { IfOk result (λ joined. IsGathered (map thread_of names.now) joined.text.items joined.untimed) }
 {
     let logs = match read_logs(files, alloc, names) {
@@ -117,7 +117,7 @@ fn path_in(alloc: Global, folder: &str, number: u64) -> Result<String, AllocErro
 }
 
 // Writes the trace of a process, if it has one, into this folder.
-fn save_part<F: Files>(files: &F, alloc: Global, folder: &str, part: &Part) -> io::Result<()>
+fn save_part<F: Files>(files: &F, alloc: Global, folder: &str, part: &ProcessTrace) -> io::Result<()>
     ensures { OnOk result (IsSaved (F.saved files.now) folder.now part.now) }
 {
     match part.ending {
@@ -137,7 +137,7 @@ pub fn save_parts<F: Files>(
     files: &F,
     alloc: Global,
     folder: &str,
-    parts: &[Part],
+    parts: &[ProcessTrace],
 ) -> io::Result<()>
     ensures { OnOk result (AreSaved (F.saved files.now) folder.now parts.now) }
 {

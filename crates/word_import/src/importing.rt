@@ -11,15 +11,15 @@ ghost use Rattle.trace_io.specs.Source.{Reads};
 
 use crate::progress::Progress;
 use import_forms::looks::{Looks, looks_of};
-use import_lackey::traced::{Told, trace_log};
+use import_lackey::traced::{LackeyReport, trace_log};
 use import_maps::entries::Entries;
 use import_maps::mapped::import_mapped;
-use import_text::counts::Counts;
-use import_text::each::{Part, import_log_each};
+use import_text::counts::LineCounts;
+use import_text::each::{ProcessTrace, import_log_each};
 use import_text::import::{Ending, Report};
 use import_text::losses::Losses;
 use import_text::processes::{Choice, Process};
-use import_text::programs::Program;
+use import_text::programs::ProgramFile;
 use std::alloc::Global;
 use std::io::Write;
 use trace_io::IoFault;
@@ -36,7 +36,7 @@ fn tell_count<E: Write>(count: u64, what: &str, errors: &mut E) {
 }
 
 // Prints how many lines were changed, and how.
-fn tell_changed<E: Write>(counts: &Counts, errors: &mut E) {
+fn tell_changed<E: Write>(counts: &LineCounts, errors: &mut E) {
     tell_count(counts.heap, "changed: brk, as mmap or munmap", errors);
     tell_count(
         counts.moves,
@@ -93,7 +93,7 @@ fn tell_lost<E: Write>(lost: &Losses, errors: &mut E) {
 }
 
 // Prints how many lines were left out, and why.
-fn tell_left<E: Write>(counts: &Counts, errors: &mut E) {
+fn tell_left<E: Write>(counts: &LineCounts, errors: &mut E) {
     tell_count(counts.other, "left out: other calls, and events", errors);
     tell_count(
         counts.half,
@@ -145,7 +145,7 @@ fn tell_entries<E: Write>(entries: &Entries, errors: &mut E)
 }
 
 // Prints how many lines were kept, changed and left out, and why.
-fn tell_counts<E: Write>(counts: &Counts, errors: &mut E)
+fn tell_counts<E: Write>(counts: &LineCounts, errors: &mut E)
     requires { total counts.now < 2 ^ 64 }
 {
     let kept = counts.kept;
@@ -173,7 +173,7 @@ fn tell_process<E: Write>(process: Process, program: &[u8], errors: &mut E) {
 }
 
 // The program with this index, nothing where it isn't known.
-fn program_at(programs: &[Program], at: usize) -> &[u8] {
+fn program_at(programs: &[ProgramFile], at: usize) -> &[u8] {
     match programs.get(at) {
         Some(program) => program.name.as_slice(),
         None => b"",
@@ -190,7 +190,7 @@ fn tell_processes<E: Write>(report: &Report, errors: &mut E) {
 }
 
 // Prints what came of a log for one process.
-fn tell_part<E: Write>(part: &Part, errors: &mut E)
+fn tell_part<E: Write>(part: &ProcessTrace, errors: &mut E)
     requires { total part.now.counts < 2 ^ 64 }
 {
     let number = part.process.number;
@@ -207,7 +207,7 @@ fn tell_part<E: Write>(part: &Part, errors: &mut E)
 }
 
 // Prints what came of a log for each of its processes.
-fn tell_parts<E: Write>(parts: &[Part], errors: &mut E)
+fn tell_parts<E: Write>(parts: &[ProcessTrace], errors: &mut E)
     requires { All (λ p. total p.counts < 2 ^ 64) parts.now }
 {
     let count = parts.len();
@@ -287,7 +287,7 @@ fn tell_report<E: Write>(report: &Report, choice: Choice, errors: &mut E)
 }
 
 // Prints what is told of an import of a log of lackey.
-fn tell_accesses<E: Write>(told: &Told, errors: &mut E)
+fn tell_accesses<E: Write>(told: &LackeyReport, errors: &mut E)
     requires { total told.now.counts < 2 ^ 64 }
 {
     match told.ending {
@@ -311,7 +311,7 @@ fn status_of(ending: Ending) -> u8
 }
 
 // The status of an import of each process: 2 where none has a trace.
-fn status_of_parts(parts: &[Part]) -> u8
+fn status_of_parts(parts: &[ProcessTrace]) -> u8
     ensures status { result ≡ parts_status parts.now }
     ensures below { result ≤ 2 }
 {
@@ -376,7 +376,7 @@ pub fn import_each<S: Source, E: Write>(
     alloc: Global,
     reader: &mut S,
     errors: &mut E,
-    parts: &mut Vec<Part>,
+    parts: &mut Vec<ProcessTrace>,
     shows: bool,
 ) -> Ended
     ensures ends { ImportsEach (read_from S.Source reader.old reader.new) result.status }

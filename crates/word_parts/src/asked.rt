@@ -16,7 +16,7 @@ pub struct Shows {
 
 /// Which lines a picture shows, by their numbers.
 #[derive(Clone, Copy)]
-pub struct Lines {
+pub struct LineRange {
     /// The first.
     pub first: u64,
     /// The last one at the most, behind which nothing is looked at.
@@ -25,7 +25,7 @@ pub struct Lines {
 
 /// Which steps a picture shows, by their numbers.
 #[derive(Clone, Copy)]
-pub struct Steps {
+pub struct StepRange {
     /// The first.
     pub first: u64,
     /// The last one at the most.
@@ -45,9 +45,9 @@ pub struct Echoed {
 #[derive(Clone, Copy)]
 pub enum Drawing {
     /// What happened in the columns of these lines.
-    Lines(Lines),
+    Lines(LineRange),
     /// What happened in these steps.
-    Steps(Steps),
+    Steps(StepRange),
     /// The lives of mappings over all steps, however many there are.
     Lives,
     /// No picture, but the text of the state behind this line, or at the trace's end.

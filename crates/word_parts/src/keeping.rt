@@ -24,7 +24,7 @@ pub enum Keeps {
 
 /// What is kept of a text. Where no memory is left for it, nothing is.
 #[derive(Drop)]
-pub struct Kept {
+pub struct KeptText {
     keeps: Keeps,
     text: Vec<u8>,
     // How many lines end before it.
@@ -42,12 +42,12 @@ fn newlines_in(bytes: &[u8]) -> u64 {
     count
 }
 
-impl Kept {
+impl KeptText {
     ghost use Rattle.std.specs.Prelude.{◌≡◌};
 
     // Nothing is kept yet.
-    fn new(alloc: Global, keeps: Keeps) -> Kept {
-        Kept {
+    fn new(alloc: Global, keeps: Keeps) -> KeptText {
+        KeptText {
             keeps,
             text: Vec::new(alloc),
             before: 0,
@@ -119,7 +119,7 @@ pub struct Keeping<R> {
     reader: R,
     alloc: Global,
     /// What is kept.
-    pub kept: Kept,
+    pub kept: KeptText,
     /// Why the last read failed, where one did.
     pub cause: Option<ErrorKind>,
 }
@@ -135,7 +135,7 @@ impl<R: Read> Keeping<R> {
         Keeping {
             reader,
             alloc,
-            kept: Kept::new(alloc, keeps),
+            kept: KeptText::new(alloc, keeps),
             cause: None,
         }
     }

@@ -1,5 +1,10 @@
-//! What the words of the command line have in common: what is asked for, what is read, how a word ends, and lines that are told of a
-//! fault.
+//! What words of the program share: what is asked and read, how one ends, lines of a fault.
+//!
+//! - `asked`, `input`, `keeping`: what is asked for, what is read, and the end of it that is kept; `ended`: how a
+//!   word ends.
+//! - `pointing`: a line, and a caret below the place that is meant.
+//!
+//! It does nothing that a word asks: the crates `word_runs`, `word_pictures`, `word_audit` and `word_import` do.
 #![tactic(auto)]
 
 pub mod asked;

@@ -3,7 +3,7 @@ use Rattle.std.specs.Prelude.{◌≡◌, ◌⊎◌, ℕ, ◌-◌, ◌^◌, List,
 use Rattle.machine_model.specs.declared.setup.CallLimit.TheVariants.{Usual}
 use Rattle.draw_records.specs.Columns.{Columned, columned, no_margins, nothing_columned}
 use Rattle.draw_records.specs.Lines.{asking_from}
-use Rattle.word_parts.specs.declared.asked.Lines.{Lines}
+use Rattle.word_parts.specs.declared.asked.LineRange.{LineRange}
 use Rattle.draw_lines.specs.Canvas.{picture_text}
 use Rattle.draw_records.specs.Recording.{nothing_recorded}
 use Rattle.state_text.specs.Fronts.{IsFront, lacking_line}
@@ -25,7 +25,7 @@ pub record Drawn : Type 0 where
   pub recorded : Columned
 
 -- the lines of the text up to the last were acted on beside a recorder of columns, which began so
-pub record Lined (lines : Lines) (input : List ℕ) (d : Drawn) : Type 0 where
+pub record Lined (lines : LineRange) (input : List ℕ) (d : Drawn) : Type 0 where
   pub front : IsFront (Some lines.last) input d.front
   pub watched : IsSeen (makes columned) (begun_at lines.first (lines_of d.front)) d.recorded Outcomes d.front None None
 
@@ -38,7 +38,7 @@ FailsUpTo at input f = ((front : List ℕ) × IsFront at input front
 abbrev pub lacking_from : ℕ → List (List ℕ) → Option ℕ
 lacking_from first lines = if nat_le first 1 then None else lacking_line (Some first) lines
 
-abbrev pub lacking_of : Lines → Drawn → Option ℕ
+abbrev pub lacking_of : LineRange → Drawn → Option ℕ
 lacking_of lines d = lacking_from lines.first (lines_of d.front)
 
 -- the picture of what was recorded, with names that the text has

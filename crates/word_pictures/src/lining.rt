@@ -28,7 +28,7 @@ use trace_words::fault::TraceFault;
 use trace_io::IoFault;
 use trace_io::sink::{Sink, write_all};
 use trace_io::source::Source;
-use word_parts::asked::Lines;
+use word_parts::asked::LineRange;
 
 // A recorder of what happens from the first line on.
 fn recorder_from(
@@ -125,7 +125,7 @@ pub(crate) fn draw_lines<W: Sink, E: Write>(
     trace: &[u8],
     out: &mut W,
     errors: &mut E,
-    lines: Lines,
+    lines: LineRange,
 ) -> Result<Option<u64>, TraceFault>
     ensures ends { TextEnds (Lined lines trace.now) (FailsUpTo (Some lines.last) trace.now) (lacking_of lines) picture_drawn
         (W.contents out.old) (W.contents out.new) result }
@@ -153,7 +153,7 @@ fn draw_told<W: Sink, E: Write>(
     text: Vec<u8>,
     out: &mut W,
     errors: &mut E,
-    lines: Lines,
+    lines: LineRange,
 ) -> Result<Option<u64>, TraceFault>
     ensures ends { TextEnds (Lined lines (traced_text text.items)) (FailsUpTo (Some lines.last) (traced_text text.items)) (lacking_of lines)
         picture_drawn (W.contents out.old) (W.contents out.new) result }
@@ -174,7 +174,7 @@ pub(crate) fn draw_front<S: Source, W: Sink, E: Write>(
     reader: &mut S,
     out: &mut W,
     errors: &mut E,
-    lines: Lines,
+    lines: LineRange,
 ) -> Result<Option<u64>, TraceFault>
     ensures ends { Reads (S.stream reader.old) (S.stream reader.new) (λ input unread.
         TextEnds (Lined lines (traced_text input)) (FailsUpTo (Some lines.last) (traced_text input)) (lacking_of lines) picture_drawn

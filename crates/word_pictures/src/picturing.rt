@@ -36,7 +36,7 @@ use trace_io::IoFault;
 use trace_io::sink::{Nowhere, Sink, write_all};
 use trace_io::source::{Counted, Source, read_all};
 use watched::Watch;
-use word_parts::asked::{Drawing, Steps};
+use word_parts::asked::{Drawing, StepRange};
 use word_parts::ended::{Ended, Trouble};
 
 /// The fault of a replay in memory, which can be read and written: where it can't, there was no memory.
@@ -88,7 +88,7 @@ fn write_picture<W: Sink>(
     alloc: Global,
     trace: &[u8],
     recorder: &Recorder<Global>,
-    steps: Steps,
+    steps: StepRange,
     out: &mut W,
 ) -> Result<(), TraceFault>
     ensures ok { OnOk result (Appends (W.contents out.old) (W.contents out.new)
@@ -122,7 +122,7 @@ fn lacking(recorder: &Recorder<Global>, first: u64) -> Option<u64>
 }
 
 // Says which steps are shown, where that isn't all of those that are asked for, or that there are none.
-fn tell_steps<E: Write>(recorder: &Recorder<Global>, steps: Steps, errors: &mut E) {
+fn tell_steps<E: Write>(recorder: &Recorder<Global>, steps: StepRange, errors: &mut E) {
     let all = recorder.steps();
     let first = steps.first;
     let last = first.saturating_add(1999);
@@ -139,7 +139,7 @@ fn show_steps<W: Sink, E: Write>(
     alloc: Global,
     trace: &[u8],
     recorder: &Recorder<Global>,
-    steps: Steps,
+    steps: StepRange,
     out: &mut W,
     errors: &mut E,
 ) -> Result<Option<u64>, TraceFault>
@@ -167,7 +167,7 @@ fn draw_steps<W: Sink, E: Write>(
     trace: &[u8],
     out: &mut W,
     errors: &mut E,
-    steps: Steps,
+    steps: StepRange,
 ) -> Result<Option<u64>, TraceFault>
     ensures ends { TextEnds (Watched (makes recorded) (nothing_recorded steps.first steps.last) trace.now) (Fails Usual trace.now)
         (lacking steps.first) (picture_of steps.first steps.last trace.now) (W.contents out.old) (W.contents out.new) result }

@@ -3,9 +3,9 @@ use Rattle.std.proofs.Common.{◌≡◌, ◌≢◌, ◌⊎◌, ℕ, true, List, 
 use Rattle.word_runs.specs.Litmus.{TellsBeside, TellsTest, TestEnds, litmus_status}
 use Rattle.word_runs.specs.declared.litmus_tests.Test.{Test}
 use Rattle.litmus.specs.Asked.{FailsAs}
-use Rattle.litmus.specs.declared.faults.RunFault.TheVariants as Why
-use Rattle.litmus.specs.declared.telling.Wanted.{Wanted}
-use Rattle.litmus.specs.declared.telling.Wanted.TheVariants.{Outcomes, Program, Observed, Live}
+use Rattle.litmus.specs.declared.faults.TestFault.TheVariants as Why
+use Rattle.litmus.specs.declared.telling.LitmusAsk.{LitmusAsk}
+use Rattle.litmus.specs.declared.telling.LitmusAsk.TheVariants.{Outcomes, Program, Observed, Live}
 use Rattle.litmus_text.specs.declared.faults.LitmusFault.TheVariants as TextOf
 use Rattle.trace_io.specs.Io.{ReadFrom, WrittenTo}
 use Rattle.trace_io.specs.Source.{HasStopped, Reads}
@@ -13,7 +13,7 @@ use Rattle.trace_io.specs.declared.fault.IoFault.{IoFault}
 use Rattle.trace_io.specs.declared.fault.IoFault.TheVariants.{ReadFailed, NoMemory, WriteFailed}
 use Rattle.trace_io.proofs.LineLemmas.{reads_map, reads_none}
 
-want_fails : (wanted : Wanted) (counts lines : List (List ℕ)) → FailsAs wanted counts lines (Why.Text (TextOf.Io NoMemory))
+want_fails : (wanted : LitmusAsk) (counts lines : List (List ℕ)) → FailsAs wanted counts lines (Why.Text (TextOf.Io NoMemory))
 want_fails (Outcomes view) counts lines = inl (inl (inl refl))
 want_fails Program counts lines = inl refl
 want_fails Observed counts lines = inl (inl refl)

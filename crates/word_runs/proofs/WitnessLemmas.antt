@@ -3,7 +3,7 @@ use Rattle.std.proofs.Common.{◌≡◌, ◌≢◌, ◌⊎◌, ℕ, Bool, true, 
 use Rattle.word_runs.specs.Litmus.{litmus_status}
 use Rattle.word_runs.specs.Witness.{PicturesWitness, WitnessEnds}
 use Rattle.word_parts.specs.declared.asked.WitnessPicture.{WitnessPicture}
-use Rattle.litmus.specs.declared.faults.RunFault.TheVariants as Why
+use Rattle.litmus.specs.declared.faults.TestFault.TheVariants as Why
 use Rattle.litmus_text.specs.declared.faults.LitmusFault.TheVariants as TextOf
 use Rattle.trace_words.specs.declared.fault.TraceFault.{TraceFault}
 use Rattle.trace_words.specs.declared.fault.TraceFault.TheVariants as Fault

@@ -4,8 +4,8 @@ use Rattle.std.specs.Io.KnownBytes.{Appends}
 use Rattle.std.specs.declared.alloc.Global.{Global}
 use Rattle.word_runs.specs.declared.litmus_tests.Test.{Test}
 use Rattle.litmus.specs.Asked.{FailsAs, TellsAs}
-use Rattle.litmus.specs.declared.faults.RunFault.{RunFault}
-use Rattle.litmus.specs.declared.faults.RunFault.TheVariants as Why
+use Rattle.litmus.specs.declared.faults.TestFault.{TestFault}
+use Rattle.litmus.specs.declared.faults.TestFault.TheVariants as Why
 use Rattle.litmus.specs.declared.fault.LiveTestFault.TheVariants as LiveOf
 use Rattle.litmus_text.specs.declared.faults.LitmusFault.TheVariants as TextOf
 use Rattle.trace_io.specs.Io.{ReadFrom, WrittenTo}
@@ -14,7 +14,7 @@ use Rattle.trace_io.specs.Source.{HasStopped, Reads}
 
 -- 3 where a read, a write or memory failed, or a run on threads came to no outcome, but 1 where one isn't certified; 2 where the text or what
 -- is asked for is at fault
-abbrev pub litmus_status : RunFault → ℕ
+abbrev pub litmus_status : TestFault → ℕ
 litmus_status (Why.Text (TextOf.Io f)) = 3
 litmus_status (Why.Live LiveOf.NotCertified) = 1
 litmus_status (Why.Live f) = 3
@@ -31,7 +31,7 @@ pub record TellsAll (test : Test) (counts input : List ℕ) (old new : Option (L
 
 -- nothing was written, for this fault
 pub record TellsNone (test : Test) (counts input : List ℕ) (old new : Option (List ℕ)) (n : ℕ) : Type 0 where
-  pub fault : RunFault
+  pub fault : TestFault
   pub fails : FailsAs test.wanted (lines_of counts) (lines_of input) fault
   pub same : new ≡ old
   pub status_is : n ≡ litmus_status fault

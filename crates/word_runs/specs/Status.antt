@@ -1,6 +1,6 @@
 -- The status of the words that run a machine.
 use Rattle.std.specs.Prelude.{ℕ, Bool, true, false, Result, Ok, Err, if◌then◌else◌}
-use Rattle.live_script.specs.declared.texts.Judgement.{Judgement}
+use Rattle.live_script.specs.declared.texts.RunVerdict.{RunVerdict}
 use Rattle.live_script.specs.declared.texts.TextFault.{TextFault}
 use Rattle.live_script.specs.declared.texts.TextFault.TheVariants.{Text, Live}
 use Rattle.notes_text.specs.Verdicts.{is_certified}
@@ -26,7 +26,7 @@ live_status (Ok x) = 0
 live_status (Err f) = script_status f
 
 -- of notes that were certified or refused
-abbrev pub certified_live_status : Result Judgement TextFault → ℕ
+abbrev pub certified_live_status : Result RunVerdict TextFault → ℕ
 certified_live_status (Ok judgement) = if is_certified judgement.verdict then 0 else 1
 certified_live_status (Err f) = script_status f
 

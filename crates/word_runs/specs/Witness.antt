@@ -6,8 +6,8 @@ use Rattle.word_pictures.specs.Picture.{PictureEnds}
 use Rattle.word_pictures.specs.Words.{picture_status}
 use Rattle.word_parts.specs.declared.asked.WitnessPicture.{WitnessPicture}
 use Rattle.litmus.specs.Tells.{Fails, Tells}
-use Rattle.litmus.specs.declared.faults.RunFault.{RunFault}
-use Rattle.litmus.specs.declared.telling.View.TheVariants.{Witness}
+use Rattle.litmus.specs.declared.faults.TestFault.{TestFault}
+use Rattle.litmus.specs.declared.telling.Listing.TheVariants.{Witness}
 use Rattle.trace_words.specs.declared.fault.TraceFault.{TraceFault}
 use Rattle.trace_words.specs.declared.fault.TraceFault.TheVariants.{WriteFailed}
 use Rattle.trace_io.specs.Io.{ReadFrom, WrittenTo}
@@ -28,7 +28,7 @@ pub record IsPictured (asked : WitnessPicture) (input : List ℕ) (out : Written
 
 -- nothing was written, for a fault for which no witness is told
 pub record IsUnpictured (asked : WitnessPicture) (input : List ℕ) (out : WrittenTo) (n : ℕ) : Type 0 where
-  pub fault : RunFault
+  pub fault : TestFault
   pub fails : Fails (Witness asked.number) (lines_of input) fault
   pub same : out.after ≡ out.before
   pub status_is : n ≡ litmus_status fault

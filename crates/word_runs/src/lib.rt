@@ -1,4 +1,9 @@
-//! The commands that run a machine: run, maps, certify, live and litmus.
+//! The words that run a machine: run, maps, certify, live and litmus.
+//!
+//! - `job` (`run`), `summing`: `run` and `maps`; `certifying`: `certify`; `live`: a script on threads.
+//! - `litmus_tests`, `witnessing`: `litmus`, and the picture of a witness.
+//!
+//! Clauses `ends` and `does` say what goes out and with which status. `command_line` calls it.
 #![tactic(auto)]
 
 pub mod certifying;

@@ -3,7 +3,7 @@ ghost use Rattle.std.specs.Prelude.{◌≡◌, ◌≤◌, ◌⊎◌, true};
 ghost use Rattle.trace_io.specs.Io.{read_from, written_to};
 ghost use Rattle.word_runs.specs.Litmus.{TellsBeside, TellsTest, TestEnds, litmus_status};
 
-use litmus::{LiveTestFault, RunFault, Wanted};
+use litmus::{LiveTestFault, TestFault, LitmusAsk};
 use litmus_text::LitmusFault;
 use std::alloc::Global;
 use std::io::Write;
@@ -12,14 +12,14 @@ use std::thread::Threads;
 use trace_io::IoFault;
 use trace_io::sink::{Sink, write_out};
 use trace_io::source::{Source, read_all};
-use word_parts::keeping::Kept;
+use word_parts::keeping::KeptText;
 use word_parts::pointing::{expect, show_line, tell};
 
 /// What is asked for of a litmus test.
 #[derive(Clone, Copy)]
 pub struct Test {
     /// What is written of it.
-    pub wanted: Wanted,
+    pub wanted: LitmusAsk,
     /// How many points of orders are looked at, at most.
     pub limit: u64,
 }
@@ -30,7 +30,7 @@ pub struct TestEnded {
     /// The program's status.
     pub status: u8,
     /// Why nothing is told of the test.
-    pub fault: Option<RunFault>,
+    pub fault: Option<TestFault>,
 }
 
 /// The name of a test, by that of its file: without folder and ending. Of standard input it is `litmus`.
@@ -52,14 +52,14 @@ pub fn test_name(file: Option<&str>) -> &str {
 }
 
 /// Prints why nothing is told of a test, and answers the status: 2 where the text is at fault, 3 where its surroundings are.
-pub fn refuse<E: Write>(fault: RunFault, errors: &mut E) -> TestEnded
+pub fn refuse<E: Write>(fault: TestFault, errors: &mut E) -> TestEnded
     ensures status { result.status ≡ litmus_status fault }
     ensures within { result.status ≤ 3 }
 {
     let _ = writeln!(errors, "radixvm: {fault}");
     let status = match fault {
-        RunFault::Live(LiveTestFault::NotCertified) => 1,
-        RunFault::Text(LitmusFault::Io(_)) | RunFault::Live(_) => 3,
+        TestFault::Live(LiveTestFault::NotCertified) => 1,
+        TestFault::Text(LitmusFault::Io(_)) | TestFault::Live(_) => 3,
         _ => 2,
     };
     TestEnded {
@@ -69,9 +69,9 @@ pub fn refuse<E: Write>(fault: RunFault, errors: &mut E) -> TestEnded
 }
 
 // Says that runs on threads gave an outcome that isn't listed, where they did.
-fn tell_outside<E: Write>(wanted: Wanted, status: u8, errors: &mut E) {
+fn tell_outside<E: Write>(wanted: LitmusAsk, status: u8, errors: &mut E) {
     if status == 1
-        && let Wanted::Live(_) = wanted
+        && let LitmusAsk::Live(_) = wanted
     {
         let _ = writeln!(
             errors,
@@ -114,7 +114,7 @@ fn tell_test<T: Threads + Wait + Sync, W: Sink, E: Write>(
             fault: None,
         },
         Err(_) => refuse(
-            RunFault::Text(LitmusFault::Io(IoFault::WriteFailed)),
+            TestFault::Text(LitmusFault::Io(IoFault::WriteFailed)),
             errors,
         ),
     }
@@ -136,7 +136,7 @@ fn litmus_beside<T: Threads + Wait + Sync, S: Source, W: Sink, E: Write>(
 {
     match read_all(alloc, reader) {
         Ok(text) => tell_test(rt, alloc, name, counts, text.as_slice(), out, errors, test),
-        Err(fault) => refuse(RunFault::Text(LitmusFault::Io(fault)), errors),
+        Err(fault) => refuse(TestFault::Text(LitmusFault::Io(fault)), errors),
     }
 }
 
@@ -168,19 +168,19 @@ pub fn litmus<T: Threads + Wait + Sync, L: Source, S: Source, W: Sink, E: Write>
             errors,
             test,
         ),
-        Err(fault) => refuse(RunFault::Text(LitmusFault::Io(fault)), errors),
+        Err(fault) => refuse(TestFault::Text(LitmusFault::Io(fault)), errors),
     }
 }
 
 // Shows the line with this number.
-fn show_number<E: Write>(number: u64, kept: &Kept, errors: &mut E) {
+fn show_number<E: Write>(number: u64, kept: &KeptText, errors: &mut E) {
     if let Some(line) = kept.line(number) {
         show_line(line, errors);
     }
 }
 
 // Writes what is known of a fault of the text beside its own words.
-fn explain_text<E: Write>(fault: LitmusFault, kept: &Kept, errors: &mut E) {
+fn explain_text<E: Write>(fault: LitmusFault, kept: &KeptText, errors: &mut E) {
     match fault {
         LitmusFault::BadLine(number) => {
             show_number(number, kept, errors);
@@ -216,30 +216,30 @@ fn explain_text<E: Write>(fault: LitmusFault, kept: &Kept, errors: &mut E) {
 }
 
 /// Writes what is known of a fault beside its text: its line, and what was expected.
-pub fn explain_litmus<E: Write>(fault: RunFault, kept: &Kept, errors: &mut E) {
+pub fn explain_litmus<E: Write>(fault: TestFault, kept: &KeptText, errors: &mut E) {
     match fault {
-        RunFault::Text(fault) => explain_text(fault, kept, errors),
-        RunFault::Open(_) => expect(
+        TestFault::Text(fault) => explain_text(fault, kept, errors),
+        TestFault::Open(_) => expect(
             "an opening in which each call is answered: cC finish goes on with one that waits",
             errors,
         ),
-        RunFault::NoOutcome(_) => expect(
+        TestFault::NoOutcome(_) => expect(
             "a number of an outcome, from 1, as litmus lists them",
             errors,
         ),
-        RunFault::NoWitness(_) => expect("an outcome that isn't (open)", errors),
-        RunFault::NoCall => expect(
+        TestFault::NoWitness(_) => expect("an outcome that isn't (open)", errors),
+        TestFault::NoCall => expect(
             "whole calls cC! REQ, flushes and reviews in the opening",
             errors,
         ),
-        RunFault::NoMaps => expect("a test without final maps", errors),
-        RunFault::NoTask => expect(
+        TestFault::NoMaps => expect("a test without final maps", errors),
+        TestFault::NoTask => expect(
             "whole calls cC! REQ, flushes and reviews in the opening",
             errors,
         ),
-        RunFault::Live(LiveTestFault::NotPlain) => expect("more frames in the vm line", errors),
-        RunFault::Live(_) => {}
-        RunFault::BadCount(_) => {
+        TestFault::Live(LiveTestFault::NotPlain) => expect("more frames in the vm line", errors),
+        TestFault::Live(_) => {}
+        TestFault::BadCount(_) => {
             expect("COUNT: OUTCOME, an empty line, or a comment", errors);
             tell("for example 12: c0 done; c1 1, 2", errors);
         }

@@ -5,7 +5,7 @@ ghost use Rattle.word_runs.specs.Witness.{PicturesWitness, WitnessEnds};
 ghost use Rattle.trace_io.specs.Io.{read_from, written_to};
 
 use crate::litmus_tests::{TestEnded, refuse};
-use litmus::{RunFault, View, tell_litmus};
+use litmus::{TestFault, Listing, tell_litmus};
 use litmus_text::LitmusFault;
 use word_pictures::picturing::{draw_text, tell_end};
 use std::alloc::Global;
@@ -43,7 +43,7 @@ fn draw_witness<W: Sink, E: Write>(
     ensures ends { WitnessEnds asked text.now (written_to W.Sink out.old out.new) result.status }
     ensures within { result.status ≤ 3 }
 {
-    let view = View::Witness(asked.number);
+    let view = Listing::Witness(asked.number);
     let told = match tell_litmus(&alloc, name.as_bytes(), text, view, asked.limit as usize) {
         Ok(told) => told,
         Err(fault) => return refuse(fault, errors),
@@ -71,6 +71,6 @@ pub fn picture_witness<S: Source, W: Sink, E: Write>(
 {
     match read_all(alloc, reader) {
         Ok(text) => draw_witness(alloc, name, text.as_slice(), out, errors, asked),
-        Err(fault) => refuse(RunFault::Text(LitmusFault::Io(fault)), errors),
+        Err(fault) => refuse(TestFault::Text(LitmusFault::Io(fault)), errors),
     }
 }

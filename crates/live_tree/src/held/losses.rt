@@ -18,7 +18,7 @@ use vm_base::{CoreSet, PageInfo, PageRange};
 
 /// What pages lose by a change that takes their frames.
 #[derive(Drop)]
-pub struct Losses<'a, A: Allocator> {
+pub struct FramesLost<'a, A: Allocator> {
     /// The cores that are recorded on some of the pages.
     pub cores: CoreSet,
     /// The frames that the pages have, in order of pages. A few take no memory.
@@ -28,12 +28,12 @@ pub struct Losses<'a, A: Allocator> {
 impl<'a, A: Allocator + Clone> Held<'a, A> {
     /// What these pages lose, which are held. Each slot is read where it is, and only the list takes
     /// memory. `None` where that is refused.
-    pub fn losses<'b>(&self, alloc: &'b A, range: PageRange) -> Option<Losses<'b, A>>
+    pub fn losses<'b>(&self, alloc: &'b A, range: PageRange) -> Option<FramesLost<'b, A>>
         requires { Covers self.now range }
         ensures { IfSome result
             (λ lost. AreLost (shown self.now.slots) range lost.cores lost.frames.items) }
     {
-        let mut lost = Losses {
+        let mut lost = FramesLost {
             cores: CoreSet::empty(),
             frames: SmallVec::new(alloc),
         };
@@ -47,7 +47,7 @@ impl<'a, A: Allocator + Clone> Held<'a, A> {
 // Adds what the slots of all guards lose in the range to no losses, and tells whether memory was
 // there.
 fn lose_all<'a, A: Allocator>(
-    lost: &mut Losses<'_, A>,
+    lost: &mut FramesLost<'_, A>,
     guards: &Guards<'a, A>,
     range: PageRange,
 ) -> bool
@@ -68,7 +68,7 @@ fn lose_all<'a, A: Allocator>(
 // Adds what the slot of a guard, which is there, loses in the range, and tells whether memory was
 // there.
 fn lose<A: Allocator>(
-    lost: &mut Losses<'_, A>,
+    lost: &mut FramesLost<'_, A>,
     guard: &Option<MutexGuard<'_, SlotState<A>>>,
     range: PageRange,
 ) -> bool

@@ -7,37 +7,37 @@ use Rattle.std.proofs.lemmas.List.{drop-map, length-drop, map-append}
 use Rattle.std.proofs.lemmas.List.Elements.{All-append, All-cons, All-nil}
 use Rattle.vm_base.specs.declared.log.Entry.{Entry}
 use Rattle.machine_log.specs.Packing.{AreWithin, IsWithin, entry_by, entry_of, is_in_full, nothing, packed_or, place_said, unpacked}
-use Rattle.machine_log.specs.declared.ledger.packing.Kind.TheVariants.{InFull}
-use Rattle.machine_log.specs.declared.ledger.packing.Packed.{Packed}
+use Rattle.machine_log.specs.declared.ledger.packing.EntryKind.TheVariants.{InFull}
+use Rattle.machine_log.specs.declared.ledger.packing.PackedEntry.{PackedEntry}
 
-longer : (n m : ℕ) (ps : List Packed) → n ≤ m → AreWithin n ps → AreWithin m ps
+longer : (n m : ℕ) (ps : List PackedEntry) → n ≤ m → AreWithin n ps → AreWithin m ps
 longer n m ps le h k d lt full = let within = h k d lt full in omega (arith, within, le)
 
 -- one more, where as many stand in full or more
-pub within_more : (n m : ℕ) (ps : List Packed) (p : Packed) → n ≤ m → AreWithin n ps → IsWithin m p → AreWithin m (ps ++ p ∷ [])
+pub within_more : (n m : ℕ) (ps : List PackedEntry) (p : PackedEntry) → n ≤ m → AreWithin n ps → IsWithin m p → AreWithin m (ps ++ p ∷ [])
 within_more n m ps p le h one =
     All-append (IsWithin m) ps (p ∷ []) (longer n m ps le h) (All-cons (IsWithin m) p [] one (All-nil (IsWithin m)))
 
 -- with more that stand in full the others say what they said
-same_by : (b : Bool) (in_full more : List Entry) (p : Packed) → (b ≡ true → place_said p < length in_full)
+same_by : (b : Bool) (in_full more : List Entry) (p : PackedEntry) → (b ≡ true → place_said p < length in_full)
     → entry_by b (in_full ++ more) p ≡ entry_by b in_full p
 same_by true in_full more p within = get_or-append in_full more nothing (place_said p) (within refl)
 same_by false in_full more p within = refl
 
-unpacked_longer : (in_full more : List Entry) (ps : List Packed) → AreWithin (length in_full) ps
+unpacked_longer : (in_full more : List Entry) (ps : List PackedEntry) → AreWithin (length in_full) ps
     → unpacked (in_full ++ more) ps ≡ unpacked in_full ps
 unpacked_longer in_full more [] h = refl
 unpacked_longer in_full more (p ∷ ps) h =
     ap (λ e. e ∷ unpacked (in_full ++ more) ps) (same_by (is_in_full p.kind) in_full more p (h 0 p (omega arith)))
     ∙ ap (λ es. entry_of in_full p ∷ es) (unpacked_longer in_full more ps (λ k d lt. h (suc k) d (omega arith)))
 
-placed_by : (b : Bool) (in_full : List Entry) (e : Entry) (p : Packed) → b ≡ true → place_said p ≡ length in_full
+placed_by : (b : Bool) (in_full : List Entry) (e : Entry) (p : PackedEntry) → b ≡ true → place_said p ≡ length in_full
     → entry_by b (in_full ++ e ∷ []) p ≡ e
 placed_by true in_full e p is at = ap (λ k. get_or (in_full ++ e ∷ []) k nothing) at ∙ get_or-append_seam in_full e [] nothing
 placed_by false in_full e p is at = absurd cc
 
 -- one more that stands in full
-pub placed_more : (in_full : List Entry) (ps : List Packed) (p : Packed) (e : Entry) → AreWithin (length in_full) ps → p.kind ≡ InFull
+pub placed_more : (in_full : List Entry) (ps : List PackedEntry) (p : PackedEntry) (e : Entry) → AreWithin (length in_full) ps → p.kind ≡ InFull
     → place_said p ≡ length in_full → unpacked (in_full ++ e ∷ []) (ps ++ p ∷ []) ≡ unpacked in_full ps ++ e ∷ []
 placed_more in_full ps p e h kind at =
     map-append (entry_of (in_full ++ e ∷ [])) ps (p ∷ [])
@@ -45,16 +45,16 @@ placed_more in_full ps p e h kind at =
     ∙ ap (λ m. unpacked in_full ps ++ m ∷ []) (placed_by (is_in_full p.kind) in_full e p (ap is_in_full kind) at)
 
 -- one more that stands packed
-pub packed_more : (in_full : List Entry) (ps : List Packed) (p : Packed) (e : Entry) → entry_of in_full p ≡ e
+pub packed_more : (in_full : List Entry) (ps : List PackedEntry) (p : PackedEntry) (e : Entry) → entry_of in_full p ≡ e
     → unpacked in_full (ps ++ p ∷ []) ≡ unpacked in_full ps ++ e ∷ []
 packed_more in_full ps p e is = map-append (entry_of in_full) ps (p ∷ []) ∙ ap (λ m. unpacked in_full ps ++ m ∷ []) is
 
-all_packed : (ps : List Packed) (in_full : List Entry) → packed_or ps in_full [] ≡ unpacked in_full ps
+all_packed : (ps : List PackedEntry) (in_full : List Entry) → packed_or ps in_full [] ≡ unpacked in_full ps
 all_packed [] in_full = refl
 all_packed (p ∷ ps) in_full = refl
 
 -- those behind the first ones
-pub behind_is : (ps : List Packed) (in_full plain : List Entry) (n : ℕ) → (length ps == 0) ≡ false
+pub behind_is : (ps : List PackedEntry) (in_full plain : List Entry) (n : ℕ) → (length ps == 0) ≡ false
     → packed_or (take (length ps - n) (drop n ps)) in_full [] ≡ drop n (packed_or ps in_full plain)
 behind_is [] in_full plain n some = absurd cc
 behind_is (p ∷ ps) in_full plain n some =

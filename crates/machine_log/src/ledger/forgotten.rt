@@ -9,7 +9,7 @@ use vm_base::{Entry, Request};
 
 /// A ledger that keeps nothing. It takes no memory.
 #[derive(Drop)]
-pub struct Forgotten {
+pub struct KeepsNone {
     requests: GhostList<Request>,
     /// How many requests there are.
     begun: u64,
@@ -21,7 +21,7 @@ pub struct Forgotten {
     ghost counted: { begun ≡ length requests.items },
 }
 
-impl Ledger for Forgotten {
+impl Ledger for KeepsNone {
     ghost requests = { λ log. log.requests.items };
 
     ghost calls = { λ log. log.limit };
@@ -68,9 +68,9 @@ impl Ledger for Forgotten {
     }
 }
 
-impl<A: Drop> Opening<A> for Forgotten {
+impl<A: Drop> Opening<A> for KeepsNone {
     fn open(_alloc: A, limit: u64) -> Result<Self, AllocError> {
-        Ok(Forgotten {
+        Ok(KeepsNone {
             requests: GhostList::new(),
             begun: 0,
             entries: GhostList::new(),

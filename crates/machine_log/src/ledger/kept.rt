@@ -9,7 +9,7 @@ use vm_base::{Entry, Request};
 
 /// A ledger that keeps requests and entries.
 #[derive(Drop)]
-pub struct Kept<A: Allocator> {
+pub struct KeepsAll<A: Allocator> {
     /// The requests of the calls begun.
     pub requests: Vec<Request, A>,
     /// How many there may be at the most.
@@ -19,7 +19,7 @@ pub struct Kept<A: Allocator> {
     ghost room_to_begin: { calls ≤ vec_capacity requests },
 }
 
-impl<A: Allocator> Ledger for Kept<A> {
+impl<A: Allocator> Ledger for KeepsAll<A> {
     ghost requests = { λ log. log.requests.items };
 
     ghost calls = { λ log. log.calls };
@@ -62,11 +62,11 @@ impl<A: Allocator> Ledger for Kept<A> {
     }
 }
 
-impl<A: Allocator + Clone> Opening<A> for Kept<A> {
+impl<A: Allocator + Clone> Opening<A> for KeepsAll<A> {
     fn open(alloc: A, limit: u64) -> Result<Self, AllocError> {
         let requests = Vec::with_capacity(alloc.clone()?, limit as usize)?;
         let entries = KeptEntries::with_room(alloc, limit)?;
-        Ok(Kept {
+        Ok(KeepsAll {
             requests,
             calls: limit,
             entries,

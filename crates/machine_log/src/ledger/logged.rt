@@ -11,7 +11,7 @@ use vm_base::{Entry, Request};
 
 /// A ledger that keeps the entries, and no request. Memory for all entries is taken when it is made.
 #[derive(Drop)]
-pub struct Logged<A: Allocator> {
+pub struct KeepsLog<A: Allocator> {
     requests: GhostList<Request>,
     /// How many requests there are.
     begun: u64,
@@ -22,7 +22,7 @@ pub struct Logged<A: Allocator> {
     ghost counted: { begun ≡ length requests.items },
 }
 
-impl<A: Allocator> Ledger for Logged<A> {
+impl<A: Allocator> Ledger for KeepsLog<A> {
     ghost requests = { λ log. log.requests.items };
 
     ghost calls = { λ log. log.calls };
@@ -69,10 +69,10 @@ impl<A: Allocator> Ledger for Logged<A> {
     }
 }
 
-impl<A: Allocator + Clone> Opening<A> for Logged<A> {
+impl<A: Allocator + Clone> Opening<A> for KeepsLog<A> {
     fn open(alloc: A, limit: u64) -> Result<Self, AllocError> {
         let entries = PackedEntries::with_room(alloc.clone()?, alloc, limit)?;
-        Ok(Logged {
+        Ok(KeepsLog {
             requests: GhostList::new(),
             begun: 0,
             calls: limit,

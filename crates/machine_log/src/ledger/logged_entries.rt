@@ -2,13 +2,13 @@
 ghost use Rattle.std.specs.Prelude.{◌≡◌, ◌<◌, ◌≤◌, [], ◌==◌, Some, drop, length, slice_get};
 ghost use Rattle.machine_log.specs.Packing.{listed, unpacked};
 
-use crate::ledger::packing::{Packed, unpacked};
+use crate::ledger::packing::{PackedEntry, unpacked};
 use vm_base::Entry;
 
 /// Entries in order: packed ones beside those that stand in full, or else a plain slice.
 #[derive(Clone, Copy)]
 pub struct LoggedEntries<'a> {
-    packed: &'a [Packed],
+    packed: &'a [PackedEntry],
     in_full: &'a [Entry],
     plain: &'a [Entry],
 }
@@ -26,7 +26,7 @@ impl<'a> LoggedEntries<'a> {
     }
 
     // Packed entries, beside those that stand in full.
-    pub(crate) fn of_packed(packed: &'a [Packed], in_full: &'a [Entry]) -> LoggedEntries<'a>
+    pub(crate) fn of_packed(packed: &'a [PackedEntry], in_full: &'a [Entry]) -> LoggedEntries<'a>
         ensures { listed result ≡ unpacked in_full.now packed.now }
     {
         LoggedEntries {

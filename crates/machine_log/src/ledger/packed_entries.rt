@@ -2,7 +2,7 @@
 ghost use Rattle.std.specs.Prelude.{◌≡◌, ◌+◌, ◌<◌, ◌≤◌, ◌++◌, ◌∷◌, [], IfOk, OnErr, OnOk, length, min, vec_len, vec_capacity};
 ghost use Rattle.machine_log.specs.Packing.{AreWithin, unpacked};
 
-use crate::ledger::packing::{Packed, pack, placed};
+use crate::ledger::packing::{PackedEntry, pack, placed};
 use std::alloc::{AllocError, Allocator};
 use vm_base::Entry;
 
@@ -11,7 +11,7 @@ use vm_base::Entry;
 #[derive(Drop)]
 pub struct PackedEntries<A: Allocator> {
     /// The entries so far.
-    pub packed: Vec<Packed, A>,
+    pub packed: Vec<PackedEntry, A>,
     /// Those of them that stand in full.
     pub in_full: Vec<Entry, A>,
     /// How many there may be at the most.

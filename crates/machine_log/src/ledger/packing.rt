@@ -8,7 +8,7 @@ use vm_base::{CoreId, Entry, Errno, Reply, SegvCode};
 
 /// What a packed entry is of.
 #[derive(Clone, Copy)]
-pub enum Kind {
+pub enum EntryKind {
     /// A reply.
     Mapped,
     Done,
@@ -32,7 +32,7 @@ pub enum Kind {
 /// What a packed entry says beside its step, its call and its core.
 #[derive(Clone, Copy)]
 struct Brief {
-    kind: Kind,
+    kind: EntryKind,
     /// A page by its lower 32 bits and the 8 above, or a byte in those.
     low: u32,
     high: u8,
@@ -41,7 +41,7 @@ struct Brief {
 /// An entry in sixteen bytes. Where its kind is `InFull` the step and the call are the lower and the
 /// upper half of a place in the list of entries that stand in full.
 #[derive(Clone, Copy)]
-pub struct Packed {
+pub struct PackedEntry {
     /// The step, by its lower 32 bits and the 8 above.
     pub step: u32,
     pub call: u32,
@@ -49,12 +49,12 @@ pub struct Packed {
     pub low: u32,
     pub step_high: u8,
     pub high: u8,
-    pub kind: Kind,
+    pub kind: EntryKind,
     pub core: CoreId,
 }
 
 // What says this kind alone.
-fn say(kind: Kind) -> Brief
+fn say(kind: EntryKind) -> Brief
     ensures { result ≡ record { kind = kind; low = 0; high = 0 } }
 {
     Brief {
@@ -66,7 +66,7 @@ fn say(kind: Kind) -> Brief
 
 // What says this of a page, where its number is below 2^40.
 #[inline(always)]
-fn brief_page(kind: Kind, page: u64) -> Option<Brief>
+fn brief_page(kind: EntryKind, page: u64) -> Option<Brief>
     ensures kind { IfSome result (λ b. b.kind ≡ kind) }
     ensures page { IfSome result (λ b. number_said b.low b.high ≡ page) }
 {
@@ -89,21 +89,21 @@ fn brief_mapped(addr: u64) -> Option<Brief>
     if addr % 4096 != 0 {
         return None;
     }
-    brief_page(Kind::Mapped, addr / 4096)
+    brief_page(EntryKind::Mapped, addr / 4096)
 }
 
 // The kind of a refusal.
-fn refusal(errno: Errno) -> Kind
+fn refusal(errno: Errno) -> EntryKind
     ensures says { reply_said result 0 0 ≡ Reply.Refused errno }
     ensures short { is_in_full result ≡ false }
     ensures reply { is_copy result ≡ false }
 {
     match errno {
-        Errno::EINVAL => Kind::Einval,
-        Errno::ENOMEM => Kind::Enomem,
-        Errno::EACCES => Kind::Eacces,
-        Errno::EBADF => Kind::Ebadf,
-        Errno::EOVERFLOW => Kind::Eoverflow,
+        Errno::EINVAL => EntryKind::Einval,
+        Errno::ENOMEM => EntryKind::Enomem,
+        Errno::EACCES => EntryKind::Eacces,
+        Errno::EBADF => EntryKind::Ebadf,
+        Errno::EOVERFLOW => EntryKind::Eoverflow,
     }
 }
 
@@ -116,24 +116,24 @@ fn brief_reply(reply: Reply) -> Option<Brief>
 {
     match reply {
         Reply::Byte(byte) => Some(Brief {
-            kind: Kind::Byte,
+            kind: EntryKind::Byte,
             low: 0,
             high: byte,
         }),
-        Reply::Done => Some(say(Kind::Done)),
+        Reply::Done => Some(say(EntryKind::Done)),
         Reply::Mapped(addr) => brief_mapped(addr),
         Reply::Refused(errno) => Some(say(refusal(errno))),
-        Reply::Segv(SegvCode::MapErr) => Some(say(Kind::MapErr)),
-        Reply::Segv(SegvCode::AccErr) => Some(say(Kind::AccErr)),
-        Reply::Bus => Some(say(Kind::Bus)),
-        Reply::NoFrame => Some(say(Kind::NoFrame)),
-        Reply::NoMemory => Some(say(Kind::NoMemory)),
+        Reply::Segv(SegvCode::MapErr) => Some(say(EntryKind::MapErr)),
+        Reply::Segv(SegvCode::AccErr) => Some(say(EntryKind::AccErr)),
+        Reply::Bus => Some(say(EntryKind::Bus)),
+        Reply::NoFrame => Some(say(EntryKind::NoFrame)),
+        Reply::NoMemory => Some(say(EntryKind::NoMemory)),
     }
 }
 
 // What says this of a core's call at a step, where the step is below 2^40 and the call below 2^32.
 #[inline(always)]
-fn make_packed(step: u64, call: u64, core: CoreId, brief: Brief) -> Option<Packed>
+fn make_packed(step: u64, call: u64, core: CoreId, brief: Brief) -> Option<PackedEntry>
     ensures step { IfSome result (λ p. number_said p.step p.step_high ≡ step) }
     ensures call { IfSome result (λ p. p.call ≡ call) }
     ensures core { IfSome result (λ p. p.core ≡ core) }
@@ -144,7 +144,7 @@ fn make_packed(step: u64, call: u64, core: CoreId, brief: Brief) -> Option<Packe
     if 1 << 40 <= step || 1 << 32 <= call {
         return None;
     }
-    Some(Packed {
+    Some(PackedEntry {
         step: (step % (1 << 32)) as u32,
         call: call as u32,
         low: brief.low,
@@ -158,7 +158,7 @@ fn make_packed(step: u64, call: u64, core: CoreId, brief: Brief) -> Option<Packe
 /// The entry in sixteen bytes, where it goes into them: `None` where its step or its page isn't below
 /// 2^40, its call isn't below 2^32, or a mapping begins at no page's address.
 #[inline(always)]
-pub(crate) fn pack(entry: &Entry) -> Option<Packed>
+pub(crate) fn pack(entry: &Entry) -> Option<PackedEntry>
     ensures says { IfSome result (λ p. (in_full : List EntryOf) → entry_of in_full p ≡ entry.now) }
     ensures short { IfSome result (λ p. is_in_full p.kind ≡ false) }
 {
@@ -173,24 +173,24 @@ pub(crate) fn pack(entry: &Entry) -> Option<Packed>
             make_packed(step, call, core, brief)
         }
         Entry::Detach { step, call, page } => {
-            let brief = brief_page(Kind::Copy, page)?;
+            let brief = brief_page(EntryKind::Copy, page)?;
             make_packed(step, call, CoreId::new(0), brief)
         }
     }
 }
 
 /// What stands for an entry that stands in full, at this place of its list.
-pub(crate) fn placed(place: u64) -> Packed
+pub(crate) fn placed(place: u64) -> PackedEntry
     ensures kind { result.kind ≡ Kind.InFull }
     ensures place { place_said result ≡ place }
 {
-    Packed {
+    PackedEntry {
         step: (place % (1 << 32)) as u32,
         call: (place / (1 << 32)) as u32,
         low: 0,
         step_high: 0,
         high: 0,
-        kind: Kind::InFull,
+        kind: EntryKind::InFull,
         core: CoreId::new(0),
     }
 }
@@ -206,23 +206,23 @@ fn number_of(low: u32, high: u8) -> u64
 
 // The reply of an entry of this kind.
 #[inline(always)]
-fn reply_of(packed: &Packed) -> Reply
+fn reply_of(packed: &PackedEntry) -> Reply
     ensures { result ≡ reply_said packed.now.kind packed.now.low packed.now.high }
 {
     match packed.kind {
-        Kind::Mapped => Reply::Mapped(4096 * number_of(packed.low, packed.high)),
-        Kind::Byte => Reply::Byte(packed.high),
-        Kind::Einval => Reply::Refused(Errno::EINVAL),
-        Kind::Enomem => Reply::Refused(Errno::ENOMEM),
-        Kind::Eacces => Reply::Refused(Errno::EACCES),
-        Kind::Ebadf => Reply::Refused(Errno::EBADF),
-        Kind::Eoverflow => Reply::Refused(Errno::EOVERFLOW),
-        Kind::MapErr => Reply::Segv(SegvCode::MapErr),
-        Kind::AccErr => Reply::Segv(SegvCode::AccErr),
-        Kind::Bus => Reply::Bus,
-        Kind::NoFrame => Reply::NoFrame,
-        Kind::NoMemory => Reply::NoMemory,
-        Kind::Done | Kind::Copy | Kind::InFull => Reply::Done,
+        EntryKind::Mapped => Reply::Mapped(4096 * number_of(packed.low, packed.high)),
+        EntryKind::Byte => Reply::Byte(packed.high),
+        EntryKind::Einval => Reply::Refused(Errno::EINVAL),
+        EntryKind::Enomem => Reply::Refused(Errno::ENOMEM),
+        EntryKind::Eacces => Reply::Refused(Errno::EACCES),
+        EntryKind::Ebadf => Reply::Refused(Errno::EBADF),
+        EntryKind::Eoverflow => Reply::Refused(Errno::EOVERFLOW),
+        EntryKind::MapErr => Reply::Segv(SegvCode::MapErr),
+        EntryKind::AccErr => Reply::Segv(SegvCode::AccErr),
+        EntryKind::Bus => Reply::Bus,
+        EntryKind::NoFrame => Reply::NoFrame,
+        EntryKind::NoMemory => Reply::NoMemory,
+        EntryKind::Done | EntryKind::Copy | EntryKind::InFull => Reply::Done,
     }
 }
 
@@ -244,14 +244,14 @@ fn full_entry(low: u32, high: u32, in_full: &[Entry]) -> Entry
 
 /// The entry, beside those that stand in full.
 #[inline(always)]
-pub(crate) fn unpacked(packed: &Packed, in_full: &[Entry]) -> Entry
+pub(crate) fn unpacked(packed: &PackedEntry, in_full: &[Entry]) -> Entry
     ensures { result ≡ entry_of in_full.now packed.now }
 {
     let step = number_of(packed.step, packed.step_high);
     let call = u64::from(packed.call);
     match packed.kind {
-        Kind::InFull => full_entry(packed.step, packed.call, in_full),
-        Kind::Copy => Entry::Detach {
+        EntryKind::InFull => full_entry(packed.step, packed.call, in_full),
+        EntryKind::Copy => Entry::Detach {
             step,
             call,
             page: number_of(packed.low, packed.high),

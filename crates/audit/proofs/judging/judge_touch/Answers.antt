@@ -2,7 +2,7 @@ use Rattle.slot_lock.proofs.Words.{◌≡◌, ◌≢◌, ◌∙◌, List, Some, 
 use Rattle.slot_lock.proofs.Facts.{on_err}
 use Rattle.frames.specs.Files.{FileParts, cached_in}
 use Rattle.frames.specs.Parts.{FrameParts}
-use Rattle.audit.specs.declared.judging.Verdict.TheVariants.{Legal, Illegal}
+use Rattle.audit.specs.declared.judging.ReplyVerdict.TheVariants.{Legal, Illegal}
 use Rattle.audit.proofs.Kept.{kept_same}
 use Rattle.audit.proofs.Concluded.{done_bytes, due_kept, frame_within, left_alone, left_stored, touch_given, touch_judged, unmapped_judged}
 use Rattle.audit.specs.Keeping.{Keeps, plain_kept}

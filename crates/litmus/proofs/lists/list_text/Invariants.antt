@@ -5,5 +5,5 @@ use Rattle.litmus.proofs.lists.list_text.Given as goal
 
 -- those so far, and those that are left, are all
 abbrev pub invariant-loop-row : goal.invariant-loop-row
-invariant-loop-row g l = l.out.items ++ flat_map (λ row. row_line l.maps (map g.T.Ended.outcome l.outcomes) row.1) (drop l.row-index l.rows)
-    ≡ flat_map (λ row. row_line l.maps (map g.T.Ended.outcome l.outcomes) row.1) l.rows
+invariant-loop-row g l = l.out.items ++ flat_map (λ row. row_line l.maps (map g.T.HasOutcome.outcome l.outcomes) row.1) (drop l.row-index l.rows)
+    ≡ flat_map (λ row. row_line l.maps (map g.T.HasOutcome.outcome l.outcomes) row.1) l.rows

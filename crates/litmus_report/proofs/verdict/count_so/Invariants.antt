@@ -7,5 +7,5 @@ abbrev pub invariant-loop-outcome : goal.invariant-loop-outcome
 invariant-loop-outcome g l = record {
   few : l.count ≤ l.outcome-index;
   counts : l.count ≡ count_so (λ o. is_so l.wanted (condition_holds l.named.calls.now l.named.addrs.now l.terms o))
-      (map g.T.Ended.outcome (take l.outcome-index l.outcomes));
+      (map g.T.HasOutcome.outcome (take l.outcome-index l.outcomes));
 }

@@ -1,7 +1,7 @@
 use Rattle.std.proofs.Common.{refl}
 use Rattle.trace_io.proofs.IoLemmas.{keeps_same}
 use Rattle.live_script.specs.Texts.{unrun, unwritten}
-use Rattle.live_script.specs.declared.fault.RunFault.TheVariants as Run
+use Rattle.live_script.specs.declared.fault.ScriptFault.TheVariants as Run
 use Rattle.live_script.proofs.HistoryLemmas.{calls_are, history_given, sums_are}
 use Rattle.live_script.proofs.history_texts.write_run.Goals as goal
 

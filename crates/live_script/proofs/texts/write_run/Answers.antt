@@ -3,7 +3,7 @@ use Rattle.seats.specs.Gathered.{AreWhole}
 use Rattle.seats.specs.Packing.{ListView}
 use Rattle.trace_io.proofs.IoLemmas.{keeps_same}
 use Rattle.live_script.specs.Texts.{unrun}
-use Rattle.live_script.specs.declared.fault.RunFault.TheVariants as Run
+use Rattle.live_script.specs.declared.fault.ScriptFault.TheVariants as Run
 use Rattle.live_script.proofs.TextLemmas.{lent_notes, lent_sums, lent_typed, notes_unwritten, notes_written}
 use Rattle.live_script.proofs.texts.write_run.Goals as goal
 

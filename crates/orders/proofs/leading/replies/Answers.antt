@@ -2,7 +2,7 @@ use Rattle.slot_lock.proofs.Words.{◌≡◌, ◌≢◌, false, subst, true, NoF
 use Rattle.audit.specs.Auditor.{plain_of}
 use Rattle.audit.specs.Judging.{Judges}
 use Rattle.audit.specs.Placing.{rule_of}
-use Rattle.audit.specs.declared.judging.Verdict.{Verdict}
+use Rattle.audit.specs.declared.judging.ReplyVerdict.{ReplyVerdict}
 use Rattle.orders.proofs.LeadLemmas.{answers_reply, no_frame_none, no_frame_reply, no_memory_reply, reply_answers}
 use Rattle.orders.proofs.leading.replies.Goals as goal
 
@@ -28,7 +28,7 @@ returns-in-Legal-clause-yes g c = λ e.
     let t = plain_of c.args.auditor.now in
     let u = plain_of c.judge.new.self in
     let call = c.args.call in
-    let judged = subst (λ (v : Verdict). Judges rule t call.core call.request call.reply v u) c.in-Legal.is c.in_ok-judge.ensures.judged in
+    let judged = subst (λ (v : ReplyVerdict). Judges rule t call.core call.request call.reply v u) c.in-Legal.is c.in_ok-judge.ensures.judged in
     answers_reply rule t u call.core call.request call.reply
     (λ m. let wrong : false ≡ true = (c.if-wants_memory.ensures {u = tt}).1 m in absurd cc)
     (λ f. let wrong : false ≡ true = (c.if-wants_frame.ensures {u = tt}).1 f in absurd cc) judged
@@ -38,7 +38,7 @@ returns-in-Illegal-clause-no g c = λ e u h.
     let rule = rule_of c.args.auditor.now.any_place in
     let t = plain_of c.args.auditor.now in
     let call = c.args.call in
-    let judged = subst (λ (v : Verdict). Judges rule t call.core call.request call.reply v (plain_of c.judge.new.self)) c.in-Illegal.is
+    let judged = subst (λ (v : ReplyVerdict). Judges rule t call.core call.request call.reply v (plain_of c.judge.new.self)) c.in-Illegal.is
     c.in_ok-judge.ensures.judged in
     judged.0 u (reply_answers rule t u call.core call.request call.reply
     (λ m. let wrong : false ≡ true = (c.if-wants_memory.ensures {u = tt}).1 m in absurd cc)

@@ -1,6 +1,6 @@
 use Rattle.slot_lock.proofs.Words.{◌∙◌, Bool, subst, Answers}
 use Rattle.slot_lock.proofs.Facts.{on_err}
-use Rattle.audit.specs.declared.judging.Verdict.{Verdict}
+use Rattle.audit.specs.declared.judging.ReplyVerdict.{ReplyVerdict}
 use Rattle.audit.specs.Auditor.{plain_of}
 use Rattle.audit.specs.Judging.{IsGiven, Judges}
 use Rattle.audit.specs.Placing.{rule_of}
@@ -13,7 +13,7 @@ loop-at-preserved g c =
     let m = plain_of c.loop-at.self in
     let u = plain_of c.judge.new.self in
     let first = c.loop-at.invariant.any_place in
-    let judged = subst (λ (v : Verdict). Judges (rule_of c.loop-at.self.any_place) m call.core call.request call.reply v u) c.in-Legal.is
+    let judged = subst (λ (v : ReplyVerdict). Judges (rule_of c.loop-at.self.any_place) m call.core call.request call.reply v u) c.in-Legal.is
     c.in_ok-judge.ensures.judged in
     let legal = subst (λ (b : Bool). Answers (rule_of b) m call.core call.request call.reply u) first judged in
     record {

@@ -12,12 +12,12 @@ use Rattle.std.proofs.Crossing as heap
 use Rattle.std_alloc.proofs.SendSync.{quiet, lies}
 use Rattle.std_heap.proofs.Global.TheSendSync as handle
 use Rattle.radixvm_c.specs.Behind.{held_at}
-use Rattle.coded.specs.declared.held.Held.{Held}
+use Rattle.coded.specs.declared.held.AnyMachine.{AnyMachine}
 use Rattle.radixvm_c.proofs.Values.{R}
 use Rattle.radixvm_c.proofs.Sent.{home}
 use Rattle.radixvm_c.specs.contracts.handle.Handle.{the_row, the_type}
 
-crosses : (a : Global) (p : Ptr) (v : Option Held) → Keyless (held_at a p v)
+crosses : (a : Global) (p : Ptr) (v : Option AnyMachine) → Keyless (held_at a p v)
 crosses a p None = tt
 crosses a p (Some x) = (lies R home p x, heap.frees.frees a (raw (lone R.mir)) p)
 
