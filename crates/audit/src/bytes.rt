@@ -8,8 +8,7 @@ ghost use Rattle.frames.specs.Parts.{frame_bytes};
 ghost use Rattle.audit.specs.Judging.{after_copy};
 ghost use Rattle.audit.specs.Keeping.{AreFrames, byte_at, entry_kept, files_kept, own_kept};
 
-use frames::Objects;
-use frames::Frames;
+use frames::{Frames, Objects};
 use slot_lock::Touch;
 use std::alloc::Allocator;
 use vm_base::{Access, Back, PageInfo, Reply, SegvCode, allows};

@@ -7,8 +7,7 @@ ghost use Rattle.audit.specs.Keeping.{AreFrames, Keeps, NobodyHolds, entry_kept,
 ghost use Rattle.vm_base.specs.Plain.{Plain};
 
 use crate::storing::own_frame;
-use frames::Objects;
-use frames::Frames;
+use frames::{Frames, Objects};
 use slot_lock::SlotMap;
 use std::alloc::Allocator;
 use vm_base::page::is_valid;

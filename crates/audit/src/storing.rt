@@ -15,8 +15,7 @@ ghost use Rattle.audit.specs.Keeping.{AreFrames, Keeps, NobodyHolds, TakesFrame,
 ghost use Rattle.audit.specs.Storing.{CachesPage, GetsFrame, HasBytes, IsStored, is_shared_back};
 
 use crate::holding::{only_core, set_apart};
-use frames::Objects;
-use frames::Frames;
+use frames::{Frames, Objects};
 use slot_lock::{SlotMap, Touch};
 use std::alloc::Allocator;
 use vm_base::{Back, NoMemory, PageInfo};

@@ -77,7 +77,10 @@ fn review_calls<M: SlotMap + Drop, A: Allocator + Clone + Drop>(
 }
 
 // Judges a text without calls.
-fn review_none<A: Allocator>(alloc: A, declaration: AuditHead<A>) -> Result<AuditReport<A>, AuditFault>
+fn review_none<A: Allocator>(
+    alloc: A,
+    declaration: AuditHead<A>,
+) -> Result<AuditReport<A>, AuditFault>
     ensures ok { IfOk result (λ r. (terms : Terms) (lines : List (List ℕ)) (number : ℕ)
         → IsPlace lines number [] (Front (declared_of declaration))
         → IsReviewed terms lines r.found.items r.calls r.lacking) }

@@ -19,13 +19,13 @@ mod threads;
 
 use crate::parts::{time_draws, time_mutexes, time_tree};
 use crate::scripts::{time_apart, time_machine, time_notes, time_shared};
-use trace_words::{Script, read_script};
 use std::alloc::Global;
 use std::rt::Clock;
 use std::sync::Wait;
 use std::thread::Threads;
 use std::{env, io};
 use trace_io::source::Counted;
+use trace_words::{Script, read_script};
 
 /// The kinds of parts.
 const PARTS: [&str; 5] = ["tree", "tickets", "draws", "mutex", "own"];

@@ -6,7 +6,7 @@ ghost use Rattle.std.specs.Prelude.{◌≡◌, ◌+◌, ◌<◌, ◌≤◌, ◌^
 use crate::threads::{Worker, since, slowest};
 use crossbeam_utils::CachePadded;
 use live_levels::level::Stepper;
-use live_tree::held::{HoldStep, Held};
+use live_tree::held::{Held, HoldStep};
 use live_tree::tree::SharedTree;
 use seats::{Ticketer, Tickets, ticketers};
 use std::alloc::Global;

@@ -1,15 +1,15 @@
 //! Notes that are read, and written in order of their tickets, as those of threads are.
-use trace_words::collecting::collect;
 use notes_text::kept_notes::KeptNotes;
 use notes_text::noted_line::NoteLines;
-use trace_words::{Script, read_script};
 use notes_text::write_notes;
 use seats::{NoteList, Noted};
 use std::alloc::Global;
 use std::io::{BufWriter, Read, Write};
-use trace_words::declaration::Declaration;
 use trace_io::sink;
 use trace_io::source::Counted;
+use trace_words::collecting::collect;
+use trace_words::declaration::Declaration;
+use trace_words::{Script, read_script};
 
 /// A script that declares the same space, without files, and gives no core a task.
 fn script_of(alloc: Global, declared: &Declaration) -> Option<Script<Global>> {
@@ -26,8 +26,11 @@ pub fn rewrite<R: Read + Drop, W: Write + Drop>(alloc: Global, input: R, output:
     let mut reader = Counted::new(input);
     let list: NoteList<Global> = NoteList::new(alloc, alloc);
     let notes = KeptNotes { list };
-    let Ok(collected) = collect::<NoteLines, Noted, KeptNotes<Global>, Global, _>(alloc, notes, &mut reader)
-    else {
+    let Ok(collected) = collect::<NoteLines, Noted, KeptNotes<Global>, Global, _>(
+        alloc,
+        notes,
+        &mut reader,
+    ) else {
         return false;
     };
     let Some(declared) = collected.declaration() else {

@@ -3,11 +3,9 @@
 use crate::threads::{Worker, since, slowest};
 use certifier::certify;
 use core_steps::{Finished, Machine, run};
-use machine_log::KeepsNone;
-use machine_model::Setup;
 use live_script::{RunSpace, begin, certify_ran, finish_in_turn, finish_side_by_side, run_script};
-use machine_model::{Event, Outcome};
-use trace_words::{Script, Task};
+use machine_log::KeepsNone;
+use machine_model::{Event, Outcome, Setup};
 use radix_range::RadixMap;
 use seats::Notes;
 use std::alloc::Global;
@@ -15,6 +13,7 @@ use std::rt::Clock;
 use std::sync::Wait;
 use std::thread::Threads;
 use std::time::Instant;
+use trace_words::{Script, Task};
 use vm_base::{CoreId, Reply};
 
 /// Whether there was memory, and a frame, for what came to this.

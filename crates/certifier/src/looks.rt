@@ -10,10 +10,10 @@ ghost use Rattle.core_steps.specs.Machine.{state};
 ghost use Rattle.certifier.specs.Histories.{AreDated, HasContent, IsPageOf, ticket_at};
 ghost use Rattle.certifier.specs.Looks.{AreApplied, IsCaughtUp, IsLooked, IsSeen};
 
-use machine_log::Ledger;
 use core_steps::Machine;
 use live_levels::act::{SlotChange, after};
 use live_levels::close::SlotHistory;
+use machine_log::Ledger;
 use slot_lock::SlotMap;
 use std::alloc::Allocator;
 use vm_base::page::PAGE_LIMIT;

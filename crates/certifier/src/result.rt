@@ -1,6 +1,5 @@
 //! The result of certifying notes.
-use machine_model::SetupFault;
-use machine_model::Outcome;
+use machine_model::{Outcome, SetupFault};
 use thiserror::Error;
 
 /// What certifying notes that are a run of the machine answers.

@@ -12,9 +12,9 @@ ghost use Rattle.certifier.specs.Histories.{AllGoAlong, AreInOrder, IsFirstAstra
 ghost use Rattle.certifier.specs.Looks.{AreLooked, IsCaughtUp, IsFirstMarked, NoneMarked};
 
 use crate::looks::{Look, are_dated, look_at};
-use machine_log::Ledger;
 use core_steps::Machine;
 use live_levels::close::SlotHistory;
+use machine_log::Ledger;
 use machine_model::Event;
 use slot_lock::SlotMap;
 use std::alloc::Allocator;

@@ -5,13 +5,13 @@ ghost use Rattle.coded.specs.Batches.{Takes, MakesOne, MakesRaw, TakesItem, Runs
 ghost use Rattle.coded.specs.Batches.{RunsBatch, CallsBatch, refusal_of, fault_code, stop_code, refusal_done, done_of};
 
 use crate::codes::{
-    BatchItem, RawEvent, RawOutcome, core_of, event_of, finished_code, item_of, outcome_code, store_of,
+    BatchItem, RawEvent, RawOutcome, core_of, event_of, finished_code, item_of, outcome_code,
+    store_of,
 };
 use crate::opening::{RawFile, RawSetup, Refusal, Unlogged, open};
 use core_steps::{Finished, Machine};
 use machine_log::Ledger;
-use machine_model::SetupFault;
-use machine_model::Event;
+use machine_model::{Event, SetupFault};
 use slot_lock::SlotMap;
 use std::alloc::{Allocator, Global};
 use vm_base::{NoMemory, Request};
@@ -133,7 +133,10 @@ fn make_raw<M: SlotMap, A: Allocator + Clone, L: Ledger>(
     let core = core_of(raw.core)?;
     match raw.kind {
         LOAD => {
-            let made = make(machine, BatchItem::Call(core, Request::Load { addr: raw.at }));
+            let made = make(
+                machine,
+                BatchItem::Call(core, Request::Load { addr: raw.at }),
+            );
             Some(made)
         }
         STORE => {
@@ -142,7 +145,10 @@ fn make_raw<M: SlotMap, A: Allocator + Clone, L: Ledger>(
             Some(made)
         }
         FETCH => {
-            let made = make(machine, BatchItem::Call(core, Request::Fetch { addr: raw.at }));
+            let made = make(
+                machine,
+                BatchItem::Call(core, Request::Fetch { addr: raw.at }),
+            );
             Some(made)
         }
         _ => {

@@ -13,8 +13,8 @@ use crate::codes::{RawEvent, RawOutcome, core_of};
 use crate::held::AnyMachine;
 use crate::maps::{RawLine, list_maps};
 use crate::opening::{LoggedSpace, RawFile, RawSetup, Refusal, Unlogged, open};
-use machine_log::Ledger;
 use core_steps::Machine;
+use machine_log::Ledger;
 use slot_lock::SlotMap;
 use std::alloc::{Allocator, Global};
 use vm_base::is_valid;
@@ -39,7 +39,11 @@ pub fn open_held(
 }
 
 /// One event. Where it isn't taken, nothing changes.
-pub fn take_event_on(held: &mut AnyMachine, raw: &RawEvent, told: &mut RawOutcome) -> Result<(), BatchStop>
+pub fn take_event_on(
+    held: &mut AnyMachine,
+    raw: &RawEvent,
+    told: &mut RawOutcome,
+) -> Result<(), BatchStop>
     ensures { TakesOn (held_state held.old) raw.now told.old result told.new (held_state held.new) }
 {
     match held {
@@ -49,7 +53,11 @@ pub fn take_event_on(held: &mut AnyMachine, raw: &RawEvent, told: &mut RawOutcom
 }
 
 /// One item. Where it isn't made, `told` stays as it was.
-pub fn take_item_on(held: &mut AnyMachine, raw: &RawEvent, told: &mut RawOutcome) -> Result<(), BatchStop>
+pub fn take_item_on(
+    held: &mut AnyMachine,
+    raw: &RawEvent,
+    told: &mut RawOutcome,
+) -> Result<(), BatchStop>
     ensures { TakesItemOn (held_state held.old) raw.now told.old result told.new (held_state held.new) }
 {
     match held {
@@ -59,7 +67,11 @@ pub fn take_item_on(held: &mut AnyMachine, raw: &RawEvent, told: &mut RawOutcome
 }
 
 /// More events. After a refusal none was taken, and `told` is unchanged.
-pub fn run_on(held: &mut AnyMachine, raws: &[RawEvent], told: &mut [RawOutcome]) -> Result<BatchEnd, Refusal>
+pub fn run_on(
+    held: &mut AnyMachine,
+    raws: &[RawEvent],
+    told: &mut [RawOutcome],
+) -> Result<BatchEnd, Refusal>
     ensures { RunsOn (held_state held.old) raws.now told.old result told.new (held_state held.new) }
 {
     if let Some(refusal) = refusal_of(0, 0, raws.len(), told.len()) {

@@ -3,11 +3,11 @@ ghost use Rattle.std.specs.Prelude.{◌≡◌};
 ghost use Rattle.core_steps.specs.Machine.{state};
 ghost use Rattle.coded.specs.Maps.{line_code, told_lines, ListsOn};
 
-use crate::batch::{BatchEnd, LENGTH_LIMIT, BatchStop};
+use crate::batch::{BatchEnd, BatchStop, LENGTH_LIMIT};
 use crate::bits::bits_of_prot;
 use crate::opening::Refusal;
-use machine_log::Ledger;
 use core_steps::Machine;
+use machine_log::Ledger;
 use slot_lock::{MapLine, SlotMap};
 use std::alloc::{Allocator, Global};
 use vm_base::Back;

@@ -8,10 +8,10 @@ ghost use Rattle.coded.specs.Opening.{Refuses, fault_of, limit_of};
 ghost use Rattle.coded.specs.declared.opening.FileFault.TheVariants as Why;
 ghost use Rattle.coded.specs.declared.opening.RawFile.{RawFile as RawFileOf};
 
-use frames::FileSpec;
-use machine_model::{CallLimit, Setup, SetupFault, first_fault_within};
-use machine_log::{KeepsNone, KeepsAll, Opening};
 use core_steps::Machine;
+use frames::FileSpec;
+use machine_log::{KeepsAll, KeepsNone, Opening};
+use machine_model::{CallLimit, Setup, SetupFault, first_fault_within};
 use radix_range::RadixMap;
 use std::alloc::Global;
 use vm_base::Mode;

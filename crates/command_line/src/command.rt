@@ -8,26 +8,11 @@ ghost use Rattle.trace_io.specs.Io.{read_from, written_to};
 pub use crate::telling::{WordsFault, refuse_words};
 use crate::telling::{tell, tell_cause, tell_of_terminal};
 use crate::terminals::Terminals;
-use word_audit::auditing::{audit, audit_each, audit_overlapping};
-use word_audit::loosening::audit_loosely;
-use word_audit::paging::audit_by_pages;
-use machine_model::CallLimit;
-use word_faults::explain::{Manner, explain};
-use word_faults::forms::TextKind;
-use word_faults::histories::{explain_disorder, explain_history};
-use word_faults::noting::{show_request, tell_notes, tell_undecided};
 use import_text::each::ProcessTrace;
-use word_import::gathering::{Ungathered, gather, save_parts};
-use word_import::importing::{import, import_accesses, import_each};
 use litmus::RunFault;
-use word_runs::litmus_tests::{Test, explain_litmus, litmus, test_name};
-use word_runs::witnessing::picture_witness;
 use live_script::Runner;
-use word_pictures::picturing::picture;
+use machine_model::CallLimit;
 use radix_range::RadixMap;
-use word_runs::certifying::certify;
-use word_runs::job::{run, run_echoing};
-use word_runs::live::{certify_live, live, live_history, share_live};
 use slot_lock::SlotMap;
 use std::alloc::{Allocator, Global};
 use std::env::{Env, FillError};
@@ -35,15 +20,30 @@ use std::io::{Read, Write};
 use std::sync::Wait;
 use std::thread::Threads;
 use std::{env, io};
-use trace_words::fault::{TraceFault, status_of_fault};
-use trace_words::show::Show;
 use trace_io::sink::Sink;
 use trace_io::source::{Counted, Source};
+use trace_words::fault::{TraceFault, status_of_fault};
+use trace_words::show::Show;
+use word_audit::auditing::{audit, audit_each, audit_overlapping};
+use word_audit::loosening::audit_loosely;
+use word_audit::paging::audit_by_pages;
+use word_faults::explain::{Manner, explain};
+use word_faults::forms::TextKind;
+use word_faults::histories::{explain_disorder, explain_history};
+use word_faults::noting::{show_request, tell_notes, tell_undecided};
+use word_grammar::{Command, Usage, Work, parse};
+use word_import::gathering::{Ungathered, gather, save_parts};
+use word_import::importing::{import, import_accesses, import_each};
 use word_parts::asked::{Drawing, WitnessPicture};
 use word_parts::ended::{Ended, Trouble};
 use word_parts::input::{Files, input, list};
 use word_parts::keeping::{Keeping, Keeps};
-use word_grammar::{Command, Usage, Work, parse};
+use word_pictures::picturing::picture;
+use word_runs::certifying::certify;
+use word_runs::job::{run, run_echoing};
+use word_runs::litmus_tests::{Test, explain_litmus, litmus, test_name};
+use word_runs::live::{certify_live, live, live_history, share_live};
+use word_runs::witnessing::picture_witness;
 
 // Tells that a file can't be opened, and which and why where that is asked for, and answers the status.
 fn refuse_file<E: Write>(asks: Asks<'_>, name: &str, cause: io::ErrorKind, errors: &mut E) -> u8
@@ -235,7 +235,11 @@ fn manner_of(work: Work, coloured: bool) -> Manner {
         Work::Replay(shows) if shows.show == Show::OutcomesAndLog => {
             (TextKind::Trace, CallLimit::Usual, false)
         }
-        Work::Replay(shows) => (TextKind::Trace, shows.limit, shows.limit == CallLimit::Usual),
+        Work::Replay(shows) => (
+            TextKind::Trace,
+            shows.limit,
+            shows.limit == CallLimit::Usual,
+        ),
         Work::Echo { logs: true, .. } => (TextKind::Trace, CallLimit::Usual, false),
         Work::Echo { limit, .. } => (TextKind::Trace, limit, limit == CallLimit::Usual),
         Work::Certify => (TextKind::Notes, CallLimit::Usual, false),
@@ -246,7 +250,11 @@ fn manner_of(work: Work, coloured: bool) -> Manner {
         | Work::Overlapping(_)
         | Work::ByPages(_)
         | Work::Loosely(_) => { (TextKind::Replies, CallLimit::Usual, false) }
-        Work::Picture(Drawing::Listing(limit)) => (TextKind::Trace, limit, limit == CallLimit::Usual),
+        Work::Picture(Drawing::Listing(limit)) => (
+            TextKind::Trace,
+            limit,
+            limit == CallLimit::Usual,
+        ),
         Work::Picture(Drawing::Lives) => (TextKind::Trace, CallLimit::Long, false),
         Work::Picture(_)
         | Work::Litmus { .. }

@@ -7,13 +7,13 @@ ghost use Rattle.word_help.specs.declared.Topic.{Topic};
 
 use clap::Error;
 use clap::error::ErrorKind;
-use word_help::page;
 use std::alloc::Global;
 use std::io;
 use std::io::Write;
 use trace_io::sink::{Sink, write_all};
-use word_parts::pointing::tell as tell_line;
 use word_grammar::Usage;
+use word_help::page;
+use word_parts::pointing::tell as tell_line;
 
 // Prints a text on standard output, and answers the status.
 fn show<W: Sink, E: Write>(text: &str, out: &mut W, errors: &mut E) -> u8
@@ -117,7 +117,12 @@ fn tell_words<W: Sink, E: Write>(alloc: Global, error: &Error, out: &mut W, erro
 }
 
 /// Prints what is said in place of what is asked for, and answers the status.
-pub(crate) fn tell<W: Sink, E: Write>(alloc: Global, told: &Usage, out: &mut W, errors: &mut E) -> u8
+pub(crate) fn tell<W: Sink, E: Write>(
+    alloc: Global,
+    told: &Usage,
+    out: &mut W,
+    errors: &mut E,
+) -> u8
     ensures page { (topic : Topic) → told.now ≡ Told.Page topic → result ≡ 0
         → Appends (W.contents out.old) (W.contents out.new) (page_of topic) }
     ensures within { result ≤ 3 }

@@ -1,8 +1,8 @@
 //! The result of running a list of events.
-use machine_log::ledger::Ledger;
 use crate::machine::Machine;
-use machine_model::setup::SetupFault;
+use machine_log::ledger::Ledger;
 use machine_model::Outcome;
+use machine_model::setup::SetupFault;
 use mmu::{Cpu, Hardware};
 use slot_lock::SlotMap;
 use std::alloc::Allocator;

@@ -10,9 +10,9 @@ ghost use Rattle.machine_model.specs.Setups.{IsFirstFault, made_of};
 ghost use Rattle.core_steps.specs.Running.{Fails, IsRefusedAt, LogsPlainly, RunsAsMap};
 ghost use Rattle.frames.specs.Given.{given_files};
 
-use machine_log::ledger::{Ledger, Opening};
 use crate::machine::Machine;
 use crate::run_result::{Run, RunFault};
+use machine_log::ledger::{Ledger, Opening};
 use machine_model::setup::{Setup, SetupFault};
 use machine_model::{Event, Outcome};
 use slot_lock::SlotMap;

@@ -13,8 +13,8 @@ use draw_steps::backing::put_backing;
 use draw_steps::elements::{Rect, Way, put_line, put_rect, put_text};
 use draw_steps::moments::Answer;
 use draw_steps::parts::{Part, put_parts};
-use trace_text::pieces::{Piece, put, put_all, put_piece};
 use std::alloc::AllocError;
+use trace_text::pieces::{Piece, put, put_all, put_piece};
 use vm_base::{Back, CoreId, CoreSet, Reply, Request};
 
 /// A bit of what a shape is written as: of any picture, or by how words stand.

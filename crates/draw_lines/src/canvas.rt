@@ -15,10 +15,10 @@ use crate::waits::Waited;
 use draw_steps::elements::{Way, put_text};
 use draw_steps::moments::Recorded;
 use draw_steps::parts::{Part, put_parts};
-use trace_text::pieces::{Piece, put, put_all};
 use draw_steps::rows::{edges_of, rows_of, stretches_of};
 use draw_steps::shapes::{Arrow, Bar, Stretch, arrows_of, bars_of};
 use std::alloc::{AllocError, Global};
+use trace_text::pieces::{Piece, put, put_all};
 use vm_base::{CoreId, PageRange};
 
 /// What a picture is of: what happened, from this column on, the numbers of the columns' lines, and the waits in them.

@@ -11,9 +11,9 @@ use crate::sheet::{Layout, Sheet, lane, pitch, row_y, wide};
 use crate::waits::Waited;
 use draw_steps::drawing::prot_class;
 use draw_steps::moments::{Deed, Moment, Pass, Recorded};
-use trace_text::pieces::Piece;
 use draw_steps::shapes::{Arrow, Bar, Course, Stretch};
 use std::alloc::AllocError;
+use trace_text::pieces::Piece;
 use vm_base::{CoreId, Request};
 
 // The name of a request, which is also the class of its bar.

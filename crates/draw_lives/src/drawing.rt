@@ -9,11 +9,11 @@ use crate::living::lives_of;
 use draw_steps::canvas::put_front;
 use draw_steps::drawing::prot_class;
 use draw_steps::elements::{Way, put_text};
-use trace_text::pieces::{Piece, put, put_all};
 use draw_steps::moments::Recorded;
 use draw_steps::parts::{Part, put_parts};
 use draw_steps::shapes::Stretch;
 use std::alloc::{AllocError, Global};
+use trace_text::pieces::{Piece, put, put_all};
 use vm_base::Back;
 
 /// What the colours of lives are and mean, and their shades. The lives' edges are thin in the units of rows, since not all that show

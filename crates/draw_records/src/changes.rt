@@ -5,11 +5,11 @@ ghost use Rattle.draw_records.specs.Changes.{Changes, ChangesRecorded, stood};
 
 use crate::looking::phase_in;
 use crate::recorder::moment_of;
-use machine_log::Ledger;
 use core_steps::Machine;
-use ghost_list::GhostList;
-use machine_model::{Event, Outcome, Phase};
 use draw_steps::moments::Recorded;
+use ghost_list::GhostList;
+use machine_log::Ledger;
+use machine_model::{Event, Outcome, Phase};
 use slot_lock::{Change, SlotMap};
 use std::alloc::{AllocError, Allocator};
 use std::marker::Model;

@@ -5,10 +5,10 @@ ghost use Rattle.draw_records.specs.Looking.{awaited_by, cores_where, first_tell
 ghost use Rattle.mmu.specs.Inboxes.{awaited};
 ghost use Rattle.vm_base.specs.Cores.{members};
 
-use machine_log::Ledger;
 use core_steps::Machine;
-use machine_model::{Event, Phase};
 use draw_steps::moments::Pass;
+use machine_log::Ledger;
+use machine_model::{Event, Phase};
 use slot_lock::SlotMap;
 use std::alloc::Allocator;
 use vm_base::{CoreId, CoreSet};

@@ -6,10 +6,10 @@ ghost use Rattle.watched.specs.Watching.{makes};
 
 use crate::looking::{Before, awaited_by, look, pass_of};
 use crate::recorder::Recorder;
-use machine_log::Ledger;
 use core_steps::Machine;
-use machine_model::{Event, Outcome, Phase};
 use draw_steps::moments::Deed;
+use machine_log::Ledger;
+use machine_model::{Event, Outcome, Phase};
 use slot_lock::{Change, SlotMap};
 use std::alloc::Allocator;
 use vm_base::{CoreId, NoMemory, Reply};

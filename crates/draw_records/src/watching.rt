@@ -4,15 +4,15 @@ ghost use Rattle.core_steps.specs.Machine.{state};
 ghost use Rattle.draw_records.specs.Columns.{Columned, columned};
 ghost use Rattle.watched.specs.Watching.{makes};
 
+use crate::Recorder;
 use crate::lines::Asking;
+use crate::looking::{Before, look};
 use crate::margin::Margin;
 use crate::spot::{Last, Spot, cause_of, goes_on, last_after, waits_on};
-use machine_log::Ledger;
 use core_steps::Machine;
 use draw_lines::waits::Waited;
+use machine_log::Ledger;
 use machine_model::{Blocker, Event, Outcome};
-use crate::Recorder;
-use crate::looking::{Before, look};
 use slot_lock::SlotMap;
 use std::alloc::Allocator;
 use std::marker::Model;

@@ -4,9 +4,9 @@ ghost use Rattle.std.specs.List.{flat_map};
 ghost use Rattle.draw_steps.specs.Backing.{backing_words, name_behind, name_words, shown};
 ghost use Rattle.trace_text.specs.Lists.{back_text, file_text};
 
-use trace_text::pieces::{Piece, put, put_all};
 use crate::names::name_of;
 use std::alloc::AllocError;
+use trace_text::pieces::{Piece, put, put_all};
 use vm_base::Back;
 
 // Appends a byte as SVG has it in a text.

@@ -9,11 +9,11 @@ use crate::drawing::{LEGEND, LEGEND_MORE, STYLE, put_arrow, put_bar, put_mark, p
 use crate::elements::{Way, put_text};
 use crate::moments::Recorded;
 use crate::parts::{Part, put_parts};
-use trace_text::pieces::{Piece, put, put_all};
 use crate::places::{View, row_y, rows_y};
 use crate::rows::{edges_of, rows_of, stretches_of};
 use crate::shapes::{Arrow, Bar, Mark, Stretch, arrows_of, bars_of, marks_of};
 use std::alloc::{AllocError, Global};
+use trace_text::pieces::{Piece, put, put_all};
 use vm_base::PageRange;
 
 /// How wide the picture is: at least as its legend.

@@ -5,10 +5,10 @@ ghost use Rattle.draw_steps.specs.Drawing.{sign_class, sign_word, stretch_text};
 
 use crate::moments::Deed;
 use crate::parts::{Part, put_parts};
-use trace_text::pieces::Piece;
 use crate::places::{View, arrow_way, bar_place, column, lane, row_y, stretch_place};
 use crate::shapes::{Arrow, Bar, Course, Mark, Sign, Stretch};
 use std::alloc::AllocError;
+use trace_text::pieces::Piece;
 use vm_base::{Prot, Request};
 
 /// What the colours and letters are, in light and in dark, and the heads of arrows.

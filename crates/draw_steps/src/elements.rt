@@ -2,8 +2,8 @@
 ghost use Rattle.std.specs.Prelude.{◌≡◌, ◌++◌, OnOk};
 ghost use Rattle.draw_steps.specs.Elements.{circle_text, line_text, rect_text, text_front};
 
-use trace_text::pieces::{Piece, put_all};
 use std::alloc::AllocError;
+use trace_text::pieces::{Piece, put_all};
 
 /// Where a rectangle lies.
 #[derive(Clone, Copy)]

@@ -7,9 +7,9 @@ ghost use Rattle.draw_steps.specs.Parts.{span_text, target_words};
 use crate::backing::put_backing;
 use crate::elements::{Rect, Way, put_circle, put_line, put_rect, put_text};
 use crate::moments::Answer;
-use trace_text::pieces::{Piece, put_all, put_piece};
 use crate::places::{View, column, lane, reply_y};
 use std::alloc::AllocError;
+use trace_text::pieces::{Piece, put_all, put_piece};
 use vm_base::{Back, CoreId, Prot, Reply, Request};
 
 /// A part of what a shape is written as.

@@ -18,11 +18,11 @@ use std::alloc::Allocator;
 use std::env;
 use std::io::{BufWriter, Write};
 use std::process::ExitCode;
-use trace_words::fault::{TraceFault, status_of_fault};
 use trace::replay::replay_telling;
-use trace_words::show::Show;
-use trace_io::sink::{TrackedSink, Sink};
+use trace_io::sink::{Sink, TrackedSink};
 use trace_io::source::{Counted, Source};
+use trace_words::fault::{TraceFault, status_of_fault};
+use trace_words::show::Show;
 
 // What the word after the program's name shows: the mappings at the end where it is `maps`, else the outcomes.
 fn shown_by(word: Option<&str>) -> Show

@@ -7,7 +7,7 @@ ghost use Rattle.import_lackey.specs.Heard.{heard_of};
 ghost use Rattle.import_lackey.specs.Tracing.{accessed, asked_for, call_taken, covers, heard_taken, is_mapped, is_whole, mmap_taken, page_of, placed};
 ghost use Rattle.import_lackey.specs.Tracing.{state_of, there, touch_taken, touched, touched_at, trace_of};
 
-use crate::heard::{LackeyAccess, Heard, LackeyTouch, read_heard};
+use crate::heard::{Heard, LackeyAccess, LackeyTouch, read_heard};
 use import_forms::said::Said;
 use import_text::counts::LineCounts;
 use import_text::taking::{ADDRESS_END, Fate, Mapping, Reason, Taken, ask, take, take_file};

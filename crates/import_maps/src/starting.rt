@@ -8,7 +8,7 @@ ghost use Rattle.import_maps.specs.Starting.{entry_listed, file_listed, flags_of
 ghost use Rattle.import_maps.specs.Starting.{shown_name, start_of, with_request, without_file};
 
 use crate::entries::{Entered, Entries};
-use crate::listed::{MappingKind, Listed, kind_of, read_listed};
+use crate::listed::{Listed, MappingKind, kind_of, read_listed};
 use import_text::names::{NO_NAME, Name, note_name};
 use import_text::steps::TraceRequest;
 use import_text::taking::{ADDRESS_END, Taken, reaches, use_file};

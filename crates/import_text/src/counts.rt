@@ -3,7 +3,7 @@ ghost use Rattle.std.specs.Prelude.{◌≡◌, ◌+◌, ◌<◌, ◌^◌};
 ghost use Rattle.import_text.specs.Counts.{begun_anew, changed_lines, counted, left_lines, no_counts, total};
 
 use crate::losses::Losses;
-use crate::taking::{LineChange, Fate, Reason};
+use crate::taking::{Fate, LineChange, Reason};
 
 /// How many lines were kept, changed and left out, and why.
 #[derive(Clone, Copy)]

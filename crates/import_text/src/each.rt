@@ -171,7 +171,11 @@ fn import_each<M: Meter>(
 }
 
 // What comes of a log, beside nothing at the start.
-fn parts_in<M: Meter>(alloc: Global, log: &StraceLog, meter: &mut M) -> Result<Vec<ProcessTrace>, IoFault>
+fn parts_in<M: Meter>(
+    alloc: Global,
+    log: &StraceLog,
+    meter: &mut M,
+) -> Result<Vec<ProcessTrace>, IoFault>
     ensures value { (input : List ℕ) → IsRead (lines_of input) log.now → EachEnds input result }
     ensures few { IfOk result (λ parts. All (λ p. total p.counts < 2 ^ 64) parts.items) }
     ensures read { result ≡ Err IoFault.ReadFailed → ⊥ }

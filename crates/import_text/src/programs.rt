@@ -68,7 +68,11 @@ fn shown_in(alloc: Global, name: &[u8]) -> Result<ProgramFile, AllocError>
 }
 
 /// Of which process each line's thread is.
-pub(crate) fn owners_of(alloc: Global, lines: &KeptLines, made: &Made) -> Result<Vec<u64>, AllocError>
+pub(crate) fn owners_of(
+    alloc: Global,
+    lines: &KeptLines,
+    made: &Made,
+) -> Result<Vec<u64>, AllocError>
     ensures { IfOk result (λ owned. owned.items ≡ owners made.now lines.now) }
 {
     let mut owned: Vec<u64> = Vec::new(alloc);

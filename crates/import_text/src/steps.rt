@@ -296,7 +296,10 @@ fn request_of(shape: Shape, numbers: &[u64]) -> Request
 
 /// The first of some requests, and what the others have.
 #[tactic(auto, using(crate::proofs::StepLemmas::steps_front, crate::proofs::StepLemmas::widths_front))]
-pub(crate) fn front_step<'a>(heads: &'a [Head], numbers: &'a [u64]) -> (TraceRequest, &'a [Head], &'a [u64])
+pub(crate) fn front_step<'a>(
+    heads: &'a [Head],
+    numbers: &'a [u64],
+) -> (TraceRequest, &'a [Head], &'a [u64])
     requires some { 0 < length heads.now }
     requires whole { widths heads.now ≤ length numbers.now }
     ensures step { steps_kept heads.now numbers.now ≡ result.0 ∷ steps_kept result.1.now result.2.now }

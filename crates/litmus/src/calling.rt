@@ -6,11 +6,11 @@ use litmus_merges::Asked;
 use live_space::fault::LiveFault;
 use live_space::gate::Open;
 use live_space::space::Live;
-use trace_words::{ScriptLine, Task};
 use seats::Seat;
 use std::alloc::Global;
 use std::sync::Wait;
 use std::thread::{self, Threads};
+use trace_words::{ScriptLine, Task};
 
 /// A core's seat, and why the core stopped before its last call.
 #[derive(Drop)]

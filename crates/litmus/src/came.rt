@@ -3,8 +3,8 @@ ghost use Rattle.std.specs.Prelude.{true};
 
 use litmus_merges::Asked;
 use litmus_report::HasOutcome;
-use trace_words::ScriptLine;
 use slot_lock::MapLine;
+use trace_words::ScriptLine;
 use trace_words::declaration::Declaration;
 use vm_base::Reply;
 

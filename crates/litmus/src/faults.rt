@@ -2,8 +2,8 @@
 ghost use Rattle.litmus.specs.Tells.{IsLate};
 
 use crate::LiveTestFault;
-use litmus_text::LitmusFault;
 use litmus_outcomes::OutcomesFault;
+use litmus_text::LitmusFault;
 use thiserror::Error;
 use trace_io::IoFault;
 

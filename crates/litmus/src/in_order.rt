@@ -4,8 +4,8 @@ ghost use Rattle.litmus.specs.Runs.{PerformsInOrder};
 
 use crate::reading::{replies_of, told};
 use litmus_merges::Asked;
-use machine_model::{Event, Outcome};
 use litmus_outcomes::perform;
+use machine_model::{Event, Outcome};
 use std::alloc::Global;
 use vm_base::{CoreId, NoMemory};
 

@@ -26,4 +26,6 @@ pub use came::{Came, TestRun};
 pub use fault::LiveTestFault;
 pub use faults::TestFault;
 pub use running::count_runs;
-pub use telling::{Output, Listing, LitmusAsk, tell, tell_litmus, tell_live, tell_observed, tell_program};
+pub use telling::{
+    Listing, LitmusAsk, Output, tell, tell_litmus, tell_live, tell_observed, tell_program,
+};

@@ -5,12 +5,12 @@ ghost use Rattle.litmus_merges.specs.Finals.{loads_by};
 ghost use Rattle.litmus.specs.Opening.{calls_of, is_called, opened_of};
 
 use litmus_merges::Asked;
-use machine_model::Event;
-use trace_words::{ScriptLine, Task};
 use litmus_outcomes::Opened;
+use machine_model::Event;
 use std::alloc::Allocator;
-use trace_words::events::event_of;
 use trace_text::{Action, Line};
+use trace_words::events::event_of;
+use trace_words::{ScriptLine, Task};
 use vm_base::{CoreId, NoMemory, Request};
 
 // Appends what the line asks of the machine, if it is an event's.

@@ -3,8 +3,8 @@ ghost use Rattle.std.specs.Prelude.{◌≡◌, IfOk, IfSome, true};
 ghost use Rattle.litmus_outcomes.specs.Performed.{PerformsScript};
 
 use litmus_merges::Asked;
-use machine_model::{Event, Outcome};
 use litmus_outcomes::perform;
+use machine_model::{Event, Outcome};
 use std::alloc::Global;
 use vm_base::{CoreId, NoMemory, Reply};
 

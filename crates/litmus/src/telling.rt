@@ -15,12 +15,12 @@ use crate::lacking::may_lack;
 use crate::lists::list_text;
 use crate::opening::{are_called, calls_of, loads_of, opening_of, tasks_of};
 use crate::{TestRun, count_runs};
+use litmus_outcomes::{LitmusOutcome, Outcomes, list_outcomes};
 use litmus_report::{
     Named, Program, Row, Searched, bad_count, in_order, judge_counts, program_of, report,
     status_of, trace_of,
 };
 use litmus_text::{LitmusFault, LitmusTest, read_litmus};
-use litmus_outcomes::{LitmusOutcome, Outcomes, list_outcomes};
 use std::alloc::{Allocator, Global};
 use std::sync::Wait;
 use std::thread::Threads;
@@ -191,7 +191,10 @@ fn report_text<A: Allocator + Clone>(
 }
 
 // The program that makes the calls of a test to a kernel.
-fn program_text<A: Allocator + Clone>(alloc: &A, script: &LitmusTest<A>) -> Result<Vec<u8, A>, TestFault>
+fn program_text<A: Allocator + Clone>(
+    alloc: &A,
+    script: &LitmusTest<A>,
+) -> Result<Vec<u8, A>, TestFault>
     ensures ok { IfOk result (λ text. MakesCalls (read_of script.now) text.items) }
     ensures err { IfErr result (IsUncalled (read_of script.now)) }
 {

@@ -4,12 +4,12 @@ ghost use Rattle.litmus_merges.specs.Laws.{AreNamed};
 ghost use Rattle.litmus_merges.specs.Nodes.{AreAll, AreOnce, AreReached, IsExplored, IsNode, IsTurned, Keeps};
 ghost use Rattle.litmus_merges.specs.Steps.{AreSound, map_of};
 
+use crate::Asked;
 use crate::change::MapChange;
 use crate::ending::{End, list_ends};
 use crate::nodes::{Node, add, next_node};
 use crate::prints::Seats;
 use frames::Objects;
-use crate::Asked;
 use std::alloc::Allocator;
 use vm_base::NoMemory;
 

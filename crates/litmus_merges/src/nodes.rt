@@ -5,12 +5,12 @@ ghost use Rattle.litmus_merges.specs.Laws.{AreNamed};
 ghost use Rattle.litmus_merges.specs.Merging.{IsNext as IsNextCall};
 ghost use Rattle.litmus_merges.specs.Nodes.{HasAlike, IsNext, IsNode};
 
+use crate::Asked;
 use crate::change::MapChange;
 use crate::normal::steps_after;
 use crate::prints::{Seats, print_of};
 use crate::turning::{Turn, turn_of};
 use frames::Objects;
-use crate::Asked;
 use std::alloc::Allocator;
 use vm_base::{NoMemory, Reply};
 

@@ -5,10 +5,10 @@ ghost use Rattle.litmus_merges.specs.Laws.{AreNamed};
 ghost use Rattle.litmus_merges.specs.OneTurn.{TurnsTo};
 ghost use Rattle.litmus_merges.specs.Steps.{AreSound, map_of};
 
+use crate::Asked;
 use crate::change::MapChange;
 use crate::turning::turn_of;
 use frames::Objects;
-use crate::Asked;
 use std::alloc::Allocator;
 use vm_base::{CoreId, NoMemory, Reply, Request};
 

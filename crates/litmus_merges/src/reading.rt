@@ -177,7 +177,11 @@ fn seen_after<A: Allocator>(
 }
 
 /// What a place shows, if its page is mapped.
-pub(crate) fn look<A: Allocator>(objects: &Objects<A>, steps: &[MapChange], spot: Spot) -> Option<Seen>
+pub(crate) fn look<A: Allocator>(
+    objects: &Objects<A>,
+    steps: &[MapChange],
+    spot: Spot,
+) -> Option<Seen>
     requires offset { spot.offset < 4096 }
     requires sound { AreSound steps.now }
     ensures { result ≡ shown spot.offset ((map_of objects.now steps.now).entry spot.page) }

@@ -4,8 +4,8 @@ ghost use Rattle.machine_model.specs.declared.event.Event.TheVariants.{Go as GoO
 ghost use Rattle.machine_model.specs.Step.{Step};
 ghost use Rattle.core_steps.specs.Machine.{state};
 
-use machine_log::KeepsAll;
 use core_steps::Machine;
+use machine_log::KeepsAll;
 use machine_model::{Blocker, Event, Outcome};
 use slot_lock::SlotMap;
 use std::alloc::Allocator;

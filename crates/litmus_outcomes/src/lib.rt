@@ -24,6 +24,6 @@ mod witnessing;
 pub use driving::{give, go_on};
 pub use fault::OutcomesFault;
 pub use listing::list_outcomes;
-pub use outcome::{Opened, LitmusOutcome, Outcomes};
+pub use outcome::{LitmusOutcome, Opened, Outcomes};
 pub use performing::perform;
 pub use turns::schedule;

@@ -9,10 +9,9 @@ ghost use Rattle.litmus_outcomes.specs.Opening.{AreAlike, IsCalm, IsRun};
 
 use crate::fault::Late;
 use crate::same::is_same_request;
-use machine_log::KeepsAll;
 use core_steps::{Machine, Run, run};
-use machine_model::Setup;
-use machine_model::{Event, Outcome};
+use machine_log::KeepsAll;
+use machine_model::{Event, Outcome, Setup};
 use radix_range::RadixMap;
 use slot_lock::SlotMap;
 use std::alloc::Allocator;
@@ -77,7 +76,9 @@ fn has_call<M: SlotMap, A: Allocator + Clone>(
 }
 
 // The first core that has a call.
-fn first_open<M: SlotMap, A: Allocator + Clone>(machine: &Machine<M, A, KeepsAll<A>>) -> Option<CoreId>
+fn first_open<M: SlotMap, A: Allocator + Clone>(
+    machine: &Machine<M, A, KeepsAll<A>>,
+) -> Option<CoreId>
     ensures { IfNone result ((c : ℕ) → c < 64 → c < (state machine.now).made.cores
         → (state machine.now).calls.phase c ≡ Free) }
 {

@@ -1,8 +1,8 @@
 //! Turns of calls, one after another.
 use crate::driving::{finish, give, reach};
+use core_steps::Machine;
 use litmus_merges::Asked;
 use machine_log::KeepsAll;
-use core_steps::Machine;
 use machine_model::Event;
 use slot_lock::SlotMap;
 use std::alloc::Allocator;

@@ -163,7 +163,11 @@ fn mark_of<A: Allocator>(texts: &[Vec<u8, A>], line: &[u8]) -> CountMark
 }
 
 // Appends a line again, by what it is.
-fn add_marked<A: Allocator>(out: &mut Vec<u8, A>, mark: CountMark, line: &[u8]) -> Result<(), NoMemory>
+fn add_marked<A: Allocator>(
+    out: &mut Vec<u8, A>,
+    mark: CountMark,
+    line: &[u8],
+) -> Result<(), NoMemory>
     ensures { OnOk result (out.new.items ≡ out.old.items ++ marked_text mark line.now) }
 {
     match mark {

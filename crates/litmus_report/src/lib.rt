@@ -22,5 +22,5 @@ pub use mappings::add_mappings;
 pub use program::{Program, program_of};
 pub use reporting::{Row, Searched, in_order, report, status_of};
 pub use texts::outcome_text;
-pub use verdict::{HasOutcome, Named, ClauseVerdict, judge};
+pub use verdict::{ClauseVerdict, HasOutcome, Named, judge};
 pub use witness::trace_of;

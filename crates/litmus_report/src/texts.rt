@@ -9,9 +9,9 @@ ghost use Rattle.litmus_report.specs.Counts.{plain_text};
 ghost use Rattle.litmus_report.specs.Texts.{observation_text, outcome_text, quantifier_text, reached_text, replies_text, terms_text, verdict_text};
 
 use crate::mappings::add_if_mapped;
-use crate::verdict::{HasOutcome, Named, ClauseVerdict};
+use crate::verdict::{ClauseVerdict, HasOutcome, Named};
 use litmus_merges::Asked;
-use litmus_text::facts::{Fact, Connective, Term};
+use litmus_text::facts::{Connective, Fact, Term};
 use litmus_text::kinds::Quantifier;
 use litmus_text::script::Clause;
 use std::alloc::Allocator;

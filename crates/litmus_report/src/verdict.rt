@@ -7,7 +7,7 @@ ghost use Rattle.litmus_report.specs.Verdicts.{is_or, is_so, judged, opposite, p
 ghost use Rattle.litmus_text.specs.declared.facts.Term.{Term as TermOf};
 
 use litmus_merges::Asked;
-use litmus_text::facts::{Fact, Connective, Term};
+use litmus_text::facts::{Connective, Fact, Term};
 use litmus_text::kinds::Quantifier;
 use litmus_text::places::call_at;
 use slot_lock::MapLine;
@@ -137,7 +137,12 @@ fn at_place(replies: &[Reply], place: Option<usize>) -> Option<Reply>
 }
 
 // The reply to the core's call with this number.
-fn reply_to<T: HasOutcome>(named: &Named<'_>, outcome: &T, core: CoreId, number: u64) -> Option<Reply>
+fn reply_to<T: HasOutcome>(
+    named: &Named<'_>,
+    outcome: &T,
+    core: CoreId,
+    number: u64,
+) -> Option<Reply>
     ensures { result ≡ reply_to named.now.calls.now (T.outcome outcome.now).replies core number }
 {
     at_place(outcome.replies(), call_at(named.calls, core, number))
@@ -274,7 +279,12 @@ pub fn judge<T: HasOutcome>(
 }
 
 /// Of how many outcomes that are known to come about the condition holds, or doesn't hold, as is wanted.
-pub fn count_so<T: HasOutcome>(named: &Named<'_>, terms: &[Term], wanted: bool, outcomes: &[T]) -> usize
+pub fn count_so<T: HasOutcome>(
+    named: &Named<'_>,
+    terms: &[Term],
+    wanted: bool,
+    outcomes: &[T],
+) -> usize
     ensures { result ≡ count_so (λ o. is_so wanted (condition_holds named.now.calls.now named.now.addrs.now terms.now o))
         (map T.outcome outcomes.now) }
 {

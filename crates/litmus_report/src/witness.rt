@@ -8,9 +8,9 @@ ghost use Rattle.litmus_report.specs.Witness.{IsPiece, IsTrace, StandFor, core_l
 
 use crate::texts::{add_core, add_number, add_text};
 use machine_model::Event;
-use trace_words::request_text::push_request;
 use std::alloc::Allocator;
 use trace_text::{LineText, push_start};
+use trace_words::request_text::push_request;
 use vm_base::{CoreId, NoMemory, Request};
 
 /// How many bytes of an outcome's text stand in the comment, which is a line of a trace.

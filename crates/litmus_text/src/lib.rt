@@ -12,7 +12,7 @@ pub mod kinds;
 pub mod places;
 pub mod script;
 
-pub use facts::{Fact, Connective, Term};
+pub use facts::{Connective, Fact, Term};
 pub use faults::LitmusFault;
 pub use kinds::Quantifier;
 pub use script::{Clause, LitmusTest, read_litmus};

@@ -16,12 +16,12 @@ use crate::kinds::{LineKind, Quantifier, args_of, has_none, has_together, is_map
 use crate::places::{by_core, call_at};
 use litmus_merges::Asked;
 use std::alloc::Allocator;
-use trace_words::declaration::{Declaration, FileLine};
 use trace_io::IoFault;
 use trace_io::lines::{LINE_LIMIT, front_line};
 use trace_text::number::next_number;
 use trace_text::words::next_word;
 use trace_text::{Line, is_printable, read_line};
+use trace_words::declaration::{Declaration, FileLine};
 use vm_base::{CoreId, NoMemory, Request};
 
 /// A clause of a litmus test.
@@ -385,7 +385,12 @@ impl<A: Allocator + Clone> LitmusTest<A> {
         match kind {
             LineKind::Together => self.take_together(number, args_of(line)),
             LineKind::Final => self.take_end(number, args_of(line)),
-            LineKind::Clause(quantifier) => self.take_clause(alloc, number, quantifier, args_of(line)),
+            LineKind::Clause(quantifier) => self.take_clause(
+                alloc,
+                number,
+                quantifier,
+                args_of(line),
+            ),
             // (a line of a declaration never comes here)
             LineKind::Event | LineKind::Space | LineKind::File => self.take_event(number, line),
         }

@@ -6,8 +6,7 @@ ghost use Rattle.frames.specs.Files.{files_of};
 ghost use Rattle.live_pages.specs.Counts.{Begins, BeginsFrom};
 
 use crate::pieces::FrameState;
-use frames::Objects;
-use frames::FrameCell;
+use frames::{FrameCell, Objects};
 use std::alloc::Allocator;
 
 /// The frame gets zeros, and is counted once, for its page.

@@ -4,12 +4,10 @@ ghost use Rattle.std.specs.Sync.Mutex.{mutex_guard_value};
 ghost use Rattle.live_pages.specs.Frames.{epoch_of};
 
 use crate::free_frames::FreeFrames;
-use frames::{CachedFrame, Objects};
 use crossbeam_utils::CachePadded;
-use frames::FrameCell;
-use mmu::Cpu;
+use frames::{CachedFrame, FrameCell, Objects};
+use mmu::{Cpu, Inbox};
 use refcache::{CoreCounts, Epochs, ObjectCount};
-use mmu::Inbox;
 use std::alloc::Allocator;
 use std::sync::{Mutex, MutexGuard, Wait};
 use vm_base::CoreId;

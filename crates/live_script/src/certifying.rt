@@ -6,11 +6,11 @@ ghost use Rattle.live_script.specs.Certified.{IsCertifiedRun, IsNoTicket, FailsR
 
 use certifier::{Certified, CertifyFault, certify};
 use live_tree::histories::Histories;
-use trace_words::Script;
 use radix_range::RadixMap;
 use seats::Notes;
 use slot_lock::SlotMap;
 use std::alloc::Allocator;
+use trace_words::Script;
 
 /// Certifies notes of a space in which the script was run beside histories of its slots, those that `Ran::end` hands out.
 /// A setup that makes no machine is reported first, then a ticket that doesn't stand once, an outcome that differs, and a

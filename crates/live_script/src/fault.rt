@@ -1,6 +1,6 @@
 //! Why a script wasn't run to its end.
-use machine_model::SetupFault;
 use live_space::fault::LiveFault;
+use machine_model::SetupFault;
 use thiserror::Error;
 
 /// Why a script wasn't run, or not to its end.

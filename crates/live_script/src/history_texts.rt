@@ -7,17 +7,17 @@ ghost use Rattle.live_script.specs.Texts.{EndsText, TellsText, Yields, fault_of_
 ghost use Rattle.live_script.specs.Ends.{IsSummedHistory};
 
 use crate::calls::history_of;
-use crate::writing::write_history;
 use crate::sums::sums_of;
 use crate::texts::TextFault;
-use crate::{ScriptFault, Runner, Sums};
-use trace_words::{Script, read_script};
+use crate::writing::write_history;
+use crate::{Runner, ScriptFault, Sums};
 use std::alloc::Allocator;
 use std::sync::Wait;
 use std::thread::Threads;
-use trace_words::fault::TraceFault;
 use trace_io::sink::Sink;
 use trace_io::source::Source;
+use trace_words::fault::TraceFault;
+use trace_words::{Script, read_script};
 
 // As what a fault of running is told.
 fn fault_of_run(fault: ScriptFault) -> TextFault

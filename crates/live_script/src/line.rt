@@ -4,9 +4,9 @@ ghost use Rattle.trace_text.specs.Printing.{text_of};
 ghost use Rattle.trace_words.specs.Written.{request_words, spaced};
 ghost use Rattle.live_script.specs.Text.{call_text};
 
-use trace_words::request_text::push_request;
 use orders::Timed;
 use trace_text::{LineText, number_text, push_count, push_number, push_reply};
+use trace_words::request_text::push_request;
 use vm_base::{CoreId, Reply};
 
 // Replaces the text by when a call began and was answered.

@@ -6,10 +6,10 @@ ghost use Rattle.live_script.specs.Runs.{Fails, RunsAll};
 use crate::fault::ScriptFault;
 use crate::ran::RunSpace;
 use crate::running::{run_in_turn, run_script};
-use trace_words::Script;
 use std::alloc::{Allocator, Global};
 use std::sync::Wait;
 use std::thread::Threads;
+use trace_words::Script;
 
 /// How scripts are run.
 pub trait Runner<A: Allocator + Clone> {

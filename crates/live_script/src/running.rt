@@ -8,14 +8,14 @@ use crate::fault::ScriptFault;
 use crate::lane::Lane;
 use crate::ran::RunSpace;
 use crate::tasks::run_lane;
-use machine_model::SetupFault;
 use live_space::fault::LiveFault;
 use live_space::space::Live;
-use trace_words::Script;
+use machine_model::SetupFault;
 use seats::Seat;
 use std::alloc::{Allocator, Global};
 use std::sync::Wait;
 use std::thread::{self, Threads};
+use trace_words::Script;
 use vm_base::NoMemory;
 
 // A lane for each seat.

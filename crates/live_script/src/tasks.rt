@@ -8,10 +8,10 @@ use crate::lane::Lane;
 use live_space::fault::LiveFault;
 use live_space::gate::Open;
 use live_space::space::Live;
-use trace_words::Task;
 use seats::Seat;
 use std::alloc::Allocator;
 use std::sync::Wait;
+use trace_words::Task;
 
 // Does one task. After a fault nothing was begun.
 fn run_task<R: Wait, A: Allocator + Clone>(

@@ -16,7 +16,6 @@ use crate::sums::{Sums, sums_of};
 use certifier::CertifyFault;
 use live_space::fault::LiveFault;
 use notes_text::verdict::{NotesVerdict, write_verdict};
-use trace_words::{Script, read_script};
 use notes_text::write_notes;
 use radix_range::RadixMap;
 use slot_lock::SlotMap;
@@ -24,9 +23,10 @@ use std::alloc::Allocator;
 use std::sync::Wait;
 use std::thread::Threads;
 use thiserror::Error;
-use trace_words::fault::TraceFault;
 use trace_io::sink::{Sink, WriteFailed};
 use trace_io::source::Source;
+use trace_words::fault::TraceFault;
+use trace_words::{Script, read_script};
 
 /// Why a script's text wasn't run, or what came of it wasn't written.
 #[derive(Clone, Copy, Debug, Error)]

@@ -5,11 +5,11 @@ ghost use Rattle.trace_io.specs.Io.{IsWritten, written_to};
 ghost use Rattle.live_script.specs.Text.{call_text, history_text};
 
 use crate::line::put_call;
-use trace_words::declaring::write_declaration;
 use orders::Timed;
-use trace_words::declaration::Declaration;
 use trace_io::sink::{Sink, WriteFailed, write_all};
 use trace_text::LineText;
+use trace_words::declaration::Declaration;
+use trace_words::declaring::write_declaration;
 
 // Writes a line of each call.
 fn write_each<W: Sink>(writer: &mut W, calls: &[Timed]) -> Result<(), WriteFailed>

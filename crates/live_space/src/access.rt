@@ -22,7 +22,7 @@ use live_pages::filling::fill;
 use live_pages::frame::{FrameSearch, want};
 use live_pages::installing::install;
 use live_pages::settling::settle_page;
-use live_pages::telling::{TAKES, ShootdownTargets, count_of, take_all};
+use live_pages::telling::{ShootdownTargets, TAKES, count_of, take_all};
 use live_pages::touching::{Tried, try_touch};
 use machine_model::answers::page_of_touch;
 use slot_lock::Touch;

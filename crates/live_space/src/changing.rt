@@ -21,7 +21,7 @@ use crate::in_call::InCall;
 use crate::space::Live;
 use live_levels::level::Stepper;
 use live_pages::pieces::CoreState;
-use live_pages::telling::{TAKES, ShootdownTargets, count_of, take_all};
+use live_pages::telling::{ShootdownTargets, TAKES, count_of, take_all};
 use live_tree::held::Held;
 use live_tree::held::losses::FramesLost;
 use machine_model::answers::reply_to;

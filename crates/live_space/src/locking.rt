@@ -8,7 +8,7 @@ use crate::gate::Gate;
 use crate::in_call::InCall;
 use live_levels::level::Stepper;
 use live_pages::answering::answer;
-use live_tree::held::{HoldStep, Held};
+use live_tree::held::{Held, HoldStep};
 use live_tree::letting::Letting;
 use seats::Seat;
 use std::alloc::Allocator;

@@ -2,8 +2,8 @@
 ghost use Rattle.std.specs.Prelude.{◌≡◌, length};
 ghost use Rattle.live_space.specs.Space.{LiveView};
 
-use frames::{CachedFrame, Objects};
 use crossbeam_utils::CachePadded;
+use frames::{CachedFrame, Objects};
 use live_pages::free_frames::FreeFrames;
 use live_pages::pieces::{CoreState, FrameState, Pieces};
 use live_tree::tree::SharedTree;

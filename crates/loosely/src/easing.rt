@@ -6,8 +6,7 @@ ghost use Rattle.loosely.specs.Lagging.{shares};
 
 use crate::lagging::{is_done, lags_behind, may_lag, page_accessed};
 use audit::Call;
-use orders::{Part, lost};
-use orders::Timed;
+use orders::{Part, Timed, lost};
 use std::alloc::Allocator;
 use vm_base::page::PAGE_SIZE;
 use vm_base::{NoMemory, PageRange, Reply, Request, page_of, pages};

@@ -15,13 +15,12 @@ ghost use Rattle.loosely.specs.Easing.{AreEased};
 ghost use Rattle.loosely.specs.Loosely.{HasLooseOrderAmong, HasLooseOrderByPages};
 
 use crate::searching::{Order, find};
+use crate::show_loosely;
 use audit::Auditor;
 use frames::FileSpec;
-use orders::{Part, chosen};
 use loose_orders::{Step, Use, follow};
-use crate::show_loosely;
 use no_order::files_again;
-use orders::Timed;
+use orders::{Part, Timed, chosen};
 use orders_text::{History, HistoryFault, read_history};
 use overlapping::{Ruled, Ruling, Shown, Told, bare};
 use page_orders::{call_of, effects, line_at, none_waits, split_history, tell_shown};

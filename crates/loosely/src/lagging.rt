@@ -6,9 +6,8 @@ ghost use Rattle.page_orders.specs.Showing.{NoneIs};
 ghost use Rattle.loosely.specs.Lagging.{is_late_store, lags_behind, may_lag, under_way_together, replaces_at, shares};
 
 use audit::Call;
-use orders::Part;
 use loose_orders::replaces;
-use orders::Timed;
+use orders::{Part, Timed};
 use vm_base::{Reply, Request, page_of};
 
 // Tells whether two calls were under way at a time in common.

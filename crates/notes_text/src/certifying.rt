@@ -12,23 +12,23 @@ ghost use Rattle.trace_words.specs.declared.fault.TraceFault.TheVariants.{ReadFa
 ghost use Rattle.notes_text.specs.CertifyEnds.{Certifies, FindsVerdict};
 ghost use Rattle.notes_text.specs.Verdicts.{Judges};
 
-use trace_words::collecting::collect;
-use trace_words::collector::Collector;
 use crate::kept_notes::KeptNotes;
 use crate::noted_line::NoteLines;
 use crate::verdict::{NotesVerdict, write_verdict};
 use certifier::order::{Standing, standings};
 use certifier::{CertifyFault, certify_standing};
-use machine_model::Setup;
 use live_tree::histories::Histories;
+use machine_model::Setup;
 use radix_range::RadixMap;
 use seats::{NoteList, Noted, Notes};
 use slot_lock::SlotMap;
 use std::alloc::Allocator;
-use trace_words::declaration::Declaration;
-use trace_words::fault::TraceFault;
 use trace_io::sink::Sink;
 use trace_io::source::Source;
+use trace_words::collecting::collect;
+use trace_words::collector::Collector;
+use trace_words::declaration::Declaration;
+use trace_words::fault::TraceFault;
 use vm_base::NoMemory;
 
 // A text has no histories of slots.

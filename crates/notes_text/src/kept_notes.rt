@@ -1,9 +1,9 @@
 //! Packed notes, as the items of a text are kept in them.
 ghost use Rattle.std.specs.Prelude.{◌≡◌, ◌++◌, ◌∷◌, ◌==◌, [], List, OnErr, OnOk, length};
 
-use trace_words::kept::Collection;
 use seats::{NoteList, Noted};
 use std::alloc::Allocator;
+use trace_words::kept::Collection;
 use vm_base::NoMemory;
 
 /// The notes of a text.

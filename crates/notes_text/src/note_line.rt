@@ -8,10 +8,10 @@ ghost use Rattle.notes_text.specs.Halves.{event_named, note_of};
 use crate::outcome_words::read_outcome;
 use machine_model::Event;
 use seats::Noted;
-use trace_words::events::event_of;
 use trace_text::number::next_number;
 use trace_text::sign::halves;
 use trace_text::{Line, read_words};
+use trace_words::events::event_of;
 
 // The event that the line asks for, where it asks for just one.
 fn event_said(line: Line) -> Option<Event>

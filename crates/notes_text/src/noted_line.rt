@@ -2,9 +2,9 @@
 ghost use Rattle.std.specs.Prelude.{true};
 ghost use Rattle.notes_text.specs.Grammar.{NamesNote};
 
-use trace_words::collector::LineOf;
 use crate::note_line::read_note;
 use seats::Noted;
+use trace_words::collector::LineOf;
 
 /// The lines of notes.
 pub struct NoteLines;

@@ -5,9 +5,9 @@ ghost use Rattle.trace_words.specs.OutcomeText.{outcome_text};
 ghost use Rattle.notes_text.specs.Verdicts.{differs_head, differs_text, is_certified, unended, verdict_text};
 
 use machine_model::Outcome;
-use trace_words::outcome_text::write_outcome;
 use trace_io::sink::{Sink, WriteFailed, write_all};
 use trace_text::{LineText, push_number};
+use trace_words::outcome_text::write_outcome;
 
 /// The result of certifying the notes of a text.
 #[derive(Clone, Copy)]

@@ -11,19 +11,19 @@ ghost use Rattle.notes_text.specs.Ordered.{AreInOrder};
 ghost use Rattle.notes_text.specs.NotesWritten.{note_head, note_text, notes_text};
 ghost use Rattle.notes_text.specs.WriteEnds.{Writes};
 
-use trace_words::declaring::write_declaration;
-use trace_words::event_text::push_event;
 use crate::merging::{all_climb, least};
 use crate::ordering::in_order;
-use trace_words::script::Script;
 use crate::verdict::write_both;
 use seats::{Noted, Notes};
 use std::alloc::Allocator;
-use trace_words::declaration::Declaration;
-use trace_words::fault::TraceFault;
-use trace_words::outcome_text::write_outcome;
 use trace_io::sink::{Sink, WriteFailed};
 use trace_text::{LineText, push_number};
+use trace_words::declaration::Declaration;
+use trace_words::declaring::write_declaration;
+use trace_words::event_text::push_event;
+use trace_words::fault::TraceFault;
+use trace_words::outcome_text::write_outcome;
+use trace_words::script::Script;
 use vm_base::NoMemory;
 
 // Replaces the text by what stands before a note's outcome.

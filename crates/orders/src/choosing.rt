@@ -2,9 +2,9 @@
 ghost use Rattle.std.specs.Prelude.{◌≡◌, IfOk};
 ghost use Rattle.orders.specs.Pages.{AreChosen, IsChosen, lost};
 
+use crate::Timed;
 use crate::splitting::Part;
 use audit::Call;
-use crate::Timed;
 use std::alloc::Allocator;
 use vm_base::{NoMemory, Reply};
 

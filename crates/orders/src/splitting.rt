@@ -2,8 +2,8 @@
 ghost use Rattle.std.specs.Prelude.{◌≡◌, ◌++◌, IfOk, OnOk};
 ghost use Rattle.orders.specs.Pages.{pages_below, parts_from, parts_of, stays, stretch_of};
 
-use crate::pages::{is_refused, page_call, stretch_of};
 use crate::Timed;
+use crate::pages::{is_refused, page_call, stretch_of};
 use std::alloc::Allocator;
 use vm_base::NoMemory;
 

@@ -7,7 +7,7 @@ ghost use Rattle.orders_text.specs.Lines.{Tells};
 ghost use Rattle.orders_text.specs.Steps.{ComesTo, HasPlaces, SaysNothing, TellsOverlap, read_of};
 
 use crate::apart::find_overlap;
-use crate::clock::{PendingCall, Clock, between, none_waits};
+use crate::clock::{Clock, PendingCall, between, none_waits};
 use crate::faults::{HistoryFault, LINE_LIMIT};
 use crate::lines::{HistoryLine, read_told};
 use audit::Call;

@@ -9,8 +9,8 @@ ghost use Rattle.overlapping.specs.Story.{BeganAfter, HasMappings, IsFront, IsSt
 ghost use Rattle.core_text.specs.Told.{numbered_text};
 
 use audit::{Auditor, Call};
-use frames::FileSpec;
 use core_text::push_numbered;
+use frames::FileSpec;
 use no_order::files_again;
 use orders::Timed;
 use radix_range::RadixMap;

@@ -7,9 +7,8 @@ ghost use Rattle.orders.specs.Orders.{HasOrder};
 ghost use Rattle.orders.specs.Pages.{AreChosen};
 
 use frames::FileSpec;
-use orders::{Part, lost};
 use no_order::{Answer, MOST, search_all};
-use orders::Timed;
+use orders::{Part, Timed, lost};
 use std::alloc::Allocator;
 use vm_base::NoMemory;
 

@@ -5,10 +5,9 @@ ghost use Rattle.orders_text.specs.Steps.{read_of};
 ghost use Rattle.core_text.specs.Told.{numbered_text};
 ghost use Rattle.page_orders.specs.Explained.{Says, core_lines, lines_behind, part_line};
 
-use orders::Part;
 use core_text::push_numbered;
 use cores::{Core, Kept};
-use orders::Timed;
+use orders::{Part, Timed};
 use orders_text::History;
 use overlapping::{Ruling, Shown, Told, bare, explain_whole};
 use std::alloc::Allocator;

@@ -3,8 +3,7 @@
 use crate::found::Order;
 use audit::Call;
 use audit_text::reading::read_declared;
-use orders::Part;
-use orders::Item;
+use orders::{Item, Part};
 use std::alloc::Allocator;
 use trace_text::{
     LineText, push_address, push_count, push_letter, push_number, push_reply, push_rights,

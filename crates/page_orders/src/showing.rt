@@ -6,11 +6,10 @@ ghost use Rattle.audit.specs.Placing.{rule_of};
 ghost use Rattle.page_orders.specs.Showing.{HasNoneAmong, IsCoreOf, ShowsNone, is_surely, timed_of};
 
 use crate::choices::none_chosen;
-use frames::FileSpec;
-use orders::Part;
 use cores::{Core, find_core_but};
+use frames::FileSpec;
 use no_order::MOST;
-use orders::Timed;
+use orders::{Part, Timed};
 use overlapping::Shown;
 use std::alloc::Allocator;
 use vm_base::NoMemory;

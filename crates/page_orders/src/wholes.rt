@@ -6,9 +6,8 @@ ghost use Rattle.orders.specs.Orders.{EachOnce};
 
 use audit::Call;
 use frames::Objects;
-use orders::Part;
 use order_search::{Found, Lag, Wholes, find_whole};
-use orders::{Item, Timed};
+use orders::{Item, Part, Timed};
 use std::alloc::Allocator;
 use vm_base::page::PAGE_SIZE;
 use vm_base::{NoMemory, Reply, Request, page_of};

@@ -9,7 +9,7 @@ ghost use Rattle.radixvm_c.specs.Seats.{core_in, core_on, placed_state, IsSplit,
 ghost use Rattle.radixvm_c.specs.Seats.{TellsAnswer, TellsPassed, PassesOn, TriesOn, TellsTry, stop_status, calls_done, CallsOn, TellsCalls};
 ghost use Rattle.radixvm_c.specs.Seats.{AreBeside, TakesIn, TellsReturn};
 
-use crate::chair::{Chair, Room, HeldSeat};
+use crate::chair::{Chair, HeldSeat, Room};
 use crate::chair_handle::ChairHandle;
 use crate::placed::Placed;
 use crate::sharing::{DONE, EMPTY, IN_USE, NO_MEMORY, new_chair};

@@ -4,8 +4,8 @@ ghost use Rattle.machine_model.specs.Alone.{IsCalm};
 ghost use Rattle.core_steps.specs.Machine.{state, IsLegal};
 ghost use Rattle.shared.specs.Histories.{StepsAside, event_of};
 
-use machine_log::Ledger;
 use core_steps::Machine;
+use machine_log::Ledger;
 use machine_model::{Event, Outcome};
 use slot_lock::SlotMap;
 use std::alloc::Allocator;

@@ -19,7 +19,7 @@ pub mod space;
 pub mod whole;
 
 pub use asides::Aside;
-pub use history::{SeenLog, Replied, JoinedCore};
+pub use history::{JoinedCore, Replied, SeenLog};
 pub use series::{Ask, Series, SeriesEnd, Tell};
 pub use space::{Answer, Calls, CoreSeat, Known, Passed, ShareFault, SharedMachine, Unshared};
 pub use whole::{CallEnd, Whole};

@@ -85,7 +85,12 @@ fn stop_after(reply: Reply) -> SeriesEnd
 
 // Makes a call, if it is one, and tells its reply, if it gets one.
 #[inline(always)]
-fn make_one<S: Whole, Q: Ask, T: Tell>(machine: &mut S, core: CoreId, ask: &Q, told: &mut T) -> SeriesEnd
+fn make_one<S: Whole, Q: Ask, T: Tell>(
+    machine: &mut S,
+    core: CoreId,
+    ask: &Q,
+    told: &mut T,
+) -> SeriesEnd
     requires here { core < (S.state machine.old).made.cores }
     requires calm { IsCalm (S.state machine.old) }
     requires legal { IsLegal (S.state machine.old) }

@@ -9,7 +9,7 @@ ghost use Rattle.core_steps.specs.Machine.{IsLegal};
 ghost use Rattle.shared.specs.Rules.{CanGive, Makes, Took, after, answer_of, word_after, word_of};
 
 use crate::asides::Aside;
-use crate::history::{SeenLog, Replied, JoinedCore};
+use crate::history::{JoinedCore, Replied, SeenLog};
 use crate::series::{Ask, Series, SeriesEnd, Tell, call_each};
 use crate::whole::{CallEnd, Whole};
 use atomic_table::{Join, Play, Refused, Seat, Split, Table, TableRule};
@@ -309,7 +309,12 @@ impl<S: Whole + Drop> SharedMachine<S> {
     /// far as calls were made, and the other places stay as they were: up to what is no call, to a call to which memory is refused,
     /// or to a limit of the machine. Of each that was made the same is so as of `call`. Where another core is in a call, nothing
     /// is done.
-    pub fn call_all<Q: Ask, T: Tell>(&self, core: &mut CoreSeat<S>, asks: &[Q], told: &mut [T]) -> Calls
+    pub fn call_all<Q: Ask, T: Tell>(
+        &self,
+        core: &mut CoreSeat<S>,
+        asks: &[Q],
+        told: &mut [T],
+    ) -> Calls
         requires here { core.old.space ≡ self.now.table.shared.table_id }
         requires room { length asks.now ≤ length told.old }
         ensures answers { AnswersAll S.state core.old (map Q.request asks.now) T.told told.old result told.new core.new }
@@ -423,7 +428,11 @@ fn word_of(ended: CallEnd) -> u64
 fn word_after(stop: SeriesEnd) -> u64
     ensures { result ≡ word_after stop }
 {
-    if stop == SeriesEnd::Spent { SPENT } else { HOME }
+    if stop == SeriesEnd::Spent {
+        SPENT
+    } else {
+        HOME
+    }
 }
 
 // What the caller gets.

@@ -1,8 +1,8 @@
 //! Machines whose log is kept, which threads may share.
 ghost use Rattle.std.specs.Prelude.{◌≡◌};
 
-use machine_log::KeepsAll;
 use core_steps::Machine;
+use machine_log::KeepsAll;
 use machine_model::Outcome;
 use radix_range::RadixMap;
 use shared::{Aside, CallEnd, Whole};

@@ -8,11 +8,11 @@ ghost use Rattle.shared_script.specs.Runs.{Fails, IsRun};
 use crate::fault::SharedFault;
 use crate::lane::Lane;
 use crate::tasks::run_lane;
-use trace_words::Script;
 use shared::{CoreSeat, Replied, SharedMachine, Whole};
 use std::alloc::Global;
 use std::sync::Wait;
 use std::thread::{self, Threads};
+use trace_words::Script;
 use trace_words::fault::TraceFault;
 use vm_base::NoMemory;
 

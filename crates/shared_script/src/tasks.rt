@@ -10,13 +10,13 @@ ghost use Rattle.shared_script.specs.Tasks.{ArePassed, IsMade, asked_in, calls_o
 use crate::fault::SharedFault;
 use crate::lane::Lane;
 use machine_model::Outcome;
-use trace_words::{Script, Task};
 use shared::{Answer, Aside, CoreSeat, Passed, Replied, SharedMachine, Whole};
 use std::alloc::Global;
 use std::hint::spin_loop;
 use std::sync::Wait;
 use std::thread::yield_now;
 use trace_words::fault::TraceFault;
+use trace_words::{Script, Task};
 use vm_base::{Reply, Request};
 
 /// How often a core that finds the machine out with another tries again at once, before it lets other threads run.

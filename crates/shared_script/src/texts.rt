@@ -13,14 +13,14 @@ use crate::running::{RunMachine, run_shared};
 use crate::writing::write_ran;
 use core_steps::Machine;
 use machine_model::SetupFault;
-use trace_words::{Script, read_script};
 use radix_range::RadixMap;
 use std::alloc::Global;
 use std::sync::Wait;
 use std::thread::Threads;
-use trace_words::fault::TraceFault;
 use trace_io::sink::Sink;
 use trace_io::source::Source;
+use trace_words::fault::TraceFault;
+use trace_words::{Script, read_script};
 
 // The machine that the script declares, which has no fault.
 fn machine_of(alloc: Global, script: &Script<Global>) -> Option<Tree>

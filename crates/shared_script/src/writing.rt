@@ -8,12 +8,12 @@ ghost use Rattle.shared_script.specs.Texts.{call_line, entry_line, shared_text, 
 
 use crate::logged::Logged;
 use crate::running::RunMachine;
-use trace_words::request_text::push_request;
-use trace_words::declaring::write_declaration;
 use shared::Replied;
-use trace_words::declaration::Declaration;
 use trace_io::sink::{Sink, WriteFailed, write_all};
 use trace_text::{LineText, push_number, push_reply};
+use trace_words::declaration::Declaration;
+use trace_words::declaring::write_declaration;
+use trace_words::request_text::push_request;
 use vm_base::{Entry, Request};
 
 // Replaces the text by the line of the call, with its reply, behind these words.

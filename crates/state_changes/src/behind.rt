@@ -6,10 +6,10 @@ ghost use Rattle.trace_io.specs.Lines.{lines_of};
 ghost use Rattle.state_changes.specs.Pages.{all_changed};
 
 use crate::marks::difference_text;
+use crate::spans::span_of;
+use crate::{StateRecorder, StateStep};
 use std::alloc::{AllocError, Global};
 use trace_io::lines::front_line;
-use crate::spans::span_of;
-use crate::{StateStep, StateRecorder};
 
 // What the steps make of the text, one after another.
 fn text_after(alloc: Global, text: &[u8], moments: &[StateStep]) -> Result<Vec<u8>, AllocError>

@@ -6,12 +6,12 @@ ghost use Rattle.trace_io.specs.Lines.{lines_of};
 ghost use Rattle.state_changes.specs.Data.{change_text, data_text, field_text, group_text, groups_text, moment_text, page_text, part_text, parts_text, steps_text};
 
 use crate::json::put_string;
-use crate::recorder::{StateStep, StateRecorder};
+use crate::recorder::{StateRecorder, StateStep};
 use crate::spans::span_of;
-use crate::{Difference, DiffOp};
-use trace_text::pieces::{Piece, put, put_all};
+use crate::{DiffOp, Difference};
 use std::alloc::{AllocError, Global};
 use trace_io::lines::front_line;
+use trace_text::pieces::{Piece, put, put_all};
 
 // Appends a part of a change.
 fn put_part(out: &mut Vec<u8>, part: DiffOp, added: &[u8]) -> Result<(), AllocError>

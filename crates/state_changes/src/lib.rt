@@ -23,4 +23,4 @@ pub mod template;
 pub use behind::changes_of;
 pub use differing::{Difference, difference_of};
 pub use part::DiffOp;
-pub use recorder::{StateStep, StateRecorder};
+pub use recorder::{StateRecorder, StateStep};

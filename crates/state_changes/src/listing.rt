@@ -6,8 +6,8 @@ ghost use Rattle.core_steps.specs.MapLines.{ListsMaps};
 ghost use Rattle.slot_lock.specs.declared.map_list.MapLine.{MapLine};
 ghost use Rattle.trace_text.specs.Listing.{mapping_text, maps_text};
 
-use machine_log::Ledger;
 use core_steps::Machine;
+use machine_log::Ledger;
 use slot_lock::{MapLine, SlotMap};
 use std::alloc::{AllocError, Allocator, Global};
 use trace_text::{LineText, write_map_line};

@@ -9,13 +9,13 @@ ghost use Rattle.state_changes.specs.Recorded.{Recorded, Records, HasAdded, IsFr
 
 use crate::listing::mappings_of;
 use crate::{Difference, difference_of};
-use machine_log::Ledger;
 use core_steps::Machine;
-use state_text::Form;
-use state_text::counts::put_counts;
+use machine_log::Ledger;
 use machine_model::{Event, Outcome};
 use slot_lock::SlotMap;
 use state_seen::mirror::Mirror;
+use state_text::Form;
+use state_text::counts::put_counts;
 use state_text::texts::put_state;
 use std::alloc::{AllocError, Allocator, Global};
 use std::marker::Model;

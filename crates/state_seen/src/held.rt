@@ -8,9 +8,9 @@ ghost use Rattle.state_seen.specs.Held.{held, invalidated, nothing_held, own_par
 use crate::deed::HardwareStep;
 use crate::tlb_lists::{PLACES, drop_page, fill, find, invalidate, permits};
 use arrayvec::ArrayVec;
+use mmu::Message;
 use mmu::entry::Translation;
 use mmu::tlb::TlbEntry;
-use mmu::Message;
 use slot_lock::Touch;
 use std::alloc::Allocator;
 use std::marker::Model;
@@ -139,7 +139,11 @@ impl CoreHeld {
     {
         match deed {
             HardwareStep::Nothing => {}
-            HardwareStep::Translate { touch, entry, .. } => translate(&mut self.tlb, *touch, *entry),
+            HardwareStep::Translate { touch, entry, .. } => translate(
+                &mut self.tlb,
+                *touch,
+                *entry,
+            ),
             HardwareStep::Shoot { range, .. } => invalidate(&mut self.tlb, *range),
             HardwareStep::Take(_) => {
                 obey(&mut self.tlb, self.inbox.as_slice());

@@ -5,12 +5,11 @@ ghost use Rattle.state_seen.specs.Held.{held, nothing_held};
 ghost use Rattle.state_seen.specs.Shown.{IsNothing, Seen};
 
 use crate::held::CoreHeld;
+use crate::{PageList, Used};
 use machine_model::Phase;
 use mmu::entry::Translation;
-use crate::PageList;
 use std::alloc::{AllocError, Allocator};
 use std::marker::Model;
-use crate::Used;
 
 /// The most cores.
 pub const CORES: usize = 64;

@@ -11,8 +11,8 @@ ghost use Rattle.state_seen.specs.declared.edit.TableStep.TheVariants as To;
 
 use crate::deed::HardwareStep;
 use crate::edit::TableStep;
-use machine_log::Ledger;
 use core_steps::Machine;
+use machine_log::Ledger;
 use machine_model::{Event, Phase};
 use mmu::entry::Translation;
 use slot_lock::{SlotMap, Touch};

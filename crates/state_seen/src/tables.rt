@@ -6,15 +6,15 @@ ghost use Rattle.core_steps.specs.Machine.{state};
 ghost use Rattle.state_seen.specs.Edits.{after_edit, edited, table_at, taken_from};
 ghost use Rattle.state_seen.specs.Shown.{inboxes};
 
+use crate::PageList;
 use crate::edit::TableStep;
 use crate::held::CoreHeld;
 use crate::reading::entry_of;
-use machine_log::Ledger;
 use core_steps::Machine;
+use machine_log::Ledger;
 use machine_model::Outcome;
-use mmu::entry::Translation;
-use crate::PageList;
 use mmu::Message;
+use mmu::entry::Translation;
 use slot_lock::SlotMap;
 use std::alloc::Allocator;
 use vm_base::{CoreId, PageRange};

@@ -6,9 +6,9 @@ ghost use Rattle.machine_model.specs.Holding.{some_has};
 ghost use Rattle.state_seen.specs.Lists.{at_page};
 ghost use Rattle.state_seen.specs.Used.{used_in, used_of};
 
-use machine_log::Ledger;
-use core_steps::Machine;
 use crate::PageList;
+use core_steps::Machine;
+use machine_log::Ledger;
 use slot_lock::SlotMap;
 use std::alloc::Allocator;
 use vm_base::info::is_leaf;

@@ -12,12 +12,12 @@ use crate::held::{CoreHeld, act_at, tell_all};
 use crate::mirror::{CORES, Mirror};
 use crate::reading::{deed_of, edit_of};
 use crate::tables::edit_tables;
-use machine_log::Ledger;
+use crate::used::follow;
 use core_steps::Machine;
+use machine_log::Ledger;
 use machine_model::{Event, Outcome, Phase};
 use slot_lock::SlotMap;
 use std::alloc::Allocator;
-use crate::used::follow;
 use vm_base::{CoreId, NoMemory, PageRange};
 use watched::Watch;
 

@@ -6,12 +6,12 @@ ghost use Rattle.state_seen.specs.PageTexts.{texts_below};
 ghost use Rattle.state_text.specs.Counts.{core_counts, counts_at, counts_text, delta_line, delta_object, delta_text, delta_words, dirty_word, flushed_line};
 ghost use Rattle.state_text.specs.Counts.{flushed_text, frame_counts, frame_line, minus, queue_line, queue_object, queue_words, sign, used_text};
 
-use machine_log::Ledger;
 use core_steps::Machine;
-use trace_text::pieces::{Piece, put_all};
+use machine_log::Ledger;
 use refcache::Queued;
 use slot_lock::SlotMap;
 use std::alloc::{AllocError, Allocator};
+use trace_text::pieces::{Piece, put_all};
 use vm_base::CoreId;
 
 /// How the counts are written.

@@ -11,16 +11,16 @@ ghost use Rattle.state_text.specs.Texts.{rights_of};
 ghost use Rattle.state_text.specs.Words.{held_spot};
 
 use crate::page_objects::{put_mappings, put_pages};
+use crate::words::{WorkPages, call_word, doing_word, held_spot, spot_of, taken_in};
 use machine_model::Phase;
+use mmu::Message;
 use mmu::entry::Translation;
 use mmu::tlb::TlbEntry;
-use state_seen::{OfPage, PageList};
-use trace_text::pieces::{Piece, put, put_all};
-use mmu::Message;
 use state_seen::held::CoreHeld;
 use state_seen::mirror::Mirror;
-use crate::words::{WorkPages, call_word, doing_word, held_spot, spot_of, taken_in};
+use state_seen::{OfPage, PageList};
 use std::alloc::{AllocError, Allocator};
+use trace_text::pieces::{Piece, put, put_all};
 use vm_base::{CoreId, Prot};
 
 // Which take of a message is due.

@@ -8,11 +8,10 @@ ghost use Rattle.state_text.specs.PageObjects.{comma, cores_json, frame_json, ma
 ghost use Rattle.state_text.specs.PageObjects.{used_object};
 ghost use Rattle.vm_base.specs.Cores.{members};
 
-use state_seen::{OfPage, PageList};
-use trace_text::pieces::{Piece, put, put_all};
+use state_seen::{OfPage, PageList, Used};
 use std::alloc::{AllocError, Allocator};
 use trace_io::lines::front_line;
-use state_seen::Used;
+use trace_text::pieces::{Piece, put, put_all};
 use vm_base::{CoreId, CoreSet};
 
 // Appends a frame, if there is one.

@@ -7,8 +7,8 @@ ghost use Rattle.state_text.specs.PageTexts.{cores_text, entry_line, frame_text,
 
 use state_seen::used::Used;
 use state_seen::{OfPage, PageList};
-use trace_text::pieces::{Piece, put, put_all};
 use std::alloc::{AllocError, Allocator};
+use trace_text::pieces::{Piece, put, put_all};
 use vm_base::{CoreId, CoreSet};
 
 // Appends a frame, if there is one.

@@ -9,17 +9,17 @@ ghost use Rattle.state_text.specs.Texts.{tlb_line, took_line, took_text, work_te
 ghost use Rattle.state_text.specs.Words.{held_spot};
 ghost use Rattle.machine_model.specs.Holding.{taken_in};
 
-use state_seen::held::CoreHeld;
-use state_seen::mirror::Mirror;
+use crate::page_texts::put_pages;
 use crate::words::{WorkPages, call_word, doing_word, held_spot, spot_of, taken_in};
 use machine_model::Phase;
+use mmu::Message;
 use mmu::entry::Translation;
 use mmu::tlb::TlbEntry;
+use state_seen::held::CoreHeld;
+use state_seen::mirror::Mirror;
 use state_seen::{OfPage, PageList};
-use trace_text::pieces::{Piece, put, put_all};
-use mmu::Message;
 use std::alloc::{AllocError, Allocator};
-use crate::page_texts::put_pages;
+use trace_text::pieces::{Piece, put, put_all};
 use vm_base::{CoreId, Prot};
 
 // Which take of a message is due.

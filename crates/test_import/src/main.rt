@@ -16,9 +16,9 @@ use std::fs::File;
 use std::io::Write;
 use std::process::ExitCode;
 use trace::replay::replay;
-use trace_words::show::Show;
 use trace_io::sink::TrackedSink;
 use trace_io::source::{Counted, read_all};
+use trace_words::show::Show;
 
 // How many lines of a text begin with an address, are `done`, are a byte, and are anything else.
 #[derive(Clone, Copy)]

@@ -12,8 +12,8 @@ use machine_model::Outcome;
 use seats::Seat;
 use std::alloc::{Allocator, Global};
 use std::sync::Wait;
-use trace_words::outcome_text::write_outcome;
 use trace_text::{LineText, read_line};
+use trace_words::outcome_text::write_outcome;
 use vm_base::NoMemory;
 
 // Appends the result of one thing.

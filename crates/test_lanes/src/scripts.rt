@@ -3,10 +3,8 @@
 use crate::script::setup_of;
 use audit::{Auditor, Call};
 use certifier::CertifyFault;
-use machine_model::Setup;
 use live_script::{OnThreads, RunSpace, Runner, begin, certify_ran, run_in_turn};
-use machine_model::{Event, Outcome};
-use trace_words::{Script, read_script};
+use machine_model::{Event, Outcome, Setup};
 use radix_range::RadixMap;
 use seats::{Noted, Notes};
 use std::alloc::{Allocator, Global};
@@ -16,6 +14,7 @@ use test_support::random::Random;
 use test_support::setups::declared;
 use trace_io::source::Counted;
 use trace_text::address_text;
+use trace_words::{Script, read_script};
 use vm_base::{NoMemory, Reply};
 
 /// What the cores of a space are asked for.

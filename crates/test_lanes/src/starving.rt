@@ -14,19 +14,19 @@ use crate::rows::{push_line, push_lines};
 use crate::script::request_of;
 use crate::scripts::script_of;
 use certifier::CertifyFault;
-use machine_model::SetupFault;
 use linked_list_allocator::LocalHeap;
-use live_script::{InTurn, RunSpace, ScriptFault, Runner, begin, certify_ran, finish_in_turn};
+use live_script::{InTurn, RunSpace, Runner, ScriptFault, begin, certify_ran, finish_in_turn};
 use live_space::fault::LiveFault;
 use live_space::gate::Point;
 use live_space::space::Live;
-use trace_words::Script;
+use machine_model::SetupFault;
 use seats::Seat;
 use std::alloc::{Allocator, Global};
 use std::sync::Wait;
 use std::thread::Threads;
 use test_support::heaps::{HeapBlock, fill};
 use trace_text::read_line;
+use trace_words::Script;
 use vm_base::{NoMemory, Reply};
 
 /// Room for a space, in bytes.

@@ -3,8 +3,7 @@ ghost use Rattle.std.specs.Prelude.{◌≡◌, ◌<◌, ◌≤◌, IfOk, false, 
 ghost use Rattle.vm_base.specs.Requests.{is_placed};
 
 use frames::{FileSpec, Objects};
-use litmus_merges::Asked;
-use litmus_merges::{Explored, are_named, explore, lead};
+use litmus_merges::{Asked, Explored, are_named, explore, lead};
 use std::alloc::Global;
 use std::test::Fail;
 use vm_base::{CoreId, Flags, Mode, NoMemory, Prot, Reply, Request, SegvCode};

@@ -1,7 +1,7 @@
 //! What a space tells of itself, the texts of faults, and what is said about histories that are another space's.
-use machine_model::SetupFault;
 use live_script::ScriptFault;
 use live_space::fault::LiveFault;
+use machine_model::SetupFault;
 use std::test::Fail;
 use test_lanes::rows::shape_of;
 use test_lanes::scripts::astray_beside_unused;

@@ -3,20 +3,19 @@
 ghost use Rattle.slot_lock.specs.Slots.{IsNew};
 
 use crate::machines::{Space, machine_over, push_outcomes};
-use machine_log::KeepsAll;
 use core_steps::{RunFault, run};
-use machine_model::{Setup, SetupFault};
 use linked_list_allocator::LocalHeap;
-use machine_model::Event;
+use machine_log::KeepsAll;
+use machine_model::{Event, Setup, SetupFault};
 use slot_lock::{SlotList, SlotMap};
 use std::alloc::{Allocator, Global};
 use std::test::Fail;
 use test_support::setups::declared;
-use trace_words::fault::TraceFault;
 use trace::replay::replay;
-use trace_words::show::Show;
 use trace_io::sink::TrackedSink;
 use trace_io::source::Counted;
+use trace_words::fault::TraceFault;
+use trace_words::show::Show;
 use vm_base::{CoreId, Flags, NoMemory, Prot, Request};
 
 /// mmap 0x10000 4096 rw- pfa, and three steps of it.

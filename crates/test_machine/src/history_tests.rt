@@ -5,13 +5,13 @@ ghost use Rattle.std.specs.Prelude.{◌<◌, ◌^◌};
 use crate::noting::notes_of_lines;
 use crate::starved::AMPLE;
 use certifier::{Certified, CertifyFault, certify};
-use machine_model::Setup;
 use linked_list_allocator::LocalHeap;
 use live_levels::act::Act;
 use live_levels::level::Stepper;
-use live_tree::held::{HoldStep, Held};
+use live_tree::held::{Held, HoldStep};
 use live_tree::histories::Histories;
 use live_tree::tree::SharedTree;
+use machine_model::Setup;
 use seats::{Noted, Notes};
 use std::alloc::{Allocator, Global};
 use std::sync::Wait;
@@ -109,7 +109,8 @@ fn lock_page<'a, A: Allocator + Clone, R: Wait>(
         }
         match held.lock_next(rt, tree, dealer, CoreId::new(0), page + 1, 1) {
             HoldStep::Locked | HoldStep::Split => {}
-            HoldStep::Owned(_) | HoldStep::Unseen | HoldStep::NoMemory | HoldStep::Lost => return false,
+            HoldStep::Owned(_) | HoldStep::Unseen | HoldStep::NoMemory | HoldStep::Lost =>
+                return false,
         }
     }
     false

@@ -1,5 +1,5 @@
 //! A log of entries at the edges of what goes into sixteen bytes, and past them.
-use machine_log::{Ledger, KeepsLog, Opening};
+use machine_log::{KeepsLog, Ledger, Opening};
 use std::alloc::{AllocError, Global};
 use vm_base::{CoreId, Entry, Errno, Reply, SegvCode};
 

@@ -4,22 +4,22 @@ ghost use Rattle.slot_lock.specs.Slots.{IsNew};
 ghost use Rattle.core_steps.specs.Machine.{state};
 
 use crate::by_hand::{Moves, outcome_of};
-use machine_log::KeepsAll;
 use core_steps::Machine;
+use machine_log::KeepsAll;
 use machine_model::{Event, Outcome};
 use radix_range::RadixMap;
 use slot_lock::{MapLine, SlotList, SlotMap};
 use std::alloc::{Allocator, Global};
 use test_support::setups::declared;
-use trace_words::declaration::Declaration;
-use trace_words::outcome_text::write_outcome;
 use trace::replay::replay;
-use trace_words::show::Show;
 use trace_io::sink::TrackedSink;
 use trace_io::source::Counted;
 use trace_text::{
     LineText, address_text, number_text, read_line, write_answer, write_detach, write_map_line,
 };
+use trace_words::declaration::Declaration;
+use trace_words::outcome_text::write_outcome;
+use trace_words::show::Show;
 use vm_base::{CoreId, Entry, NoMemory};
 
 /// A machine as the program has it. It is named here alone.

@@ -1,11 +1,11 @@
 //! Notes as text: what is written of them, and what certifying a text comes to.
-use trace_words::{Script, read_script};
 use notes_text::{certify_text, write_notes};
 use seats::Notes;
 use std::alloc::{Allocator, Global};
-use trace_words::fault::TraceFault;
 use trace_io::sink;
 use trace_io::source::Counted;
+use trace_words::fault::TraceFault;
+use trace_words::{Script, read_script};
 use vm_base::NoMemory;
 
 /// What a script says, in this memory.

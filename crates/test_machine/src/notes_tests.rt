@@ -8,8 +8,8 @@ use seats::{NoteList, Noted, Notes};
 use std::alloc::Global;
 use std::test::Fail;
 use test_support::random::Random;
-use trace_words::outcome_text::write_outcome;
 use trace_text::LineText;
+use trace_words::outcome_text::write_outcome;
 use vm_base::NoMemory;
 
 /// What is wrong with the notes, whose tickets are their places.

@@ -11,8 +11,8 @@ use slot_lock::{SlotList, SlotMap};
 use std::alloc::{Allocator, Global};
 use test_support::heaps::{HeapBlock, fill};
 use test_support::setups::declared;
-use trace_words::outcome_text::write_outcome;
 use trace_text::{LineText, read_line};
+use trace_words::outcome_text::write_outcome;
 use vm_base::NoMemory;
 
 /// Room for each machine of the tables.

@@ -5,11 +5,11 @@ use crate::noting::notes_of_lines;
 use crate::starved::AMPLE;
 use linked_list_allocator::LocalHeap;
 use machine_model::{Event, Outcome};
-use trace_words::Script;
 use seats::{Noted, Notes};
 use std::alloc::{Allocator, Global};
 use std::test::Fail;
 use test_support::heaps::{HeapBlock, fill};
+use trace_words::Script;
 use vm_base::{CoreId, NoMemory, Reply, Request, SegvCode};
 
 /// What is told of a refusal, with nothing before it.

@@ -2,11 +2,11 @@
 use std::alloc::Global;
 use std::io;
 use std::io::{ErrorKind, Read, Write};
-use trace_words::fault::TraceFault;
 use trace::replay::replay;
-use trace_words::show::Show;
 use trace_io::sink::TrackedSink;
 use trace_io::source::Counted;
+use trace_words::fault::TraceFault;
+use trace_words::show::Show;
 
 /// Gives one byte a read, and fails at the read with this number, counted from 0.
 #[derive(Drop)]

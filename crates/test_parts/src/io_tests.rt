@@ -3,8 +3,8 @@ use std::alloc::{AllocError, Global};
 use std::io;
 use std::io::{ErrorKind, Read, Write};
 use std::test::Fail;
-use trace_io::lines::{NextLine, LineReader, NoLine};
-use trace_io::sink::{TrackedSink, Sink, WriteFailed, write_all};
+use trace_io::lines::{LineReader, NextLine, NoLine};
+use trace_io::sink::{Sink, TrackedSink, WriteFailed, write_all};
 use trace_io::source::{Counted, ReadFailed, Source};
 
 // Gives one byte a read, and fails at a read.

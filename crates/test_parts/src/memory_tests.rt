@@ -3,8 +3,7 @@
 ghost use Rattle.std.specs.Prelude.{◌<◌};
 
 use crate::script::lock;
-use frames::{FileSpec, Objects};
-use frames::{FrameCell, Frames};
+use frames::{FileSpec, FrameCell, Frames, Objects};
 use linked_list_allocator::LocalHeap;
 use mmu::{Cpu, Hardware};
 use radix_node::Node;

@@ -3,7 +3,7 @@ ghost use Rattle.std.specs.Prelude.{◌≡◌, ◌+◌, ◌*◌, ◌<◌, ◌≤
 
 use crate::tree_tests::{Counter, change, change_held, let_all_go, lock_all};
 use live_levels::act::Act;
-use live_tree::held::{HoldStep, Held};
+use live_tree::held::{Held, HoldStep};
 use live_tree::tree::SharedTree;
 use std::alloc::Global;
 use std::sync::Wait;

@@ -6,7 +6,7 @@ use crate::words::numbers_of;
 use live_levels::act::Act;
 use live_levels::level::{Next, SlotCut, Stepper};
 use live_tree::held::cut::Cutting;
-use live_tree::held::{HoldStep, Held};
+use live_tree::held::{Held, HoldStep};
 use live_tree::tree::SharedTree;
 use std::alloc::Global;
 use std::sync::Wait;
@@ -71,7 +71,8 @@ pub(crate) fn lock_all<'a, R: Wait>(
         match held.lock_next(rt, tree, counter, core, end, 1) {
             HoldStep::Locked => {}
             HoldStep::Split => splits = splits.saturating_add(1),
-            HoldStep::Owned(_) | HoldStep::Unseen | HoldStep::NoMemory | HoldStep::Lost => return None,
+            HoldStep::Owned(_) | HoldStep::Unseen | HoldStep::NoMemory | HoldStep::Lost =>
+                return None,
         }
     }
     None
@@ -208,7 +209,11 @@ fn asked<R: Wait>(
     match got {
         HoldStep::Locked => [1, 0, counter.steps],
         HoldStep::Owned(owner) => [2, u64::from(owner.index()), counter.steps],
-        HoldStep::Split | HoldStep::Unseen | HoldStep::NoMemory | HoldStep::Lost => [0, 0, counter.steps],
+        HoldStep::Split | HoldStep::Unseen | HoldStep::NoMemory | HoldStep::Lost => [
+            0,
+            0,
+            counter.steps,
+        ],
     }
 }
 

@@ -7,10 +7,10 @@ use std::test::Fail;
 use test_support::oracle::Oracle;
 use test_support::random::Random;
 use trace::replay::replay;
-use trace_words::show::Show;
 use trace_io::sink::TrackedSink;
 use trace_io::source::Counted;
 use trace_text::{Line, LineText, push_reply, read_line};
+use trace_words::show::Show;
 use vm_base::{CoreId, NoMemory, Reply, Request, SegvCode};
 
 /// Whether this reply was given, and is written so.

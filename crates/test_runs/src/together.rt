@@ -1,6 +1,5 @@
 //! Scripts that look random, whose cores share a machine, each on a thread of its own.
 use crate::logged::machine;
-use trace_words::read_script;
 use shared::{Answer, SharedMachine};
 use shared_script::texts::run_script;
 use shared_script::{RunMachine, Tree};
@@ -10,6 +9,7 @@ use std::thread::Threads;
 use test_support::random::Random;
 use trace_io::source::Counted;
 use trace_text::address_text;
+use trace_words::read_script;
 use vm_base::{Entry, NoMemory, Reply, Request};
 
 /// How many cores there are: more threads than most machines have processors.

@@ -5,7 +5,9 @@ ghost use Rattle.std.specs.Prelude.{◌≡◌};
 use crate::asks::{FIRST, maps};
 use crate::logged::machine;
 use machine_model::{Event, Outcome};
-use shared::{Answer, Aside, Calls, CoreSeat, Passed, ShareFault, Series, SharedMachine, SeriesEnd, Whole};
+use shared::{
+    Answer, Aside, Calls, CoreSeat, Passed, Series, SeriesEnd, ShareFault, SharedMachine, Whole,
+};
 use shared_script::Tree;
 use std::alloc::Global;
 use std::test::Fail;
@@ -26,7 +28,11 @@ fn is_told<S: Whole + Drop>(
 
 /// Whether all calls of the two cores are answered as they are on a machine of one thread. The page
 /// that is unmapped has a translation on both cores, so that the unmapping waits for the other.
-fn are_told<S: Whole + Drop>(space: &SharedMachine<S>, one: &mut CoreSeat<S>, two: &mut CoreSeat<S>) -> bool
+fn are_told<S: Whole + Drop>(
+    space: &SharedMachine<S>,
+    one: &mut CoreSeat<S>,
+    two: &mut CoreSeat<S>,
+) -> bool
     requires one { one.old.space ≡ space.now.table.shared.table_id }
     requires two { two.old.space ≡ space.now.table.shared.table_id }
     ensures one { one.new.space ≡ one.old.space }

@@ -1,6 +1,6 @@
 //! What a text of lines asks for.
-use trace_words::declaration::{Declaration, FileLine};
 use trace_text::{Line, read_line};
+use trace_words::declaration::{Declaration, FileLine};
 
 /// What the `vm` and `file` lines of a trace or a script ask for.
 pub fn declared(text: &str) -> Declaration {

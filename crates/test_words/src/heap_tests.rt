@@ -2,20 +2,20 @@
 use crate::streams::{
     AMPLE, Dripping, Filling, Ran, dripping_of, ran_of, run_words, sink_of, text_of,
 };
-use machine_model::CallLimit;
 use linked_list_allocator::LocalHeap;
 use live_script::InTurn;
-use word_runs::certifying::certify;
-use word_runs::job::{run, run_echoing};
-use word_runs::live::{certify_live, live};
+use machine_model::CallLimit;
 use std::alloc::Global;
 use std::sync::Wait;
 use std::test::Fail;
 use std::thread::Threads;
-use trace_words::show::Show;
 use trace_io::sink::TrackedSink;
 use trace_io::source::Counted;
+use trace_words::show::Show;
 use word_parts::asked::Shows;
+use word_runs::certifying::certify;
+use word_runs::job::{run, run_echoing};
+use word_runs::live::{certify_live, live};
 
 // Words, and below each what it reads, with `; ` between its lines, and what goes out.
 const TEXTS: &str = "\

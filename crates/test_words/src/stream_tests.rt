@@ -1,10 +1,10 @@
 //! Each read that fails is told, and each write that fails, takes no byte, or isn't handed on; what went out before is a front of
 //! what goes out where none fails.
 use crate::streams::{AMPLE, Limits, Ran, run_words, text_of};
-use word_help::{Topic, page};
 use std::alloc::Global;
 use std::sync::Wait;
 use std::thread::Threads;
+use word_help::{Topic, page};
 use word_parts::input::Files;
 
 // Words, and below them what they read, with `; ` between its lines.

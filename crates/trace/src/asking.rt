@@ -2,12 +2,12 @@
 ghost use Rattle.std.specs.Prelude.{◌≡◌, ◌+◌, ◌≤◌, ◌++◌, length};
 ghost use Rattle.trace.specs.Asking.{asked_text, begins_call, call_asked, line_core};
 
-use machine_log::LoggedEntries;
-use trace_words::request_text::push_request;
-use slot_lock::MapLine;
-use trace_words::fault::TraceFault;
 use crate::replayer::Staged;
+use machine_log::LoggedEntries;
+use slot_lock::MapLine;
 use trace_text::{Action, Line, LineText, push_number, read_line};
+use trace_words::fault::TraceFault;
+use trace_words::request_text::push_request;
 use vm_base::{CoreId, Request};
 
 /// A call that began: the number of the line that asked for it, and what it asked for.

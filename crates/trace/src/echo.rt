@@ -14,21 +14,21 @@ ghost use Rattle.trace.specs.Numbered.{texts_of};
 ghost use Rattle.trace.specs.Asking.{nothing_asked, whose_text};
 ghost use Rattle.trace.specs.Echo.{EchoEnds, added_text, echo, echo_limit, entry_line, shaded, unended};
 
+use crate::LogLines;
 use crate::asking::{Asking, Asks};
-use arrayvec::ArrayVec;
-use machine_model::CallLimit;
-use machine_log::{KeepsNone, KeepsLog, LoggedEntries, Opening};
 use crate::numbered::text_at;
-use std::alloc::Allocator;
-use trace_words::fault::TraceFault;
 use crate::replay::{Replayed, turn};
 use crate::replayer::{Replayer, Staged};
 use crate::shown::Showing;
+use arrayvec::ArrayVec;
+use machine_log::{KeepsLog, KeepsNone, LoggedEntries, Opening};
+use machine_model::CallLimit;
+use std::alloc::Allocator;
 use trace_io::lines::{LineReader, line_reader};
 use trace_io::sink::{Sink, WriteFailed, write_all};
 use trace_io::source::Source;
 use trace_text::{Line, LineText, read_line};
-use crate::LogLines;
+use trace_words::fault::TraceFault;
 use watched::Unwatched;
 
 // Room for a line of a trace, in colours, the sign after it, and a line of output.

@@ -9,16 +9,16 @@ ghost use Rattle.trace.specs.Seen.{Sees};
 ghost use Rattle.trace_text.specs.Front.{access_asked, step_asked};
 ghost use Rattle.vm_base.specs.declared.requests.Request.TheVariants.{Load, Store};
 
-use trace_words::events::event_of;
-use trace_words::fault::TraceFault;
 use crate::finished_text::write_finished;
-use trace_words::outcome_text::write_outcome;
-use machine_log::Ledger;
 use core_steps::Machine;
+use machine_log::Ledger;
 use machine_model::{Event, Outcome};
 use slot_lock::SlotMap;
 use std::alloc::Allocator;
 use trace_text::{Action, AskedAccess, AskedStep, Line, LineText};
+use trace_words::events::event_of;
+use trace_words::fault::TraceFault;
+use trace_words::outcome_text::write_outcome;
 use vm_base::{CoreId, NoMemory, Request};
 use watched::{Unwatched, Watch};
 

@@ -2,10 +2,10 @@
 ghost use Rattle.std.specs.Prelude.{◌≡◌};
 ghost use Rattle.trace.specs.FinishedText.{finished_text};
 
-use trace_words::outcome_text::{write_outcome, write_reply, write_word};
 use core_steps::Finished;
 use machine_model::Outcome;
 use trace_text::LineText;
+use trace_words::outcome_text::{write_outcome, write_reply, write_word};
 
 /// Replaces the text by that of a finished call, with its newline: its last outcome, or `stuck`.
 #[inline(always)]

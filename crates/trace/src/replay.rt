@@ -17,18 +17,18 @@ ghost use Rattle.machine_model.specs.Setups.{Fits};
 ghost use Rattle.machine_model.specs.declared.setup.CallLimit.{CallLimit};
 ghost use Rattle.machine_model.specs.declared.setup.CallLimit.TheVariants.{Usual};
 
-use trace_words::fault::{TraceFault, status_of_fault};
 use crate::replayer::{Replayer, Staged};
-use trace_words::show::Show;
 use crate::shown::{Showing, write_log, write_maps};
+use machine_log::{KeepsLog, KeepsNone, Opening};
 use machine_model::CallLimit;
-use machine_log::{KeepsNone, KeepsLog, Opening};
 use std::alloc::Allocator;
 use std::io::Write;
-use trace_io::lines::{NextLine, LineReader, NoLine, line_reader};
+use trace_io::lines::{LineReader, NextLine, NoLine, line_reader};
 use trace_io::sink::Sink;
 use trace_io::source::Source;
 use trace_text::LineText;
+use trace_words::fault::{TraceFault, status_of_fault};
+use trace_words::show::Show;
 use watched::{Summary, Unwatched, Watch};
 
 /// Acts on the next line and writes what is shown of it, or answers false where there is none.

@@ -14,12 +14,10 @@ ghost use Rattle.trace_words.specs.Kinds.{kind_of};
 ghost use Rattle.trace.specs.Seen.{Grows, SeesAll, SeesEvent};
 ghost use Rattle.trace.specs.Shown.{HasNoneAt, IsNextAt, IsStartAt, log_at};
 
-use trace_words::declaration::{Declaration, FileLine};
 use crate::event_lines::{tell_access, tell_asked, tell_call, watch_line};
-use trace_words::fault::TraceFault;
-use machine_model::{CallLimit, SetupFault};
-use machine_log::{Ledger, LoggedEntries, Opening};
 use core_steps::Machine;
+use machine_log::{Ledger, LoggedEntries, Opening};
+use machine_model::{CallLimit, SetupFault};
 use mmu::{Cpu, Hardware};
 use radix_range::RadixMap;
 use slot_lock::{MapLine, SlotMap};
@@ -28,6 +26,8 @@ use trace_text::{
     AskedAccess, AskedStep, Line, LineText, first_word_is_file, first_word_is_vm,
     is_printable_line, read_access, read_call, read_line, read_step,
 };
+use trace_words::declaration::{Declaration, FileLine};
+use trace_words::fault::TraceFault;
 use vm_base::{CoreId, Request};
 use watched::Watch;
 

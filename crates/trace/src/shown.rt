@@ -8,12 +8,12 @@ ghost use Rattle.trace.specs.Shown.{told, IsBegunBehind, IsBehind};
 ghost use Rattle.trace_text.specs.Lists.{log_text};
 ghost use Rattle.trace.specs.LogLines.{HasRoom, so_far};
 
+use crate::LogLines;
 use crate::replayer::Staged;
-use trace_words::show::Show;
 use machine_log::LoggedEntries;
 use trace_io::sink::{Sink, WriteFailed, write_all};
 use trace_text::{LineText, write_map_line};
-use crate::LogLines;
+use trace_words::show::Show;
 
 /// What a replay shows of a line.
 pub trait Showing {

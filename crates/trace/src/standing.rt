@@ -9,12 +9,10 @@ ghost use Rattle.trace_words.specs.Faults.{fault_named};
 ghost use Rattle.trace.specs.Seen.{IsSeenWith};
 ghost use Rattle.trace_words.specs.declared.show.Show.TheVariants.{Maps};
 
-use trace_words::fault::TraceFault;
 use crate::replay::replay_lines;
 use crate::replayer::Replayer;
-use trace_words::show::Show;
-use machine_log::KeepsNone;
 use core_steps::Machine;
+use machine_log::KeepsNone;
 use mmu::{Cpu, Hardware};
 use radix_range::RadixMap;
 use slot_lock::SlotMap;
@@ -23,6 +21,8 @@ use trace_io::lines::line_reader;
 use trace_io::sink::Sink;
 use trace_io::source::Source;
 use trace_text::LineText;
+use trace_words::fault::TraceFault;
+use trace_words::show::Show;
 use watched::Watch;
 
 /// A replay at its end.

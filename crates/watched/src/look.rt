@@ -5,8 +5,8 @@ ghost use Rattle.vm_base.specs.Cores.{members};
 ghost use Rattle.frames.specs.Bits.{count_below};
 ghost use Rattle.watched.specs.Sums.{in_use, looked, stand_in, stand_of};
 
-use machine_log::Ledger;
 use core_steps::Machine;
+use machine_log::Ledger;
 use machine_model::Phase;
 use slot_lock::{Goal, SlotMap};
 use std::alloc::Allocator;

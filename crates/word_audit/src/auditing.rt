@@ -10,10 +10,10 @@ use overlapping::{By, Ruling, audit_text, judge_overlapping};
 use radix_range::RadixMap;
 use std::alloc::Global;
 use std::io::Write;
-use trace_words::fault::TraceFault;
 use trace_io::IoFault;
 use trace_io::sink::Sink;
 use trace_io::source::{Source, read_all};
+use trace_words::fault::TraceFault;
 use word_parts::asked::Overlaps;
 use word_parts::ended::{Ended, Trouble};
 

@@ -7,9 +7,9 @@ use crate::forms::{TextKind, add_expected, is_line, reach};
 use crate::naming::explain_outcome;
 use machine_model::{CallLimit, SetupFault};
 use std::io::Write;
-use trace_words::fault::TraceFault;
 use trace_text::number::read_number;
 use trace_text::{Line, first_word_is_vm, is_printable, read_line};
+use trace_words::fault::TraceFault;
 use word_parts::keeping::KeptText;
 use word_parts::pointing::{
     Text, behind, expect, front, point, word_at, word_start, words_in, write_text,
@@ -115,7 +115,9 @@ fn explain_event<E: Write>(manner: Manner, line: &[u8], errors: &mut E) {
 fn explain_words<E: Write>(manner: Manner, line: &[u8], errors: &mut E) {
     let is_declaration = matches!(word_at(line, 0), b"vm" | b"file");
     match manner.kind {
-        TextKind::Notes | TextKind::Replies if !is_declaration => explain_event(manner, line, errors),
+        TextKind::Notes | TextKind::Replies if !is_declaration => explain_event(
+            manner, line, errors,
+        ),
         TextKind::Notes => {
             let declaring = Manner {
                 kind: TextKind::Trace,

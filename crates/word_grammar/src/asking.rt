@@ -7,15 +7,15 @@ ghost use Rattle.litmus.specs.declared.telling.LitmusAsk.{LitmusAsk};
 ghost use Rattle.word_parts.specs.declared.asked.WitnessPicture.{WitnessPicture};
 ghost use Rattle.machine_model.specs.declared.setup.CallLimit.{CallLimit};
 
+use crate::grammar;
 use audit_text::Terms;
 use clap::{ArgMatches, Error};
-use machine_model::CallLimit;
-use crate::grammar;
-use word_help::Topic;
 use import_text::processes::Choice;
 use litmus::{Listing, LitmusAsk};
+use machine_model::CallLimit;
 use std::alloc::{AllocError, Allocator, Global};
 use trace_words::show::Show;
+use word_help::Topic;
 use word_parts::asked::{Drawing, Echoed, LineRange, Overlaps, Shows, StepRange, WitnessPicture};
 
 /// What has to be done with a text.

@@ -5,8 +5,8 @@ ghost use Rattle.clap.specs.Words.{app_of, subcommand_names};
 ghost use Rattle.word_grammar.specs.Names.{name_of_word, program_words};
 
 use clap::{Arg, ArgAction, Command, value_parser};
-use word_help::{OVERVIEW, TOPICS, Topic, USAGE, VERSION, page};
 use std::alloc::{AllocError, Global};
+use word_help::{OVERVIEW, TOPICS, Topic, USAGE, VERSION, page};
 
 // What stands behind a choice.
 #[derive(Clone, Copy)]

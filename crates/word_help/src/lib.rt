@@ -11,7 +11,6 @@ mod traces;
 ghost use Rattle.std.specs.Prelude.{◌≡◌};
 ghost use Rattle.word_help.specs.Help.{page_of};
 
-
 use crate::texts::{AUDIT, IMPORT, LITMUS, NOTES, PICTURE, THREADS};
 use crate::traces::{CORES, FAULTS, LOG, MAPS, OUTCOMES, PAGE, RUN, STATE, TRACE};
 

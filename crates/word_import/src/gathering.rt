@@ -25,7 +25,11 @@ pub struct Ungathered<'a> {
 }
 
 // Reads a log to its end.
-fn read_log<'a, F: Files>(files: &F, alloc: Global, name: &'a str) -> Result<TimedLog, Ungathered<'a>>
+fn read_log<'a, F: Files>(
+    files: &F,
+    alloc: Global,
+    name: &'a str,
+) -> Result<TimedLog, Ungathered<'a>>
     ensures { IfOk result (λ log. log.thread ≡ thread_of name.entry) }
 {
     let file = match files.open(name) {
@@ -117,7 +121,12 @@ fn path_in(alloc: Global, folder: &str, number: u64) -> Result<String, AllocErro
 }
 
 // Writes the trace of a process, if it has one, into this folder.
-fn save_part<F: Files>(files: &F, alloc: Global, folder: &str, part: &ProcessTrace) -> io::Result<()>
+fn save_part<F: Files>(
+    files: &F,
+    alloc: Global,
+    folder: &str,
+    part: &ProcessTrace,
+) -> io::Result<()>
     ensures { OnOk result (IsSaved (F.saved files.now) folder.now part.now) }
 {
     match part.ending {

@@ -15,13 +15,12 @@ ghost use Rattle.trace_io.specs.Sink.{AppendsFront};
 use crate::held::Held;
 use crate::picturing::record;
 use machine_model::CallLimit;
-use trace::echo::replay_echoing;
-use state_changes::changes_of;
+use state_changes::{StateRecorder, changes_of};
 use std::alloc::Global;
-use trace_words::fault::TraceFault;
+use trace::echo::replay_echoing;
 use trace_io::sink::{Sink, write_all};
 use trace_io::source::Counted;
-use state_changes::StateRecorder;
+use trace_words::fault::TraceFault;
 use word_parts::asked::Echoed;
 
 // What the lines show, with these texts below them, where there is memory for it.

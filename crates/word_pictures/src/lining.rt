@@ -13,21 +13,20 @@ ghost use Rattle.trace_io.specs.Sink.{AppendsFront};
 ghost use Rattle.trace_io.specs.Source.{Reads};
 
 use crate::picturing::record;
-use draw_records::ColumnRecorder;
+use crate::reading::read_lines;
+use crate::traced::traced;
+use draw_lines::canvas::{Scene, draw};
 use draw_records::lines::asking_of;
 use draw_records::margin::Margin;
+use draw_records::{ColumnRecorder, Recorder};
 use machine_model::CallLimit;
-use crate::reading::read_lines;
-use draw_lines::canvas::{Scene, draw};
-use crate::traced::traced;
-use draw_records::Recorder;
 use state_text::fronts::{front_of, lacking_line};
 use std::alloc::{AllocError, Global};
 use std::io::Write;
-use trace_words::fault::TraceFault;
 use trace_io::IoFault;
 use trace_io::sink::{Sink, write_all};
 use trace_io::source::Source;
+use trace_words::fault::TraceFault;
 use word_parts::asked::LineRange;
 
 // A recorder of what happens from the first line on.

@@ -11,17 +11,17 @@ ghost use Rattle.trace_io.specs.Sink.{AppendsFront};
 
 use crate::held::Held;
 use crate::picturing::in_memory;
+use state_seen::mirror::Mirror;
 use state_text::Form as Counts;
 use state_text::counts::put_counts_at;
-use state_text::objects::put_objects;
 use state_text::fronts::{front_of, lacking_line};
-use state_seen::mirror::Mirror;
+use state_text::objects::put_objects;
 use state_text::texts::put_state;
 use std::alloc::{AllocError, Global};
-use trace_words::fault::TraceFault;
 use trace::standing::replay_standing;
 use trace_io::sink::{Sink, write_all};
 use trace_io::source::Counted;
+use trace_words::fault::TraceFault;
 
 /// The form in which a state is written.
 #[derive(Clone, Copy)]

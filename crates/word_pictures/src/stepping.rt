@@ -10,15 +10,15 @@ ghost use Rattle.trace_io.specs.Sink.{AppendsFront};
 use crate::held::Held;
 use crate::picturing::record;
 use machine_model::CallLimit;
-use std::alloc::{AllocError, Global};
-use trace_words::fault::TraceFault;
-use trace::replay::replay_telling;
-use trace_words::show::Show;
-use trace_io::sink::{Sink, write_all};
-use trace_io::source::Counted;
 use state_changes::StateRecorder;
 use state_changes::data::page_of;
 use state_changes::template::{BACK, FRONT};
+use std::alloc::{AllocError, Global};
+use trace::replay::replay_telling;
+use trace_io::sink::{Sink, write_all};
+use trace_io::source::Counted;
+use trace_words::fault::TraceFault;
+use trace_words::show::Show;
 
 // What `run --log` writes of the trace, where there is memory for it.
 fn logged(alloc: Global, trace: &[u8]) -> Option<Vec<u8>>

@@ -8,9 +8,9 @@ use radix_range::RadixMap;
 use slot_lock::SlotMap;
 use std::alloc::Allocator;
 use std::io::Write;
-use trace_words::fault::status_of_fault;
 use trace_io::sink::Sink;
 use trace_io::source::Source;
+use trace_words::fault::status_of_fault;
 use word_parts::ended::{Ended, Trouble};
 
 /// Certifies the notes, prints a fault as `radixvm: ` and its text, and answers the status: 0 where they are certified,

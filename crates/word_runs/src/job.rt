@@ -6,9 +6,9 @@ ghost use Rattle.trace_io.specs.Io.{read_from, written_to};
 
 use crate::summing::tell_summary;
 use machine_model::CallLimit;
-use trace::echo::replay_echoing;
 use std::alloc::Allocator;
 use std::io::Write;
+use trace::echo::replay_echoing;
 use trace::replay::{Replayed, replay_summing, replay_telling};
 use trace_io::sink::Sink;
 use trace_io::source::Source;

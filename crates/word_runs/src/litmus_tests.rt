@@ -3,7 +3,7 @@ ghost use Rattle.std.specs.Prelude.{◌≡◌, ◌≤◌, ◌⊎◌, true};
 ghost use Rattle.trace_io.specs.Io.{read_from, written_to};
 ghost use Rattle.word_runs.specs.Litmus.{TellsBeside, TellsTest, TestEnds, litmus_status};
 
-use litmus::{LiveTestFault, TestFault, LitmusAsk};
+use litmus::{LitmusAsk, LiveTestFault, TestFault};
 use litmus_text::LitmusFault;
 use std::alloc::Global;
 use std::io::Write;

@@ -5,9 +5,8 @@ ghost use Rattle.word_runs.specs.Words.{CertifiesRun, RunsScript, SharesScript, 
 ghost use Rattle.trace_io.specs.Io.{read_from, written_to};
 
 use crate::summing::tell_sums;
-use live_script::history_of_text;
-use live_script::Runner;
 use live_script::texts::{TextFault, certify_run, run_text};
+use live_script::{Runner, history_of_text};
 use radix_range::RadixMap;
 use shared_script::{SharedFault, share_text};
 use slot_lock::SlotMap;
@@ -15,9 +14,9 @@ use std::alloc::{Allocator, Global};
 use std::io::Write;
 use std::sync::Wait;
 use std::thread::Threads;
-use trace_words::fault::status_of_fault;
 use trace_io::sink::Sink;
 use trace_io::source::Source;
+use trace_words::fault::status_of_fault;
 use word_parts::ended::{Ended, Trouble};
 
 // Prints the fault as `radixvm: ` and its text, and answers the status that it ends the program with: 3 where a task of a core

@@ -5,15 +5,15 @@ ghost use Rattle.word_runs.specs.Witness.{PicturesWitness, WitnessEnds};
 ghost use Rattle.trace_io.specs.Io.{read_from, written_to};
 
 use crate::litmus_tests::{TestEnded, refuse};
-use litmus::{TestFault, Listing, tell_litmus};
+use litmus::{Listing, TestFault, tell_litmus};
 use litmus_text::LitmusFault;
-use word_pictures::picturing::{draw_text, tell_end};
 use std::alloc::Global;
 use std::io::Write;
-use trace_words::fault::TraceFault;
 use trace_io::sink::Sink;
 use trace_io::source::{Source, read_all};
+use trace_words::fault::TraceFault;
 use word_parts::asked::{Drawing, WitnessPicture};
+use word_pictures::picturing::{draw_text, tell_end};
 
 // Tells how the picture ended. Nothing more is told of a fault, since the witness isn't the text that was read.
 fn tell_drawn<E: Write>(

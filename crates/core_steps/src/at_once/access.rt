@@ -10,8 +10,8 @@ ghost use Rattle.core_steps.specs.State.{world};
 
 use crate::at_once::starting::Started;
 use crate::engine::Engine;
-use machine_log::ledger::Ledger;
 use crate::rows::acquire::locking;
+use machine_log::ledger::Ledger;
 use machine_model::Outcome;
 use mmu::Hardware;
 use slot_lock::{Goal, SlotMap, Touch};

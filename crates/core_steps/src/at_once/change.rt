@@ -13,8 +13,8 @@ ghost use Rattle.core_steps.specs.PageChange.{IsAlone, IsPageChange};
 ghost use Rattle.core_steps.specs.State.{world};
 
 use crate::engine::Engine;
-use machine_log::ledger::Ledger;
 use crate::rows::commit::count_page;
+use machine_log::ledger::Ledger;
 use machine_model::answers::reply_to;
 use mmu::Hardware;
 use slot_lock::{Change, FreePage, SlotMap};

@@ -23,10 +23,10 @@ ghost use Rattle.core_steps.specs.declared.at_once.fault.Source.TheVariants.{Fir
 ghost use Rattle.core_steps.specs.State.{world};
 
 use crate::engine::Engine;
-use machine_log::ledger::Ledger;
 use crate::rows::access::tried_to;
 use crate::rows::fault::settled_to;
 use crate::rows::file_pages::file_frame;
+use machine_log::ledger::Ledger;
 use machine_model::answers::prot_with;
 use mmu::Hardware;
 use slot_lock::{SlotMap, Touch};

@@ -14,8 +14,8 @@ ghost use Rattle.core_steps.specs.RangeChange.{IsFreeRange, IsRangeChange};
 ghost use Rattle.core_steps.specs.State.{world};
 
 use crate::engine::Engine;
-use machine_log::ledger::Ledger;
 use crate::rows::commit::count_surveyed;
+use machine_log::ledger::Ledger;
 use machine_model::answers::reply_to;
 use mmu::Hardware;
 use slot_lock::{Change, SlotMap, Survey};

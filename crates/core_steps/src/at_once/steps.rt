@@ -9,9 +9,9 @@ ghost use Rattle.core_steps.specs.State.{world};
 ghost use Rattle.core_steps.specs.Moving.{IsAt};
 
 use crate::engine::Engine;
-use machine_log::ledger::Ledger;
 use crate::rows::acquire::locked_to;
 use crate::rows::answer::{held_after, let_go};
+use machine_log::ledger::Ledger;
 use machine_model::Phase;
 use mmu::Hardware;
 use slot_lock::{Change, Goal, SlotMap};

@@ -2,8 +2,7 @@
 ghost use Rattle.std.specs.Prelude.{◌≡◌, ℕ, [], None, IfOk};
 ghost use Rattle.core_steps.specs.Cores.{HaveInboxes, parts_of};
 
-use mmu::{Cpu, Hardware, Translated};
-use mmu::{Inboxes, Took};
+use mmu::{Cpu, Hardware, Inboxes, Took, Translated};
 use slot_lock::Touch;
 use std::alloc::Allocator;
 use vm_base::{CoreId, CoreSet, NoMemory, PageRange, Prot};

@@ -7,8 +7,7 @@ ghost use Rattle.frames.specs.Parts.{frame_bytes, free_frames};
 ghost use Rattle.refcache.specs.Counts.{no_counts};
 ghost use Rattle.refcache.specs.Parts.{counts_of};
 
-use frames::{FileSpec, Objects};
-use frames::Frames;
+use frames::{FileSpec, Frames, Objects};
 use refcache::Refcache;
 use std::alloc::Allocator;
 use vm_base::NoMemory;

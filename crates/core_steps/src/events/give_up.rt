@@ -8,8 +8,8 @@ ghost use Rattle.core_steps.specs.State.{phase_of, world};
 ghost use Rattle.core_steps.specs.Moving.{AwaitsCopy, IsOf, goal_in, is_copy_due};
 
 use crate::engine::Engine;
-use machine_log::ledger::Ledger;
 use crate::rows::filling::give_back;
+use machine_log::ledger::Ledger;
 use machine_model::answers::page_of_touch;
 use machine_model::{Outcome, Phase};
 use mmu::Hardware;

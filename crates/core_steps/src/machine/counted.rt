@@ -1,8 +1,8 @@
 //! What a machine tells of its counts, by which frames come back (Refcache of the RadixVM paper, EuroSys 2013).
 ghost use Rattle.core_steps.specs.Machine.{state};
 
-use machine_log::ledger::Ledger;
 use crate::machine::Machine;
+use machine_log::ledger::Ledger;
 use mmu::{Cpu, Hardware};
 use refcache::Queued;
 use slot_lock::SlotMap;

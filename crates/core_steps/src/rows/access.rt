@@ -11,8 +11,8 @@ ghost use Rattle.core_steps.specs.Moving.{CanTry, IsAt, tried_to};
 ghost use Rattle.core_steps.specs.OnePage.{Passes};
 
 use crate::engine::Engine;
-use machine_log::ledger::Ledger;
 use crate::rows::acquire::locking;
+use machine_log::ledger::Ledger;
 use machine_model::answers::byte_reply;
 use machine_model::{Outcome, Phase};
 use mmu::{Hardware, Translated};

@@ -6,9 +6,9 @@ ghost use Rattle.core_steps.specs.AtOnce.{with_call};
 ghost use Rattle.core_steps.specs.State.{world};
 
 use crate::engine::Engine;
-use machine_log::ledger::Ledger;
 use crate::rows::acquire::locking;
 use crate::rows::place::placing;
+use machine_log::ledger::Ledger;
 use machine_model::{Outcome, Phase};
 use mmu::Hardware;
 use slot_lock::{Goal, Plan, SlotMap};

@@ -10,8 +10,8 @@ ghost use Rattle.core_steps.specs.State.{world};
 ghost use Rattle.core_steps.specs.Moving.{IsAt};
 
 use crate::engine::Engine;
-use machine_log::ledger::Ledger;
 use frames::Objects;
+use machine_log::ledger::Ledger;
 use machine_model::{Outcome, Phase};
 use mmu::Hardware;
 use slot_lock::{Change, Goal, SlotMap, SlotRead};

@@ -17,8 +17,8 @@ ghost use Rattle.core_steps.specs.Moving.{IsAt, IsOf, Tries, WantsMemory};
 ghost use Rattle.core_steps.specs.OnePage.{after_settling, with_entry_of, with_translation};
 
 use crate::engine::Engine;
-use machine_log::ledger::Ledger;
 use crate::rows::file_pages::{file_frame, prot_installed};
+use machine_log::ledger::Ledger;
 use machine_model::answers::{back_of, is_past_end, page_of_touch};
 use machine_model::{Outcome, Phase};
 use mmu::Hardware;

@@ -16,8 +16,8 @@ ghost use Rattle.core_steps.specs.Filling.{IsAloneAt, IsOfFile};
 ghost use Rattle.core_steps.specs.Moving.{IsAt, Tries, WantsMemory};
 
 use crate::engine::Engine;
-use machine_log::ledger::Ledger;
 use frames::Frames;
+use machine_log::ledger::Ledger;
 use machine_model::answers::back_of;
 use machine_model::{Outcome, Phase};
 use mmu::Hardware;

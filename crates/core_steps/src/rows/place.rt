@@ -15,9 +15,9 @@ ghost use Rattle.core_steps.specs.Moving.{IsAt, IsOf, Tries, WantsMemory};
 ghost use Rattle.core_steps.specs.Dividing.{GoesAsMap};
 
 use crate::engine::Engine;
-use machine_log::ledger::Ledger;
 use crate::rows::acquire::locking;
 use crate::rows::answer::held_after;
+use machine_log::ledger::Ledger;
 use machine_model::{Outcome, Phase};
 use mmu::Hardware;
 use slot_lock::{Change, Fit, Goal, Place, SlotMap, Target};
