@@ -9,7 +9,7 @@ pub use crate::telling::{WordsFault, refuse_words};
 use crate::telling::{tell, tell_cause, tell_of_terminal};
 use crate::terminals::Terminals;
 use import_text::each::ProcessTrace;
-use litmus::RunFault;
+use litmus::TestFault;
 use live_script::Runner;
 use machine_model::CallLimit;
 use radix_range::RadixMap;
@@ -65,7 +65,7 @@ struct Aside {
     // The traces of processes.
     parts: Vec<ProcessTrace>,
     // Why nothing is told of a litmus test.
-    fault: Option<RunFault>,
+    fault: Option<TestFault>,
 }
 
 impl Aside {
@@ -80,7 +80,7 @@ impl Aside {
 }
 
 // What more can be told of where nothing is told of a litmus test, for a fault.
-fn trouble_of(fault: Option<RunFault>) -> Trouble {
+fn trouble_of(fault: Option<TestFault>) -> Trouble {
     match fault {
         Some(_) => Trouble::Litmus,
         None => Trouble::Nothing,
@@ -385,7 +385,7 @@ fn tell_failed_read<R, E: Write>(name: Option<&str>, read: &Keeping<R>, errors: 
 fn tell_more<L, R, E: Write>(
     asks: Asks<'_>,
     trouble: Trouble,
-    untold: Option<RunFault>,
+    untold: Option<TestFault>,
     list: &Keeping<L>,
     read: &Keeping<R>,
     errors: &mut E,

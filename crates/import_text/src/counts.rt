@@ -99,7 +99,7 @@ impl LineCounts {
             unread: self.unread,
             still: self.still,
             other: self.other + 1,
-            ..Counts::new()
+            ..LineCounts::new()
         }
     }
 
