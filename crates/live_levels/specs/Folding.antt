@@ -21,6 +21,16 @@ pub record CanFollow (j : Joint) (s : SlotView) : Type 0 where
   pub next : s.first ≡ j.end
   pub goes_on : s.content ≡ info_from j.content (s.first - j.first)
 
+-- the slot can be the first part, or one more
+abbrev pub CanJoin : Option Joint → SlotView → Type 0
+CanJoin None s = CanBegin s
+CanJoin (Some j) s = CanFollow j s
+
+-- what the parts are together with the slot
+abbrev pub Joins : Option Joint → SlotView → Joint → Type 0
+Joins None s k = (k.first ≡ s.first) × (k.end ≡ s.first + s.count) × (k.content ≡ s.content)
+Joins (Some j) s k = (k.first ≡ j.first) × (k.end ≡ j.end + s.count) × (k.content ≡ j.content)
+
 -- the change with which a slot begins that stands for its parts: it is mapped as the first page is,
 -- or unmapped
 abbrev pub begun_act : Option PageInfo → Act

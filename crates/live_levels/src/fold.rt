@@ -1,7 +1,7 @@
 //! Slots that are made one again, once no thread shares the tree.
 ghost use Rattle.std.specs.Prelude.{◌≡◌, ◌+◌, ◌-◌, ◌<◌, ◌≤◌, ◌^◌, ◌↔◌, IsTrue, IfSome, IfNone, None};
 ghost use Rattle.std.specs.Prelude.{false};
-ghost use Rattle.live_levels.specs.Folding.{CanBegin, CanFollow, Replaces, begun_act};
+ghost use Rattle.live_levels.specs.Folding.{CanBegin, CanFollow, CanJoin, Joins, Replaces, begun_act};
 ghost use Rattle.live_levels.specs.Slots.{Suits};
 
 use crate::act::Act;
@@ -19,9 +19,9 @@ fn can_begin<A: Allocator>(slot: &SlotState<A>) -> bool
     !is_leaf(slot.content()) && slot.owner().is_none()
 }
 
-/// One slot, where it can be a part of a larger one: no core is to lock it first, and it has no
-/// frame and no recorded core.
-pub(crate) fn begin_joint<A: Allocator>(slot: &SlotState<A>) -> Option<Joint>
+// One slot, where it can be a part of a larger one: no core is to lock it first, and it has no
+// frame and no recorded core.
+fn begin_joint<A: Allocator>(slot: &SlotState<A>) -> Option<Joint>
     ensures some { IfSome result (λ j. (j.first ≡ slot.now.first)
         × (j.end ≡ slot.now.first + slot.now.count) × (j.content ≡ slot.now.content)) }
     ensures can { IfSome result (λ j. CanBegin slot.now) }
@@ -40,8 +40,8 @@ pub(crate) fn begin_joint<A: Allocator>(slot: &SlotState<A>) -> Option<Joint>
     })
 }
 
-/// The slots with one more, where it follows on.
-pub(crate) fn join_next<A: Allocator>(joint: Joint, slot: &SlotState<A>) -> Option<Joint>
+// The slots with one more, where it follows on.
+fn join_next<A: Allocator>(joint: Joint, slot: &SlotState<A>) -> Option<Joint>
     ensures some { IfSome result (λ j. (j.first ≡ joint.first) × (j.end ≡ joint.end + slot.now.count)
         × (j.content ≡ joint.content)) }
     ensures can { IfSome result (λ j. CanFollow joint slot.now) }
@@ -59,6 +59,18 @@ pub(crate) fn join_next<A: Allocator>(joint: Joint, slot: &SlotState<A>) -> Opti
         end: next.end,
         content: joint.content,
     })
+}
+
+/// The slots so far, if there are any, with one more, where it can begin or follows on.
+pub(crate) fn with_next<A: Allocator>(joint: Option<Joint>, slot: &SlotState<A>) -> Option<Joint>
+    ensures some { IfSome result (Joins joint slot.now) }
+    ensures can { IfSome result (λ _. CanJoin joint slot.now) }
+    ensures none { IfNone result (¬ CanJoin joint slot.now) }
+{
+    match joint {
+        None => begin_joint(slot),
+        Some(joint) => join_next(joint, slot),
+    }
 }
 
 /// Lets the slot stand for its parts, which it had been divided into: it begins anew with one

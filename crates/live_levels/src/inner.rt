@@ -7,7 +7,7 @@ ghost use Rattle.live_levels.specs.Histories.{Grew};
 
 use crate::ask::{Asked, ask, with_page};
 use crate::close::SlotHistory;
-use crate::fold::{begin_joint, join_next};
+use crate::fold::with_next;
 use crate::joint::Joint;
 use crate::level::{Level, Next, SlotCut, Stepper, index_of, put};
 use crate::parts::SLOTS;
@@ -104,11 +104,13 @@ impl<C: Level<A>, A: Allocator + Clone> Level<A> for Inner<C, A> {
         place.cut(alloc, stepper, core, slot, self.pages)
     }
 
-    #[tactic(auto, using(crate::proofs::Chains::grew_trans))]
     fn gather(&mut self, alloc: &A, slots: &mut Vec<SlotHistory<A>, A>, next: u64) -> Option<u64> {
         let mut at = next;
         'places: for place in self.places.iter_mut() {
-            at = place.gather(alloc, slots, at)?;
+            let Some(end) = place.gather(alloc, slots, at) else {
+                return None;
+            };
+            at = end;
         }
         Some(at)
     }
@@ -133,9 +135,8 @@ impl<C: Level<A>, A: Allocator + Clone> Level<A> for Inner<C, A> {
                 Unshared::Below(_) => return None,
                 Unshared::Slot(slot) => slot,
             };
-            let next = match joint {
-                None => begin_joint(slot)?,
-                Some(joint) => join_next(joint, slot)?,
+            let Some(next) = with_next(joint, slot) else {
+                return None;
             };
             joint = Some(next);
         }

@@ -7,7 +7,7 @@ ghost use Rattle.live_levels.specs.Histories.{Grew};
 
 use crate::ask::{Asked, ask, with_page};
 use crate::close::{SlotHistory, gather_slot};
-use crate::fold::{begin_joint, join_next};
+use crate::fold::with_next;
 use crate::joint::Joint;
 use crate::level::{Level, Next, SlotCut, Stepper, index_of, put};
 use crate::parts::SLOTS;
@@ -76,11 +76,13 @@ impl<A: Allocator + Clone> Level<A> for Leaves<A> {
         SlotCut::Lost
     }
 
-    #[tactic(auto, using(crate::proofs::Chains::grew_trans))]
     fn gather(&mut self, alloc: &A, slots: &mut Vec<SlotHistory<A>, A>, next: u64) -> Option<u64> {
         let mut at = next;
         'slots: for slot in self.slots.iter_mut() {
-            at = gather_slot(alloc, slot.get_mut(), slots, at)?;
+            let Some(end) = gather_slot(alloc, slot.get_mut(), slots, at) else {
+                return None;
+            };
+            at = end;
         }
         Some(at)
     }
@@ -92,10 +94,8 @@ impl<A: Allocator + Clone> Level<A> for Leaves<A> {
     fn joint(&mut self) -> Option<Joint> {
         let mut joint: Option<Joint> = None;
         'slots: for slot in self.slots.iter_mut() {
-            let slot = slot.get_mut();
-            let next = match joint {
-                None => begin_joint(slot)?,
-                Some(joint) => join_next(joint, slot)?,
+            let Some(next) = with_next(joint, slot.get_mut()) else {
+                return None;
             };
             joint = Some(next);
         }
