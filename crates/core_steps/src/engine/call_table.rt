@@ -26,9 +26,21 @@ fn new_call_table<A: Allocator + Clone, L: Opening<A>>(
     ensures cores { IfOk result (λ table. length table.phases.items ≡ cores) }
     ensures limit { IfOk result (λ table. table.limit ≡ limit) }
 {
-    let phases = vec![in alloc.clone()?; Phase::Free; cores]?;
-    let numbers = vec![in alloc.clone()?; 0u64; cores]?;
-    let ledger = L::open(alloc, limit)?;
+    let Ok(for_phases) = alloc.clone() else {
+        return Err(NoMemory);
+    };
+    let Ok(phases) = vec![in for_phases; Phase::Free; cores] else {
+        return Err(NoMemory);
+    };
+    let Ok(for_numbers) = alloc.clone() else {
+        return Err(NoMemory);
+    };
+    let Ok(numbers) = vec![in for_numbers; 0u64; cores] else {
+        return Err(NoMemory);
+    };
+    let Ok(ledger) = L::open(alloc, limit) else {
+        return Err(NoMemory);
+    };
     Ok(CallTable {
         phases,
         numbers,
