@@ -8,7 +8,7 @@ pub mod calls;
 pub mod cores;
 mod stores;
 
-use crate::engine::call_table::new_call_table;
+use crate::engine::call_table::new_calls;
 use crate::engine::calls::CallTable;
 use crate::engine::cores::{Bare, Cores};
 use crate::engine::stores::{Stores, new_stores};
@@ -98,9 +98,17 @@ impl<M: SlotMap + Drop, H: Bare<A>, A: Allocator + Clone + Drop, L: Opening<A> +
             files,
             calls,
         } = setup;
-        let stores = new_stores(alloc.clone()?, files, cores as u8, frames as u32)?;
-        let table = new_call_table(alloc.clone()?, cores as usize, calls)?;
-        let cores = Cores::new(alloc, cores as u8)?;
+        let Ok(for_stores) = alloc.clone() else {
+            return Err(NoMemory);
+        };
+        let Ok(stores) = new_stores(for_stores, files, cores as u8, frames as u32) else {
+            return Err(NoMemory);
+        };
+        let Ok(calling) = new_calls(alloc, cores as u8, calls) else {
+            drop(stores);
+            return Err(NoMemory);
+        };
+        let (table, cores) = calling;
         let Stores {
             objects,
             counts,

@@ -25,7 +25,7 @@ pub(crate) struct Stores<A: Allocator> {
 
 /// The files, of which no page is cached, and so many frames, all of them free and of zeros, that
 /// this many cores count. The bytes of the files are moved, not copied.
-pub(crate) fn new_stores<A: Allocator + Clone>(
+pub(crate) fn new_stores<A: Allocator + Clone + Drop>(
     alloc: A,
     files: Vec<FileSpec<A>, A>,
     cores: u8,
@@ -41,9 +41,25 @@ pub(crate) fn new_stores<A: Allocator + Clone>(
     ensures bytes { IfOk result (λ stores. frame_bytes stores.frames ≡ (λ f. zeros)) }
     ensures free { IfOk result (λ stores. free_frames stores.frames ≡ (λ f. nat_lt f frames)) }
 {
-    let objects = Objects::new(alloc.clone()?, files)?;
-    let counts = Refcache::new(alloc.clone()?, cores, frames)?;
-    let frames = Frames::new(alloc, frames)?;
+    let Ok(for_files) = alloc.clone() else {
+        return Err(NoMemory);
+    };
+    let Ok(objects) = Objects::new(for_files, files) else {
+        return Err(NoMemory);
+    };
+    let Ok(for_counts) = alloc.clone() else {
+        drop(objects);
+        return Err(NoMemory);
+    };
+    let Ok(counts) = Refcache::new(for_counts, cores, frames) else {
+        drop(objects);
+        return Err(NoMemory);
+    };
+    let Ok(frames) = Frames::new(alloc, frames) else {
+        drop(objects);
+        drop(counts);
+        return Err(NoMemory);
+    };
     Ok(Stores {
         objects,
         counts,
