@@ -1,4 +1,5 @@
 -- Mappings around a page.
+use Rattle.std.specs.Prelude.{IfErr, IfOk, Result, Ok, Err}
 use Rattle.std.proofs.Common.{◌≡◌, ℕ, ◌^◌, ◌<◌, ◌≤◌, inl, inr, List, [], ◌∷◌, ◌++◌, length, length-append, arith, Option, None, Some, refl, sym, ap, ◌∙◌, subst}
 use Rattle.std.proofs.Math.Path.{fun_ext}
 use Rattle.vm_base.specs.Plain.{Bytes}
@@ -97,3 +98,11 @@ verdict_shown terms lines (Of.Undecided line item due) u meta around e found sho
   wrong = found;
   shown = subst (λ m. IsAround m (page_told item) around) e shown;
 }
+
+pub ok_by : {T E : Type 0} {P Q : T → Type 0} (r : Result T E) → ((x : T) → P x → Q x) → IfOk r P → IfOk r Q
+ok_by (Ok x) f h = f x h
+ok_by (Err e) f h = tt
+
+pub err_by : {T E : Type 0} {P Q : E → Type 0} (r : Result T E) → ((e : E) → P e → Q e) → IfErr r P → IfErr r Q
+err_by (Ok x) f h = tt
+err_by (Err e) f h = f e h

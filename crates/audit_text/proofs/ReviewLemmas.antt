@@ -11,7 +11,7 @@ use Rattle.audit_text.specs.Grammar.{Tells}
 use Rattle.audit_text.specs.Heard.{Declared, Heard, Stage, Front, Behind, Leads, behind, item_told, heard_after, is_certain, nothing, stage_after, undeclared}
 use Rattle.audit_text.specs.Heard.{with_item}
 use Rattle.audit_text.specs.Legal.{IsPlace, first_map, heard_in, told_at}
-use Rattle.std.specs.Prelude.{OnOk}
+use Rattle.std.specs.Prelude.{IfErr, OnOk}
 use Rattle.audit_text.specs.Reviewed.GoesOn.{there}
 use Rattle.audit_text.specs.Reviewed.{GoesOn, GoesOnBy, IsReviewed, IsThere, IsTextAtFault, Reviews, Turns, TurnsBy, wrong_at}
 use Rattle.audit_text.specs.Reviewing.{IsBefore, TurnsOutSo}
@@ -310,3 +310,14 @@ text_fault terms lines NoVmLine h = h
 text_fault terms lines (Io NoMemory) h = tt
 text_fault terms lines (Io ReadFailed) h = absurd h
 text_fault terms lines (Io WriteFailed) h = absurd h
+
+-- a line that is told as wrong, whatever its telling came to
+pub wrong_turns : (terms : Terms) (h k m : Heard) (t v u : Plain) (said : Said) (line : ℕ) (item : Item) (due : Option Reply) (certain : Bool)
+    (found new : List Verdict) (r : Result (Unit {0}) AuditFault) → Hears terms h t said (Illegal item due certain) k v
+    → OnOk r (GoesOnBy terms v item due u) → OnOk r (m ≡ with_item k certain item)
+    → OnOk r (new ≡ found ++ wrong_at line item due certain ∷ []) → IfErr r (λ f. f ≡ Io NoMemory)
+    → TurnsOutSo {T = Unit {0}} terms h t said line found r m u new
+wrong_turns terms h k m t v u said line item due certain found new (Ok tt) hears goes is added err =
+    wrong_turn terms h k m t v u said line item due certain found new hears goes is added
+wrong_turns terms h k m t v u said line item due certain found new (Err f) hears goes is added err =
+    subst (λ x. TurnsOutSo {T = Unit {0}} terms h t said line found (Err x) m u new) (sym err) tt

@@ -45,6 +45,15 @@ is_nothing text = bytes_eq text (codes "idle") || bytes_eq text (codes "full")
 
 -- ---- how it is read
 
+-- the reply of one of the words that come last below
+abbrev pub late_reply : List ℕ → Option Reply
+late_reply text = if bytes_eq text (codes "eacces") then Some (Refused EACCES)
+    else if bytes_eq text (codes "ebadf") then Some (Refused EBADF)
+    else if bytes_eq text (codes "eoverflow") then Some (Refused EOVERFLOW)
+    else if bytes_eq text (codes "bus") then Some Bus
+    else if bytes_eq text (codes "noframe") then Some NoFrame
+    else if bytes_eq text (codes "nomemory") then Some NoMemory else None
+
 abbrev pub word_reply : List ℕ → Option Reply
 word_reply text = if bytes_eq text (codes "done") then Some Done
     else if bytes_eq text (codes "segv maperr") then Some (Segv MapErr)

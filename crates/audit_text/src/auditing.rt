@@ -7,8 +7,9 @@ ghost use Rattle.audit_text.specs.Ends.{IsAtFault, IsVerdict};
 ghost use Rattle.audit_text.specs.Around.{IsAround};
 ghost use Rattle.audit_text.specs.Legal.{IsPlace, LacksSpace, page_told};
 ghost use Rattle.audit_text.specs.declared.allowing.Terms.{Terms};
-ghost use Rattle.audit_text.specs.Heard.{Front};
-ghost use Rattle.audit_text.specs.Steps.{EndsFront, IsFound, ShowsAround, declared_of};
+ghost use Rattle.audit.specs.Auditor.{plain_of};
+ghost use Rattle.audit_text.specs.Heard.{Declared, Front};
+ghost use Rattle.audit_text.specs.Steps.{EndsFront, IsCall, IsCounted, IsFound, ShowsAround, count_of, declared_of, heard_of, terms_of};
 
 use crate::allowing::Terms;
 use crate::around::mappings_around;
@@ -60,6 +61,34 @@ fn around_verdict<M: SlotMap, A: Allocator>(
     }
 }
 
+// Judges the calls of a text, by what was heard before them.
+fn judge_heard<M: SlotMap + Drop, A: Allocator + Drop>(
+    alloc: A,
+    hearing: &mut Hearing<M, A>,
+    first: Said,
+    number: u64,
+    rest: &[u8],
+) -> Result<Judged<A>, AuditFault>
+    requires counted { IsCounted hearing.old }
+    requires few { count_of hearing.old + 1 ≤ number }
+    requires room { number + length rest.now < 2 ^ 64 }
+    ensures ok { IfOk result (λ j. (lines : List (List ℕ)) (d : Declared)
+        → IsCall (terms_of hearing.old) lines d (heard_of hearing.old) (plain_of hearing.old.auditor) first number (lines_of rest.now)
+        → IsVerdict (terms_of hearing.old) lines j.verdict j.around.items) }
+    ensures err { IfErr result (λ f. (lines : List (List ℕ)) (d : Declared)
+        → IsCall (terms_of hearing.old) lines d (heard_of hearing.old) (plain_of hearing.old.auditor) first number (lines_of rest.now)
+        → IsAtFault (terms_of hearing.old) lines f) }
+{
+    let verdict = match hear_lines(hearing, first, number, rest) {
+        Ok(verdict) => verdict,
+        Err(fault) => return Err(fault),
+    };
+    match around_verdict(alloc, hearing.auditor.map(), &verdict) {
+        Ok(around) => Ok(Judged { verdict, around }),
+        Err(fault) => Err(fault),
+    }
+}
+
 // Judges the calls of a text with this declaration in front.
 fn judge_calls<M: SlotMap + Drop, A: Allocator + Clone + Drop>(
     alloc: A,
@@ -90,9 +119,9 @@ fn judge_calls<M: SlotMap + Drop, A: Allocator + Clone + Drop>(
     let Ok(mut hearing) = Hearing::new(alloc, map, declaration.files, terms) else {
         return Err(AuditFault::Io(IoFault::NoMemory));
     };
-    let verdict = hear_lines(&mut hearing, first, number, rest)?;
-    let around = around_verdict(for_around, hearing.auditor.map(), &verdict)?;
-    Ok(Judged { verdict, around })
+    let judged = judge_heard(for_around, &mut hearing, first, number, rest);
+    drop(hearing);
+    judged
 }
 
 // The verdict on a text without calls.

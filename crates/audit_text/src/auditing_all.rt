@@ -5,11 +5,13 @@ ghost use Rattle.trace_io.specs.Lines.{lines_of};
 ghost use Rattle.trace_io.specs.Io.{read_from, written_to};
 ghost use Rattle.trace_io.specs.Source.{Reads};
 ghost use Rattle.slot_lock.specs.Slots.{IsNew};
+ghost use Rattle.audit.specs.Auditor.{plain_of};
 ghost use Rattle.audit_text.specs.Ends.{TellsAudit, head_text};
-ghost use Rattle.audit_text.specs.Heard.{Front};
+ghost use Rattle.audit_text.specs.Heard.{Declared, Front};
 ghost use Rattle.audit_text.specs.Legal.{IsPlace};
 ghost use Rattle.audit_text.specs.Reviewed.{IsReviewed, IsTextAtFault, ReviewEnds, first_found, review_text};
-ghost use Rattle.audit_text.specs.Steps.{EndsFront, declared_of};
+ghost use Rattle.audit_text.specs.Reviewing.{IsBefore};
+ghost use Rattle.audit_text.specs.Steps.{EndsFront, IsCounted, count_of, declared_of, heard_of, terms_of};
 
 use crate::allowing::Terms;
 use crate::declaring::{AuditHead, declare};
@@ -35,6 +37,35 @@ pub struct AuditReport<A: Allocator> {
     pub calls: u64,
     /// How many of them found no frame or no memory.
     pub lacking: u64,
+}
+
+// Judges the calls of a text, by what was heard before them.
+fn review_heard<M: SlotMap + Drop, A: Allocator + Drop>(
+    alloc: A,
+    hearing: &mut Hearing<M, A>,
+    first: Said,
+    number: u64,
+    rest: &[u8],
+) -> Result<AuditReport<A>, AuditFault>
+    requires counted { IsCounted hearing.old }
+    requires few { count_of hearing.old + 1 ≤ number }
+    requires room { number + length rest.now < 2 ^ 64 }
+    ensures ok { IfOk result (λ r. (lines : List (List ℕ)) (d : Declared)
+        → IsBefore (terms_of hearing.old) lines d (heard_of hearing.old) (plain_of hearing.old.auditor) [] first number (lines_of rest.now)
+        → IsReviewed (terms_of hearing.old) lines r.found.items r.calls r.lacking) }
+    ensures err { IfErr result (λ f. (lines : List (List ℕ)) (d : Declared)
+        → IsBefore (terms_of hearing.old) lines d (heard_of hearing.old) (plain_of hearing.old.auditor) [] first number (lines_of rest.now)
+        → IsTextAtFault lines f) }
+{
+    let mut found = Vec::new(alloc);
+    match review_lines(hearing, &mut found, first, number, rest) {
+        Ok(()) => Ok(AuditReport {
+            found,
+            calls: hearing.judged,
+            lacking: hearing.lacking,
+        }),
+        Err(fault) => Err(fault),
+    }
 }
 
 // Judges the calls of a text with this declaration in front.
@@ -67,13 +98,9 @@ fn review_calls<M: SlotMap + Drop, A: Allocator + Clone + Drop>(
     let Ok(mut hearing) = Hearing::new(alloc, map, declaration.files, terms) else {
         return Err(AuditFault::Io(IoFault::NoMemory));
     };
-    let mut found = Vec::new(for_found);
-    review_lines(&mut hearing, &mut found, first, number, rest)?;
-    Ok(AuditReport {
-        found,
-        calls: hearing.judged,
-        lacking: hearing.lacking,
-    })
+    let reviewed = review_heard(for_found, &mut hearing, first, number, rest);
+    drop(hearing);
+    reviewed
 }
 
 // Judges a text without calls.

@@ -84,8 +84,15 @@ impl<M: SlotMap + Drop, A: Allocator + Clone + Drop> Hearing<M, A> {
         ensures counted { IfOk result (λ it. IsCounted it) }
         ensures few { IfOk result (λ it. count_of it ≤ 0) }
     {
-        let waiting = none_waits(alloc.clone()?)?;
-        let auditor = Auditor::new(alloc, map, files, terms.any_place)?;
+        let Ok(for_waiting) = alloc.clone() else {
+            return Err(NoMemory);
+        };
+        let Ok(waiting) = none_waits(for_waiting) else {
+            return Err(NoMemory);
+        };
+        let Ok(auditor) = Auditor::new(alloc, map, files, terms.any_place) else {
+            return Err(NoMemory);
+        };
         Ok(Hearing {
             auditor,
             is_strict: terms.is_strict,

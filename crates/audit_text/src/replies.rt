@@ -2,11 +2,32 @@
 ghost use Rattle.std.specs.Prelude.{◌≡◌};
 ghost use Rattle.std.specs.Str.{bytes_eq};
 ghost use Rattle.trace_text.specs.Printing.{text_of};
-ghost use Rattle.audit_text.specs.Replies.{is_nothing, is_step, is_unanswered, is_wait, reply_of, word_reply};
+ghost use Rattle.audit_text.specs.Replies.{is_nothing, is_step, is_unanswered, is_wait, late_reply, reply_of, word_reply};
 
 use trace_text::value::read_value;
 use trace_text::{LineText, address_text, number_text, push_reply};
 use vm_base::{Errno, Reply, SegvCode};
+
+// The reply of one of the words that come last below.
+fn read_late(text: &[u8]) -> Option<Reply>
+    ensures { result ≡ late_reply text.now }
+{
+    if text == b"eacces".as_slice() {
+        Some(Reply::Refused(Errno::EACCES))
+    } else if text == b"ebadf".as_slice() {
+        Some(Reply::Refused(Errno::EBADF))
+    } else if text == b"eoverflow".as_slice() {
+        Some(Reply::Refused(Errno::EOVERFLOW))
+    } else if text == b"bus".as_slice() {
+        Some(Reply::Bus)
+    } else if text == b"noframe".as_slice() {
+        Some(Reply::NoFrame)
+    } else if text == b"nomemory".as_slice() {
+        Some(Reply::NoMemory)
+    } else {
+        None
+    }
+}
 
 // The reply that is no number.
 fn read_word(text: &[u8]) -> Option<Reply>
@@ -22,20 +43,8 @@ fn read_word(text: &[u8]) -> Option<Reply>
         Some(Reply::Refused(Errno::EINVAL))
     } else if text == b"enomem".as_slice() {
         Some(Reply::Refused(Errno::ENOMEM))
-    } else if text == b"eacces".as_slice() {
-        Some(Reply::Refused(Errno::EACCES))
-    } else if text == b"ebadf".as_slice() {
-        Some(Reply::Refused(Errno::EBADF))
-    } else if text == b"eoverflow".as_slice() {
-        Some(Reply::Refused(Errno::EOVERFLOW))
-    } else if text == b"bus".as_slice() {
-        Some(Reply::Bus)
-    } else if text == b"noframe".as_slice() {
-        Some(Reply::NoFrame)
-    } else if text == b"nomemory".as_slice() {
-        Some(Reply::NoMemory)
     } else {
-        None
+        read_late(text)
     }
 }
 

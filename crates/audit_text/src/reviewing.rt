@@ -68,7 +68,6 @@ fn tell_wrong<M: SlotMap + Drop, A: Allocator + Drop, B: Allocator>(
 }
 
 // Hears what the line with this number says, and goes on if its reply is wrong.
-#[tactic(auto, using(crate::proofs::ReviewLemmas::legal_turn, crate::proofs::ReviewLemmas::wrong_turn))]
 fn turn<M: SlotMap + Drop, A: Allocator + Drop, B: Allocator>(
     hearing: &mut Hearing<M, A>,
     found: &mut Vec<Verdict, B>,
