@@ -22,7 +22,7 @@ dearest() { awk 'NR <= 5 { share = $1; $1 = ""; sub(/^ +(kernel )?/, ""); print 
 
 # The shares of the kernel, of text (lines read, words and numbers, texts written) and of the machine with all else.
 parts() {
-    local ours='^(trace_text|trace_io|radixvm|command_line|run_words|trace::(replay|outcome_text|shown))'
+    local ours='^(trace_text|trace_io|radixvm|command_line|word_runs|trace::(replay|outcome_text|shown))'
     local theirs='baseline::(main|baseline::(request|maps))' both='memchr|std::io|core::(fmt|str|num)|fmt::'
     awk -v text_names="$ours|$theirs|$both" '{ share = $1 + 0; all += share; $1 = ""; sub(/^ +/, "") }
         /^kernel / { kernel += share; next }
