@@ -312,7 +312,7 @@ text_fault terms lines (Io ReadFailed) h = absurd h
 text_fault terms lines (Io WriteFailed) h = absurd h
 
 -- a line that is told as wrong, whatever its telling came to
-pub wrong_turns : (terms : Terms) (h k m : Heard) (t v u : Plain) (said : Said) (line : ℕ) (item : Item) (due : Option Reply) (certain : Bool)
+pub wrong_turns : (terms : Terms) (h k m : Heard) (t v u : Plain) (said : Said) (line : ℕ) (item : AuditItem) (due : Option Reply) (certain : Bool)
     (found new : List Verdict) (r : Result (Unit {0}) AuditFault) → Hears terms h t said (Illegal item due certain) k v
     → OnOk r (GoesOnBy terms v item due u) → OnOk r (m ≡ with_item k certain item)
     → OnOk r (new ≡ found ++ wrong_at line item due certain ∷ []) → IfErr r (λ f. f ≡ Io NoMemory)

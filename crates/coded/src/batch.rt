@@ -111,7 +111,7 @@ fn step<M: SlotMap, A: Allocator + Clone, L: Ledger>(
     machine: &mut Machine<M, A, L>,
     event: Event,
 ) -> Result<Finished, NoMemory>
-    ensures makes { MakesOne L.keeps (state machine.old) (Item.Step event) result (state machine.new) }
+    ensures makes { MakesOne L.keeps (state machine.old) (BatchItem.Step event) result (state machine.new) }
     ensures legal { IsLegal (state machine.new) }
 {
     match machine.step(event) {

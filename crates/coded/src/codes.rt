@@ -136,7 +136,7 @@ pub fn core_of(number: u32) -> Option<CoreId>
 }
 
 fn mmap_of(raw: &RawEvent) -> Option<Request>
-    ensures { result ≡ request_at Kind.Mmap raw.now }
+    ensures { result ≡ request_at EventCode.Mmap raw.now }
 {
     let prot = prot_of(raw.prot)?;
     let flags = flags_of(raw.flags)?;
@@ -151,7 +151,7 @@ fn mmap_of(raw: &RawEvent) -> Option<Request>
 }
 
 fn mprotect_of(raw: &RawEvent) -> Option<Request>
-    ensures { result ≡ request_at Kind.Mprotect raw.now }
+    ensures { result ≡ request_at EventCode.Mprotect raw.now }
 {
     let prot = prot_of(raw.prot)?;
     Some(Request::Mprotect {
@@ -164,7 +164,7 @@ fn mprotect_of(raw: &RawEvent) -> Option<Request>
 /// The request of a store, if its byte is one.
 #[inline(always)]
 pub fn store_of(raw: &RawEvent) -> Option<Request>
-    ensures { result ≡ request_at Kind.Store raw.now }
+    ensures { result ≡ request_at EventCode.Store raw.now }
 {
     if raw.byte >= 256 {
         return None;

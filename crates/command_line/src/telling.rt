@@ -123,7 +123,7 @@ pub(crate) fn tell<W: Sink, E: Write>(
     out: &mut W,
     errors: &mut E,
 ) -> u8
-    ensures page { (topic : Topic) → told.now ≡ Told.Page topic → result ≡ 0
+    ensures page { (topic : Topic) → told.now ≡ Usage.Page topic → result ≡ 0
         → Appends (W.contents out.old) (W.contents out.new) (page_of topic) }
     ensures within { result ≤ 3 }
 {

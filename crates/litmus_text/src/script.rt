@@ -378,8 +378,8 @@ impl<A: Allocator + Clone> LitmusTest<A> {
         kind: LineKind,
     ) -> Result<(), LitmusFault>
         requires made { unmade self.old.declaration ≡ None }
-        requires space { kind ≢ Kind.Space }
-        requires file { kind ≢ Kind.File }
+        requires space { kind ≢ LineKind.Space }
+        requires file { kind ≢ LineKind.File }
         ensures { Comes result (read_of self.new) (kind_after number (read_of self.old) line.now kind) }
     {
         match kind {

@@ -182,7 +182,7 @@ pub(crate) fn pack(note: &Noted) -> Option<PackedNote>
 
 /// What stands for a note that stands in full, at this place of its list.
 pub(crate) fn placed(place: u64) -> PackedNote
-    ensures kind { result.kind ≡ Kind.InFull }
+    ensures kind { result.kind ≡ NoteKind.InFull }
     ensures word { result.word ≡ place }
 {
     PackedNote {

@@ -169,7 +169,7 @@ impl<A: Allocator> LineReader<A> {
         requires unbroken { IsUnbroken self.old.held }
         ensures found { IfOk result (λ f. Reads (S.stream reader.old) (S.stream reader.new)
             (λ xs ys. Finds (left xs self.old) (left ys self.new) self.new f)) }
-        ensures budget { IfOk result (λ f. f ≡ Found.Line
+        ensures budget { IfOk result (λ f. f ≡ NextLine.Line
             → budget (S.reads reader.new) self.new < budget (S.reads reader.old) self.old) }
         ensures kept { OnErr result (Reads (S.stream reader.old) (S.stream reader.new)
             (λ xs ys. left ys self.new ≡ left xs self.old)) }
@@ -203,7 +203,7 @@ impl<A: Allocator> LineReader<A> {
         ensures found { IfOk result (λ f. Reads (S.stream reader.old) (S.stream reader.new)
             (λ xs ys. Finds (left xs self.old) (left ys self.new) self.new f)) }
         // Each line takes a byte, and the reads are limited.
-        ensures budget { IfOk result (λ f. f ≡ Found.Line
+        ensures budget { IfOk result (λ f. f ≡ NextLine.Line
             → budget (S.reads reader.new) self.new < budget (S.reads reader.old) self.old) }
         ensures kept { OnErr result (Reads (S.stream reader.old) (S.stream reader.new)
             (λ xs ys. left ys self.new ≡ left xs self.old)) }

@@ -83,7 +83,7 @@ fn brief_page(kind: EntryKind, page: u64) -> Option<Brief>
 // What says that a mapping begins at the address, where that is a page's.
 #[inline(always)]
 fn brief_mapped(addr: u64) -> Option<Brief>
-    ensures kind { IfSome result (λ b. b.kind ≡ Kind.Mapped) }
+    ensures kind { IfSome result (λ b. b.kind ≡ EntryKind.Mapped) }
     ensures addr { IfSome result (λ b. 4096 * number_said b.low b.high ≡ addr) }
 {
     if addr % 4096 != 0 {
@@ -181,7 +181,7 @@ pub(crate) fn pack(entry: &Entry) -> Option<PackedEntry>
 
 /// What stands for an entry that stands in full, at this place of its list.
 pub(crate) fn placed(place: u64) -> PackedEntry
-    ensures kind { result.kind ≡ Kind.InFull }
+    ensures kind { result.kind ≡ EntryKind.InFull }
     ensures place { place_said result ≡ place }
 {
     PackedEntry {
