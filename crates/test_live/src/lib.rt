@@ -4,10 +4,13 @@
 //!   core makes its own.
 //! - `starved_tests`: memory refused, and given back piece by piece; `thread_tests`: random requests;
 //!   `telling_tests`: what is told.
+//! - `tree_tests`, `race_tests`: the shared tree by one thread and by several; `ticket_tests`: tickets of many threads.
 #![tactic(auto)]
 
 #[cfg(test)]
 mod meeting_tests;
+#[cfg(test)]
+mod race_tests;
 #[cfg(test)]
 mod row_tests;
 #[cfg(test)]
@@ -16,3 +19,7 @@ mod starved_tests;
 mod telling_tests;
 #[cfg(test)]
 mod thread_tests;
+#[cfg(test)]
+mod ticket_tests;
+#[cfg(test)]
+mod tree_tests;

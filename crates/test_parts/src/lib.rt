@@ -2,7 +2,7 @@
 //!
 //! - `memory_tests`: each memory that is refused; `known_tests`: values of the manual; `refcache_tests` (over
 //!   `trial`): worked rows.
-//! - `map_tests` (over `script`): both slot maps; `tree_tests`, `race_tests`, `ticket_tests`: what threads share.
+//! - `map_tests` (over `script`): both slot maps.
 //! - `line_tests`, `io_tests`: lines, and streams that fail; `picture_tests`: the texts of pictures are apart.
 #![tactic(auto)]
 
@@ -19,16 +19,8 @@ mod memory_tests;
 #[cfg(test)]
 mod picture_tests;
 #[cfg(test)]
-mod race_tests;
-#[cfg(test)]
 mod refcache_tests;
 #[cfg(test)]
 mod script;
 #[cfg(test)]
-mod ticket_tests;
-#[cfg(test)]
-mod tree_tests;
-#[cfg(test)]
 mod trial;
-#[cfg(test)]
-mod words;

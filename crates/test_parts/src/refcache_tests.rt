@@ -1,8 +1,8 @@
 //! `refcache`: worked examples of the rules, row by row.
 use crate::trial::Trial;
-use crate::words::numbers_of;
 use refcache::{Flush, Review};
 use std::alloc::{AllocError, Allocator, Global};
+use test_support::words::numbers_of;
 
 /// Of two cores and one object: it is queued anew; it is freed later; it was counted up since, and is dropped from the queue.
 const TWO: &str = "\

@@ -3,8 +3,8 @@ ghost use Rattle.std.specs.Prelude.{◌≡◌, ◌<◌, ◌≤◌, ◌^◌, IsTr
 ghost use Rattle.vm_base.specs.Pages.{IsPage, IsPageRange};
 ghost use Rattle.slot_lock.specs.Slots.{IsHeld, IsSlot, OwnsAll};
 
-use crate::words::numbers_of;
 use slot_lock::{Acquire, Fit, Footprint, Got, SlotMap};
+use test_support::words::numbers_of;
 use vm_base::{Back, CoreId, Meta, NoMemory, PageRange, Prot, is_valid};
 
 /// A private mapping of a file, from its fifth page on.

@@ -1,6 +1,6 @@
 use Rattle.std.proofs.Common.{◌≡◌, []}
 use Rattle.std.specs.Prelude.{All}
-use Rattle.test_parts.proofs.ticket_tests.lanes_of.Given as goal
+use Rattle.test_live.proofs.ticket_tests.lanes_of.Given as goal
 
 abbrev pub invariant-lanes : goal.invariant-lanes
 invariant-lanes l = record {

@@ -1,5 +1,5 @@
 use Rattle.std.proofs.Common.{◌≡◌, length}
-use Rattle.test_parts.proofs.ticket_tests.draw_all.Given as goal
+use Rattle.test_live.proofs.ticket_tests.draw_all.Given as goal
 
 abbrev pub invariant-draws : goal.invariant-draws
 invariant-draws l = record {

@@ -2,7 +2,6 @@
 //! change one page.
 ghost use Rattle.std.specs.Prelude.{◌≡◌, ◌+◌, ◌<◌, ◌≤◌, ◌^◌};
 
-use crate::words::numbers_of;
 use live_levels::act::Act;
 use live_levels::level::{Next, SlotCut, Stepper};
 use live_tree::held::cut::Cutting;
@@ -12,6 +11,7 @@ use std::alloc::Global;
 use std::sync::Wait;
 use std::test::Fail;
 use std::thread::{self, Threads};
+use test_support::words::numbers_of;
 use vm_base::{Back, CoreId, Meta, PageRange, Prot};
 
 // How often each of two threads changes one page.
