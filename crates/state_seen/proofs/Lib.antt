@@ -5,7 +5,7 @@ pub mod Lines
 pub mod Ordered
 pub mod PageTexts
 pub mod Phases
-pub mod Reading
+pub mod PageReading
 pub mod Steps
 pub mod TableSteps
 pub mod Told

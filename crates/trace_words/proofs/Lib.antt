@@ -1,5 +1,5 @@
 pub mod CollectLemmas
-pub mod Declaring
+pub mod DeclarationLemmas
 pub mod FilePieces
 pub mod OwnFaults
 pub mod ScriptLemmas

@@ -1,5 +1,5 @@
 use Rattle.core_steps.specs.Machine.{state}
-use Rattle.state_seen.proofs.Reading.{below_end, nothing_between, unused_within}
+use Rattle.state_seen.proofs.PageReading.{below_end, nothing_between, unused_within}
 use Rattle.state_seen.proofs.used.next_of.Goals as goal
 
 pub returns-then-not-is_valid-clause-between : goal.returns-then-not-is_valid-clause-between

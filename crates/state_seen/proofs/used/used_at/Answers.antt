@@ -1,6 +1,6 @@
 use Rattle.std.proofs.Common.{◌∙◌, sym}
 use Rattle.core_steps.specs.Machine.{state}
-use Rattle.state_seen.proofs.Reading.{unused_off_page}
+use Rattle.state_seen.proofs.PageReading.{unused_off_page}
 use Rattle.state_seen.proofs.used.used_at.Goals as goal
 
 pub returns-then-not-is_valid : goal.returns-then-not-is_valid

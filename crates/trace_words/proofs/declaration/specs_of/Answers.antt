@@ -1,6 +1,6 @@
 use Rattle.machine_model.proofs.Words.{◌≡◌, ◌∙◌, ap, length, map, rules, take, take_all, file_with}
 use Rattle.trace_words.specs.Declarations.{bytes_of}
-use Rattle.trace_words.proofs.Declaring.{length_of, map_more, same_files}
+use Rattle.trace_words.proofs.DeclarationLemmas.{length_of, map_more, same_files}
 use Rattle.trace_words.proofs.declaration.specs_of.Goals as goal
 
 pub files-init : goal.files-init

@@ -1,6 +1,6 @@
 use Rattle.std.proofs.Common.{◌∙◌, ap, rules}
 use Rattle.trace_words.specs.Declarations.{asked_fault_within}
-use Rattle.trace_words.proofs.Declaring.{same_fault}
+use Rattle.trace_words.proofs.DeclarationLemmas.{same_fault}
 use Rattle.trace_words.proofs.declaration.Declaration.setup_as_asked.Goals as goal
 
 pub returns-clause-faults : goal.returns-clause-faults
