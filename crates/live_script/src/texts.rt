@@ -132,7 +132,7 @@ fn judge_run<A: Allocator + Clone + Drop, T: Threads + Wait + Sync, R: Runner<A>
     requires { asked_fault script.now.asked ≡ None }
     ensures judged { IfOk result (λ judgement. JudgedNotes A ⟦<RadixMap<A> as SlotMap>⟧.parts
         ⟦<RadixMap<A> as SlotMap>⟧.can_fold ⟦<RadixMap<A> as SlotMap>⟧.folds script.now judgement) }
-    ensures fault { IfErr result (λ f. (fault : RunFault) × Fails script.now fault × (f ≡ fault_of_run fault)) }
+    ensures fault { IfErr result (λ f. (fault : ScriptFault) × Fails script.now fault × (f ≡ fault_of_run fault)) }
 {
     let Ok(for_run) = alloc.clone() else {
         return Err(TextFault::Text(TraceFault::NoMemory));

@@ -104,7 +104,7 @@ fn read_event(line: &[u8]) -> Option<Said>
 #[tactic(auto, using(crate::proofs::LineLemmas::dark_none, crate::proofs::LineLemmas::told_none, crate::proofs::LineLemmas::part_some))]
 pub(crate) fn read_told(line: &[u8]) -> Option<HistoryLine>
     ensures some { IfSome result (λ told. Tells told line.now) }
-    ensures none { IfNone result ((told : Told) → Tells told line.now → ⊥) }
+    ensures none { IfNone result ((told : HistoryLine) → Tells told line.now → ⊥) }
 {
     if !is_printable(line) {
         return None;
