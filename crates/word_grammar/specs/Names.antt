@@ -1,7 +1,7 @@
 -- The names of the program's words.
 use Rattle.std.specs.Prelude.{ℕ, List, [], ◌∷◌, codes}
-use Rattle.word_grammar.specs.declared.Word.{Word}
-use Rattle.word_grammar.specs.declared.Word.TheVariants.{Run, Maps, State, Page, Certify, Live, Import, Audit, Picture, Litmus, Help}
+use Rattle.word_grammar.specs.declared.commands.Word.{Word}
+use Rattle.word_grammar.specs.declared.commands.Word.TheVariants.{Run, Maps, State, Page, Certify, Live, Import, Audit, Picture, Litmus, Help}
 
 abbrev pub name_of_word : Word → List ℕ
 name_of_word Run = codes "run"
