@@ -8,8 +8,8 @@
 Lines are those of definitions: no comments, no empty lines, no `use`. Types declared in code (enums and structs) are counted apart, by
 name. Then come the names that have two definitions in what one theorem reaches.
 
-It fails where docs/GUARANTEES.md is behind: other numbers of lines and files, a file that a theorem reaches and that no row has under the
-theorem's mark, or a mark of a theorem that reaches the file no more; where a theorem reaches other files than those that
+It fails where docs/GUARANTEES.md is behind: other numbers of lines and files; of a theorem in SHOWN, a file that it reaches and that no row
+has under its mark, or a mark of a theorem that reaches the file no more; where a theorem reaches other files than those that
 bench/believed.txt lists for it; and where a file of specs/ that no theorem reaches doesn't begin with a comment that says what it is for."""
 import glob
 import os
@@ -18,6 +18,8 @@ import sys
 
 ROOT = os.path.dirname(os.path.dirname(os.path.abspath(__file__)))
 PAGE = 'docs/GUARANTEES.md'
+# The theorems whose files the page's last table has.
+SHOWN = 'HNTUO'
 DEFINES = (
     re.compile(r'^\s*(?:abbrev|unfoldable|reducible)\s+pub\s+(\S+)\s*:'),
     re.compile(r'^(?:\s*pub )?(?:record|data)\s+(\S+)'),
@@ -141,7 +143,7 @@ class Document:
             return
         if numbers != [lines, len(files)]:
             yield f'{PAGE} has other numbers than {lines} lines in {len(files)} files: {theorem.title}'
-        for file in sorted({*files} | {*self.marks}):
+        for file in sorted({*files} | {*self.marks}) if mark in SHOWN else ():
             if (file in files) != (mark in self.marks.get(file, ())):
                 yield f'{"not under" if file in files else "reached no more, but under"} {mark} in {PAGE}: {file}'
         if theorem.user and sorted(theorem.user) != sorted(files):
@@ -164,12 +166,15 @@ def tell_others(specs, marked):
 
 def main():
     specs, document, faults = Specs(), Document(), []
-    if '--others' in sys.argv:
-        return tell_others(specs, document.marks)
+    reached_files = set()
     for theorem in theorems():
         for root in theorem.roots:
             if root not in specs.lines:
                 sys.exit(f'no definition {root[0]}/{root[1]}.{root[2]}')
+        reached_files |= {f'{key[0]}/specs/{key[1]}.antt' for key in specs.reached_from(theorem.roots)[0]}
+    if '--others' in sys.argv:
+        return tell_others(specs, reached_files)
+    for theorem in theorems():
         reached, outside = specs.reached_from(theorem.roots)
         declared = {(crate, module.split('.TheVariants')[0]) for crate, module, _ in outside if module.startswith('declared')}
         files = {}
@@ -191,7 +196,7 @@ def main():
         faults += document.faults(theorem, files, lines)
     for crate, name in specs.files:
         path = f'{crate}/specs/{name}.antt'
-        if path not in document.marks and not open(f'{ROOT}/crates/{path}', encoding='utf-8').read().startswith('-- '):
+        if path not in reached_files and not open(f'{ROOT}/crates/{path}', encoding='utf-8').read().startswith('-- '):
             faults.append(f'no theorem reaches it, and it has no comment that says what it is for: {path}')
     for fault in faults:
         print(fault)

@@ -1,7 +1,7 @@
 #!/usr/bin/env python3
-"""Writes the tables of docs/ARCHITECTURE.md below its mark: of each family (a heading of crates.txt) its crates, each with the first line of its
-root file, and how many crates stand above it. With --lines it prints how many lines of code each crate has. With --check it writes nothing,
-and fails where that page differs, where a first line isn't one sentence of at most 120 bytes with its full stop, where a crate has more than
+"""Writes the table of docs/ARCHITECTURE.md below its mark: of each family (a heading of crates.txt) its crates, each with how many crates stand
+above it. Without a word it also prints of each crate the first line of its root file, which says what it is; with --lines how many lines of
+code it has. With --check it writes nothing, and fails where that page differs, where a first line isn't one sentence of at most 120 bytes with its full stop, where a crate has more than
 1,500 lines of code, where it stands before one that it uses, or where there are more than 81 crates.
 A line of code isn't blank, and isn't of a comment, of a ghost item or of a contract's clause. Usage: bench/crates.py [--check | --lines]"""
 import pathlib
@@ -96,17 +96,15 @@ def above(families):
 
 
 def tables(families):
-    """What stands below the mark: a table for each family."""
-    parts, counts = [], above(families)
-    for family, crates in families:
-        rows = [f"| {crate} | {first_line(crate)} | {counts[crate]} |" for crate, _ in crates]
-        parts.append("\n".join([f"## {family}", "", "| Crate | What it is | Above |", "|---|---|--:|", *rows]))
-    return "\n\n".join(parts) + "\n"
+    """What stands below the mark: a row for each family."""
+    counts = above(families)
+    rows = [f"| {family} | {', '.join(f'{crate} {counts[crate]}' for crate, _ in crates)} |" for family, crates in families]
+    return "\n".join(["| Family | Crates, each with how many use it, themselves or through others |", "|---|---|", *rows]) + "\n"
 
 
 def faults(families, page, wanted):
     if page != wanted:
-        yield "docs/ARCHITECTURE.md hasn't the tables of crates.txt and of the crates' first lines: run bench/crates.py"
+        yield "docs/ARCHITECTURE.md hasn't the table of crates.txt: run bench/crates.py"
     every = [crate for _, crates in families for crate, _ in crates]
     behind = set()
     for _, crates in families:
@@ -146,6 +144,9 @@ def main():
         sys.exit(1 if found else 0)
     else:
         PAGE.write_text(wanted, encoding="utf-8")
+        for _, crates in families:
+            for crate, _ in crates:
+                print(f"{crate}: {first_line(crate)}")
 
 
 main()

@@ -2,8 +2,9 @@
 """Reads README.md, docs/*.md and examples/README.md, and tells what in them isn't so: a path that isn't there, a contract (CRATE::MODULE::FUNCTION)
 whose function isn't, a clause that no contract named before it has, a function that a walk names in another module, a word of code that stands
 nowhere in the sources, a command whose word, option or file isn't there, a reply beside README's first trace that isn't the program's, C or Rust
-that no compiler takes, a crate or a document that is left out, nine words in a row that stand in two documents, a sentence of more than 38 words,
-or more than 92,000 bytes in README.md and docs/*.md. It runs `./radixvm help` for each topic that is named and, where the program is built (or
+that no compiler takes, a crate or a document that is left out, nine words in a row that stand in two documents, a sentence of more than 30 words
+or that begins with "Of", a word of ours where the field or plain English has another (`OURS`), a document over its budget, or more than 72,000 bytes
+in README.md and docs/*.md. It runs `./radixvm help` for each topic that is named and, where the program is built (or
 RADIXVM_PROGRAM names it), each command of it whose files are there. It ends with status 1 where it tells anything.
 Usage: bench/docs.py"""
 import functools
@@ -18,6 +19,34 @@ import tempfile
 ROOT = os.path.dirname(os.path.dirname(os.path.abspath(__file__)))
 FOLDERS = "bench bindings crates docs edits examples include install proofs specs src".split()
 FOREIGN = {"POSIX", "MAP_FIXED", "MAP_ANONYMOUS", "MAP_PRIVATE", "MAP_SHARED", "MAP_SHARED_VALIDATE", "SIGSEGV"}
+
+# Words that texts for users don't use, each with what they say.
+OURS = {
+    "behind": "after, or below",
+    "just": "exactly, or only",
+    "beside": "next to, compared with, or during",
+    "stand": "be",
+    "stands": "is",
+    "told": "reported, or replied",
+    "amid": "during",
+    "want of": "out of",
+}
+
+# Bytes that a document may have; together they have at most MOST_BYTES.
+MOST_BYTES = 72_000
+BUDGETS = {
+    "README.md": 9_400,
+    "docs/ARCHITECTURE.md": 5_000,
+    "docs/COMPARISON.md": 3_000,
+    "docs/CONTRIBUTING.md": 8_700,
+    "docs/DECISIONS.md": 7_000,
+    "docs/FAQ.md": 4_000,
+    "docs/GLOSSARY.md": 4_000,
+    "docs/GUARANTEES.md": 23_500,
+    "docs/SPEED.md": 7_000,
+    "docs/TOUR.md": 5_500,
+}
+MOST_WORDS = 30
 
 
 @functools.cache
@@ -256,7 +285,7 @@ def whole_faults():
     drawn, first = read("docs/ARCHITECTURE.md"), read("README.md")
     for line in read("crates.txt").split("\n"):
         name = line.split(":")[0].split()[0] if line and line[0] != "#" else ""
-        if name and not re.search(rf"^\|[^|]*\b{name}\b[^|]*\|", drawn, re.M):
+        if name and not re.search(rf"^\|[^|]*\|.*\b{name} \d", drawn, re.M):
             yield f"docs/ARCHITECTURE.md has no row of the crate {name}"
     for document in documents():
         if document != "README.md" and document not in first:
@@ -274,20 +303,39 @@ def repeat_faults():
         places.update(dict.fromkeys(here, document))
 
 
-def length_faults(text):
+def style_faults(text):
+    """Of sentences: their length, how they begin, and words that the field or plain English says otherwise."""
     for block in blocks(re.sub(r"```.*?```", "", text, flags=re.S)):
-        if block.startswith(("|", "    ")):
+        if block.startswith("    "):
+            continue
+        plain = re.sub(r"`[^`]*`|\([^ )]*\)", "`", block)
+        for word, other in OURS.items():
+            if re.search(rf"\b{word}\b", plain, re.I):
+                yield f"'{word}', which is {other}: {block[:90]}.."
+        if block.startswith("|"):
             continue
         for sentence in re.split(r"(?<=[.:;!?])\s+", block):
-            if len(sentence.split()) > 38:
+            if len(sentence.split()) > MOST_WORDS:
                 yield f"{len(sentence.split())} words in a sentence: {sentence[:90]}.."
+            if re.match(r"(- )?(\*\*)?Of [a-z]", sentence):
+                yield f"a sentence that begins with Of: {sentence[:90]}.."
+
+
+def budget_faults():
+    sizes = {document: os.path.getsize(os.path.join(ROOT, document)) for document in documents()}
+    for document, size in sizes.items():
+        if size > BUDGETS.get(document, 0):
+            yield f"{document} has {size:,} bytes, and {BUDGETS.get(document, 0):,} at most"
+    if sum(sizes.values()) > MOST_BYTES:
+        yield f"the documents have more than {MOST_BYTES:,} bytes"
+    print(f"{len(sizes)} documents, {sum(sizes.values()):,} bytes")
 
 
 def main():
     words, options, count = words_of_sources(), usage(), 0
     for document in [*documents(), "examples/README.md"]:
         text = read(document)
-        faults = [*path_faults(text), *image_faults(document, text), *reference_faults(text), *word_faults(text, words), *length_faults(text)]
+        faults = [*path_faults(text), *image_faults(document, text), *reference_faults(text), *word_faults(text, words), *style_faults(text)]
         for command in commands(text):
             for part in command.split(" | "):
                 faults += command_faults(part, options)
@@ -297,12 +345,10 @@ def main():
         for fault in faults:
             print(f"{document}: {fault}")
         count += len(faults)
-    for fault in [*whole_faults(), *repeat_faults()]:
+    for fault in [*whole_faults(), *repeat_faults(), *budget_faults()]:
         print(fault)
         count += 1
-    size = sum(os.path.getsize(os.path.join(ROOT, document)) for document in documents())
-    print(f"{len(documents())} documents, {size:,} bytes")
-    sys.exit(1 if count or size > 92000 else 0)
+    sys.exit(1 if count else 0)
 
 
 main()

@@ -49,27 +49,27 @@ row() { echo "\"$1\",$2,$3,$4,$(ratio "$3" "$4"),$5"; }
 rest() {
     echo figure,unit,ours,other,ratio,aim
     bench/make_shape.sh sparse > "$trace"
-    row 'memory of 10,000 pages 1,000 apart, beside plain Rust' KiB "$(memory "$program" run)" "$(memory "$plain")" ''
+    row 'memory of 10,000 pages 1,000 apart, over plain Rust' KiB "$(memory "$program" run)" "$(memory "$plain")" ''
 
     bench/make_trace_four.sh $((lines * 5 / 2)) > "$trace"
     "$program" run < "$trace" > "$work/replies"
     "$program" run --log < "$trace" > "$work/logged"
     cmp -n "$(wc -c < "$work/replies")" "$work/logged" "$work/replies"
     read -r logged shown <<< "$(bench/measure.py --own-texts "$runs" "$trace" "$program" run --log -- "$program" run)"
-    row 'run --log of the four-core trace, beside run' ms "$logged" "$shown" 1.2
+    row 'run --log of the four-core trace, over run' ms "$logged" "$shown" 1.2
 
     bench/make_growth.sh map 100000 > "$trace"
     read -r ours theirs <<< "$(bench/measure.py "$runs" "$trace" "$program" maps -- "$plain" maps)"
-    row 'maps of 100,000 slots, beside plain Rust' ms "$ours" "$theirs" 0.8
+    row 'maps of 100,000 slots, over plain Rust' ms "$ours" "$theirs" 0.8
     read -r ours theirs <<< "$(bench/measure.py "$runs" "$trace" "$program" run -- "$plain")"
-    row 'run of the same trace, beside plain Rust' ms "$ours" "$theirs" ''
+    row 'run of the same trace, over plain Rust' ms "$ours" "$theirs" ''
 
     local runs=$runs
     for count in $counts; do
         [ "$count" -lt 10000000 ] || runs=1
         bench/make_growth.sh map $((count / 10)) $((count * 9 / 10)) > "$trace"
         read -r ours theirs <<< "$(bench/measure.py --own-texts "$runs" "$trace" "$program" picture --lives -- "$program" run --long)"
-        row "lives of $count requests, beside run --long" ms "$ours" "$theirs" ''
+        row "lives of $count requests, over run --long" ms "$ours" "$theirs" ''
     done
 }
 

@@ -36,6 +36,7 @@ def marked(ratio, aim):
 
 
 AIM = "0.8"  # of every shape
+SHOWN = 8  # so many shapes, the slowest beside plain Rust; docs/shapes.csv has all
 
 
 def shapes_table(rows, counted):
@@ -50,7 +51,7 @@ def shapes_table(rows, counted):
                 marked(row["ratio"], AIM),
                 *counted.get(row["shape"], ("", "")),
             ]
-            for row in rows
+            for row in sorted(rows, key=lambda row: -float(row["ratio"]))[:SHOWN]
         ],
     )
 
