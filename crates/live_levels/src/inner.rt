@@ -71,7 +71,9 @@ impl<C: Level<A>, A: Allocator + Clone> Level<A> for Inner<C, A> {
             Asked::Larger(guard) => guard,
             Asked::Lost => return Next::Lost,
         };
-        match place.split(alloc, stepper, &larger) {
+        let cut = place.split(alloc, stepper, &larger);
+        drop(larger);
+        match cut {
             SlotCut::Cut(_) => Next::Split,
             SlotCut::Unseen(_) => Next::Unseen,
             SlotCut::NoMemory => Next::NoMemory,
