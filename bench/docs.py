@@ -3,8 +3,8 @@
 whose function isn't, a clause that no contract named before it has, a function that a walk names in another module, a word of code that stands
 nowhere in the sources, a command whose word, option or file isn't there, a reply beside README's first trace that isn't the program's, C or Rust
 that no compiler takes, a crate or a document that is left out, nine words in a row that stand in two documents, a sentence of more than 30 words
-or that begins with "Of", a word of ours where the field or plain English has another (`OURS`), a document over its budget, or more than 72,000 bytes
-in README.md and docs/*.md. It runs `./radixvm help` for each topic that is named and, where the program is built (or
+or that begins with "Of", a word of ours where the field or plain English has another (`OURS`), a document over its budget, more than 72,000 bytes
+in README.md and docs/*.md, or such a word in the help's texts. It runs `./radixvm help` for each topic that is named and, where the program is built (or
 RADIXVM_PROGRAM names it), each command of it whose files are there. It ends with status 1 where it tells anything.
 Usage: bench/docs.py"""
 import functools
@@ -191,11 +191,15 @@ def commands(text):
 
 
 def usage():
-    """The options of each word of the program, as its help has them."""
-    told = subprocess.run(["./radixvm", "help"], cwd=ROOT, capture_output=True, text=True, check=True).stdout
-    options = {}
-    for word, rest in re.findall(r"radixvm (\w+)((?: .*)?)\n", re.sub(r"\n {12,}", " ", told)):
-        options.setdefault(word, {"--help"}).update(re.findall(r"--[a-z-]+", rest))
+    """The options of each command of the program, as its help has them."""
+    def help_of(*words):
+        return subprocess.run(["./radixvm", "help", *words], cwd=ROOT, capture_output=True, text=True, check=True).stdout
+
+    listed = help_of().split("\nCommands:\n")[1].split("\n\n")[0]
+    options = {"help": {"--help"}}
+    for command in set(re.findall(r"^  (\w+) ", listed, re.M)) - {"help"}:
+        said = help_of(command).split("\nUsage: ")[1].split("\n\n")[0]
+        options[command] = {"--help", *re.findall(r"--[a-z-]+", said)}
     return options
 
 
@@ -321,6 +325,15 @@ def style_faults(text):
                 yield f"a sentence that begins with Of: {sentence[:90]}.."
 
 
+def help_faults():
+    """What the help's texts say with words of ours. What the program writes itself, as `told N of M`, is left out."""
+    for path in sorted(glob.glob(f"{ROOT}/crates/word_help/src/*.rt")):
+        for name, text in re.findall(r'^pub const (\w+): &str = "\\\n(.*?)\n?";$', open(path, encoding="utf-8").read(), re.M | re.S):
+            for word, other in OURS.items():
+                if re.search(rf"\b{word}\b(?! N of M)", text, re.I):
+                    yield f"help, {name}: '{word}', which is {other}"
+
+
 def budget_faults():
     sizes = {document: os.path.getsize(os.path.join(ROOT, document)) for document in documents()}
     for document, size in sizes.items():
@@ -345,7 +358,7 @@ def main():
         for fault in faults:
             print(f"{document}: {fault}")
         count += len(faults)
-    for fault in [*whole_faults(), *repeat_faults(), *budget_faults()]:
+    for fault in [*whole_faults(), *repeat_faults(), *help_faults(), *budget_faults()]:
         print(fault)
         count += 1
     sys.exit(1 if count else 0)

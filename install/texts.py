@@ -4,6 +4,7 @@ what each does. Usage: texts.py SHARE, the folder share/ that they are installed
 import pathlib
 import re
 import sys
+import textwrap
 
 TOP = pathlib.Path(__file__).resolve().parent.parent
 SOURCES = "".join(path.read_text() for path in sorted((TOP / "crates/word_help/src").glob("*.rt")))
@@ -36,11 +37,12 @@ def words():
 
 
 def said():
-    """What each word, flag and topic is for, in the overview's words, which begin in one column."""
+    """What each command, option and topic is for, in the overview's words, which begin in one column."""
     lines, last = {}, None
-    for line in text("OVERVIEW").split("\nWords:\n")[1].split("\n\n")[0].split("\n"):
-        last = line[:17].strip() or last
-        lines[last] = f"{lines.get(last, '')} {line[17:].strip()}".strip()
+    for head in ("Commands", "Topics"):
+        for line in text("OVERVIEW").split(f"\n{head}:\n")[1].split("\n\n")[0].split("\n"):
+            last = line[:17].strip() or last
+            lines[last] = f"{lines.get(last, '')} {line[17:].strip()}".strip()
     return lines
 
 
@@ -58,18 +60,38 @@ def of_flag(word, flag):
 # ---- man pages
 
 
+# How a part of a help text begins, and the section that it is in a man page. All else is the description.
+HEADS = {"Usage:": "SYNOPSIS", "Options:": "OPTIONS", "Example": "EXAMPLES", "Status": "EXIT STATUS"}
+SECTIONS = ["SYNOPSIS", "DESCRIPTION", "OPTIONS", "EXAMPLES", "EXIT STATUS"]
+
+
 def roff(body):
-    """Lines that man prints as they stand."""
-    lines = [line.replace("\\", "\\e").replace("-", "\\-") for line in body.rstrip("\n").split("\n")]
+    """Lines that man prints as they are."""
+    lines = [line.replace("\\", "\\e").replace("-", "\\-") for line in body.strip("\n").split("\n")]
     return ".nf\n" + "\n".join("\\&" + line if line[:1] in (".", "'") else line for line in lines) + "\n.fi\n"
 
 
+def parts(body):
+    """The sections of a help text, each with its paragraphs; the head of a section goes, where the section says it."""
+    found = {section: [] for section in SECTIONS}
+    for paragraph in body.strip("\n").split("\n\n"):
+        section = next((section for head, section in HEADS.items() if paragraph.startswith(head)), "DESCRIPTION")
+        found[section].append(re.sub(r"^(Usage: |Options:\n|Examples:\n|Status: )", lambda head: " " * 7 if head[0] == "Usage: " else "", paragraph))
+    return {section: textwrap.dedent("\n\n".join(paragraphs)) for section, paragraphs in found.items() if paragraphs}
+
+
 def page(name, section, about, body):
+    numbers = {other: (f"radixvm-{other}", number) for other, number in listed() if other}
+    body = re.sub(r"\bhelp (\w+)", lambda found: "{}({})".format(*numbers[found[1]]) if found[1] in numbers else found[0], body)
     plain = about.replace("\\", "\\e").replace("-", "\\-")
-    head = f'.TH {name.upper()} {section} "" "radixvm {version()}" "RadixVM"\n.SH NAME\n{name} \\- {plain}\n.SH DESCRIPTION\n'
+    head = f'.TH {name.upper()} {section} "" "radixvm {version()}" "RadixVM"\n.SH NAME\n{name} \\- {plain}\n'
+    said = "".join(f".SH {part}\n{roff(text)}" for part, text in parts(body).items())
     named = [(f"radixvm-{other}" if other else "radixvm", number) for other, number in listed()]
     others = ".SH SEE ALSO\n" + ",\n".join(f"{other}({number})" for other, number in named if other != name).replace("-", "\\-") + "\n"
-    return head + roff(body) + others
+    return head + said + STANDARDS + others
+
+
+STANDARDS = ".SH STANDARDS\nmmap, munmap and mprotect: POSIX.1\\-2017; page tables and TLBs: Intel SDM volume 3A.\n"
 
 
 def listed():

@@ -1,6 +1,6 @@
-//! The texts of the help, a page for each word and topic.
+//! The texts of the help, a page for each command and topic.
 //!
-//! - The root has topics and their pages (`page`); `traces`: of `run` and `maps`; `texts`: of all other words.
+//! - The root has topics and their pages (`page`); `traces`: of `run` and `maps`; `texts`: of all other commands.
 //!
 //! It knows no other crate, so that a changed text proves little anew.
 #![tactic(auto)]
@@ -17,12 +17,12 @@ use crate::traces::{CORES, FAULTS, LOG, MAPS, OUTCOMES, PAGE, RUN, STATE, TRACE}
 /// What `--version` says after the program's name.
 pub const VERSION: &str = "0.1.0";
 
-/// How the words go together.
+/// How commands and options go together.
 pub const USAGE: &str = "\
 radixvm run [--summary | [--echo] [--state] [--log]] [--long]
                    [--explain] [FILE]
        radixvm maps [--names] [--long] [--explain] [FILE]
-       radixvm state [--at N] [--explain] [FILE]
+       radixvm state [--at N] [--json] [--explain] [FILE]
        radixvm page [--explain] [FILE]
        radixvm certify [--explain] [FILE]
        radixvm live [[--certify | --history] [--summary] | --shared]
@@ -40,86 +40,65 @@ radixvm run [--summary | [--echo] [--state] [--log]] [--long]
                       [--explain] [FILE]
        radixvm help [TOPIC]";
 
-/// What the program is for, its words, and where to read on.
+/// What the program is for, its commands, and where to read on.
 pub const OVERVIEW: &str = "\
 One virtual address space with mmap, munmap and mprotect, shared by 1 to 64
-modelled cores, and replayed from a text, a trace, step by step.
+modelled cores. radixvm replays it step by step, shows it, and judges replies
+of other systems.
 
-Usage: radixvm run [--summary | [--echo] [--state] [--log]] [--long]
-                   [--explain] [FILE]
-       radixvm maps [--names] [--long] [--explain] [FILE]
-       radixvm state [--at N] [--explain] [FILE]
-       radixvm page [--explain] [FILE]
-       radixvm certify [--explain] [FILE]
-       radixvm live [[--certify | --history] [--summary] | --shared]
-                    [--explain] [FILE]
-       radixvm import [--lackey | --all DIR |
-                      [--pid N] [--one-process] [--maps FILE]]
-                      [--explain] [FILE..]
-       radixvm audit [--overlapping [--loose |
-                       [--given IN | --by-pages] [--order OUT]] |
-                     [--strict] [--all]] [--any-place] [--explain] [FILE]
-       radixvm picture [--lives | [--steps] [--from N] [--to N]]
-                       [--explain] [FILE]
-       radixvm litmus [--to-c | [--limit N] [--list | --witness N |
-                      --picture N | --observed COUNTS | --live N]]
-                      [--explain] [FILE]
-       radixvm help [TOPIC]
+To do this                                       use
+  see what calls reply                           run
+  see what each core holds; step through it      state, page, picture
+  check a kernel or simulator, call by call      audit
+  check threads whose calls overlap              audit --overlapping
+  list every outcome of a race                   litmus
+  look at a real program's mappings              import, maps
+  run cores on threads; check what they noted    live, certify
 
-Words:
-  run            reads a trace, and writes a line for each line of an event:
-                 the reply of a call, or what became of a step
-  run --log      writes the log behind these lines: when each call had its
-                 reply
-  run --echo     writes LINE = OUTCOME for a line of an event, and copies vm
-                 and file lines; with --log the log stands below the lines,
-                 each entry with the core, request and line of its call
-  run --state    does so, and writes below each line what it changes in the
-                 state: - and + before lines that go and that come
-  run --summary  counts calls, faults, fills, shootdowns, frames and epochs,
-                 and writes the numbers on standard error (help cores)
-  maps           writes the mappings at the trace's end, and nothing else
-  state          writes the state at the trace's end, or behind line N: each
-                 core's call, TLB, tables and inbox
-  page           writes a page of HTML that steps through the trace, and shows
-                 the state behind each line
-  certify        reads notes, steps with what each came to, and certifies that
-                 they are a run of the machine, or refuses them
+Usage: radixvm COMMAND [OPTIONS] [FILE]
+       Without FILE, or for -, the text comes from standard input.
+       radixvm help COMMAND explains a command and all its options.
+
+Commands:
+  run            replays a trace: a line for each event, with its outcome
+  run --log      adds the log: when each call had its reply
+  run --echo     writes each line with its outcome
+  run --state    adds below each line what it changes in the state
+  run --summary  writes the run's numbers to standard error
+  maps           writes the mappings at the end of a trace
+  state          writes the state at the end of a trace, or after line N
+  page           writes a page of HTML that steps through a trace
+  picture        draws a trace as SVG: its lines, steps or mappings
+  audit          judges the replies of another address space
+  litmus         lists what calls of several cores can reply
+  import         makes a trace of a log of strace, or of valgrind's lackey
   live           runs a script, each core on a thread, and writes their notes
-  live --certify certifies these notes, or refuses them, in their place
-  live --history writes when each call began and was answered, and its reply
-  live --summary counts requests, replies, messages and notes besides, and
-                 writes the numbers on standard error
-  live --shared  runs it on one machine for all threads, whose replies are
-                 proved, and writes each core's calls, and all in their order
-  import         reads a log of strace, or with --lackey one of valgrind's, and
-                 writes a trace of what a program did
-  audit          reads calls with the replies that another address space gave,
-                 and says whether they are those of a plain page map
-  picture        reads a trace, and writes a picture of its lines, as SVG; with
-                 --steps of its steps, with --lives of the lives of mappings
-  litmus         reads a few calls of several cores, and lists what they can be
-                 answered in all orders of their steps, and what never
-  FILE           the file that is read; without it, or for -, standard input
-  --long         lets the trace ask for more calls, but not beside --log
-  --explain      shows under a fault the line, the word, and what was expected;
-                 it is on where standard error is a terminal
+  live --certify certifies these notes, or refuses them
+  live --history writes when each call began and was answered
+  live --summary writes numbers of the run to standard error
+  live --shared  runs the script on one machine that all threads share
+  certify        says whether notes are a run of the machine
   help           writes this text
-  help TOPIC     explains one of the words, as WORD --help does, or of these:
-    trace        what the lines of a trace are
-    outcomes     what the lines of output say, and what to do at a wait, or
-                 where no frame is free
+  --long         lets the trace ask for up to 2^40 calls
+  --explain      shows below an error the line and what was expected
+
+Topics:
+  help TOPIC     explains one of these, or a command, as COMMAND --help does:
+    trace        the lines of a trace
+    outcomes     the outcomes of events; what to do at a wait
     log          the lines that --log adds
-    faults       what ends a replay early, and the program's status
+    faults       errors, limits and exit status
     cores        tables, TLBs, locks, shootdown, and how frames come back
-    notes        the lines that certify reads, and the line that it writes
+    notes        the lines that certify reads and writes
     threads      scripts, and what live writes
-  -h, --help     writes this text
+
+Options of all commands:
+  -h, --help     explains the command
   -V, --version  writes the version
 
-At a terminal --echo and --explain have colours, unless NO_COLOR is set.
+On a terminal --echo and --explain use colours, unless NO_COLOR is set.
 
-Example, of one core and four frames:
+Example, with one core and four frames:
   printf '%s\\n' 'vm 1 4' 'c0! mmap 0x10000 4096 rw- pfa' \\
     'c0! store 0x10004 41' 'c0! load 0x10004' | radixvm run
 writes 0x10000, done and 41, each on a line of its own.

@@ -2,44 +2,63 @@
 
 /// What `certify` reads and writes.
 pub const NOTES: &str = "\
-certify reads notes, and certifies that they are a run of the machine, or
-refuses them. Notes say which steps were made, in which order, and what each
-came to. Several cores may have noted their steps side by side. The text begins
-as a trace does, with a vm line, here always with CALLS, and a line for each
-file. Each note is
+certify reads notes, and says whether they are a run of the machine: it
+validates a recorded run.
+
+Usage: radixvm certify [--explain] [FILE]
+
+Options:
+  --explain  shows below an error the line and what was expected
+
+Notes say which steps were made, in which order, and with which outcomes.
+Several cores may have noted their steps at the same time. The text begins as a
+trace does, with a vm line, here always with CALLS, and a line for each file.
+Each note is
 
   TICKET EVENT = OUTCOME
 
-TICKET is the step's place in the order of all steps, from 0 on. EVENT is an
+TICKET is the step's number in the order of all steps, from 0 on. EVENT is an
 event of help trace that makes one step: not cC!, and not cC finish. OUTCOME is
-as in help outcomes, but not stuck. Notes may stand in any order.
+as in help outcomes, but not stuck. Notes may come in any order.
 
-certify gives the events to the machine in order of tickets, and writes a line:
+Output: certify gives the events to the machine in order of tickets, and writes
+one of these:
 
-  certified CALLS    they are a run of the machine with just these outcomes, in
-                     which so many calls were answered; what holds of all runs
-                     holds of it: a plain page map can give these replies
-                     (help log)
-  refused C1 TICKET  the tickets from 0 up to the number of notes must stand
-                     once each; this is the least that doesn't
+  certified CALLS    they are a run of the machine with exactly these outcomes,
+                     in which so many calls were answered. So a plain page map
+                     can give these replies (help log)
+  refused C1 TICKET  the tickets from 0 up to the number of notes must be there
+                     once each; this is the lowest that isn't
   refused C2 TICKET: noted OUTCOME, expected OUTCOME
-                     the first step that comes to something else
+                     the first step with another outcome
 
 Example, a call and its two steps:
   printf '%s\\n' 'vm 1 1 4' '0 c0 call load 0x0 = step' '1 c0 go = step' \\
     '2 c0 go = segv maperr' | radixvm certify
 writes certified 1.
 
-Status: 0 if they are certified, 1 if they are refused. A fault is told as help
-faults says, and then nothing is written; --explain tells more of it.
+Status: 0 if they are certified, 1 if they are refused; 2 for a bad text or bad
+arguments; 3 if reading, writing or memory failed. After an error (help faults)
+nothing is written.
 ";
 
 /// What `live` reads and writes.
 pub const THREADS: &str = "\
-live reads a script, and runs each core's lines, in their order, on a thread of
-the core's own, or one core after another if no thread can be made. All other
-words use one thread. A script has the vm and file lines of help trace, and
-these lines:
+live runs a script, each core's lines in their order on a thread of the core's
+own, or one core after another if no thread can be made. All other commands use
+one thread.
+
+Usage: radixvm live [[--certify | --history] [--summary] | --shared]
+                    [--explain] [FILE]
+
+Options:
+  --certify  writes only whether the notes are certified
+  --history  writes when each call began and was answered, for audit
+  --summary  writes numbers of the run to standard error
+  --shared   runs the script on one machine that all threads share
+  --explain  shows below an error the line and what was expected
+
+A script has the vm and file lines of help trace, and these lines:
 
   cC! REQ     core C makes a call
   cC flush    core C flushes one count
@@ -48,9 +67,9 @@ these lines:
 The whole script is read before anything runs. Each core may begin CALLS
 divided by CORES calls, rounded down.
 
-What comes out are notes, as help notes says: a line for each step that a
-thread made, in the order of all steps. When cores meet, the threads decide
-which step comes first, so two runs of one script may write other notes.
+Output: notes, as help notes says: a line for each step that a thread made, in
+the order of all steps. When cores meet, the threads decide which step comes
+first, so two runs of one script may write other notes.
 
   radixvm live FILE | radixvm certify
 
@@ -59,27 +78,27 @@ writes only that verdict, and also compares how each slot of the space changed:
 
   refused C5 PAGE   the slot of this page, a number, changed in another way
 
-live --history writes in place of the notes the vm and file lines, and then of
-each call that was answered
+live --history writes the vm and file lines, and then of each call that was
+answered
 
   BEGIN END cC! REQ = REPLY
 
 BEGIN and END are the numbers of the notes that began and answered the call.
-One core comes after another. A judge that knows no machine can read them.
+One core comes after another. audit --overlapping reads them.
 
 With each of these --summary writes the numbers of all notes to standard error,
-after a run without a fault, each on a line of its own:
+after a run without an error, each on a line of its own:
 
   requests NAME   calls that began: mmap, munmap, mprotect, load, store, fetch
   calls REPLY     answered calls, as run --summary counts them (help cores)
   segv REASON     calls that got segv maperr, and segv accerr
-  takes           messages that cores acted on
+  takes           messages that cores handled
   tickets, notes  how many tickets were drawn, and notes made: as many
 
-live --shared runs the script on one machine that all threads share. A core
-makes its call whole while no other core is in one; otherwise it pauses, and
-tries again. Each core may begin calls until all have begun CALLS. In place of
-notes it writes these lines. audit reads the last ones (help audit):
+live --shared runs the script on one machine. A core makes its call whole while
+no other core is in one; otherwise it pauses, and tries again. CALLS limits the
+calls of all cores together. It writes these lines in place of notes; audit
+reads the last ones (help audit):
 
   # cC! REQ = REPLY   the calls of each core, in order of cores, with the
                       replies that its thread had
@@ -91,8 +110,9 @@ however the threads take turns: a plain page map gives the replies, and each
 core's calls are those of its own lines, in their order. Notes tell more, each
 step, and have to be certified run by run.
 
-A core that can't begin a task stops, and its fault is told, with nothing on
-standard output. Of several cores that stop, the least is told:
+A core that can't begin a task stops, and its error is reported, with nothing
+on standard output. If several cores stop, the error of the lowest-numbered
+core is printed:
 
   live V1   it has begun its share of calls
   live V2   of the 2^32 steps that it may note, fewer than three are left for
@@ -100,77 +120,84 @@ standard output. Of several cores that stop, the least is told:
   live V3   no memory to begin
   live V4   the shared machine has begun CALLS calls, or can make no more steps
 
-Status: 0; 1 if notes are refused; 2 for a bad script or bad words; 3 if
-reading, writing or memory failed, or a core stopped. --explain tells more of a
-bad script.
+Examples:
+  radixvm live --certify examples/threads.script
+  radixvm live --shared examples/shared.script
+
+Status: 0; 1 if notes are refused; 2 for a bad script or bad arguments; 3 if
+reading, writing or memory failed, or a core stopped.
 ";
 
 /// What `import` reads and writes.
 pub const IMPORT: &str = "\
 import reads a log that strace wrote of a program, and writes a trace of what
-the program asked of its address space:
+the program asked of its address space.
+
+Usage: radixvm import [--lackey | --all DIR |
+                      [--pid N] [--one-process] [--maps FILE]]
+                      [--explain] [FILE..]
 
   strace -f -tt -T -y -o LOG -e trace=memory,process PROGRAM
   radixvm import LOG | radixvm run
 
-Give strace -o FILE: at a terminal it breaks lines where a thread begins. Read
-are lines with -t, -tt, -ttt, -r, -T, -i, -n, -Y, -X raw and -X verbose too.
+Options:
+  --pid N        the process of thread N. Without it, the one with the most
+                 requests: if there are several, standard error lists them,
+                 each with the program that it began last
+  --one-process  threads of unknown creation are of one process. strace -f -p N
+                 leaves such logs; without it each is a process
+  --all DIR      writes a trace of each process to the folder DIR. NUMBER.trace
+                 is what --pid writes for it; a process without requests has
+                 none. The folder is made. With none of the other options
+  --maps FILE    a copy of /proc/PID/maps, as it was where the trace begins: at
+                 the log's first line or, if the log has an execve of the
+                 process, right after it
+  --lackey       LOG is one of valgrind's lackey. It has all accesses of memory
+                 (below). With none of the other options
+  --explain      says which file couldn't be read, and why
+
+Logs. Give strace -o FILE: on a terminal it breaks lines where a thread begins.
+Lines with -t, -tt, -ttt, -r, -T, -i, -n, -Y, -X raw and -X verbose are read.
 
 Several FILEs are one log. strace -ff writes one for each thread, LOG.NUMBER:
-each line is one of the thread with the number behind its file's last dot. Give
-strace -ttt or -tt beside it: the lines go in the order of their times, which
-are those at which calls began. In a file no time goes back: at midnight -tt
-begins anew, and -ttt doesn't. Lines before the first time of their file come
-first, in the order of the FILEs, and standard error tells how many there are.
+each line is of the thread with the number after its file's last dot. Give
+strace -ttt or -tt, too: the lines go in the order of their times, which are
+those at which calls began. In a file no time goes back: at midnight -tt begins
+anew, and -ttt doesn't. Lines before the first time of their file come first,
+in the order of the FILEs, and standard error says how many there are.
 
-  --pid N        the process of thread N, else the one with the most requests:
-                 where there are several, standard error then lists them, each
-                 with the program that it began last. If no line is about
-                 thread N, that is an error, and they are listed, too. A forked
-                 process begins with its parent's mappings; one of vfork, or
-                 of clone with CLONE_VM, maps and unmaps for its parent, too,
-                 until it begins a program
-  --one-process  all threads of whose creation no line tells are of one
-                 process, as strace -f -p N leaves it; else each is one
-  --all DIR      a trace of each process, NUMBER.trace in the folder DIR, which
-                 is made if it isn't there: what --pid writes of it. What it
-                 tells on standard error is told of each. A process without
-                 requests has no trace. It goes beside none of the others
-  --maps FILE    a copy of /proc/PID/maps, as it was where the trace begins: at
-                 the log's first line, or, where the log has an execve of the
-                 process, right behind it
+Processes. A forked process begins with its parent's mappings. One of vfork, or
+of clone with CLONE_VM, maps and unmaps for its parent, too, until it begins a
+program.
 
-  --lackey       LOG is one of valgrind's lackey, with all accesses of memory
-                 (below); it goes beside none of these
+Calls. A line of mmap, munmap or mprotect is kept with its numbers. A mapping
+is put where the kernel placed it, so it has the flag f, and its address is the
+one that the kernel answered. Each thread is a core, in the order of their
+first requests; the 65th shares core 0 with the first.
 
-A line of mmap, munmap or mprotect is kept with its numbers. A mapping stands
-where the kernel placed it, so it has the flag f, and its address is the one
-that the kernel answered. Each thread is a core, in the order of their first
-requests; the 65th shares core 0 with the first.
-
-A call that stands in two lines, <unfinished ...> and resumed, acts where it
+A call that is in two lines, <unfinished ...> and resumed, acts where it
 returns, but munmap where it begins: its pages are gone before it returns, and
 others may be mapped there before its second line. One that never returns in
 the log isn't read.
 
 Changed, since a trace has no such lines:
   brk            mmap or munmap of the pages between the heap's old end and
-                 new; the first brk only tells where the heap ends
-  mremap         munmap and mmap, or one of them where it stays in place: the
-                 new pages may be read and written, and their bytes are zero
+                 new; the first brk only says where the heap ends
+  mremap         munmap and mmap, or one of them if it stays in place: the new
+                 pages may be read and written, and their bytes are zero
   a file         the first 16 files are files of the trace, by their paths, or
                  without -y by their descriptors. A mapping of another file, or
                  past a file's first 1048576 bytes, is one of zero bytes. What
                  files hold isn't in a log: each can be read and written, is as
                  long as its mappings reach, and begins with its number.
-                 Comments tell names: # file N NAME before a file's line, and
+                 Comments have names: # file N NAME before a file's line, and
                  # anon ADDR LEN OFF NAME before a mapping of zero bytes that
                  the file of this name, from OFF on, should back. A name has
-                 \\xNN for a byte that isn't visible ASCII, and for \\, and
-                 .. behind its first 200 bytes, or 180 beside a range
+                 \\xNN for a byte that isn't visible ASCII, and for \\, and ..
+                 after its first 200 bytes, or 180 with a range
   pkey_mprotect  mprotect
-  shmat, shmdt   mmap of a shared file and munmap, where a shmget of the
-                 process says how many bytes the memory has
+  shmat, shmdt   mmap of a shared file and munmap, if a shmget of the process
+                 says how many bytes the memory has
 
 Left out: calls that failed, other calls and events, other processes (fork, and
 clone without CLONE_THREAD), what a process did before execve, and all else
@@ -178,20 +205,20 @@ that isn't read. Calls that change the address space and can't be kept are
 lost, and counted by their names: shmat and shmdt of memory whose size isn't
 known, madvise that drops bytes (MADV_DONTNEED, MADV_FREE, MADV_REMOVE),
 remap_file_pages, mmap with MAP_GROWSDOWN or MAP_HUGETLB, userfaultfd,
-io_setup, io_destroy and map_shadow_stack. How many lines became what is told
-on standard error, and each line is counted once.
+io_setup, io_destroy and map_shadow_stack. Standard error says how many lines
+became what, and each line is counted once.
 
 What was mapped before the log begins isn't known without --maps: an mprotect
 of such pages is kept, and run answers enomem. Pages of the program's own file,
 its first stack and vdso are such pages, which execve maps. With --maps each
 line of the list is a mapping of core 0 before the log's first, with its
 numbers: of the file, if its path is as strace -y shows it the log's file too,
-or of zero bytes where there is no path ([heap], [stack]). Left out: the
-kernel's own pages ([vvar], [vdso]), and what isn't from 4096 up to 2^47
-([vsyscall]). [heap] tells where the heap ends.
+or of zero bytes if there is no path ([heap], [stack]). Left out: the kernel's
+own pages ([vvar], [vdso]), and what isn't from 4096 up to 2^47 ([vsyscall]).
+[heap] says where the heap ends.
 
 The trace has 256 frames, for lines with accesses that you may add. One of more
-than 1048576 requests wants run --long.
+than 1048576 requests needs run --long.
 
 A log with accesses is made and read so:
 
@@ -200,294 +227,312 @@ A log with accesses is made and read so:
   radixvm import --lackey LOG | radixvm run --long --summary
 
 An access is a call of its first byte, I a fetch, L a load, S a store of 0, and
-M a load and a store; and one of the next page's first byte where it goes on
+M a load and a store; and one of the next page's first byte if it goes on
 there. Calls are kept, changed or left out as those of strace, and files known
-by descriptors. If no line has mapped a page that is accessed, it was there
-before the log: it is mapped, rwx, right before that access. All is core 0's,
+by descriptors. If a page is accessed that no line has mapped, it was there
+before the log: import maps it, rwx, right before that access. All is core 0's,
 since an access names neither thread nor process, and there are 65536 frames.
 
-Status: 0; 2 for bad words, and where nothing was kept: of a log of strace the
-first line is then shown that isn't read; 3 where reading, writing or memory
-failed. The log, what is taken of it and the trace are held in memory. At a
+Example:
+  radixvm import examples/real/heap.log | radixvm maps
+
+Status: 0; 2 for bad arguments, or if nothing was kept: of a log of strace the
+first line is then shown that isn't read; 3 if reading, writing or memory
+failed. The log, what is taken of it and the trace are held in memory. On a
 terminal, standard error shows how far a log of 400000 lines or more has come.
-With --explain it is told which of the two files couldn't be read, and why.
 ";
 
 /// What `audit` reads and writes.
 pub const AUDIT: &str = "\
-audit judges the replies of another address space, a kernel's or a simulator's.
-It reads calls with their replies, in the order in which they happened, and
-says whether a plain page map gives these replies. First come a vm line and
-file lines, as in a trace (help trace). Then each line is one that run --echo
-writes:
+audit judges the replies of another address space, a kernel's or a simulator's:
+whether a plain page map gives them.
+
+Usage: radixvm audit [--overlapping [--loose |
+                       [--given IN | --by-pages] [--order OUT]] |
+                     [--strict] [--all]] [--any-place] [--explain] [FILE]
+
+Options:
+  --any-place    an mmap without f may have any place. All its pages have to be
+                 valid and free; POSIX leaves the place to an implementation
+  --strict       noframe and nomemory are illegal
+  --all          goes on after a wrong reply, and writes each
+  --overlapping  the text is a history: calls with the times of their begin and
+                 end (invocation and response)
+  --by-pages     calls on ranges may change their pages one after another
+  --loose        accesses may also use stale translations
+  --order OUT    writes the order that was found to the file OUT
+  --given IN     judges by the order in the file IN, and searches none
+  --explain      shows below an error the line and what was expected
+
+Calls with their replies, in the order in which they happened. First come a vm
+line and file lines, as in a trace (help trace). Then each line is one that run
+--echo writes:
 
   cC! REQ = REPLY      core C made this call, and had this reply
-  cC! REQ = wait ..    it didn't have it yet; cC call REQ = step says so, too
+  cC! REQ = wait ..    it has no reply yet; cC call REQ = step says so, too
   cC finish = REPLY    core C's call that waited has it; so does cC go = REPLY
   cC copy ADDR         the private page of this address gets its copy now, for
                        a store of core C that may come later
 
 REQ is as in help trace, REPLY as in help outcomes. All other lines that run
 --echo writes are taken, and say nothing of replies. A line has at most 512
-bytes. Calls take effect in the order of their replies. From a reply on that
-came while another core's call waited, another order may be the right one: no
-reply is then called illegal. Instead another order is searched, as with
---overlapping: where one is found they are legal, and else it is undecided.
+bytes. Calls take effect in the order of their replies. If a reply comes while
+another core's call is waiting, the calls overlap. From there on audit never
+says illegal: it searches for an order, as --overlapping does, and says legal
+or undecided.
 
-noframe, where the access would be served, and nomemory are legal, since any
-system may run short: they change nothing, and are counted. With --strict they
-are illegal. A store that had nomemory
-may have left its private page a copy: from there on, too, a reply isn't called
-illegal that isn't right without it.
-
-It writes one of these, and behind the last two the mappings around the
-request, as help maps says, at most four. On standard error the request is
-shown that was judged, with its line's number:
+It writes one of these, and after the last two the mappings around the request,
+as help maps says, at most four. Standard error shows the request that was
+judged, with its line's number:
 
   legal CALLS          so many calls, and each reply is the plain page map's
   legal CALLS, N without memory
-                       N of them had noframe or nomemory, and the others that
+                       N of them had noframe or nomemory, which any system may
+                       reply: they change nothing
   illegal N: replied REPLY, due REPLY
-                       line N's reply isn't, and what it would give; the lines
-                       before it are legal, and none behind it is read
+                       line N's reply is wrong, and what is right; the lines
+                       before it are legal, and none after it is read
   undecided N: replied REPLY, due REPLY
-                       it isn't in this order, as above, and none was found
+                       it is wrong in this order, and no other order was found
   illegal N: copied, due no copy
                        line N copies a page that isn't private, shows no bytes
                        of its file, or may not be stored to; or undecided N: ..
 
-With --all it goes on after a wrong reply, and writes such a line for each of
-them and nothing else. A mapping is then where the reply says, if its pages
-are free, and else what was due is done. It writes legal .. if none is wrong in
-the order of the lines: no other one is searched.
+A store that replied nomemory may still have copied its private page. From
+there on audit says undecided instead of illegal.
 
-A mmap without f is due its hint, if its pages are free, or else the first room
-in the core's window. With --any-place it may have any place where all pages
-are valid and free, as POSIX leaves it to an implementation, and as a trace has
-it with a guess. CORES, FRAMES and CALLS of the vm line bound nothing but the
-cores' numbers, which are 0 to 63.
+With --all, after a wrong reply to an mmap without f, the mapping is put where
+the reply says, if those pages are free. After any other wrong reply the right
+call is made. It writes legal .. if none is wrong in the order of the lines.
 
-With --overlapping it judges a history: calls of threads, which overlap, with
-the times between which each was under way. Behind the vm and file lines, and
-in any order, stand lines
+The right place of an mmap without f is its hint, if its pages are free, or
+else the lowest gap in the core's window. audit ignores the sizes on the vm
+line: a core may have any number from 0 to 63, also above CORES.
+
+Histories (--overlapping). After the vm and file lines, and in any order, come
+lines
 
   BEGIN END cC! REQ = REPLY
                        the call began after BEGIN and ended before END, two
                        numbers below 2^64 of one clock
 
 A call that ended before another began (END below BEGIN) takes effect before
-it; of others any may be the first. Calls of one core may not overlap. A call
-that has no reply yet has no line. Instead of all such lines there may be those
-of run --echo, as above: a call is then under way from the line in which it
-begins to that of its reply. One that waits at the end may have taken effect or
-not, and isn't counted. It writes one of these:
+it; otherwise any of them may be first. Calls of one core may not overlap. A
+call that has no reply yet has no line. Instead there may be lines of run
+--echo, as above: a call is then under way from the line in which it begins to
+that of its reply. One that waits at the end may have taken effect or not, and
+isn't counted. The verdict, by linearizability, is one of these:
 
-  legal CALLS          some order of the calls has just these replies
+  legal CALLS          some order of the calls (a linearization) has exactly
+                       these replies
   no order N: replied REPLY
-                       no order has these replies, and none was found that
-                       gets to the end of line N's call. Behind it stand the
-                       lines of some calls, each with its number, which have
-                       none by themselves: the first maps or unmaps some
-                       pages, and the others have changed them since, or tell
-                       of them. Where one maps a file, they have none whatever
-                       bytes these pages show. Where no such calls are found,
-                       all orders are tried of at most 64 calls; after 10,000
-                       beginnings that is given up. Then behind it stand the
-                       mappings that the first calls left, as help maps says,
-                       and the lines of all others, if these are at most 12.
-                       It isn't told where a call waits
-  undecided N          no order was found that gets to the end of line N's
-                       call, or the search met its limit there: 300,000
-                       configurations. There may be an order
+                       no order of the calls gives these replies. Line N is
+                       where the search stopped: it found no order up to the
+                       end of that call. Then come the lines of a few calls
+                       that have no order by themselves, each with its number:
+                       the first maps or unmaps some pages, and the others
+                       change or read them. If one maps a file, they have none
+                       whatever bytes the file has. If no such calls are found,
+                       all orders of at most 64 calls are tried, up to 10,000
+                       beginnings; then come the mappings that the first calls
+                       left, and the lines of all others, if at most 12. If a
+                       call still waits at the end of the text, no order is not
+                       printed, only legal or undecided
+  undecided N          the search found no order up to the end of line N's
+                       call, or met its limit there: 300,000 configurations.
+                       There may be an order
 
---order OUT writes the order that was found to a file, as a text for audit: a
-line cC copy ADDR says that a store's page gets its copy there, before the
-store. --given IN judges by such a text, and searches none; where it is no
-order, the answer is undecided. What is found or given is checked, so legal
-rests on no search; and no order is told only where none is left to try.
+An order is a text for audit: a line cC copy ADDR says that a store's page gets
+its copy there, before the store. What is found or given is checked, so legal
+rests on no search. If the order of --given isn't one, the verdict is
+undecided.
 
-A kernel may change the pages of a range one after another, while accesses see
-some changed and others not. With --by-pages that is no fault: a mmap, munmap
-or mprotect that was done stands for one call for each of its pages, all with
-its times, and each takes effect at a moment of its own. A mmap of a file maps
-the next page of the file in each; one without f may be anywhere, as long as
-each of its pages is free at its moment. Where mprotect of several pages has
-enomem or eacces, that is its reply at some moment, and each of the pages was
-protected at a moment of its own or not (POSIX: they may have been changed).
-Every other call takes effect at one moment. CALLS counts the calls of the
-text. no order is told as above; the lines behind it are those of the calls of
-the text for whose pages the calls stand that have no order by themselves.
---order OUT writes calls of one page each. More than 33,554,432 of them are
-told as a want of memory.
+--by-pages. A mmap, munmap or mprotect that was done is one call for each of
+its pages, all with its times, and each takes effect at a moment of its own. A
+mmap of a file maps the next page of the file in each; one without f may be
+anywhere, as long as each of its pages is free at its moment. If mprotect of
+several pages has enomem or eacces, that is its reply at some moment, and each
+of the pages was protected at a moment of its own or not (POSIX allows it).
+--order OUT writes calls of one page each, 33,554,432 of them at most.
 
-Nor need a kernel hold accesses up while it changes a page: one may still use
-an old translation. With --loose that is no fault either. By pages, too, each
-call that was done keeps what it replaced on its page until it has ended, and
-an access may go as before it: it has its reply with the old entry, and stores
-to that, so that the page itself stays as it is. So munmap may still run when
-a load of the page gets segv maperr, and another one, after it, the old byte.
-Here undecided is more frequent. A store is not looked at as before a call if
-it makes the copy of a private page of a file; and that there is no order must
-show where each access that may go as before a call may have any reply at any
-time, or, if it is a load or a fetch, may have come before that call. The lines
-behind no order are told as above: so taken, the calls of their pages have no
-order by themselves.
+--loose also accepts stale translations. Until a mmap, munmap or mprotect has
+ended, an access to one of its pages may use the old mapping or the new one.
+Through the old one a load reads the old bytes, and a store changes only those,
+not the page. no order is printed only if the calls have none even when each
+access that could use an old mapping may reply anything at any time, or, if it
+reads, may have come before that call. So --loose is undecided more often.
 
-Example:
+Examples:
+  radixvm audit examples/audit.replies
   printf '%s\\n' 'vm 1 4' 'c0! mmap 0x10000 4096 rw- pfa = 0x10000' \\
     'c0! store 0x10004 41 = done' 'c0! load 0x10004 = 40' | radixvm audit
-writes illegal 4: replied 40, due 41, and 0x10000-0x11000 rw- anon.
+The second writes illegal 4: replied 40, due 41, and 0x10000-0x11000 rw- anon.
 
-Status: 0 where all replies are legal, 1 where one isn't or the calls have no
-order, 3 where that is undecided. A fault is told as help faults says, and then
-nothing is written; with --explain more is told of it. The text is held in
-memory.
+Status: 0 if all replies are legal; 1 if one isn't, or the calls have no order;
+2 for a bad text or bad arguments; 3 if that is undecided, or reading, writing
+or memory failed. After an error (help faults) nothing is written. The text is
+held in memory.
 ";
 
 /// What `litmus` reads and writes.
 pub const LITMUS: &str = "\
-litmus reads a few calls of several cores, and lists all replies that they can
-have. The cores' steps may come in any order, and walks, evictions, takes,
-flushes, reviews and folds anywhere between them. No other replies can come but
-noframe and nomemory: that is proved, for every order. A test has these lines:
+litmus reads a few calls of several cores, and lists every combination of
+replies (an outcome) that some schedule gives. The cores' steps may interleave
+in any way, with walks, evictions, takes, flushes, reviews and folds between
+them. No schedule gives another outcome, except with noframe or nomemory: that
+is proved.
+
+Usage: radixvm litmus [--to-c | [--limit N] [--list | --witness N |
+                      --picture N | --observed COUNTS | --live N]]
+                      [--explain] [FILE]
+
+Options:
+  --list             writes only the outcomes, one in a line. Tabs are between
+                     the replies, finals and mappings
+  --witness N        writes a trace for run that has the Nth outcome
+  --picture N        draws that trace (help picture)
+  --observed COUNTS  compares counts of another system with the list
+  --live N           runs the test N times on threads, and counts
+  --to-c             writes a C program that runs the test on a kernel
+  --limit N          looks at N points of interleavings (1,000,000)
+  --explain          shows below an error the line and what was expected
+
+A test has these lines:
 
   vm, file          as in help trace
-  events            lines of a trace, the opening: they come first, as they
-                    stand, and leave no call open
+  events            lines of a trace, the opening: they come first, in this
+                    order, and leave no call open
   together          the calls begin here. Without this line there is no opening
-  cC! REQ           a call of core C, behind those of C above it. An mmap needs
-                    the flag f. The lines of one core are in order, and those
-                    of others may stand anywhere
-  final ADDR        a load of this address at the end belongs to an outcome
-  final maps        so does the list of all mappings at the end
+  cC! REQ           a call of core C, after those of C above it. An mmap needs
+                    the flag f. Only the order of each core's lines counts
+  final ADDR        a load of this address at the end is part of an outcome
+  final maps        so is the list of all mappings at the end
   exists COND       COND holds of some outcome
   never COND        it holds of none
   forall COND       it holds of each
 
-final lines and clauses stand anywhere behind together. COND is one of these,
-or several, joined by the words and, or; and binds closer:
+final lines and clauses come anywhere after together. COND is one of these, or
+several, joined by the words and, or; and binds closer:
 
   cC.N = REPLY      core C's call N, counted from 1, has this reply
   cC.N != REPLY     it has another one
   ADDR = BYTE       this address, of a final line, shows this byte at the end
 
-It writes outcomes N, and a line for each outcome in the order of their texts:
-K: c0 done; c1 1, 2 says that core 0's call was answered done, and core 1's two
-1 and 2; behind it stands ; ADDR BYTE of each final address, and for final maps
-; maps with the mappings, each as the word maps writes it, divided by | or
-nothing: ; maps 0x10000-0x11000 r-- anon. (open) behind an outcome says that no
-run was found that has it. Then comes one of these:
+Output: outcomes N, and a line for each outcome in the order of their texts:
+K: c0 done; c1 1, 2 says that core 0's call replied done, and core 1's two
+replied 1 and 2. Then comes ; ADDR BYTE for each final address, and for final
+maps ; maps with the mappings, each as maps writes it, divided by | or nothing:
+; maps 0x10000-0x11000 r-- anon. (open) after an outcome says that no run was
+found that has it. Then comes one of these:
 
-  exact             each outcome has a run, and no other can come, but with
+  exact             each outcome has a run, and no other can come, except with
                     noframe or nomemory
   open              one is open; no other can come, as above
   stopped at the limit of N points
-                    there may be others; --limit N lets it look at more points
-                    of orders than 1,000,000
+                    there may be others; see --limit
   noframe is left out
-                    in front of exact or open: frames may be too few for
-                    all calls, and outcomes with noframe aren't looked for
+                    before exact or open: frames may be too few for all calls,
+                    and outcomes with noframe aren't looked for
   maps are left out
                     the same, of --live for a test that has final maps
 
 Outcomes with nomemory aren't listed either, and only runs count in which every
 call is answered. Then each clause is written again with : holds, : fails or
-: open, and of each Observation NAME, Always, Sometimes or Never, and of how
-many outcomes that have a run COND holds and of how many it doesn't.
+: open. For each clause there is also a line as herd7 prints it: Observation
+NAME, then Always, Sometimes or Never, then how many outcomes satisfy COND and
+how many don't.
 
---list writes only the outcomes, one in a line, with tabs between the replies,
-finals and mappings.
---witness N writes a trace for run that has the Nth outcome, and --picture N
-the picture of that trace (help picture).
+--observed reads lines N: OUTCOME, how often each outcome came, in the words of
+the list, as in 12: c0 done; c1 1, 2. Empty lines and lines with # in front are
+skipped. It writes the counts again, and (outside) after an outcome that isn't
+listed. One with noframe or nomemory is never listed, nor one without mappings,
+if the test has final maps. Then comes exact, open or what else ends the list.
+The clauses aren't looked at.
 
---observed COUNTS reads what another system gave: lines N: OUTCOME, how often
-each outcome came, in the words of the list, as in 12: c0 done; c1 1, 2. Empty
-lines and lines with # in front are passed over. It writes the counts again,
-and (outside) behind an outcome that isn't listed. One with noframe or nomemory
-is never listed, nor one without mappings, where the test has final maps. Then
-comes exact, open or what else ends the list. The clauses aren't looked at.
+--live runs the opening in order, then each core's calls on a thread of its
+own, and then loads of the final addresses, each time in a new space. Each run
+is certified, as live --certify does it. It writes how often each outcome came,
+as --observed does, without mappings. An outcome that isn't listed would be an
+error of radixvm. The opening has whole calls, flushes and reviews then.
 
---live N runs the test N times, each time in a new space: its opening in order,
-then each core's calls on a thread of its own, and then loads of the final
-addresses. Each run is certified, as live --certify does it. It writes how
-often each outcome came, as --observed does; mappings are left out. An outcome
-that isn't listed would be a fault of radixvm. The opening has whole calls,
-flushes and reviews then.
-
---to-c writes a C program that makes the calls to a kernel with POSIX threads,
-each core on a thread, and writes such counts. The opening has whole calls,
-flushes and reviews then; addresses are below 2 GiB, fetch can't be made, and
-final maps can't be told:
+--to-c writes a program with POSIX threads, each core on a thread, that writes
+such counts. The opening has whole calls, flushes and reviews then; addresses
+are below 2 GiB; fetch and final maps can't be made:
 
   radixvm litmus --to-c TEST > test.c && cc -O2 -pthread test.c
   ./a.out RUNS | radixvm litmus --observed /dev/stdin TEST
 
-Example:
+Examples:
+  radixvm litmus examples/litmus/unmap-load.litmus
   printf '%s\\n' 'vm 2 4' 'c0! mmap 0x10000 4096 rw- pfa' together \\
     'c0! store 0x10000 1' 'c1! load 0x10000' 'never c1.1 = 2' | radixvm litmus
-writes 1: c0 done; c1 0 and 2: c0 done; c1 1, exact, and that the clause holds.
+The second writes 1: c0 done; c1 0 and 2: c0 done; c1 1, exact, and that the
+clause holds.
 
-Status: 0 where all clauses hold, 1 where one fails, 3 where one is open or the
-limit was met. Of counts: 1 where an outcome isn't listed, but 3 where the
-limit was met. 3 also where a run had noframe or nomemory, or a call that
-couldn't begin. A fault of the text is told with its line, and 2 is the status;
-nothing is written then. With --explain more is told of it.
+Status: 0 if all clauses hold, 1 if one fails, 3 if one is open or the limit
+was met. With counts: 1 if an outcome isn't listed, but 3 if the limit was met;
+3 also if a run had noframe or nomemory, or a call that couldn't begin. 2 for a
+bad text or bad arguments; then nothing is written.
 ";
 
 /// What `picture` shows.
 pub const PICTURE: &str = "\
-picture reads a trace, and writes a picture of what happened as one SVG text:
+picture reads a trace, and draws what happened as one SVG text.
 
-  radixvm picture TRACE > trace.svg
+Usage: radixvm picture [--lives | [--steps] [--from N] [--to N]]
+                       [--explain] [FILE]
+
+Options:
+  --from N   the first line that is shown: 1 if it is left out
+  --to N     the last one, not below N of --from. Lines after it aren't looked
+             at
+  --steps    each step has a column, in place of each line. Of a call that goes
+             on by itself (cC! REQ) each of its steps has one. --from and --to
+             name steps
+  --lives    draws the lifetimes of mappings over the whole trace. It may ask
+             for up to 2^40 calls. Not with --steps, --from or --to
+  --explain  shows below an error the line and what was expected
 
 Each line that does something has a column, under its number. Lines whose steps
 are those of one call, with no other step between, share one. Each core that
-has a part in it has a lane. In it lie
+takes part has a lane. In it are
 
-  bars     a call each, from its begin to its answer, with what it asks for and
-           the reply. A call that waits says for what, in that column. A call
-           that isn't answered goes on to the last column, and one that began
-           before the first column begins there
+  bars     a call each, from its begin to its answer, with its request and the
+           reply. A call that waits says for what, in that column. A call that
+           isn't answered goes on to the last column, and one that began before
+           the first column begins there
   marks    takes, walks, evictions, flushes, reviews, and a core that looked
            for a message and had none
-  arrows   in the column of a take: from the call that told this core to drop
-           translations, at the first, and back to it, at the second
-  hatched  from the column in which a core is told to that of its second take:
-           up to there it may use the translations
+  arrows   in the column of a take: from the call that sent this core a message
+           to drop translations, at the first, and back to it, at the second
+  hatched  from the column in which a core is sent a message to that of its
+           second take: until then it may use the stale translations
 
 Below, a row shows pages that are mapped and unmapped together. Its colour says
-what may be done with them, from the column that makes the change. What was
+what the protection permits, from the column that makes the change. What was
 mapped before the first column isn't shown. Point at a bar, a mark or a stretch
-to read what it is. Of pages that is their addresses, rights and BACK (help
-maps), and the file's name, if a comment # file N NAME stands right before the
-file's line, as import writes it.
+to read what it is: of pages their addresses, protection and BACK (help maps),
+and the file's name, if a comment # file N NAME comes right before the file's
+line, as import writes it. 2000 columns or 2000 steps are shown at most;
+standard error says so then.
 
-  --from N  the first line that is shown: 1 where it is left out. Where the
-            trace has fewer there is no picture, and the status is 2
-  --to N    the last one, not below N of --from. What stands behind it isn't
-            looked at. 2000 columns are shown at most, which is then said on
-            standard error
-  --steps   in place of lines each step has a column, under its number. Of a
-            call that goes on by itself (cC! REQ) each of its steps has one.
-            --from and --to name steps, and 2000 steps are shown at most
-  --lives   in place of that the lives of mappings over the whole trace, which
-            may ask for up to 2^40 calls. Pages that lie beside each other
-            share a row where they are alike in all steps. In it lies a
-            rectangle from each step in which its pages are mapped, or get
-            other rights, to the first that changes them. Beside the rows, up
-            to 63 of them, stand their addresses and BACK, of the last
-            rectangle. Colours say what may be done with the pages, and shades
-            what backs them. 2000 rectangles are shown at most, from the lowest
-            pages on, and the picture says so. Not beside --steps, --from or
-            --to
+With --lives neighbouring pages share a row if they are alike in all steps. A
+rectangle goes from each step in which its pages are mapped, or get another
+protection, to the first that changes them. Next to the rows, up to 63 of them,
+are their addresses and BACK, of the last rectangle. Colours show the
+protection, and shades what backs them. 2000 rectangles are shown at most, from
+the lowest pages on, and the picture says so.
 
 A line may be a note (help notes). Its ticket and its outcome are left out, and
-the lines count in the order in which they stand, so what threads did has a
-picture:
+the lines count in the order of the text, so what threads did has a picture:
 
   radixvm live SCRIPT | radixvm picture
 
-The trace is held in memory.
+Examples:
+  radixvm picture examples/shootdown.trace > shootdown.svg
+  radixvm picture --lives examples/real/heap.trace > heap.svg
 
-Status: as for run. After a fault there is no picture.
+Status: 0; 2 for a bad text or bad arguments, or a trace with fewer lines than
+--from; 3 if reading, writing or memory failed. After an error there is no
+picture. The trace is held in memory.
 ";

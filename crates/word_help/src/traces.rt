@@ -2,50 +2,48 @@
 
 /// What `run` does.
 pub const RUN: &str = "\
-run reads a trace, acts on each line as it is read, and writes a line for each
-event: the reply of a call, or what became of a step.
+run replays a trace. It acts on each line as it is read, and writes a line for
+each event: the reply of a call, or what became of a step.
 
-  radixvm run [--summary | [--echo] [--state] [--log]] [--long] [--explain]
-              [FILE]
+Usage: radixvm run [--summary | [--echo] [--state] [--log]] [--long]
+                   [--explain] [FILE]
 
-  FILE       the trace (help trace); without it, or for -, standard input
-  --log      also writes the log: when each call had its reply (help log)
+Options:
+  --log      adds the log: when each call had its reply (help log)
   --echo     writes LINE = OUTCOME for each event, and copies vm and file
-             lines; with --log each entry stands below the line that made it,
-             with the core, the request and the line of its call
-  --state    does so, and writes below each line what it changes in the state:
-             - LINE for a line of state's text that goes, + LINE for one that
-             comes. From the text before the first event, which is epoch 0
-             alone, these lead to what state --at N writes behind line N. The
-             trace is held in memory, and after a fault nothing is written;
-             not together with --long
-  --summary  counts calls, faults, fills, shootdowns, frames and epochs, and
-             writes the numbers to standard error (help cores)
-  --long     lets the trace ask for up to 2^40 calls; not together with --log
-  --explain  shows under a fault the line, the word and what was expected; it
-             is on if standard error is a terminal (help faults)
+             lines. With --log each entry comes below the line that made it
+  --state    writes what --echo does, and below each line what it changes in
+             the state: - LINE for a line of state that goes, + LINE for one
+             that comes. Applied to epoch 0, these lead to what state --at N
+             writes. The trace is held in memory; after an error nothing is
+             written. Not with --long
+  --summary  writes numbers of the run to standard error (help cores)
+  --long     lets the trace ask for up to 2^40 calls. Not with --log
+  --explain  shows below an error the line and what was expected. It is on if
+             standard error is a terminal
 
-help outcomes explains the output, and says what to do when a call waits.
+Output: help outcomes explains each line, and what to do when a call waits.
+It is flushed whenever no complete input line is waiting.
 
-Example, with one core and four frames:
+Examples:
+  radixvm run --echo examples/first.trace
   printf '%s\\n' 'vm 1 4' 'c0! mmap 0x10000 4096 rw- pfa' \\
     'c0! store 0x10004 41' 'c0! load 0x10004' | radixvm run
-writes 0x10000, done and 41, each on a line of its own.
+The second writes 0x10000, done and 41, each on a line of its own.
 
-Status: 0 if the text was replayed to its end; 2 for a bad text or bad words;
-3 if reading, writing or memory failed.
+Status: 0 if the text was replayed to its end; 2 for a bad text or bad
+arguments; 3 if reading, writing or memory failed.
 ";
 
 /// What a trace may hold.
 pub const TRACE: &str = "\
 A trace is text. Its first line says how large the space is. Then comes a line
 for each file, then a line for each event. The run ends with the text: when a
-pipe is closed, or at a terminal by Ctrl-D.
+pipe is closed, or at a terminal with Ctrl-D.
 
   vm CORES FRAMES [CALLS]  first, once: 1 to 64 cores, 0 to 65536 frames of
                            4096 bytes, and how many calls may begin: 4096 if
-                           it is left out, at most 1048576, or 2^40 with
-                           --long
+                           left out, at most 1048576, or 2^40 with --long
   file N MODE LEN SEED     a file that the trace makes up: N is 0, 1, 2 and so
                            on up to 15, MODE is r, w or rw, LEN is its length
                            in bytes (at most 1048576), and its byte I is
@@ -59,24 +57,23 @@ An event is one of these, on core C: c0, c1 and so on up to one below CORES.
   cC go                    one step of core C's call
   cC finish                the steps of core C's call, until it has its reply
                            or has to wait
-  cC take                  core C acts on its oldest message (help cores)
+  cC take                  core C handles its oldest message: it makes a take
+                           (help cores)
   cC flush                 core C flushes one count, or ends its part of the
                            epoch
   cC review                core C reviews the first frame of its queue
   cC walk ADDR             core C's TLB gets ADDR's page from its tables
   cC evict ADDR            core C's TLB drops ADDR's page
   cC frame F               core C's call needs a frame, and takes frame F if it
-                           is free; go and finish take the free frame with the
-                           least number
-  cC guess ADDR            core C's call looks for a place, and guesses that
-                           there is room from ADDR's page on
+                           is free; go and finish take the lowest free frame
+  cC guess ADDR            core C's call looks for a place, and tries the gap
+                           from ADDR's page on
   cC whole                 core C's call looks for a place, and locks all of
                            its window
-  cC giveup                core C's call is given up, as if memory were short;
-                           its finish then gives nomemory. It is idle once the
-                           call's change or reply is certain. It is also idle
-                           while a store waits for acks, but not after the
-                           takes
+  cC giveup                core C's call is cancelled, as if memory were short;
+                           its finish then gives nomemory. It does nothing
+                           (idle) if the call's change or reply is already
+                           fixed, or while a store still waits for acks
   fold ADDR                joins slots at ADDR's page; no content changes
 
 frame, guess and whole fit one moment of a call. Begin the call with cC call,
@@ -91,17 +88,17 @@ REQ is one of these.
   store ADDR BYTE          writes it
   fetch ADDR               reads it to execute it
 
-PROT is rwx, with - in place of each right that isn't given: rw-, r--, ---.
+PROT is rwx, with - for each right that isn't given: rw-, r--, ---.
 FLAGS is - or these letters, each at most once, in any order:
-  p  private and s shared: mmap needs just one of the two
+  p  private and s shared: mmap needs exactly one of the two
   f  fixed: the mapping is at ADDR, and replaces others there
   a  anonymous: no file, bytes of zero; p and s mean the same then
 FILE is the number of a file, OFF the place in it at which the mapping begins.
 With a in FLAGS both are ignored, and may be left out.
 
 Without f, ADDR is a hint: the mapping goes there if all its pages are valid
-and free. Else it goes to the first room in the core's window, which is the
-2^39 bytes from 0x8000000000 * (C + 1) on: from 0x8000000000 for core 0.
+and free. Otherwise it goes to the lowest gap in the core's window, which is
+the 2^39 bytes from 0x8000000000 * (C + 1) on: from 0x8000000000 for core 0.
 
 Addresses from 0x1000 up to 2^47 are valid. ADDR, LEN and OFF are in bytes. A
 page has 4096 of them, and a range takes each page that has some byte of it.
@@ -117,9 +114,10 @@ comment.
 
 /// What comes out for each line of an event.
 pub const OUTCOMES: &str = "\
-Each event gives one line of output. Lines go out as soon as no whole line is
-left to read.
+Each event gives one line of output. Output is flushed whenever no complete
+input line is waiting.
 
+Replies:
   0x10000       the mmap is done: the mapping's address
   done          the munmap, the mprotect or the store is done
   41            the byte that was loaded or fetched, in decimal
@@ -134,21 +132,24 @@ left to read.
   eoverflow     the mapping would end past 2^47 in its file
   eacces        the file isn't open for reading; or it isn't open for writing,
                 and what is mapped is shared and writable
-  segv maperr   no page is mapped there
-  segv accerr   the page's protection forbids it: a store needs w, a fetch x, a
-                load any of r, w and x
-  bus           the page lies past the end of its file
+  segv maperr   no page is mapped there (SIGSEGV)
+  segv accerr   the page's protection forbids it (SIGSEGV): a store needs w, a
+                fetch x, a load any of r, w and x
+  bus           the page lies past the end of its file (SIGBUS)
   noframe       no frame is free
-  nomemory      the call was given up: by giveup, or by live for want of memory
+  nomemory      the call was cancelled: by giveup, or because live was refused
+                memory
+
+Other outcomes:
   step          a step was made, and answered no call
   wait slot C   core C holds a page that the call needs
-  wait acks C.. the call waits until these cores have taken its messages
-  idle          nothing was done: the core isn't there; it has no call to go on
-                with, or has one already; or there is nothing to take, flush,
-                review, walk, evict, fold, guess or give up, or that frame
-                isn't free
-  full          nothing was done: as many calls as the vm line allows have
-                begun
+  wait acks C.. the call waits until these cores have handled its messages
+  idle          the event had no effect: the core isn't there; it has no call
+                to go on with, or has one already; or there is nothing to
+                take, flush, review, walk, evict, fold, guess or give up, or
+                that frame isn't free
+  full          the event had no effect: as many calls as the vm line allows
+                have begun
   stuck         2^40 steps of one finish gave the call no reply
 
 If the reply isn't one of the first three, the call changed no mapping and no
@@ -193,66 +194,80 @@ steps. Every other event makes one, even if it is idle. CALL is the number of a
 call, in the order in which calls began, from 1 on. REPLY is as in help
 outcomes.
 
-The log tells the order in which calls took effect: a plain page map that makes
-them in this order, one after another, can give these replies. After a fault
-there is no log.
+The log is the order in which calls took effect (a linearization): a plain page
+map that makes them in this order, one after another, can give these replies.
+After an error there is no log.
 
 run --log --echo writes each entry below the line of the trace that made it,
-and behind it the call that it is of: the line that asked for the call, counted
+with the call that it belongs to: the line that asked for the call, counted
 from 1, its core and the request, as certify reads requests (help notes).
 
   log 9 call 1 0x10000 (line 2: c0 mmap 0x10000 0x1000 rw- pfa 0 0x0)
 
-After a fault the entries of the lines before it are there.
+After an error the entries of the lines before it are there.
+
+Example:
+  radixvm run --log examples/log.trace
 ";
 
 /// What `maps` writes.
 pub const MAPS: &str = "\
-maps replays the trace, and writes the mappings at its end in order of
-addresses:
+maps replays a trace, and writes the mappings at its end in order of addresses.
 
+Usage: radixvm maps [--names] [--long] [--explain] [FILE]
+
+Options:
+  --names    adds to each line the name of its file. It is that of a comment
+             # file N NAME right before the file's line in the trace, as import
+             writes it. The trace is held in memory
+  --long     lets the trace ask for up to 2^40 calls
+  --explain  shows below an error the line and what was expected
+
+Output:
   START-END PROT BACK
 
-START is the first address, and END the first after the last. PROT is rwx,
-with - in place of each right that isn't there. BACK is one of these:
+START is the first address, and END the first one after the mapping. PROT is
+rwx, with - for each right that isn't there. BACK is one of these:
 
   anon              no file
   shared FILE OFF   this file, from the offset OFF on; stores change it
   private FILE OFF  this file, until a page's first store gives the page a copy
 
 Neighbouring pages with the same protection are one line if they have no file,
-or if the second continues in the file where the first ends. After a fault no
+or if the second continues in the file where the first ends. After an error no
 mappings are written.
 
-  --names    names behind each line its file, as a comment # file N NAME right
-             before the file's line in the trace tells it; import writes such
-             comments. The trace is held in memory
-  --long     lets the trace ask for up to 2^40 calls
-  --explain  shows under a fault the line, the word and what was expected
+Example:
+  radixvm maps examples/maps.trace
+
+Status: 0; 2 for a bad text or bad arguments; 3 if reading, writing or memory
+failed.
 ";
 
 /// What `state` writes.
 pub const STATE: &str = "\
-state reads a trace, and writes the state of the machine at its end: one line
+state replays a trace, and writes the state of the machine at its end: one line
 for each thing, and none for what is empty.
 
-  radixvm state TRACE
-  radixvm state --at 12 TRACE    the state behind line 12
-  radixvm state --json TRACE     the same as JSON, an object a line
+Usage: radixvm state [--at N] [--json] [--explain] [FILE]
 
-Lines count from 1. A vm, file or comment line changes nothing, and what stands
-behind line N isn't looked at.
+Options:
+  --at N     the state after line N. Lines count from 1; vm, file and comment
+             lines change nothing. Lines after N aren't looked at
+  --json     writes the same as JSON, an object a line
+  --explain  shows below an error the line and what was expected
 
+Output:
   epoch E
         the epoch of Refcache (help cores)
   core C CALL DOES [ADDR | START-END]
         the core has this call (mmap, munmap, mprotect, load, store or fetch;
-        or call, where it has its reply), and its next step does this with
-        these pages: it
-          checks its arguments; locks, decides on or cuts; looks for room, or
-          gives back what it locked in vain; tells cores of the pages, and
-          awaits cores for them; translates, looks at, wants a frame for,
-          fills, installs; unlocks; answers
+        or call, if it has its reply), and its next step does this with these
+        pages: it
+          checks its arguments; locks, decides on or cuts pages; looks for
+          room, or gives back pages that turned out not to be free; tells
+          other cores of the pages, and awaits cores for them; translates,
+          looks at, wants a frame for, fills, installs; unlocks; answers
   core C holds ADDR | START-END
   core C took frame F
         the call owns these pages, and has this frame that no page has yet
@@ -264,18 +279,19 @@ behind line N isn't looked at.
   core C tlb ADDR frame F RIGHTS going: posted
   core C table ADDR frame F RIGHTS going: posted
   core C tlb ADDR frame F RIGHTS going: cleared
-        the same of a page that another core told this one to drop, and this
-        one hasn't acknowledged: before the first take, and between the takes,
-        when its tables have lost the page and its TLB still has it
+        the translation is stale: another core asked this one to drop the page,
+        and this one hasn't acknowledged. posted is before the first take;
+        cleared is between the takes, when the tables have lost the page and
+        the TLB still has it
   core C inbox from D START-END first take due
   core C inbox from D START-END second take due
-        core D awaits that this one drops these pages, the oldest message first
+        core D waits until this one drops these pages, the oldest message first
 
   START-END RIGHTS BACKING
-        a mapping (help maps), behind the lines of all cores
+        a mapping (help maps), after the lines of all cores
   page ADDR [frame F] [cores C D ..]
         the page has a frame, or these cores are recorded on it: those that a
-        change of the page has to tell
+        change of the page sends messages to
 
   core C count frame F +1
         the core has yet to add this to the frame's global count
@@ -286,8 +302,8 @@ behind line N isn't looked at.
         the core has added all its counts in this epoch
   frame F count N global G [dirty]
         the frame is in use: N is its true count, the global one and what the
-        cores have yet to add. It is dirty where the global one left 0 and
-        came back since the frame was queued
+        cores have yet to add. dirty: since the frame was queued, its global
+        count became nonzero and went back to 0
 
 Cores, and the things of each, are in this order; pages and frames the lowest
 first. The trace is held in memory.
@@ -307,22 +323,27 @@ With --json each line is an object with these members, in the same order:
   core, flushed
   frame, count, global [, dirty]
 
-Cores, frames, counts and epochs are numbers, took and queue a frame's, and
-cores a list of numbers; holds, flushed and dirty are true. All else are
-strings: tlb, table, page, first and end addresses; call, rights and going the
-words above; inbox says which take is due, and mapping is the line of a
-mapping.
+Cores, frames, counts and epochs are numbers; took and queue are a frame's
+number, and cores is a list of numbers; holds, flushed and dirty are true. All
+else are strings: tlb, table, page, first and end are addresses; call, rights
+and going have the words above; inbox says which take is due, and mapping is
+the line of a mapping.
 
-Status: as for run; 2 where the trace has fewer than N lines. After a fault no
-state is written.
+Examples:
+  radixvm state --at 10 examples/shootdown.trace
+  radixvm state --json examples/reuse.trace
+
+Status: 0; 2 for a bad text or bad arguments, or a trace with fewer than N
+lines; 3 if reading, writing or memory failed. After an error no state is
+written.
 ";
 
 /// What ends a replay early.
 pub const FAULTS: &str = "\
-A fault ends the replay. It is told on standard error, after the output of all
-lines before it. Lines are counted from 1, with empty ones and comments.
+An error ends the replay. It is reported on standard error, after the output of
+all lines before it. Lines count from 1, with empty ones and comments.
 
-  line N: bad line   it is no line of help trace, or it stands in a wrong place
+  line N: bad line   it is no line of help trace, or comes in a wrong place
   line N: too long   it has more than 256 bytes, or in audit more than 512
   no vm line first   the first line with words isn't a vm line, or there is
                      none
@@ -334,75 +355,85 @@ lines before it. Lines are counted from 1, with empty ones and comments.
   setup S6           no memory for a space of that size
   read failed        standard input or FILE can't be read, or FILE not opened
   write failed       standard output can't be written
-  out of memory      a step found no memory; the steps before it stand
+  out of memory      a step found no memory; the steps before it remain
 
-With --explain, or if standard error is a terminal, the line is shown under the
-fault, with a caret below the word that is wrong, and with what was expected
-there; under read failed, the file and the cause. Behind the output stand notes
-on lines that are accepted but may be mistakes: a core that the vm line doesn't
-give, and an mmap whose FLAGS have neither p nor s.
+With --explain, or if standard error is a terminal, the line is shown below the
+error, with a caret below the word that is wrong, and with what was expected
+there; below read failed, the file and the cause. After the output, --explain
+warns of lines that are accepted but look like mistakes: a core that the vm
+line doesn't have, and an mmap whose FLAGS have neither p nor s.
 
-Common causes of a bad line: PROT of two letters (rw for rw-); 4K, 1_000 or
-1,000 for a number; a tab, a letter that isn't ASCII, or a carriage return,
-which ends the lines of Windows (tr -d '\\r' drops it); words after the last
-one, such as a comment; FILE and OFF left out without a in FLAGS; a file line
-after the first event, or whose N isn't the next number; c0: or c00 or c64 for
-a core; a second vm line. A core that the vm line doesn't give is no bad line:
-it reads idle.
+Common causes of a bad line:
+  PROT of two letters             rw for rw-
+  a number that isn't one         4K, 1_000 or 1,000
+  a byte that isn't allowed       a tab, a letter that isn't ASCII, or a
+                                  carriage return (tr -d '\\r' drops it)
+  words after the last one        such as a comment
+  FILE and OFF left out           without a in FLAGS
+  a file line after an event      or whose N isn't the next number
+  a core's name                   c0: or c00 or c64
+  a second vm line
+A core that the vm line doesn't have is no bad line: its events are idle.
 
-Status: 0 if the text was replayed to its end, whatever its calls came to; 2
-for a bad text or bad words; 3 if reading, writing or memory failed, which
-setup S6 is too. certify, live and audit have these faults too, and status 1:
-for notes that are refused, and for a reply that is illegal.
+Status, of all commands:
+  0  the text was read to its end, whatever its calls replied; what was asked
+     for holds
+  1  it doesn't hold: audit found a wrong reply or no order, certify refused
+     notes, litmus has a clause that fails
+  2  a bad text or bad arguments
+  3  reading, writing or memory failed (also setup S6), or audit and litmus
+     couldn't decide
 ";
 
 /// What a newcomer to the model needs of cores.
 pub const CORES: &str = "\
 Each core has its own page tables, four levels as on x86-64, and a TLB of 64
 pages. A full TLB drops the page that was filled first. A load, store or fetch
-that the TLB or the tables allow is done at once. Otherwise the call faults: it
-locks the page, gives it a frame if it has none, records that this core uses
-the page, and enters the page into the core's tables. walk and evict move TLB
-entries, as a processor may do by itself.
+that the TLB or the tables permit is done at once. Otherwise the access is a
+page fault: the call locks the page, gives it a frame if it has none, records
+that this core uses the page, and enters the page into the core's tables. walk
+and evict move TLB entries, as a processor may do by itself.
 
-Locks. Pages lie in slots, runs of neighbouring pages that are locked together.
-A call that changes pages locks its slots from left to right, and releases them
-at its end. A call that meets a slot of another core's call reads wait slot C.
-A slot that crosses an edge of a call's range is cut into 512. fold joins these
-again if no call holds one, none has a frame or a core that uses it, and all
-are unmapped or continue one another.
+Locks. Pages lie in slots (like VMAs): neighbouring pages that are locked
+together. A call that changes pages locks its slots from left to right, and
+releases them at its end. If another core's call holds one, it reads wait slot
+C. A slot that crosses an end of a call's range is split into 512. fold joins
+these again if no call holds one, none has a frame or a core that uses it, and
+all are unmapped or continue one another.
 
-Shootdown. munmap, mprotect and an mmap over pages in use clear them in the
-core's own tables and TLB. They send a message to the other cores that are
-recorded on these pages, and to no others. The call reads wait acks C.. until
-each has taken the message twice: the first take clears the core's tables, the
-second its TLB, and acknowledges. Until then that core may still read and write
-the old page. A core whose own call waits can take, walk, flush and review.
+TLB shootdown. munmap, mprotect and an mmap over pages in use clear them in the
+core's own tables and TLB. They send a message, as a kernel sends an IPI, to
+the other cores that are recorded on these pages, and to no others. The call
+reads wait acks C.. until each has handled the message by two takes: the first
+take clears the core's tables, the second its TLB, and acknowledges. Until then
+that core may still read and write the old page: its translation is stale. A
+core whose own call waits can take, walk, flush and review.
 
-Private pages show their file, until a store gives the page a copy. Before it
-does, the other cores recorded on the page have to take twice, too.
+Private pages show their file, until a store gives the page a copy (copy on
+write, COW). Before it does, the other cores recorded on the page have to take
+twice, too.
 
-Frames are counted: one for each page that has the frame, and one more if it
-caches a page of a file. A core collects its changes of counts. flush hands on
-its change of one frame's count, the frame with the least number. If it has
-none left, flush ends the core's part of the epoch. An epoch ends when each
-core has ended its part. A frame whose count fell to 0 goes into the queue of
-the core that flushed it. review frees it two epochs later if its count stayed
-0, and reads idle before that.
+Frames are counted by Refcache, as in the RadixVM paper: one for each page that
+has the frame, and one more if it caches a page of a file. A core collects its
+changes of counts. flush hands on its change of one frame's count, the frame
+with the lowest number. If it has none left, flush ends the core's part of the
+epoch. An epoch ends when each core has ended its part. A frame whose count
+fell to 0 goes into the queue of the core that flushed it. review frees it two
+epochs later if its count stayed 0, and reads idle before that.
 
-Places. A call of mmap without f that looks for a place takes the first room
-of its window at the next go or finish; guess and whole choose for it. If
-another core maps something there meanwhile, the call starts again, once, and
-locks all of its window.
+Places. An mmap without f that looks for a place takes the lowest gap of its
+window at the next go or finish; guess and whole choose for it. If another core
+maps something there meanwhile, the call starts again, once, and locks all of
+its window.
 
-Numbers. After a run without a fault, run --summary writes these to standard
+Numbers. After a run without an error, run --summary writes these to standard
 error, each with its number on a line of its own:
   calls REPLY    answered calls: mapped (an address), done, byte, refused
                  (einval to eacces), segv, bus, noframe and nomemory
-  faults         accesses that neither the core's TLB nor its tables allowed
+  faults         accesses that neither the core's TLB nor its tables permitted
   fills          pages that got a frame: of zeros, of their file, or a copy
-  shootdowns     messages to other cores; told N of M: how many cores they
-                 told, of all that there were beside their own
+  shootdowns     messages to other cores; told N of M: how many cores got
+                 them, of all other cores that there were
   frames         the most that were in use at once
   epochs         those that have ended
 With it the trace's steps are made one by one.
@@ -410,31 +441,40 @@ With it the trace's steps are made one by one.
 
 /// What `page` writes.
 pub const PAGE: &str = "\
-page replays a trace, and writes one page of HTML that steps through it. It
-needs no network, and nothing beside it:
+page replays a trace, and writes one page of HTML that steps through it. The
+page needs no network and no other file.
 
-  radixvm page TRACE > trace.html
+Usage: radixvm page [--explain] [FILE]
 
-On the left stand the trace's lines, each with its reply once it is made, and
-below it the lines of the log that it adds (help log). On the right stands the
-state behind the line, as state writes it (help state): the cores side by side,
+Options:
+  --explain  shows below an error the line and what was expected
+
+On the left are the trace's lines, each with its reply once it is made, and
+below it the lines of the log that it adds (help log). On the right is the
+state after the line, as state writes it (help state): the cores side by side,
 each with its call, what that holds, its TLB, tables, inbox and counts; and
 the mappings, each in a colour, with their pages, and the frames in use with
-their counts. What the line changed is lit,
-what it took away is struck out, and a translation that is going is red. An
-arrow leads from a core that told another to drop pages to the message in the
-other's inbox; it is dashed once the first take is made.
+their counts. What the line changed is lit, what it took away is struck out,
+and a stale translation is red. An arrow leads from a core that asked another
+to drop pages to the message in the other's inbox; it is dashed once the first
+take is made.
 
   right arrow, down arrow, j    the next line
   left arrow, up arrow, k       the line before
-  Home, End                     before the first line; behind the last
+  Home, End                     before the first line; after the last
   s                             each step of a call by itself, or not
   trace.html#12                 leads to line 12, and #12.3 to its third step
 
-A click on a line leads there as well, and so does Enter at one that Tab came
-to. The colours are light or dark as the browser has them.
+A click on a line leads there as well, and so does Enter after Tab. The colours
+are light or dark as the browser has them.
 
 The page holds the first state, and of each step what it changed. A trace with
-a fault has no page. It is held in memory, and may ask for as many calls as
+an error has no page. It is held in memory, and may ask for as many calls as
 with run --log.
+
+Example:
+  radixvm page examples/lessons/going.trace > going.html
+
+Status: 0; 2 for a bad text or bad arguments; 3 if reading, writing or memory
+failed.
 ";
