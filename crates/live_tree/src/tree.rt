@@ -69,10 +69,8 @@ impl<A: Allocator + Clone> SharedTree<A> {
         requires { AreUnused 0 (2 ^ 27) slots.items }
         ensures { IfOk result (λ t. IsNewTicketer (arc_value t.0.tickets) 63 t.1) }
     {
-        let (tickets, ticketer) = Tickets::new(alloc.clone()?)?;
-        let tickets = Arc::new(alloc.clone()?, tickets)?;
-        let mut root = Root::new(alloc.clone()?, 0, ROOT_PAGES)?;
-        root.fill(&mut slots);
+        let (tickets, ticketer) = SharedTree::new_word(&alloc)?;
+        let root = SharedTree::root_over(&alloc, &mut slots)?;
         Ok((
             SharedTree {
                 alloc,
@@ -81,6 +79,22 @@ impl<A: Allocator + Clone> SharedTree<A> {
             },
             ticketer,
         ))
+    }
+
+    // A word, and the right to draw its tickets.
+    fn new_word(alloc: &A) -> Result<(Arc<Tickets<A>, A>, Ticketer), NoMemory>
+        ensures { IfOk result (λ t. IsNewTicketer (arc_value t.0) 63 t.1) }
+    {
+        let (tickets, ticketer) = Tickets::new(alloc.clone()?)?;
+        let tickets = Arc::new(alloc.clone()?, tickets)?;
+        Ok((tickets, ticketer))
+    }
+
+    // The first level, with these slots.
+    fn root_over(alloc: &A, slots: &mut Vec<SlotState<A>, A>) -> Result<Root<A>, NoMemory> {
+        let mut root = Root::new(alloc.clone()?, 0, ROOT_PAGES)?;
+        root.fill(slots);
+        Ok(root)
     }
 
     /// Where the tree grows, and held slots get room.
