@@ -15,7 +15,7 @@ import tempfile
 from plain_map import PAGE, File, Map, Page, arguments
 
 TOP = pathlib.Path(__file__).resolve().parent.parent
-PROGRAM = os.environ.get("RADIXVM_PROGRAM", str(TOP / "crates/radixvm/out/run/radixvm"))
+PROGRAM = os.environ.get("RADIXVM_PROGRAM", str(TOP / "crates/radixvm/out/radixvm"))
 BASE, PAGES, FILE = 0x10000, 4, PAGE + 100
 LOOKED_AT = (0, 2048)  # offsets in a page
 REPLIES = ["done", "enomem", "einval", "eacces", "segv maperr", "segv accerr", "bus", "noframe", "nomemory"]

@@ -16,7 +16,7 @@ from litmus import mappings_of, replies_of, told
 from plain_map import arguments, line_of as mapping_line
 
 TOP = pathlib.Path(__file__).resolve().parent.parent
-PROGRAM = os.environ.get("RADIXVM_PROGRAM", str(TOP / "crates/radixvm/out/run/radixvm"))
+PROGRAM = os.environ.get("RADIXVM_PROGRAM", str(TOP / "crates/radixvm/out/radixvm"))
 HEAD = f"vm 4 256\nfile 0 rw {FILE} 195\n"
 
 

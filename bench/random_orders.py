@@ -15,7 +15,7 @@ import time
 from plain_map import PAGE, File, Map, arguments
 
 TOP = pathlib.Path(__file__).resolve().parent.parent
-PROGRAM = os.environ.get("RADIXVM_PROGRAM", str(TOP / "crates/radixvm/out/run/radixvm"))
+PROGRAM = os.environ.get("RADIXVM_PROGRAM", str(TOP / "crates/radixvm/out/radixvm"))
 BASE = 0x10000
 RIGHTS = ["rw-", "rw-", "rw-", "r--", "r-x", "rwx", "---", "-w-", "--x"]
 

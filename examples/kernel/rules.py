@@ -1,7 +1,7 @@
 #!/usr/bin/env python3
 """Prints by which rule of `radixvm audit --overlapping` the kernel that it runs on answers calls of 4 threads that overlap: a table of how many recorded
 histories are legal by each, and of each kind that isn't the shortest answer of the program that shows calls without an order, if there is one.
-Usage: examples/kernel/rules.py [RUNS [CALLS]], 20 and 2000 (of each thread) where left out; RADIXVM_PROGRAM names the program."""
+Usage: examples/kernel/rules.py [RUNS [CALLS]], 20 and 2000 (of each thread) where left out; RADIXVM names the program; else it is the built one, or that on the PATH."""
 import os
 import pathlib
 import subprocess
@@ -9,7 +9,8 @@ import sys
 import tempfile
 
 TOP = pathlib.Path(__file__).resolve().parent.parent.parent
-PROGRAM = os.environ.get("RADIXVM_PROGRAM", str(TOP / "crates/radixvm/out/run/radixvm"))
+BUILT = TOP / "crates/radixvm/out/radixvm"
+PROGRAM = os.environ.get("RADIXVM") or os.environ.get("RADIXVM_PROGRAM") or (str(BUILT) if BUILT.exists() else shutil.which("radixvm") or str(BUILT))
 RULES = [("at one moment", []), ("by pages", ["--by-pages"]), ("loose", ["--loose"])]
 # what is recorded, and kernel.c's words behind its THREADS and CALLS
 MIXES = [("pages, mapped and protected", ["8", "0"]), ("pages, unmapped too", ["2", "1"]), ("ranges of up to 8 pages", ["8", "8"])]

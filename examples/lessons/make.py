@@ -1,14 +1,15 @@
 #!/usr/bin/env python3
 """Writes beside each NAME.trace its picture, NAME.svg, its page, NAME.html, if the program has the word `page`, and README.md, which has all lessons: four
 sentences, the trace, and the state behind the line that shows it.
-Usage: examples/lessons/make.py [--check]; --check writes nothing, and tells which files are stale. RADIXVM_PROGRAM names the program."""
+Usage: examples/lessons/make.py [--check]; --check writes nothing, and tells which files are stale. RADIXVM names the program; else it is the built one, or that on the PATH."""
 import os
 import pathlib
 import subprocess
 import sys
 
 HERE = pathlib.Path(__file__).resolve().parent
-PROGRAM = os.environ.get("RADIXVM_PROGRAM", str(HERE.parent.parent / "crates/radixvm/out/run/radixvm"))
+BUILT = HERE.parent.parent / "crates/radixvm/out/radixvm"
+PROGRAM = os.environ.get("RADIXVM") or os.environ.get("RADIXVM_PROGRAM") or (str(BUILT) if BUILT.exists() else shutil.which("radixvm") or str(BUILT))
 FRONT = """# Five lessons
 
 Each lesson is a short trace. `radixvm run --echo NAME.trace` writes what each of its lines comes to, `radixvm state --at N NAME.trace` the state of the

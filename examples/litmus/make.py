@@ -1,21 +1,22 @@
 #!/usr/bin/env python3
 """Writes beside each NAME.litmus what `radixvm litmus` writes for it, as NAME.out, and README.md, a page of all: what each test teaches (by the table of
-../README.md, in whose order they come), the comment in front of it, its lines, its outcomes, each with the trace of a witness folded under it, and what its
-clauses come to.
-Usage: examples/litmus/make.py [--check]; --check writes nothing, and tells which files are stale. RADIXVM_PROGRAM names the program."""
+../README.md, in whose order they come), its lines, its outcomes, and whether its clauses hold.
+Usage: examples/litmus/make.py [--check]; --check writes nothing, and tells which files are stale. RADIXVM names the program; else it is the built one, or that on the PATH."""
 import os
 import pathlib
 import re
+import shutil
 import subprocess
 import sys
 
 HERE = pathlib.Path(__file__).resolve().parent
-PROGRAM = os.environ.get("RADIXVM_PROGRAM", str(HERE.parent.parent / "crates/radixvm/out/run/radixvm"))
+BUILT = HERE.parent.parent / "crates/radixvm/out/radixvm"
+PROGRAM = os.environ.get("RADIXVM") or os.environ.get("RADIXVM_PROGRAM") or (str(BUILT) if BUILT.exists() else shutil.which("radixvm") or str(BUILT))
 FRONT = """# Ten litmus tests
 
-A litmus test is a few calls of several cores. `radixvm litmus NAME.litmus` lists all that they can be answered, in whatever order the cores' steps
-come; `exact` says that each outcome has a run, and that no other can come but with noframe or nomemory: that is proved. `radixvm help litmus` explains
-the lines. This page is made by [make.py](make.py); under each outcome stands a trace for `radixvm run` that has it, and for `radixvm picture`.
+A litmus test is a few calls of several cores. `radixvm litmus NAME.litmus` lists every outcome that some schedule gives, and judges the clauses. `exact`
+is proved: each outcome has a run, and no other can come, except with noframe or nomemory. `radixvm litmus --witness K NAME.litmus` writes a trace that
+has outcome K, and `--picture K` draws it. `radixvm help litmus` explains the lines. [make.py](make.py) makes this page.
 """
 
 
@@ -35,16 +36,10 @@ def comment_and_lines(text):
 
 def section(name, lesson, text, out):
     """What the page says of one test."""
-    comment, lines = comment_and_lines(text)
-    yield f"\n## {name}\n\n{lesson[0].upper() + lesson[1:]}.\n\n{comment}\n\n```\n{lines.rstrip()}\n```\n"
-    for line in out.rstrip("\n").split("\n"):
-        if numbered := re.fullmatch(r"(\d+): (.*)", line):
-            trace = run("--witness", numbered[1], str(HERE / f"{name}.litmus"))
-            yield f"\n<details><summary>{numbered[1]}: <code>{numbered[2]}</code></summary>\n\n```\n{trace.rstrip()}\n```\n\n</details>\n"
-        elif line.startswith("Observation") or line.startswith("outcomes"):
-            continue
-        else:
-            yield f"\n`{line}`\n"
+    _, lines = comment_and_lines(text)
+    yield f"\n## {name}\n\n{lesson[0].upper() + lesson[1:]}.\n\n```\n{lines.rstrip()}\n```\n\n"
+    said = [line for line in out.rstrip("\n").split("\n") if not line.startswith(("Observation", "outcomes"))]
+    yield "```\n" + "\n".join(said) + "\n```\n"
 
 
 def main():
@@ -52,7 +47,7 @@ def main():
     tests = [path.stem for path in HERE.glob("*.litmus")]
     lessons = {name: lesson for name, lesson in re.findall(r"^\| ([\w-]+) \| (.*) \|$", (HERE.parent / "README.md").read_text(), re.M) if name in tests}
     if sorted(lessons) != sorted(tests):
-        sys.exit("the table of ../README.md hasn't just the tests that are here")
+        sys.exit("the table of ../README.md hasn't exactly the tests that are here")
     files, page = {}, [FRONT]
     for name in lessons:
         out = run(str(HERE / f"{name}.litmus"))
