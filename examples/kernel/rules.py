@@ -4,6 +4,7 @@ histories are legal by each, and of each kind that isn't the shortest answer of 
 Usage: examples/kernel/rules.py [RUNS [CALLS]], 20 and 2000 (of each thread) where left out; RADIXVM names the program; else it is the built one, or that on the PATH."""
 import os
 import pathlib
+import shutil
 import subprocess
 import sys
 import tempfile

@@ -4,6 +4,7 @@ sentences, the trace, and the state behind the line that shows it.
 Usage: examples/lessons/make.py [--check]; --check writes nothing, and tells which files are stale. RADIXVM names the program; else it is the built one, or that on the PATH."""
 import os
 import pathlib
+import shutil
 import subprocess
 import sys
 
