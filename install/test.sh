@@ -92,7 +92,7 @@ for page in "$prefix"/share/man/man?/*; do
         [ ! -s "$work/said" ] || fail "$name: $(cat "$work/said")"
         # The heads of a help text are sections of its page, and another page is named as man names it.
         "$prefix/bin/radixvm" help $topic | sed -E 's/^(Usage|Status): //; /^(Options|Examples):$/d' > "$work/help"
-        sed -E -i 's/radixvm[-‐](\w+)\([17]\)/help \1/g' "$work/page"
+        sed -E -i 's/radixvm[-‐](\w+)\([157]\)/help \1/g' "$work/page"
         lacks=$(awk '{ $1 = $1 } FNR == NR { page = page " " $0; next } NF && !index(page, $0) { print; exit }' "$work/page" "$work/help")
         [ -z "$lacks" ] || fail "$name lacks: $lacks"
     fi

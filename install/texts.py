@@ -9,7 +9,7 @@ import textwrap
 TOP = pathlib.Path(__file__).resolve().parent.parent
 SOURCES = "".join(path.read_text() for path in sorted((TOP / "crates/word_help/src").glob("*.rt")))
 # Topics whose text is that of another name, as the program has it.
-SAME = {"certify": "NOTES", "live": "THREADS", "help": "OVERVIEW"}
+SAME = {"certify": "NOTES", "live": "THREADS", "status": "FAULTS", "help": "OVERVIEW"}
 
 
 def text(name):
@@ -96,7 +96,7 @@ STANDARDS = ".SH STANDARDS\nmmap, munmap and mprotect: POSIX.1\\-2017; page tabl
 
 def listed():
     """The pages: the program's, one for each word, and one for each other topic."""
-    return [("", 1)] + [(topic, 1 if topic in words() else 7) for topic in topics() if topic != "help"]
+    return [("", 1)] + [(topic, 1 if topic in words() else 5 if topic == "formats" else 7) for topic in topics() if topic != "help"]
 
 
 def write_pages(share):

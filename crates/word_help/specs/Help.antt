@@ -4,7 +4,7 @@ use Rattle.word_help.specs.declared.TheConstants as Text
 use Rattle.word_help.specs.declared.traces.TheConstants as OfTraces
 use Rattle.word_help.specs.declared.texts.TheConstants as OfTexts
 use Rattle.word_help.specs.declared.Topic.{Topic}
-use Rattle.word_help.specs.declared.Topic.TheVariants.{Overview, Run, Trace, Outcomes, Log, Maps, Faults, Cores, Notes, Threads, Import, Audit, Picture, State, Page, Litmus}
+use Rattle.word_help.specs.declared.Topic.TheVariants.{Overview, Run, Trace, Outcomes, Log, Maps, Faults, Cores, Formats, Notes, Threads, Import, Audit, Picture, State, Page, Litmus}
 
 abbrev pub page_of : Topic → List ℕ
 page_of Overview = Text.OVERVIEW.now
@@ -15,6 +15,7 @@ page_of Log = OfTraces.LOG.now
 page_of Maps = OfTraces.MAPS.now
 page_of Faults = OfTraces.FAULTS.now
 page_of Cores = OfTraces.CORES.now
+page_of Formats = OfTraces.FORMATS.now
 page_of Notes = OfTexts.NOTES.now
 page_of Threads = OfTexts.THREADS.now
 page_of Import = OfTexts.IMPORT.now

@@ -12,7 +12,7 @@ ghost use Rattle.std.specs.Prelude.{◌≡◌};
 ghost use Rattle.word_help.specs.Help.{page_of};
 
 use crate::texts::{AUDIT, IMPORT, LITMUS, NOTES, PICTURE, THREADS};
-use crate::traces::{CORES, FAULTS, LOG, MAPS, OUTCOMES, PAGE, RUN, STATE, TRACE};
+use crate::traces::{CORES, FAULTS, FORMATS, LOG, MAPS, OUTCOMES, PAGE, RUN, STATE, TRACE};
 
 /// What `--version` says after the program's name.
 pub const VERSION: &str = "0.1.0";
@@ -87,10 +87,11 @@ Topics:
     trace        the lines of a trace
     outcomes     the outcomes of events; what to do at a wait
     log          the lines that --log adds
-    faults       errors, limits and exit status
+    faults       errors, limits and exit status; so does status
     cores        tables, TLBs, locks, shootdown, and how frames come back
     notes        the lines that certify reads and writes
     threads      scripts, and what live writes
+    formats      the grammar of each text
 
 Options of all commands:
   -h, --help     explains the command
@@ -123,6 +124,8 @@ pub enum Topic {
     Faults,
     /// Tables, TLBs, locks, shootdown, and how frames come back.
     Cores,
+    /// The grammar of each text.
+    Formats,
     /// What `certify` reads and writes.
     Notes,
     /// What `live` reads and writes.
@@ -144,7 +147,7 @@ pub enum Topic {
 /// The names of the topics, as the program's words have them: first those of words.
 pub const TOPICS: &[&str] = &[
     "run", "maps", "state", "page", "certify", "live", "import", "audit", "picture", "litmus",
-    "trace", "outcomes", "log", "faults", "cores", "notes", "threads", "help",
+    "trace", "outcomes", "log", "faults", "cores", "notes", "threads", "formats", "status", "help",
 ];
 
 /// The topic's text.
@@ -160,6 +163,7 @@ pub fn page(topic: Topic) -> &'static str
         Topic::Maps => MAPS,
         Topic::Faults => FAULTS,
         Topic::Cores => CORES,
+        Topic::Formats => FORMATS,
         Topic::Notes => NOTES,
         Topic::Threads => THREADS,
         Topic::Import => IMPORT,

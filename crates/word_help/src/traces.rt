@@ -478,3 +478,61 @@ Example:
 Status: 0; 2 for a bad text or bad arguments; 3 if reading, writing or memory
 failed.
 ";
+
+/// The grammar of each text.
+pub const FORMATS: &str = "\
+The grammar of each text that radixvm reads and writes. Words are divided by
+spaces; [ ] may be left out, | divides choices, .. means one more or none. A
+line is empty, begins with #, or is one of these.
+
+  trace    = vm file.. event..
+  replies  = vm file.. said..             audit
+  history  = vm file.. timed..            audit --overlapping
+  script   = vm file.. task..             live
+  notes    = vm file.. note..             certify
+  test     = vm file.. event.. [together call.. final.. clause..]     litmus
+  counts   = counted..                    litmus --observed
+
+  vm       = \"vm\" CORES FRAMES [CALLS]
+  file     = \"file\" N (\"r\" | \"w\" | \"rw\") LEN SEED
+  event    = CORE\"!\" REQ | CORE \"call\" REQ | CORE step | \"fold\" ADDR
+  step     = \"go\" | \"finish\" | \"take\" | \"flush\" | \"review\" | \"whole\" | \"giveup\"
+           | \"walk\" ADDR | \"evict\" ADDR | \"guess\" ADDR | \"frame\" F
+  said     = event \"=\" OUTCOME | CORE \"copy\" ADDR
+  timed    = BEGIN END call \"=\" REPLY
+  task     = call | CORE \"flush\" | CORE \"review\"
+  note     = TICKET event \"=\" OUTCOME
+  call     = CORE\"!\" REQ
+  final    = \"final\" (ADDR | \"maps\")
+  clause   = (\"exists\" | \"never\" | \"forall\") COND
+  COND     = AND | AND \"or\" COND
+  AND      = ATOM | ATOM \"and\" AND
+  ATOM     = CORE\".\"N (\"=\" | \"!=\") REPLY | ADDR \"=\" BYTE
+  counted  = TIMES\":\" CORE REPLY [\",\" REPLY].. [\";\" ..]
+
+  REQ      = \"mmap\" ADDR LEN PROT FLAGS [FILE OFF] | \"munmap\" ADDR LEN
+           | \"mprotect\" ADDR LEN PROT | \"load\" ADDR | \"store\" ADDR BYTE
+           | \"fetch\" ADDR
+  REPLY    = ADDR | \"done\" | BYTE | \"einval\" | \"enomem\" | \"ebadf\"
+           | \"eoverflow\" | \"eacces\" | \"segv maperr\" | \"segv accerr\" | \"bus\"
+           | \"noframe\" | \"nomemory\"
+  OUTCOME  = REPLY | \"step\" | \"wait slot\" C | \"wait acks\" C.. | \"idle\"
+           | \"full\" | \"stuck\"
+  CORE     = \"c0\" | \"c1\" .. \"c63\"
+  PROT     = \"rwx\" with \"-\" for each right that isn't given
+  FLAGS    = \"-\" or some of \"p\" \"s\" \"f\" \"a\"
+  all else = a number below 2^64: decimal, or hexadecimal after 0x
+
+Written are also
+
+  log      = \"log\" STEP \"call\" CALL REPLY | \"log\" STEP \"detach\" ADDR
+  mapping  = START\"-\"END PROT (\"anon\" | \"shared\" FILE OFF
+           | \"private\" FILE OFF)
+  verdict  = \"legal\" CALLS .. | \"illegal\" LINE \":\" .. | \"undecided\" LINE ..
+           | \"no order\" LINE \":\" .. | \"certified\" CALLS | \"refused\" ..
+
+help trace, outcomes, log, maps, state, notes, threads, audit and litmus say
+what they mean. What is promised: a text that is accepted today is accepted,
+with the same outcomes, by each later 0.x of the program, or CHANGES.md says
+how it changes. New kinds of lines may come.
+";
