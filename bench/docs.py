@@ -35,7 +35,7 @@ OURS = {
 # Bytes that a document may have; together they have at most MOST_BYTES.
 MOST_BYTES = 72_000
 BUDGETS = {
-    "README.md": 9_400,
+    "README.md": 9_500,
     "docs/ARCHITECTURE.md": 5_000,
     "docs/COMPARISON.md": 3_000,
     "docs/CONTRIBUTING.md": 8_700,
