@@ -20,6 +20,12 @@
  * Memory: all buffers are yours, and you pass each with its number of items. The library keeps no pointer to
  * them. It frees what it allocates before it returns, except for kept machines and seats.
  *
+ * Frames come back late: a frame that no page has any more is free once its count was 0 for two epochs (Refcache of
+ * the RadixVM paper). A program that maps and unmaps needs that, or gets RADIXVM_NO_FRAME. With several cores, let
+ * each make RADIXVM_FLUSH until it is RADIXVM_IDLE, then each once more, and then each RADIXVM_REVIEW until it is
+ * RADIXVM_IDLE. With one core RADIXVM_FLUSH is never RADIXVM_IDLE, since one that finds no count ends an epoch: make
+ * it once for each frame that was unmapped and three times more, and then RADIXVM_REVIEW until it is RADIXVM_IDLE.
+ *
  * Threads: the library has no static state. Threads may call it at the same time if each has its own buffers,
  * machines and seats. You may hand a machine or a seat to another thread as you hand over any plain object:
  * through a lock, or when a thread starts or ends. Only one call at a time may use a machine or a seat.
@@ -29,7 +35,8 @@
  *   - each buffer is as long as you say, is aligned, and overlaps no other; `outcomes` is initialised memory;
  *   - a radixvm_machine or a radixvm_seat begins as {0}, stays in one place, is never copied, and is changed
  *     by the functions below alone;
- *   - no function is called from a signal handler, nor in the forked child of a process with threads. */
+ *   - no function is called from a signal handler that interrupts a call of the library, nor in the forked child of
+ *     a process with threads. */
 #ifndef RADIXVM_H
 #define RADIXVM_H
 #include <stddef.h>
