@@ -42,18 +42,21 @@ impl<A: Allocator + Clone> History<A> {
     ghost use Rattle.orders_text.specs.declared.lines.HistoryLine.TheVariants.{Event, Part, Timed as TimedCall};
 
     // Nothing is read yet, and there is room for so many calls.
-    #[tactic(auto, using(crate::proofs::ReadLemmas::none_read))]
     fn new(alloc: &A, room: usize) -> Result<History<A>, AllocError>
         ensures read { IfOk result (λ h. read_of h ≡ unread) }
         ensures few { IfOk result (λ h. length h.declaration.files.items ≤ 16) }
         ensures places { IfOk result (λ h. HasPlaces h) }
     {
+        let waiting = none_waits(alloc.clone()?)?;
+        let calls = Vec::with_capacity(alloc.clone()?, room)?;
+        let lines = Vec::with_capacity(alloc.clone()?, room)?;
+        let declaration = AuditHead::new(alloc.clone()?);
         Ok(History {
-            declaration: AuditHead::new(alloc.clone()?),
+            declaration,
             clock: Clock::Unset,
-            waiting: none_waits(alloc.clone()?)?,
-            calls: Vec::with_capacity(alloc.clone()?, room)?,
-            lines: Vec::with_capacity(alloc.clone()?, room)?,
+            waiting,
+            calls,
+            lines,
         })
     }
 
@@ -415,10 +418,36 @@ fn overlap_fault(lines: &[u64], one: usize, other: usize) -> HistoryFault
     }
 }
 
+// Reads a text whole, and tells why it is no history, if it is none.
+fn read_whole<A: Allocator + Clone + Drop>(
+    history: &mut History<A>,
+    alloc: &A,
+    text: &[u8],
+) -> Result<(), HistoryFault>
+    requires fresh { read_of history.old ≡ unread }
+    requires few { length history.old.declaration.files.items ≤ 16 }
+    requires places { HasPlaces history.old }
+    ensures ok { OnOk result (IsHistory (lines_of text.now) (read_of history.new)) }
+    ensures few { OnOk result (length history.new.declaration.files.items ≤ 16) }
+    ensures places { OnOk result (HasPlaces history.new) }
+    ensures err { IfErr result (λ f. IsAtFault (lines_of text.now) f) }
+{
+    if let Err(fault) = read_lines(history, alloc, text) {
+        return Err(fault);
+    }
+    if !history.declaration.has_space {
+        return Err(HistoryFault::NoVmLine);
+    }
+    match find_overlap(alloc, history.calls.as_slice()) {
+        Ok(None) => Ok(()),
+        Ok(Some((one, other))) => Err(overlap_fault(history.lines.as_slice(), one, other)),
+        Err(_) => Err(HistoryFault::Io(IoFault::NoMemory)),
+    }
+}
+
 /// Reads a text whole: the history that it is, or why it is none, by the first line that may not stand where it is. The lines of calls
 /// with their times may stand in any order behind those of the space and its files. In a text of events, as `audit` reads it, a call is
 /// under way from the line in which it begins to that of its reply.
-#[tactic(auto, using(crate::proofs::PlaceLemmas::end_refused, crate::proofs::PlaceLemmas::overlap_told, crate::proofs::PlaceLemmas::is_history))]
 pub fn read_history<A: Allocator + Clone + Drop>(
     alloc: &A,
     text: &[u8],
@@ -431,13 +460,11 @@ pub fn read_history<A: Allocator + Clone + Drop>(
     let Ok(mut history) = History::new(alloc, line_count(text)) else {
         return Err(HistoryFault::Io(IoFault::NoMemory));
     };
-    read_lines(&mut history, alloc, text)?;
-    if !history.declaration.has_space {
-        return Err(HistoryFault::NoVmLine);
-    }
-    match find_overlap(alloc, history.calls.as_slice()) {
-        Ok(None) => Ok(history),
-        Ok(Some((one, other))) => Err(overlap_fault(history.lines.as_slice(), one, other)),
-        Err(_) => Err(HistoryFault::Io(IoFault::NoMemory)),
+    match read_whole(&mut history, alloc, text) {
+        Ok(()) => Ok(history),
+        Err(fault) => {
+            drop(history);
+            Err(fault)
+        }
     }
 }
