@@ -1,5 +1,5 @@
 -- A whole picture.
-use Rattle.std.specs.Prelude.{ℕ, zero, suc, ◌+◌, ◌-◌, ◌*◌, ◌^◌, List, [], ◌∷◌, ◌++◌, if◌then◌else◌, codes, decimal, length, min, max, nat_lt}
+use Rattle.std.specs.Prelude.{ℕ, ◌+◌, ◌-◌, ◌*◌, ◌^◌, List, [], ◌∷◌, ◌++◌, if◌then◌else◌, codes, decimal, length, min, max, nat_lt}
 use Rattle.std.specs.List.{concat, flat_map}
 use Rattle.vm_base.specs.declared.page.PageRange.{PageRange}
 use Rattle.trace_text.specs.Lists.{start_of}
@@ -9,6 +9,7 @@ use Rattle.draw_steps.specs.Places.{row_y, rows_y}
 use Rattle.draw_steps.specs.Rows.{all_stretches, edges_of, row_at, rows_of}
 use Rattle.draw_steps.specs.Shapes.{arrows_of, bars_of, marks_of}
 use Rattle.draw_steps.specs.Style.{legend_words, more_words, style_text}
+use Rattle.draw_steps.specs.Texts.{first_texts}
 use Rattle.draw_steps.specs.declared.elements.Way.{Way}
 use Rattle.draw_steps.specs.declared.moments.Recorded.{Recorded}
 use Rattle.draw_steps.specs.declared.places.View.{View}
@@ -25,10 +26,14 @@ width view = max (160 + 52 * view.steps) 640
 abbrev pub height : View → ℕ → ℕ
 height view rows = rows_y view + 24 * min rows 256 + 52
 
+-- the beginning of SVG of this size, with these attributes in front of it
+unfoldable pub size_text : List ℕ → ℕ → ℕ → List ℕ
+size_text attributes w h = concat (codes "<svg xmlns=\"http://www.w3.org/2000/svg\"" ∷ attributes ∷ codes " width=\"" ∷ decimal w
+    ∷ codes "\" height=\"" ∷ decimal h ∷ codes "\" viewBox=\"0 0 " ∷ decimal w ∷ codes " " ∷ decimal h ∷ codes "\">\n" ∷ [])
+
 -- the beginning of the text
 unfoldable pub front_text : ℕ → ℕ → List ℕ
-front_text w h = concat (codes "<svg xmlns=\"http://www.w3.org/2000/svg\" width=\"" ∷ decimal w ∷ codes "\" height=\"" ∷ decimal h
-    ∷ codes "\" viewBox=\"0 0 " ∷ decimal w ∷ codes " " ∷ decimal h ∷ codes "\">\n" ∷ style_text ∷ [])
+front_text w h = size_text (codes "") w h ++ style_text
 
 -- a column's line, and the number of its step
 abbrev pub column_way : ℕ → ℕ → Way
@@ -38,11 +43,6 @@ unfoldable pub column_text : View → ℕ → ℕ → List ℕ
 column_text view bottom at = concat (line_text (codes "grid") (column_way bottom at) ∷ text_front (codes "step") (104 + 52 * at + 26) 30
     ∷ decimal (min (view.first + at) (2 ^ 64 - 1)) ∷ codes "</text>\n" ∷ [])
 
--- the lines between the steps
-abbrev pub columns_text : View → ℕ → ℕ → List ℕ
-columns_text view bottom zero = []
-columns_text view bottom (suc n) = columns_text view bottom n ++ column_text view bottom n
-
 -- a core's lane
 abbrev pub lane_way : View → ℕ → Way
 lane_way view core = record { x1 = 104; y1 = 80 + 66 * core; x2 = 104 + 52 * view.steps; y2 = 80 + 66 * core }
@@ -51,38 +51,27 @@ unfoldable pub lane_text : View → ℕ → List ℕ
 lane_text view core = concat (line_text (codes "lane") (lane_way view core) ∷ text_front (codes "core") 8 (80 + 66 * core + 4)
     ∷ codes "core " ∷ decimal core ∷ codes "</text>\n" ∷ [])
 
-abbrev pub lanes_text : View → ℕ → List ℕ
-lanes_text view zero = []
-lanes_text view (suc n) = lanes_text view n ++ lane_text view n
-
 -- the address at which a row begins
-unfoldable pub row_text : View → ℕ → PageRange → List ℕ
-row_text view row pages = concat (text_front (codes "page") 8 (row_y view row + 15) ∷ start_of pages.first ∷ codes "</text>\n" ∷ [])
-
--- the first n rows
-abbrev pub first_rows : View → List PageRange → ℕ → List ℕ
-first_rows view rows zero = []
-first_rows view rows (suc n) = first_rows view rows n ++ row_text view n (row_at rows n)
-
-abbrev pub rows_text : View → List PageRange → List ℕ
-rows_text view rows = first_rows view rows (min (length rows) 256)
+unfoldable pub row_text : View → List PageRange → ℕ → List ℕ
+row_text view rows at = concat (text_front (codes "page") 8 (row_y view at + 15) ∷ start_of (row_at rows at).first ∷ codes "</text>\n" ∷ [])
 
 -- above the rows: where not all are shown, how many there are
 abbrev pub head_words : ℕ → List ℕ
 head_words rows = if nat_lt 256 rows
     then concat (codes "pages: the first 256 rows of " ∷ decimal rows ∷ codes "</text>\n" ∷ []) else codes "pages</text>\n"
 
-unfoldable pub head_text : View → ℕ → List ℕ
-head_text view rows = text_front (codes "head") 8 (rows_y view - 10) ++ head_words rows
+unfoldable pub head_text : ℕ → ℕ → List ℕ
+head_text y rows = text_front (codes "head") 8 y ++ head_words rows
 
 unfoldable pub legend_text : ℕ → List ℕ
 legend_text bottom = concat (text_front (codes "note") 8 (bottom + 18) ∷ legend_words ∷ text_front (codes "note") 8 (bottom + 34)
     ∷ more_words ∷ [])
 
--- what shapes are drawn on
+-- what shapes are drawn on, with the addresses of the first 256 rows
 unfoldable pub canvas_of : View → List PageRange → ℕ → ℕ → ℕ → List ℕ
-canvas_of view rows wide high bottom = front_text wide high ++ columns_text view bottom view.steps ++ lanes_text view view.cores
-    ++ head_text view (length rows) ++ rows_text view rows ++ legend_text bottom
+canvas_of view rows wide high bottom = front_text wide high ++ first_texts (column_text view bottom) view.steps
+    ++ first_texts (lane_text view) view.cores ++ head_text (rows_y view - 10) (length rows)
+    ++ first_texts (row_text view rows) (min (length rows) 256) ++ legend_text bottom
 
 abbrev pub canvas_text : View → List PageRange → List ℕ
 canvas_text view rows =

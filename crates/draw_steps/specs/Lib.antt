@@ -9,3 +9,4 @@ pub mod Places
 pub mod Rows
 pub mod Shapes
 pub mod Style
+pub mod Texts

@@ -33,10 +33,8 @@ fn put_byte(out: &mut Vec<u8>, byte: u8) -> Result<(), AllocError>
 fn put_shown(out: &mut Vec<u8>, bytes: &[u8]) -> Result<(), AllocError>
     ensures { OnOk result (out.new.items ≡ out.old.items ++ flat_map shown bytes.now) }
 {
-    let mut at = 0;
-    'bytes: while at < bytes.len() {
-        put_byte(out, bytes[at])?;
-        at += 1;
+    'bytes: for byte in bytes {
+        put_byte(out, *byte)?;
     }
     Ok(())
 }

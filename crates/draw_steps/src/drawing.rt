@@ -7,6 +7,7 @@ use crate::moments::Deed;
 use crate::parts::{Part, put_parts};
 use crate::places::{View, arrow_way, bar_place, column, lane, row_y, stretch_place};
 use crate::shapes::{Arrow, Bar, Course, Mark, Sign, Stretch};
+use crate::texts::Drawable;
 use std::alloc::AllocError;
 use trace_text::pieces::Piece;
 use vm_base::{Prot, Request};
@@ -55,8 +56,8 @@ pub const LEGEND_MORE: &str = "\
 green: its acknowledgement, at its second take. Point at a thing to read more of it.</text>
 ";
 
-// The name of a request, which is also the class of its bar.
-fn request_name(request: Request) -> &'static str
+/// The name of a request, which is also the class of its bar.
+pub fn request_name(request: Request) -> &'static str
     ensures { result.now ≡ request_name request }
 {
     match request {
@@ -69,34 +70,36 @@ fn request_name(request: Request) -> &'static str
     }
 }
 
-/// Appends a bar with its name, its reply and what it says on pointing.
-pub fn put_bar(out: &mut Vec<u8>, view: View, bar: &Bar) -> Result<(), AllocError>
-    ensures { OnOk result (out.new.items ≡ out.old.items ++ bar_text view bar.now) }
-{
-    let name = request_name(bar.request);
-    let place = bar_place(view, bar);
-    let x = column(view, bar.begin) + 5;
-    let y = lane(bar.core) + 44;
-    put_parts(
-        out,
-        &[
-            Part::Plain(Piece::Words("<g><title>")),
-            Part::Plain(Piece::Words(name)),
-            Part::Arguments(bar.request),
-            Part::Outcome(bar.begin, bar.answer),
-            Part::Plain(Piece::Words("</title>")),
-            Part::Rect(name, place),
-            Part::Text("name", x, y),
-            Part::Plain(Piece::Words(name)),
-            Part::Plain(Piece::Words("</text>")),
-            Part::Label(view, bar.core, bar.answer),
-            Part::Plain(Piece::Words("</g>\n")),
-        ],
-    )
+// A bar with its name, its reply and what it says on pointing.
+impl Drawable<View> for Bar {
+    ghost text = { bar_text };
+
+    fn put(&self, out: &mut Vec<u8>, view: &View) -> Result<(), AllocError> {
+        let name = request_name(self.request);
+        let place = bar_place(*view, self);
+        let x = column(*view, self.begin) + 5;
+        let y = lane(self.core) + 44;
+        put_parts(
+            out,
+            &[
+                Part::Plain(Piece::Words("<g><title>")),
+                Part::Plain(Piece::Words(name)),
+                Part::Arguments(self.request),
+                Part::Outcome(self.begin, self.answer),
+                Part::Plain(Piece::Words("</title>")),
+                Part::Rect(name, place),
+                Part::Text("name", x, y),
+                Part::Plain(Piece::Words(name)),
+                Part::Plain(Piece::Words("</text>")),
+                Part::Label(*view, self.core, self.answer),
+                Part::Plain(Piece::Words("</g>\n")),
+            ],
+        )
+    }
 }
 
-// The class of an arrow.
-fn course_class(course: Course) -> &'static str
+/// The class of an arrow.
+pub fn course_class(course: Course) -> &'static str
     ensures { result.now ≡ course_class course }
 {
     match course {
@@ -105,8 +108,8 @@ fn course_class(course: Course) -> &'static str
     }
 }
 
-// What an arrow stands for, between the numbers of its cores.
-fn course_words(course: Course) -> &'static str
+/// What an arrow stands for, between the numbers of its cores.
+pub fn course_words(course: Course) -> &'static str
     ensures { result.now ≡ course_words course }
 {
     match course {
@@ -115,26 +118,28 @@ fn course_words(course: Course) -> &'static str
     }
 }
 
-/// Appends an arrow, with what it says on pointing.
-pub fn put_arrow(out: &mut Vec<u8>, view: View, arrow: &Arrow) -> Result<(), AllocError>
-    ensures { OnOk result (out.new.items ≡ out.old.items ++ arrow_text view arrow.now) }
-{
-    let words = course_words(arrow.course);
-    let class = course_class(arrow.course);
-    let way = arrow_way(view, arrow);
-    put_parts(
-        out,
-        &[
-            Part::Plain(Piece::Words("<g><title>core ")),
-            Part::Plain(Piece::Core(arrow.from)),
-            Part::Plain(Piece::Words(words)),
-            Part::Plain(Piece::Core(arrow.to)),
-            Part::Span(arrow.sent, Some(arrow.came)),
-            Part::Plain(Piece::Words("</title>")),
-            Part::Line(class, way),
-            Part::Plain(Piece::Words("</g>\n")),
-        ],
-    )
+// An arrow, with what it says on pointing.
+impl Drawable<View> for Arrow {
+    ghost text = { arrow_text };
+
+    fn put(&self, out: &mut Vec<u8>, view: &View) -> Result<(), AllocError> {
+        let words = course_words(self.course);
+        let class = course_class(self.course);
+        let way = arrow_way(*view, self);
+        put_parts(
+            out,
+            &[
+                Part::Plain(Piece::Words("<g><title>core ")),
+                Part::Plain(Piece::Core(self.from)),
+                Part::Plain(Piece::Words(words)),
+                Part::Plain(Piece::Core(self.to)),
+                Part::Span(self.sent, Some(self.came)),
+                Part::Plain(Piece::Words("</title>")),
+                Part::Line(class, way),
+                Part::Plain(Piece::Words("</g>\n")),
+            ],
+        )
+    }
 }
 
 // The word below a mark.
@@ -167,28 +172,30 @@ fn sign_class(sign: Sign) -> &'static str
     }
 }
 
-/// Appends a mark with its word, and what it says on pointing.
-pub fn put_mark(out: &mut Vec<u8>, view: View, mark: &Mark) -> Result<(), AllocError>
-    ensures { OnOk result (out.new.items ≡ out.old.items ++ mark_text view mark.now) }
-{
-    let class = sign_class(mark.sign);
-    let word = sign_word(mark.sign);
-    let x = column(view, mark.step) + 26;
-    let y = lane(mark.core);
-    put_parts(
-        out,
-        &[
-            Part::Plain(Piece::Words("<g><title>core ")),
-            Part::Plain(Piece::Core(mark.core)),
-            Part::Plain(Piece::Words(", step ")),
-            Part::Plain(Piece::Number(mark.step)),
-            Part::Plain(Piece::Words("</title>")),
-            Part::Circle(class, x, y + 40),
-            Part::Text("deed", x, y + 63),
-            Part::Plain(Piece::Words(word)),
-            Part::Plain(Piece::Words("</text></g>\n")),
-        ],
-    )
+// A mark with its word, and what it says on pointing.
+impl Drawable<View> for Mark {
+    ghost text = { mark_text };
+
+    fn put(&self, out: &mut Vec<u8>, view: &View) -> Result<(), AllocError> {
+        let class = sign_class(self.sign);
+        let word = sign_word(self.sign);
+        let x = column(*view, self.step) + 26;
+        let y = lane(self.core);
+        put_parts(
+            out,
+            &[
+                Part::Plain(Piece::Words("<g><title>core ")),
+                Part::Plain(Piece::Core(self.core)),
+                Part::Plain(Piece::Words(", step ")),
+                Part::Plain(Piece::Number(self.step)),
+                Part::Plain(Piece::Words("</title>")),
+                Part::Circle(class, x, y + 40),
+                Part::Text("deed", x, y + 63),
+                Part::Plain(Piece::Words(word)),
+                Part::Plain(Piece::Words("</text></g>\n")),
+            ],
+        )
+    }
 }
 
 /// The class of what has these rights.
@@ -208,35 +215,41 @@ pub fn prot_class(prot: Prot) -> &'static str
     }
 }
 
-/// Appends a stretch with its rights, and what it says on pointing, with names that the text of the trace has.
-pub fn put_stretch(
-    out: &mut Vec<u8>,
-    view: View,
-    text: &[u8],
-    stretch: Stretch,
-) -> Result<(), AllocError>
-    ensures { OnOk result (out.new.items ≡ out.old.items ++ stretch_text view text.now stretch) }
-{
-    let class = prot_class(stretch.prot);
-    let place = stretch_place(view, stretch);
-    let x = column(view, stretch.begin) + 30;
-    let y = row_y(view, stretch.row) + 15;
-    put_parts(
-        out,
-        &[
-            Part::Plain(Piece::Words("<g><title>")),
-            Part::Plain(Piece::Start(stretch.pages.first)),
-            Part::Plain(Piece::Words("-")),
-            Part::Plain(Piece::Start(stretch.pages.end)),
-            Part::Plain(Piece::Words(" ")),
-            Part::Plain(Piece::Rights(stretch.prot)),
-            Part::Backing(text, stretch.back),
-            Part::Span(stretch.begin, stretch.end),
-            Part::Plain(Piece::Words("</title>")),
-            Part::Rect(class, place),
-            Part::Text("prot", x, y),
-            Part::Plain(Piece::Rights(stretch.prot)),
-            Part::Plain(Piece::Words("</text></g>\n")),
-        ],
-    )
+/// A view, and the text of the trace, which has names of files.
+#[derive(Clone, Copy)]
+pub struct NamedView<'a> {
+    /// The view.
+    pub view: View,
+    /// The text of the trace.
+    pub text: &'a [u8],
+}
+
+// A stretch with its rights, and what it says on pointing.
+impl<'a> Drawable<NamedView<'a>> for Stretch {
+    ghost text = { λ named. stretch_text named.view named.text.now };
+
+    fn put(&self, out: &mut Vec<u8>, named: &NamedView<'a>) -> Result<(), AllocError> {
+        let class = prot_class(self.prot);
+        let place = stretch_place(named.view, *self);
+        let x = column(named.view, self.begin) + 30;
+        let y = row_y(named.view, self.row) + 15;
+        put_parts(
+            out,
+            &[
+                Part::Plain(Piece::Words("<g><title>")),
+                Part::Plain(Piece::Start(self.pages.first)),
+                Part::Plain(Piece::Words("-")),
+                Part::Plain(Piece::Start(self.pages.end)),
+                Part::Plain(Piece::Words(" ")),
+                Part::Plain(Piece::Rights(self.prot)),
+                Part::Backing(named.text, self.back),
+                Part::Span(self.begin, self.end),
+                Part::Plain(Piece::Words("</title>")),
+                Part::Rect(class, place),
+                Part::Text("prot", x, y),
+                Part::Plain(Piece::Rights(self.prot)),
+                Part::Plain(Piece::Words("</text></g>\n")),
+            ],
+        )
+    }
 }

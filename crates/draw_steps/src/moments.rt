@@ -122,12 +122,7 @@ fn answer_in(recorded: &Recorded, call: u64) -> Option<Answer>
                 None
             }
         }
-        Moment::Begins { .. }
-        | Moment::Told { .. }
-        | Moment::Took { .. }
-        | Moment::Did { .. }
-        | Moment::Mapped { .. }
-        | Moment::Unmapped { .. } => None,
+        _ => None,
     }
 }
 
@@ -135,13 +130,11 @@ fn answer_in(recorded: &Recorded, call: u64) -> Option<Answer>
 pub fn answer_of(moments: &[Recorded], call: u64) -> Option<Answer>
     ensures { result ≡ answer_of moments.now call }
 {
-    let mut at = 0;
-    'moments: while at < moments.len() {
-        let answer = answer_in(&moments[at], call);
+    'moments: for recorded in moments {
+        let answer = answer_in(recorded, call);
         if answer.is_some() {
             return answer;
         }
-        at += 1;
     }
     None
 }
@@ -154,12 +147,7 @@ fn tells(recorded: &Recorded, sender: CoreId, core: CoreId, step: u64) -> bool
         Moment::Told { core: from, cores } => {
             *from == sender && cores.contains(core) && recorded.step < step
         }
-        Moment::Begins { .. }
-        | Moment::Answers { .. }
-        | Moment::Took { .. }
-        | Moment::Did { .. }
-        | Moment::Mapped { .. }
-        | Moment::Unmapped { .. } => false,
+        _ => false,
     }
 }
 
@@ -168,13 +156,10 @@ pub fn latest_told(moments: &[Recorded], sender: CoreId, core: CoreId, step: u64
     ensures { result ≡ latest_told None moments.now sender core step }
 {
     let mut told = None;
-    let mut at = 0;
-    'moments: while at < moments.len() {
-        let recorded = &moments[at];
+    'moments: for recorded in moments {
         if tells(recorded, sender, core, step) {
             told = Some(recorded.step);
         }
-        at += 1;
     }
     told
 }
@@ -184,13 +169,10 @@ fn changes(recorded: &Recorded, page: u64, step: u64) -> bool
     ensures { result ≡ changes recorded.now page step }
 {
     match &recorded.moment {
-        Moment::Mapped { pages, .. } => pages.contains(page) && step < recorded.step,
-        Moment::Unmapped { pages } => pages.contains(page) && step < recorded.step,
-        Moment::Begins { .. }
-        | Moment::Answers { .. }
-        | Moment::Told { .. }
-        | Moment::Took { .. }
-        | Moment::Did { .. } => false,
+        Moment::Mapped { pages, .. } | Moment::Unmapped { pages } => {
+            pages.contains(page) && step < recorded.step
+        }
+        _ => false,
     }
 }
 
@@ -198,13 +180,10 @@ fn changes(recorded: &Recorded, page: u64, step: u64) -> bool
 pub fn next_change(moments: &[Recorded], page: u64, step: u64) -> Option<u64>
     ensures { result ≡ next_change moments.now page step }
 {
-    let mut at = 0;
-    'moments: while at < moments.len() {
-        let recorded = &moments[at];
+    'moments: for recorded in moments {
         if changes(recorded, page, step) {
             return Some(recorded.step);
         }
-        at += 1;
     }
     None
 }
@@ -248,12 +227,7 @@ fn backing_in(recorded: &Recorded, page: u64) -> Option<Back>
                 None
             }
         }
-        Moment::Unmapped { .. }
-        | Moment::Begins { .. }
-        | Moment::Answers { .. }
-        | Moment::Told { .. }
-        | Moment::Took { .. }
-        | Moment::Did { .. } => None,
+        _ => None,
     }
 }
 
@@ -273,12 +247,10 @@ pub fn backing_of(moments: &[Recorded], page: u64, step: u64) -> Option<Back>
     ensures { result ≡ backing_of None moments.now page step }
 {
     let mut known = None;
-    let mut at = 0;
-    'moments: while at < moments.len() {
-        if let Some(back) = backing_by(&moments[at], page, step) {
+    'moments: for recorded in moments {
+        if let Some(back) = backing_by(recorded, page, step) {
             known = Some(back);
         }
-        at += 1;
     }
     known
 }

@@ -8,6 +8,7 @@ use crate::backing::put_backing;
 use crate::elements::{Rect, Way, put_circle, put_line, put_rect, put_text};
 use crate::moments::Answer;
 use crate::places::{View, column, lane, reply_y};
+use crate::texts::{Drawable, put_each};
 use std::alloc::AllocError;
 use trace_text::pieces::{Piece, put_all, put_piece};
 use vm_base::{Back, CoreId, Prot, Reply, Request};
@@ -133,8 +134,8 @@ fn put_outcome(out: &mut Vec<u8>, begin: u64, answer: Option<Answer>) -> Result<
     }
 }
 
-// The class of a reply: `fault` where nothing was done.
-fn reply_class(reply: Reply) -> &'static str
+/// The class of a reply: `fault` where nothing was done.
+pub fn reply_class(reply: Reply) -> &'static str
     ensures { result.now ≡ reply_class reply }
 {
     match reply {
@@ -166,21 +167,22 @@ fn put_label(
     }
 }
 
-// Appends a part.
-fn put_part(out: &mut Vec<u8>, part: &Part) -> Result<(), AllocError>
-    ensures { OnOk result (out.new.items ≡ out.old.items ++ part_text part.now) }
-{
-    match part {
-        Part::Plain(piece) => put_piece(out, piece),
-        Part::Rect(class, place) => put_rect(out, class, *place),
-        Part::Line(class, way) => put_line(out, class, *way),
-        Part::Circle(class, x, y) => put_circle(out, class, *x, *y),
-        Part::Text(class, x, y) => put_text(out, class, *x, *y),
-        Part::Arguments(request) => put_arguments(out, *request),
-        Part::Outcome(begin, answer) => put_outcome(out, *begin, *answer),
-        Part::Span(begin, end) => put_span(out, *begin, *end),
-        Part::Backing(text, back) => put_backing(out, text, *back),
-        Part::Label(view, core, answer) => put_label(out, *view, *core, *answer),
+impl<'a> Drawable<()> for Part<'a> {
+    ghost text = { λ board. part_text };
+
+    fn put(&self, out: &mut Vec<u8>, _board: &()) -> Result<(), AllocError> {
+        match self {
+            Part::Plain(piece) => put_piece(out, piece),
+            Part::Rect(class, place) => put_rect(out, class, *place),
+            Part::Line(class, way) => put_line(out, class, *way),
+            Part::Circle(class, x, y) => put_circle(out, class, *x, *y),
+            Part::Text(class, x, y) => put_text(out, class, *x, *y),
+            Part::Arguments(request) => put_arguments(out, *request),
+            Part::Outcome(begin, answer) => put_outcome(out, *begin, *answer),
+            Part::Span(begin, end) => put_span(out, *begin, *end),
+            Part::Backing(text, back) => put_backing(out, text, *back),
+            Part::Label(view, core, answer) => put_label(out, *view, *core, *answer),
+        }
     }
 }
 
@@ -188,10 +190,5 @@ fn put_part(out: &mut Vec<u8>, part: &Part) -> Result<(), AllocError>
 pub fn put_parts(out: &mut Vec<u8>, parts: &[Part]) -> Result<(), AllocError>
     ensures { OnOk result (out.new.items ≡ out.old.items ++ flat_map part_text parts.now) }
 {
-    let mut at = 0;
-    'parts: while at < parts.len() {
-        put_part(out, &parts[at])?;
-        at += 1;
-    }
-    Ok(())
+    put_each(out, &(), parts)
 }

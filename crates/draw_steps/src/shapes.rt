@@ -95,12 +95,7 @@ fn bar_of(moments: &[Recorded], recorded: &Recorded) -> Option<Bar>
             request: *request,
             answer: answer_of(moments, *call),
         }),
-        Moment::Answers { .. }
-        | Moment::Told { .. }
-        | Moment::Took { .. }
-        | Moment::Did { .. }
-        | Moment::Mapped { .. }
-        | Moment::Unmapped { .. } => None,
+        _ => None,
     }
 }
 
@@ -109,12 +104,10 @@ pub fn bars_of(alloc: Global, moments: &[Recorded]) -> Result<Vec<Bar>, AllocErr
     ensures { IfOk result (λ bars. bars.items ≡ bars_of moments.now moments.now) }
 {
     let mut bars: Vec<Bar> = Vec::new(alloc);
-    let mut at = 0;
-    'moments: while at < moments.len() {
-        if let Some(bar) = bar_of(moments, &moments[at]) {
+    'moments: for recorded in moments {
+        if let Some(bar) = bar_of(moments, recorded) {
             bars.push(bar)?;
         }
-        at += 1;
     }
     Ok(bars)
 }
@@ -150,12 +143,7 @@ fn arrow_of(moments: &[Recorded], recorded: &Recorded) -> Option<Arrow>
             let told = latest_told(moments, *sender, *core, recorded.step)?;
             Some(arrow_at(*core, *sender, *pass, told, recorded.step))
         }
-        Moment::Begins { .. }
-        | Moment::Answers { .. }
-        | Moment::Told { .. }
-        | Moment::Did { .. }
-        | Moment::Mapped { .. }
-        | Moment::Unmapped { .. } => None,
+        _ => None,
     }
 }
 
@@ -164,12 +152,10 @@ pub fn arrows_of(alloc: Global, moments: &[Recorded]) -> Result<Vec<Arrow>, Allo
     ensures { IfOk result (λ arrows. arrows.items ≡ arrows_of moments.now moments.now) }
 {
     let mut arrows: Vec<Arrow> = Vec::new(alloc);
-    let mut at = 0;
-    'moments: while at < moments.len() {
-        if let Some(arrow) = arrow_of(moments, &moments[at]) {
+    'moments: for recorded in moments {
+        if let Some(arrow) = arrow_of(moments, recorded) {
             arrows.push(arrow)?;
         }
-        at += 1;
     }
     Ok(arrows)
 }
@@ -189,11 +175,7 @@ fn mark_of(recorded: &Recorded) -> Option<Mark>
             step: recorded.step,
             sign: Sign::Deed(*deed),
         }),
-        Moment::Begins { .. }
-        | Moment::Answers { .. }
-        | Moment::Told { .. }
-        | Moment::Mapped { .. }
-        | Moment::Unmapped { .. } => None,
+        _ => None,
     }
 }
 
@@ -202,12 +184,10 @@ pub fn marks_of(alloc: Global, moments: &[Recorded]) -> Result<Vec<Mark>, AllocE
     ensures { IfOk result (λ marks. marks.items ≡ marks_of moments.now) }
 {
     let mut marks: Vec<Mark> = Vec::new(alloc);
-    let mut at = 0;
-    'moments: while at < moments.len() {
-        if let Some(mark) = mark_of(&moments[at]) {
+    'moments: for recorded in moments {
+        if let Some(mark) = mark_of(recorded) {
             marks.push(mark)?;
         }
-        at += 1;
     }
     Ok(marks)
 }
