@@ -1,12 +1,11 @@
 -- Bits of which the texts of a picture are made
-use Rattle.std.specs.Prelude.{ℕ, zero, suc, ◌+◌, List, [], ◌∷◌, ◌++◌, Option, None, Some, codes, decimal, if◌then◌else◌, nat_lt}
-use Rattle.std.specs.List.{concat, flat_map}
+use Rattle.std.specs.Prelude.{ℕ, ◌+◌, List, [], ◌∷◌, ◌++◌, Option, None, Some, codes, decimal, if◌then◌else◌, nat_lt}
+use Rattle.std.specs.List.{concat}
 use Rattle.vm_base.specs.Cores.{members}
 use Rattle.trace_text.specs.Printing.{text_of}
-use Rattle.draw_steps.specs.Backing.{backing_words}
-use Rattle.draw_steps.specs.Elements.{line_text, rect_text, text_front}
 use Rattle.trace_text.specs.Pieces.{piece_text}
-use Rattle.draw_steps.specs.Parts.{arguments_of, reply_class}
+use Rattle.draw_steps.specs.Parts.{part_text, reply_class}
+use Rattle.draw_steps.specs.Texts.{first_texts}
 use Rattle.draw_steps.specs.declared.moments.Answer.{Answer}
 use Rattle.draw_lines.specs.Cores.{count_members}
 use Rattle.draw_lines.specs.Places.{words_y}
@@ -71,15 +70,10 @@ after_words sheet core (Some answer) = end_in sheet.form sheet core answer
 abbrev pub listed : ℕ → ℕ → List ℕ
 listed cores core = if members cores core then concat (codes " " ∷ decimal core ∷ []) else []
 
--- those below a number
-unfoldable pub cores_below : ℕ → ℕ → List ℕ
-cores_below cores zero = []
-cores_below cores (suc n) = cores_below cores n ++ listed cores n
-
 -- which they are, or how many, if there are more than three
 abbrev pub few_text : ℕ → List ℕ
 few_text cores = if nat_lt 3 (count_members (members cores) 64)
-    then concat (codes " " ∷ decimal (count_members (members cores) 64) ∷ codes " cores" ∷ []) else cores_below cores 64
+    then concat (codes " " ∷ decimal (count_members (members cores) 64) ∷ codes " cores" ∷ []) else first_texts (listed cores) 64
 
 abbrev pub acks_text : ℕ → List ℕ
 acks_text cores = codes "waits, acks:" ++ few_text cores
@@ -92,11 +86,7 @@ cause_text (Acks cores) = acks_text cores
 
 abbrev pub bit_text : Bit → List ℕ
 bit_text (In.Plain piece) = piece_text piece
-bit_text (In.Rect class place) = rect_text class.now place
-bit_text (In.Line class way) = line_text class.now way
-bit_text (In.Text class x y) = text_front class.now x y
-bit_text (In.Arguments request) = arguments_of request
-bit_text (In.Backing text back) = backing_words text.now back
+bit_text (In.Of part) = part_text part
 bit_text (In.Spot sheet core number) = spot_text sheet.now core number
 bit_text (In.Answer answer) = answer_text answer
 bit_text (In.End sheet core answer) = after_words sheet.now core answer

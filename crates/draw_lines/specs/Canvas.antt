@@ -1,14 +1,15 @@
 -- A whole picture
-use Rattle.std.specs.Prelude.{ℕ, zero, suc, ◌+◌, ◌-◌, ◌*◌, ◌/◌, List, [], ◌∷◌, ◌++◌, if◌then◌else◌, codes, decimal, length, min, max}
+use Rattle.std.specs.Prelude.{ℕ, ◌+◌, ◌-◌, ◌*◌, ◌/◌, List, [], ◌∷◌, ◌++◌, if◌then◌else◌, codes, decimal, length, min, max}
 use Rattle.std.specs.Prelude.{slice_index_or}
 use Rattle.std.specs.List.{concat, flat_map}
 use Rattle.vm_base.specs.Cores.{members}
 use Rattle.vm_base.specs.declared.page.PageRange.{PageRange}
 use Rattle.trace_text.specs.Lists.{start_of}
-use Rattle.draw_steps.specs.Canvas.{head_words}
+use Rattle.draw_steps.specs.Canvas.{head_text, size_text}
 use Rattle.draw_steps.specs.Elements.{line_text, text_front}
 use Rattle.draw_steps.specs.Rows.{all_stretches, edges_of, row_at, rows_of}
 use Rattle.draw_steps.specs.Shapes.{arrows_of, bars_of}
+use Rattle.draw_steps.specs.Texts.{first_texts}
 use Rattle.draw_steps.specs.declared.elements.Way.{Way}
 use Rattle.draw_steps.specs.declared.moments.Recorded.{Recorded}
 use Rattle.draw_steps.specs.declared.shapes.Arrow.{Arrow}
@@ -33,10 +34,11 @@ width sheet = max (160 + across sheet sheet.columns) 740
 abbrev pub height : Sheet → ℕ → ℕ
 height sheet rows = rows_y sheet + 20 * min rows 256 + 56
 
+-- how words stand, as an attribute
 abbrev pub form_class : Layout → List ℕ
-form_class Wide = codes "Wide"
-form_class Narrow = codes "Narrow"
-form_class Flat = codes "Flat"
+form_class Wide = codes " class=\"Wide\""
+form_class Narrow = codes " class=\"Narrow\""
+form_class Flat = codes " class=\"Flat\""
 
 -- the line of a column; 0 where there is none
 abbrev pub line_at : List ℕ → ℕ → ℕ
@@ -47,13 +49,9 @@ unfoldable pub title_text : Sheet → List ℕ → List ℕ
 title_text sheet heads = concat (codes "<title>Lines " ∷ decimal (line_at heads 0) ∷ codes " to " ∷ decimal (line_at heads (length heads - 1))
     ∷ codes " of a trace, in which " ∷ decimal (lanes_of sheet.cores) ∷ codes " cores act</title>\n" ∷ [])
 
-abbrev pub size_text : Layout → ℕ → ℕ → List ℕ
-size_text form w h = concat (codes "<svg xmlns=\"http://www.w3.org/2000/svg\" class=\"" ∷ form_class form ∷ codes "\" width=\"" ∷ decimal w
-    ∷ codes "\" height=\"" ∷ decimal h ∷ codes "\" viewBox=\"0 0 " ∷ decimal w ∷ codes " " ∷ decimal h ∷ codes "\">\n" ∷ [])
-
 -- the beginning of the text
 unfoldable pub front_text : Sheet → List ℕ → ℕ → List ℕ
-front_text sheet heads high = size_text sheet.form (width sheet) high ++ title_text sheet heads ++ style_text
+front_text sheet heads high = size_text (form_class sheet.form) (width sheet) high ++ title_text sheet heads ++ style_text
 
 -- a column's line, and the number of its trace's line
 abbrev pub column_x : Sheet → ℕ → ℕ
@@ -62,16 +60,9 @@ column_x sheet at = 150 + across sheet at
 abbrev pub column_way : Sheet → ℕ → ℕ → Way
 column_way sheet bottom at = record { x1 = column_x sheet at; y1 = 36; x2 = column_x sheet at; y2 = bottom }
 
-unfoldable pub column_text : Sheet → ℕ → ℕ → ℕ → List ℕ
-column_text sheet bottom at line = concat (line_text (codes "grid") (column_way sheet bottom at)
-    ∷ text_front (codes "step") (column_x sheet at + wide sheet / 2) 30 ∷ decimal line ∷ codes "</text>\n" ∷ [])
-
-abbrev pub first_columns : Sheet → ℕ → List ℕ → ℕ → List ℕ
-first_columns sheet bottom heads zero = []
-first_columns sheet bottom heads (suc n) = first_columns sheet bottom heads n ++ column_text sheet bottom n (line_at heads n)
-
-abbrev pub columns_text : Sheet → ℕ → List ℕ → List ℕ
-columns_text sheet bottom heads = first_columns sheet bottom heads (min (length heads) 2000)
+unfoldable pub column_text : Sheet → List ℕ → ℕ → ℕ → List ℕ
+column_text sheet heads bottom at = concat (line_text (codes "grid") (column_way sheet bottom at)
+    ∷ text_front (codes "step") (column_x sheet at + wide sheet / 2) 30 ∷ decimal (line_at heads at) ∷ codes "</text>\n" ∷ [])
 
 -- a core's lane
 abbrev pub lane_way : Sheet → ℕ → Way
@@ -85,34 +76,19 @@ lane_text sheet core = concat (line_text (codes "lane") (lane_way sheet core) �
 abbrev pub lane_of : Sheet → ℕ → List ℕ
 lane_of sheet core = if members sheet.cores core then lane_text sheet core else []
 
--- those of the cores below a number
-unfoldable pub lanes_text : Sheet → ℕ → List ℕ
-lanes_text sheet zero = []
-lanes_text sheet (suc n) = lanes_text sheet n ++ lane_of sheet n
-
 -- the addresses of a row
-unfoldable pub row_text : Sheet → ℕ → PageRange → List ℕ
-row_text sheet row pages = concat (text_front (codes "page") 8 (row_y sheet row + 14) ∷ start_of pages.first ∷ codes "-" ∷ start_of pages.end
-    ∷ codes "</text>\n" ∷ [])
-
--- the first n rows
-abbrev pub first_rows : Sheet → List PageRange → ℕ → List ℕ
-first_rows sheet rows zero = []
-first_rows sheet rows (suc n) = first_rows sheet rows n ++ row_text sheet n (row_at rows n)
-
-abbrev pub rows_text : Sheet → List PageRange → List ℕ
-rows_text sheet rows = first_rows sheet rows (min (length rows) 256)
-
-unfoldable pub head_text : Sheet → ℕ → List ℕ
-head_text sheet rows = text_front (codes "head") 8 (rows_y sheet - 8) ++ head_words rows
+unfoldable pub row_text : Sheet → List PageRange → ℕ → List ℕ
+row_text sheet rows at = concat (text_front (codes "page") 8 (row_y sheet at + 14) ∷ start_of (row_at rows at).first ∷ codes "-"
+    ∷ start_of (row_at rows at).end ∷ codes "</text>\n" ∷ [])
 
 unfoldable pub legend_text : ℕ → List ℕ
 legend_text bottom = concat (codes "<g transform=\"translate(0 " ∷ decimal (bottom + 12) ∷ codes ")\">\n" ∷ legend_words ∷ codes "</g>\n" ∷ [])
 
--- what shapes are drawn on
+-- what shapes are drawn on, with the first 2,000 columns, and the addresses of the first 256 rows
 unfoldable pub canvas_text : Sheet → List ℕ → List PageRange → ℕ → ℕ → List ℕ
-canvas_text sheet heads rows high bottom = front_text sheet heads high ++ columns_text sheet bottom heads ++ lanes_text sheet 64
-    ++ head_text sheet (length rows) ++ rows_text sheet rows ++ legend_text bottom
+canvas_text sheet heads rows high bottom = front_text sheet heads high ++ first_texts (column_text sheet heads bottom) (min (length heads) 2000)
+    ++ first_texts (lane_of sheet) 64 ++ head_text (rows_y sheet - 8) (length rows)
+    ++ first_texts (row_text sheet rows) (min (length rows) 256) ++ legend_text bottom
 
 -- pages first, dangers, arrows, then calls over them, marks and waits
 unfoldable pub drawn : Sheet → List ℕ → List Recorded → List Waited → List Stretch → List Danger → List Arrow → List Bar → List ℕ

@@ -1,37 +1,27 @@
 //! Bits of which the texts of a picture are made: parts of any picture, and what depends on how words stand.
 ghost use Rattle.std.specs.Prelude.{◌≡◌, ◌++◌, OnOk};
 ghost use Rattle.std.specs.List.{flat_map};
-ghost use Rattle.draw_lines.specs.Bits.{acks_text, after_words, answer_text, bit_text, cause_text, cores_below, few_text, flat_answer, listed};
+ghost use Rattle.draw_lines.specs.Bits.{acks_text, after_words, answer_text, bit_text, cause_text, few_text, flat_answer, listed};
 ghost use Rattle.draw_lines.specs.Bits.{own_answer, spot_text, third_line, turn_words};
-ghost use Rattle.draw_steps.specs.Parts.{arguments_of, reply_class};
 
 use crate::cores::count_members;
 use crate::places::words_y;
 use crate::sheet::{Layout, Sheet, column};
 use crate::waits::Cause;
-use draw_steps::backing::put_backing;
-use draw_steps::elements::{Rect, Way, put_line, put_rect, put_text};
 use draw_steps::moments::Answer;
-use draw_steps::parts::{Part, put_parts};
+use draw_steps::parts::{Part, reply_class};
+use draw_steps::texts::{Drawable, Series, put_each, put_first};
 use std::alloc::AllocError;
 use trace_text::pieces::{Piece, put, put_all, put_piece};
-use vm_base::{Back, CoreId, CoreSet, Reply, Request};
+use vm_base::{CoreId, CoreSet};
 
 /// A bit of what a shape is written as: of any picture, or by how words stand.
 #[derive(Clone, Copy)]
 pub enum Bit<'a> {
     /// A piece.
     Plain(Piece<'a>),
-    /// A rectangle of this class.
-    Rect(&'a str, Rect),
-    /// A line of this class.
-    Line(&'a str, Way),
-    /// The beginning of a text of this class, and where it stands.
-    Text(&'a str, u64, u64),
-    /// What a request asks for, after its name.
-    Arguments(Request),
-    /// What backs pages, where that is known, with a file's name if the text of the trace has one.
-    Backing(&'a [u8], Option<Back>),
+    /// A part of any picture.
+    Of(Part<'a>),
     /// The place at which the words of a core's bar begin in this column.
     Spot(&'a Sheet, CoreId, u64),
     /// The reply behind an equals sign, if there is one.
@@ -77,18 +67,6 @@ fn put_answer(out: &mut Vec<u8>, answer: Option<Answer>) -> Result<(), AllocErro
     match answer {
         Some(answer) => put_all(out, &[Piece::Words(" = "), Piece::Reply(answer.reply)]),
         None => Ok(()),
-    }
-}
-
-// The class of a reply: `fault` where nothing was done.
-fn reply_class(reply: Reply) -> &'static str
-    ensures { result.now ≡ reply_class reply }
-{
-    match reply {
-        Reply::Mapped(_) | Reply::Done | Reply::Byte(_) => "reply",
-        Reply::Refused(_) | Reply::Segv(_) | Reply::Bus | Reply::NoFrame | Reply::NoMemory => {
-            "fault"
-        }
     }
 }
 
@@ -166,17 +144,20 @@ fn put_listed(out: &mut Vec<u8>, cores: CoreSet, core: CoreId) -> Result<(), All
     }
 }
 
-// Appends the numbers of the cores, each behind a space.
-fn put_list(out: &mut Vec<u8>, cores: CoreSet) -> Result<(), AllocError>
-    ensures { OnOk result (out.new.items ≡ out.old.items ++ cores_below cores 64) }
-{
-    let mut index = 0u8;
-    'cores: while index < 64 {
-        let core = CoreId::new(index);
-        put_listed(out, cores, core)?;
-        index += 1;
+// The cores of a set, each behind a space.
+#[derive(Clone, Copy)]
+struct Listed {
+    cores: CoreSet,
+}
+
+impl Series for Listed {
+    ghost count = { λ _. 64 };
+
+    ghost text = { λ set. listed set.cores };
+
+    fn put_at(&self, out: &mut Vec<u8>, at: u16) -> Result<(), AllocError> {
+        put_listed(out, self.cores, CoreId::new(at as u8))
     }
-    Ok(())
 }
 
 // Appends which cores have to acknowledge, or how many, if there are more than three.
@@ -194,7 +175,7 @@ fn put_few(out: &mut Vec<u8>, cores: CoreSet) -> Result<(), AllocError>
             ],
         )
     } else {
-        put_list(out, cores)
+        put_first(out, &Listed { cores }, 64)
     }
 }
 
@@ -220,28 +201,18 @@ fn put_cause(out: &mut Vec<u8>, cause: Cause) -> Result<(), AllocError>
     }
 }
 
-// Appends what a request asks for.
-fn put_arguments(out: &mut Vec<u8>, request: Request) -> Result<(), AllocError>
-    ensures { OnOk result (out.new.items ≡ out.old.items ++ arguments_of request) }
-{
-    put_parts(out, &[Part::Arguments(request)])
-}
+impl<'a> Drawable<()> for Bit<'a> {
+    ghost text = { λ board. bit_text };
 
-// Appends a bit.
-fn put_bit(out: &mut Vec<u8>, bit: &Bit) -> Result<(), AllocError>
-    ensures { OnOk result (out.new.items ≡ out.old.items ++ bit_text bit.now) }
-{
-    match bit {
-        Bit::Plain(piece) => put_piece(out, piece),
-        Bit::Rect(class, place) => put_rect(out, class, *place),
-        Bit::Line(class, way) => put_line(out, class, *way),
-        Bit::Text(class, x, y) => put_text(out, class, *x, *y),
-        Bit::Arguments(request) => put_arguments(out, *request),
-        Bit::Backing(text, back) => put_backing(out, text, *back),
-        Bit::Spot(sheet, core, number) => put_spot(out, *sheet, *core, *number),
-        Bit::Answer(answer) => put_answer(out, *answer),
-        Bit::End(sheet, core, answer) => put_end(out, *sheet, *core, *answer),
-        Bit::For(cause) => put_cause(out, *cause),
+    fn put(&self, out: &mut Vec<u8>, board: &()) -> Result<(), AllocError> {
+        match self {
+            Bit::Plain(piece) => put_piece(out, piece),
+            Bit::Of(part) => part.put(out, board),
+            Bit::Spot(sheet, core, number) => put_spot(out, *sheet, *core, *number),
+            Bit::Answer(answer) => put_answer(out, *answer),
+            Bit::End(sheet, core, answer) => put_end(out, *sheet, *core, *answer),
+            Bit::For(cause) => put_cause(out, *cause),
+        }
     }
 }
 
@@ -249,10 +220,5 @@ fn put_bit(out: &mut Vec<u8>, bit: &Bit) -> Result<(), AllocError>
 pub fn put_bits(out: &mut Vec<u8>, bits: &[Bit]) -> Result<(), AllocError>
     ensures { OnOk result (out.new.items ≡ out.old.items ++ flat_map bit_text bits.now) }
 {
-    let mut at = 0;
-    'bits: while at < bits.len() {
-        put_bit(out, &bits[at])?;
-        at += 1;
-    }
-    Ok(())
+    put_each(out, &(), bits)
 }

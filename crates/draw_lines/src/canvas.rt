@@ -1,22 +1,21 @@
 //! A whole picture: its canvas with columns, lanes and rows, and all shapes on it.
-ghost use Rattle.std.specs.Prelude.{◌≡◌, ◌++◌, ◌≤◌, IfOk, OnOk};
-ghost use Rattle.std.specs.List.{flat_map};
-ghost use Rattle.draw_steps.specs.Canvas.{head_words};
-ghost use Rattle.draw_lines.specs.Canvas.{canvas_text, column_text, columns_text, drawn, form_class, front_text, head_text, height, lane_of};
-ghost use Rattle.draw_lines.specs.Canvas.{lane_text, lanes_text, legend_text, line_at, picture_text, row_text, rows_text, title_text, width};
-ghost use Rattle.draw_lines.specs.Drawing.{arrow_text, bar_text, danger_text, mark_text, stretch_text, wait_text};
+ghost use Rattle.std.specs.Prelude.{◌≡◌, ◌++◌, ◌≤◌, IfOk, OnOk, length};
+ghost use Rattle.draw_lines.specs.Canvas.{canvas_text, column_text, drawn, form_class, front_text, height, lane_of, lane_text};
+ghost use Rattle.draw_lines.specs.Canvas.{legend_text, line_at, picture_text, row_text, title_text, width};
 
 use crate::cores::acting;
 use crate::dangers::{Danger, dangers_of};
-use crate::drawing::{put_arrow, put_bar, put_danger, put_mark, put_stretch, put_wait};
+use crate::drawing::NamedSheet;
 use crate::sheet::{Layout, Sheet, across, lane, lanes_of, pitch, row_y, rows_y, sheet_of, wide};
 use crate::style::{LEGEND, STYLE};
 use crate::waits::Waited;
-use draw_steps::elements::{Way, put_text};
+use draw_steps::canvas::{put_head, put_size};
+use draw_steps::elements::Way;
 use draw_steps::moments::Recorded;
 use draw_steps::parts::{Part, put_parts};
-use draw_steps::rows::{edges_of, rows_of, stretches_of};
+use draw_steps::rows::{edges_of, row_at, rows_of, stretches_of};
 use draw_steps::shapes::{Arrow, Bar, Stretch, arrows_of, bars_of};
+use draw_steps::texts::{Series, put_each, put_first};
 use std::alloc::{AllocError, Global};
 use trace_text::pieces::{Piece, put, put_all};
 use vm_base::{CoreId, PageRange};
@@ -49,14 +48,14 @@ fn height(sheet: &Sheet, rows: usize) -> u64
     rows_y(sheet) + 20 * rows.min(256) as u64 + 56
 }
 
-// The class of how words stand.
+// How words stand, as an attribute.
 fn form_class(form: Layout) -> &'static str
     ensures { result.now ≡ form_class form }
 {
     match form {
-        Layout::Wide => "Wide",
-        Layout::Narrow => "Narrow",
-        Layout::Flat => "Flat",
+        Layout::Wide => " class=\"Wide\"",
+        Layout::Narrow => " class=\"Narrow\"",
+        Layout::Flat => " class=\"Flat\"",
     }
 }
 
@@ -93,73 +92,44 @@ fn put_title(out: &mut Vec<u8>, sheet: &Sheet, heads: &[u64]) -> Result<(), Allo
 fn put_front(out: &mut Vec<u8>, sheet: &Sheet, heads: &[u64], high: u64) -> Result<(), AllocError>
     ensures { OnOk result (out.new.items ≡ out.old.items ++ front_text sheet.now heads.now high) }
 {
-    let wide = width(sheet);
-    put_all(
-        out,
-        &[
-            Piece::Words("<svg xmlns=\"http://www.w3.org/2000/svg\" class=\""),
-            Piece::Words(form_class(sheet.form)),
-            Piece::Words("\" width=\""),
-            Piece::Number(wide),
-            Piece::Words("\" height=\""),
-            Piece::Number(high),
-            Piece::Words("\" viewBox=\"0 0 "),
-            Piece::Number(wide),
-            Piece::Words(" "),
-            Piece::Number(high),
-            Piece::Words("\">\n"),
-        ],
-    )?;
+    put_size(out, form_class(sheet.form), width(sheet), high)?;
     put_title(out, sheet, heads)?;
     put(out, STYLE)?;
     Ok(())
 }
 
-// Appends the line at the left of a column, and the number of its trace's line.
-fn put_column(
-    out: &mut Vec<u8>,
-    sheet: &Sheet,
+// The columns of these lines, down to here: each has a line at its left, and the number of its trace's line.
+#[derive(Clone, Copy)]
+struct Columns<'a> {
+    sheet: &'a Sheet,
+    heads: &'a [u64],
     bottom: u64,
-    at: usize,
-    line: u64,
-) -> Result<(), AllocError>
-    requires { at ≤ 65535 }
-    ensures { OnOk result (out.new.items ≡ out.old.items ++ column_text sheet.now bottom at line) }
-{
-    let x = 150 + across(sheet, at as u64);
-    let way = Way {
-        x1: x,
-        y1: 36,
-        x2: x,
-        y2: bottom,
-    };
-    put_parts(
-        out,
-        &[
-            Part::Line("grid", way),
-            Part::Text("step", x + wide(sheet) / 2, 30),
-            Part::Plain(Piece::Number(line)),
-            Part::Plain(Piece::Words("</text>\n")),
-        ],
-    )
 }
 
-// Appends the first 2,000 columns.
-fn put_columns(
-    out: &mut Vec<u8>,
-    sheet: &Sheet,
-    heads: &[u64],
-    bottom: u64,
-) -> Result<(), AllocError>
-    ensures { OnOk result (out.new.items ≡ out.old.items ++ columns_text sheet.now bottom heads.now) }
-{
-    let most = heads.len().min(2000);
-    let mut at = 0;
-    'columns: while at < most {
-        put_column(out, sheet, bottom, at, heads[at])?;
-        at += 1;
+impl<'a> Series for Columns<'a> {
+    ghost count = { λ columns. length columns.heads.now };
+
+    ghost text = { λ columns. column_text columns.sheet.now columns.heads.now columns.bottom };
+
+    fn put_at(&self, out: &mut Vec<u8>, at: u16) -> Result<(), AllocError> {
+        let line = line_at(self.heads, at as usize);
+        let x = 150 + across(self.sheet, at as u64);
+        let way = Way {
+            x1: x,
+            y1: 36,
+            x2: x,
+            y2: self.bottom,
+        };
+        put_parts(
+            out,
+            &[
+                Part::Line("grid", way),
+                Part::Text("step", x + wide(self.sheet) / 2, 30),
+                Part::Plain(Piece::Number(line)),
+                Part::Plain(Piece::Words("</text>\n")),
+            ],
+        )
     }
-    Ok(())
 }
 
 // Appends a core's lane.
@@ -197,76 +167,48 @@ fn put_lane_of(out: &mut Vec<u8>, sheet: &Sheet, core: CoreId) -> Result<(), All
     }
 }
 
-// Appends the lanes of all cores that have one.
-fn put_lanes(out: &mut Vec<u8>, sheet: &Sheet) -> Result<(), AllocError>
-    ensures { OnOk result (out.new.items ≡ out.old.items ++ lanes_text sheet.now 64) }
-{
-    let mut index = 0u8;
-    'lanes: while index < 64 {
-        let core = CoreId::new(index);
-        put_lane_of(out, sheet, core)?;
-        index += 1;
+// The lanes of all cores, where they have one.
+#[derive(Clone, Copy)]
+struct Lanes<'a> {
+    sheet: &'a Sheet,
+}
+
+impl<'a> Series for Lanes<'a> {
+    ghost count = { λ _. 64 };
+
+    ghost text = { λ lanes. lane_of lanes.sheet.now };
+
+    fn put_at(&self, out: &mut Vec<u8>, at: u16) -> Result<(), AllocError> {
+        put_lane_of(out, self.sheet, CoreId::new(at as u8))
     }
-    Ok(())
 }
 
-// Appends the addresses of a row.
-fn put_row(out: &mut Vec<u8>, sheet: &Sheet, row: u16, pages: PageRange) -> Result<(), AllocError>
-    ensures { OnOk result (out.new.items ≡ out.old.items ++ row_text sheet.now row pages) }
-{
-    let y = row_y(sheet, row) + 14;
-    put_parts(
-        out,
-        &[
-            Part::Text("page", 8, y),
-            Part::Plain(Piece::Start(pages.first)),
-            Part::Plain(Piece::Words("-")),
-            Part::Plain(Piece::Start(pages.end)),
-            Part::Plain(Piece::Words("</text>\n")),
-        ],
-    )
+// The addresses of the rows of a sheet.
+#[derive(Clone, Copy)]
+struct Rows<'a> {
+    sheet: &'a Sheet,
+    rows: &'a [PageRange],
 }
 
-// Appends the addresses of the first 256 rows.
-fn put_rows(out: &mut Vec<u8>, sheet: &Sheet, rows: &[PageRange]) -> Result<(), AllocError>
-    ensures { OnOk result (out.new.items ≡ out.old.items ++ rows_text sheet.now rows.now) }
-{
-    let most = rows.len().min(256);
-    let mut at = 0;
-    'rows: while at < most {
-        put_row(out, sheet, at as u16, rows[at])?;
-        at += 1;
-    }
-    Ok(())
-}
+impl<'a> Series for Rows<'a> {
+    ghost count = { λ rows. length rows.rows.now };
 
-// Appends what the rows are: where not all are shown, how many there are.
-fn put_head_words(out: &mut Vec<u8>, rows: usize) -> Result<(), AllocError>
-    ensures { OnOk result (out.new.items ≡ out.old.items ++ head_words rows) }
-{
-    if rows > 256 {
-        let count = rows as u64;
-        put_all(
+    ghost text = { λ rows. row_text rows.sheet.now rows.rows.now };
+
+    fn put_at(&self, out: &mut Vec<u8>, at: u16) -> Result<(), AllocError> {
+        let y = row_y(self.sheet, at) + 14;
+        let pages = row_at(self.rows, at as usize);
+        put_parts(
             out,
             &[
-                Piece::Words("pages: the first 256 rows of "),
-                Piece::Number(count),
-                Piece::Words("</text>\n"),
+                Part::Text("page", 8, y),
+                Part::Plain(Piece::Start(pages.first)),
+                Part::Plain(Piece::Words("-")),
+                Part::Plain(Piece::Start(pages.end)),
+                Part::Plain(Piece::Words("</text>\n")),
             ],
         )
-    } else {
-        put(out, "pages</text>\n")
     }
-}
-
-// Appends what stands above the rows.
-fn put_head(out: &mut Vec<u8>, sheet: &Sheet, rows: usize) -> Result<(), AllocError>
-    ensures { OnOk result (out.new.items ≡ out.old.items ++ head_text sheet.now rows) }
-{
-    let y = rows_y(sheet).saturating_sub(8);
-    put_text(out, "head", 8, y)?;
-    put_head_words(out, rows)?;
-    Ok(())
 }
 
 // Appends the legend, below all.
@@ -286,83 +228,6 @@ fn put_legend(out: &mut Vec<u8>, bottom: u64) -> Result<(), AllocError>
     )
 }
 
-// Appends all spans of danger.
-fn put_dangers(out: &mut Vec<u8>, sheet: &Sheet, dangers: &[Danger]) -> Result<(), AllocError>
-    ensures { OnOk result (out.new.items ≡ out.old.items ++ flat_map (danger_text sheet.now) dangers.now) }
-{
-    let mut at = 0;
-    'dangers: while at < dangers.len() {
-        put_danger(out, sheet, &dangers[at])?;
-        at += 1;
-    }
-    Ok(())
-}
-
-// Appends all bars.
-fn put_bars(out: &mut Vec<u8>, sheet: &Sheet, bars: &[Bar]) -> Result<(), AllocError>
-    ensures { OnOk result (out.new.items ≡ out.old.items ++ flat_map (bar_text sheet.now) bars.now) }
-{
-    let mut at = 0;
-    'bars: while at < bars.len() {
-        put_bar(out, sheet, &bars[at])?;
-        at += 1;
-    }
-    Ok(())
-}
-
-// Appends all arrows.
-fn put_arrows(out: &mut Vec<u8>, sheet: &Sheet, arrows: &[Arrow]) -> Result<(), AllocError>
-    ensures { OnOk result (out.new.items ≡ out.old.items ++ flat_map (arrow_text sheet.now) arrows.now) }
-{
-    let mut at = 0;
-    'arrows: while at < arrows.len() {
-        put_arrow(out, sheet, &arrows[at])?;
-        at += 1;
-    }
-    Ok(())
-}
-
-// Appends all marks.
-fn put_marks(out: &mut Vec<u8>, sheet: &Sheet, moments: &[Recorded]) -> Result<(), AllocError>
-    ensures { OnOk result (out.new.items ≡ out.old.items ++ flat_map (mark_text sheet.now) moments.now) }
-{
-    let mut at = 0;
-    'marks: while at < moments.len() {
-        put_mark(out, sheet, &moments[at])?;
-        at += 1;
-    }
-    Ok(())
-}
-
-// Appends all waits.
-fn put_waits(out: &mut Vec<u8>, sheet: &Sheet, waits: &[Waited]) -> Result<(), AllocError>
-    ensures { OnOk result (out.new.items ≡ out.old.items ++ flat_map (wait_text sheet.now) waits.now) }
-{
-    let mut at = 0;
-    'waits: while at < waits.len() {
-        put_wait(out, sheet, &waits[at])?;
-        at += 1;
-    }
-    Ok(())
-}
-
-// Appends all stretches.
-fn put_stretches(
-    out: &mut Vec<u8>,
-    sheet: &Sheet,
-    text: &[u8],
-    stretches: &[Stretch],
-) -> Result<(), AllocError>
-    ensures { OnOk result (out.new.items ≡ out.old.items ++ flat_map (stretch_text sheet.now text.now) stretches.now) }
-{
-    let mut at = 0;
-    'stretches: while at < stretches.len() {
-        put_stretch(out, sheet, text, stretches[at])?;
-        at += 1;
-    }
-    Ok(())
-}
-
 // Appends the canvas: columns, lanes, rows and legend.
 fn put_canvas(
     out: &mut Vec<u8>,
@@ -376,10 +241,15 @@ fn put_canvas(
     ensures { OnOk result (out.new.items ≡ out.old.items ++ canvas_text sheet.now heads.now rows.now high bottom) }
 {
     put_front(out, sheet, heads, high)?;
-    put_columns(out, sheet, heads, bottom)?;
-    put_lanes(out, sheet)?;
-    put_head(out, sheet, rows.len())?;
-    put_rows(out, sheet, rows)?;
+    let columns = Columns {
+        sheet,
+        heads,
+        bottom,
+    };
+    put_first(out, &columns, heads.len().min(2000) as u16)?;
+    put_first(out, &Lanes { sheet }, 64)?;
+    put_head(out, rows_y(sheet).saturating_sub(8), rows.len())?;
+    put_first(out, &Rows { sheet, rows }, rows.len().min(256) as u16)?;
     put_legend(out, bottom)?;
     Ok(())
 }
@@ -398,12 +268,12 @@ fn put_shapes(
     ensures { OnOk result (out.new.items
         ≡ out.old.items ++ drawn sheet.now text.now scene.now.moments.now scene.now.waits.now stretches.now dangers.now arrows.now bars.now) }
 {
-    put_stretches(out, sheet, text, stretches)?;
-    put_dangers(out, sheet, dangers)?;
-    put_arrows(out, sheet, arrows)?;
-    put_bars(out, sheet, bars)?;
-    put_marks(out, sheet, scene.moments)?;
-    put_waits(out, sheet, scene.waits)?;
+    put_each(out, &NamedSheet { sheet, text }, stretches)?;
+    put_each(out, sheet, dangers)?;
+    put_each(out, sheet, arrows)?;
+    put_each(out, sheet, bars)?;
+    put_each(out, sheet, scene.moments)?;
+    put_each(out, sheet, scene.waits)?;
     put(out, "</svg>\n")?;
     Ok(())
 }

@@ -34,7 +34,7 @@ fn acts_in(recorded: &Recorded, core: CoreId) -> bool
             ..
         } => *one == core || *sender == core,
         Moment::Did { core: one, .. } => *one == core,
-        Moment::Answers { .. } | Moment::Mapped { .. } | Moment::Unmapped { .. } => false,
+        _ => false,
     }
 }
 
@@ -42,12 +42,10 @@ fn acts_in(recorded: &Recorded, core: CoreId) -> bool
 fn acts(moments: &[Recorded], core: CoreId) -> bool
     ensures { result ≡ acts moments.now core }
 {
-    let mut at = 0;
-    'moments: while at < moments.len() {
-        if acts_in(&moments[at], core) {
+    'moments: for recorded in moments {
+        if acts_in(recorded, core) {
             return true;
         }
-        at += 1;
     }
     false
 }

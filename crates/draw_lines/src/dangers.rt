@@ -38,13 +38,10 @@ fn acknowledges(recorded: &Recorded, sender: CoreId, core: CoreId, column: u64) 
 fn acknowledged(moments: &[Recorded], sender: CoreId, core: CoreId, column: u64) -> Option<u64>
     ensures { result ≡ acknowledged moments.now sender core column }
 {
-    let mut at = 0;
-    'moments: while at < moments.len() {
-        let recorded = &moments[at];
+    'moments: for recorded in moments {
         if acknowledges(recorded, sender, core, column) {
             return Some(recorded.step);
         }
-        at += 1;
     }
     None
 }
@@ -116,10 +113,8 @@ pub fn dangers_of(alloc: Global, moments: &[Recorded]) -> Result<Vec<Danger>, Al
     ensures { IfOk result (λ dangers. dangers.items ≡ dangers_of moments.now moments.now) }
 {
     let mut dangers: Vec<Danger> = Vec::new(alloc);
-    let mut at = 0;
-    'moments: while at < moments.len() {
-        put_told(&mut dangers, moments, &moments[at])?;
-        at += 1;
+    'moments: for recorded in moments {
+        put_told(&mut dangers, moments, recorded)?;
     }
     Ok(dangers)
 }

@@ -1,6 +1,5 @@
 //! What shapes are written as.
 ghost use Rattle.std.specs.Prelude.{◌≡◌, ◌++◌, OnOk};
-ghost use Rattle.draw_steps.specs.Drawing.{course_class, course_words, request_name};
 ghost use Rattle.draw_lines.specs.Drawing.{arrow_text, bar_text, danger_text, deed_class, deed_text, first_line, mark_text, pass_word, pill_text};
 ghost use Rattle.draw_lines.specs.Drawing.{second_line, stretch_text, wait_line, wait_text};
 
@@ -9,26 +8,14 @@ use crate::dangers::Danger;
 use crate::places::{arrow_way, bar_place, danger_place, mark_place, middle, stretch_place};
 use crate::sheet::{Layout, Sheet, lane, pitch, row_y, wide};
 use crate::waits::Waited;
-use draw_steps::drawing::prot_class;
+use draw_steps::drawing::{course_class, course_words, prot_class, request_name};
 use draw_steps::moments::{Deed, Moment, Pass, Recorded};
-use draw_steps::shapes::{Arrow, Bar, Course, Stretch};
+use draw_steps::parts::Part;
+use draw_steps::shapes::{Arrow, Bar, Stretch};
+use draw_steps::texts::Drawable;
 use std::alloc::AllocError;
 use trace_text::pieces::Piece;
-use vm_base::{CoreId, Request};
-
-// The name of a request, which is also the class of its bar.
-fn request_name(request: Request) -> &'static str
-    ensures { result.now ≡ request_name request }
-{
-    match request {
-        Request::Mmap { .. } => "mmap",
-        Request::Munmap { .. } => "munmap",
-        Request::Mprotect { .. } => "mprotect",
-        Request::Load { .. } => "load",
-        Request::Store { .. } => "store",
-        Request::Fetch { .. } => "fetch",
-    }
-}
+use vm_base::CoreId;
 
 // Where the first line of a bar begins.
 fn first_line(form: Layout) -> &'static str
@@ -52,32 +39,34 @@ fn second_line(form: Layout) -> &'static str
     }
 }
 
-/// Appends a bar with its name, what it asks for, and its reply.
-pub fn put_bar(out: &mut Vec<u8>, sheet: &Sheet, bar: &Bar) -> Result<(), AllocError>
-    ensures { OnOk result (out.new.items ≡ out.old.items ++ bar_text sheet.now bar.now) }
-{
-    let name = request_name(bar.request);
-    let place = bar_place(sheet, bar);
-    let first = first_line(sheet.form);
-    let second = second_line(sheet.form);
-    put_bits(
-        out,
-        &[
-            Bit::Plain(Piece::Words("<g><title>")),
-            Bit::Plain(Piece::Words(name)),
-            Bit::Arguments(bar.request),
-            Bit::Answer(bar.answer),
-            Bit::Plain(Piece::Words("</title>")),
-            Bit::Rect(name, place),
-            Bit::Spot(sheet, bar.core, bar.begin),
-            Bit::Plain(Piece::Words(first)),
-            Bit::Plain(Piece::Words(name)),
-            Bit::Plain(Piece::Words(second)),
-            Bit::Arguments(bar.request),
-            Bit::End(sheet, bar.core, bar.answer),
-            Bit::Plain(Piece::Words("</g>\n")),
-        ],
-    )
+// A bar with its name, what it asks for, and its reply.
+impl Drawable<Sheet> for Bar {
+    ghost text = { bar_text };
+
+    fn put(&self, out: &mut Vec<u8>, sheet: &Sheet) -> Result<(), AllocError> {
+        let name = request_name(self.request);
+        let place = bar_place(sheet, self);
+        let first = first_line(sheet.form);
+        let second = second_line(sheet.form);
+        put_bits(
+            out,
+            &[
+                Bit::Plain(Piece::Words("<g><title>")),
+                Bit::Plain(Piece::Words(name)),
+                Bit::Of(Part::Arguments(self.request)),
+                Bit::Answer(self.answer),
+                Bit::Plain(Piece::Words("</title>")),
+                Bit::Of(Part::Rect(name, place)),
+                Bit::Spot(sheet, self.core, self.begin),
+                Bit::Plain(Piece::Words(first)),
+                Bit::Plain(Piece::Words(name)),
+                Bit::Plain(Piece::Words(second)),
+                Bit::Of(Part::Arguments(self.request)),
+                Bit::End(sheet, self.core, self.answer),
+                Bit::Plain(Piece::Words("</g>\n")),
+            ],
+        )
+    }
 }
 
 // Where what a call waits for stands in its bar.
@@ -91,85 +80,71 @@ fn wait_line(form: Layout) -> &'static str
     }
 }
 
-/// Appends what a call waits for, in the column in which it does.
-pub fn put_wait(out: &mut Vec<u8>, sheet: &Sheet, waited: &Waited) -> Result<(), AllocError>
-    ensures { OnOk result (out.new.items ≡ out.old.items ++ wait_text sheet.now waited.now) }
-{
-    let line = wait_line(sheet.form);
-    put_bits(
-        out,
-        &[
-            Bit::Plain(Piece::Words("<g><title>core ")),
-            Bit::Plain(Piece::Core(waited.core)),
-            Bit::Plain(Piece::Words(" ")),
-            Bit::For(waited.cause),
-            Bit::Plain(Piece::Words("</title>")),
-            Bit::Spot(sheet, waited.core, waited.column),
-            Bit::Plain(Piece::Words(line)),
-            Bit::For(waited.cause),
-            Bit::Plain(Piece::Words("</text></g></g>\n")),
-        ],
-    )
-}
+// What a call waits for, in the column in which it does.
+impl Drawable<Sheet> for Waited {
+    ghost text = { wait_text };
 
-// The class of an arrow.
-fn course_class(course: Course) -> &'static str
-    ensures { result.now ≡ course_class course }
-{
-    match course {
-        Course::Message => "told",
-        Course::Acknowledgement => "back",
+    fn put(&self, out: &mut Vec<u8>, sheet: &Sheet) -> Result<(), AllocError> {
+        let line = wait_line(sheet.form);
+        put_bits(
+            out,
+            &[
+                Bit::Plain(Piece::Words("<g><title>core ")),
+                Bit::Plain(Piece::Core(self.core)),
+                Bit::Plain(Piece::Words(" ")),
+                Bit::For(self.cause),
+                Bit::Plain(Piece::Words("</title>")),
+                Bit::Spot(sheet, self.core, self.column),
+                Bit::Plain(Piece::Words(line)),
+                Bit::For(self.cause),
+                Bit::Plain(Piece::Words("</text></g></g>\n")),
+            ],
+        )
     }
 }
 
-// What an arrow stands for, between the numbers of its cores.
-fn course_words(course: Course) -> &'static str
-    ensures { result.now ≡ course_words course }
-{
-    match course {
-        Course::Message => " asks to drop translations: core ",
-        Course::Acknowledgement => " acknowledges to core ",
+// An arrow, with what it says on pointing.
+impl Drawable<Sheet> for Arrow {
+    ghost text = { arrow_text };
+
+    fn put(&self, out: &mut Vec<u8>, sheet: &Sheet) -> Result<(), AllocError> {
+        let words = course_words(self.course);
+        let class = course_class(self.course);
+        let way = arrow_way(sheet, self);
+        put_bits(
+            out,
+            &[
+                Bit::Plain(Piece::Words("<g><title>core ")),
+                Bit::Plain(Piece::Core(self.from)),
+                Bit::Plain(Piece::Words(words)),
+                Bit::Plain(Piece::Core(self.to)),
+                Bit::Plain(Piece::Words("</title>")),
+                Bit::Of(Part::Line(class, way)),
+                Bit::Plain(Piece::Words("</g>\n")),
+            ],
+        )
     }
 }
 
-/// Appends an arrow, with what it says on pointing.
-pub fn put_arrow(out: &mut Vec<u8>, sheet: &Sheet, arrow: &Arrow) -> Result<(), AllocError>
-    ensures { OnOk result (out.new.items ≡ out.old.items ++ arrow_text sheet.now arrow.now) }
-{
-    let words = course_words(arrow.course);
-    let class = course_class(arrow.course);
-    let way = arrow_way(sheet, arrow);
-    put_bits(
-        out,
-        &[
-            Bit::Plain(Piece::Words("<g><title>core ")),
-            Bit::Plain(Piece::Core(arrow.from)),
-            Bit::Plain(Piece::Words(words)),
-            Bit::Plain(Piece::Core(arrow.to)),
-            Bit::Plain(Piece::Words("</title>")),
-            Bit::Line(class, way),
-            Bit::Plain(Piece::Words("</g>\n")),
-        ],
-    )
-}
+// A span of danger, with what it says on pointing.
+impl Drawable<Sheet> for Danger {
+    ghost text = { danger_text };
 
-/// Appends a span of danger, with what it says on pointing.
-pub fn put_danger(out: &mut Vec<u8>, sheet: &Sheet, danger: &Danger) -> Result<(), AllocError>
-    ensures { OnOk result (out.new.items ≡ out.old.items ++ danger_text sheet.now danger.now) }
-{
-    let place = danger_place(sheet, danger);
-    put_bits(
-        out,
-        &[
-            Bit::Plain(Piece::Words("<g><title>core ")),
-            Bit::Plain(Piece::Core(danger.core)),
-            Bit::Plain(Piece::Words(" may use translations that it is told to drop by core ")),
-            Bit::Plain(Piece::Core(danger.sender)),
-            Bit::Plain(Piece::Words("</title>")),
-            Bit::Rect("danger", place),
-            Bit::Plain(Piece::Words("</g>\n")),
-        ],
-    )
+    fn put(&self, out: &mut Vec<u8>, sheet: &Sheet) -> Result<(), AllocError> {
+        let place = danger_place(sheet, self);
+        put_bits(
+            out,
+            &[
+                Bit::Plain(Piece::Words("<g><title>core ")),
+                Bit::Plain(Piece::Core(self.core)),
+                Bit::Plain(Piece::Words(" may use translations that it is told to drop by core ")),
+                Bit::Plain(Piece::Core(self.sender)),
+                Bit::Plain(Piece::Words("</title>")),
+                Bit::Of(Part::Rect("danger", place)),
+                Bit::Plain(Piece::Words("</g>\n")),
+            ],
+        )
+    }
 }
 
 // The class of a mark's word, which isn't seen where it has no room.
@@ -202,8 +177,8 @@ fn put_pill<'a>(
             Bit::Plain(Piece::Words(": ")),
             Bit::Plain(Piece::Words(word)),
             Bit::Plain(Piece::Words("</title>")),
-            Bit::Rect(class, place),
-            Bit::Text(seen, x, y),
+            Bit::Of(Part::Rect(class, place)),
+            Bit::Of(Part::Text(seen, x, y)),
             Bit::Plain(Piece::Words(word)),
             Bit::Plain(Piece::Words("</text></g>\n")),
         ],
@@ -240,51 +215,55 @@ fn put_deed(
     }
 }
 
-/// Appends the mark of a take, or of something else that a core did, where this is one.
-pub fn put_mark(out: &mut Vec<u8>, sheet: &Sheet, recorded: &Recorded) -> Result<(), AllocError>
-    ensures { OnOk result (out.new.items ≡ out.old.items ++ mark_text sheet.now recorded.now) }
-{
-    match &recorded.moment {
-        Moment::Took { core, pass, .. } => {
-            put_pill(out, sheet, *core, recorded.step, "take", pass_word(*pass))
+// The mark of a take, or of something else that a core did, where this is one.
+impl Drawable<Sheet> for Recorded {
+    ghost text = { mark_text };
+
+    fn put(&self, out: &mut Vec<u8>, sheet: &Sheet) -> Result<(), AllocError> {
+        match &self.moment {
+            Moment::Took { core, pass, .. } => {
+                put_pill(out, sheet, *core, self.step, "take", pass_word(*pass))
+            }
+            Moment::Did { core, deed } => put_deed(out, sheet, *core, self.step, *deed),
+            _ => Ok(()),
         }
-        Moment::Did { core, deed } => put_deed(out, sheet, *core, recorded.step, *deed),
-        Moment::Begins { .. }
-        | Moment::Answers { .. }
-        | Moment::Told { .. }
-        | Moment::Mapped { .. }
-        | Moment::Unmapped { .. } => Ok(()),
     }
 }
 
-/// Appends a stretch with its rights, and what it says on pointing, with names that the text of the trace has.
-pub fn put_stretch(
-    out: &mut Vec<u8>,
-    sheet: &Sheet,
-    text: &[u8],
-    stretch: Stretch,
-) -> Result<(), AllocError>
-    ensures { OnOk result (out.new.items ≡ out.old.items ++ stretch_text sheet.now text.now stretch) }
-{
-    let class = prot_class(stretch.prot);
-    let place = stretch_place(sheet, stretch);
-    let x = middle(sheet, stretch.begin) + 4;
-    let y = row_y(sheet, stretch.row) + 14;
-    put_bits(
-        out,
-        &[
-            Bit::Plain(Piece::Words("<g><title>")),
-            Bit::Plain(Piece::Start(stretch.pages.first)),
-            Bit::Plain(Piece::Words("-")),
-            Bit::Plain(Piece::Start(stretch.pages.end)),
-            Bit::Plain(Piece::Words(" ")),
-            Bit::Plain(Piece::Rights(stretch.prot)),
-            Bit::Backing(text, stretch.back),
-            Bit::Plain(Piece::Words("</title>")),
-            Bit::Rect(class, place),
-            Bit::Text("prot", x, y),
-            Bit::Plain(Piece::Rights(stretch.prot)),
-            Bit::Plain(Piece::Words("</text></g>\n")),
-        ],
-    )
+/// A sheet, and the text of the trace, which has names of files.
+#[derive(Clone, Copy)]
+pub struct NamedSheet<'a> {
+    /// The sheet.
+    pub sheet: &'a Sheet,
+    /// The text of the trace.
+    pub text: &'a [u8],
+}
+
+// A stretch with its rights, and what it says on pointing.
+impl<'a> Drawable<NamedSheet<'a>> for Stretch {
+    ghost text = { λ named. stretch_text named.sheet.now named.text.now };
+
+    fn put(&self, out: &mut Vec<u8>, named: &NamedSheet<'a>) -> Result<(), AllocError> {
+        let class = prot_class(self.prot);
+        let place = stretch_place(named.sheet, *self);
+        let x = middle(named.sheet, self.begin) + 4;
+        let y = row_y(named.sheet, self.row) + 14;
+        put_bits(
+            out,
+            &[
+                Bit::Plain(Piece::Words("<g><title>")),
+                Bit::Plain(Piece::Start(self.pages.first)),
+                Bit::Plain(Piece::Words("-")),
+                Bit::Plain(Piece::Start(self.pages.end)),
+                Bit::Plain(Piece::Words(" ")),
+                Bit::Plain(Piece::Rights(self.prot)),
+                Bit::Of(Part::Backing(named.text, self.back)),
+                Bit::Plain(Piece::Words("</title>")),
+                Bit::Of(Part::Rect(class, place)),
+                Bit::Of(Part::Text("prot", x, y)),
+                Bit::Plain(Piece::Rights(self.prot)),
+                Bit::Plain(Piece::Words("</text></g>\n")),
+            ],
+        )
+    }
 }

@@ -5,8 +5,12 @@ use Rattle.draw_lines.proofs.canvas.put_canvas.Goals as goal
 pub returns : goal.returns
 unfolding canvas_text
 returns c =
-    let t1 = grow c.args.out.now.items _ _ c.put_front.new.out.items _ c.in_ok-put_front.ensures c.in_ok-put_columns.ensures in
-    let t2 = grow c.args.out.now.items _ _ c.put_columns.new.out.items _ t1 c.in_ok-put_lanes.ensures in
-    let t3 = grow c.args.out.now.items _ _ c.put_lanes.new.out.items _ t2 c.in_ok-put_head.ensures in
-    let t4 = grow c.args.out.now.items _ _ c.put_head.new.out.items _ t3 c.in_ok-put_rows.ensures in
-    grow c.args.out.now.items _ _ c.put_rows.new.out.items _ t4 c.in_ok-put_legend.ensures
+    let old = c.args.out.now.items in
+    let columns = rw c.min.ensures at c.in_ok-put_first.ensures in
+    let t1 = grow old _ _ c.put_front.new.out.items _ c.in_ok-put_front.ensures columns in
+    let t2 = grow old _ _ c.put_first.new.out.items _ t1 c.in_ok-put_first-2.ensures in
+    let head = rw c.rows_y.ensures.value at rw c.saturating_sub.ensures at c.in_ok-put_head.ensures in
+    let t3 = grow old _ _ c.put_first-2.new.out.items _ t2 head in
+    let rows = rw c.min-2.ensures at c.in_ok-put_first-3.ensures in
+    let t4 = grow old _ _ c.put_head.new.out.items _ t3 rows in
+    grow old _ _ c.put_first-3.new.out.items _ t4 c.in_ok-put_legend.ensures

@@ -1,9 +1,6 @@
-use Rattle.std.proofs.Common.{◌≡◌, ◌≤◌, ◌-◌, length, take}
+use Rattle.std.proofs.Common.{◌≡◌, take}
 use Rattle.draw_lines.specs.Dangers.{dangers_of}
 use Rattle.draw_lines.proofs.dangers.dangers_of.Given as goal
 
 abbrev pub invariant-moments : goal.invariant-moments
-invariant-moments l = record { within : l.at ≤ length l.moments; made : l.dangers.items ≡ dangers_of l.moments (take l.at l.moments) }
-
-abbrev pub decreases-moments : goal.decreases-moments
-decreases-moments l = length l.moments - l.at
+invariant-moments l = l.dangers.items ≡ dangers_of l.moments (take l.recorded-index l.moments)
