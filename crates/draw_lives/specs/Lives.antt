@@ -1,5 +1,5 @@
 -- The lives of mappings over a whole run.
-use Rattle.std.specs.Prelude.{ℕ, zero, suc, ◌+◌, ◌-◌, ◌*◌, ◌/◌, ◌^◌, Bool, List, [], ◌∷◌, ◌++◌, Option, None, Some, if◌then◌else◌, ◌==◌}
+use Rattle.std.specs.Prelude.{ℕ, ◌+◌, ◌-◌, ◌*◌, ◌/◌, ◌^◌, Bool, List, [], ◌∷◌, ◌++◌, Option, None, Some, if◌then◌else◌, ◌==◌}
 use Rattle.std.specs.Prelude.{codes, decimal, length, min, nat_lt, slice_get, take}
 use Rattle.std.specs.List.{concat, flat_map}
 use Rattle.vm_base.specs.declared.info.Back.{Back}
@@ -12,6 +12,7 @@ use Rattle.draw_steps.specs.Drawing.{prot_class}
 use Rattle.draw_steps.specs.Elements.{line_text, text_front}
 use Rattle.draw_steps.specs.Parts.{span_text}
 use Rattle.draw_steps.specs.Style.{Shade, both_shade, exec_shade, nothing_shade, read_shade, shades, write_shade}
+use Rattle.draw_steps.specs.Texts.{first_texts}
 use Rattle.draw_steps.specs.declared.elements.Way.{Way}
 use Rattle.draw_lives.specs.Joining.{joined_rows}
 use Rattle.draw_lives.specs.Living.{lives_of}
@@ -92,10 +93,6 @@ unfoldable pub tick_text : Chart → ℕ → List ℕ
 tick_text chart at = concat (line_text (codes "grid") (tick_way chart at) ∷ text_front (codes "step") (504 + 150 * at) 38
     ∷ decimal (min (chart.steps * at) (2 ^ 64 - 1) / 8) ∷ codes "</text>\n" ∷ [])
 
-abbrev pub ticks_text : Chart → ℕ → List ℕ
-ticks_text chart zero = []
-ticks_text chart (suc n) = ticks_text chart n ++ tick_text chart n
-
 -- what a row is, for one row or for some: as many as have room
 abbrev pub count_of : Chart → ℕ
 count_of chart = min chart.rows 63
@@ -115,13 +112,9 @@ unfoldable pub page_text : Chart → List ℕ → List Stretch → ℕ → List 
 page_text chart text lives at =
     row_text (plot_height chart * at / count_of chart + 58) text (last_of None lives (chart.rows * at / count_of chart))
 
-abbrev pub pages_text : Chart → List ℕ → List Stretch → ℕ → List ℕ
-pages_text chart text lives zero = []
-pages_text chart text lives (suc n) = pages_text chart text lives n ++ page_text chart text lives n
-
 -- beside the drawing, which they don't reach
 unfoldable pub labels_text : Chart → List ℕ → List Stretch → List ℕ
-labels_text chart text lives = codes "<svg width=\"496\">\n" ++ pages_text chart text lives (count_of chart) ++ codes "</svg>\n"
+labels_text chart text lives = codes "<svg width=\"496\">\n" ++ first_texts (page_text chart text lives) (count_of chart) ++ codes "</svg>\n"
 
 -- a drawing of its own in the picture, whose units are a step and a row; step 1 lies at its left edge
 unfoldable pub frame_text : Chart → List ℕ
@@ -140,7 +133,7 @@ life_text chart text life = concat (codes "<rect class=\"" ∷ prot_class life.p
 
 unfoldable pub chart_text : Chart → List ℕ → Bool → List Stretch → List ℕ
 chart_text chart text more lives = front_text 1760 (plot_height chart + 64) ++ style_text ++ head_text chart more (length lives)
-    ++ ticks_text chart 9 ++ labels_text chart text lives ++ frame_text chart ++ flat_map (life_text chart text) lives ++ codes "</svg>\n</svg>\n"
+    ++ first_texts (tick_text chart) 9 ++ labels_text chart text lives ++ frame_text chart ++ flat_map (life_text chart text) lives ++ codes "</svg>\n</svg>\n"
 
 -- in as few rows
 abbrev pub drawn_of : ℕ → List ℕ → List Stretch → List ℕ

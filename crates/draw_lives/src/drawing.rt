@@ -1,8 +1,7 @@
 //! The lives of mappings over a whole run: which pages were mapped over which steps, in one SVG text.
-ghost use Rattle.std.specs.Prelude.{◌≡◌, ◌+◌, ◌++◌, ◌<◌, ◌≤◌, IfOk, None, OnOk};
-ghost use Rattle.std.specs.List.{flat_map};
+ghost use Rattle.std.specs.Prelude.{◌≡◌, ◌+◌, ◌++◌, ◌≤◌, IfOk, None, OnOk};
 ghost use Rattle.draw_lives.specs.Lives.{are_more, chart_of, chart_text, count_of, count_words, drawn_of, end_of, frame_text, head_text, kind_class};
-ghost use Rattle.draw_lives.specs.Lives.{labels_text, last_of, life_end, life_text, lives_text, page_text, pages_text, plot_height, row_text, shown, tick_text, ticks_text};
+ghost use Rattle.draw_lives.specs.Lives.{labels_text, last_of, life_end, life_text, lives_text, page_text, plot_height, row_text, shown, tick_text};
 
 use crate::joining::joined_rows;
 use crate::living::lives_of;
@@ -12,6 +11,7 @@ use draw_steps::elements::{Way, put_text};
 use draw_steps::moments::Recorded;
 use draw_steps::parts::{Part, put_parts};
 use draw_steps::shapes::Stretch;
+use draw_steps::texts::{Drawable, Series, put_each, put_first};
 use std::alloc::{AllocError, Global};
 use trace_text::pieces::{Piece, put, put_all};
 use vm_base::Back;
@@ -123,41 +123,38 @@ fn put_head(out: &mut Vec<u8>, chart: Chart, more: bool, count: usize) -> Result
     Ok(())
 }
 
-// Appends one of nine steps, and its line.
-fn put_tick(out: &mut Vec<u8>, chart: Chart, at: u64) -> Result<(), AllocError>
-    requires { at ≤ 8 }
-    ensures { OnOk result (out.new.items ≡ out.old.items ++ tick_text chart at) }
-{
-    let step = chart.steps.saturating_mul(at) / 8;
-    let bottom = plot_height(chart) + 48;
-    let x = 504 + 150 * at;
-    let way = Way {
-        x1: x,
-        y1: 44,
-        x2: x,
-        y2: bottom,
-    };
-    put_parts(
-        out,
-        &[
-            Part::Line("grid", way),
-            Part::Text("step", x, 38),
-            Part::Plain(Piece::Number(step)),
-            Part::Plain(Piece::Words("</text>\n")),
-        ],
-    )
+// Nine steps, evenly over the run, and their lines.
+#[derive(Clone, Copy)]
+struct Ticks {
+    chart: Chart,
 }
 
-// Appends nine steps, evenly over the run.
-fn put_ticks(out: &mut Vec<u8>, chart: Chart) -> Result<(), AllocError>
-    ensures { OnOk result (out.new.items ≡ out.old.items ++ ticks_text chart 9) }
-{
-    let mut at = 0u64;
-    'ticks: while at < 9 {
-        put_tick(out, chart, at)?;
-        at += 1;
+impl Series for Ticks {
+    ghost count = { λ _. 9 };
+
+    ghost text = { λ ticks. tick_text ticks.chart };
+
+    fn put_at(&self, out: &mut Vec<u8>, at: u16) -> Result<(), AllocError> {
+        let at = u64::from(at);
+        let step = self.chart.steps.saturating_mul(at) / 8;
+        let bottom = plot_height(self.chart) + 48;
+        let x = 504 + 150 * at;
+        let way = Way {
+            x1: x,
+            y1: 44,
+            x2: x,
+            y2: bottom,
+        };
+        put_parts(
+            out,
+            &[
+                Part::Line("grid", way),
+                Part::Text("step", x, 38),
+                Part::Plain(Piece::Number(step)),
+                Part::Plain(Piece::Words("</text>\n")),
+            ],
+        )
     }
-    Ok(())
 }
 
 // The last life of a row.
@@ -165,13 +162,10 @@ fn last_of(lives: &[Stretch], row: u64) -> Option<Stretch>
     ensures { result ≡ last_of None lives.now row }
 {
     let mut known = None;
-    let mut at = 0;
-    'lives: while at < lives.len() {
-        let life = lives[at];
+    'lives: for life in lives {
         if u64::from(life.row) == row {
-            known = Some(life);
+            known = Some(*life);
         }
-        at += 1;
     }
     known
 }
@@ -205,53 +199,36 @@ fn put_row(out: &mut Vec<u8>, y: u64, text: &[u8], last: Option<Stretch>) -> Res
     }
 }
 
-// Appends what one of the rows is that have words beside them.
-fn put_page(
-    out: &mut Vec<u8>,
+// A chart with its lives, and the text of the trace, which has names of files. Its texts say what those of its rows are that have words
+// beside them.
+#[derive(Clone, Copy)]
+struct Named<'a> {
     chart: Chart,
-    text: &[u8],
-    lives: &[Stretch],
-    at: u64,
-) -> Result<(), AllocError>
-    requires { at < count_of chart }
-    ensures { OnOk result (out.new.items ≡ out.old.items ++ page_text chart text.now lives.now at) }
-{
-    let all = u64::from(chart.rows);
-    let count = count_of(chart);
-    let y = plot_height(chart) * at / count + 58;
-    let last = last_of(lives, all * at / count);
-    put_row(out, y, text, last)
+    text: &'a [u8],
+    lives: &'a [Stretch],
 }
 
-// Appends what rows are, of as many as have room.
-fn put_pages(
-    out: &mut Vec<u8>,
-    chart: Chart,
-    text: &[u8],
-    lives: &[Stretch],
-) -> Result<(), AllocError>
-    ensures { OnOk result (out.new.items ≡ out.old.items ++ pages_text chart text.now lives.now (count_of chart)) }
-{
-    let count = count_of(chart);
-    let mut at = 0u64;
-    'pages: while at < count {
-        put_page(out, chart, text, lives, at)?;
-        at += 1;
+impl<'a> Series for Named<'a> {
+    ghost count = { λ named. count_of named.chart };
+
+    ghost text = { λ named. page_text named.chart named.text.now named.lives.now };
+
+    fn put_at(&self, out: &mut Vec<u8>, at: u16) -> Result<(), AllocError> {
+        let at = u64::from(at);
+        let all = u64::from(self.chart.rows);
+        let count = count_of(self.chart);
+        let y = plot_height(self.chart) * at / count + 58;
+        let last = last_of(self.lives, all * at / count);
+        put_row(out, y, self.text, last)
     }
-    Ok(())
 }
 
-// The same, beside the drawing, which they don't reach.
-fn put_labels(
-    out: &mut Vec<u8>,
-    chart: Chart,
-    text: &[u8],
-    lives: &[Stretch],
-) -> Result<(), AllocError>
-    ensures { OnOk result (out.new.items ≡ out.old.items ++ labels_text chart text.now lives.now) }
+// Appends those, beside the drawing, which they don't reach.
+fn put_labels(out: &mut Vec<u8>, named: &Named) -> Result<(), AllocError>
+    ensures { OnOk result (out.new.items ≡ out.old.items ++ labels_text named.now.chart named.now.text.now named.now.lives.now) }
 {
     put(out, "<svg width=\"496\">\n")?;
-    put_pages(out, chart, text, lives)?;
+    put_first(out, named, count_of(named.chart) as u16)?;
     put(out, "</svg>\n")?;
     Ok(())
 }
@@ -298,55 +275,40 @@ fn kind_class(back: Option<Back>) -> &'static str
     }
 }
 
-// Appends a life, with what it says on pointing.
-fn put_life(out: &mut Vec<u8>, chart: Chart, text: &[u8], life: &Stretch) -> Result<(), AllocError>
-    ensures { OnOk result (out.new.items ≡ out.old.items ++ life_text chart text.now life.now) }
-{
-    let class = prot_class(life.prot);
-    let kind = kind_class(life.back);
-    let row = u64::from(life.row);
-    let width = life_end(chart, life.end).saturating_sub(life.begin);
-    put_parts(
-        out,
-        &[
-            Part::Plain(Piece::Words("<rect class=\"")),
-            Part::Plain(Piece::Words(class)),
-            Part::Plain(Piece::Words(" ")),
-            Part::Plain(Piece::Words(kind)),
-            Part::Plain(Piece::Words("\" x=\"")),
-            Part::Plain(Piece::Number(life.begin)),
-            Part::Plain(Piece::Words("\" y=\"")),
-            Part::Plain(Piece::Number(row)),
-            Part::Plain(Piece::Words("\" width=\"")),
-            Part::Plain(Piece::Number(width)),
-            Part::Plain(Piece::Words("\" height=\"1\"><title>")),
-            Part::Plain(Piece::Start(life.pages.first)),
-            Part::Plain(Piece::Words("-")),
-            Part::Plain(Piece::Start(life.pages.end)),
-            Part::Plain(Piece::Words(" ")),
-            Part::Plain(Piece::Rights(life.prot)),
-            Part::Backing(text, life.back),
-            Part::Span(life.begin, life.end),
-            Part::Plain(Piece::Words("</title></rect>\n")),
-        ],
-    )
-}
+// A life, with what it says on pointing.
+impl<'a> Drawable<Named<'a>> for Stretch {
+    ghost text = { λ named. life_text named.chart named.text.now };
 
-// Appends all lives.
-fn put_lives(
-    out: &mut Vec<u8>,
-    chart: Chart,
-    text: &[u8],
-    lives: &[Stretch],
-) -> Result<(), AllocError>
-    ensures { OnOk result (out.new.items ≡ out.old.items ++ flat_map (life_text chart text.now) lives.now) }
-{
-    let mut at = 0;
-    'lives: while at < lives.len() {
-        put_life(out, chart, text, &lives[at])?;
-        at += 1;
+    fn put(&self, out: &mut Vec<u8>, named: &Named<'a>) -> Result<(), AllocError> {
+        let class = prot_class(self.prot);
+        let kind = kind_class(self.back);
+        let row = u64::from(self.row);
+        let width = life_end(named.chart, self.end).saturating_sub(self.begin);
+        put_parts(
+            out,
+            &[
+                Part::Plain(Piece::Words("<rect class=\"")),
+                Part::Plain(Piece::Words(class)),
+                Part::Plain(Piece::Words(" ")),
+                Part::Plain(Piece::Words(kind)),
+                Part::Plain(Piece::Words("\" x=\"")),
+                Part::Plain(Piece::Number(self.begin)),
+                Part::Plain(Piece::Words("\" y=\"")),
+                Part::Plain(Piece::Number(row)),
+                Part::Plain(Piece::Words("\" width=\"")),
+                Part::Plain(Piece::Number(width)),
+                Part::Plain(Piece::Words("\" height=\"1\"><title>")),
+                Part::Plain(Piece::Start(self.pages.first)),
+                Part::Plain(Piece::Words("-")),
+                Part::Plain(Piece::Start(self.pages.end)),
+                Part::Plain(Piece::Words(" ")),
+                Part::Plain(Piece::Rights(self.prot)),
+                Part::Backing(named.text, self.back),
+                Part::Span(self.begin, self.end),
+                Part::Plain(Piece::Words("</title></rect>\n")),
+            ],
+        )
     }
-    Ok(())
 }
 
 // Appends the whole picture.
@@ -359,14 +321,15 @@ fn put_chart(
 ) -> Result<(), AllocError>
     ensures { OnOk result (out.new.items ≡ out.old.items ++ chart_text chart text.now more lives.now) }
 {
+    let named = Named { chart, text, lives };
     let high = plot_height(chart) + 64;
     put_front(out, 1760, high)?;
     put(out, LIVES_STYLE)?;
     put_head(out, chart, more, lives.len())?;
-    put_ticks(out, chart)?;
-    put_labels(out, chart, text, lives)?;
+    put_first(out, &Ticks { chart }, 9)?;
+    put_labels(out, &named)?;
     put_frame(out, chart)?;
-    put_lives(out, chart, text, lives)?;
+    put_each(out, &named, lives)?;
     put(out, "</svg>\n</svg>\n")?;
     Ok(())
 }

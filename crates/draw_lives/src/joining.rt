@@ -127,12 +127,10 @@ fn row_lives(alloc: Global, lives: &[Stretch], row: u16) -> Result<Vec<Stretch>,
     ensures { IfOk result (λ some. some.items ≡ row_lives lives.now row) }
 {
     let mut some: Vec<Stretch> = Vec::new(alloc);
-    let mut at = 0;
-    'lives: while at < lives.len() {
-        if lives[at].row == row {
-            some.push(lives[at])?;
+    'lives: for life in lives {
+        if life.row == row {
+            some.push(*life)?;
         }
-        at += 1;
     }
     Ok(some)
 }
@@ -184,10 +182,8 @@ fn reached(alloc: Global, lives: &[Stretch], row: u16, end: u64) -> Result<Vec<S
     ensures { IfOk result (λ all. all.items ≡ map (reaching row end) lives.now) }
 {
     let mut all: Vec<Stretch> = Vec::new(alloc);
-    let mut at = 0;
-    'lives: while at < lives.len() {
-        all.push(reaching(lives[at], row, end))?;
-        at += 1;
+    'lives: for life in lives {
+        all.push(reaching(*life, row, end))?;
     }
     Ok(all)
 }
@@ -196,10 +192,8 @@ fn reached(alloc: Global, lives: &[Stretch], row: u16, end: u64) -> Result<Vec<S
 fn push_row(lives: &mut Vec<Stretch>, row: &[Stretch], number: u16) -> Result<(), AllocError>
     ensures { OnOk result (lives.new.items ≡ lives.old.items ++ map (numbered number) row.now) }
 {
-    let mut at = 0;
-    'lives: while at < row.len() {
-        lives.push(numbered(row[at], number))?;
-        at += 1;
+    'lives: for life in row {
+        lives.push(numbered(*life, number))?;
     }
     Ok(())
 }
@@ -227,11 +221,9 @@ pub fn joined_rows(alloc: Global, lives: &[Stretch]) -> Result<Vec<Stretch>, All
 {
     let count = next_row(lives);
     let mut all: Vec<Stretch> = Vec::new(alloc);
-    let mut at = 0u16;
-    'rows: while at < count {
+    'rows: for at in 0..count {
         let row = row_lives(alloc, lives, at)?;
         add_row(alloc, &mut all, row.as_slice())?;
-        at += 1;
     }
     Ok(all)
 }

@@ -19,11 +19,7 @@ fn meets(recorded: &Recorded, pages: PageRange) -> bool
     match &recorded.moment {
         Moment::Mapped { pages: range, .. } => range.first < pages.end && pages.first < range.end,
         Moment::Unmapped { pages: range } => range.first < pages.end && pages.first < range.end,
-        Moment::Begins { .. }
-        | Moment::Answers { .. }
-        | Moment::Told { .. }
-        | Moment::Took { .. }
-        | Moment::Did { .. } => false,
+        _ => false,
     }
 }
 
@@ -36,12 +32,10 @@ fn meeting(
     ensures { IfOk result (λ some. some.items ≡ filter (meets pages) moments.now) }
 {
     let mut some: Vec<Recorded> = Vec::new(alloc);
-    let mut at = 0;
-    'moments: while at < moments.len() {
-        if meets(&moments[at], pages) {
-            some.push(moments[at])?;
+    'moments: for recorded in moments {
+        if meets(recorded, pages) {
+            some.push(*recorded)?;
         }
-        at += 1;
     }
     Ok(some)
 }

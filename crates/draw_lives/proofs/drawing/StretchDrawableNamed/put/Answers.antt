@@ -1,5 +1,5 @@
 use Rattle.draw_lives.specs.Lives.{life_text}
-use Rattle.draw_lives.proofs.drawing.put_life.Goals as goal
+use Rattle.draw_lives.proofs.drawing.StretchDrawableNamed.put.Goals as goal
 
 pub returns : goal.returns
 unfolding life_text

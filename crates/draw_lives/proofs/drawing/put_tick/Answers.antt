@@ -1,6 +1,0 @@
-use Rattle.draw_lives.specs.Lives.{tick_text}
-use Rattle.draw_lives.proofs.drawing.put_tick.Goals as goal
-
-pub returns : goal.returns
-unfolding tick_text
-returns c = rw c.saturating_mul-step.ensures at rw c.plot_height-bottom.ensures.value at c.put_parts.ensures
