@@ -12,7 +12,7 @@ use Rattle.audit.specs.declared.auditor.Call.{Call}
 use Rattle.audit.specs.declared.judging.ReplyVerdict.{ReplyVerdict}
 use Rattle.audit.specs.declared.judging.ReplyVerdict.TheVariants.{Legal as Right, Illegal as Wrong}
 use Rattle.audit_text.specs.Allowed.{Allows, AreAllowed, Lacks, MayBe, is_lack, serves}
-use Rattle.audit_text.specs.Heard.{Heard, call_to, item_told, heard_after, is_certain, one_passed, waits, with_answer, with_copy, with_item, with_told}
+use Rattle.audit_text.specs.Heard.{Heard, call_to, item_told, heard_after, is_certain, nothing, one_passed, waits, with_answer, with_copy, with_item, with_told}
 use Rattle.audit_text.specs.Heard.{with_waiting, without}
 use Rattle.audit_text.specs.Steps.{Hears, JudgesCall, MayWant, Moves, Passes}
 use Rattle.audit_text.specs.declared.allowing.Terms.{Terms}
@@ -35,6 +35,16 @@ none_more x (suc n) = let sum : suc n + 1 ≡ suc (n + 1) = omega arith in ap (�
 pub one_waiting : {X : Type 0} (n next : ℕ) (old new : List (Option X)) → next ≡ n + 1 → new ≡ old ++ None ∷ [] → old ≡ replicate n None
     → new ≡ replicate next None
 one_waiting n next old new up is was = is ∙ ap (λ l. l ++ None ∷ []) was ∙ none_more None n ∙ ap (λ m. replicate m None) (sym up)
+
+-- nothing is heard at first
+pub nothing_heard : (ws : List (Option Request)) (items : List AuditItem) → ws ≡ replicate 64 None → items ≡ []
+    → record { waiting = ws; pending = 0; items = items; calls = 0; lacking = 0; passed = 0; is_sure = true } ≡ nothing
+nothing_heard ws items e f =
+    ap (λ (x : List (Option Request)). record { waiting = x; pending = 0; items = items; calls = 0; lacking = 0; passed = 0; is_sure = true }) e
+    ∙ ap (λ (x : List AuditItem). record { waiting = replicate 64 None; pending = 0; items = x; calls = 0; lacking = 0; passed = 0; is_sure = true }) f
+
+pub same_terms : (terms : Terms) (any_place : Bool) → any_place ≡ terms.any_place → record terms { any_place = any_place } ≡ terms
+same_terms terms any_place e = ap (λ b. record terms { any_place = b }) e
 
 -- ---- want of a frame or of memory
 

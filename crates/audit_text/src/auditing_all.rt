@@ -233,7 +233,6 @@ fn first_found(found: &[Verdict]) -> Option<Verdict>
 }
 
 // Judges a text, and writes what is wrong.
-#[tactic(auto, using(crate::proofs::ReviewEnds::reviews_all, crate::proofs::ReviewEnds::breaks_review, crate::proofs::ReviewEnds::review_fails_so, trace_io::proofs::IoLemmas::keeps_same))]
 fn review_out<M: SlotMap + Drop, A: Allocator + Clone + Drop, W: Sink>(
     alloc: A,
     map: M,

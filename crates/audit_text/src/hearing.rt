@@ -214,7 +214,6 @@ impl<M: SlotMap + Drop, A: Allocator + Drop> Hearing<M, A> {
     }
 
     // Judges a call of a core none of whose calls waits.
-    #[tactic(auto, using(crate::proofs::HeardLemmas::answered_hears, crate::proofs::HeardLemmas::answered_bad, crate::proofs::HeardLemmas::answered_wants))]
     #[inline(always)]
     fn answer(&mut self, call: Call) -> Result<Turn, NoMemory>
         requires counted { IsCounted self.old }
@@ -287,7 +286,6 @@ impl<M: SlotMap + Drop, A: Allocator + Drop> Hearing<M, A> {
     }
 
     // Gives a page its copy, if that may be.
-    #[tactic(auto, using(crate::proofs::HeardLemmas::copied_hears, crate::proofs::HeardLemmas::uncopied_hears, crate::proofs::HeardLemmas::copy_wants))]
     fn copy(&mut self, page: u64) -> Result<Turn, NoMemory>
         requires counted { IsCounted self.old }
         ensures hears { IfOk result (λ turn.
@@ -326,7 +324,6 @@ impl<M: SlotMap + Drop, A: Allocator + Drop> Hearing<M, A> {
     }
 
     /// Hears what a line says. Memory is wanted only for a legal reply.
-    #[tactic(auto, using(crate::proofs::HeardLemmas::still_hears, crate::proofs::HeardLemmas::passes_hears))]
     #[inline(always)]
     pub(crate) fn hear(&mut self, said: Said) -> Result<Turn, NoMemory>
         requires counted { IsCounted self.old }

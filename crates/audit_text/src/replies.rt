@@ -8,21 +8,28 @@ use trace_text::value::read_value;
 use trace_text::{LineText, address_text, number_text, push_reply};
 use vm_base::{Errno, Reply, SegvCode};
 
+// Tells whether the text is this word.
+fn is_word(text: &[u8], word: &[u8]) -> bool
+    ensures { result ≡ bytes_eq text.now word.now }
+{
+    text == word
+}
+
 // The reply of one of the words that come last below.
 fn read_late(text: &[u8]) -> Option<Reply>
     ensures { result ≡ late_reply text.now }
 {
-    if text == b"eacces".as_slice() {
+    if is_word(text, b"eacces") {
         Some(Reply::Refused(Errno::EACCES))
-    } else if text == b"ebadf".as_slice() {
+    } else if is_word(text, b"ebadf") {
         Some(Reply::Refused(Errno::EBADF))
-    } else if text == b"eoverflow".as_slice() {
+    } else if is_word(text, b"eoverflow") {
         Some(Reply::Refused(Errno::EOVERFLOW))
-    } else if text == b"bus".as_slice() {
+    } else if is_word(text, b"bus") {
         Some(Reply::Bus)
-    } else if text == b"noframe".as_slice() {
+    } else if is_word(text, b"noframe") {
         Some(Reply::NoFrame)
-    } else if text == b"nomemory".as_slice() {
+    } else if is_word(text, b"nomemory") {
         Some(Reply::NoMemory)
     } else {
         None
@@ -33,15 +40,15 @@ fn read_late(text: &[u8]) -> Option<Reply>
 fn read_word(text: &[u8]) -> Option<Reply>
     ensures { result ≡ word_reply text.now }
 {
-    if text == b"done".as_slice() {
+    if is_word(text, b"done") {
         Some(Reply::Done)
-    } else if text == b"segv maperr".as_slice() {
+    } else if is_word(text, b"segv maperr") {
         Some(Reply::Segv(SegvCode::MapErr))
-    } else if text == b"segv accerr".as_slice() {
+    } else if is_word(text, b"segv accerr") {
         Some(Reply::Segv(SegvCode::AccErr))
-    } else if text == b"einval".as_slice() {
+    } else if is_word(text, b"einval") {
         Some(Reply::Refused(Errno::EINVAL))
-    } else if text == b"enomem".as_slice() {
+    } else if is_word(text, b"enomem") {
         Some(Reply::Refused(Errno::ENOMEM))
     } else {
         read_late(text)
@@ -97,19 +104,19 @@ fn is_wait(text: &[u8]) -> bool
 pub(crate) fn is_unanswered(text: &[u8]) -> bool
     ensures { result ≡ is_unanswered text.now }
 {
-    is_wait(text) || text == b"stuck".as_slice()
+    is_wait(text) || is_word(text, b"stuck")
 }
 
 /// Tells whether it is a step that answered no call.
 pub(crate) fn is_step(text: &[u8]) -> bool
     ensures { result ≡ is_step text.now }
 {
-    text == b"step".as_slice()
+    is_word(text, b"step")
 }
 
 /// Tells whether nothing was done.
 pub(crate) fn is_nothing(text: &[u8]) -> bool
     ensures { result ≡ is_nothing text.now }
 {
-    text == b"idle".as_slice() || text == b"full".as_slice()
+    is_word(text, b"idle") || is_word(text, b"full")
 }
