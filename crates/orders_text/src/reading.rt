@@ -230,7 +230,6 @@ impl<A: Allocator + Clone> History<A> {
     }
 
     // Takes in the reply, in the line with this number, of the core's call that waits.
-    #[tactic(auto, using(crate::proofs::EventLemmas::ends_bad, crate::proofs::EventLemmas::ends_ok))]
     fn end(&mut self, number: u64, core: CoreId, reply: Reply) -> Result<(), HistoryFault>
         requires places { HasPlaces self.old }
         ensures ok { OnOk result (
@@ -273,7 +272,6 @@ impl<A: Allocator + Clone> History<A> {
     }
 
     // Takes in what the line of an event tells, which has this number.
-    #[tactic(auto, using(crate::proofs::EventLemmas::still_ok, crate::proofs::EventLemmas::still_bad, crate::proofs::EventLemmas::passes_ok, crate::proofs::EventLemmas::passes_bad))]
     fn take(&mut self, number: u64, said: &Said) -> Result<(), HistoryFault>
         requires places { HasPlaces self.old }
         ensures ok { OnOk result (event_after number (read_of self.old) said.now ≡ Some (read_of self.new)) }
@@ -297,7 +295,6 @@ impl<A: Allocator + Clone> History<A> {
     }
 
     // Takes in the line of an event, which has this number.
-    #[tactic(auto, using(crate::proofs::EventLemmas::event_ok, crate::proofs::EventLemmas::event_err, crate::proofs::EventLemmas::event_late))]
     fn add_event(&mut self, number: u64, said: &Said) -> Result<(), HistoryFault>
         requires places { HasPlaces self.old }
         ensures ok { OnOk result (read_after number (read_of self.old) (Event said.now) ≡ Some (read_of self.new)) }
