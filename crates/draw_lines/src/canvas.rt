@@ -2,9 +2,11 @@
 ghost use Rattle.std.specs.Prelude.{◌≡◌, ◌++◌, ◌≤◌, IfOk, OnOk, length};
 ghost use Rattle.draw_lines.specs.Canvas.{canvas_text, column_text, drawn, form_class, front_text, height, lane_of, lane_text};
 ghost use Rattle.draw_lines.specs.Canvas.{legend_text, line_at, picture_text, row_text, title_text, width};
+ghost use Rattle.draw_lines.specs.Dangers.{dangers_of};
+ghost use Rattle.draw_steps.specs.Shapes.{arrows_of, bars_of};
 
 use crate::cores::acting;
-use crate::dangers::{Danger, dangers_of};
+use crate::dangers::dangers_of;
 use crate::drawing::NamedSheet;
 use crate::sheet::{Layout, Sheet, across, lane, lanes_of, pitch, row_y, rows_y, sheet_of, wide};
 use crate::style::{LEGEND, STYLE};
@@ -13,8 +15,8 @@ use draw_steps::canvas::{put_head, put_size};
 use draw_steps::elements::Way;
 use draw_steps::moments::Recorded;
 use draw_steps::parts::{Part, put_parts};
-use draw_steps::rows::{edges_of, row_at, rows_of, stretches_of};
-use draw_steps::shapes::{Arrow, Bar, Stretch, arrows_of, bars_of};
+use draw_steps::rows::{all_rows, row_at, stretches_of};
+use draw_steps::shapes::{Stretch, arrows_of, bars_of};
 use draw_steps::texts::{Series, put_each, put_first};
 use std::alloc::{AllocError, Global};
 use trace_text::pieces::{Piece, put, put_all};
@@ -256,22 +258,25 @@ fn put_canvas(
 
 // Appends all shapes: pages first, dangers, arrows, then calls over them, marks and waits.
 fn put_shapes(
+    alloc: Global,
     out: &mut Vec<u8>,
     sheet: &Sheet,
     text: &[u8],
     scene: &Scene,
     stretches: &[Stretch],
-    dangers: &[Danger],
-    arrows: &[Arrow],
-    bars: &[Bar],
 ) -> Result<(), AllocError>
     ensures { OnOk result (out.new.items
-        ≡ out.old.items ++ drawn sheet.now text.now scene.now.moments.now scene.now.waits.now stretches.now dangers.now arrows.now bars.now) }
+        ≡ out.old.items ++ drawn sheet.now text.now scene.now.moments.now scene.now.waits.now stretches.now
+        (dangers_of scene.now.moments.now scene.now.moments.now) (arrows_of scene.now.moments.now scene.now.moments.now)
+        (bars_of scene.now.moments.now scene.now.moments.now)) }
 {
+    let dangers = dangers_of(alloc, scene.moments)?;
+    let arrows = arrows_of(alloc, scene.moments)?;
+    let bars = bars_of(alloc, scene.moments)?;
     put_each(out, &NamedSheet { sheet, text }, stretches)?;
-    put_each(out, sheet, dangers)?;
-    put_each(out, sheet, arrows)?;
-    put_each(out, sheet, bars)?;
+    put_each(out, sheet, dangers.as_slice())?;
+    put_each(out, sheet, arrows.as_slice())?;
+    put_each(out, sheet, bars.as_slice())?;
     put_each(out, sheet, scene.moments)?;
     put_each(out, sheet, scene.waits)?;
     put(out, "</svg>\n")?;
@@ -287,25 +292,12 @@ pub fn draw(alloc: Global, text: &[u8], scene: &Scene) -> Result<Vec<u8>, AllocE
 {
     let cores = acting(scene.moments);
     let sheet = sheet_of(cores, scene.first, scene.heads.len().min(2000) as u16);
-    let edges = edges_of(alloc, scene.moments)?;
-    let rows = rows_of(alloc, scene.moments, edges.as_slice())?;
+    let rows = all_rows(alloc, scene.moments)?;
     let stretches = stretches_of(alloc, scene.moments, rows.as_slice())?;
-    let dangers = dangers_of(alloc, scene.moments)?;
-    let arrows = arrows_of(alloc, scene.moments)?;
-    let bars = bars_of(alloc, scene.moments)?;
     let high = height(&sheet, rows.len());
     let bottom = high.saturating_sub(52);
     let mut out: Vec<u8> = Vec::new(alloc);
     put_canvas(&mut out, &sheet, scene.heads, rows.as_slice(), high, bottom)?;
-    put_shapes(
-        &mut out,
-        &sheet,
-        text,
-        scene,
-        stretches.as_slice(),
-        dangers.as_slice(),
-        arrows.as_slice(),
-        bars.as_slice(),
-    )?;
+    put_shapes(alloc, &mut out, &sheet, text, scene, stretches.as_slice())?;
     Ok(out)
 }

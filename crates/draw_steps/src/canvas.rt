@@ -2,14 +2,15 @@
 ghost use Rattle.std.specs.Prelude.{◌≡◌, ◌++◌, ◌≤◌, IfOk, OnOk, length};
 ghost use Rattle.draw_steps.specs.Canvas.{canvas_of, canvas_text, column_text, drawn, front_text, head_text, head_words, height};
 ghost use Rattle.draw_steps.specs.Canvas.{lane_text, legend_text, picture_text, row_text, size_text, width};
+ghost use Rattle.draw_steps.specs.Shapes.{arrows_of, bars_of, marks_of};
 
 use crate::drawing::{LEGEND, LEGEND_MORE, NamedView, STYLE};
 use crate::elements::{Way, put_text};
 use crate::moments::Recorded;
 use crate::parts::{Part, put_parts};
 use crate::places::{View, row_y, rows_y};
-use crate::rows::{edges_of, row_at, rows_of, stretches_of};
-use crate::shapes::{Arrow, Bar, Mark, Stretch, arrows_of, bars_of, marks_of};
+use crate::rows::{all_rows, row_at, stretches_of};
+use crate::shapes::{Stretch, arrows_of, bars_of, marks_of};
 use crate::texts::{Series, put_each, put_first};
 use std::alloc::{AllocError, Global};
 use trace_text::pieces::{Piece, put, put_all};
@@ -234,25 +235,27 @@ fn put_canvas(out: &mut Vec<u8>, view: View, rows: &[PageRange]) -> Result<(), A
     put_canvas_of(out, view, rows, (width(view), high), bottom)
 }
 
-// Appends the canvas and all shapes.
+// Appends the canvas and all shapes: pages first, calls over them, then arrows and marks.
 fn put_drawn(
+    alloc: Global,
     out: &mut Vec<u8>,
     view: View,
     text: &[u8],
+    moments: &[Recorded],
     rows: &[PageRange],
     stretches: &[Stretch],
-    bars: &[Bar],
-    arrows: &[Arrow],
-    marks: &[Mark],
 ) -> Result<(), AllocError>
-    ensures { OnOk result (out.new.items
-        ≡ out.old.items ++ drawn view text.now rows.now stretches.now bars.now arrows.now marks.now) }
+    ensures { OnOk result (out.new.items ≡ out.old.items ++ drawn view text.now rows.now stretches.now
+        (bars_of moments.now moments.now) (arrows_of moments.now moments.now) (marks_of moments.now)) }
 {
+    let bars = bars_of(alloc, moments)?;
+    let arrows = arrows_of(alloc, moments)?;
+    let marks = marks_of(alloc, moments)?;
     put_canvas(out, view, rows)?;
     put_each(out, &NamedView { view, text }, stretches)?;
-    put_each(out, &view, bars)?;
-    put_each(out, &view, arrows)?;
-    put_each(out, &view, marks)?;
+    put_each(out, &view, bars.as_slice())?;
+    put_each(out, &view, arrows.as_slice())?;
+    put_each(out, &view, marks.as_slice())?;
     put(out, "</svg>\n")?;
     Ok(())
 }
@@ -268,22 +271,17 @@ pub fn draw(
 ) -> Result<Vec<u8>, AllocError>
     ensures { IfOk result (λ drawn. drawn.items ≡ picture_text view text.now moments.now) }
 {
-    let edges = edges_of(alloc, moments)?;
-    let rows = rows_of(alloc, moments, edges.as_slice())?;
+    let rows = all_rows(alloc, moments)?;
     let stretches = stretches_of(alloc, moments, rows.as_slice())?;
-    let bars = bars_of(alloc, moments)?;
-    let arrows = arrows_of(alloc, moments)?;
-    let marks = marks_of(alloc, moments)?;
     let mut out: Vec<u8> = Vec::new(alloc);
     put_drawn(
+        alloc,
         &mut out,
         view,
         text,
+        moments,
         rows.as_slice(),
         stretches.as_slice(),
-        bars.as_slice(),
-        arrows.as_slice(),
-        marks.as_slice(),
     )?;
     Ok(out)
 }
