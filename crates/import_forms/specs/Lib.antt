@@ -1,4 +1,5 @@
 pub mod Tokens
+pub mod Calls
 pub mod Stamps
 pub mod Speech
 pub mod Looks

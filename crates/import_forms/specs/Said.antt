@@ -1,6 +1,6 @@
 -- What the text of a call says.
-use Rattle.std.specs.Prelude.{ℕ, ◌/◌, ◌%◌, ◌^◌, Bool, true, false, not, ◌&&◌, ◌||◌, List, [], ◌∷◌, Option, None, Some, if◌then◌else◌, ◌==◌, codes}
-use Rattle.std.specs.Prelude.{drop, length, nat_le, option_map, unwrap_or}
+use Rattle.std.specs.Prelude.{ℕ, ◌^◌, Bool, true, false, not, ◌&&◌, ◌||◌, List, [], ◌∷◌, Option, None, Some, if◌then◌else◌, ◌==◌, codes}
+use Rattle.std.specs.Prelude.{drop, length, nat_le, unwrap_or}
 use Rattle.std.specs.Str.{bytes_eq}
 use Rattle.trace_text.specs.Number.{number_of}
 use Rattle.trace_text.specs.Request.{◌>>=◌}
@@ -9,47 +9,43 @@ use Rattle.vm_base.specs.declared.rights.Prot.{Prot}
 use Rattle.vm_base.specs.declared.requests.Flags.{Flags}
 use Rattle.vm_base.specs.declared.requests.Request.{Request}
 use Rattle.vm_base.specs.declared.requests.Request.TheVariants.{Mmap, Munmap, Mprotect}
+use Rattle.import_forms.specs.Calls.{asked, call_named, drops, flags_of, has_bit, is_plain, keyed, lost_of, lost_or_unread, rights_of}
 use Rattle.import_forms.specs.Stamps.{front_thread}
 use Rattle.import_forms.specs.Tokens.{Token, at_end, begins_by, front_count, front_token, from_token, occurs, only_count, split_at_last}
-use Rattle.import_forms.specs.declared.said.Call.{Call}
-use Rattle.import_forms.specs.declared.said.Call.TheVariants as Of
+use Rattle.import_forms.specs.declared.calls.Call.{Call}
+use Rattle.import_forms.specs.declared.calls.Call.TheVariants as Of
+use Rattle.import_forms.specs.declared.calls.Outcome.{Outcome}
+use Rattle.import_forms.specs.declared.calls.Outcome.TheVariants.{Gives, Fails, Unclear}
 use Rattle.import_forms.specs.declared.said.Lost.{Lost}
 use Rattle.import_forms.specs.declared.said.Lost.TheVariants as Lose
-use Rattle.import_forms.specs.declared.said.Outcome.{Outcome}
-use Rattle.import_forms.specs.declared.said.Outcome.TheVariants.{Gives, Fails, Unclear}
 use Rattle.import_forms.specs.declared.said.Said.{Said}
 use Rattle.import_forms.specs.declared.said.Said.TheVariants as Says
 
--- ---- the calls that change what is mapped, each by its name
+-- ---- the calls that strace alone writes so
 
--- those whose every success no trace has
-abbrev pub lost_named : Token → Option Lost
-lost_named name = if bytes_eq name (codes "remap_file_pages") then Some Lose.Remaps
-    else if bytes_eq name (codes "userfaultfd") then Some Lose.Faults
-    else if bytes_eq name (codes "io_setup") || bytes_eq name (codes "io_destroy") then Some Lose.Others
-    else if bytes_eq name (codes "map_shadow_stack") then Some Lose.Others
-    else None
-
--- those that a trace has otherwise, or some of whose successes it hasn't
+-- those that change the space otherwise
 abbrev pub memory_named : Token → Option Call
-memory_named name = if bytes_eq name (codes "pkey_mprotect") then Some Of.Keyed
-    else if bytes_eq name (codes "madvise") || bytes_eq name (codes "process_madvise") then Some Of.Advise
+memory_named name = if bytes_eq name (codes "process_madvise") then Some Of.Advise
     else if bytes_eq name (codes "shmget") then Some Of.Size
     else if bytes_eq name (codes "shmat") then Some Of.Attach
     else if bytes_eq name (codes "shmdt") then Some Of.Detach
-    else option_map Of.Lost (lost_named name)
+    else if bytes_eq name (codes "map_shadow_stack") then Some (Of.Lost Lose.Others)
+    else None
 
-abbrev pub call_named : Token → Option Call
-call_named name = if bytes_eq name (codes "mmap") || bytes_eq name (codes "mmap2") then Some Of.Mmap
-    else if bytes_eq name (codes "munmap") then Some Of.Munmap
-    else if bytes_eq name (codes "mprotect") then Some Of.Mprotect
-    else if bytes_eq name (codes "brk") then Some Of.Brk
-    else if bytes_eq name (codes "mremap") then Some Of.Mremap
+abbrev pub strace_named : Token → Option Call
+strace_named name = if bytes_eq name (codes "mmap2") then Some Of.Mmap
     else if bytes_eq name (codes "clone") || bytes_eq name (codes "clone3") then Some Of.Make
     else if bytes_eq name (codes "fork") then Some Of.Make
     else if bytes_eq name (codes "vfork") then Some Of.MakeGuest
     else if bytes_eq name (codes "execve") || bytes_eq name (codes "execveat") then Some Of.Begin
     else memory_named name
+
+abbrev pub named_else : Token → Option Call → Option Call
+named_else name (Some call) = Some call
+named_else name None = strace_named name
+
+abbrev pub said_named : Token → Option Call
+said_named name = named_else name (call_named name)
 
 -- the number of a thread with its name, which is all that stands here
 unfoldable pub only_thread : List ℕ → Option ℕ
@@ -71,40 +67,51 @@ outcome_from after None = outcome_else after (only_thread after)
 abbrev pub outcome_of : List ℕ → Outcome
 outcome_of after = outcome_from after (only_count after)
 
--- ---- flags, by their names, or by their bits as Linux numbers them
+-- ---- flags, by their names or by their bits
 
 abbrev pub flag_in : List ℕ → ℕ → Token → Option ℕ → Bool
-flag_in name bit token (Some number) = number / bit % 2 == 1
+flag_in name bit token (Some bits) = has_bit bit bits
 flag_in name bit token None = occurs name token
 
 -- the token has this flag: its bit, where the token is a number, and else its name
 abbrev pub has_flag : List ℕ → ℕ → Token → Bool
 has_flag name bit token = flag_in name bit token (number_of token)
 
--- the rights that a token names
-abbrev pub prot_named : Token → Prot
-prot_named token = record {
-  read = has_flag (codes "PROT_READ") 1 token;
-  write = has_flag (codes "PROT_WRITE") 2 token;
-  exec = has_flag (codes "PROT_EXEC") 4 token;
+abbrev pub rights_in : Token → Option ℕ → Prot
+rights_in token (Some bits) = rights_of bits
+rights_in token None = record {
+  read = occurs (codes "PROT_READ") token;
+  write = occurs (codes "PROT_WRITE") token;
+  exec = occurs (codes "PROT_EXEC") token;
 }
 
-abbrev pub private_in : Token → Option ℕ → Bool
-private_in token (Some number) = number % 4 == 2
-private_in token None = occurs (codes "MAP_PRIVATE") token
+-- the rights that a token names
+abbrev pub prot_named : Token → Prot
+prot_named token = rights_in token (number_of token)
 
--- the low bits are 2 (MAP_PRIVATE), and neither 1 (MAP_SHARED) nor 3 (MAP_SHARED_VALIDATE)
-abbrev pub is_private : Token → Bool
-is_private token = private_in token (number_of token)
+-- MAP_SHARED stands in MAP_SHARED_VALIDATE, too
+abbrev pub flags_in : Token → Option ℕ → Flags
+flags_in token (Some bits) = flags_of bits
+flags_in token None = record {
+  private = occurs (codes "MAP_PRIVATE") token;
+  shared = occurs (codes "MAP_SHARED") token;
+  fixed = true;
+  anon = occurs (codes "MAP_ANONYMOUS") token;
+}
 
 -- the flags that a token names, of a mapping that the kernel has placed
 abbrev pub flags_named : Token → Flags
-flags_named token = record {
-  private = is_private token;
-  shared = has_flag (codes "MAP_SHARED") 1 token;
-  fixed = true;
-  anon = has_flag (codes "MAP_ANONYMOUS") 32 token;
-}
+flags_named token = flags_in token (number_of token)
+
+abbrev pub lost_in : Token → Option ℕ → Option Lost
+lost_in token (Some bits) = lost_of bits
+lost_in token None = if occurs (codes "MAP_HUGETLB") token then Some Lose.Huge
+    else if occurs (codes "MAP_GROWSDOWN") token then Some Lose.Grows
+    else None
+
+-- what a mapping with these flags is that no trace has
+abbrev pub lost_by : Token → Option Lost
+lost_by token = lost_in token (number_of token)
 
 abbrev pub growing_in : Token → Option ℕ → Bool
 growing_in token (Some number) = nat_le (2 ^ 24) number
@@ -146,67 +153,55 @@ flags_number before = do
   token ← front_token rest
   number_of (before_bar token.0)
 
-abbrev pub has_bit : ℕ → Option ℕ → Bool
-has_bit bit None = false
-has_bit bit (Some number) = number / bit % 2 == 1
+abbrev pub made_bit : ℕ → Option ℕ → Bool
+made_bit bit None = false
+made_bit bit (Some bits) = has_bit bit bits
 
 -- a call that makes a thread has this flag, by its name, or by its bit in the number of the flags
 abbrev pub makes_with : List ℕ → ℕ → List ℕ → Bool
-makes_with name bit before = if occurs name before then true else has_bit bit (flags_number before)
+makes_with name bit before = if occurs name before then true else made_bit bit (flags_number before)
 
 -- a thread of the same process is made, or the first one of another, which has its maker's address space or one of its own
 abbrev pub making_said : List ℕ → ℕ → Said
 making_said before thread = if makes_with (codes "CLONE_THREAD") 65536 before then Says.Makes thread true false
     else Says.Makes thread false (makes_with (codes "CLONE_VM") 256 before)
 
--- private or shared, and not both
-abbrev pub has_kind : Flags → Bool
-has_kind flags = if flags.private then not flags.shared else flags.shared
-
--- one kind, pages of the usual size, and a mapping that doesn't grow by itself
-abbrev pub is_plain : Token → Bool
-is_plain token = if has_flag (codes "MAP_HUGETLB") 262144 token then false
-    else if has_flag (codes "MAP_GROWSDOWN") 256 token then false else has_kind (flags_named token)
+-- of `HINT, LEN, PROT, FLAGS, ..` length, rights, flags, and what stands behind them
+unfoldable pub mmap_words : List ℕ → Option (Token × Token × Token × List ℕ)
+mmap_words args = do
+  hint ← front_token args
+  len ← front_token hint.1
+  prot ← front_token len.1
+  flags ← front_token (past_comment prot.1)
+  Some (len.0, prot.0, flags.0, flags.1)
 
 -- `HINT, LEN, PROT, FLAGS, DESCRIPTOR, OFF`: a mapping at the address that the kernel gave
 unfoldable pub mmap_said : List ℕ → ℕ → Option Request
 mmap_said before addr = do
   parts ← split_at_last (byte (codes ",")) before
   off ← only_count parts.1
-  hint ← front_token parts.0
-  len ← front_count hint.1
-  prot ← front_token len.1
-  flags ← front_token (past_comment prot.1)
-  if is_plain flags.0 then Some (Mmap addr len.0 (prot_named prot.0) (flags_named flags.0) 0 off) else None
+  words ← mmap_words parts.0
+  len ← number_of words.0
+  if is_plain (flags_named words.2) (lost_by words.2) then Some (Mmap addr len (prot_named words.1) (flags_named words.2) 0 off) else None
 
--- the flags of `HINT, LEN, PROT, FLAGS, ..`
-unfoldable pub flags_of_mmap : List ℕ → Option Token
-flags_of_mmap before = do
-  hint ← front_token before
-  len ← front_token hint.1
-  prot ← front_token len.1
-  flags ← front_token (past_comment prot.1)
-  Some flags.0
-
--- a mapping with these flags that isn't read: of pages of another size, or one that grows by itself
-abbrev pub lost_by : Option Token → Said
-lost_by None = Says.Unread
-lost_by (Some flags) = if has_flag (codes "MAP_HUGETLB") 262144 flags then Says.Loses Lose.Huge
-    else if has_flag (codes "MAP_GROWSDOWN") 256 flags then Says.Loses Lose.Grows
-    else Says.Unread
+-- what a mapping of `HINT, LEN, PROT, FLAGS, ..` is that no trace has
+unfoldable pub lost_mmap : List ℕ → Option Lost
+lost_mmap before = do
+  words ← mmap_words before
+  lost_by words.2
 
 -- a mapping that is read, or none
 abbrev pub mapping_said : List ℕ → Option Request → Said
 mapping_said before (Some request) = Says.Asks request
-mapping_said before None = lost_by (flags_of_mmap before)
+mapping_said before None = lost_or_unread (lost_mmap before)
 
 abbrev pub drops_in : Token → Option ℕ → Bool
-drops_in token (Some number) = (number == 4) || (number == 8) || (number == 9) || (number == 24)
+drops_in token (Some advice) = drops advice
 drops_in token None = begins_by (codes "MADV_DONTNEED") token || bytes_eq token (codes "MADV_FREE") || bytes_eq token (codes "MADV_REMOVE")
 
--- advice that drops the bytes of pages: MADV_DONTNEED is 4, MADV_FREE 8, MADV_REMOVE 9, and MADV_DONTNEED_LOCKED 24
-abbrev pub drops : Token → Bool
-drops token = drops_in token (number_of token)
+-- advice that drops the bytes of pages
+abbrev pub drops_bytes : Token → Bool
+drops_bytes token = drops_in token (number_of token)
 
 -- `ADDR, LEN, ADVICE`
 unfoldable pub advice_said : List ℕ → Option Said
@@ -214,7 +209,7 @@ advice_said before = do
   addr ← front_count before
   len ← front_count addr.1
   advice ← front_token len.1
-  if drops advice.0 then Some (Says.Loses Lose.Drops) else Some Says.Other
+  if drops_bytes advice.0 then Some (Says.Loses Lose.Drops) else Some Says.Other
 
 -- `KEY, LEN, FLAGS`: shared memory of this number; of a length of 0 its size was said before
 unfoldable pub size_said : List ℕ → ℕ → Option Said
@@ -270,16 +265,6 @@ mremap_said before to = do
   if old.0 == 0 then None else if has_flag (codes "MREMAP_DONTUNMAP") 4 flags.0 then None
       else Some (Says.Moves from.0 old.0 to new.0)
 
--- a request, or a line that cannot be read
-abbrev pub asked : Option Request → Said
-asked (Some request) = Says.Asks request
-asked None = Says.Unread
-
--- rights with a key, or a line that cannot be read
-abbrev pub keyed : Option Request → Said
-keyed (Some request) = Says.Keyed request
-keyed None = Says.Unread
-
 -- what a call says that gave this number, from what stands before the sign of equality
 abbrev pub done_said : Call → List ℕ → ℕ → Said
 done_said Of.Mmap before gave = mapping_said before (mmap_said before gave)
@@ -312,7 +297,7 @@ outcome_said call (Some parts) = ended_said call parts.0 (outcome_of parts.1)
 unfoldable pub known_said : List ℕ → Option Said
 known_said text = do
   first ← front_token text
-  call ← call_named first.0
+  call ← said_named first.0
   Some (outcome_said call (split_at_last (byte (codes "=")) first.1))
 
 abbrev pub known_by : Option Said → Bool
@@ -332,23 +317,14 @@ abbrev pub from_sign : List ℕ → List ℕ → List ℕ
 from_sign all [] = all
 from_sign all (x ∷ xs) = if x == byte (codes "<") then x ∷ xs else from_sign all xs
 
--- what stands behind rights and flags, each with its comment
-unfoldable pub past_flags : List ℕ → Option (List ℕ)
-past_flags bytes = do
-  prot ← front_token bytes
-  flags ← front_token (past_comment prot.1)
-  Some (past_comment flags.1)
-
 -- what stands between the flags of an mmap and its offset
 unfoldable pub file_said : List ℕ → Option (List ℕ)
 file_said text = do
   whole ← split_at_last (byte (codes "=")) text
   parts ← split_at_last (byte (codes ",")) whole.0
   name ← front_token parts.0
-  hint ← front_token name.1
-  len ← front_token hint.1
-  rest ← past_flags len.1
-  Some (from_token rest)
+  words ← mmap_words name.1
+  Some (from_token (past_comment words.3))
 
 -- the name that strace shows behind a descriptor, and else the descriptor itself
 abbrev pub named_file : List ℕ → Option (List ℕ) → List ℕ

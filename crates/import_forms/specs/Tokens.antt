@@ -1,5 +1,5 @@
 -- The tokens of a line of strace: its bytes up to gaps.
-use Rattle.std.specs.Prelude.{ℕ, Bool, false, ◌||◌, List, [], ◌∷◌, Option, None, Some, if◌then◌else◌, ◌==◌, codes, length, take}
+use Rattle.std.specs.Prelude.{ℕ, Bool, false, ◌||◌, List, [], ◌∷◌, Option, None, Some, if◌then◌else◌, ◌==◌, codes, drop, length, take}
 use Rattle.std.specs.Str.{bytes_eq}
 use Rattle.trace_text.specs.Number.{below_word, number_of, value_from}
 use Rattle.trace_text.specs.Request.{◌>>=◌}
@@ -73,6 +73,10 @@ split_at_last mark (x ∷ xs) = divided_at mark x xs (split_at_last mark xs)
 -- the bytes begin with the name
 abbrev pub begins_by : List ℕ → List ℕ → Bool
 begins_by name bytes = bytes_eq (take (length name) bytes) name
+
+-- what stands behind the name, where the bytes begin with it
+abbrev pub stripped : List ℕ → List ℕ → Option (List ℕ)
+stripped name bytes = if begins_by name bytes then Some (drop (length name) bytes) else None
 
 -- the name stands somewhere in the bytes
 abbrev pub occurs : List ℕ → List ℕ → Bool

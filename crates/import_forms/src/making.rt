@@ -3,6 +3,7 @@ ghost use Rattle.std.specs.Prelude.{◌≡◌, ◌<◌, codes, option_map};
 ghost use Rattle.import_forms.specs.Tokens.{begins_by, occurs};
 ghost use Rattle.import_forms.specs.Said.{before_bar, behind, flags_number, makes_with, making_said};
 
+use crate::calls::has_bit;
 use crate::said::Said;
 use crate::tokens::{begins, has, next_token, split_last};
 use trace_text::number::read_number;
@@ -52,7 +53,7 @@ fn makes_with(before: &[u8], name: &[u8], bit: u64) -> bool
         return true;
     }
     match flags_number(before) {
-        Some(number) => number / bit % 2 == 1,
+        Some(bits) => has_bit(bits, bit),
         None => false,
     }
 }

@@ -1,43 +1,20 @@
 //! What the text of a call says.
-ghost use Rattle.std.specs.Prelude.{◌≡◌, ◌≤◌, ◌<◌, codes, drop, option_map};
+ghost use Rattle.std.specs.Prelude.{◌≡◌, ◌≤◌, ◌<◌, None, codes, option_map};
 ghost use Rattle.import_forms.specs.Tokens.{begins_by, occurs, split_at_last};
-ghost use Rattle.import_forms.specs.Said.{asked, call_named, comment_end, done_said, file_named, file_said, flags_named, from_sign};
-ghost use Rattle.import_forms.specs.Said.{has_flag, is_for_growing, outcome_else, has_kind, is_known, is_plain, is_private, known_said, mmap_said, mprotect_said, mremap_said, munmap_said};
-ghost use Rattle.import_forms.specs.Said.{advice_said, attach_said, detach_said, drops, flags_of_mmap, keyed, lost_by, lost_named, mapping_said, memory_named, size_said};
-ghost use Rattle.import_forms.specs.Said.{only_thread, outcome_of, outcome_said, past_comment, past_flags, prot_attached, prot_named, said_of};
+ghost use Rattle.import_forms.specs.Said.{advice_said, attach_said, comment_end, detach_said, done_said, drops_bytes, drops_in, file_named, file_said, flags_named, from_sign};
+ghost use Rattle.import_forms.specs.Said.{has_flag, is_for_growing, is_known, known_said, lost_by, lost_in, lost_mmap, mapping_said, memory_named, mmap_said, mmap_words, mprotect_said};
+ghost use Rattle.import_forms.specs.Said.{mremap_said, munmap_said, only_thread, outcome_else, outcome_of, outcome_said, past_comment, prot_attached, prot_named};
+ghost use Rattle.import_forms.specs.Said.{said_named, said_of, size_said, strace_named};
 
+use crate::calls::{
+    Call, Outcome, asked, call_named, drops, flags_of, has_bit, is_plain, keyed, lost_of,
+    lost_or_unread, rights_of,
+};
 use crate::making::read_making;
 use crate::stamps::front_thread;
 use crate::tokens::{begins, has, next_count, next_token, read_only, split_last, without_gaps};
 use trace_text::number::read_number;
 use vm_base::{Flags, Prot, Request};
-
-// The calls that are looked at.
-#[derive(Clone, Copy)]
-enum Call {
-    // `mmap`, and `mmap2` of programs of 32 bits.
-    Mmap,
-    Munmap,
-    Mprotect,
-    Brk,
-    Mremap,
-    // `clone`, `clone3` and `fork`.
-    Make,
-    // `vfork`.
-    MakeGuest,
-    // `execve` and `execveat`.
-    Begin,
-    // `pkey_mprotect`.
-    Keyed,
-    // `madvise` and `process_madvise`.
-    Advise,
-    // `shmget`, `shmat` and `shmdt`.
-    Size,
-    Attach,
-    Detach,
-    // A call of which no trace has anything.
-    Lost(Lost),
-}
 
 /// What changes an address space in a way that no trace has.
 #[derive(Clone, Copy)]
@@ -58,15 +35,6 @@ pub enum Lost {
     Faults,
     /// `io_setup`, `io_destroy` and `map_shadow_stack`: the kernel maps or unmaps pages of its own choice.
     Others,
-}
-
-// What stands after the sign of equality.
-#[derive(Clone, Copy)]
-enum Outcome {
-    Gives(u64),
-    // -1, and why.
-    Fails,
-    Unclear,
 }
 
 /// What the text of a call says.
@@ -128,20 +96,12 @@ pub enum Said {
     Other,
 }
 
-// The call of this name.
-fn call_named(name: &[u8]) -> Option<Call>
-    ensures { result ≡ call_named name.now }
+// The call of this name, of those that strace alone writes so.
+fn strace_named(name: &[u8]) -> Option<Call>
+    ensures { result ≡ strace_named name.now }
 {
-    if name == b"mmap".as_slice() || name == b"mmap2".as_slice() {
+    if name == b"mmap2".as_slice() {
         Some(Call::Mmap)
-    } else if name == b"munmap".as_slice() {
-        Some(Call::Munmap)
-    } else if name == b"mprotect".as_slice() {
-        Some(Call::Mprotect)
-    } else if name == b"brk".as_slice() {
-        Some(Call::Brk)
-    } else if name == b"mremap".as_slice() {
-        Some(Call::Mremap)
     } else if name == b"clone".as_slice() || name == b"clone3".as_slice() {
         Some(Call::Make)
     } else if name == b"fork".as_slice() {
@@ -159,9 +119,7 @@ fn call_named(name: &[u8]) -> Option<Call>
 fn memory_named(name: &[u8]) -> Option<Call>
     ensures { result ≡ memory_named name.now }
 {
-    if name == b"pkey_mprotect".as_slice() {
-        Some(Call::Keyed)
-    } else if name == b"madvise".as_slice() || name == b"process_madvise".as_slice() {
+    if name == b"process_madvise".as_slice() {
         Some(Call::Advise)
     } else if name == b"shmget".as_slice() {
         Some(Call::Size)
@@ -169,28 +127,20 @@ fn memory_named(name: &[u8]) -> Option<Call>
         Some(Call::Attach)
     } else if name == b"shmdt".as_slice() {
         Some(Call::Detach)
+    } else if name == b"map_shadow_stack".as_slice() {
+        Some(Call::Lost(Lost::Others))
     } else {
-        match lost_named(name) {
-            Some(lost) => Some(Call::Lost(lost)),
-            None => None,
-        }
+        None
     }
 }
 
-// What the call of this name changes whenever it succeeds, and no trace has.
-fn lost_named(name: &[u8]) -> Option<Lost>
-    ensures { result ≡ lost_named name.now }
+// The call of this name.
+fn said_named(name: &[u8]) -> Option<Call>
+    ensures { result ≡ said_named name.now }
 {
-    if name == b"remap_file_pages".as_slice() {
-        Some(Lost::Remaps)
-    } else if name == b"userfaultfd".as_slice() {
-        Some(Lost::Faults)
-    } else if name == b"io_setup".as_slice() || name == b"io_destroy".as_slice() {
-        Some(Lost::Others)
-    } else if name == b"map_shadow_stack".as_slice() {
-        Some(Lost::Others)
-    } else {
-        None
+    match call_named(name) {
+        Some(call) => Some(call),
+        None => strace_named(name),
     }
 }
 
@@ -239,116 +189,61 @@ fn has_flag(token: &[u8], name: &[u8], bit: u64) -> bool
     ensures { result ≡ has_flag name.now bit token.now }
 {
     match read_number(token) {
-        Some(number) => number / bit % 2 == 1,
+        Some(bits) => has_bit(bits, bit),
         None => has(token, name),
     }
-}
-
-// Tells whether a token allows reading.
-fn allows_reading(token: &[u8]) -> bool
-    ensures { result ≡ has_flag (codes "PROT_READ") 1 token.now }
-{
-    has_flag(token, b"PROT_READ".as_slice(), 1)
-}
-
-// Tells whether a token allows writing.
-fn allows_writing(token: &[u8]) -> bool
-    ensures { result ≡ has_flag (codes "PROT_WRITE") 2 token.now }
-{
-    has_flag(token, b"PROT_WRITE".as_slice(), 2)
-}
-
-// Tells whether a token allows execution.
-fn allows_execution(token: &[u8]) -> bool
-    ensures { result ≡ has_flag (codes "PROT_EXEC") 4 token.now }
-{
-    has_flag(token, b"PROT_EXEC".as_slice(), 4)
 }
 
 // The rights that a token names.
 fn prot_named(token: &[u8]) -> Prot
     ensures { result ≡ prot_named token.now }
 {
-    Prot {
-        read: allows_reading(token),
-        write: allows_writing(token),
-        exec: allows_execution(token),
-    }
-}
-
-// Tells whether a token names `MAP_PRIVATE`: of the two low bits of a number, the second alone.
-fn is_private(token: &[u8]) -> bool
-    ensures { result ≡ is_private token.now }
-{
     match read_number(token) {
-        Some(number) => number % 4 == 2,
-        None => has(token, b"MAP_PRIVATE".as_slice()),
+        Some(bits) => rights_of(bits),
+        None => Prot {
+            read: has(token, b"PROT_READ".as_slice()),
+            write: has(token, b"PROT_WRITE".as_slice()),
+            exec: has(token, b"PROT_EXEC".as_slice()),
+        },
     }
-}
-
-// Tells whether a token names `MAP_SHARED`.
-fn is_shared(token: &[u8]) -> bool
-    ensures { result ≡ has_flag (codes "MAP_SHARED") 1 token.now }
-{
-    has_flag(token, b"MAP_SHARED".as_slice(), 1)
-}
-
-// Tells whether a token names `MAP_ANONYMOUS`.
-fn is_anonymous(token: &[u8]) -> bool
-    ensures { result ≡ has_flag (codes "MAP_ANONYMOUS") 32 token.now }
-{
-    has_flag(token, b"MAP_ANONYMOUS".as_slice(), 32)
 }
 
 // The flags that a token names. The kernel has placed the mapping, so it is fixed.
 fn flags_named(token: &[u8]) -> Flags
     ensures { result ≡ flags_named token.now }
 {
-    Flags {
-        private: is_private(token),
-        shared: is_shared(token),
-        fixed: true,
-        anon: is_anonymous(token),
+    match read_number(token) {
+        Some(bits) => flags_of(bits),
+        None => Flags {
+            private: has(token, b"MAP_PRIVATE".as_slice()),
+            shared: has(token, b"MAP_SHARED".as_slice()),
+            fixed: true,
+            anon: has(token, b"MAP_ANONYMOUS".as_slice()),
+        },
     }
 }
 
-/// Tells whether a mapping is private or shared, and not both.
-pub fn has_kind(flags: Flags) -> bool
-    ensures { result ≡ has_kind flags }
+// What a mapping is that no trace has, if its flags have such names.
+fn names_lost(token: &[u8]) -> Option<Lost>
+    ensures { result ≡ lost_in token.now None }
 {
-    if flags.private {
-        !flags.shared
+    if has(token, b"MAP_HUGETLB".as_slice()) {
+        Some(Lost::Huge)
+    } else if has(token, b"MAP_GROWSDOWN".as_slice()) {
+        Some(Lost::Grows)
     } else {
-        flags.shared
+        None
     }
 }
 
-// Tells whether pages are of another size.
-fn is_huge(token: &[u8]) -> bool
-    ensures { result ≡ has_flag (codes "MAP_HUGETLB") 262144 token.now }
+// What a mapping with the flags that a token names is that no trace has.
+fn lost_by(token: &[u8]) -> Option<Lost>
+    ensures { result ≡ lost_by token.now }
 {
-    has_flag(token, b"MAP_HUGETLB".as_slice(), 262_144)
-}
-
-// Tells whether a mapping grows by itself.
-fn is_growing(token: &[u8]) -> bool
-    ensures { result ≡ has_flag (codes "MAP_GROWSDOWN") 256 token.now }
-{
-    has_flag(token, b"MAP_GROWSDOWN".as_slice(), 256)
-}
-
-// Tells whether the pages are of the usual size, and the mapping doesn't grow by itself. The token names these flags.
-fn is_plain(token: &[u8], flags: Flags) -> bool
-    requires { flags ≡ flags_named token.now }
-    ensures { result ≡ is_plain token.now }
-{
-    if is_huge(token) {
-        return false;
+    match read_number(token) {
+        Some(bits) => lost_of(bits),
+        None => names_lost(token),
     }
-    if is_growing(token) {
-        return false;
-    }
-    has_kind(flags)
 }
 
 // What stands after a comment, `/* NAMES */`, if one stands first.
@@ -386,6 +281,18 @@ fn is_for_growing(token: &[u8]) -> bool
     }
 }
 
+// What `HINT, LEN, PROT, FLAGS, ..` has: length, rights, flags, and what stands after them.
+#[tactic(auto, unfolding(crate::specs::Said::mmap_words))]
+fn mmap_words(args: &[u8]) -> Option<(&[u8], &[u8], &[u8], &[u8])>
+    ensures { option_map (λ f. (f.0.now, f.1.now, f.2.now, f.3.now)) result ≡ mmap_words args.now }
+{
+    let (_, rest) = next_token(args)?;
+    let (len, rest) = next_token(rest)?;
+    let (prot, rest) = next_token(rest)?;
+    let (flags, rest) = next_token(past_comment(rest))?;
+    Some((len, prot, flags, rest))
+}
+
 // `HINT, LEN, PROT, FLAGS, DESCRIPTOR, OFF`, placed at this address.
 #[tactic(auto, unfolding(crate::specs::Said::mmap_said))]
 fn read_mmap(before: &[u8], addr: u64) -> Option<Request>
@@ -393,12 +300,10 @@ fn read_mmap(before: &[u8], addr: u64) -> Option<Request>
 {
     let (front, back) = split_last(before, b',')?;
     let off = read_only(back)?;
-    let (_, rest) = next_token(front)?;
-    let (len, rest) = next_count(rest)?;
-    let (prot, rest) = next_token(rest)?;
-    let (names, _) = next_token(past_comment(rest))?;
+    let (len, prot, names, _) = mmap_words(front)?;
+    let len = read_number(len)?;
     let flags = flags_named(names);
-    if !is_plain(names, flags) {
+    if !is_plain(flags, lost_by(names)) {
         return None;
     }
     Some(Request::Mmap {
@@ -411,29 +316,13 @@ fn read_mmap(before: &[u8], addr: u64) -> Option<Request>
     })
 }
 
-// The flags of `HINT, LEN, PROT, FLAGS, ..`.
-#[tactic(auto, unfolding(crate::specs::Said::flags_of_mmap))]
-fn flags_of_mmap(before: &[u8]) -> Option<&[u8]>
-    ensures { option_map (λ f. f.now) result ≡ flags_of_mmap before.now }
+// What a mapping of `HINT, LEN, PROT, FLAGS, ..` is that no trace has.
+#[tactic(auto, unfolding(crate::specs::Said::lost_mmap))]
+fn lost_mmap(before: &[u8]) -> Option<Lost>
+    ensures { result ≡ lost_mmap before.now }
 {
-    let (_, rest) = next_token(before)?;
-    let (_, rest) = next_token(rest)?;
-    let (_, rest) = next_token(rest)?;
-    let (flags, _) = next_token(past_comment(rest))?;
-    Some(flags)
-}
-
-// What a mapping with these flags is that isn't read.
-fn lost_by(flags: &[u8]) -> Said
-    ensures { result ≡ lost_by (Some flags.now) }
-{
-    if is_huge(flags) {
-        return Said::Loses(Lost::Huge);
-    }
-    if is_growing(flags) {
-        return Said::Loses(Lost::Grows);
-    }
-    Said::Unread
+    let (_, _, flags, _) = mmap_words(before)?;
+    lost_by(flags)
 }
 
 // What an `mmap` says that gave this address.
@@ -442,24 +331,26 @@ fn read_mapping(before: &[u8], addr: u64) -> Said
 {
     match read_mmap(before, addr) {
         Some(request) => Said::Asks(request),
-        None => match flags_of_mmap(before) {
-            Some(flags) => lost_by(flags),
-            None => Said::Unread,
-        },
+        None => lost_or_unread(lost_mmap(before)),
     }
 }
 
+// Tells whether the advice of this name drops the bytes of pages.
+fn drops_named(token: &[u8]) -> bool
+    ensures { result ≡ drops_in token.now None }
+{
+    begins(token, b"MADV_DONTNEED".as_slice())
+        || token == b"MADV_FREE".as_slice()
+        || token == b"MADV_REMOVE".as_slice()
+}
+
 // Tells whether this advice drops the bytes of pages.
-fn drops(token: &[u8]) -> bool
-    ensures { result ≡ drops token.now }
+fn drops_bytes(token: &[u8]) -> bool
+    ensures { result ≡ drops_bytes token.now }
 {
     match read_number(token) {
-        Some(number) => number == 4 || number == 8 || number == 9 || number == 24,
-        None => {
-            begins(token, b"MADV_DONTNEED".as_slice())
-                || token == b"MADV_FREE".as_slice()
-                || token == b"MADV_REMOVE".as_slice()
-        }
+        Some(advice) => drops(advice),
+        None => drops_named(token),
     }
 }
 
@@ -471,7 +362,7 @@ fn read_advice(before: &[u8]) -> Option<Said>
     let (_, rest) = next_count(before)?;
     let (_, rest) = next_count(rest)?;
     let (advice, _) = next_token(rest)?;
-    if drops(advice) {
+    if drops_bytes(advice) {
         Some(Said::Loses(Lost::Drops))
     } else {
         Some(Said::Other)
@@ -585,26 +476,6 @@ fn read_mremap(before: &[u8], to: u64) -> Option<Said>
     Some(Said::Moves { from, old, to, new })
 }
 
-/// A request, where one was read.
-pub fn asked(request: Option<Request>) -> Said
-    ensures { result ≡ asked request }
-{
-    match request {
-        Some(request) => Said::Asks(request),
-        None => Said::Unread,
-    }
-}
-
-// Rights with a key, where they were read.
-fn keyed(request: Option<Request>) -> Said
-    ensures { result ≡ keyed request }
-{
-    match request {
-        Some(request) => Said::Keyed(request),
-        None => Said::Unread,
-    }
-}
-
 // What is said by a call that gave this number, from what stands before it.
 fn read_done(call: Call, before: &[u8], gave: u64) -> Said
     ensures { result ≡ done_said call before.now gave }
@@ -666,7 +537,7 @@ fn read_known(text: &[u8]) -> Option<Said>
     ensures { result ≡ known_said text.now }
 {
     let (name, args) = next_token(text)?;
-    let call = call_named(name)?;
+    let call = said_named(name)?;
     Some(read_args(call, args))
 }
 
@@ -705,16 +576,6 @@ fn from_sign(bytes: &[u8]) -> &[u8]
     bytes
 }
 
-// What stands after rights and flags, each with its comment.
-#[tactic(auto, unfolding(crate::specs::Said::past_flags))]
-fn past_flags(bytes: &[u8]) -> Option<&[u8]>
-    ensures { option_map (λ f. f.now) result ≡ past_flags bytes.now }
-{
-    let (_, rest) = next_token(bytes)?;
-    let (_, rest) = next_token(past_comment(rest))?;
-    Some(past_comment(rest))
-}
-
 // The file that `mmap` names: what stands between its flags and its offset.
 #[tactic(auto, unfolding(crate::specs::Said::file_said))]
 fn read_file(text: &[u8]) -> Option<&[u8]>
@@ -722,11 +583,9 @@ fn read_file(text: &[u8]) -> Option<&[u8]>
 {
     let (front, _) = split_last(text, b'=')?;
     let (front, _) = split_last(front, b',')?;
-    let (_, rest) = next_token(front)?;
-    let (_, rest) = next_token(rest)?;
-    let (_, rest) = next_token(rest)?;
-    let rest = past_flags(rest)?;
-    Some(without_gaps(rest))
+    let (_, args) = next_token(front)?;
+    let (_, _, _, rest) = mmap_words(args)?;
+    Some(without_gaps(past_comment(rest)))
 }
 
 /// The file that the text of an `mmap` names: its path, `<PATH>`, where strace shows it, else its descriptor.

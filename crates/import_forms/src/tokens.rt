@@ -2,7 +2,7 @@
 ghost use Rattle.std.specs.Prelude.{◌≡◌, ◌<◌, ◌≤◌, IfSome, drop, length, option_map, take};
 ghost use Rattle.trace_text.specs.Number.{digit_of};
 ghost use Rattle.import_forms.specs.Tokens.{begins_by, front_count, front_token, from_gap, from_token, hexadecimal, is_gap, occurs};
-ghost use Rattle.import_forms.specs.Tokens.{only_count, split_at_last, up_to_gap};
+ghost use Rattle.import_forms.specs.Tokens.{only_count, split_at_last, stripped, up_to_gap};
 
 use trace_text::number::read_number;
 
@@ -125,6 +125,17 @@ pub fn begins(bytes: &[u8], name: &[u8]) -> bool
     }
     let (front, _) = bytes.split_at(name.len());
     front == name
+}
+
+/// What stands after the name, if the bytes begin with it.
+pub fn strip<'a>(bytes: &'a [u8], name: &[u8]) -> Option<&'a [u8]>
+    ensures { option_map (λ f. f.now) result ≡ stripped name.now bytes.now }
+{
+    if !begins(bytes, name) {
+        return None;
+    }
+    let (_, rest) = bytes.split_at(name.len());
+    Some(rest)
 }
 
 // Tells whether the name stands at this place in the bytes.

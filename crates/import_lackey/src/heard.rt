@@ -1,13 +1,19 @@
 //! What a line of lackey says: an access, or a call of the system.
 ghost use Rattle.std.specs.Prelude.{◌≡◌, option_map};
-ghost use Rattle.import_lackey.specs.Heard.{access_named, advice_heard, begun_heard, bits_of_mmap, call_heard, call_named, descriptor_heard, done_heard, drops};
-ghost use Rattle.import_lackey.specs.Heard.{flags_heard, heard_of, is_plain, keyed_heard, known_heard, lost_by, lost_named, mapping_heard};
-ghost use Rattle.import_lackey.specs.Heard.{mmap_heard, mprotect_heard, mremap_heard, munmap_heard, outcome_heard, outcome_of, rights_heard, touch_heard};
+ghost use Rattle.import_lackey.specs.Heard.{access_named, advice_heard, begun_heard, call_heard, descriptor_heard, done_heard, heard_named};
+ghost use Rattle.import_lackey.specs.Heard.{heard_of, known_heard, lost_mmap, mapping_heard, mmap_counts, mmap_heard, mprotect_heard, mremap_heard};
+ghost use Rattle.import_lackey.specs.Heard.{munmap_heard, named_behind, outcome_heard, outcome_of, touch_heard};
 
-use import_forms::said::{Lost, Said, asked, has_kind};
-use import_forms::tokens::{next_count, next_token, read_hexadecimal, read_only, split_last};
+use import_forms::calls::{
+    Call, Outcome, asked, call_named, drops, flags_of, is_plain, keyed, lost_of, lost_or_unread,
+    rights_of,
+};
+use import_forms::said::{Lost, Said};
+use import_forms::tokens::{
+    next_count, next_token, read_hexadecimal, read_only, split_last, strip,
+};
 use trace_text::number::read_number;
-use vm_base::{Flags, Prot, Request};
+use vm_base::Request;
 
 /// How memory is accessed.
 #[derive(Clone, Copy)]
@@ -42,27 +48,6 @@ pub enum Heard {
     Calls(Said),
 }
 
-// The calls that are looked at.
-#[derive(Clone, Copy)]
-enum Call {
-    Mmap,
-    Munmap,
-    Mprotect,
-    Brk,
-    Mremap,
-    Keyed,
-    Advise,
-    Lost(Lost),
-}
-
-// How a call ended.
-#[derive(Clone, Copy)]
-enum Outcome {
-    Gives(u64),
-    Fails,
-    Unclear,
-}
-
 // The access of this letter.
 fn access_named(name: &[u8]) -> Option<LackeyAccess>
     ensures { result ≡ access_named name.now }
@@ -93,49 +78,26 @@ fn read_touch(line: &[u8]) -> Option<LackeyTouch>
     Some(LackeyTouch { access, addr, size })
 }
 
-// What the call of this name changes in a way that no trace has, if it does so.
-fn lost_named(name: &[u8]) -> Option<Lost>
-    ensures { result ≡ lost_named name.now }
+// The call whose name stands behind `sys_`. How much memory `shmat` and `shmdt` are of isn't known.
+fn named_behind(name: &[u8]) -> Option<Call>
+    ensures { result ≡ named_behind name.now }
 {
-    if name == b"sys_shmat".as_slice() {
-        Some(Lost::Attach)
-    } else if name == b"sys_shmdt".as_slice() {
-        Some(Lost::Detach)
-    } else if name == b"sys_remap_file_pages".as_slice() {
-        Some(Lost::Remaps)
-    } else if name == b"sys_userfaultfd".as_slice() {
-        Some(Lost::Faults)
-    } else if name == b"sys_io_setup".as_slice() || name == b"sys_io_destroy".as_slice() {
-        Some(Lost::Others)
+    if name == b"shmat".as_slice() {
+        Some(Call::Lost(Lost::Attach))
+    } else if name == b"shmdt".as_slice() {
+        Some(Call::Lost(Lost::Detach))
     } else {
-        None
+        call_named(name)
     }
 }
 
 // The call of this name.
-fn call_named(name: &[u8]) -> Option<Call>
-    ensures { result ≡ call_named name.now }
+#[tactic(auto, unfolding(crate::specs::Heard::heard_named))]
+fn heard_named(name: &[u8]) -> Option<Call>
+    ensures { result ≡ heard_named name.now }
 {
-    if name == b"sys_mmap".as_slice() {
-        Some(Call::Mmap)
-    } else if name == b"sys_munmap".as_slice() {
-        Some(Call::Munmap)
-    } else if name == b"sys_mprotect".as_slice() {
-        Some(Call::Mprotect)
-    } else if name == b"sys_brk".as_slice() {
-        Some(Call::Brk)
-    } else if name == b"sys_mremap".as_slice() {
-        Some(Call::Mremap)
-    } else if name == b"sys_pkey_mprotect".as_slice() {
-        Some(Call::Keyed)
-    } else if name == b"sys_madvise".as_slice() {
-        Some(Call::Advise)
-    } else {
-        match lost_named(name) {
-            Some(lost) => Some(Call::Lost(lost)),
-            None => None,
-        }
-    }
+    let bare = strip(name, b"sys_".as_slice())?;
+    named_behind(bare)
 }
 
 // How a call ended that answers with this word and number.
@@ -162,42 +124,6 @@ fn read_outcome(args: &[u8]) -> Option<Outcome>
     Some(outcome_heard(word, number))
 }
 
-// The rights of these bits.
-fn read_rights(bits: u64) -> Prot
-    ensures { result ≡ rights_heard bits }
-{
-    Prot {
-        read: bits % 2 == 1,
-        write: bits / 2 % 2 == 1,
-        exec: bits / 4 % 2 == 1,
-    }
-}
-
-// The flags of these bits. The kernel has placed the mapping, so it is fixed.
-fn read_flags(bits: u64) -> Flags
-    ensures { result ≡ flags_heard bits }
-{
-    Flags {
-        private: bits / 2 % 2 == 1,
-        shared: bits % 2 == 1,
-        fixed: true,
-        anon: bits / 32 % 2 == 1,
-    }
-}
-
-// Tells whether the pages are of the usual size, the mapping doesn't grow by itself, and it is private or shared, not both.
-fn is_plain(bits: u64) -> bool
-    ensures { result ≡ is_plain bits }
-{
-    if bits / 262_144 % 2 == 1 {
-        return false;
-    }
-    if bits / 256 % 2 == 1 {
-        return false;
-    }
-    has_kind(read_flags(bits))
-}
-
 // The descriptor that a token spells. Where there is no file it says nothing: some libraries pass -1 in 64 bits.
 fn read_descriptor(token: &[u8], anon: bool) -> Option<u64>
     ensures { result ≡ descriptor_heard anon token.now }
@@ -208,55 +134,51 @@ fn read_descriptor(token: &[u8], anon: bool) -> Option<u64>
     read_number(token)
 }
 
-// `HINT, LEN, PROT, FLAGS, DESCRIPTOR, OFF`, placed at this address.
-#[tactic(auto, unfolding(crate::specs::Heard::mmap_heard))]
-fn read_mmap(args: &[u8], addr: u64) -> Option<Request>
-    ensures { result ≡ mmap_heard args.now addr }
+// What `HINT, LEN, PROT, FLAGS, ..` has: length, rights, flags, and what stands after them.
+#[tactic(auto, unfolding(crate::specs::Heard::mmap_counts))]
+fn mmap_counts(args: &[u8]) -> Option<(u64, u64, u64, &[u8])>
+    ensures { option_map (λ f. (f.0, f.1, f.2, f.3.now)) result ≡ mmap_counts args.now }
 {
     let (_, rest) = next_count(args)?;
     let (len, rest) = next_count(rest)?;
     let (prot, rest) = next_count(rest)?;
     let (bits, rest) = next_count(rest)?;
+    Some((len, prot, bits, rest))
+}
+
+// `HINT, LEN, PROT, FLAGS, DESCRIPTOR, OFF`, placed at this address; `MAP_SHARED_VALIDATE`, 3, isn't read.
+#[tactic(auto, unfolding(crate::specs::Heard::mmap_heard))]
+fn read_mmap(args: &[u8], addr: u64) -> Option<Request>
+    ensures { result ≡ mmap_heard args.now addr }
+{
+    let (len, prot, bits, rest) = mmap_counts(args)?;
     let (token, rest) = next_token(rest)?;
-    let flags = read_flags(bits);
+    let flags = flags_of(bits);
     let file = read_descriptor(token, flags.anon)?;
     let (off, _) = next_count(rest)?;
-    if !is_plain(bits) {
+    if bits % 4 == 3 {
+        return None;
+    }
+    if !is_plain(flags, lost_of(bits)) {
         return None;
     }
     Some(Request::Mmap {
         addr,
         len,
-        prot: read_rights(prot),
+        prot: rights_of(prot),
         flags,
         file,
         off,
     })
 }
 
-// The flags' bits of `HINT, LEN, PROT, FLAGS, ..`.
-#[tactic(auto, unfolding(crate::specs::Heard::bits_of_mmap))]
-fn bits_of_mmap(args: &[u8]) -> Option<u64>
-    ensures { result ≡ bits_of_mmap args.now }
+// What a mapping of `HINT, LEN, PROT, FLAGS, ..` is that no trace has.
+#[tactic(auto, unfolding(crate::specs::Heard::lost_mmap))]
+fn lost_mmap(args: &[u8]) -> Option<Lost>
+    ensures { result ≡ lost_mmap args.now }
 {
-    let (_, rest) = next_count(args)?;
-    let (_, rest) = next_count(rest)?;
-    let (_, rest) = next_count(rest)?;
-    let (bits, _) = next_count(rest)?;
-    Some(bits)
-}
-
-// What a mapping with these flags is that isn't read.
-fn lost_by(bits: u64) -> Said
-    ensures { result ≡ lost_by (Some bits) }
-{
-    if bits / 262_144 % 2 == 1 {
-        return Said::Loses(Lost::Huge);
-    }
-    if bits / 256 % 2 == 1 {
-        return Said::Loses(Lost::Grows);
-    }
-    Said::Unread
+    let (_, _, bits, _) = mmap_counts(args)?;
+    lost_of(bits)
 }
 
 // What an `mmap` says that gave this address.
@@ -265,10 +187,7 @@ fn read_mapping(args: &[u8], addr: u64) -> Said
 {
     match read_mmap(args, addr) {
         Some(request) => Said::Asks(request),
-        None => match bits_of_mmap(args) {
-            Some(bits) => lost_by(bits),
-            None => Said::Unread,
-        },
+        None => lost_or_unread(lost_mmap(args)),
     }
 }
 
@@ -296,7 +215,7 @@ fn read_mprotect(args: &[u8]) -> Option<Request>
     Some(Request::Mprotect {
         addr,
         len,
-        prot: read_rights(bits),
+        prot: rights_of(bits),
     })
 }
 
@@ -316,23 +235,6 @@ fn read_mremap(args: &[u8], to: u64) -> Option<Said>
         return None;
     }
     Some(Said::Moves { from, old, to, new })
-}
-
-// What is said by a request of rights with a key.
-fn read_keyed(args: &[u8]) -> Said
-    ensures { result ≡ keyed_heard (mprotect_heard args.now) }
-{
-    match read_mprotect(args) {
-        Some(request) => Said::Keyed(request),
-        None => Said::Unread,
-    }
-}
-
-// Tells whether this advice drops the bytes of pages.
-fn drops(advice: u64) -> bool
-    ensures { result ≡ drops advice }
-{
-    advice == 4 || advice == 8 || advice == 9 || advice == 24
 }
 
 // `ADDR, LEN, ADVICE`: what the advice changes.
@@ -360,8 +262,7 @@ fn read_begun(call: Call, args: &[u8]) -> Said
             None => Said::Unread,
         },
         Call::Lost(lost) => Said::Loses(lost),
-        Call::Mmap | Call::Munmap | Call::Mprotect | Call::Brk | Call::Mremap | Call::Keyed =>
-            Said::Unread,
+        _ => Said::Unread,
     }
 }
 
@@ -378,8 +279,8 @@ fn read_done(call: Call, args: &[u8], gave: u64) -> Said
             Some(moves) => moves,
             None => Said::Unread,
         },
-        Call::Keyed => read_keyed(args),
-        Call::Advise | Call::Lost(_) => read_begun(call, args),
+        Call::Keyed => keyed(read_mprotect(args)),
+        _ => read_begun(call, args),
     }
 }
 
@@ -405,7 +306,7 @@ fn read_known(line: &[u8]) -> Option<Said>
     let (_, rest) = next_token(rest)?;
     let (_, rest) = next_token(rest)?;
     let (name, args) = next_token(rest)?;
-    let call = call_named(name)?;
+    let call = heard_named(name)?;
     if first != b"SYSCALL".as_slice() {
         return None;
     }
