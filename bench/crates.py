@@ -18,7 +18,6 @@ MOST_CODE = 1_500
 # Crates that may be larger, each with the reason.
 LARGER = {
     "core_steps": "steps made at once are methods of the engine, which another crate can't give it",
-    "import_text": "its files cite one another: lines, steps and logs are yet to be told apart",
     "live_pages": "20 lines too many, until the set of free frames goes to frames",
     "live_space": "69 lines too many, until what is decided over held slots goes to live_tree",
     "test_machine": "all of its tests share one way to make machines",

@@ -8,7 +8,7 @@ ghost use Rattle.trace_io.specs.Io.{read_from, written_to};
 pub use crate::telling::{WordsFault, refuse_words};
 use crate::telling::{tell, tell_cause, tell_of_terminal};
 use crate::terminals::Terminals;
-use import_text::each::ProcessTrace;
+use import_log::each::ProcessTrace;
 use litmus::TestFault;
 use live_script::Runner;
 use machine_model::CallLimit;

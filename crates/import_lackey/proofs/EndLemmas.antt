@@ -3,10 +3,10 @@ use Rattle.std.proofs.Common.{◌≡◌, ℕ, List, Option, length, ap, ◌∙�
 use Rattle.std.specs.Io.KnownBytes.{Appends}
 use Rattle.trace_io.specs.Lines.{lines_of}
 use Rattle.trace_io.specs.Sink.{AppendsFront}
-use Rattle.import_text.specs.Counts.{total}
-use Rattle.import_text.specs.Ends.{MakesText}
-use Rattle.import_text.specs.declared.counts.LineCounts.{LineCounts}
-use Rattle.import_text.specs.declared.import.Ending.{Ending}
+use Rattle.import_steps.specs.Counts.{total}
+use Rattle.import_log.specs.Ends.{MakesText}
+use Rattle.import_steps.specs.declared.counts.LineCounts.{LineCounts}
+use Rattle.import_log.specs.declared.import.Ending.{Ending}
 use Rattle.import_lackey.specs.Traced.{ended_text, ending_from, ending_of, traced_text}
 use Rattle.import_lackey.specs.Tracing.{State, trace_of}
 

@@ -1,11 +1,11 @@
 -- How an import of a log of lackey ends.
 use Rattle.std.specs.Prelude.{◌≡◌, ℕ, List, [], Option, Result, Ok, Err, if◌then◌else◌, ◌==◌, length}
 use Rattle.trace_io.specs.declared.fault.IoFault.{IoFault}
-use Rattle.import_text.specs.Ends.{MakesText, MakeStops}
-use Rattle.import_text.specs.Taking.{SoFar}
-use Rattle.import_text.specs.Texts.{imported_text}
-use Rattle.import_text.specs.declared.import.Ending.{Ending}
-use Rattle.import_text.specs.declared.import.Ending.TheVariants.{Written, Nothing, Absent}
+use Rattle.import_log.specs.Ends.{MakesText, MakeStops}
+use Rattle.import_steps.specs.Taking.{SoFar}
+use Rattle.import_steps.specs.Texts.{imported_text}
+use Rattle.import_log.specs.declared.import.Ending.{Ending}
+use Rattle.import_log.specs.declared.import.Ending.TheVariants.{Written, Nothing, Absent}
 use Rattle.import_lackey.specs.Tracing.{State, trace_of}
 use Rattle.import_lackey.specs.declared.traced.LackeyReport.{LackeyReport}
 

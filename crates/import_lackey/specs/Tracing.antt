@@ -8,14 +8,14 @@ use Rattle.vm_base.specs.declared.rights.Prot.{Prot}
 use Rattle.vm_base.specs.declared.requests.Flags.{Flags}
 use Rattle.vm_base.specs.declared.requests.Request.{Request}
 use Rattle.vm_base.specs.declared.requests.Request.TheVariants as Of
-use Rattle.import_text.specs.Counts.{counted, no_counts}
-use Rattle.import_text.specs.Taking.{SoFar, after_file, after_said, asked_by, nothing_taken, so_far}
-use Rattle.import_text.specs.declared.counts.LineCounts.{LineCounts}
+use Rattle.import_steps.specs.Counts.{counted, no_counts}
+use Rattle.import_steps.specs.Taking.{SoFar, after_file, after_said, asked_by, nothing_taken, so_far}
+use Rattle.import_steps.specs.declared.counts.LineCounts.{LineCounts}
 use Rattle.import_forms.specs.declared.said.Said.{Said}
 use Rattle.import_forms.specs.declared.said.Said.TheVariants as Says
-use Rattle.import_text.specs.declared.taking.Reason.TheVariants as For
-use Rattle.import_text.specs.declared.taking.Fate.{Fate}
-use Rattle.import_text.specs.declared.taking.Fate.TheVariants.{Kept, Left}
+use Rattle.import_steps.specs.declared.taking.Reason.TheVariants as For
+use Rattle.import_steps.specs.declared.taking.Fate.{Fate}
+use Rattle.import_steps.specs.declared.taking.Fate.TheVariants.{Kept, Left}
 use Rattle.import_lackey.specs.Heard.{heard_of}
 use Rattle.import_lackey.specs.declared.heard.LackeyAccess.{LackeyAccess}
 use Rattle.import_lackey.specs.declared.heard.LackeyAccess.TheVariants.{Fetch, Load, Store, Modify}

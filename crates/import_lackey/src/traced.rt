@@ -2,16 +2,16 @@
 ghost use Rattle.std.specs.Prelude.{◌≡◌, ◌⊎◌, ◌<◌, ◌^◌, Err, IfOk, OnOk, true};
 ghost use Rattle.trace_io.specs.Io.{TellsSent, read_from, written_to};
 ghost use Rattle.trace_io.specs.Source.{Reads};
-ghost use Rattle.import_text.specs.Counts.{total};
+ghost use Rattle.import_steps.specs.Counts.{total};
 ghost use Rattle.import_lackey.specs.Traced.{TraceEnds, ended_text, ending_from};
 ghost use Rattle.import_lackey.specs.Tracing.{state_of};
-ghost use Rattle.import_text.specs.Taking.{so_far};
+ghost use Rattle.import_steps.specs.Taking.{so_far};
 
 use crate::tracing::{Traced, trace_lines};
-use import_text::counts::LineCounts;
-use import_text::import::Ending;
-use import_text::taking::Taken;
-use import_text::writing::write_taken;
+use import_log::import::Ending;
+use import_steps::counts::LineCounts;
+use import_steps::taking::Taken;
+use import_steps::writing::write_taken;
 use std::alloc::{AllocError, Global};
 use trace_io::IoFault;
 use trace_io::sink::{Sink, write_out};

@@ -1,16 +1,16 @@
 //! What a line of lackey becomes: requests of a trace, a change, or a reason for which it is left out.
 ghost use Rattle.std.specs.Prelude.{◌≡◌, ◌+◌, ◌*◌, ◌/◌, ◌<◌, ◌≤◌, ◌^◌, IfOk, OnOk, length};
 ghost use Rattle.trace_io.specs.Lines.{lines_of};
-ghost use Rattle.import_text.specs.Counts.{total};
-ghost use Rattle.import_text.specs.Taking.{so_far};
+ghost use Rattle.import_steps.specs.Counts.{total};
+ghost use Rattle.import_steps.specs.Taking.{so_far};
 ghost use Rattle.import_lackey.specs.Heard.{heard_of};
 ghost use Rattle.import_lackey.specs.Tracing.{accessed, asked_for, call_taken, covers, heard_taken, is_mapped, is_whole, mmap_taken, page_of, placed};
 ghost use Rattle.import_lackey.specs.Tracing.{state_of, there, touch_taken, touched, touched_at, trace_of};
 
 use crate::heard::{Heard, LackeyAccess, LackeyTouch, read_heard};
 use import_forms::said::Said;
-use import_text::counts::LineCounts;
-use import_text::taking::{ADDRESS_END, Fate, Mapping, Reason, Taken, ask, take, take_file};
+use import_steps::counts::LineCounts;
+use import_steps::taking::{ADDRESS_END, Fate, Mapping, Reason, Taken, ask, take, take_file};
 use std::alloc::{AllocError, Global};
 use trace_io::lines::front_line;
 use trace_text::number_text;

@@ -6,11 +6,11 @@
 #![tactic(auto)]
 
 use import_lackey::traced::trace_log;
-use import_maps::entries::Entries;
-use import_maps::mapped::{MapsReport, import_mapped};
-use import_text::counts::LineCounts;
-use import_text::meter::Unmetered;
-use import_text::processes::Choice;
+use import_log::entries::Entries;
+use import_log::mapped::{MapsReport, import_mapped};
+use import_log::processes::Choice;
+use import_steps::counts::LineCounts;
+use import_steps::meter::Unmetered;
 use std::alloc::Global;
 use std::fs::File;
 use std::io::Write;

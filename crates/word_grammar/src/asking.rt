@@ -1,7 +1,7 @@
 //! What the words of the command line ask for.
 
 ghost use Rattle.std.specs.Prelude.{◌≡◌, ℕ};
-ghost use Rattle.import_text.specs.declared.processes.Choice.{Choice};
+ghost use Rattle.import_log.specs.declared.processes.Choice.{Choice};
 ghost use Rattle.word_parts.specs.declared.asked.Shows.{Shows};
 ghost use Rattle.litmus.specs.declared.telling.LitmusAsk.{LitmusAsk};
 ghost use Rattle.word_parts.specs.declared.asked.WitnessPicture.{WitnessPicture};
@@ -10,7 +10,7 @@ ghost use Rattle.machine_model.specs.declared.setup.CallLimit.{CallLimit};
 use crate::grammar;
 use audit_text::Terms;
 use clap::{ArgMatches, Error};
-use import_text::processes::Choice;
+use import_log::processes::Choice;
 use litmus::{Listing, LitmusAsk};
 use machine_model::CallLimit;
 use std::alloc::{AllocError, Allocator, Global};

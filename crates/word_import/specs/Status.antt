@@ -1,10 +1,10 @@
 -- The status of an import.
 use Rattle.std.specs.Prelude.{ℕ, List, [], ◌∷◌, Result, Ok, Err, Vec, if◌then◌else◌, ◌==◌}
 use Rattle.import_lackey.specs.declared.traced.LackeyReport.{LackeyReport}
-use Rattle.import_maps.specs.declared.mapped.MapsReport.{MapsReport}
-use Rattle.import_text.specs.declared.each.ProcessTrace.{ProcessTrace}
-use Rattle.import_text.specs.declared.import.Ending.{Ending}
-use Rattle.import_text.specs.declared.import.Ending.TheVariants.{Written, Nothing, Absent}
+use Rattle.import_log.specs.declared.mapped.MapsReport.{MapsReport}
+use Rattle.import_log.specs.declared.each.ProcessTrace.{ProcessTrace}
+use Rattle.import_log.specs.declared.import.Ending.{Ending}
+use Rattle.import_log.specs.declared.import.Ending.TheVariants.{Written, Nothing, Absent}
 use Rattle.trace_io.specs.declared.fault.IoFault.{IoFault}
 
 -- of a log of strace: 2 where there is no trace, since no request would be in it, or no line is about the thread that was named

@@ -2,11 +2,11 @@
 use Rattle.std.specs.Prelude.{◌≡◌, ℕ, Result, Err, Vec}
 use Rattle.word_import.specs.Status.{accesses_status, each_status, log_status}
 use Rattle.import_lackey.specs.Traced.{TraceEnds}
-use Rattle.import_maps.specs.Mapped.{MapsEnds, TellsMaps}
-use Rattle.import_maps.specs.declared.mapped.MapsReport.{MapsReport}
-use Rattle.import_text.specs.Each.{EachEnds}
-use Rattle.import_text.specs.declared.each.ProcessTrace.{ProcessTrace}
-use Rattle.import_text.specs.declared.processes.Choice.{Choice}
+use Rattle.import_log.specs.Mapped.{MapsEnds, TellsMaps}
+use Rattle.import_log.specs.declared.mapped.MapsReport.{MapsReport}
+use Rattle.import_log.specs.Each.{EachEnds}
+use Rattle.import_log.specs.declared.each.ProcessTrace.{ProcessTrace}
+use Rattle.import_log.specs.declared.processes.Choice.{Choice}
 use Rattle.std.specs.declared.alloc.Global.{Global}
 use Rattle.trace_io.specs.Io.{ReadFrom, TellsSent, WrittenTo}
 use Rattle.trace_io.specs.Source.{HasStopped, Reads}

@@ -2,9 +2,9 @@
 ghost use Rattle.std.specs.Prelude.{◌≡◌, IfOk, OnOk, map, string_bytes};
 ghost use Rattle.word_import.specs.Gathered.{AreSaved, IsGathered, IsSaved, path_in, thread_of};
 
-use import_files::joined::{JoinedLog, TimedLog, join_logs, thread_in};
-use import_text::each::ProcessTrace;
-use import_text::import::Ending;
+use import_lines::joined::{JoinedLog, TimedLog, join_logs, thread_in};
+use import_log::each::ProcessTrace;
+use import_log::import::Ending;
 use std::alloc::{AllocError, Global};
 use std::io;
 use std::io::ErrorKind;

@@ -1,6 +1,6 @@
 //! How far a long import has come, as standard error shows it.
 
-use import_text::meter::Meter;
+use import_steps::meter::Meter;
 use std::io::Write;
 
 /// From so many lines on an import shows how far it has come: at 20 MB a second it takes two seconds then. No clock is at hand.

@@ -1,7 +1,7 @@
 use Rattle.std.proofs.Common.{Err, ap, refl, sym, subst, ◌∙◌}
 use Rattle.trace_io.proofs.IoLemmas.{tells_unread}
 use Rattle.trace_io.proofs.LineLemmas.{reads_map}
-use Rattle.import_text.proofs.EndLemmas.{stopped}
+use Rattle.import_log.proofs.EndLemmas.{stopped}
 use Rattle.import_lackey.specs.Traced.{TraceEnds, traced_text}
 use Rattle.import_lackey.proofs.traced.trace_log.Goals as goal
 

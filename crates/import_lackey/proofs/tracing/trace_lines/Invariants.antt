@@ -1,6 +1,6 @@
 use Rattle.std.proofs.Common.{◌≡◌, ◌+◌, ◌<◌, ◌^◌, length}
 use Rattle.trace_io.specs.Lines.{lines_of}
-use Rattle.import_text.specs.Counts.{total}
+use Rattle.import_steps.specs.Counts.{total}
 use Rattle.import_lackey.specs.Tracing.{state_of, trace_of, traced_with}
 use Rattle.import_lackey.proofs.tracing.trace_lines.Given as goal
 

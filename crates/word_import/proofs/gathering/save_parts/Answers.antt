@@ -2,7 +2,7 @@ use Rattle.std.proofs.Common.{◌≡◌, ℕ, ◌+◌, ◌<◌, length, List, []
 use Rattle.std.specs.List.{All}
 use Rattle.std.proofs.lemmas.List.{take_all, take_more}
 use Rattle.std.proofs.lemmas.List.Elements.{All-push}
-use Rattle.import_text.specs.declared.each.ProcessTrace.{ProcessTrace}
+use Rattle.import_log.specs.declared.each.ProcessTrace.{ProcessTrace}
 use Rattle.word_import.specs.Gathered.{IsSaved}
 use Rattle.word_import.proofs.gathering.save_parts.Goals as goal
 

@@ -1,5 +1,5 @@
 use Rattle.std.proofs.Common.{◌<◌, ◌^◌, sym, subst}
-use Rattle.import_text.specs.Counts.{total}
+use Rattle.import_steps.specs.Counts.{total}
 use Rattle.word_import.proofs.importing.tell_parts.Goals as goal
 
 pub tell_part-requires : goal.tell_part-requires

@@ -1,2 +1,0 @@
-mod TimeLemmas
-mod JoinedLemmas

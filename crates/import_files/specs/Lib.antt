@@ -1,2 +1,0 @@
-pub mod Times
-pub mod Joined

@@ -1,0 +1,5 @@
+mod EachLemmas
+mod MadeLemmas
+mod ProcessLemmas
+mod ToldLemmas
+pub mod EndLemmas

@@ -1,4 +1,0 @@
-pub mod Listed
-pub mod Entries
-pub mod Starting
-pub mod Mapped

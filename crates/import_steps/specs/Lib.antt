@@ -1,0 +1,7 @@
+pub mod Names
+pub mod Shared
+pub mod Steps
+pub mod Taking
+pub mod Losses
+pub mod Counts
+pub mod Texts

@@ -1,9 +1,0 @@
-use Rattle.std.proofs.Common.{ap, ◌∙◌}
-use Rattle.import_text.proofs.LineLemmas.{line_known}
-use Rattle.import_text.proofs.lines.KeptLines.line.Goals as goal
-
-pub returns : goal.returns
-returns c =
-    c.line_of.ensures
-    ∙ ap (λ p. p.1) (line_known _ _ c.self.inside.rares c.self.inside.entries.items c.self.inside.order.items c.args.place c.index.result.now c.index-2.result.now
-    c.self.invariant c.self.view_is c.requires c.index.ensures c.index-2.ensures)
