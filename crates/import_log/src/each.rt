@@ -91,16 +91,19 @@ fn part_for<M: Meter>(
     ensures value { IfOk result (λ p. parted p ≡ part_all (so_far start.now) lines.now process) }
     ensures few { IfOk result (λ p. total p.counts < 2 ^ 64) }
 {
-    let imported = take_process(alloc, start, lines, made, process.number, room, meter)?;
     let program = program_of(alloc, lines, owned, begun, process.number, room)?;
+    let imported = take_process(alloc, start, lines, made, process.number, room, meter)?;
     let there = is_there(only(process.number), lines);
     let ending = ending_by(there, imported.taken.steps.len());
-    let text = write_ended(alloc, ending, &imported.taken)?;
+    let counts = imported.counts;
+    let written = write_ended(alloc, ending, &imported.taken);
+    drop(imported);
+    let text = written?;
     Ok(ProcessTrace {
         process,
         program,
         ending,
-        counts: imported.counts,
+        counts,
         text,
     })
 }
@@ -166,8 +169,11 @@ fn import_each<M: Meter>(
         processes.as_slice(),
         &mut room,
         meter,
-    )?;
-    Ok(parts)
+    );
+    drop(processes);
+    drop(made);
+    drop(room);
+    parts
 }
 
 // What comes of a log, beside nothing at the start.

@@ -105,6 +105,38 @@ fn take_line(
     take(alloc, start, taken, thread, room.name.as_slice(), said)
 }
 
+// Takes what all lines of this process say, of which nothing is taken yet.
+fn take_each<M: Meter>(
+    alloc: Global,
+    start: &Taken,
+    taken: &mut Taken,
+    lines: &KeptLines,
+    made: &Made,
+    process: u64,
+    room: &mut Room,
+    meter: &mut M,
+) -> Result<LineCounts, AllocError>
+    requires { so_far taken.old ≡ so_far start.now }
+    ensures value { IfOk result (λ counts. (so_far taken.new, counts)
+        ≡ imported (so_far start.now) lines.now made.now process (length lines.now)) }
+    ensures total { IfOk result (λ counts. total counts ≡ length lines.now) }
+    ensures few { IfOk result (λ counts. total counts < 2 ^ 64) }
+{
+    let mut counts = LineCounts::new();
+    let mut known = look(made, 0);
+    let own = fork_of(made, process);
+    let mut at = 0;
+    'lines: while at < lines.len() {
+        tell_of(meter, 3, at, lines.len());
+        known = recall(made, known, lines.thread(at));
+        let is_ours = space_at(made, known, at) == past_of(made, at, process, own);
+        let fate = take_line(alloc, start, taken, lines, is_ours, at, room)?;
+        counts = counts.and(fate);
+        at += 1;
+    }
+    Ok(counts)
+}
+
 /// Takes what all lines of this process say.
 pub(crate) fn take_lines<M: Meter>(
     alloc: Global,
@@ -121,19 +153,13 @@ pub(crate) fn take_lines<M: Meter>(
     ensures few { IfOk result (λ i. total i.counts < 2 ^ 64) }
 {
     let mut taken = start.copy(alloc)?;
-    let mut counts = LineCounts::new();
-    let mut known = look(made, 0);
-    let own = fork_of(made, process);
-    let mut at = 0;
-    'lines: while at < lines.len() {
-        tell_of(meter, 3, at, lines.len());
-        known = recall(made, known, lines.thread(at));
-        let is_ours = space_at(made, known, at) == past_of(made, at, process, own);
-        let fate = take_line(alloc, start, &mut taken, lines, is_ours, at, room)?;
-        counts = counts.and(fate);
-        at += 1;
+    match take_each(alloc, start, &mut taken, lines, made, process, room, meter) {
+        Ok(counts) => Ok(Imported { taken, counts }),
+        Err(fault) => {
+            drop(taken);
+            Err(fault)
+        }
     }
-    Ok(Imported { taken, counts })
 }
 
 // The first 80 bytes of the first line that isn't read, where an import ends without a trace.

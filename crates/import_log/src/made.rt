@@ -155,8 +155,15 @@ fn read_makings<M: Meter>(
 {
     let heard = hear_all(alloc, lines, room, meter)?;
     let mut made = no_makings(alloc);
-    add_makings(&mut made, lines, &heard.starts, heard.tellings.as_slice())?;
-    Ok(made)
+    let added = add_makings(&mut made, lines, &heard.starts, heard.tellings.as_slice());
+    drop(heard);
+    match added {
+        Ok(()) => Ok(made),
+        Err(fault) => {
+            drop(made);
+            Err(fault)
+        }
+    }
 }
 
 // Adds each thread of which no line says who made it as one of process 0.

@@ -206,6 +206,29 @@ fn count_line(counted: &mut Counted, number: u64, asks: bool) -> Result<(), Allo
     }
 }
 
+// Counts each line for its process, where none is counted yet.
+fn count_lines<M: Meter>(
+    counted: &mut Counted,
+    lines: &KeptLines,
+    made: &Made,
+    room: &mut Room,
+    meter: &mut M,
+) -> Result<(), AllocError>
+    requires { counted.old ≡ [] }
+    ensures { OnOk result (counted.new ≡ processes lines.now made.now (length lines.now)) }
+{
+    let mut known = look(made, 0);
+    let mut at = 0;
+    'lines: while at < lines.len() {
+        tell_of(meter, 2, at, lines.len());
+        known = recall(made, known, lines.thread(at));
+        let asks = line_asks(lines, at, room)?;
+        count_line(counted, known.process, asks)?;
+        at += 1;
+    }
+    Ok(())
+}
+
 /// The processes of the lines, in the order of their first lines.
 pub(crate) fn read_processes<M: Meter>(
     alloc: Global,
@@ -220,16 +243,13 @@ pub(crate) fn read_processes<M: Meter>(
         all: Vec::new(alloc),
         places: HashMap::new(alloc),
     };
-    let mut known = look(made, 0);
-    let mut at = 0;
-    'lines: while at < lines.len() {
-        tell_of(meter, 2, at, lines.len());
-        known = recall(made, known, lines.thread(at));
-        let asks = line_asks(lines, at, room)?;
-        count_line(&mut counted, known.process, asks)?;
-        at += 1;
+    match count_lines(&mut counted, lines, made, room, meter) {
+        Ok(()) => Ok(counted.all),
+        Err(fault) => {
+            drop(counted);
+            Err(fault)
+        }
     }
-    Ok(counted.all)
 }
 
 // The first process, one without requests where there is none.

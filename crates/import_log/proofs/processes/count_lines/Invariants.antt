@@ -1,18 +1,14 @@
 use Rattle.std.proofs.Common.{◌≡◌, ◌≤◌, ◌-◌, length}
-use Rattle.import_steps.specs.Counts.{total}
-use Rattle.import_log.specs.Imported.{imported}
 use Rattle.import_log.specs.Made.{fork_of, maker_of, process_of}
-use Rattle.import_steps.specs.Taking.{so_far}
-use Rattle.import_log.proofs.import.take_lines.Given as goal
+use Rattle.import_log.specs.Processes.{processes}
+use Rattle.import_log.proofs.processes.count_lines.Given as goal
 
 abbrev pub invariant-lines : goal.invariant-lines
 invariant-lines g l = record {
   within : l.at ≤ length l.lines;
-  value : (so_far l.taken, l.counts) ≡ imported (so_far l.start) l.lines l.made l.process l.at;
+  all : l.counted ≡ processes l.lines l.made l.at;
   known : l.known.process ≡ process_of l.made l.known.thread;
   own : l.known.own ≡ fork_of (maker_of l.made (process_of l.made l.known.thread));
-  first : l.own ≡ fork_of (maker_of l.made l.process);
-  total : total l.counts ≡ l.at;
 }
 
 abbrev pub decreases-lines : goal.decreases-lines

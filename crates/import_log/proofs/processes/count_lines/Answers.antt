@@ -1,7 +1,7 @@
 use Rattle.std.proofs.Common.{arith, ap, sym, ◌∙◌}
 use Rattle.import_log.specs.Made.{fork_of, maker_of, process_of}
 use Rattle.import_log.proofs.ProcessLemmas.{counted_more}
-use Rattle.import_log.proofs.processes.read_processes.Goals as goal
+use Rattle.import_log.proofs.processes.count_lines.Goals as goal
 
 pub lines-preserved : goal.lines-preserved
 lines-preserved g c = record {

@@ -3,7 +3,7 @@ use Rattle.import_log.specs.Imported.{is_ours, taken_if}
 use Rattle.import_log.specs.Made.{fork_of, maker_of, past_of, process_of}
 use Rattle.import_steps.specs.Taking.{so_far}
 use Rattle.import_log.proofs.ToldLemmas.{taken_more}
-use Rattle.import_log.proofs.import.take_lines.Goals as goal
+use Rattle.import_log.proofs.import.take_each.Goals as goal
 
 pub lines-preserved : goal.lines-preserved
 lines-preserved g c =
