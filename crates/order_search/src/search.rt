@@ -1,5 +1,5 @@
 //! The search itself.
-ghost use Rattle.std.specs.Prelude.{◌≤◌, IfOk, length};
+ghost use Rattle.std.specs.Prelude.{◌≡◌, ◌≤◌, IfOk, length};
 ghost use Rattle.order_search.specs.Founds.{IsFound};
 
 use crate::configs::Config;
@@ -285,9 +285,7 @@ impl<'a, A: Allocator + Clone + Drop> Search<'a, A> {
             }
         }
         self.forget(at, bit);
-        self.ways.drop_olds(&mut self.configs, ends)?;
-        self.ways.unite(&mut self.configs)?;
-        self.ways.shorten(alloc, &mut self.configs)?;
+        self.ways.tidy(alloc, &mut self.configs, ends)?;
         Ok(Reach::Reached)
     }
 
@@ -474,6 +472,15 @@ fn found_by<A: Allocator + Clone + Drop>(
     Ok(Found::Stuck(count - 1))
 }
 
+// What the search of no calls comes to.
+#[tactic(auto, using(crate::proofs::NoCalls::none_found))]
+fn found_none<A: Allocator + Clone>(alloc: &A, count: usize) -> Result<Found<A>, NoMemory>
+    requires { count ≡ 0 }
+    ensures { IfOk result (λ found. IsFound count found) }
+{
+    Ok(Found::Order(Vec::new(alloc.clone()?), CoreSet::empty()))
+}
+
 // Searches an order of these calls, of which there are some.
 fn find_some<A: Allocator + Clone + Drop>(
     alloc: &A,
@@ -489,14 +496,15 @@ fn find_some<A: Allocator + Clone + Drop>(
     let parts = each_alone(history.len());
     let mut lags = Vec::new(alloc.clone()?);
     let mut search = Search::new(alloc, objects, any_place, history, answered, unsure, parts)?;
-    search.find(alloc, history, history.len(), &mut lags)
+    let found = search.find(alloc, history, history.len(), &mut lags);
+    drop(search);
+    found
 }
 
 /// Searches an order of the calls of a space with these files, from the map on in which nothing is mapped. The first
 /// calls, so many, have their replies; of the others, which are open and of different cores, each may take effect with
 /// its reply, or find no memory. The items that it answers have each call once; whether they are an order is the
 /// caller's to judge. `Err` says that memory was wanting.
-#[tactic(auto, using(crate::proofs::NoCalls::none_found))]
 pub fn find_order<A: Allocator + Clone + Drop>(
     alloc: &A,
     objects: &Objects<A>,
@@ -507,14 +515,13 @@ pub fn find_order<A: Allocator + Clone + Drop>(
     ensures { IfOk result (λ found. IsFound (length history.now) found) }
 {
     if history.is_empty() {
-        return Ok(Found::Order(Vec::new(alloc.clone()?), CoreSet::empty()));
+        return found_none(alloc, history.len());
     }
     find_some(alloc, objects, any_place, history, answered, &[])
 }
 
 /// The same where all calls have their replies, but some may be lost: such a call may as well have changed nothing.
 /// Where it did, an item `Copy` of it stands right before its reply. Calls of one core may overlap.
-#[tactic(auto, using(crate::proofs::NoCalls::none_found))]
 pub fn find_choice<A: Allocator + Clone + Drop>(
     alloc: &A,
     objects: &Objects<A>,
@@ -525,14 +532,13 @@ pub fn find_choice<A: Allocator + Clone + Drop>(
     ensures { IfOk result (λ found. IsFound (length history.now) found) }
 {
     if history.is_empty() {
-        return Ok(Found::Order(Vec::new(alloc.clone()?), CoreSet::empty()));
+        return found_none(alloc, history.len());
     }
     find_some(alloc, objects, any_place, history, history.len(), unsure)
 }
 
 /// Searches as `find_choice` does, where accesses may lag: each may go as before a call that hasn't ended. `lags` tells
 /// which do.
-#[tactic(auto, using(crate::proofs::NoCalls::none_found))]
 pub fn find_lagging<A: Allocator + Clone + Drop>(
     alloc: &A,
     objects: &Objects<A>,
@@ -545,13 +551,15 @@ pub fn find_lagging<A: Allocator + Clone + Drop>(
 {
     lags.clear();
     if history.is_empty() {
-        return Ok(Found::Order(Vec::new(alloc.clone()?), CoreSet::empty()));
+        return found_none(alloc, history.len());
     }
     let count = history.len();
     let parts = each_alone(count);
     let mut search = Search::new(alloc, objects, any_place, history, count, unsure, parts)?;
     search.may_lag = true;
-    search.find(alloc, history, count, lags)
+    let found = search.find(alloc, history, count, lags);
+    drop(search);
+    found
 }
 
 /// Searches as `find_choice` does, where each call takes effect as a whole, as though its parts did one behind another.
@@ -559,7 +567,6 @@ pub fn find_lagging<A: Allocator + Clone + Drop>(
 /// first has an item `Copy` where it is lost. The numbers of the items are those of the parts. Some accesses may lag,
 /// as for `find_lagging`. Where no order is found, `stuck` tells the first parts that none gets to, as though those
 /// before were passed over.
-#[tactic(auto, using(crate::proofs::NoCalls::none_found))]
 pub fn find_whole<'w, A: Allocator + Clone + Drop>(
     alloc: &A,
     objects: &'w Objects<A>,
@@ -574,7 +581,7 @@ pub fn find_whole<'w, A: Allocator + Clone + Drop>(
     stuck.clear();
     let count = wholes.count;
     if count == 0 {
-        return Ok(Found::Order(Vec::new(alloc.clone()?), CoreSet::empty()));
+        return found_none(alloc, count);
     }
     let calls = wholes.calls.as_slice();
     let unsure = wholes.unsure.as_slice();
@@ -583,5 +590,7 @@ pub fn find_whole<'w, A: Allocator + Clone + Drop>(
     let mut search = Search::new(alloc, objects, any_place, calls, calls.len(), unsure, parts)?;
     search.late = wholes.late.as_slice();
     search.may_pass = MOST_STUCK;
-    search.find_passing(alloc, calls, count, lags, stuck)
+    let found = search.find_passing(alloc, calls, count, lags, stuck);
+    drop(search);
+    found
 }
