@@ -126,10 +126,17 @@ abbrev pub life_end : Chart → Option ℕ → ℕ
 life_end chart (Some step) = step
 life_end chart None = end_of chart.steps
 
+unfoldable pub rect_text : Chart → Stretch → List ℕ
+rect_text chart life = concat (codes "<rect class=\"" ∷ prot_class life.prot ∷ codes " " ∷ kind_class life.back ∷ codes "\" x=\"" ∷ decimal life.begin
+    ∷ codes "\" y=\"" ∷ decimal life.row ∷ codes "\" width=\"" ∷ decimal (life_end chart life.end - life.begin) ∷ codes "\" height=\"1\">" ∷ [])
+
+-- what it says on pointing, and its end
+unfoldable pub title_text : List ℕ → Stretch → List ℕ
+title_text text life = concat (codes "<title>" ∷ start_of life.pages.first ∷ codes "-" ∷ start_of life.pages.end ∷ codes " " ∷ rights_text life.prot
+    ∷ backing_words text life.back ∷ span_text life.begin life.end ∷ codes "</title></rect>\n" ∷ [])
+
 unfoldable pub life_text : Chart → List ℕ → Stretch → List ℕ
-life_text chart text life = concat (codes "<rect class=\"" ∷ prot_class life.prot ∷ codes " " ∷ kind_class life.back ∷ codes "\" x=\"" ∷ decimal life.begin ∷ codes "\" y=\"" ∷ decimal life.row
-    ∷ codes "\" width=\"" ∷ decimal (life_end chart life.end - life.begin) ∷ codes "\" height=\"1\"><title>" ∷ start_of life.pages.first ∷ codes "-"
-    ∷ start_of life.pages.end ∷ codes " " ∷ rights_text life.prot ∷ backing_words text life.back ∷ span_text life.begin life.end ∷ codes "</title></rect>\n" ∷ [])
+life_text chart text life = rect_text chart life ++ title_text text life
 
 unfoldable pub chart_text : Chart → List ℕ → Bool → List Stretch → List ℕ
 chart_text chart text more lives = front_text 1760 (plot_height chart + 64) ++ style_text ++ head_text chart more (length lives)

@@ -1,7 +1,7 @@
 //! The lives of mappings over a whole run: which pages were mapped over which steps, in one SVG text.
 ghost use Rattle.std.specs.Prelude.{◌≡◌, ◌+◌, ◌++◌, ◌≤◌, IfOk, None, OnOk};
 ghost use Rattle.draw_lives.specs.Lives.{are_more, chart_of, chart_text, count_of, count_words, drawn_of, end_of, frame_text, head_text, kind_class};
-ghost use Rattle.draw_lives.specs.Lives.{labels_text, last_of, life_end, life_text, lives_text, page_text, plot_height, row_text, shown, tick_text};
+ghost use Rattle.draw_lives.specs.Lives.{labels_text, last_of, life_end, life_text, lives_text, page_text, plot_height, row_text, shown, tick_text, title_text};
 
 use crate::joining::joined_rows;
 use crate::living::lives_of;
@@ -275,6 +275,27 @@ fn kind_class(back: Option<Back>) -> &'static str
     }
 }
 
+// Appends what a life says on pointing, and its end.
+#[tactic(auto, unfolding(crate::specs::Lives::title_text))]
+fn put_title(out: &mut Vec<u8>, text: &[u8], life: &Stretch) -> Result<(), AllocError>
+    ensures { OnOk result (out.new.items ≡ out.old.items ++ title_text text.now life.now) }
+{
+    put_parts(
+        out,
+        &[
+            Part::Plain(Piece::Words("<title>")),
+            Part::Plain(Piece::Start(life.pages.first)),
+            Part::Plain(Piece::Words("-")),
+            Part::Plain(Piece::Start(life.pages.end)),
+            Part::Plain(Piece::Words(" ")),
+            Part::Plain(Piece::Rights(life.prot)),
+            Part::Backing(text, life.back),
+            Part::Span(life.begin, life.end),
+            Part::Plain(Piece::Words("</title></rect>\n")),
+        ],
+    )
+}
+
 // A life, with what it says on pointing.
 impl<'a> Drawable<Named<'a>> for Stretch {
     ghost text = { λ named. life_text named.chart named.text.now };
@@ -284,30 +305,24 @@ impl<'a> Drawable<Named<'a>> for Stretch {
         let kind = kind_class(self.back);
         let row = u64::from(self.row);
         let width = life_end(named.chart, self.end).saturating_sub(self.begin);
-        put_parts(
+        put_all(
             out,
             &[
-                Part::Plain(Piece::Words("<rect class=\"")),
-                Part::Plain(Piece::Words(class)),
-                Part::Plain(Piece::Words(" ")),
-                Part::Plain(Piece::Words(kind)),
-                Part::Plain(Piece::Words("\" x=\"")),
-                Part::Plain(Piece::Number(self.begin)),
-                Part::Plain(Piece::Words("\" y=\"")),
-                Part::Plain(Piece::Number(row)),
-                Part::Plain(Piece::Words("\" width=\"")),
-                Part::Plain(Piece::Number(width)),
-                Part::Plain(Piece::Words("\" height=\"1\"><title>")),
-                Part::Plain(Piece::Start(self.pages.first)),
-                Part::Plain(Piece::Words("-")),
-                Part::Plain(Piece::Start(self.pages.end)),
-                Part::Plain(Piece::Words(" ")),
-                Part::Plain(Piece::Rights(self.prot)),
-                Part::Backing(named.text, self.back),
-                Part::Span(self.begin, self.end),
-                Part::Plain(Piece::Words("</title></rect>\n")),
+                Piece::Words("<rect class=\""),
+                Piece::Words(class),
+                Piece::Words(" "),
+                Piece::Words(kind),
+                Piece::Words("\" x=\""),
+                Piece::Number(self.begin),
+                Piece::Words("\" y=\""),
+                Piece::Number(row),
+                Piece::Words("\" width=\""),
+                Piece::Number(width),
+                Piece::Words("\" height=\"1\">"),
             ],
-        )
+        )?;
+        put_title(out, named.text, self)?;
+        Ok(())
     }
 }
 
