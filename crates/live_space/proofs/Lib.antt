@@ -1,5 +1,4 @@
 pub mod Counted
-pub mod Decided
 pub mod Ended
 pub mod Faulted
 mod Few

@@ -1,65 +1,22 @@
--- The frames that pages lose by a change
-use Rattle.std.proofs.Common.{◌≡◌, ℕ, ◌+◌, ◌<◌, ◌≤◌, Bool, true, false, List, [], ◌∷◌, map, Option, Some, None, arith, refl, sym, ap, subst, ◌∙◌}
-use Rattle.std.specs.Prelude.{option_to_list, nat_lt, if◌then◌else◌}
+-- The frames that pages lose by a change, where slots are the same but for room
+use Rattle.std.proofs.Common.{◌≡◌, ℕ, ◌+◌, Bool, true, false, List, [], ◌∷◌, map, Option, refl, sym, ap, subst, ◌∙◌}
+use Rattle.std.specs.Prelude.{nat_lt, if◌then◌else◌}
 use Rattle.vm_base.specs.declared.info.PageInfo.{PageInfo}
 use Rattle.vm_base.specs.declared.page.PageRange.{PageRange}
 use Rattle.vm_base.specs.Cores.{members}
 use Rattle.vm_base.specs.Functions.{put}
-use Rattle.vm_base.specs.Info.{frame_of, is_recorded}
+use Rattle.vm_base.specs.Info.{is_recorded}
 use Rattle.slot_lock.specs.Slots.{IsUser}
-use Rattle.slot_lock.specs.declared.framed.Framed.{Framed}
 use Rattle.slot_lock.specs.declared.plan.Change.{Change}
-use Rattle.slot_lock.specs.declared.plan.Change.TheVariants.{Put, Clear, Protect}
-use Rattle.slot_lock.specs.Framed.{ListsFrames}
 use Rattle.slot_lock.specs.Plan.{range_of}
 use Rattle.machine_model.specs.Counting.{frame_lost}
 use Rattle.live_levels.specs.Slots.{SlotView, content_at}
+use Rattle.live_tree.specs.Deciding.{Loses}
 use Rattle.live_tree.specs.Held.{AreAlike, HeldView, without_room}
-use Rattle.live_tree.specs.Losing.{AreFrames}
+use Rattle.live_tree.specs.Losing.{AreUsers}
 use Rattle.live_tree.specs.Shown.{shown, slot_at}
-use Rattle.live_space.specs.Losing.{AreOthers, AreUsers, Loses}
-
--- a page with its frame
-abbrev listed : ℕ → ℕ → Framed
-listed page frame = record { page = page; frame = frame }
-
--- one page has at most one
-pub of_one : (frame : ℕ → Option ℕ) (first end : ℕ) (o : Option ℕ) (frames : List ℕ) → end ≡ first + 1 → frame first ≡ o
-    → frames ≡ option_to_list o → AreFrames frame first end frames
-of_one frame first end None frames e is are = (
-  [],
-  (λ p low high. let same : p ≡ first = omega (arith, e, low, high) in ap frame same ∙ is),
-  are,
-)
-of_one frame first end (Some f) frames e is are = (
-  listed first f ∷ [],
-  (omega arith, omega (arith, e), (λ p low high. absurd (omega (arith, low, high))), is, (λ p low high. absurd (omega (arith, e, low, high)))),
-  are,
-)
-
-lists_alike : (f g : ℕ → Option ℕ) (first end : ℕ) (xs : List Framed) → ((p : ℕ) → first ≤ p → p < end → g p ≡ f p) → ListsFrames f first end xs
-    → ListsFrames g first end xs
-lists_alike f g first end [] same l = λ p low high. same p low high ∙ l p low high
-lists_alike f g first end (x ∷ xs) same l =
-    let low = l.0 in
-    let high = l.1 in (
-      l.0,
-      l.1,
-      (λ p a b. same p a (omega (arith, b, high)) ∙ l.2 p a b),
-      same x.page l.0 l.1 ∙ l.3,
-      lists_alike f g (x.page + 1) end xs (λ p a b. same p (omega (arith, a, low)) b) l.4,
-    )
-
--- frames by what is the same at each page of the range
-pub frames_alike : (f g : ℕ → Option ℕ) (first end : ℕ) (frames : List ℕ) → ((p : ℕ) → first ≤ p → p < end → g p ≡ f p) → AreFrames f first end frames
-    → AreFrames g first end frames
-frames_alike f g first end frames same are = (are.0, lists_alike f g first end are.0 same are.1, are.2)
-
--- none is lost where no page loses one
-pub lost_none : (frame : ℕ → Option ℕ) (first end : ℕ) (frames : List ℕ) → ((p : ℕ) → frame p ≡ None) → frames ≡ [] → AreFrames frame first end frames
-lost_none frame first end frames none_ e = ([], (λ p low high. none_ p), e)
-
--- ---- slots that are the same but for room
+use Rattle.live_tree.proofs.Decided.{frames_alike, lost_at}
+use Rattle.live_space.specs.Changing.{AreOthers}
 
 bare_content : (ss : List SlotView) (p : ℕ) → content_at (slot_at (map without_room ss) p) p ≡ content_at (slot_at ss p) p
 bare_content [] p = refl
@@ -74,15 +31,10 @@ bare_content (s ∷ ss) p = go (nat_lt p (s.first + s.count)) (bare_content ss p
 shown_alike : (ss ts : List SlotView) → AreAlike ss ts → (p : ℕ) → (shown ss).info p ≡ (shown ts).info p
 shown_alike ss ts same p = sym (bare_content ss p) ∙ (ap (λ (vs : List SlotView). content_at (slot_at vs p) p) same ∙ bare_content ts p)
 
-lost_at : (change : Change) (f g : ℕ → Option PageInfo) (p : ℕ) → f p ≡ g p → frame_lost change f p ≡ frame_lost change g p
-lost_at (Put range meta) f g p e = ap (λ (o : Option PageInfo). frame_of o) e
-lost_at (Clear range) f g p e = ap (λ (o : Option PageInfo). frame_of o) e
-lost_at (Protect range prot) f g p e = refl
-
 -- they lose the same frames
 pub loses_alike : (ss ts : List SlotView) (change : Change) (frames : List ℕ) → AreAlike ss ts → Loses (shown ts) change frames → Loses (shown ss) change frames
 loses_alike ss ts change frames same are = frames_alike (frame_lost change (shown ts).info) (frame_lost change (shown ss).info) (range_of change).first
-    (range_of change).end frames (λ p low high. lost_at change (shown ss).info (shown ts).info p (shown_alike ss ts same p)) are
+    (range_of change).end frames (λ p low high. lost_at change (shown ss).info p (shown ts).info p (shown_alike ss ts same p)) are
 
 user_alike : (ss ts : List SlotView) (range : PageRange) (d : ℕ) → AreAlike ss ts → IsUser (shown ts) range d → IsUser (shown ss) range d
 user_alike ss ts range d same u = (u.0, u.1, ap (λ (o : Option PageInfo). is_recorded o d) (shown_alike ss ts same u.0) ∙ u.2)

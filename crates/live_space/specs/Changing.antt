@@ -1,5 +1,8 @@
 -- What a change of held slots needs, and what it makes of them
-use Rattle.std.specs.Prelude.{◌≡◌, ℕ, ◌⊎◌, map, All, Option}
+use Rattle.std.specs.Prelude.{◌≡◌, ℕ, ◌⊎◌, false, map, All, Option}
+use Rattle.vm_base.specs.declared.page.PageRange.{PageRange}
+use Rattle.vm_base.specs.Cores.{members}
+use Rattle.vm_base.specs.Functions.{put}
 use Rattle.vm_base.specs.Pages.{IsPageRange}
 use Rattle.vm_base.specs.Plain.{File}
 use Rattle.vm_base.specs.declared.replies.Errno.{Errno}
@@ -7,10 +10,12 @@ use Rattle.vm_base.specs.declared.replies.Reply.{Reply}
 use Rattle.vm_base.specs.declared.replies.Reply.TheVariants.{Refused}
 use Rattle.slot_lock.specs.declared.plan.Change.{Change}
 use Rattle.slot_lock.specs.Plan.{range_of}
+use Rattle.slot_lock.specs.Slots.{Slots}
 use Rattle.vm_calls.specs.declared.decision.Decision.TheVariants.{Act, Refuse}
 use Rattle.vm_calls.specs.Decisions.{DecidesChange}
 use Rattle.machine_model.specs.Changes.{reply_to}
 use Rattle.live_tree.specs.Held.{AreAlike, HeldView, Covers, CrossesNoEdge, HasRoom, FitsFiles, committed}
+use Rattle.live_tree.specs.Losing.{AreUsers}
 use Rattle.live_tree.specs.Shown.{ChangesPages, shown}
 use Rattle.seats.specs.Growing.{Steps}
 use Rattle.seats.specs.Notes.{SeatView}
@@ -24,6 +29,11 @@ pub record IsReady (h : HeldView) (change : Change) : Type 0 where
   pub edges : All (CrossesNoEdge (range_of change)) h.slots
   pub room : All (HasRoom (range_of change)) h.slots
   pub files : FitsFiles change
+
+-- these are the cores that are recorded on some page of the range, but for this one
+abbrev pub AreOthers : Slots → PageRange → ℕ → ℕ → Type 0
+AreOthers s range core others =
+    (cores : ℕ) × AreUsers s range cores × (members others ≡ put (members cores) core false)
 
 -- the last step that was noted is a plain one, and under its ticket the change was made in the held
 -- slots that lie in its range, and in no other

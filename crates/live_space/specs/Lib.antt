@@ -7,7 +7,6 @@ pub mod Doing
 pub mod Endings
 pub mod Faulting
 pub mod InFlight
-pub mod Losing
 pub mod Placing
 pub mod Planned
 pub mod Space

@@ -43,7 +43,6 @@ struct Copying {
 
 impl<'c, R: Wait, G: Gate, A: Allocator + Clone> InCall<'c, '_, '_, '_, R, G, A> {
     /// The steps of an access, after its check.
-    #[tactic(auto, using(crate::proofs::Noted::steps))]
     pub(crate) fn touch(&mut self, touch: Touch) -> Ran
         requires sound { IsSoundTouch touch }
         requires none { self.old.held.slots ≡ [] }
@@ -72,7 +71,6 @@ impl<'c, R: Wait, G: Gate, A: Allocator + Clone> InCall<'c, '_, '_, '_, R, G, A>
 
     // The page is held until it has its frame and its entry, or the call is to end. None where the
     // access has to be tried again.
-    #[tactic(auto, using(crate::proofs::Noted::steps))]
     fn fault(&mut self, touch: Touch) -> Option<Ending>
         requires { IsSoundTouch touch }
         ensures goes { GoesOn self.old.seat self.new.seat }
@@ -87,7 +85,6 @@ impl<'c, R: Wait, G: Gate, A: Allocator + Clone> InCall<'c, '_, '_, '_, R, G, A>
     }
 
     // The page's slot is locked.
-    #[tactic(auto, using(crate::proofs::Noted::steps))]
     fn lock_page(&mut self, touch: Touch) -> Option<Ending>
         requires { IsSoundTouch touch }
         ensures goes { GoesOn self.old.seat self.new.seat }
@@ -102,7 +99,6 @@ impl<'c, R: Wait, G: Gate, A: Allocator + Clone> InCall<'c, '_, '_, '_, R, G, A>
     }
 
     // What the access finds at its page.
-    #[tactic(auto, using(crate::proofs::Noted::steps))]
     fn settle(&mut self, touch: Touch) -> Option<Ending>
         requires sound { IsSoundTouch touch }
         requires page { HoldsJust (pages_from touch.page 1) self.old.held }
@@ -119,7 +115,6 @@ impl<'c, R: Wait, G: Gate, A: Allocator + Clone> InCall<'c, '_, '_, '_, R, G, A>
     }
 
     // The access is answered, or the page gets what it wants.
-    #[tactic(auto, using(crate::proofs::Noted::steps, crate::proofs::Faulted::acts_has, crate::proofs::Faulted::acts_cached, crate::proofs::Faulted::acts_copies, crate::proofs::Faulted::acts_wants))]
     fn act_on(&mut self, touch: Touch, settled: Settled) -> Option<Ending>
         requires { IsSoundTouch touch }
         ensures goes { GoesOn self.old.seat self.new.seat }
@@ -138,7 +133,6 @@ impl<'c, R: Wait, G: Gate, A: Allocator + Clone> InCall<'c, '_, '_, '_, R, G, A>
     }
 
     // A frame is taken, for the page or for a copy of the frame that it shows.
-    #[tactic(auto, using(crate::proofs::Noted::steps, crate::proofs::Faulted::got_taken))]
     fn want(&mut self, touch: Touch, shown: Option<u32>) -> Option<Ending>
         requires { IsSoundTouch touch }
         ensures goes { GoesOn self.old.seat self.new.seat }
@@ -169,7 +163,6 @@ impl<'c, R: Wait, G: Gate, A: Allocator + Clone> InCall<'c, '_, '_, '_, R, G, A>
     }
 
     // The page gets its frame.
-    #[tactic(auto, using(crate::proofs::Noted::steps, crate::proofs::Ended::given_up_faults, crate::proofs::Spent::given_back, crate::proofs::Spent::was_used, crate::proofs::Spent::used_frame))]
     fn fill(&mut self, touch: Touch, own: Option<u32>) -> Option<Ending>
         requires { IsSoundTouch touch }
         ensures goes { GoesOn self.old.seat self.new.seat }
@@ -193,7 +186,6 @@ impl<'c, R: Wait, G: Gate, A: Allocator + Clone> InCall<'c, '_, '_, '_, R, G, A>
     }
 
     // The other recorded cores of the page are told to drop the page, and then it gets a copy.
-    #[tactic(auto, using(crate::proofs::Noted::steps, crate::proofs::Few::few_targets))]
     fn copy(&mut self, touch: Touch, frames: Copying) -> Option<Ending>
         requires { IsSoundTouch touch }
         ensures goes { GoesOn self.old.seat self.new.seat }
@@ -227,7 +219,6 @@ impl<'c, R: Wait, G: Gate, A: Allocator + Clone> InCall<'c, '_, '_, '_, R, G, A>
 
     // All cores that were told acknowledge. Then the page gets its copy, since no core translates it by
     // the old frame any more.
-    #[tactic(auto, using(crate::proofs::Noted::steps, crate::proofs::Spent::was_used, crate::proofs::Spent::used_copy))]
     fn copy_told(&mut self, touch: Touch, frames: Copying, targets: CoreSet) -> Option<Ending>
         requires sound { IsSoundTouch touch }
         requires room { HasStepsLeft (1 + 126 * count_below targets 64) self.old.held self.old.seat.now }
@@ -247,7 +238,6 @@ impl<'c, R: Wait, G: Gate, A: Allocator + Clone> InCall<'c, '_, '_, '_, R, G, A>
     }
 
     // The core's tables get the page's entry. The access has to be tried again then.
-    #[tactic(auto, using(crate::proofs::Noted::steps))]
     fn install(&mut self, touch: Touch) -> Option<Ending>
         requires { IsSoundTouch touch }
         ensures goes { GoesOn self.old.seat self.new.seat }

@@ -70,7 +70,6 @@ impl<A: Allocator + Clone> Live<A> {
     }
 
     // All of the call but its beginning, by what came of the check of its arguments.
-    #[tactic(auto, using(live_pages::proofs::Ending::ends_after, seats::proofs::Growing::grew_steps))]
     fn run<R: Wait, G: Gate>(
         &self,
         rt: &R,
@@ -96,7 +95,6 @@ impl<A: Allocator + Clone> Live<A> {
     }
 
     // The steps of a plan, whose arguments the check let through.
-    #[tactic(auto, using(live_pages::proofs::Ending::ends_after))]
     fn go_on<R: Wait, G: Gate>(&self, rt: &R, seat: &mut Seat<A>, plan: Plan, gate: &G) -> Reply
         requires sound { IsSoundPlan plan }
         requires room { 2 ≤ seat.old.room }
@@ -130,7 +128,6 @@ impl<A: Allocator + Clone> Live<A> {
 
 impl<'c, R: Wait, G: Gate, A: Allocator + Clone> InCall<'c, '_, '_, '_, R, G, A> {
     // The step of the check, and what follows.
-    #[tactic(auto, using(crate::proofs::Noted::steps))]
     fn run(&mut self, plan: Plan) -> Ran
         requires sound { IsSoundPlan plan }
         requires none { self.old.held.slots ≡ [] }

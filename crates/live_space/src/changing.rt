@@ -2,19 +2,19 @@
 ghost use Rattle.std.specs.Prelude.{◌≡◌, ◌+◌, ◌*◌, length, IfSome, IsTrue};
 ghost use Rattle.slot_lock.specs.Plan.{IsSoundChange, range_of};
 ghost use Rattle.frames.specs.Files.{files_of};
+ghost use Rattle.live_tree.specs.Deciding.{Loses};
 ghost use Rattle.live_tree.specs.Held.{AreAlike, Covers};
+ghost use Rattle.live_tree.specs.Losing.{AreUsers};
 ghost use Rattle.live_tree.specs.Shown.{shown};
 ghost use Rattle.live_pages.specs.Targets.{count_below};
-ghost use Rattle.live_space.specs.Changing.{Changes, ChangesJust, IsReady, Made, MadeIn};
+ghost use Rattle.live_space.specs.Changing.{AreOthers, Changes, ChangesJust, IsReady, Made, MadeIn};
 ghost use Rattle.live_space.specs.InFlight.{GoesOn, HasStepsLeft};
-ghost use Rattle.live_space.specs.Losing.{AreOthers, AreUsers, Loses};
 ghost use Rattle.live_pages.specs.Steps.{StepsOnce};
 ghost use Rattle.seats.specs.Notes.{CanNote};
 ghost use Rattle.vm_base.specs.Cores.{with_member};
 ghost use Rattle.live_space.specs.Planned.{AnswersChange, EndsIn};
 
 use crate::commit::{Counting, Locks};
-use crate::decide_held::{Decided, Frames, decide_held};
 use crate::ending::Ending;
 use crate::gate::{Gate, Point};
 use crate::in_call::InCall;
@@ -22,8 +22,9 @@ use crate::space::Live;
 use live_levels::level::Stepper;
 use live_pages::pieces::CoreState;
 use live_pages::telling::{ShootdownTargets, TAKES, count_of, take_all};
+use live_tree::decide_held::{Decided, decide_held};
 use live_tree::held::Held;
-use live_tree::held::losses::FramesLost;
+use live_tree::held::losses::{Frames, FramesLost};
 use machine_model::answers::reply_to;
 use seats::Seat;
 use slot_lock::Change;
@@ -73,7 +74,6 @@ impl<A: Allocator + Clone> Live<A> {
 
 impl<'c, R: Wait, G: Gate, A: Allocator + Clone> InCall<'c, '_, '_, '_, R, G, A> {
     /// The steps of a change, after its check: its pages are locked, and changed, or it is refused.
-    #[tactic(auto, using(crate::proofs::Noted::steps))]
     pub(crate) fn change(&mut self, change: Change) -> Ending
         requires { IsSoundChange change }
         ensures goes { GoesOn self.old.seat self.new.seat }
@@ -93,7 +93,6 @@ impl<'c, R: Wait, G: Gate, A: Allocator + Clone> InCall<'c, '_, '_, '_, R, G, A>
     }
 
     // Decides of the pages, which are held, and changes them, or refuses to.
-    #[tactic(auto, using(crate::proofs::Noted::steps))]
     fn decide_and_change(&mut self, change: Change) -> Option<Reply>
         requires sound { IsSoundChange change }
         requires covers { Covers self.old.held (range_of change) }
@@ -122,7 +121,6 @@ impl<'c, R: Wait, G: Gate, A: Allocator + Clone> InCall<'c, '_, '_, '_, R, G, A>
     }
 
     // Makes the change, whose pages are held. False where the call has to be given up.
-    #[tactic(auto, using(crate::proofs::Noted::steps, crate::proofs::Lost::loses_alike, crate::proofs::Lost::others_of, crate::proofs::Lost::none_of))]
     fn make(&mut self, change: Change, losses: FramesLost<'c, A>) -> bool
         requires sound { IsSoundChange change }
         requires lost { Loses (shown self.old.held.slots) change losses.frames.items }
@@ -145,7 +143,6 @@ impl<'c, R: Wait, G: Gate, A: Allocator + Clone> InCall<'c, '_, '_, '_, R, G, A>
 
     // Makes a change of pages that no other core may have translations of: three steps under the
     // same locks.
-    #[tactic(auto, using(crate::proofs::Noted::steps))]
     fn make_alone(&mut self, change: Change, lost: Frames<'c, A>) -> bool
         requires ready { IsReady self.old.held change }
         requires alone { AreOthers (shown self.old.held.slots) (range_of change) self.old.seat.now.core 0 }
@@ -169,7 +166,6 @@ impl<'c, R: Wait, G: Gate, A: Allocator + Clone> InCall<'c, '_, '_, '_, R, G, A>
     // Makes a change of pages that these other cores may have translations of: they are told to drop
     // them, and take what they were told, and then the pages change. It is decided and posted under the
     // same locks, and from then on nothing takes memory.
-    #[tactic(auto, using(crate::proofs::Noted::steps, crate::proofs::Few::few_targets))]
     fn make_told(&mut self, change: Change, targets: CoreSet, lost: Frames<'c, A>) -> bool
         requires ready { IsReady self.old.held change }
         requires others { AreOthers (shown self.old.held.slots) (range_of change) self.old.seat.now.core targets }
@@ -206,7 +202,6 @@ impl<'c, R: Wait, G: Gate, A: Allocator + Clone> InCall<'c, '_, '_, '_, R, G, A>
     }
 
     // The other cores take what they were told, and the change is made.
-    #[tactic(auto, using(crate::proofs::Noted::steps))]
     fn take_and_commit(&mut self, change: Change, targets: CoreSet, counting: Counting<'c, A>)
         requires ready { IsReady self.old.held change }
         requires others { AreOthers (shown self.old.held.slots) (range_of change) self.old.seat.now.core targets }

@@ -57,7 +57,6 @@ impl<A: Allocator + Clone> Live<A> {
     }
 
     // The reply of a call that ends so. Where it is given up, that is noted first, and only there.
-    #[tactic(auto, using(live_pages::proofs::Ending::gives_nothing, live_pages::proofs::Ending::gives_up))]
     fn reply_to<R: Wait>(&self, rt: &R, seat: &mut Seat<A>, ending: Ending) -> Reply
         requires room { 0 < seat.old.room }
         requires never { EndsIn (λ reply. reply ≢ NoMemory) ending }

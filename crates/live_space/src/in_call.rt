@@ -35,7 +35,6 @@ impl<'c, R: Wait, G: Gate, A: Allocator + Clone> InCall<'c, '_, '_, '_, R, G, A>
     }
 
     /// Makes room for this many steps more; tells whether it could.
-    #[tactic(auto, using(seats::proofs::Growing::grew_room))]
     pub fn has_room(&mut self, steps: usize) -> bool
         ensures goes { GoesOn self.old.seat self.new.seat }
         ensures held { self.new.held ≡ self.old.held }
@@ -47,7 +46,6 @@ impl<'c, R: Wait, G: Gate, A: Allocator + Clone> InCall<'c, '_, '_, '_, R, G, A>
     }
 
     /// One step of the call, if there is room for it; tells whether there was.
-    #[tactic(auto, using(crate::proofs::Noted::steps))]
     pub fn step(&mut self) -> bool
         ensures goes { GoesOn self.old.seat self.new.seat }
         ensures held { self.new.held ≡ self.old.held }

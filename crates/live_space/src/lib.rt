@@ -16,7 +16,6 @@ mod changing;
 pub mod closing;
 mod commit;
 pub mod counting;
-mod decide_held;
 mod ending;
 pub mod fault;
 pub mod gate;

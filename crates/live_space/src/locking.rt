@@ -20,7 +20,6 @@ impl<'c, R: Wait, G: Gate, A: Allocator + Clone> InCall<'c, '_, '_, '_, R, G, A>
     /// Locks the slots up to the end, each with room for so many changes, and waits for those that
     /// other calls hold. False where the call has to be given up: memory, or room for its notes, is
     /// wanting, or a slot was in a wrong place, which never comes. What is held stays held.
-    #[tactic(auto, using(crate::proofs::Noted::steps))]
     pub(crate) fn lock_all(&mut self, end: u64, changes: usize) -> bool
         ensures goes { GoesOn self.old.seat self.new.seat }
         ensures first { self.new.held.first ≡ self.old.held.first }
@@ -54,7 +53,6 @@ impl<'c, R: Wait, G: Gate, A: Allocator + Clone> InCall<'c, '_, '_, '_, R, G, A>
 
 /// Lets all slots go, each in a step of its own, from left to right. Where there is a reply, the call
 /// is answered right after the last of these steps, before its slot is unlocked.
-#[tactic(auto, using(live_pages::proofs::Ending::finishes_with))]
 pub(crate) fn let_go<A: Allocator + Clone>(
     held: Held<'_, A>,
     seat: &mut Seat<A>,
@@ -74,7 +72,6 @@ pub(crate) fn let_go<A: Allocator + Clone>(
 }
 
 // Notes of each slot that it is let go. The last one is still locked then.
-#[tactic(auto, using(seats::proofs::Growing::grew_trans, seats::proofs::Growing::grew_steps))]
 fn note_all<A: Allocator>(letting: &mut Letting<'_, A>, seat: &mut Seat<A>)
     requires room { length letting.old.slots ≤ seat.old.room }
     ensures none { letting.new.slots ≡ [] }

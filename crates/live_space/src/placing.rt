@@ -49,7 +49,6 @@ impl<A: Allocator + Clone> Live<A> {
 
 impl<'c, R: Wait, G: Gate, A: Allocator + Clone> InCall<'c, '_, '_, '_, R, G, A> {
     /// The steps of a placed mapping, after its check.
-    #[tactic(auto, using(crate::proofs::Noted::steps, crate::proofs::Places::placed_at))]
     pub(crate) fn place(&mut self, place: Place) -> Ending
         requires { IsSoundPlace place }
         ensures goes { GoesOn self.old.seat self.new.seat }
@@ -67,7 +66,6 @@ impl<'c, R: Wait, G: Gate, A: Allocator + Clone> InCall<'c, '_, '_, '_, R, G, A>
 
     // It goes to a run of its window that it guesses to be free, or else to any room there, where it
     // holds the window, or is refused where there is none.
-    #[tactic(auto, using(crate::proofs::Noted::steps, crate::proofs::Places::placed_at))]
     fn place_in_window(&mut self, place: Place) -> Ending
         requires { IsSoundPlace place }
         ensures goes { GoesOn self.old.seat self.new.seat }
@@ -88,7 +86,6 @@ impl<'c, R: Wait, G: Gate, A: Allocator + Clone> InCall<'c, '_, '_, '_, R, G, A>
 
     // Notes which run of its window the mapping guesses to be free, or that it guesses none and takes
     // the window. None where the call has to be given up.
-    #[tactic(auto, using(crate::proofs::Noted::steps, crate::proofs::Noted::grew_guess, crate::proofs::Noted::grew_whole))]
     fn guess(&mut self, place: Place) -> Option<Target>
         requires { IsSoundPlace place }
         ensures target { IfSome result (IsTarget place) }
@@ -115,7 +112,6 @@ impl<'c, R: Wait, G: Gate, A: Allocator + Clone> InCall<'c, '_, '_, '_, R, G, A>
 
     // The mapping holds the pages of its target, and goes to a place there if it may. None where it
     // looks elsewhere.
-    #[tactic(auto, using(crate::proofs::Noted::steps))]
     fn try_target(&mut self, place: Place, target: Target) -> Option<Ending>
         requires { IsSoundGoal (GoalOf.Place place target) }
         ensures goes { GoesOn self.old.seat self.new.seat }
@@ -131,7 +127,6 @@ impl<'c, R: Wait, G: Gate, A: Allocator + Clone> InCall<'c, '_, '_, '_, R, G, A>
     }
 
     // The pages of the target are locked, and the mapping goes to a place there if it may.
-    #[tactic(auto, using(crate::proofs::Noted::steps))]
     fn lock_target(&mut self, place: Place, target: Target) -> Option<Ending>
         requires { IsSoundGoal (GoalOf.Place place target) }
         ensures goes { GoesOn self.old.seat self.new.seat }
@@ -150,7 +145,6 @@ impl<'c, R: Wait, G: Gate, A: Allocator + Clone> InCall<'c, '_, '_, '_, R, G, A>
 
     // All pages of the target are held: the mapping goes to a place there, is refused, or looks
     // elsewhere.
-    #[tactic(auto, using(crate::proofs::Noted::steps))]
     fn find(&mut self, place: Place, target: Target) -> Option<Ending>
         requires sound { IsSoundGoal (GoalOf.Place place target) }
         requires covers { Covers self.old.held (target_range place target) }
@@ -194,7 +188,6 @@ impl<'c, R: Wait, G: Gate, A: Allocator + Clone> InCall<'c, '_, '_, '_, R, G, A>
     // The pages of the range have to be mapped: the held slots that cross an edge of it are cut, and
     // then they are mapped in one step. Nothing was mapped there, so that no frame is counted down, and
     // no other core gets a message.
-    #[tactic(auto, using(crate::proofs::Noted::steps))]
     fn put(&mut self, range: PageRange, meta: Meta) -> Ending
         requires sound { IsSoundPut range meta }
         requires covers { Covers self.old.held range }
@@ -216,7 +209,6 @@ impl<'c, R: Wait, G: Gate, A: Allocator + Clone> InCall<'c, '_, '_, '_, R, G, A>
     }
 
     // Cuts the held slots that cross an edge of the range. False where the call has to be given up.
-    #[tactic(auto, using(crate::proofs::Noted::steps))]
     fn cut_all(&mut self, range: PageRange) -> bool
         ensures goes { GoesOn self.old.seat self.new.seat }
         ensures place { (self.new.held.first ≡ self.old.held.first)

@@ -3,6 +3,7 @@ pub mod Begun
 pub mod Changed
 pub mod Committed
 pub mod Cuts
+pub mod Decided
 pub mod Gathered
 pub mod Lending
 pub mod Losses

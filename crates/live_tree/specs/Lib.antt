@@ -1,4 +1,5 @@
 pub mod Cutting
+pub mod Deciding
 pub mod Guards
 pub mod Held
 pub mod Letting

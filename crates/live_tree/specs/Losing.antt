@@ -15,9 +15,13 @@ abbrev pub AreFrames : (ℕ → Option ℕ) → ℕ → ℕ → List ℕ → Typ
 AreFrames frame first end frames =
     (xs : List Framed) × ListsFrames frame first end xs × (frames ≡ map (λ (x : Framed). x.frame) xs)
 
+-- these are the cores that are recorded on some page of the range
+abbrev pub AreUsers : Slots → PageRange → ℕ → Type 0
+AreUsers s range cores = (d : ℕ) → (members cores d ≡ true) ↔ IsUser s range d
+
 -- the cores that are recorded on some page of the range, and the frames of its pages
 pub record AreLost (s : Slots) (range : PageRange) (set : ℕ) (list : List ℕ) : Type 0 where
-  pub cores : (core : ℕ) → (members set core ≡ true) ↔ IsUser s range core
+  pub cores : AreUsers s range set
   pub frames : AreFrames (frames_in s) range.first range.end list
 
 -- what the slot's first page has, if it lies in the range

@@ -2,13 +2,14 @@
 //!
 //! - `tree` (`SharedTree`): four levels, from its making to its end, with the word of tickets; `histories`: what it
 //!   hands out.
-//! - `held` (`Held`): how a call takes slots, cuts them, and changes them; `letting`: lets them go, from left to
-//!   right.
+//! - `held` (`Held`): how a call takes slots, cuts them, and changes them; `decide_held`: what is decided over them;
+//!   `letting`: lets them go, from left to right.
 //!
 //! It exists for `held::Held::lock_next`, held slots lie side by side, and `held::Held::commit`: it changes those of
 //! its range and no other. It knows nothing of frames' bytes or of cores' tables.
 #![tactic(auto)]
 
+pub mod decide_held;
 pub mod held;
 pub mod histories;
 pub mod letting;

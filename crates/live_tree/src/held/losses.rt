@@ -16,13 +16,16 @@ use std::sync::MutexGuard;
 use vm_base::info::recorded_cores;
 use vm_base::{CoreSet, PageInfo, PageRange};
 
+/// Frames that pages have, in order of pages. A few take no memory.
+pub type Frames<'a, A> = SmallVec<u32, 8, &'a A>;
+
 /// What pages lose by a change that takes their frames.
 #[derive(Drop)]
 pub struct FramesLost<'a, A: Allocator> {
     /// The cores that are recorded on some of the pages.
     pub cores: CoreSet,
-    /// The frames that the pages have, in order of pages. A few take no memory.
-    pub frames: SmallVec<u32, 8, &'a A>,
+    /// The frames that the pages have, in order of pages.
+    pub frames: Frames<'a, A>,
 }
 
 impl<'a, A: Allocator + Clone> Held<'a, A> {
@@ -84,14 +87,21 @@ fn lose<A: Allocator>(
     };
     let content = content_in(slot, range);
     lost.cores = lost.cores.union(recorded_cores(&content));
-    match frame_of(&content) {
-        Some(frame) => lost.frames.push(frame).is_ok(),
+    add_frame(&mut lost.frames, frame_of(&content))
+}
+
+/// Adds the frame, if there is one. False where memory is refused.
+pub fn add_frame<'a, A: Allocator>(frames: &mut Frames<'a, A>, frame: Option<u32>) -> bool
+    ensures { IsTrue result → frames.new.items ≡ frames.old.items ++ option_to_list frame }
+{
+    match frame {
+        Some(frame) => frames.push(frame).is_ok(),
         None => true,
     }
 }
 
 // The frame of a page that has this, if it has one.
-fn frame_of(info: &Option<PageInfo>) -> Option<u32>
+pub(crate) fn frame_of(info: &Option<PageInfo>) -> Option<u32>
     ensures { result ≡ frame_of info.now }
 {
     match info {

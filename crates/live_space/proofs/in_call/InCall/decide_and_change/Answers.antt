@@ -1,14 +1,14 @@
 use Rattle.std.proofs.Common.{rules, inr, subst, arith}
-use Rattle.live_space.proofs.Decided.{decided_users}
+use Rattle.live_tree.proofs.Decided.{decided_users}
 use Rattle.frames.specs.Files.{files_of}
 use Rattle.slot_lock.specs.Plan.{range_of}
 use Rattle.vm_calls.specs.declared.decision.Decision.TheVariants as DecisionOf
 use Rattle.vm_calls.specs.Decisions.{DecidesChange}
 use Rattle.live_tree.specs.Held.{HeldView}
 use Rattle.live_tree.specs.Shown.{shown}
-use Rattle.live_space.specs.declared.decide_held.Decided.TheVariants.{Act}
+use Rattle.live_tree.specs.declared.decide_held.Decided.TheVariants.{Act}
 use Rattle.live_space.specs.Changing.{MadeIn}
-use Rattle.live_space.specs.Losing.{DecidesHeld}
+use Rattle.live_tree.specs.Deciding.{DecidesHeld}
 use Rattle.live_space.proofs.in_call.InCall.decide_and_change.Goals as goal
 
 pub returns-then-make-clause-made : goal.returns-then-make-clause-made

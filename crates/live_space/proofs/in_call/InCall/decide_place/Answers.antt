@@ -3,7 +3,7 @@ use Rattle.slot_lock.specs.declared.plan.Goal.TheVariants as To
 use Rattle.slot_lock.specs.Plan.{target_range}
 use Rattle.vm_calls.proofs.Alike.{decision_alike}
 use Rattle.live_tree.specs.Shown.{shown}
-use Rattle.live_space.proofs.Decided.{lent_alike}
+use Rattle.live_tree.proofs.Decided.{lent_alike}
 use Rattle.live_space.proofs.in_call.InCall.decide_place.Goals as goal
 
 pub returns-clause-decides : goal.returns-clause-decides

@@ -3,7 +3,7 @@ use Rattle.live_tree.specs.Held.{HeldView}
 use Rattle.live_tree.specs.Shown.{shown}
 use Rattle.seats.specs.Notes.{SeatView}
 use Rattle.slot_lock.specs.Plan.{range_of}
-use Rattle.live_space.specs.Losing.{Loses}
+use Rattle.live_tree.specs.Deciding.{Loses}
 use Rattle.live_space.proofs.Few.{few_targets}
 use Rattle.live_space.proofs.Lost.{others_kept}
 use Rattle.seats.proofs.Growing.{grew_steps, grew_trans}

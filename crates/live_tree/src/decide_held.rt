@@ -1,30 +1,27 @@
 //! What is decided of a change whose pages are held, and which frames they lose.
-ghost use Rattle.std.specs.Prelude.{◌≡◌, ◌+◌, ◌++◌, IfSome, IsTrue};
+ghost use Rattle.std.specs.Prelude.{◌≡◌, ◌+◌, IfSome};
 ghost use Rattle.std.specs.Prelude.{option_to_list};
 ghost use Rattle.slot_lock.specs.declared.plan.Change.TheVariants as ChangeOf;
 ghost use Rattle.slot_lock.specs.Plan.{IsSoundChange, IsSoundGoal, range_of};
 ghost use Rattle.frames.specs.Files.{files_of};
 ghost use Rattle.vm_calls.specs.Decisions.{Decides, IsNoAccess, IsSoundAct};
 ghost use Rattle.machine_model.specs.Counting.{frame_lost};
+ghost use Rattle.live_tree.specs.Deciding.{DecidesHeld};
 ghost use Rattle.live_tree.specs.Held.{Covers};
 ghost use Rattle.live_tree.specs.Shown.{shown};
-ghost use Rattle.live_space.specs.Losing.{DecidesHeld};
 
+use crate::held::Held;
+use crate::held::losses::{Frames, FramesLost, add_frame, frame_of};
 use frames::Objects;
-use live_tree::held::Held;
-use live_tree::held::losses::FramesLost;
 use slot_lock::{Change, Goal, SlotMap};
 use smallvec::SmallVec;
 use std::alloc::Allocator;
 use vm_base::{CoreId, Errno, PageInfo, PageRange, Prot};
 use vm_calls::{Decision, decide, decide_page};
 
-/// Frames that pages have, in order of pages. A few take no memory.
-pub(crate) type Frames<'a, A> = SmallVec<u32, 8, &'a A>;
-
 /// What a call does that holds the pages of its change.
 #[derive(Drop)]
-pub(crate) enum Decided<'a, A: Allocator> {
+pub enum Decided<'a, A: Allocator> {
     /// It is refused, and changes nothing.
     Refuse(Errno),
     /// It changes the pages.
@@ -32,7 +29,7 @@ pub(crate) enum Decided<'a, A: Allocator> {
 }
 
 /// What a call of the core does that holds the pages of its change. None where memory is refused.
-pub(crate) fn decide_held<'a, A: Allocator + Clone>(
+pub fn decide_held<'a, A: Allocator + Clone>(
     objects: &Objects<A>,
     alloc: &'a A,
     core: CoreId,
@@ -55,21 +52,8 @@ fn lost_by(change: Change, info: &Option<PageInfo>) -> Option<u32>
     ensures { result ≡ frame_lost change (λ _. info.now) 0 }
 {
     match change {
-        Change::Put { .. } | Change::Clear { .. } => match info {
-            Some(info) => info.frame,
-            None => None,
-        },
+        Change::Put { .. } | Change::Clear { .. } => frame_of(info),
         Change::Protect { .. } => None,
-    }
-}
-
-/// Adds the frame, if there is one. False where memory is refused.
-pub(crate) fn add_frame<'a, A: Allocator>(frames: &mut Frames<'a, A>, frame: Option<u32>) -> bool
-    ensures { IsTrue result → frames.new.items ≡ frames.old.items ++ option_to_list frame }
-{
-    match frame {
-        Some(frame) => frames.push(frame).is_ok(),
-        None => true,
     }
 }
 
@@ -161,12 +145,8 @@ fn decide_protect<'a, A: Allocator + Clone>(
     }
 }
 
-/// What a call decides over a whole slot map, all of whose pages may be asked for.
-pub(crate) fn decide_over<M: SlotMap, A: Allocator>(
-    map: &M,
-    objects: &Objects<A>,
-    goal: Goal,
-) -> Decision
+// What a call decides over a whole slot map, all of whose pages may be asked for.
+fn decide_over<M: SlotMap, A: Allocator>(map: &M, objects: &Objects<A>, goal: Goal) -> Decision
     requires no_access { IsNoAccess goal }
     requires sound { IsSoundGoal goal }
     ensures decision { Decides (files_of objects.now) (M.slots map.now) goal result }

@@ -5,9 +5,9 @@ use Rattle.frames.specs.Files.{files_of}
 use Rattle.vm_calls.specs.declared.decision.Decision.TheVariants.{Act}
 use Rattle.vm_calls.specs.Decisions.{DecidesChange}
 use Rattle.live_tree.specs.Shown.{shown}
-use Rattle.live_space.specs.Losing.{Loses}
-use Rattle.live_space.proofs.Decided.{clear_lost, put_lost}
-use Rattle.live_space.proofs.decide_held.decide_several.Goals as goal
+use Rattle.live_tree.specs.Deciding.{Loses}
+use Rattle.live_tree.proofs.Decided.{clear_lost, put_lost}
+use Rattle.live_tree.proofs.decide_held.decide_several.Goals as goal
 
 pub returns-in_ok-losses-in-Put : goal.returns-in_ok-losses-in-Put
 returns-in_ok-losses-in-Put g c =

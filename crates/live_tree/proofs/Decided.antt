@@ -1,5 +1,5 @@
 -- What is decided of a change whose pages are held
-use Rattle.std.proofs.Common.{◌≡◌, ℕ, ◌+◌, List, [], Option, arith, refl, ap, ◌∙◌, subst}
+use Rattle.std.proofs.Common.{◌≡◌, ℕ, ◌+◌, ◌<◌, ◌≤◌, List, [], ◌∷◌, Option, Some, None, arith, refl, ap, ◌∙◌, subst}
 use Rattle.std.specs.Prelude.{option_to_list}
 use Rattle.vm_base.specs.declared.info.PageInfo.{PageInfo}
 use Rattle.vm_base.specs.declared.info.Meta.{Meta}
@@ -10,7 +10,8 @@ use Rattle.vm_base.specs.Plain.{File}
 use Rattle.vm_base.proofs.Functions.{has_in}
 use Rattle.slot_lock.specs.declared.plan.Change.{Change}
 use Rattle.slot_lock.specs.declared.plan.Change.TheVariants.{Put, Clear, Protect}
-use Rattle.slot_lock.specs.Framed.{frames_in}
+use Rattle.slot_lock.specs.declared.framed.Framed.{Framed}
+use Rattle.slot_lock.specs.Framed.{ListsFrames, frames_in}
 use Rattle.slot_lock.specs.Plan.{range_of}
 use Rattle.slot_lock.specs.Slots.{Slots}
 use Rattle.machine_model.specs.Counting.{frame_lost}
@@ -20,22 +21,62 @@ use Rattle.vm_calls.specs.Decisions.{ActsOn, AreAlike, DecidesChange}
 use Rattle.vm_calls.specs.Decisions.DecidesProtect.{acts, no_page, no_write}
 use Rattle.vm_calls.proofs.Alike.{change_alike}
 use Rattle.live_tree.specs.Held.{Covers, HeldView}
-use Rattle.live_tree.specs.Losing.{AreLost}
+use Rattle.live_tree.specs.Deciding.{Loses}
+use Rattle.live_tree.specs.Losing.{AreFrames, AreLost, AreUsers}
 use Rattle.live_tree.specs.Shown.{Lends, shown}
-use Rattle.live_space.specs.Losing.{AreUsers, Loses}
-use Rattle.live_space.proofs.Lost.{frames_alike, lost_none, of_one}
 
-lost_same : (change : Change) (s : Slots) (p : ℕ) (info : Option PageInfo) → info ≡ s.info p → frame_lost change (λ q. info) 0 ≡ frame_lost change s.info p
-lost_same (Put range meta) s p info e = ap (λ (o : Option PageInfo). frame_of o) e
-lost_same (Clear range) s p info e = ap (λ (o : Option PageInfo). frame_of o) e
-lost_same (Protect range prot) s p info e = refl
+-- a page with its frame
+abbrev listed : ℕ → ℕ → Framed
+listed page frame = record { page = page; frame = frame }
+
+-- one page has at most one
+pub of_one : (frame : ℕ → Option ℕ) (first end : ℕ) (o : Option ℕ) (frames : List ℕ) → end ≡ first + 1 → frame first ≡ o
+    → frames ≡ option_to_list o → AreFrames frame first end frames
+of_one frame first end None frames e is are = (
+  [],
+  (λ p low high. let same : p ≡ first = omega (arith, e, low, high) in ap frame same ∙ is),
+  are,
+)
+of_one frame first end (Some f) frames e is are = (
+  listed first f ∷ [],
+  (omega arith, omega (arith, e), (λ p low high. absurd (omega (arith, low, high))), is, (λ p low high. absurd (omega (arith, e, low, high)))),
+  are,
+)
+
+lists_alike : (f g : ℕ → Option ℕ) (first end : ℕ) (xs : List Framed) → ((p : ℕ) → first ≤ p → p < end → g p ≡ f p) → ListsFrames f first end xs
+    → ListsFrames g first end xs
+lists_alike f g first end [] same l = λ p low high. same p low high ∙ l p low high
+lists_alike f g first end (x ∷ xs) same l =
+    let low = l.0 in
+    let high = l.1 in (
+      l.0,
+      l.1,
+      (λ p a b. same p a (omega (arith, b, high)) ∙ l.2 p a b),
+      same x.page l.0 l.1 ∙ l.3,
+      lists_alike f g (x.page + 1) end xs (λ p a b. same p (omega (arith, a, low)) b) l.4,
+    )
+
+-- frames by what is the same at each page of the range
+pub frames_alike : (f g : ℕ → Option ℕ) (first end : ℕ) (frames : List ℕ) → ((p : ℕ) → first ≤ p → p < end → g p ≡ f p) → AreFrames f first end frames
+    → AreFrames g first end frames
+frames_alike f g first end frames same are = (are.0, lists_alike f g first end are.0 same are.1, are.2)
+
+-- none is lost where no page loses one
+pub lost_none : (frame : ℕ → Option ℕ) (first end : ℕ) (frames : List ℕ) → ((p : ℕ) → frame p ≡ None) → frames ≡ [] → AreFrames frame first end frames
+lost_none frame first end frames none_ e = ([], (λ p low high. none_ p), e)
+
+-- a page loses by what it has
+pub lost_at : (change : Change) (f : ℕ → Option PageInfo) (p : ℕ) (g : ℕ → Option PageInfo) (q : ℕ) → f p ≡ g q → frame_lost change f p ≡ frame_lost change g q
+lost_at (Put range meta) f p g q e = ap (λ (o : Option PageInfo). frame_of o) e
+lost_at (Clear range) f p g q e = ap (λ (o : Option PageInfo). frame_of o) e
+lost_at (Protect range prot) f p g q e = refl
 
 -- what a change of one page loses
 pub loses_one : (s : Slots) (change : Change) (info : Option PageInfo) (frames : List ℕ) → (range_of change).end ≡ (range_of change).first + 1
     → info ≡ s.info (range_of change).first → frames ≡ option_to_list (frame_lost change (λ q. info) 0) → Loses s change frames
 loses_one s change info frames one is are = of_one (frame_lost change s.info) (range_of change).first (range_of change).end
     (frame_lost change s.info (range_of change).first) frames one refl
-    (are ∙ ap option_to_list (lost_same change s (range_of change).first info is))
+    (are ∙ ap option_to_list (lost_at change (λ q. info) 0 s.info (range_of change).first is))
 
 -- lent slots are as the held ones in a range that is held
 pub lent_alike : (core : ℕ) (h : HeldView) (s : Slots) (r : PageRange) → Lends core h s → Covers h r → AreAlike r s (shown h.slots)

@@ -1,5 +1,5 @@
 use Rattle.vm_calls.proofs.Readable.{readable}
-use Rattle.live_space.proofs.decide_held.decide_over.Goals as goal
+use Rattle.live_tree.proofs.decide_held.decide_over.Goals as goal
 
 pub decide-requires-clause-readable : goal.decide-requires-clause-readable
 decide-requires-clause-readable g c =

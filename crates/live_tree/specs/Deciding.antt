@@ -1,18 +1,15 @@
 -- What is decided of a change whose pages are held, and which frames they lose
-use Rattle.std.specs.Prelude.{◌≡◌, ◌↔◌, ℕ, true, false, List, Option}
-use Rattle.vm_base.specs.declared.page.PageRange.{PageRange}
-use Rattle.vm_base.specs.Cores.{members}
-use Rattle.vm_base.specs.Functions.{put}
+use Rattle.std.specs.Prelude.{◌≡◌, ℕ, List, Option}
 use Rattle.vm_base.specs.Plain.{File}
 use Rattle.slot_lock.specs.declared.plan.Change.{Change}
 use Rattle.slot_lock.specs.Plan.{range_of}
-use Rattle.slot_lock.specs.Slots.{IsUser, Slots}
+use Rattle.slot_lock.specs.Slots.{Slots}
 use Rattle.machine_model.specs.Counting.{frame_lost}
 use Rattle.vm_calls.specs.declared.decision.Decision.TheVariants as DecisionOf
 use Rattle.vm_calls.specs.Decisions.{DecidesChange}
 use Rattle.live_tree.specs.Losing.{AreFrames}
-use Rattle.live_space.specs.declared.decide_held.Decided.{Decided}
-use Rattle.live_space.specs.declared.decide_held.Decided.TheVariants.{Refuse, Act}
+use Rattle.live_tree.specs.declared.decide_held.Decided.{Decided}
+use Rattle.live_tree.specs.declared.decide_held.Decided.TheVariants.{Refuse, Act}
 
 -- these are the frames that pages lose by the change, in order of pages
 abbrev pub Loses : Slots → Change → List ℕ → Type 0
@@ -25,12 +22,3 @@ DecidesHeld files s change (Refuse errno) = DecidesChange files s change (Decisi
 DecidesHeld files s change (Act losses) =
     DecidesChange files s change (DecisionOf.Act (range_of change) losses.cores)
     × Loses s change losses.frames.items
-
--- these are the cores that are recorded on some page of the range
-abbrev pub AreUsers : Slots → PageRange → ℕ → Type 0
-AreUsers s range cores = (d : ℕ) → (members cores d ≡ true) ↔ IsUser s range d
-
--- these are such cores but for this one
-abbrev pub AreOthers : Slots → PageRange → ℕ → ℕ → Type 0
-AreOthers s range core others =
-    (cores : ℕ) × AreUsers s range cores × (members others ≡ put (members cores) core false)

@@ -2,8 +2,8 @@ use Rattle.std.proofs.Common.{◌≡◌, ap, sym, ◌∙◌}
 use Rattle.vm_base.specs.declared.page.PageRange.{PageRange}
 use Rattle.slot_lock.specs.Plan.{range_of}
 use Rattle.live_tree.specs.Shown.{shown}
-use Rattle.live_space.proofs.Decided.{loses_one}
-use Rattle.live_space.proofs.decide_held.decide_one.Goals as goal
+use Rattle.live_tree.proofs.Decided.{loses_one}
+use Rattle.live_tree.proofs.decide_held.decide_one.Goals as goal
 
 pub returns-in-Ok : goal.returns-in-Ok
 returns-in-Ok g c =
