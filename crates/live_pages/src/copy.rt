@@ -39,16 +39,35 @@ pub fn copy_page<R: Wait, A: Allocator + Clone>(
     let Some(mut core) = lock_core(rt, pieces.cores, seat.core()) else {
         return false;
     };
+    copy_by(rt, pieces, seat, held, &mut core, shown, own)
+}
+
+// The same under the lock of the core.
+fn copy_by<R: Wait, A: Allocator + Clone>(
+    rt: &R,
+    pieces: &Pieces<'_, A>,
+    seat: &mut Seat<A>,
+    held: &mut Held<'_, A>,
+    core: &mut CoreState<A>,
+    shown: u32,
+    own: u32,
+) -> bool
+    requires step { CanNote seat.old }
+    requires other { shown ≢ own }
+    requires core { core.old.inbox.core ≡ seat.old.core }
+    ensures done { result ≡ true → StepsWith (Copy own) seat.old held.old seat.new held.new }
+    ensures not { result ≡ false → Stays seat.old held.old seat.new held.new }
+{
     let evicted = core.counts.in_the_way(shown, -1);
     let Some(mut frames) = lock_these(rt, pieces, &[Some(shown), Some(own), evicted]) else {
         return false;
     };
-    if !frames.can_evict(&core, evicted) || !held.can_take(Act::Copy(own)) {
+    if !frames.can_evict(core, evicted) || !held.can_take(Act::Copy(own)) {
         return false;
     }
     let epochs = pieces.epoch_for(rt, evicted);
     give_copied(
-        &mut core,
+        core,
         &mut frames,
         seat,
         held,

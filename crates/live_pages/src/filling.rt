@@ -378,19 +378,44 @@ fn share<R: Wait, A: Allocator + Clone>(
     let Some(mut core) = lock_core(rt, pieces.cores, seat.core()) else {
         return None;
     };
-    let evicted = core.counts.in_the_way(shown, 1);
     let mut free = pieces.free_for(rt, own);
+    share_by(
+        rt, pieces, seat, held, own, cached, shown, &mut core, &mut free,
+    )
+}
+
+// The same under the locks of the core and of the free frames, if a frame goes back.
+fn share_by<R: Wait, A: Allocator + Clone>(
+    rt: &R,
+    pieces: &Pieces<'_, A>,
+    seat: &mut Seat<A>,
+    held: &mut Held<'_, A>,
+    own: Option<u32>,
+    cached: &CachedFrame,
+    shown: u32,
+    core: &mut CoreState<A>,
+    free: &mut Option<MutexGuard<'_, FreeFrames<A>>>,
+) -> Option<u32>
+    requires step { CanNote seat.old }
+    requires caches { cached.now ≡ Some shown }
+    requires core { core.old.inbox.core ≡ seat.old.core }
+    requires free { is_some free.old ≡ is_some own }
+    ensures some { IfSome result (λ f. StepsWith (Frame f) seat.old held.old seat.new held.new) }
+    ensures shown { IfSome result (λ f. cached.now ≡ Some f) }
+    ensures none { result ≡ None → Stays seat.old held.old seat.new held.new }
+{
+    let evicted = core.counts.in_the_way(shown, 1);
     let Some(mut frames) = lock_these(rt, pieces, &[own, evicted]) else {
         return None;
     };
-    if !frames.can_evict(&core, evicted) || !held.can_take(Act::Frame(shown)) {
+    if !frames.can_evict(core, evicted) || !held.can_take(Act::Frame(shown)) {
         return None;
     }
     let epochs = pieces.epoch_for(rt, evicted);
     give_shown(
-        &mut core,
+        core,
         &mut frames,
-        &mut free,
+        free,
         seat,
         held,
         own,

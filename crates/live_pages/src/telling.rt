@@ -293,7 +293,6 @@ pub fn count_of(set: CoreSet) -> usize
 
 /// The takes of each core of the set, ascending, until it has acknowledged the core's message, as
 /// `take_until_told` makes them.
-#[tactic(auto, using(seats::proofs::Growing::grew_trans, seats::proofs::Growing::grew_none))]
 pub fn take_all<R: Wait, A: Allocator + Clone>(
     rt: &R,
     cores: &[CachePadded<Mutex<CoreState<A>>>],
@@ -310,7 +309,6 @@ pub fn take_all<R: Wait, A: Allocator + Clone>(
 }
 
 // The takes of one core, where it is in the set.
-#[tactic(auto, using(seats::proofs::Growing::grew_none))]
 fn take_of<R: Wait, A: Allocator + Clone>(
     rt: &R,
     cores: &[CachePadded<Mutex<CoreState<A>>>],
@@ -348,7 +346,6 @@ pub(crate) fn take_until_told<R: Wait, A: Allocator + Clone>(
 
 // The takes of a target, which is locked: until it has acknowledged the core's message, or the most
 // that there may be.
-#[tactic(auto, using(seats::proofs::Growing::grew_trans, seats::proofs::Growing::grew_note, crate::proofs::Noting::one_more))]
 fn take_each<A: Allocator + Clone>(state: &mut CoreState<A>, seat: &mut Seat<A>, target: CoreId)
     requires room { 126 ≤ seat.old.room }
     ensures grew { Grew seat.old seat.new }
