@@ -1,7 +1,9 @@
-use Rattle.std.proofs.Common.{refl, arith, ap, ◌∙◌, subst}
+use Rattle.std.proofs.Common.{Some, refl, arith, ap, ◌∙◌, subst}
 use Rattle.seats.specs.Notes.{SeatView}
 use Rattle.live_space.specs.Faulting.{GetsCopy, GivesUpOr}
+use Rattle.live_space.specs.Spending.{UsesCopy}
 use Rattle.live_space.proofs.Faulted.{got_copy}
+use Rattle.live_space.proofs.Spent.{used_copy, was_used}
 use Rattle.seats.proofs.Growing.{grew_trans}
 use Rattle.live_space.proofs.Noted.{goes_before, left_after, one_if}
 use Rattle.live_space.proofs.in_call.InCall.copy_told.Goals as goal
@@ -28,3 +30,7 @@ returns-then-copy_page-clause-page g c =
     let same = ap (λ (s : SeatView). s.core) w.step ∙ c.take_all.ensures.grew.same.core in
     subst (λ n. GivesUpOr (GetsCopy n c.args.self.now.held) c.install.result c.install.new.self.held) same
     (got_copy c.args.frames.own _ _ _ _ _ _ c.install.result w c.install.ensures.page)
+
+pub returns-then-copy_page-clause-own : goal.returns-then-copy_page-clause-own
+returns-then-copy_page-clause-own g c = was_used (Some c.args.frames.own) (UsesCopy c.args.frames.own c.args.self.now.held) c.install.result
+    (used_copy _ _ _ _ _ (c.copy_page.ensures.done c.if-copy_page.true)) c.install.ensures.none

@@ -1,4 +1,6 @@
-use Rattle.std.proofs.Common.{refl, rules, arith, ap, sym, subst, ◌∙◌}
+use Rattle.std.proofs.Common.{◌≡◌, ℕ, refl, rules, arith, ap, sym, subst, ◌∙◌}
+use Rattle.vm_base.specs.Cores.{with_member}
+use Rattle.vm_base.specs.declared.page.PageRange.{PageRange}
 use Rattle.live_tree.specs.Held.{HeldView}
 use Rattle.live_tree.specs.Shown.{shown}
 use Rattle.seats.specs.Notes.{SeatView}
@@ -36,5 +38,29 @@ take_and_commit-requires g c =
             ),
           ),
         ),
+      ),
+    )
+
+pub overflow_mul-most : goal.overflow_mul-most
+overflow_mul-most g c = omega (arith, few_targets c.args.targets, c.count_of.ensures)
+
+pub overflow_add-most : goal.overflow_add-most
+overflow_add-most g c = omega (arith, few_targets c.args.targets, c.count_of.ensures)
+
+pub tell_others-requires : goal.tell_others-requires
+tell_others-requires g c =
+    let step = ap (λ (s : SeatView). s.room) c.step-decided.ensures in
+    let core : c.core-core.result ≡ c.step-decided.new.self.core = c.core-core.ensures ∙ sym (ap (λ (s : SeatView). s.core) c.step-decided.ensures) in
+    let range : c.range.result ≡ c.range-in-Some-of.result = c.range.ensures ∙ sym c.range-in-Some-of.ensures in (
+      omega arith,
+      (
+        omega (arith, step, c.if-not-has_room.ensures.room (search rules)),
+        subst (λ (r : PageRange). c.in-Some-of.telling ≡ record {
+          core = c.step-decided.new.self.core;
+          set = with_member c.args.targets c.step-decided.new.self.core;
+          range = r;
+        }) range
+            (subst (λ (n : ℕ). c.in-Some-of.telling ≡ record { core = n; set = with_member c.args.targets n; range = c.range.result }) core
+            c.in-Some-of.ensures),
       ),
     )
