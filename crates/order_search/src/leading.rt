@@ -408,8 +408,8 @@ impl<'a, A: Allocator + Clone + Drop> Ways<'a, A> {
         Ok(())
     }
 
-    // A call isn't under way any more.
-    fn drop_olds(&mut self, configs: &mut [Config], call: &Under) -> Result<(), NoMemory> {
+    /// A call isn't under way any more.
+    pub fn drop_olds(&mut self, configs: &mut [Config], call: &Under) -> Result<(), NoMemory> {
         if call.keeps_old() {
             for at in 0..configs.len() {
                 configs[at].spot = self.arena.drop_olds(&configs[at].spot, call)?;
@@ -544,8 +544,8 @@ impl<'a, A: Allocator + Clone + Drop> Ways<'a, A> {
         Ok(Reach::Reached)
     }
 
-    // Leaves one of those out that are the same now.
-    fn unite(&mut self, configs: &mut Vec<Config, A>) -> Result<(), NoMemory> {
+    /// Leaves one of those out that are the same now.
+    pub fn unite(&mut self, configs: &mut Vec<Config, A>) -> Result<(), NoMemory> {
         if configs.len() > 1 {
             self.begin(configs.as_slice(), 0)?;
             swap(configs, &mut self.work);
@@ -588,8 +588,8 @@ impl<'a, A: Allocator + Clone + Drop> Ways<'a, A> {
         Ok(())
     }
 
-    // Leaves out what no configuration needs, where there is much of it.
-    fn shorten(&mut self, alloc: &A, configs: &mut [Config]) -> Result<(), NoMemory> {
+    /// Leaves out what no configuration needs, where there is much of it.
+    pub fn shorten(&mut self, alloc: &A, configs: &mut [Config]) -> Result<(), NoMemory> {
         if self.trail.is_long() {
             self.trail.shorten(alloc, configs)?;
         }
@@ -597,19 +597,6 @@ impl<'a, A: Allocator + Clone + Drop> Ways<'a, A> {
             self.arena.shorten(alloc, configs)?;
         }
         Ok(())
-    }
-
-    /// A call isn't under way any more: what was kept for it goes, of configurations that are the same now one stays, and what none of
-    /// them needs is left out, where there is much of it.
-    pub fn tidy(
-        &mut self,
-        alloc: &A,
-        configs: &mut Vec<Config, A>,
-        call: &Under,
-    ) -> Result<(), NoMemory> {
-        self.drop_olds(configs, call)?;
-        self.unite(configs)?;
-        self.shorten(alloc, configs)
     }
 
     /// The order of a configuration, which is the only one left.

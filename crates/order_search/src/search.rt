@@ -285,7 +285,9 @@ impl<'a, A: Allocator + Clone + Drop> Search<'a, A> {
             }
         }
         self.forget(at, bit);
-        self.ways.tidy(alloc, &mut self.configs, ends)?;
+        self.ways.drop_olds(&mut self.configs, ends)?;
+        self.ways.unite(&mut self.configs)?;
+        self.ways.shorten(alloc, &mut self.configs)?;
         Ok(Reach::Reached)
     }
 
