@@ -1,6 +1,5 @@
-use Rattle.std.proofs.Common.{◌≡◌, Bool, true, false, ap, sym, ◌∙◌, is_some}
+use Rattle.std.proofs.Common.{ap, sym, ◌∙◌, is_some}
 use Rattle.audit.specs.Auditor.{plain_of}
-use Rattle.audit_text.specs.Heard.{waits}
 use Rattle.audit_text.specs.Steps.{heard_of, terms_of}
 use Rattle.audit_text.proofs.AroundLemmas.{ok_by}
 use Rattle.audit_text.proofs.HeardLemmas.{answered_bad, answered_hears, answered_wants}
