@@ -4,11 +4,15 @@ use Rattle.std.proofs.lemmas.List.{map_more}
 use Rattle.std.proofs.lemmas.List.Elements.{All-append}
 use Rattle.std.specs.Prelude.{All}
 use Rattle.import_forms.specs.Speech.{Spoken}
-use Rattle.import_log.specs.Imported.{processes_all}
+use Rattle.import_log.specs.Imported.{chosen_all, ending_all, ending_by, import_all, imported, processes_all}
 use Rattle.import_log.specs.Made.{all_makings}
-use Rattle.import_log.specs.Processes.{processes}
+use Rattle.import_log.specs.Processes.{chosen, is_there, processes}
 use Rattle.import_log.specs.Programs.{begins_at, last_begun, programs_all, programs_for}
+use Rattle.import_steps.specs.Taking.{SoFar}
+use Rattle.import_steps.specs.declared.counts.LineCounts.{LineCounts}
+use Rattle.import_log.specs.declared.import.Ending.{Ending}
 use Rattle.import_log.specs.declared.made.Making.{Making}
+use Rattle.import_log.specs.declared.processes.Choice.{Choice}
 use Rattle.import_log.specs.declared.processes.Process.{Process}
 
 map-push : {X Y : Type 0} (f : X → Y) (xs : List X) (x : X) → map f (xs ++ x ∷ []) ≡ map f xs ++ f x ∷ []
@@ -52,3 +56,24 @@ pub programs_known : (joined : Bool) (all : List Spoken) (n : ℕ) (made : List 
 programs_known joined all n made ps names size is listed e =
     let here : ps ≡ processes_all joined all = listed ∙ ap (processes all made) size ∙ ap (λ m. processes all m (length all)) is in
     e ∙ ap (programs_for all made) here ∙ ap (λ m. programs_for all m (processes_all joined all)) is
+
+-- the process is that which is chosen of all
+pub process_known : (choice : Choice) (all : List Spoken) (made : List Making) (ps : List Process) (p : ℕ) → made ≡ all_makings choice.joined all
+    → ps ≡ processes all made (length all) → p ≡ chosen choice.thread made ps → p ≡ chosen_all choice all
+process_known choice all made ps p is listed e =
+    e ∙ ap (λ m. chosen choice.thread m ps) is
+    ∙ ap (chosen choice.thread (all_makings choice.joined all)) (listed ∙ ap (λ m. processes all m (length all)) is)
+
+-- what is taken is what the chosen process asks for
+pub taken_known : (start : SoFar) (choice : Choice) (all : List Spoken) (made : List Making) (p : ℕ) (x : SoFar × LineCounts)
+    → made ≡ all_makings choice.joined all → p ≡ chosen_all choice all → x ≡ imported start all made p (length all) → x ≡ import_all start choice all
+taken_known start choice all made p x is known e =
+    e ∙ ap (λ m. imported start all m p (length all)) is
+    ∙ ap (λ q. imported start all (all_makings choice.joined all) q (length all)) known
+
+pub ending_known : (start : SoFar) (choice : Choice) (all : List Spoken) (x : SoFar × LineCounts) (there : Bool) (n : ℕ) (ending : Ending)
+    → x ≡ import_all start choice all → there ≡ is_there choice.thread all → n ≡ length x.0.steps → ending ≡ ending_by there n
+    → ending ≡ ending_all start choice all
+ending_known start choice all x there n ending taken t l e =
+    e ∙ ap (λ b. ending_by b n) t
+    ∙ ap (ending_by (is_there choice.thread all)) (l ∙ ap (λ (y : SoFar × LineCounts). length y.0.steps) taken)

@@ -209,9 +209,17 @@ pub(crate) fn import_lines<M: Meter>(
     let processes = read_processes(alloc, lines, &made, &mut room, meter)?;
     let programs = read_programs(alloc, lines, &made, processes.as_slice(), &mut room)?;
     let process = chosen(choice, &made, processes.as_slice());
-    let imported = take_lines(alloc, start, lines, &made, process, &mut room, meter)?;
+    let taken = take_lines(alloc, start, lines, &made, process, &mut room, meter);
+    drop(made);
+    drop(room);
+    let imported = taken?;
     let ending = ending_by(is_there(choice, lines), imported.taken.steps.len());
-    let unread = copy_unread(alloc, unread, ending)?;
+    let Ok(unread) = copy_unread(alloc, unread, ending) else {
+        drop(imported);
+        drop(programs);
+        drop(processes);
+        return Err(AllocError);
+    };
     let report = Report {
         ending,
         counts: imported.counts,
