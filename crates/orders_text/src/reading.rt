@@ -416,6 +416,7 @@ fn overlap_fault(lines: &[u64], one: usize, other: usize) -> HistoryFault
 }
 
 // Reads a text whole, and tells why it is no history, if it is none.
+#[tactic(auto, using(crate::proofs::PlaceLemmas::end_refused))]
 fn read_whole<A: Allocator + Clone + Drop>(
     history: &mut History<A>,
     alloc: &A,
