@@ -416,7 +416,6 @@ fn overlap_fault(lines: &[u64], one: usize, other: usize) -> HistoryFault
 }
 
 // Reads a text whole, and tells why it is no history, if it is none.
-#[tactic(auto, using(crate::proofs::PlaceLemmas::end_refused))]
 fn read_whole<A: Allocator + Clone + Drop>(
     history: &mut History<A>,
     alloc: &A,
@@ -433,7 +432,8 @@ fn read_whole<A: Allocator + Clone + Drop>(
     if let Err(fault) = read_lines(history, alloc, text) {
         return Err(fault);
     }
-    if !history.declaration.has_space {
+    let lacks_space = !history.declaration.has_space;
+    if lacks_space {
         return Err(HistoryFault::NoVmLine);
     }
     match find_overlap(alloc, history.calls.as_slice()) {
