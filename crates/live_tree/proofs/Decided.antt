@@ -17,7 +17,7 @@ use Rattle.slot_lock.specs.Slots.{Slots}
 use Rattle.machine_model.specs.Counting.{frame_lost}
 use Rattle.vm_calls.specs.declared.decision.Decision.{Decision}
 use Rattle.vm_calls.specs.declared.decision.Decision.TheVariants.{Act}
-use Rattle.vm_calls.specs.Decisions.{ActsOn, AreAlike, DecidesChange}
+use Rattle.vm_calls.specs.Decisions.{AreAlike, DecidesChange}
 use Rattle.vm_calls.specs.Decisions.DecidesProtect.{acts, no_page, no_write}
 use Rattle.vm_calls.proofs.Alike.{change_alike}
 use Rattle.live_tree.specs.Held.{Covers, HeldView}

@@ -1,4 +1,4 @@
-use Rattle.std.proofs.Common.{◌≡◌, ◌∙◌, ap, arith, refl, rules, subst}
+use Rattle.std.proofs.Common.{◌∙◌, ap, refl, subst}
 use Rattle.live_tree.specs.Held.{HeldView}
 use Rattle.seats.specs.Notes.{SeatView}
 use Rattle.live_space.specs.Faulting.{GetsFrame, GivesUpOr}

@@ -1,6 +1,5 @@
-use Rattle.std.proofs.Common.{ap, ◌∙◌, refl, rules, subst}
+use Rattle.std.proofs.Common.{◌∙◌, refl, rules, subst}
 use Rattle.live_tree.specs.Held.{HeldView}
-use Rattle.seats.specs.Notes.{SeatView}
 use Rattle.live_space.specs.Faulting.{GetsTaken}
 use Rattle.live_space.proofs.Faulted.{got_taken}
 use Rattle.live_space.proofs.Noted.{goes_then, goes_trans, left_after, one_wants}
