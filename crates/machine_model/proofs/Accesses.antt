@@ -14,8 +14,8 @@ use Rattle.machine_model.specs.Counted.{IsCountedState}
 use Rattle.machine_model.proofs.Moves.{IsCallOf, call_at}
 use Rattle.machine_model.proofs.Shapes.{IsFault}
 use Rattle.machine_model.proofs.CountsKept.{same_with_core}
-use Rattle.machine_model.specs.Invariant.{IsWellFormed, ShowsPlain, Shows, ShowsPage, own_frame}
-use Rattle.machine_model.proofs.SoundMoves.{Leaves, shows_less, goes_on, tells, answers}
+use Rattle.machine_model.specs.Invariant.{ShowsPlain, Shows, ShowsPage, own_frame}
+use Rattle.machine_model.proofs.SoundMoves.{IsShown, Leaves, shows_less, goes_on, tells, answers}
 use Rattle.machine_model.proofs.Reaching.{ReachesFrame, reaches}
 use Rattle.machine_model.proofs.SoundPages.{IsFramed, framed, framed_reply, unmapped_reply, forbidden_reply, past_reply, can_access}
 use Rattle.machine_model.proofs.Stores.{stored_shows}
@@ -35,8 +35,8 @@ access_shows w t touch f byte Store k g n writes = stored_shows w t touch.page f
 access_shows w t touch f byte _ k g n writes = g
 
 pub access_made : (w : World) (event : Event) (c : ℕ) (touch : Touch) (f : ℕ) → w.calls.phase c ≡ Try touch
-    → frame_reached (translated_by w.hardware c touch) ≡ Some f → IsWellFormed w
-    → Leaves w event (after_access c touch f (with_hardware (after_translating w.hardware c touch) w))
+    → frame_reached (translated_by w.hardware c touch) ≡ Some f → (well : IsShown w)
+    → Leaves w well.plain event (after_access c touch f (with_hardware (after_translating w.hardware c touch) w))
 access_made w event c touch f e h well =
     let reply : Reply = reply_of touch f w.memory in
     let r : ReachesFrame w.memory.cached (w.slots.info touch.page) touch.access f =
@@ -109,8 +109,8 @@ fault_reply w t touch reply g h = go (w.slots.info touch.page) refl h
     go (Some info) e f = has info e (is_allowed info.meta.prot touch.access) (is_past_end w.made.file (Some info)) refl refl f
 
 pub fault_told : (w : World) (event : Event) (c : ℕ) (touch : Touch) (held : Option PageRange) (reply : Reply)
-    → w.calls.phase c ≡ Settle touch → IsFault (found_at w touch) reply → IsWellFormed w
-    → Leaves w event (after_reply c held reply w)
+    → w.calls.phase c ≡ Settle touch → IsFault (found_at w touch) reply → (well : IsShown w)
+    → Leaves w well.plain event (after_reply c held reply w)
 fault_told w event c touch held reply e h f =
     let z = fault_reply w f.plain touch reply f.good h in
     answers w event c held reply f k.asked.request k.asked.number
@@ -123,8 +123,8 @@ fault_told w event c touch held reply e h f =
 -- ---- Want
 
 pub no_frame_told : (w : World) (event : Event) (c : ℕ) (touch : Touch) (old : Option ℕ) (held : Option PageRange) → w.calls.phase c ≡ Want touch old
-    → NoneFree w.memory.is_free → IsWellFormed w
-    → Leaves w event (after_reply c held NoFrame w)
+    → NoneFree w.memory.is_free → (well : IsShown w)
+    → Leaves w well.plain event (after_reply c held NoFrame w)
 no_frame_told w event c touch old held e none f =
     answers w event c held NoFrame f k.asked.request k.asked.number
     (no_frame_stands w f.plain c k.asked.request touch k.asked.passed (can_access w f.plain touch.page touch.access old f.good k.ready.0)) none
@@ -146,7 +146,7 @@ recorded_shown : (m : Memory) (c : ℕ) (o : Option PageInfo) (z : Option PageEn
 recorded_shown m c None None s = s
 recorded_shown m c _ _ s = s
 
-pub core_installed : (w : World) (event : Event) (c : ℕ) (touch : Touch) → IsWellFormed w → Leaves w event (after_install c touch w)
+pub core_installed : (w : World) (event : Event) (c : ℕ) (touch : Touch) → (well : IsShown w) → Leaves w well.plain event (after_install c touch w)
 core_installed w event c touch f =
     let new : Option PageInfo = info_with_core c (w.slots.info touch.page) in
     let cached : ℕ → ℕ → Option ℕ = w.memory.cached in

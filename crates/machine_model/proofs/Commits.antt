@@ -9,8 +9,8 @@ use Rattle.vm_base.specs.Apply.{new_entry, with_prot}
 use Rattle.machine_model.proofs.Changed.{changed_all}
 use Rattle.machine_model.proofs.Moves.{IsCallOf, call_at}
 use Rattle.machine_model.proofs.CountsKept.{same_with_prot}
-use Rattle.machine_model.specs.Invariant.{IsWellFormed, ShowsPage, ShowsFile, own_frame}
-use Rattle.machine_model.proofs.SoundMoves.{Leaves, shows_less, with_counts_shown, tells}
+use Rattle.machine_model.specs.Invariant.{ShowsPage, ShowsFile, own_frame}
+use Rattle.machine_model.proofs.SoundMoves.{IsShown, Leaves, shows_less, with_counts_shown, tells}
 use Rattle.machine_model.proofs.Replies.{reply_is, due_so, made_of, acted, led_goes}
 
 -- ---- what a change makes of pages, on both sides
@@ -46,7 +46,7 @@ protected_whole : (file : ℕ → Option File) (prot : Prot) (o : Option PageInf
 protected_whole file prot None = refl
 protected_whole file prot (Some info) = refl
 
-fewer_frames : (s : Slots) (change : Change) (p f : ℕ) → frame_of ((slots_after change s).info p) ≡ Some f → frame_of (s.info p) ≡ Some f
+pub fewer_frames : (s : Slots) (change : Change) (p f : ℕ) → frame_of ((slots_after change s).info p) ≡ Some f → frame_of (s.info p) ≡ Some f
 fewer_frames s change p f =
     changed_all (λ p o. frame_of o ≡ Some f → frame_of (s.info p) ≡ Some f) s change (λ range meta p e i h. absurd cc) (λ p h. absurd cc)
     (λ prot p old h. sym (same_with_prot prot (s.info p)) ∙ h) (λ p h. h) p
@@ -67,7 +67,7 @@ whole_still file s change h p f =
 -- ---- Acks
 
 pub change_committed : (w : World) (event : Event) (c : ℕ) (goal : Goal) (change : Change) (counts : Counts) → c < 64
-    → w.calls.phase c ≡ Acks goal change → IsWellFormed w → Leaves w event (after_commit c change (goal_range goal) counts w)
+    → w.calls.phase c ≡ Acks goal change → (well : IsShown w) → Leaves w well.plain event (after_commit c change (goal_range goal) counts w)
 change_committed w event c goal change counts few e f =
     tells w event c (Some (goal_range goal)) (reply_to change) (slots_after change w.slots) w.hardware (with_counts counts w).memory f
     (made_of f.plain change) k.asked.request k.asked.number

@@ -12,19 +12,19 @@ use Rattle.machine_model.proofs.Moves.{IsCallOf, call_at}
 use Rattle.machine_model.proofs.Shapes.{IsShowing}
 use Rattle.machine_model.proofs.CoherenceSteps.{same_shown}
 use Rattle.machine_model.proofs.CountsKept.{unused_no_page, cached_positive}
-use Rattle.machine_model.specs.Invariant.{IsWellFormed, ShowsPlain, Shows, ShowsPage, ShowsFile, Owns, MayOwn, own_frame, own_frame_of}
-use Rattle.machine_model.proofs.SoundMoves.{Leaves, goes_on, copies_on, with_counts_shown}
+use Rattle.machine_model.specs.Invariant.{ShowsPlain, Shows, ShowsPage, ShowsFile, Owns, MayOwn, own_frame, own_frame_of}
+use Rattle.machine_model.proofs.SoundMoves.{IsShown, Leaves, goes_on, copies_on, with_counts_shown}
 use Rattle.machine_model.proofs.SoundPages.{with_bytes, IsFramed, framed, can_access, page_kept, file_kept, own_is_frame, own_none, shown_now, is_it}
 use Rattle.machine_model.proofs.Stores.{with_own}
 
 -- ---- a frame that a call has taken
 
 -- it is no page's
-nobodys : (w : World) (f : ℕ) → IsWellFormed w → (c : ℕ) → taken_in (w.calls.phase c) ≡ Some f → (p : ℕ) → frame_of (w.slots.info p) ≢ Some f
+pub nobodys : (w : World) (f : ℕ) → IsShown w → (c : ℕ) → taken_in (w.calls.phase c) ≡ Some f → (p : ℕ) → frame_of (w.slots.info p) ≢ Some f
 nobodys w f well c mine p = unused_no_page w well.order well.counted f p (well.counted.taken c f mine)
 
 -- and caches no file page
-pub uncached : (w : World) (f : ℕ) → IsWellFormed w → (c : ℕ) → taken_in (w.calls.phase c) ≡ Some f → (n k : ℕ) → w.memory.cached n k ≢ Some f
+pub uncached : (w : World) (f : ℕ) → IsShown w → (c : ℕ) → taken_in (w.calls.phase c) ≡ Some f → (n k : ℕ) → w.memory.cached n k ≢ Some f
 uncached w f well c mine n k h =
     let a = cached_positive w well.counted n k f h in let b = (well.counted.taken c f mine).zero in omega (arith, ints, a, b)
 
@@ -42,7 +42,7 @@ unshown cached back f none = go (shows_file cached back f) refl
 
 -- ---- a page with a frame of its own
 
-new_frame : (f : ℕ) (o : Option PageInfo) (x : ℕ) → frame_of (info_with_frame f o) ≡ Some x → f ≡ x
+pub new_frame : (f : ℕ) (o : Option PageInfo) (x : ℕ) → frame_of (info_with_frame f o) ≡ Some x → f ≡ x
 new_frame f None x h = absurd cc
 new_frame f (Some info) x h = cc
 
@@ -63,7 +63,7 @@ usable_past file None access frame u = absurd u
 usable_past file (Some info) access frame u = u.1
 
 -- The page has this now, with a frame that nothing has had, which has these bytes; every other page has in u what it had.
-owned_shown : (w : World) (c f page : ℕ) (x : Bytes) (new : Option PageInfo) (u : Plain) (well : IsWellFormed w) → taken_in (w.calls.phase c) ≡ Some f
+owned_shown : (w : World) (c f page : ℕ) (x : Bytes) (new : Option PageInfo) (u : Plain) (well : IsShown w) → taken_in (w.calls.phase c) ≡ Some f
     → ((y : ℕ) → frame_of new ≡ Some y → f ≡ y) → is_past_end w.made.file new ≡ false
     → ShowsPage (with_bytes w.memory f x) new (u.entry page) → ((p : ℕ) → p ≢ page → u.entry p ≡ well.plain.entry p) → u.file ≡ well.plain.file
     → Shows w.made.file (put w.slots.info page new) (with_bytes w.memory f x) u
@@ -113,7 +113,7 @@ zeros_shown m f (Some info) (Some entry) a none s =
 zeros_shown m f _ _ a none s = s
 
 pub page_zeroed : (w : World) (event : Event) (c : ℕ) (touch : Touch) (f : ℕ) (counts : Counts) → w.calls.phase c ≡ Fill touch (Some f)
-    → back_of (w.slots.info touch.page) ≡ Anon → IsWellFormed w → Leaves w event (after_zeros c touch f counts w)
+    → back_of (w.slots.info touch.page) ≡ Anon → (well : IsShown w) → Leaves w well.plain event (after_zeros c touch f counts w)
 page_zeroed w event c touch f counts e anon well =
     goes_on w event c (Install touch) (after_zeros c touch f counts w).slots w.hardware (after_zeros c touch f counts w).memory well
     (with_counts_shown w.made.file _ (with_bytes w.memory f shown) counts well.plain
@@ -204,7 +204,7 @@ pub as_store : (w : World) (t : Plain) (page : ℕ) (access : Access) (frame : O
 as_store w t page access frame g u e = subst (CanAccess t.file (t.entry page)) e (can_access w t page access frame g u)
 
 pub page_first_copied : (w : World) (event : Event) (c : ℕ) (touch : Touch) (f : ℕ) (counts : Counts) → w.calls.phase c ≡ Fill touch (Some f)
-    → is_private_store (back_of (w.slots.info touch.page)) touch.access ≡ true → IsWellFormed w → Leaves w event (after_first_copy c touch f counts w)
+    → is_private_store (back_of (w.slots.info touch.page)) touch.access ≡ true → (well : IsShown w) → Leaves w well.plain event (after_first_copy c touch f counts w)
 page_first_copied w event c touch f counts e store well =
     copies_on w event c touch.page (Install touch) (after_first_copy c touch f counts w).slots w.hardware (after_first_copy c touch f counts w).memory well
     (with_own well.plain touch.page z.entry x)
@@ -248,7 +248,7 @@ shown_uncopied w t page g access k store shown =
     }
 
 pub page_copied : (w : World) (event : Event) (c : ℕ) (touch : Touch) (f g : ℕ) (counts : Counts) → w.calls.phase c ≡ CopyAcks touch f
-    → frame_of (w.slots.info touch.page) ≡ Some g → IsWellFormed w → Leaves w event (after_copy c touch f g counts w)
+    → frame_of (w.slots.info touch.page) ≡ Some g → (well : IsShown w) → Leaves w well.plain event (after_copy c touch f g counts w)
 page_copied w event c touch f g counts e at well =
     copies_on w event c touch.page (Install touch) (after_copy c touch f g counts w).slots w.hardware (after_copy c touch f g counts w).memory well
     (with_own well.plain touch.page z.entry x)
@@ -319,8 +319,8 @@ shows_cached : (cached : ℕ → ℕ → Option ℕ) (back : Back) (g : ℕ) →
 shows_cached cached back g h = ap (λ o. is_cached o g) h ∙ is_itself g
 
 pub page_shared : (w : World) (event : Event) (c : ℕ) (touch : Touch) (own : Option ℕ) (g : ℕ) (counts : Counts) → w.calls.phase c ≡ Fill touch own
-    → IsShowing (w.slots.info touch.page) touch.access → file_frame w.memory.cached (back_of (w.slots.info touch.page)) ≡ Some g → IsWellFormed w
-    → Leaves w event (after_sharing c touch own g counts w)
+    → IsShowing (w.slots.info touch.page) touch.access → file_frame w.memory.cached (back_of (w.slots.info touch.page)) ≡ Some g → (well : IsShown w)
+    → Leaves w well.plain event (after_sharing c touch own g counts w)
 page_shared w event c touch own g counts e shows at well =
     goes_on w event c (Install touch) (after_sharing c touch own g counts w).slots w.hardware (after_sharing c touch own g counts w).memory well (record {
       pages = put_all (λ p o. ShowsPage w.memory o (well.plain.entry p)) w.slots.info touch.page new
@@ -439,8 +439,8 @@ more_cached cached (Shared m l) f y n k ne old = cached_at cached m l f y n k ne
 more_cached cached (Private m l) f y n k ne old = cached_at cached m l f y n k ne old
 
 pub page_cached : (w : World) (event : Event) (c : ℕ) (touch : Touch) (f : ℕ) (counts : Counts) → w.calls.phase c ≡ Fill touch (Some f)
-    → IsShowing (w.slots.info touch.page) touch.access → file_frame w.memory.cached (back_of (w.slots.info touch.page)) ≡ None → IsWellFormed w
-    → Leaves w event (after_caching c touch f counts w)
+    → IsShowing (w.slots.info touch.page) touch.access → file_frame w.memory.cached (back_of (w.slots.info touch.page)) ≡ None → (well : IsShown w)
+    → Leaves w well.plain event (after_caching c touch f counts w)
 page_cached w event c touch f counts e shows none well =
     goes_on w event c (Install touch) (after_caching c touch f counts w).slots w.hardware (after_caching c touch f counts w).memory well
     (with_counts_shown w.made.file now m counts well.plain (record {

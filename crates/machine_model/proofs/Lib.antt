@@ -10,7 +10,7 @@ pub mod Changed
 mod CoherenceExamples
 pub mod CoherenceKept
 pub mod CoherenceSteps
-mod Commits
+pub mod Commits
 pub mod Cores
 pub mod Counted
 pub mod CountingDown
@@ -44,7 +44,7 @@ pub mod Reaching
 pub mod Replies
 mod Resting
 mod Rows
-mod Run
+pub mod Run
 mod Seeking
 pub mod Serving
 pub mod Setups

@@ -17,7 +17,7 @@ pub every_both : {A : Type 0} (P Q R : A → Type 0) (xs : List A) → ((x : A) 
 every_both P Q R [] f h k = tt
 every_both P Q R (x ∷ xs) f h k = (f x h.0 k.0, every_both P Q R xs f h.1 k.1)
 
-every_end : {A : Type 0} (P : A → Type 0) (xs : List A) (x : A) → Every P xs → P x → Every P (xs ++ x ∷ [])
+pub every_end : {A : Type 0} (P : A → Type 0) (xs : List A) (x : A) → Every P xs → P x → Every P (xs ++ x ∷ [])
 every_end P [] x h k = (k, tt)
 every_end P (y ∷ xs) x h k = (h.0, every_end P xs x h.1 k)
 

@@ -54,7 +54,7 @@ unlocks_page s core page e mine = record {
 pub nobody : (core : ℕ) → members 0 core ≡ true → ⊥
 nobody core h = let none = members-empty core in cc (none, h)
 
-abbrev events : List Event
+abbrev pub events : List Event
 events =
     Call 0 (Mmap 65536 4096 read_write (anonymous true) 0 0) ∷ Go 0 ∷ Go 0
     ∷ Call 1 (Store 65540 41) ∷ Go 1 ∷ Go 1 ∷ Go 1
@@ -62,7 +62,7 @@ events =
     ∷ Go 1 ∷ Go 1 ∷ Go 1 ∷ Go 1 ∷ Go 1 ∷ Go 1 ∷ Go 1
     ∷ Go 1 ∷ Go 0 ∷ []
 
-abbrev outcomes : List Outcome
+abbrev pub outcomes : List Outcome
 outcomes =
     Stepped ∷ Stepped ∷ Stepped
     ∷ Stepped ∷ Stepped ∷ Stepped ∷ Wait (Slot 0)
@@ -86,7 +86,7 @@ quiet told core range d = go (put (members 0) told false d) refl
     go true i = absurd (none i)
     go false i = refl
 
-ran : (w : World) × Run (new_world made slots) events outcomes w × (w.calls.log ≡ Answer 10 1 0 (Mapped 65536) ∷ Answer 18 2 1 Done ∷ [])
+unfoldable pub ran : (w : World) × Run (new_world made slots) events outcomes w × (w.calls.log ≡ Answer 10 1 0 (Mapped 65536) ∷ Answer 18 2 1 Done ∷ [])
 unfolding CountsDown
 ran = (
   _,

@@ -13,6 +13,7 @@ use Rattle.machine_model.proofs.Shapes.{first_copies, caches, shares, posts_copy
 use Rattle.machine_model.specs.Invariant.{IsWellFormed}
 use Rattle.machine_model.proofs.Rank.{back_all}
 use Rattle.machine_model.proofs.Fills.{uncached, unshown}
+use Rattle.machine_model.proofs.SoundMoves.{shown}
 
 -- the access is a store to a private page that shows its file's page
 abbrev pub shows_for : (ℕ → ℕ → Option ℕ) → Option PageInfo → Access → Bool
@@ -165,7 +166,7 @@ storable_on w c v f g (zeroes touch x counts e b t h) =
     (filled_stores w.memory.cached (w.slots.info touch.page) touch.access x (anon_stores (w.slots.info touch.page) touch.access (ap is_anonymous b)))
 storable_on w c v f g (first_copies touch x counts e b t h) =
     storable_page c touch w.slots.info (info_with_frame x (w.slots.info touch.page)) _ v h (put_same w.slots.info touch.page _)
-    (fresh_stores w.memory.cached (w.slots.info touch.page) touch.access x (uncached w x f c (ap taken_in e))).0
+    (fresh_stores w.memory.cached (w.slots.info touch.page) touch.access x (uncached w x (shown w f) c (ap taken_in e))).0
 storable_on w c v f g (caches touch x counts e s n t h) =
     storable_page c touch w.slots.info (info_with_frame x (w.slots.info touch.page)) _ v h (put_same w.slots.info touch.page _)
     (filled_stores _ (w.slots.info touch.page) touch.access x s.no_copy)
@@ -175,7 +176,7 @@ storable_on w c v f g (shares touch own x counts e s n t h) =
 storable_on w c v f g (posts_copy touch x e h) = storable_to c (CopyAcks touch x) _ v h tt
 storable_on w c v f g (copies touch x y counts e n a t h) =
     storable_page c touch w.slots.info (info_with_copy x (w.slots.info touch.page)) _ v h (put_same w.slots.info touch.page _)
-    (fresh_stores w.memory.cached (w.slots.info touch.page) touch.access x (uncached w x f c (ap taken_in e))).1
+    (fresh_stores w.memory.cached (w.slots.info touch.page) touch.access x (uncached w x (shown w f) c (ap taken_in e))).1
 storable_on w c v f g (installs touch e h) = storable_to c _ _ v h tt
 storable_on w c v f g (accesses touch x e i h) = storable_to c (let_go None _) _ v h tt
 storable_on w c v f g (faults touch e i h) = storable_to c _ _ v h tt

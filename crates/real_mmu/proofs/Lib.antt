@@ -1,0 +1,10 @@
+mod Words
+mod Told
+mod Remembered
+mod Uses
+mod Steps
+mod Whole
+mod Waiting
+mod Driven
+mod WholeExamples
+mod DrivenExamples
