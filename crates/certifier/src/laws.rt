@@ -1,4 +1,7 @@
 //! What follows from the definitions in specs/.
+//!
+//! `certificates_are_exact` speaks of reached states only: elsewhere Refcache could evict one of two entries in one
+//! place.
 ghost use Rattle.certifier.specs.Laws.{RefusalsAreExact, RunsAreExact, StepsAreExact};
 
 use std::alloc::Allocator;

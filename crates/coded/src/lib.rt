@@ -7,6 +7,9 @@
 //!   shared machine.
 //!
 //! It exists for `batch::run_events`, clause `runs`. There is no export here: those stand in `radixvm_c`.
+//!
+//! Codes begin at 1, so memory of zeros is no event. Rights, flags and errnos are Linux's on x86-64. An unknown bit
+//! is a bad event, no errno: it is the caller's mistake.
 #![tactic(auto)]
 
 pub mod asked;

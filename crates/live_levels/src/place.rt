@@ -1,4 +1,8 @@
 //! A place of a level: a slot, or the level in its place once it is divided.
+//!
+//! No clause can follow a value into a lock. So a place is tested when it is met, and a wrong one, which never comes,
+//! answers `Lost`. This is the one way to a slot: a look, the lock, and a second look, since the slot may have been
+//! divided meanwhile.
 ghost use Rattle.std.specs.Prelude.{◌≡◌, ℕ, ◌+◌, ◌*◌, ◌<◌, ◌≤◌, IfSome, Some};
 ghost use Rattle.live_levels.specs.Histories.{Grew};
 ghost use Rattle.live_levels.specs.Nexts.{Cuts, Folds};

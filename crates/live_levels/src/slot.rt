@@ -1,4 +1,7 @@
 //! What lies under a slot's lock: its place, who is to lock it first, and the history of its changes.
+//!
+//! Histories are optional, since notes as text have none. A certificate looks at a slot before each step that may
+//! change it, and at the end; one look settles all tickets in between.
 ghost use Rattle.std.specs.Prelude.{◌≡◌, ℕ, ◌+◌, ◌-◌, ◌<◌, ◌≤◌, ◌^◌, false, [], ◌∷◌, ◌++◌, None, IfOk};
 ghost use Rattle.std.specs.Prelude.{OnErr, OnOk};
 ghost use Rattle.vm_base.specs.Info.{info_file_page, is_leaf};

@@ -1,4 +1,7 @@
 //! Which frames are free, and how many: what lies under the lock by which a step finds a free frame.
+//!
+//! They have one lock, right before frames in the order of locks. A step that takes or frees a frame holds it while
+//! it draws, so "no frame" is right at its ticket.
 ghost use Rattle.std.specs.Prelude.{◌≡◌, ℕ, ◌*◌, ◌+◌, ◌<◌, ◌≤◌, false, true, length, nat_lt};
 ghost use Rattle.std.specs.Prelude.{IfNone, IfOk, IfSome};
 ghost use Rattle.vm_base.specs.Functions.{put};

@@ -8,6 +8,9 @@
 //!
 //! It exists for `call::Live::call`, clause `noted`: a call adds just its own steps to its seat's notes. That what
 //! threads do together is a run isn't proved: `certifier` checks each run.
+//!
+//! Steps that touch only what a call holds share one burst of locks: begin and check; decision, post and change; a
+//! served access and its answer; all slots let go and the answer.
 #![tactic(auto)]
 
 mod access;

@@ -1,5 +1,7 @@
 //! The slots that a call holds: how it takes them, and the commit of its change. What else is
 //! done with them stands in held/.
+//!
+//! Held slots lie side by side by their type, so a commit over a slot that isn't held can't be asked for.
 ghost use Rattle.std.specs.Prelude.{◌≡◌, ℕ, ◌+◌, ◌-◌, ◌<◌, ◌≤◌, ◌^◌, true, [], ◌∷◌, ◌++◌, length, map};
 ghost use Rattle.std.specs.Prelude.{All, OnOk, OnErr, IsSome, None};
 ghost use Rattle.std.specs.Sync.Mutex.{mutex_guard_value};

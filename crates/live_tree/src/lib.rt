@@ -7,6 +7,8 @@
 //!
 //! It exists for `held::Held::lock_next`, held slots lie side by side, and `held::Held::commit`: it changes those of
 //! its range and no other. It knows nothing of frames' bytes or of cores' tables.
+//!
+//! The tree knows no tickets: whoever notes a step draws one, while its locks are held.
 #![tactic(auto)]
 
 pub mod decide_held;

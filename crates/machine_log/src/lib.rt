@@ -7,6 +7,9 @@
 //!
 //! A clause sees requests and log of each ledger alike, kept or not. It knows of no machine: it is only told what to
 //! keep.
+//!
+//! All ledgers have one contract, so outcomes don't depend on what is kept. The log alone has entries of 16 bytes, or
+//! in full in a list beside. A kept log reserves memory for all calls, so the longer limit of calls goes with none.
 #![tactic(auto)]
 
 pub mod ledger;

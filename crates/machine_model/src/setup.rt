@@ -1,4 +1,7 @@
 //! What a machine is made with, and the first fault of a setup that makes none.
+//!
+//! A setup is handed over, and a file's bytes with it. A clone of the allocator that is refused counts as want of
+//! memory, after other faults.
 ghost use Rattle.std.specs.Prelude.{◌≡◌, Option};
 ghost use Rattle.machine_model.specs.Setups.{first_fault, first_fault_within, most_calls};
 

@@ -1,4 +1,8 @@
 //! What C holds between two calls.
+//!
+//! A machine's place is C's, its pointer the library's: an export can't give a `Machine`. The struct's ghost field is
+//! the machine or none, so nothing is made over a machine, nor freed twice through one place. That it isn't copied is
+//! left to C.
 ghost use Rattle.std.specs.Prelude.{Option};
 ghost use Rattle.coded.specs.declared.held.AnyMachine.{AnyMachine};
 ghost use Rattle.radixvm_c.specs.Behind.{held_at};

@@ -1,4 +1,12 @@
 //! The functions for C of a machine that threads share.
+//!
+//! C's seats ask and never wait, since a static library can't wait: so `radixvm_seat_try` tells BUSY. The header's
+//! inline call makes 16 pauses, then twice as many up to 128, and yields after ten tries: the thread that has the
+//! machine makes several calls while its data stay in one cache. Whoever waits makes the takes of the cores that it
+//! waits for, so no call is in flight between calls. A list of calls stops behind a call that memory was refused to;
+//! that call is in the log, and counts. At a limit a list is told AT_LIMIT, and a single call FULL. All memory of a
+//! share is taken before the machine is, and the machine stays in its block, so that it comes back without needing
+//! memory.
 ghost use Rattle.std.specs.Prelude.{◌≡◌, None};
 ghost use Rattle.radixvm_c.specs.Seats.{core_in, AreBeside, TellsShare, TellsSplit, TellsTry, TellsCalls, TellsReturn, TellsUnshare};
 

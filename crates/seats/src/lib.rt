@@ -5,6 +5,8 @@
 //!
 //! It exists for `gathering::gather`, clause `whole`: all seats together have noted each ticket from 0 on once. It
 //! knows of no space: what a note says is the caller's.
+//!
+//! Notes may come in any order: only tickets count. 2^32 seats, or notes of one, are want of memory.
 #![tactic(auto)]
 
 mod gathering;

@@ -8,6 +8,8 @@
 //!
 //! It exists for the `call` of `space`, clause `answers`: in every schedule the replies are those of one plain page
 //! map, in one order. It knows of no notes and no certificate.
+//!
+//! A machine whose limit is reached says so in its word, so that it still comes back.
 #![tactic(auto)]
 
 pub mod asides;

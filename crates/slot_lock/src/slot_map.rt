@@ -3,6 +3,10 @@
 //! A slot is a set of neighbouring pages with one owner or none, whose mapping goes on from page to
 //! page. A new map has all valid pages unmapped and unheld. A page with a frame or a recorded core
 //! is a slot of its own.
+//!
+//! Division is the map's choice: a machine works over any map in which nothing is mapped or held, and how many steps
+//! a call takes follows from it. Of free pages and ranges (`free_page`, `survey`) nobody holds any, so no other core
+//! can act in between, and no lock is made.
 ghost use Rattle.std.specs.Prelude.{◌≡◌, ◌≢◌, ℕ, ◌+◌, ◌-◌, ◌^◌, ◌<◌, ◌≤◌, ◌↔◌, ◌⊎◌, IfOk, OnErr};
 ghost use Rattle.std.specs.Prelude.{IfSome, IfNone, IsTrue, true, Bool, Option, Some, None};
 ghost use Rattle.vm_base.specs.declared.page.PageRange.{PageRange};

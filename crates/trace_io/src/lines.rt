@@ -1,5 +1,8 @@
 //! Lines of at most 256 bytes, read in chunks of fixed size: once made, a reader of lines takes no
 //! memory. Before it reads, what was written goes out.
+//!
+//! A space before `#` makes a line with words. An interrupted read is a failed one. Nothing is read after a text's
+//! end.
 ghost use Rattle.std.specs.Prelude.{◌≡◌, ◌+◌, ◌-◌, ◌<◌, ◌≤◌, ◌^◌, ◌∷◌, length, take};
 ghost use Rattle.std.specs.Prelude.{drop, slice_range, IfOk, IfSome, OnOk, OnErr};
 ghost use Rattle.trace_io.specs.Lines.{lines_of};

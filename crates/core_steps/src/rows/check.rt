@@ -1,4 +1,7 @@
 //! The first steps of a call: it gets its number, and its arguments are checked.
+//!
+//! Invalid pages and an mprotect of length 0 are answered here: nothing is locked. A placed mapping's length stops at
+//! 2^35 pages in a plan, so that sums stay in bounds.
 ghost use Rattle.std.specs.Prelude.{◌≡◌, ◌<◌, length};
 ghost use Rattle.machine_model.specs.Step.{Goes};
 ghost use Rattle.machine_model.specs.Orderly.{answer_count};
