@@ -2,10 +2,11 @@
 use Rattle.slot_lock.proofs.Words.{◌≡◌, ◌≢◌, ℕ, ◌+◌, ◌-◌, ◌^◌, ◌<◌, ◌≤◌, ◌⊎◌, inl, inr, ⊎_elim, true, List, length, set, Option, None, refl, sym, ◌∙◌, ap}
 use Rattle.slot_lock.proofs.Words.{arith, cases_lt, cases_eq, PageInfo, put_same, put_other}
 use Rattle.slot_lock.specs.declared.slot.Slot.{Slot}
-use Rattle.slot_lock.specs.SlotList.{IsSlotList, IsInner, get_slot}
-use Rattle.slot_lock.specs.Slots.{Slots, IsSlot}
+use Rattle.slot_lock.specs.SlotList.{IsSlotList, IsInner, IsInsideSlot, get_slot, cut_list}
+use Rattle.slot_lock.specs.Slots.{Slots, IsSlot, Divides}
 use Rattle.slot_lock.specs.ListedSlots.{slots_of}
 use Rattle.slot_lock.proofs.ListLaws.{is_slot}
+use Rattle.slot_lock.proofs.Cuts.{cut_edge, cut_list-Divides}
 use Rattle.slot_lock.specs.Adding.{IsFreeRest, IsSoundSlot, CanAdd, with_edge, filled}
 use Rattle.slot_lock.proofs.Steps.{owner_at}
 use Rattle.slot_lock.proofs.Joins.{next_info}
@@ -23,6 +24,18 @@ edge_there s at h = same_slots (with_edge s at) s (λ p. refl) (λ p. refl) edge
         (λ (ne : p ≢ at). sym (put_other s.edge at true p ne))
         (cases_eq p at)
 
+pub edge_cut : (rs : List Slot) → IsSlotList rs → (i at : ℕ) → IsInsideSlot rs i at → slots_of (cut_list rs i at) ≡ with_edge (slots_of rs) at
+edge_cut rs ok i at h = same_slots (with_edge (slots_of rs) at) (slots_of (cut_list rs i at)) (λ p. ap (λ f. f p) d.info) (λ p. ap (λ f. f p) d.owners) edge
+  where
+    d : Divides (slots_of rs) (slots_of (cut_list rs i at)) (get_slot rs i).owner at
+    d = cut_list-Divides rs ok i at h
+
+    edge : (p : ℕ) → (slots_of (cut_list rs i at)).edge p ≡ (with_edge (slots_of rs) at).edge p
+    edge p = ⊎_elim
+        (λ (e : p ≡ at). rw e (d.begins ∙ sym (put_same (slots_of rs).edge at true)))
+        (λ (ne : p ≢ at). cut_edge rs ok i at h p ne ∙ sym (put_other (slots_of rs).edge at true p ne))
+        (cases_eq p at)
+
 -- ---- the rest
 
 -- the last slot of valid pages ends where they do
@@ -30,6 +43,16 @@ pub last_ends : (rs : List Slot) → IsSlotList rs → (i : ℕ) → i + 2 ≡ l
 last_ends rs ok i h =
     let n : i + 1 ≡ length rs - 1 = omega arith in
     ap (λ k. (get_slot rs k).start) n ∙ ok.limit_last
+
+-- a valid page of it after its first
+pub inside_last : (rs : List Slot) → IsSlotList rs → (i at : ℕ) → i + 2 ≡ length rs → (get_slot rs i).start < at → at < 2 ^ 35 → IsInsideSlot rs i at
+inside_last rs ok i at h above below =
+    let ends = last_ends rs ok i h in
+    record {
+      inner = record { after_first = omega (arith, ok.some); before_last = omega arith };
+      above = above;
+      below = omega arith;
+    }
 
 pub last_slot : (rs : List Slot) → IsSlotList rs → (i : ℕ) → i + 2 ≡ length rs → IsSlot (slots_of rs) (get_slot rs i).start (2 ^ 35)
 last_slot rs ok i h = rw (last_ends rs ok i h) at (is_slot rs ok i (omega arith))

@@ -1,12 +1,13 @@
 -- Lists of the pages that have a frame
 use Rattle.slot_lock.proofs.Words.{◌≡◌, ℕ, ◌+◌, ◌-◌, ◌<◌, ◌≤◌, ⊎_elim, true, List, length, [], ◌∷◌, ◌++◌, Option, None, Some, max, min, refl, sym, ◌∙◌, ap}
 use Rattle.slot_lock.proofs.Words.{subst, arith, cases_lt, PageInfo, frame_of, is_leaf, NoneIn}
-use Rattle.std.proofs.Common.{append_assoc}
+use Rattle.std.proofs.Common.{append_assoc, slice_get}
 use Rattle.std.proofs.lemmas.List.{append-nil}
 use Rattle.slot_lock.specs.declared.framed.Framed.{Framed}
 use Rattle.slot_lock.specs.declared.slot.Slot.{Slot}
 use Rattle.slot_lock.specs.Framed.{ListsFrames, AddsFrames, frames_in}
 use Rattle.slot_lock.specs.SlotList.{IsSlotList, get_slot}
+use Rattle.slot_lock.specs.Slots.{Slots, IsSlot, IsSlotMap, NoFrames}
 use Rattle.slot_lock.specs.ListedSlots.{slots_of}
 use Rattle.slot_lock.proofs.Walks.{IsWalk, walk_next, info_in, frame_of-from}
 
@@ -146,3 +147,47 @@ list_whole frame first end old new e h = subst (ListsFrames frame first end) (sy
 pub list_moves : (frame : ℕ → Option ℕ) (from upto : ℕ) (xs : List Framed) → 0 < length xs → ListsFrames frame from upto xs → from < upto
 list_moves frame from upto [] l h = absurd (omega (arith, l))
 list_moves frame from upto (x ∷ xs) l h = omega (arith, h.0, h.1)
+
+-- ---- the first page with a frame
+
+-- a page is the first of a range that has a frame, which is a slot of its own
+pub record IsFirstFramed (s : Slots) (from end : ℕ) (x : Framed) : Type 0 where
+  pub low : from ≤ x.page
+  pub high : x.page < end
+  pub before : NoFrames s from x.page
+  pub had : frame_of (s.info x.page) ≡ Some x.frame
+
+pub first_framed : (s : Slots) (from upto end : ℕ) (old new seen : List Framed) (got : Option Framed) (x : Framed) → old ≡ []
+    → AddsFrames (frames_in s) from upto old new → upto ≤ end → seen ≡ new → got ≡ slice_get seen 0 → Some x ≡ got → IsFirstFramed s from end x
+first_framed s from upto end old new seen got x none added l same at is =
+    go new (list_whole (frames_in s) from upto old new none added) (ap (λ xs. slice_get xs 0) (sym same) ∙ sym at ∙ sym is)
+  where
+    go : (xs : List Framed) → ListsFrames (frames_in s) from upto xs → slice_get xs 0 ≡ Some x → IsFirstFramed s from end x
+    go [] h e = absurd cc
+    go (y ∷ ys) h e =
+        let same : y ≡ x = cc in
+        subst (IsFirstFramed s from end) same (record { low = h.0; high = omega (arith, h.1); before = record { none = h.2 }; had = h.3 })
+
+-- where there is none, none of up to 32 pages has a frame
+pub none_framed : (s : Slots) (from upto end : ℕ) (old new seen : List Framed) (got : Option Framed) → old ≡ [] → AddsFrames (frames_in s) from upto old new
+    → upto ≤ end → (upto < end → length new ≡ 32) → seen ≡ new → got ≡ slice_get seen 0 → got ≡ None → NoFrames s from end
+none_framed s from upto end old new seen got none added l full same at is =
+    record { none = go new (list_whole (frames_in s) from upto old new none added) full (ap (λ xs. slice_get xs 0) (sym same) ∙ sym at ∙ is) }
+  where
+    go : (xs : List Framed) → ListsFrames (frames_in s) from upto xs → (upto < end → length xs ≡ 32) → slice_get xs 0 ≡ None → NoneIn (frames_in s) from end
+    go [] h f e =
+        let all : upto ≡ end = ⊎_elim (λ (m : upto < end). absurd (let n = f m in omega (arith, n))) (λ (m : end ≤ upto). omega arith) (cases_lt upto end) in
+        subst (NoneIn (frames_in s) from) all h
+    go (y ∷ ys) h f e = absurd cc
+
+pub framed_slot : (s : Slots) → IsSlotMap s → (from end : ℕ) (x : Framed) → IsFirstFramed s from end x → IsSlot s x.page (x.page + 1)
+framed_slot s laws from end x h =
+    let edges = laws.alone x.page (framed_leaf (s.info x.page) x.frame h.had) in
+    record { ordered = omega arith; begins = edges.0; ends = edges.1; inside = λ p a b. absurd (omega arith) }
+
+pub framed_mapped : (s : Slots) (from end : ℕ) (x : Framed) → IsFirstFramed s from end x → s.info x.page ≡ None → ⊥
+framed_mapped s from end x h e = go (s.info x.page) e h.had
+  where
+    go : (o : Option PageInfo) → o ≡ None → frame_of o ≡ Some x.frame → ⊥
+    go None e had = cc
+    go (Some info) e had = cc

@@ -7,7 +7,7 @@ use Rattle.std.specs.List.{prefix_len}
 use Rattle.std.proofs.lemmas.List.Sums.{prefix_len-le-length, prefix_len_is, prefix_len_passes}
 use Rattle.std.proofs.lemmas.List.Sums.{prefix_len_stops}
 use Rattle.slot_lock.specs.declared.slot.Slot.{Slot}
-use Rattle.slot_lock.specs.SlotList.{empty_slot, get_slot, slot_begins_by, place_of, slot_at, HasPageAt, IsSlotList}
+use Rattle.slot_lock.specs.SlotList.{empty_slot, get_slot, slot_begins_by, place_of, slot_at, HasPageAt, IsInner, IsInsideSlot, IsSlotList}
 
 -- starts rise
 pub starts_rise : (rs : List Slot) → IsSlotList rs → (i k : ℕ) → i + k < length rs
@@ -118,6 +118,16 @@ before_last rs ok p i h v = ⊎_elim (λ l. l) (λ l. last l) (cases_lt (i + 1) 
 pub start_most : (rs : List Slot) → IsSlotList rs → (i : ℕ) → i < length rs → (get_slot rs i).start ≤ 2 ^ 35
 start_most rs ok i h = let l = starts_rise_to rs ok i (length rs - 1) (omega arith) (omega arith) in
     omega (arith, l, ok.limit_last)
+
+-- the slot of a valid page is neither the first nor the last
+pub inner : (rs : List Slot) → IsSlotList rs → (p i : ℕ) → HasPageAt rs p i → 1 ≤ p → p < 2 ^ 35 → IsInner rs i
+inner rs ok p i h low high = record { after_first = after_first rs ok p i h low; before_last = before_last rs ok p i h high }
+
+-- a page that the slot doesn't begin at lies inside it
+pub inside : (rs : List Slot) → IsSlotList rs → (p i : ℕ) → HasPageAt rs p i → 1 ≤ p → p < 2 ^ 35 → (get_slot rs i).start < p → IsInsideSlot rs i p
+inside rs ok p i h low high above =
+    let at = inner rs ok p i h low high in
+    record { inner = at; above = above; below = h.until at.before_last }
 
 -- what an index reads
 pub read_slot : (rs : List Slot) (i : ℕ) (r : Slot) → i < length rs → r ≡ get_or rs i r

@@ -1,11 +1,61 @@
-use Rattle.std.proofs.Common.{◌-◌, sym, ◌∙◌, refl, inl, inr, arith}
-use Rattle.slot_lock.proofs.Places.{read_slot}
-use Rattle.slot_lock.specs.ListedSlots.{two_parts}
+use Rattle.std.proofs.Common.{◌-◌, ap, sym, ◌∙◌, refl, inl, inr, arith}
+use Rattle.std.proofs.lemmas.Result.{IfOk-from_err}
+use Rattle.slot_lock.proofs.Places.{read_slot, inside}
+use Rattle.slot_lock.specs.ListedSlots.{slots_of, two_parts}
 use Rattle.slot_lock.proofs.Divisions.{cuts, at_first, at_end}
 use Rattle.slot_lock.proofs.Steps.{below_limit, owner_before, owner_at, edge_of, no_edge}
 use Rattle.slot_lock.proofs.Facts.{on_err}
 use Rattle.slot_lock.proofs.ListLaws.{list_laws}
 use Rattle.slot_lock.proofs.slot_list.SlotListSlotMap.cut_next.Goals as goal
+
+pub place-i-requires : goal.place-i-requires
+place-i-requires g c = rw c.deref.ensures.value c.args.self.now.ok
+
+pub index-requires : goal.index-requires
+index-requires g c = let at = rw c.deref.ensures.value at c.place-i.ensures in omega (arith, at.within)
+
+pub cut-requires-clause-list : goal.cut-requires-clause-list
+cut-requires-clause-list g c = c.args.self.now.ok
+
+pub cut-requires-clause-inside : goal.cut-requires-clause-inside
+cut-requires-clause-inside g c =
+    let at = rw c.deref.ensures.value at c.place-i.ensures in
+    let slot = read_slot c.args.self.now.slots.items c.place-i.result c.index.result.now at.within c.index.ensures in
+    inside _ c.args.self.now.ok _ _ at c.requires.range.low (omega (arith, c.requires.range.some, c.requires.range.high)) (rw slot at c.if-index-range.true)
+
+pub place-j-requires : goal.place-j-requires
+place-j-requires g c = rw c.deref-2.ensures.value c.args.self.now.ok
+
+pub index-requires-2 : goal.index-requires-2
+index-requires-2 g c = let at = rw c.deref-2.ensures.value at c.place-j.ensures in omega (arith, at.within)
+
+pub cut-requires-then-index-range-2-clause-list : goal.cut-requires-then-index-range-2-clause-list
+cut-requires-then-index-range-2-clause-list g c = c.args.self.now.ok
+
+pub cut-requires-then-index-range-2-clause-inside : goal.cut-requires-then-index-range-2-clause-inside
+cut-requires-then-index-range-2-clause-inside g c =
+    let at = rw c.deref-2.ensures.value at c.place-j.ensures in
+    let slot = read_slot c.args.self.now.slots.items c.place-j.result c.index-2.result.now at.within c.index-2.ensures in
+    let above = rw slot at c.if-index-range-2.true in
+    inside _ c.args.self.now.ok _ _ at (omega (arith, c.requires.range.some)) (below_limit _ c.args.self.now.ok _ _ at above c.requires.range.high) above
+
+pub returns-in_err-cut-clause-step : goal.returns-in_err-cut-clause-step
+returns-in_err-cut-clause-step g c = IfOk-from_err _ _ c.from_residual.ensures.0
+
+pub returns-in_err-cut-clause-exact : goal.returns-in_err-cut-clause-exact
+returns-in_err-cut-clause-exact g c = IfOk-from_err _ _ c.from_residual.ensures.0
+
+pub returns-in_err-cut-clause-err : goal.returns-in_err-cut-clause-err
+returns-in_err-cut-clause-err g c = on_err _ (ap slots_of c.in_err-cut.ensures.err)
+
+pub returns-in_err-cut-2-clause-step : goal.returns-in_err-cut-2-clause-step
+returns-in_err-cut-2-clause-step g c = IfOk-from_err _ _ c.from_residual-in_err-cut-2.ensures.0
+
+pub returns-in_err-cut-2-clause-exact : goal.returns-in_err-cut-2-clause-exact
+returns-in_err-cut-2-clause-exact g c = IfOk-from_err _ _ c.from_residual-in_err-cut-2.ensures.0
+
+pub returns-in_err-cut-2-clause-err : goal.returns-in_err-cut-2-clause-err
+returns-in_err-cut-2-clause-err g c = on_err _ (ap slots_of c.in_err-cut-2.ensures.err)
 
 pub returns-then-index-range-clause-step : goal.returns-then-index-range-clause-step
 returns-then-index-range-clause-step g c =

@@ -8,6 +8,19 @@ use Rattle.slot_lock.proofs.slot_list.SlotListSlotMap.free_page.Goals.{then-is_s
 use Rattle.slot_lock.proofs.slot_list.SlotListSlotMap.free_page.Goals.{then-is_some-via-else-is_some+else-slot-page+then-page-index}
 use Rattle.slot_lock.proofs.slot_list.SlotListSlotMap.free_page.Goals as goal
 
+pub place-i-requires : goal.place-i-requires
+place-i-requires g c = rw c.deref.ensures.value c.args.self.now.ok
+
+pub index-requires : goal.index-requires
+index-requires g c = let at = rw c.deref.ensures.value at c.place-i.ensures in omega (arith, at.within)
+
+pub overflow_add-page : goal.overflow_add-page
+overflow_add-page g c = omega (arith, c.requires.1)
+
+pub index-requires-else-slot-page : goal.index-requires-else-slot-page
+index-requires-else-slot-page g c =
+    omega (arith, before_last _ c.args.self.now.ok _ _ (rw c.deref.ensures.value at c.place-i.ensures) c.requires.1)
+
 pub returns-then-is_some-clause-none : goal.returns-then-is_some-clause-none
 returns-then-is_some-clause-none g c = λ alone.
     let at = rw c.deref.ensures.value at c.place-i.ensures in

@@ -1,14 +1,70 @@
 use Rattle.std.proofs.Common.{◌≡◌, inl, ◌<◌, ◌+◌, ◌^◌, Some, sym, ◌∙◌, ap, refl, arith}
+use Rattle.std.proofs.lemmas.Result.{IfOk-from_err}
 use Rattle.slot_lock.specs.declared.slot.Slot.{Slot}
 use Rattle.slot_lock.specs.SlotList.{get_slot}
-use Rattle.slot_lock.proofs.Places.{read_slot, before_last, start_most}
-use Rattle.slot_lock.specs.ListedSlots.{two_parts}
+use Rattle.slot_lock.proofs.Places.{read_slot, before_last, inner, inside, start_most}
+use Rattle.slot_lock.specs.ListedSlots.{slots_of, two_parts}
 use Rattle.slot_lock.specs.Slots.{between}
 use Rattle.slot_lock.proofs.Divisions.{splits, at_first, at_end}
 use Rattle.slot_lock.proofs.Steps.{read_at, edge_of, no_edge, locks, crosses_end, crosses_start}
-use Rattle.slot_lock.proofs.Facts.{on_err_both}
+use Rattle.slot_lock.proofs.Facts.{on_err, on_err_both}
 use Rattle.slot_lock.proofs.ListLaws.{list_laws}
 use Rattle.slot_lock.proofs.slot_list.SlotListSlotMap.lock_next.Goals as goal
+
+pub place-i-requires : goal.place-i-requires
+place-i-requires g c = rw c.deref.ensures.value c.args.self.now.ok
+
+pub index-slot-requires : goal.index-slot-requires
+index-slot-requires g c = let at = rw c.deref.ensures.value at c.place-i.ensures in omega (arith, at.within)
+
+pub index-requires : goal.index-requires
+index-requires g c =
+    let at = rw c.deref.ensures.value at c.place-i.ensures in
+    omega (arith, before_last _ c.args.self.now.ok _ _ at (omega (arith, c.requires.ordered, c.requires.valid.1)))
+
+pub cut-requires-clause-list : goal.cut-requires-clause-list
+cut-requires-clause-list g c = c.args.self.now.ok
+
+pub cut-requires-clause-inside : goal.cut-requires-clause-inside
+cut-requires-clause-inside g c =
+    let at = rw c.deref.ensures.value at c.place-i.ensures in
+    let slot = read_slot c.args.self.now.slots.items c.place-i.result c.index-slot.result.now at.within c.index-slot.ensures in
+    inside _ c.args.self.now.ok _ _ at c.requires.valid.0 (omega (arith, c.requires.ordered, c.requires.valid.1)) (rw slot at c.if-slot-cursor.true)
+
+pub cut-requires-then-end-slot_end-clause-list : goal.cut-requires-then-end-slot_end-clause-list
+cut-requires-then-end-slot_end-clause-list g c = c.args.self.now.ok
+
+pub cut-requires-then-end-slot_end-clause-inside : goal.cut-requires-then-end-slot_end-clause-inside
+cut-requires-then-end-slot_end-clause-inside g c =
+    let at = rw c.deref.ensures.value at c.place-i.ensures in
+    let here = inner _ c.args.self.now.ok _ _ at c.requires.valid.0 (omega (arith, c.requires.ordered, c.requires.valid.1)) in
+    let next = read_slot c.args.self.now.slots.items (c.place-i.result + 1) c.index.result.now here.before_last c.index.ensures in
+    record { inner = here; above = omega (arith, at.from, c.requires.ordered); below = rw next at c.if-end-slot_end.true }
+
+pub set_owner-requires-clause-list : goal.set_owner-requires-clause-list
+set_owner-requires-clause-list g c = c.args.self.now.ok
+
+pub set_owner-requires-clause-inner : goal.set_owner-requires-clause-inner
+set_owner-requires-clause-inner g c =
+    inner _ c.args.self.now.ok _ _ (rw c.deref.ensures.value at c.place-i.ensures) c.requires.valid.0 (omega (arith, c.requires.ordered, c.requires.valid.1))
+
+pub returns-in_err-cut-clause-step : goal.returns-in_err-cut-clause-step
+returns-in_err-cut-clause-step g c = IfOk-from_err _ _ c.from_residual.ensures.0
+
+pub returns-in_err-cut-clause-exact : goal.returns-in_err-cut-clause-exact
+returns-in_err-cut-clause-exact g c = IfOk-from_err _ _ c.from_residual.ensures.0
+
+pub returns-in_err-cut-clause-err : goal.returns-in_err-cut-clause-err
+returns-in_err-cut-clause-err g c = on_err _ (ap slots_of c.in_err-cut.ensures.err)
+
+pub returns-in_err-cut-2-clause-step : goal.returns-in_err-cut-2-clause-step
+returns-in_err-cut-2-clause-step g c = IfOk-from_err _ _ c.from_residual-in_err-cut-2.ensures.0
+
+pub returns-in_err-cut-2-clause-exact : goal.returns-in_err-cut-2-clause-exact
+returns-in_err-cut-2-clause-exact g c = IfOk-from_err _ _ c.from_residual-in_err-cut-2.ensures.0
+
+pub returns-in_err-cut-2-clause-err : goal.returns-in_err-cut-2-clause-err
+returns-in_err-cut-2-clause-err g c = on_err _ (ap slots_of c.in_err-cut-2.ensures.err)
 
 pub returns-in-Some-clause-step : goal.returns-in-Some-clause-step
 returns-in-Some-clause-step g c =

@@ -2,10 +2,19 @@ use Rattle.slot_lock.proofs.Words.{◌≡◌, ◌-◌, ◌+◌, sym, ◌∙◌, 
 use Rattle.slot_lock.specs.declared.slot.Slot.{Slot}
 use Rattle.slot_lock.specs.SlotList.{get_slot}
 use Rattle.slot_lock.specs.Slots.{HasMeta}
-use Rattle.slot_lock.proofs.Places.{slot_at_is}
+use Rattle.slot_lock.proofs.Places.{inner, slot_at_is}
 use Rattle.slot_lock.proofs.ListLaws.{info_from_zero, list_laws}
 use Rattle.slot_lock.proofs.Steps.{one_page}
 use Rattle.slot_lock.proofs.slot_list.SlotListSlotMap.set_leaf.Goals as goal
+
+pub place-i-requires : goal.place-i-requires
+place-i-requires g c = rw c.deref.ensures.value c.args.self.now.ok
+
+pub set_info-requires-clause-list : goal.set_info-requires-clause-list
+set_info-requires-clause-list g c = c.args.self.now.ok
+
+pub set_info-requires-clause-inner : goal.set_info-requires-clause-inner
+set_info-requires-clause-inner g c = inner _ c.args.self.now.ok _ _ (rw c.deref.ensures.value at c.place-i.ensures) c.requires.valid.0 c.requires.valid.1
 
 pub set_info-requires-clause-one : goal.set_info-requires-clause-one
 set_info-requires-clause-one g c =
