@@ -20,9 +20,14 @@ pub whole_written : {A Z : Type 0} {level n : ℕ} (v : Vec (Slot A) Z) (ss : Li
     → IsWhole level (512 * width_of level) (flatten (width_of level) (parts_of (with_items v ss).items))
 whole_written {level = level} v ss e was node = whole-node level _ (node_written v ss e was node)
 
+-- and its slots are these
+pub runs_written : {A Z : Type 0} {level n : ℕ} (v : Vec (Slot A) Z) (ss : List (Slot A)) → level ≡ n
+    → IsNode level v.items → IsNode n ss
+    → flatten (width_of level) (parts_of (with_items v ss).items) ≡ flatten (width_of n) (parts_of ss)
+runs_written {n = n} v ss e was node = ap (λ k. flatten (width_of k) (parts_of (with_items v ss).items)) e
+    ∙ ap (λ xs. flatten (width_of n) (parts_of xs)) (with_items_is v ss (node.full ∙ sym was.full ∙ sym v.ok.0))
+
 pub cell_written : {A Z : Type 0} {level n : ℕ} (v : Vec (Slot A) Z) (ss : List (Slot A)) (p : ℕ) (c : Cell) → level ≡ n
     → IsNode level v.items → IsNode n ss → cell_at (flatten (width_of n) (parts_of ss)) p ≡ c
     → cell_at (flatten (width_of level) (parts_of (with_items v ss).items)) p ≡ c
-cell_written {n = n} v ss p c e was node h =
-    ap (λ k. cell_at (flatten (width_of k) (parts_of (with_items v ss).items)) p) e
-    ∙ ap (λ xs. cell_at (flatten (width_of n) (parts_of xs)) p) (with_items_is v ss (node.full ∙ sym was.full ∙ sym v.ok.0)) ∙ h
+cell_written v ss p c e was node h = ap (λ rs. cell_at rs p) (runs_written v ss e was node) ∙ h

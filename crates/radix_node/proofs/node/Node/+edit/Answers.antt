@@ -2,7 +2,7 @@ use Rattle.std.proofs.Common.{◌≡◌, ◌+◌, ◌*◌, ◌-◌, ◌<◌, ◌
 use Rattle.radix_node.specs.Run.{width_of, cell_at}
 use Rattle.radix_node.specs.Node.{Parts, runs}
 use Rattle.radix_node.specs.Edit.{CanEdit}
-use Rattle.radix_node.proofs.Flat.{whole-node, child_level, child_pages, child_node}
+use Rattle.radix_node.proofs.Flat.{whole-node, width_pos, child_level, child_pages, child_node}
 use Rattle.radix_node.proofs.Walks.{along_below, along_done, along_next, slot_small, along_in, along_part, along_down}
 use Rattle.radix_node.proofs.Edits.{edits_none, own_within, own_node, edits_own, edits_child, child_begins, child_ends, can_fewer}
 use Rattle.radix_node.proofs.Edits.{InSlot, Narrow, own_narrow, child_narrow, child_uncrossed}
@@ -26,6 +26,39 @@ slots-init g t c =
       ap (λ (v : Parts). v.level) c.self.view_is,
       rw (← c.self.view_is) (edits_none _ c.args.first c.args.end c.args.by c.args.edit.now _ from),
     )
+
+pub overflow_mul-start : goal.overflow_mul-start
+overflow_mul-start g t c =
+    let l = c.slots.invariant.0 in
+    let small : c.slots.k * c.slot_pages-width.result + c.slot_pages-width.result ≤ 2 ^ 36 = rw l.width_is (slot_small l c.slots-test.true) in
+    omega (arith, small)
+
+pub part_in-part-requires-clause-starts : goal.part_in-part-requires-clause-starts
+part_in-part-requires-clause-starts g t c = let l = c.slots.invariant.0 in rw l.width_is (along_below l c.slots-test.true)
+
+pub part_in-part-requires-clause-ends : goal.part_in-part-requires-clause-ends
+part_in-part-requires-clause-ends g t c = let l = c.slots.invariant.0 in rw l.width_is l.past
+
+pub part_in-part-requires-clause-wide : goal.part_in-part-requires-clause-wide
+part_in-part-requires-clause-wide g t c = let l = c.slots.invariant.0 in rw l.width_is (width_pos c.slots.self-inside.level)
+
+pub overflow_add-past : goal.overflow_add-past
+overflow_add-past g t c =
+    let l = c.slots.invariant.0 in
+    let p = c.part_in-part.ensures in
+    let small : c.slots.k * c.slot_pages-width.result + c.slot_pages-width.result ≤ 2 ^ 36 = rw l.width_is (slot_small l c.slots-test.true) in
+    omega (arith, small, p.some, p.within)
+
+pub overflow_sub-past : goal.overflow_sub-past
+overflow_sub-past g t c = let p = c.part_in-part.ensures in omega (arith, p.first)
+
+pub overflow_add-past-in-slots : goal.overflow_add-past-in-slots
+overflow_add-past-in-slots g t c = let p = c.part_in-part.ensures in omega (arith, p.first, p.end, p.some, c.requires.few)
+
+pub index_mut-requires-in-slots : goal.index_mut-requires-in-slots
+index_mut-requires-in-slots g t c =
+    let full = c.slots.invariant.1.full in
+    omega (arith, along_in c.slots.invariant.0 c.slots-test.true, full)
 
 pub part_in-part-requires-clause-small : goal.part_in-part-requires-clause-small
 part_in-part-requires-clause-small g t c =

@@ -5,10 +5,86 @@ use Rattle.radix_node.specs.Node.{Parts, runs, flatten}
 use Rattle.radix_node.specs.Slots.{parts_of}
 use Rattle.radix_node.specs.Walk.{frames_from}
 use Rattle.radix_node.proofs.Divided.{part_ends}
-use Rattle.radix_node.proofs.Walks.{along_in, along_part, along_down, along_below, along_next}
+use Rattle.radix_node.proofs.Flat.{width_pos}
+use Rattle.radix_node.proofs.Walks.{along_in, along_part, along_down, along_below, along_next, slot_small}
 use Rattle.radix_node.proofs.Listing.{ListsTo, is_one, list_none, list_one, list_full, list_below, list_child}
 use Rattle.radix_node.proofs.node.Node.+list_frames.Goals as goal
 use Rattle.radix_node.proofs.node.Node.+list_frames.Goals.{in-Own+in-Some+else-is_full, in-Own+in_default, in-Child+else-upto-slot}
+
+pub index-requires : goal.index-requires
+index-requires g t c =
+    let full = c.self.invariant.full in
+    omega (arith, along_in c.slots.invariant.0 c.slots-test.true, full)
+
+pub overflow_mul-slot : goal.overflow_mul-slot
+overflow_mul-slot g t c =
+    let l = c.slots.invariant.0 in
+    let small : c.slots.k * c.slot_pages-width.result + c.slot_pages-width.result ≤ 2 ^ 36 = rw l.width_is (slot_small l c.slots-test.true) in
+    omega (arith, small)
+
+pub overflow_add-slot : goal.overflow_add-slot
+overflow_add-slot g t c =
+    let l = c.slots.invariant.0 in
+    let small : c.slots.k * c.slot_pages-width.result + c.slot_pages-width.result ≤ 2 ^ 36 = rw l.width_is (slot_small l c.slots-test.true) in
+    omega (arith, small, c.requires.fits)
+
+pub overflow_mul-slot-in-Child : goal.overflow_mul-slot-in-Child
+overflow_mul-slot-in-Child g t c =
+    let l = c.slots.invariant.0 in
+    let small : c.slots.k * c.slot_pages-width.result + c.slot_pages-width.result ≤ 2 ^ 36 = rw l.width_is (slot_small l c.slots-test.true) in
+    omega (arith, small)
+
+pub overflow_add-slot-in-Child : goal.overflow_add-slot-in-Child
+overflow_add-slot-in-Child g t c =
+    let l = c.slots.invariant.0 in
+    let small : c.slots.k * c.slot_pages-width.result + c.slot_pages-width.result ≤ 2 ^ 36 = rw l.width_is (slot_small l c.slots-test.true) in
+    omega (arith, small, c.requires.fits)
+
+pub overflow_mul-k : goal.overflow_mul-k
+overflow_mul-k g t c =
+    let l = c.slots.invariant.0 in
+    let small : c.slots.k * c.slot_pages-width.result + c.slot_pages-width.result ≤ 2 ^ 36 = rw l.width_is (slot_small l c.slots-test.true) in
+    omega (arith, small)
+
+pub part_in-part-requires-clause-starts : goal.part_in-part-requires-clause-starts
+part_in-part-requires-clause-starts g t c = let l = c.slots.invariant.0 in rw l.width_is (along_below l c.slots-test.true)
+
+pub part_in-part-requires-clause-ends : goal.part_in-part-requires-clause-ends
+part_in-part-requires-clause-ends g t c = let l = c.slots.invariant.0 in rw l.width_is l.past
+
+pub part_in-part-requires-clause-wide : goal.part_in-part-requires-clause-wide
+part_in-part-requires-clause-wide g t c = let l = c.slots.invariant.0 in rw l.width_is (width_pos c.self.inside.level)
+
+pub part_in-part-requires-clause-small : goal.part_in-part-requires-clause-small
+part_in-part-requires-clause-small g t c = let l = c.slots.invariant.0 in rw l.width_is (slot_small l c.slots-test.true)
+
+pub overflow_add-slot-in-Child-2 : goal.overflow_add-slot-in-Child-2
+overflow_add-slot-in-Child-2 g t c =
+    let l = c.slots.invariant.0 in
+    let small : c.slots.k * c.slot_pages-width.result + c.slot_pages-width.result ≤ 2 ^ 36 = rw l.width_is (slot_small l c.slots-test.true) in
+    let within = c.part_in-part.ensures.within in
+    omega (arith, small, within, c.requires.fits)
+
+pub returns-then-upto-slot-clause-low : goal.returns-then-upto-slot-clause-low
+returns-then-upto-slot-clause-low g t c =
+    let low = c.list_frames-upto.ensures.low in
+    let first = c.part_in-part.ensures.first in
+    omega (arith, low, first)
+
+pub returns-then-upto-slot-clause-high : goal.returns-then-upto-slot-clause-high
+returns-then-upto-slot-clause-high g t c =
+    let high = c.list_frames-upto.ensures.high in
+    let end = c.part_in-part.ensures.end in
+    omega (arith, high, end)
+
+pub returns-then-upto-slot-clause-full : goal.returns-then-upto-slot-clause-full
+returns-then-upto-slot-clause-full g t c = λ more. c.list_frames-upto.ensures.full c.if-upto-slot.true
+
+pub returns-then-is_full-clause-high : goal.returns-then-is_full-clause-high
+returns-then-is_full-clause-high g t c =
+    let l = c.slots.invariant.0 in
+    let below = along_below l c.slots-test.true in
+    rw l.width_is (omega (arith, below))
 
 pub returns-then-is_full-clause-low : goal.returns-then-is_full-clause-low
 returns-then-is_full-clause-low g t c =

@@ -1,7 +1,7 @@
 use Rattle.std.proofs.Common.{◌≡◌, ◌+◌, ◌*◌, ◌≤◌, sym, ap, ◌∙◌, subst, rules, arith}
 use Rattle.radix_node.specs.Run.{width_of}
-use Rattle.radix_node.specs.Node.{Parts}
-use Rattle.radix_node.specs.Slots.{IsNode}
+use Rattle.radix_node.specs.Node.{Parts, flatten}
+use Rattle.radix_node.specs.Slots.{parts_of, IsNode}
 use Rattle.radix_node.proofs.Divided.{part_ends}
 use Rattle.radix_node.proofs.Flat.{IsPlace, child_level, child_pages, child_node, whole-node, same_slots}
 use Rattle.radix_node.proofs.OwnedRuns.{in_child, slots_within}
@@ -23,6 +23,22 @@ invariant_of-self g t c =
     child_node _ c.in-Child.node _ c.deref_mut.result.now c.self.invariant
     c.place_of-place.ensures.slot is c.deref_mut.ensures.value c.own_run.ensures.level
     c.own_run.ensures.whole
+
+pub invariant_of-self-then-place-gt0 : goal.invariant_of-self-then-place-gt0
+invariant_of-self-then-place-gt0 g t c =
+    subst (IsNode c.self.inside.level)
+    (sym (same_slots c.place_of-place.result.slot c.self.inside.slots.items _ c.index_mut.result.now c.index_mut.ensures.value)) c.self.invariant
+
+pub invariant_of-self-in-Own : goal.invariant_of-self-in-Own
+invariant_of-self-in-Own g t c =
+    subst (IsNode c.self.inside.level)
+    (sym (same_slots c.place_of-place.result.slot c.self.inside.slots.items _ c.index_mut.result.now c.index_mut.ensures.value)) c.self.invariant
+
+pub returns-then-place-gt0-clause-owners : goal.returns-then-place-gt0-clause-owners
+returns-then-place-gt0-clause-owners g t c =
+    rw (← c.self.view_is)
+    (ap (λ ss. flatten (width_of c.self.inside.level) (parts_of ss))
+    (same_slots c.place_of-place.result.slot c.self.inside.slots.items _ c.index_mut.result.now c.index_mut.ensures.value))
 
 pub returns-then-place-gt0-clause-whole : goal.returns-then-place-gt0-clause-whole
 returns-then-place-gt0-clause-whole g t c =

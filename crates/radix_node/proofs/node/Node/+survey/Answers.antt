@@ -1,4 +1,4 @@
-use Rattle.slot_lock.proofs.Words.{◌≡◌, ◌+◌, ◌*◌, ◌≤◌, max, min, refl, sym, ap, ◌∙◌, subst, rules, arith}
+use Rattle.slot_lock.proofs.Words.{◌≡◌, ◌+◌, ◌*◌, ◌^◌, ◌≤◌, max, min, refl, sym, ap, ◌∙◌, subst, rules, arith}
 use Rattle.std.proofs.Common.{nat_le}
 use Rattle.slot_lock.specs.Slots.{between}
 use Rattle.slot_lock.specs.Surveys.{IsSurvey}
@@ -7,6 +7,7 @@ use Rattle.radix_node.specs.Run.{width_of}
 use Rattle.radix_node.specs.Node.{Parts, flatten}
 use Rattle.radix_node.specs.Slots.{parts_of}
 use Rattle.radix_node.specs.Survey.{slots_in}
+use Rattle.radix_node.proofs.Flat.{width_pos}
 use Rattle.radix_node.proofs.Joined.{width_most}
 use Rattle.radix_node.proofs.Surveys.{one_most, reach_at, reach_end, reach_from, reach_next, reach_within, survey_child, survey_own}
 use Rattle.radix_node.proofs.Walks.{along_below, along_done, along_down, along_in, along_next, along_part, slot_small}
@@ -30,6 +31,26 @@ slots-init g t c =
           (sym (reach_from c.args.first c.args.end (c.slots_of-slots.result.from * width_of c.self.inside.level) c.requires.some e.from_low))
           (c.empty-found.ensures rs c.args.first),
     )
+
+pub overflow_mul-start : goal.overflow_mul-start
+overflow_mul-start g t c =
+    let l = c.slots.invariant.0 in
+    let small : c.slots.k * c.slot_pages-width.result + c.slot_pages-width.result ≤ 2 ^ 36 = rw l.width_is (slot_small l c.slots-test.true) in
+    omega (arith, small)
+
+pub index-requires : goal.index-requires
+index-requires g t c =
+    let full = c.self.invariant.full in
+    omega (arith, along_in c.slots.invariant.0 c.slots-test.true, full)
+
+pub part_in-part-requires-clause-starts : goal.part_in-part-requires-clause-starts
+part_in-part-requires-clause-starts g t c = let l = c.slots.invariant.0 in rw l.width_is (along_below l c.slots-test.true)
+
+pub part_in-part-requires-clause-ends : goal.part_in-part-requires-clause-ends
+part_in-part-requires-clause-ends g t c = let l = c.slots.invariant.0 in rw l.width_is l.past
+
+pub part_in-part-requires-clause-wide : goal.part_in-part-requires-clause-wide
+part_in-part-requires-clause-wide g t c = let l = c.slots.invariant.0 in rw l.width_is (width_pos c.self.inside.level)
 
 pub and-found-requires : goal.and-found-requires
 and-found-requires g t c =

@@ -1,14 +1,29 @@
-use Rattle.slot_lock.proofs.Words.{◌≡◌, ◌+◌, ◌-◌, get_or, refl, ap, rules, ◌∙◌, Some, info_from}
+use Rattle.slot_lock.proofs.Words.{◌≡◌, ◌+◌, ◌-◌, get_or, refl, sym, ap, ◌∙◌, Some, info_from, arith}
 use Rattle.radix_node.specs.declared.edit.Edit.TheVariants.{Put}
 use Rattle.radix_node.specs.State.{State}
 use Rattle.radix_node.specs.declared.node.Slot.TheVariants.{Own}
 use Rattle.radix_node.specs.Node.{Parts, runs}
+use Rattle.radix_node.proofs.Flat.{child_level}
 use Rattle.radix_node.proofs.Pages.{page_more, pages_written}
+use Rattle.radix_node.proofs.Written.{node_written}
 use Rattle.radix_node.proofs.node.Node.put_pages.Goals as goal
+
+pub invariant_of-self : goal.invariant_of-self
+invariant_of-self g c =
+    node_written c.self.inside.slots c.pages.slots (ap (λ (v : Parts). v.level) c.self.view_is) c.self.invariant c.pages.invariant.node
+
+pub bounds-slots-k : goal.bounds-slots-k
+bounds-slots-k g c = let full = c.pages.invariant.node.full in omega (arith, full, c.requires.within, c.pages-test.true)
+
+pub unreachable-requires : goal.unreachable-requires
+unreachable-requires g c =
+    let lower = child_level c.index-slots-k.result c.in-Child.field-0 _ c.pages.invariant.node (omega (arith, c.requires.within, c.pages-test.true))
+    (sym c.in-Child.is) refl in
+    omega (arith, lower, c.requires.level)
 
 pub pages-preserved : goal.pages-preserved
 pages-preserved g c =
-    let is : Own c.in-Own.state ≡ get_or c.pages.slots c.pages.k c.index-slots-k.result = search rules in
+    let is : Own c.in-Own.state ≡ get_or c.pages.slots c.pages.k c.index-slots-k.result = sym c.in-Own.is in
     page_more c.index-slots-k.result c.in-Own.state c.follow.new.self (runs c.args.self.now) c.args.first c.args.end c.args.by
     (c.args.by + (c.pages.k - c.args.first)) (Put (Some c.args.info.now)) c.requires.level c.pages-test.true c.requires.within c.requires.sound is refl
     (c.follow.ensures ∙ ap (λ (s : State). record { info = info_from s.info (c.args.by + (c.pages.k - c.args.first)); owner = c.in-Own.state.owner })
