@@ -1,6 +1,7 @@
 -- add_end
 use Rattle.std.proofs.Common.{◌≡◌, ◌∙◌, ◌++◌, ◌∷◌, ◌+◌, [], List, Some, ap, false, map, rules, subst, sym, true}
 use Rattle.std.specs.Prelude.{IfNone, IfSome}
+use Rattle.std.proofs.lemmas.Result.{IfOk-from_err}
 use Rattle.vm_base.specs.declared.replies.Reply.{Reply}
 use Rattle.litmus_merges.specs.Mappings.{AreMaps, IsSight}
 use Rattle.litmus_merges.specs.Finals.{AreShown}
@@ -88,3 +89,75 @@ returns-clause-numbered g c =
     one_numbered c.args.ends.now.items _ c.args.numbers.now.items _
     (record { replies = c.in-Some.replies; finals = c.in_ok-finals.finals; maps = c.in_ok-seen.seen; order = c.in_ok-order.order }) c.number_of-number.result c.requires.numbered
     (search rules) (search rules) number
+
+pub returns-in_err-all-clause-numbered : goal.returns-in_err-all-clause-numbered
+returns-in_err-all-clause-numbered g c = IfOk-from_err _ _ c.from_residual.ensures.0
+
+pub returns-in_err-all-clause-ends : goal.returns-in_err-all-clause-ends
+returns-in_err-all-clause-ends g c = IfOk-from_err _ _ c.from_residual.ensures.0
+
+pub returns-in_err-all-clause-once : goal.returns-in_err-all-clause-once
+returns-in_err-all-clause-once g c = IfOk-from_err _ _ c.from_residual.ensures.0
+
+pub returns-in_err-all-clause-have : goal.returns-in_err-all-clause-have
+returns-in_err-all-clause-have g c = IfOk-from_err _ _ c.from_residual.ensures.0
+
+pub returns-in_err-finals-clause-numbered : goal.returns-in_err-finals-clause-numbered
+returns-in_err-finals-clause-numbered g c = IfOk-from_err _ _ c.from_residual-in_err-finals.ensures.0
+
+pub returns-in_err-finals-clause-ends : goal.returns-in_err-finals-clause-ends
+returns-in_err-finals-clause-ends g c = IfOk-from_err _ _ c.from_residual-in_err-finals.ensures.0
+
+pub returns-in_err-finals-clause-once : goal.returns-in_err-finals-clause-once
+returns-in_err-finals-clause-once g c = IfOk-from_err _ _ c.from_residual-in_err-finals.ensures.0
+
+pub returns-in_err-finals-clause-have : goal.returns-in_err-finals-clause-have
+returns-in_err-finals-clause-have g c = IfOk-from_err _ _ c.from_residual-in_err-finals.ensures.0
+
+pub returns-in_err-seen-clause-numbered : goal.returns-in_err-seen-clause-numbered
+returns-in_err-seen-clause-numbered g c = IfOk-from_err _ _ c.from_residual-in_err-seen.ensures.0
+
+pub returns-in_err-seen-clause-ends : goal.returns-in_err-seen-clause-ends
+returns-in_err-seen-clause-ends g c = IfOk-from_err _ _ c.from_residual-in_err-seen.ensures.0
+
+pub returns-in_err-seen-clause-once : goal.returns-in_err-seen-clause-once
+returns-in_err-seen-clause-once g c = IfOk-from_err _ _ c.from_residual-in_err-seen.ensures.0
+
+pub returns-in_err-seen-clause-have : goal.returns-in_err-seen-clause-have
+returns-in_err-seen-clause-have g c = IfOk-from_err _ _ c.from_residual-in_err-seen.ensures.0
+
+pub returns-in_err-order-clause-numbered : goal.returns-in_err-order-clause-numbered
+returns-in_err-order-clause-numbered g c = IfOk-from_err _ _ c.from_residual-in_err-order.ensures.0
+
+pub returns-in_err-order-clause-ends : goal.returns-in_err-order-clause-ends
+returns-in_err-order-clause-ends g c = IfOk-from_err _ _ c.from_residual-in_err-order.ensures.0
+
+pub returns-in_err-order-clause-once : goal.returns-in_err-order-clause-once
+returns-in_err-order-clause-once g c = IfOk-from_err _ _ c.from_residual-in_err-order.ensures.0
+
+pub returns-in_err-order-clause-have : goal.returns-in_err-order-clause-have
+returns-in_err-order-clause-have g c = IfOk-from_err _ _ c.from_residual-in_err-order.ensures.0
+
+pub returns-in_err-push-clause-numbered : goal.returns-in_err-push-clause-numbered
+returns-in_err-push-clause-numbered g c = IfOk-from_err _ _ c.from_residual-in_err-push.ensures.0
+
+pub returns-in_err-push-clause-ends : goal.returns-in_err-push-clause-ends
+returns-in_err-push-clause-ends g c = IfOk-from_err _ _ c.from_residual-in_err-push.ensures.0
+
+pub returns-in_err-push-clause-once : goal.returns-in_err-push-clause-once
+returns-in_err-push-clause-once g c = IfOk-from_err _ _ c.from_residual-in_err-push.ensures.0
+
+pub returns-in_err-push-clause-have : goal.returns-in_err-push-clause-have
+returns-in_err-push-clause-have g c = IfOk-from_err _ _ c.from_residual-in_err-push.ensures.0
+
+pub returns-in_err-push-2-clause-numbered : goal.returns-in_err-push-2-clause-numbered
+returns-in_err-push-2-clause-numbered g c = IfOk-from_err _ _ c.from_residual-in_err-push-2.ensures.0
+
+pub returns-in_err-push-2-clause-ends : goal.returns-in_err-push-2-clause-ends
+returns-in_err-push-2-clause-ends g c = IfOk-from_err _ _ c.from_residual-in_err-push-2.ensures.0
+
+pub returns-in_err-push-2-clause-once : goal.returns-in_err-push-2-clause-once
+returns-in_err-push-2-clause-once g c = IfOk-from_err _ _ c.from_residual-in_err-push-2.ensures.0
+
+pub returns-in_err-push-2-clause-have : goal.returns-in_err-push-2-clause-have
+returns-in_err-push-2-clause-have g c = IfOk-from_err _ _ c.from_residual-in_err-push-2.ensures.0

@@ -1,4 +1,5 @@
 use Rattle.std.proofs.Common.{Ok, ap, arith}
+use Rattle.std.proofs.lemmas.Result.{IfOk-at_ok, IfOk-from_err}
 use Rattle.litmus_merges.proofs.Grown.{keeps_refl, keeps_trans, kept_within, turned_all}
 use Rattle.litmus_merges.proofs.exploring.expand.Goals as goal
 
@@ -22,3 +23,14 @@ calls-preserved g c = record {
   keeps = keeps_trans c.args.nodes.now.items c.calls.nodes.items c.take_turn.new.nodes.items c.calls.invariant.keeps c.take_turn.ensures.keeps;
   turned = c.in_ok-more.ensures.turned (ap Ok c.if-not-more.false);
 }
+
+pub returns-in_err-more-clause-keeps : goal.returns-in_err-more-clause-keeps
+returns-in_err-more-clause-keeps g c =
+    keeps_trans c.args.nodes.now.items c.calls.nodes.items c.take_turn.new.nodes.items c.calls.invariant.keeps c.take_turn.ensures.keeps
+
+pub returns-in_err-more-clause-more : goal.returns-in_err-more-clause-more
+returns-in_err-more-clause-more g c = λ e. absurd (IfOk-at_ok (λ _. ⊥) e (IfOk-from_err _ (λ _. ⊥) c.from_residual.ensures.0))
+
+pub returns-then-not-more-clause-keeps : goal.returns-then-not-more-clause-keeps
+returns-then-not-more-clause-keeps g c =
+    keeps_trans c.args.nodes.now.items c.calls.nodes.items c.take_turn.new.nodes.items c.calls.invariant.keeps c.take_turn.ensures.keeps

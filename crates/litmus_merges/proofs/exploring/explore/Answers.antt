@@ -1,4 +1,5 @@
 use Rattle.std.proofs.Common.{rules, subst, sym, zero}
+use Rattle.std.proofs.lemmas.Result.{IfOk-from_err}
 use Rattle.litmus_merges.specs.Nodes.{AreAllSound, AreBackward, AreEnds, HaveEnds}
 use Rattle.std.proofs.Common.{length}
 use Rattle.litmus_merges.proofs.Grown.{all_found, all_sound, backward, reached, start_explored, start_kept}
@@ -29,3 +30,66 @@ returns-clause-all g c = λ e. all_found c.args.objects.now c.args.calls.now c.a
     (start_kept c.push.new.self.items c.run.new.nodes.items c.in_ok-first.first (search rules) c.run.ensures.keeps)
     (c.in_ok-whole.ensures.whole (search (rules, e)))
     (subst (λ xs. HaveEnds c.args.objects.now c.args.finals.now c.args.maps xs (length xs) c.in_ok-ends.ends.items) c.as_slice.ensures.value c.in_ok-ends.ensures.have)
+
+pub returns-in_err-clone-clause-reached : goal.returns-in_err-clone-clause-reached
+returns-in_err-clone-clause-reached g c = IfOk-from_err _ _ c.from_residual.ensures.0
+
+pub returns-in_err-clone-clause-once : goal.returns-in_err-clone-clause-once
+returns-in_err-clone-clause-once g c = IfOk-from_err _ _ c.from_residual.ensures.0
+
+pub returns-in_err-clone-clause-all : goal.returns-in_err-clone-clause-all
+returns-in_err-clone-clause-all g c = IfOk-from_err _ _ c.from_residual.ensures.0
+
+pub returns-in_err-first-clause-reached : goal.returns-in_err-first-clause-reached
+returns-in_err-first-clause-reached g c = IfOk-from_err _ _ c.from_residual-in_err-first.ensures.0
+
+pub returns-in_err-first-clause-once : goal.returns-in_err-first-clause-once
+returns-in_err-first-clause-once g c = IfOk-from_err _ _ c.from_residual-in_err-first.ensures.0
+
+pub returns-in_err-first-clause-all : goal.returns-in_err-first-clause-all
+returns-in_err-first-clause-all g c = IfOk-from_err _ _ c.from_residual-in_err-first.ensures.0
+
+pub returns-in_err-push-clause-reached : goal.returns-in_err-push-clause-reached
+returns-in_err-push-clause-reached g c = IfOk-from_err _ _ c.from_residual-in_err-push.ensures.0
+
+pub returns-in_err-push-clause-once : goal.returns-in_err-push-clause-once
+returns-in_err-push-clause-once g c = IfOk-from_err _ _ c.from_residual-in_err-push.ensures.0
+
+pub returns-in_err-push-clause-all : goal.returns-in_err-push-clause-all
+returns-in_err-push-clause-all g c = IfOk-from_err _ _ c.from_residual-in_err-push.ensures.0
+
+pub returns-in_err-clone-2-clause-reached : goal.returns-in_err-clone-2-clause-reached
+returns-in_err-clone-2-clause-reached g c = IfOk-from_err _ _ c.from_residual-in_err-clone-2.ensures.0
+
+pub returns-in_err-clone-2-clause-once : goal.returns-in_err-clone-2-clause-once
+returns-in_err-clone-2-clause-once g c = IfOk-from_err _ _ c.from_residual-in_err-clone-2.ensures.0
+
+pub returns-in_err-clone-2-clause-all : goal.returns-in_err-clone-2-clause-all
+returns-in_err-clone-2-clause-all g c = IfOk-from_err _ _ c.from_residual-in_err-clone-2.ensures.0
+
+pub returns-in_err-seats-clause-reached : goal.returns-in_err-seats-clause-reached
+returns-in_err-seats-clause-reached g c = IfOk-from_err _ _ c.from_residual-in_err-seats.ensures.0
+
+pub returns-in_err-seats-clause-once : goal.returns-in_err-seats-clause-once
+returns-in_err-seats-clause-once g c = IfOk-from_err _ _ c.from_residual-in_err-seats.ensures.0
+
+pub returns-in_err-seats-clause-all : goal.returns-in_err-seats-clause-all
+returns-in_err-seats-clause-all g c = IfOk-from_err _ _ c.from_residual-in_err-seats.ensures.0
+
+pub returns-in_err-whole-clause-reached : goal.returns-in_err-whole-clause-reached
+returns-in_err-whole-clause-reached g c = IfOk-from_err _ _ c.from_residual-in_err-whole.ensures.0
+
+pub returns-in_err-whole-clause-once : goal.returns-in_err-whole-clause-once
+returns-in_err-whole-clause-once g c = IfOk-from_err _ _ c.from_residual-in_err-whole.ensures.0
+
+pub returns-in_err-whole-clause-all : goal.returns-in_err-whole-clause-all
+returns-in_err-whole-clause-all g c = IfOk-from_err _ _ c.from_residual-in_err-whole.ensures.0
+
+pub returns-in_err-ends-clause-reached : goal.returns-in_err-ends-clause-reached
+returns-in_err-ends-clause-reached g c = IfOk-from_err _ _ c.from_residual-in_err-ends.ensures.0
+
+pub returns-in_err-ends-clause-once : goal.returns-in_err-ends-clause-once
+returns-in_err-ends-clause-once g c = IfOk-from_err _ _ c.from_residual-in_err-ends.ensures.0
+
+pub returns-in_err-ends-clause-all : goal.returns-in_err-ends-clause-all
+returns-in_err-ends-clause-all g c = IfOk-from_err _ _ c.from_residual-in_err-ends.ensures.0
