@@ -1,6 +1,6 @@
-use Rattle.std.proofs.Common.{◌≡◌, ◌<◌, ◌+◌, length, ap, arith}
+use Rattle.std.proofs.Common.{◌≡◌, ◌<◌, length, ap, arith}
 use Rattle.slot_lock.specs.declared.slot.Slot.{Slot}
-use Rattle.slot_lock.specs.SlotList.{IsInsideSlot, get_slot}
+use Rattle.slot_lock.specs.SlotList.{get_slot}
 use Rattle.slot_lock.proofs.Places.{read_slot}
 use Rattle.slot_lock.proofs.Cuts.{here, longer}
 use Rattle.slot_lock.proofs.ListLaws.{edge_at}
