@@ -1,4 +1,5 @@
 use Rattle.std.proofs.Common.{◌≡◌, ◌-◌, ◌^◌, inl, inr, true, Some, sym, ap, ◌∙◌, arith, refl}
+use Rattle.std.proofs.lemmas.Result.{IfOk-from_err}
 use Rattle.slot_lock.proofs.Divisions.{cuts, at_first, at_end}
 use Rattle.slot_lock.proofs.Steps.{slot_by_edge}
 use Rattle.radix_range.specs.Tree.{tree_slots}
@@ -53,3 +54,15 @@ invariant_of-self-then-slot_at-range-2-clause-known g c =
     expanded c.expand-then-slot_at-range-2.result c.args.self.now.root c.expand-then-slot_at-range-2.new.root _
     c.args.self.now.full c.args.self.now.tights.items c.expand-then-slot_at-range-2.ensures.ok c.expand-then-slot_at-range-2.ensures.err
     c.args.self.now.known
+
+pub returns-in_err-expand-clause-step : goal.returns-in_err-expand-clause-step
+returns-in_err-expand-clause-step g c = IfOk-from_err _ _ c.from_residual.ensures.0
+
+pub returns-in_err-expand-clause-exact : goal.returns-in_err-expand-clause-exact
+returns-in_err-expand-clause-exact g c = IfOk-from_err _ _ c.from_residual.ensures.0
+
+pub returns-in_err-expand-2-clause-step : goal.returns-in_err-expand-2-clause-step
+returns-in_err-expand-2-clause-step g c = IfOk-from_err _ _ c.from_residual-in_err-expand-2.ensures.0
+
+pub returns-in_err-expand-2-clause-exact : goal.returns-in_err-expand-2-clause-exact
+returns-in_err-expand-2-clause-exact g c = IfOk-from_err _ _ c.from_residual-in_err-expand-2.ensures.0

@@ -1,4 +1,5 @@
 use Rattle.slot_lock.proofs.Words.{ℕ, ◌^◌, inl, inr, ap, ◌∙◌, subst, arith, refl, IsPage}
+use Rattle.std.proofs.lemmas.Result.{IfOk-from_err}
 use Rattle.slot_lock.specs.Slots.{Slots, Divides, DividesAs, between}
 use Rattle.slot_lock.proofs.Divisions.{splits, at_first, at_end}
 use Rattle.slot_lock.proofs.Steps.{slot_by_edge}
@@ -72,3 +73,15 @@ invariant_of-self-in-Locked-1 g c = record {
   known = same_info (tree_slots c.args.self.now.root) (tree_slots c.lock.new.root) c.args.self.now.full c.args.self.now.tights.items
       c.args.self.now.known (ap (λ (s : Slots). s.info) c.in-Locked.ensures.tries.now);
 }
+
+pub returns-in_err-expand-in-Before-clause-step : goal.returns-in_err-expand-in-Before-clause-step
+returns-in_err-expand-in-Before-clause-step g c = IfOk-from_err _ _ c.from_residual.ensures.0
+
+pub returns-in_err-expand-in-Before-clause-exact : goal.returns-in_err-expand-in-Before-clause-exact
+returns-in_err-expand-in-Before-clause-exact g c = IfOk-from_err _ _ c.from_residual.ensures.0
+
+pub returns-in_err-expand-in-Beyond-clause-step : goal.returns-in_err-expand-in-Beyond-clause-step
+returns-in_err-expand-in-Beyond-clause-step g c = IfOk-from_err _ _ c.from_residual-in_err-expand-in-Beyond.ensures.0
+
+pub returns-in_err-expand-in-Beyond-clause-exact : goal.returns-in_err-expand-in-Beyond-clause-exact
+returns-in_err-expand-in-Beyond-clause-exact g c = IfOk-from_err _ _ c.from_residual-in_err-expand-in-Beyond.ensures.0
