@@ -84,6 +84,9 @@ slot_small {level} {first} {end} {k} {to} h l =
     )
 
 -- the slot that is next is one of the node's
+pub slot_fits : {level first end k to width : ℕ} → Along level first end k to width → k < to → k * width + width ≤ 2 ^ 36
+slot_fits h l = rw h.width_is (slot_small h l)
+
 pub along_in : {level first end k to width : ℕ} → Along level first end k to width → k < to
     → k < 512
 along_in l h = omega (arith, l.last, h)

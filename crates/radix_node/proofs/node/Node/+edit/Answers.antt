@@ -3,7 +3,7 @@ use Rattle.radix_node.specs.Run.{width_of, cell_at}
 use Rattle.radix_node.specs.Node.{Parts, runs}
 use Rattle.radix_node.specs.Edit.{CanEdit}
 use Rattle.radix_node.proofs.Flat.{whole-node, width_pos, child_level, child_pages, child_node}
-use Rattle.radix_node.proofs.Walks.{along_below, along_done, along_next, slot_small, along_in, along_part, along_down}
+use Rattle.radix_node.proofs.Walks.{along_below, along_done, along_next, slot_fits, along_in, along_part, along_down}
 use Rattle.radix_node.proofs.Edits.{edits_none, own_within, own_node, edits_own, edits_child, child_begins, child_ends, can_fewer}
 use Rattle.radix_node.proofs.Edits.{InSlot, Narrow, own_narrow, child_narrow, child_uncrossed}
 use Rattle.radix_node.proofs.node.Node.+edit.Goals as goal
@@ -29,9 +29,7 @@ slots-init g t c =
 
 pub overflow_mul-start : goal.overflow_mul-start
 overflow_mul-start g t c =
-    let l = c.slots.invariant.0 in
-    let small : c.slots.k * c.slot_pages-width.result + c.slot_pages-width.result ≤ 2 ^ 36 = rw l.width_is (slot_small l c.slots-test.true) in
-    omega (arith, small)
+    omega (arith, slot_fits c.slots.invariant.0 c.slots-test.true)
 
 pub part_in-part-requires-clause-starts : goal.part_in-part-requires-clause-starts
 part_in-part-requires-clause-starts g t c = let l = c.slots.invariant.0 in rw l.width_is (along_below l c.slots-test.true)
@@ -44,10 +42,8 @@ part_in-part-requires-clause-wide g t c = let l = c.slots.invariant.0 in rw l.wi
 
 pub overflow_add-past : goal.overflow_add-past
 overflow_add-past g t c =
-    let l = c.slots.invariant.0 in
     let p = c.part_in-part.ensures in
-    let small : c.slots.k * c.slot_pages-width.result + c.slot_pages-width.result ≤ 2 ^ 36 = rw l.width_is (slot_small l c.slots-test.true) in
-    omega (arith, small, p.some, p.within)
+    omega (arith, slot_fits c.slots.invariant.0 c.slots-test.true, p.some, p.within)
 
 pub overflow_sub-past : goal.overflow_sub-past
 overflow_sub-past g t c = let p = c.part_in-part.ensures in omega (arith, p.first)
@@ -61,8 +57,7 @@ index_mut-requires-in-slots g t c =
     omega (arith, along_in c.slots.invariant.0 c.slots-test.true, full)
 
 pub part_in-part-requires-clause-small : goal.part_in-part-requires-clause-small
-part_in-part-requires-clause-small g t c =
-    let w = c.slots.invariant.0.width_is in rw w (slot_small c.slots.invariant.0 c.slots-test.true)
+part_in-part-requires-clause-small g t c = slot_fits c.slots.invariant.0 c.slots-test.true
 
 pub edit-requires-in-Child-index_mut : goal.edit-requires-in-Child-index_mut
 edit-requires-in-Child-index_mut g t c κs within =

@@ -7,7 +7,7 @@ use Rattle.radix_node.proofs.Divided.{part_ends}
 use Rattle.radix_node.proofs.Flat.{width_pos}
 use Rattle.radix_node.proofs.Walks.{along_in, along_part, along_down, FreeTo, reach_high, free_before, along_below}
 use Rattle.radix_node.proofs.Walks.{along_done, along_next, free_mapped, free_on, free_found, free_child, free_found_below}
-use Rattle.radix_node.proofs.Walks.{free_open, slot_small}
+use Rattle.radix_node.proofs.Walks.{free_open, slot_fits}
 use Rattle.radix_node.proofs.node.Node.+free_run.Goals as goal
 use Rattle.radix_node.proofs.node.Node.+free_run.Goals.{in-Own+then-is_mapped, in-Own+else-is_mapped+else-n-slot, in-Child+in-Open}
 
@@ -18,9 +18,7 @@ index-requires g t c =
 
 pub overflow_mul-k : goal.overflow_mul-k
 overflow_mul-k g t c =
-    let l = c.slots.invariant.0 in
-    let small : c.slots.k * c.slot_pages-width.result + c.slot_pages-width.result ≤ 2 ^ 36 = rw l.width_is (slot_small l c.slots-test.true) in
-    omega (arith, small)
+    omega (arith, slot_fits c.slots.invariant.0 c.slots-test.true)
 
 pub part_in-part-requires-clause-starts : goal.part_in-part-requires-clause-starts
 part_in-part-requires-clause-starts g t c = let l = c.slots.invariant.0 in rw l.width_is (along_below l c.slots-test.true)
@@ -32,19 +30,15 @@ pub part_in-part-requires-clause-wide : goal.part_in-part-requires-clause-wide
 part_in-part-requires-clause-wide g t c = let l = c.slots.invariant.0 in rw l.width_is (width_pos c.self.inside.level)
 
 pub part_in-part-requires-clause-small : goal.part_in-part-requires-clause-small
-part_in-part-requires-clause-small g t c = let l = c.slots.invariant.0 in rw l.width_is (slot_small l c.slots-test.true)
+part_in-part-requires-clause-small g t c = slot_fits c.slots.invariant.0 c.slots-test.true
 
 pub overflow_mul-slot : goal.overflow_mul-slot
 overflow_mul-slot g t c =
-    let l = c.slots.invariant.0 in
-    let small : c.slots.k * c.slot_pages-width.result + c.slot_pages-width.result ≤ 2 ^ 36 = rw l.width_is (slot_small l c.slots-test.true) in
-    omega (arith, small)
+    omega (arith, slot_fits c.slots.invariant.0 c.slots-test.true)
 
 pub overflow_add-slot : goal.overflow_add-slot
 overflow_add-slot g t c =
-    let l = c.slots.invariant.0 in
-    let small : c.slots.k * c.slot_pages-width.result + c.slot_pages-width.result ≤ 2 ^ 36 = rw l.width_is (slot_small l c.slots-test.true) in
-    omega (arith, small, c.requires.fits)
+    omega (arith, slot_fits c.slots.invariant.0 c.slots-test.true, c.requires.fits)
 
 pub free_run-requires : goal.free_run-requires
 free_run-requires g t c κs within =

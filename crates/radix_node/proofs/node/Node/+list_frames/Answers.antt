@@ -6,7 +6,7 @@ use Rattle.radix_node.specs.Slots.{parts_of}
 use Rattle.radix_node.specs.Walk.{frames_from}
 use Rattle.radix_node.proofs.Divided.{part_ends}
 use Rattle.radix_node.proofs.Flat.{width_pos}
-use Rattle.radix_node.proofs.Walks.{along_in, along_part, along_down, along_below, along_next, slot_small}
+use Rattle.radix_node.proofs.Walks.{along_in, along_part, along_down, along_below, along_next, slot_fits}
 use Rattle.radix_node.proofs.Listing.{ListsTo, is_one, list_none, list_one, list_full, list_below, list_child}
 use Rattle.radix_node.proofs.node.Node.+list_frames.Goals as goal
 use Rattle.radix_node.proofs.node.Node.+list_frames.Goals.{in-Own+in-Some+else-is_full, in-Own+in_default, in-Child+else-upto-slot}
@@ -18,33 +18,23 @@ index-requires g t c =
 
 pub overflow_mul-slot : goal.overflow_mul-slot
 overflow_mul-slot g t c =
-    let l = c.slots.invariant.0 in
-    let small : c.slots.k * c.slot_pages-width.result + c.slot_pages-width.result ≤ 2 ^ 36 = rw l.width_is (slot_small l c.slots-test.true) in
-    omega (arith, small)
+    omega (arith, slot_fits c.slots.invariant.0 c.slots-test.true)
 
 pub overflow_add-slot : goal.overflow_add-slot
 overflow_add-slot g t c =
-    let l = c.slots.invariant.0 in
-    let small : c.slots.k * c.slot_pages-width.result + c.slot_pages-width.result ≤ 2 ^ 36 = rw l.width_is (slot_small l c.slots-test.true) in
-    omega (arith, small, c.requires.fits)
+    omega (arith, slot_fits c.slots.invariant.0 c.slots-test.true, c.requires.fits)
 
 pub overflow_mul-slot-in-Child : goal.overflow_mul-slot-in-Child
 overflow_mul-slot-in-Child g t c =
-    let l = c.slots.invariant.0 in
-    let small : c.slots.k * c.slot_pages-width.result + c.slot_pages-width.result ≤ 2 ^ 36 = rw l.width_is (slot_small l c.slots-test.true) in
-    omega (arith, small)
+    omega (arith, slot_fits c.slots.invariant.0 c.slots-test.true)
 
 pub overflow_add-slot-in-Child : goal.overflow_add-slot-in-Child
 overflow_add-slot-in-Child g t c =
-    let l = c.slots.invariant.0 in
-    let small : c.slots.k * c.slot_pages-width.result + c.slot_pages-width.result ≤ 2 ^ 36 = rw l.width_is (slot_small l c.slots-test.true) in
-    omega (arith, small, c.requires.fits)
+    omega (arith, slot_fits c.slots.invariant.0 c.slots-test.true, c.requires.fits)
 
 pub overflow_mul-k : goal.overflow_mul-k
 overflow_mul-k g t c =
-    let l = c.slots.invariant.0 in
-    let small : c.slots.k * c.slot_pages-width.result + c.slot_pages-width.result ≤ 2 ^ 36 = rw l.width_is (slot_small l c.slots-test.true) in
-    omega (arith, small)
+    omega (arith, slot_fits c.slots.invariant.0 c.slots-test.true)
 
 pub part_in-part-requires-clause-starts : goal.part_in-part-requires-clause-starts
 part_in-part-requires-clause-starts g t c = let l = c.slots.invariant.0 in rw l.width_is (along_below l c.slots-test.true)
@@ -56,14 +46,12 @@ pub part_in-part-requires-clause-wide : goal.part_in-part-requires-clause-wide
 part_in-part-requires-clause-wide g t c = let l = c.slots.invariant.0 in rw l.width_is (width_pos c.self.inside.level)
 
 pub part_in-part-requires-clause-small : goal.part_in-part-requires-clause-small
-part_in-part-requires-clause-small g t c = let l = c.slots.invariant.0 in rw l.width_is (slot_small l c.slots-test.true)
+part_in-part-requires-clause-small g t c = slot_fits c.slots.invariant.0 c.slots-test.true
 
 pub overflow_add-slot-in-Child-2 : goal.overflow_add-slot-in-Child-2
 overflow_add-slot-in-Child-2 g t c =
-    let l = c.slots.invariant.0 in
-    let small : c.slots.k * c.slot_pages-width.result + c.slot_pages-width.result ≤ 2 ^ 36 = rw l.width_is (slot_small l c.slots-test.true) in
     let within = c.part_in-part.ensures.within in
-    omega (arith, small, within, c.requires.fits)
+    omega (arith, slot_fits c.slots.invariant.0 c.slots-test.true, within, c.requires.fits)
 
 pub returns-then-upto-slot-clause-low : goal.returns-then-upto-slot-clause-low
 returns-then-upto-slot-clause-low g t c =

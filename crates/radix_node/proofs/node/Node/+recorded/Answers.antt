@@ -1,8 +1,8 @@
-use Rattle.slot_lock.proofs.Words.{◌≡◌, ◌+◌, ◌*◌, ◌^◌, ◌≤◌, ◌||◌, ◌↔◌, true, refl, sym, ap, ◌∙◌, subst, rules, arith, members}
+use Rattle.slot_lock.proofs.Words.{◌≡◌, ◌||◌, ◌↔◌, true, refl, sym, ap, ◌∙◌, subst, rules, arith, members}
 use Rattle.radix_node.specs.Node.{Parts, runs}
 use Rattle.radix_node.specs.Walk.{HasUser}
 use Rattle.radix_node.proofs.Flat.{width_pos}
-use Rattle.radix_node.proofs.Walks.{along_in, along_part, along_down, along_below, along_done, along_next, slot_small}
+use Rattle.radix_node.proofs.Walks.{along_in, along_part, along_down, along_below, along_done, along_next, slot_fits}
 use Rattle.radix_node.proofs.Walks.{users_own, users_child, users_all}
 use Rattle.radix_node.proofs.node.Node.+recorded.Goals as goal
 use Rattle.radix_node.proofs.node.Node.+recorded.Goals.{in-Own, in-Child}
@@ -14,9 +14,7 @@ index-requires g t c =
 
 pub overflow_mul-k : goal.overflow_mul-k
 overflow_mul-k g t c =
-    let l = c.slots.invariant.0 in
-    let small : c.slots.k * c.slot_pages-width.result + c.slot_pages-width.result ≤ 2 ^ 36 = rw l.width_is (slot_small l c.slots-test.true) in
-    omega (arith, small)
+    omega (arith, slot_fits c.slots.invariant.0 c.slots-test.true)
 
 pub part_in-part-requires-clause-starts : goal.part_in-part-requires-clause-starts
 part_in-part-requires-clause-starts g t c = let l = c.slots.invariant.0 in rw l.width_is (along_below l c.slots-test.true)
@@ -28,7 +26,7 @@ pub part_in-part-requires-clause-wide : goal.part_in-part-requires-clause-wide
 part_in-part-requires-clause-wide g t c = let l = c.slots.invariant.0 in rw l.width_is (width_pos c.self.inside.level)
 
 pub part_in-part-requires-clause-small : goal.part_in-part-requires-clause-small
-part_in-part-requires-clause-small g t c = let w = c.slots.invariant.0.width_is in rw w (slot_small c.slots.invariant.0 c.slots-test.true)
+part_in-part-requires-clause-small g t c = slot_fits c.slots.invariant.0 c.slots-test.true
 
 pub recorded-requires : goal.recorded-requires
 recorded-requires g t c κs within =

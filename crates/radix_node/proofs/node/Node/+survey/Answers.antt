@@ -1,4 +1,4 @@
-use Rattle.slot_lock.proofs.Words.{◌≡◌, ◌+◌, ◌*◌, ◌^◌, ◌≤◌, max, min, refl, sym, ap, ◌∙◌, subst, rules, arith}
+use Rattle.slot_lock.proofs.Words.{◌≡◌, ◌+◌, ◌*◌, ◌≤◌, max, min, refl, sym, ap, ◌∙◌, subst, rules, arith}
 use Rattle.std.proofs.Common.{nat_le}
 use Rattle.slot_lock.specs.Slots.{between}
 use Rattle.slot_lock.specs.Surveys.{IsSurvey}
@@ -10,7 +10,7 @@ use Rattle.radix_node.specs.Survey.{slots_in}
 use Rattle.radix_node.proofs.Flat.{width_pos}
 use Rattle.radix_node.proofs.Joined.{width_most}
 use Rattle.radix_node.proofs.Surveys.{one_most, reach_at, reach_end, reach_from, reach_next, reach_within, survey_child, survey_own}
-use Rattle.radix_node.proofs.Walks.{along_below, along_done, along_down, along_in, along_next, along_part, slot_small}
+use Rattle.radix_node.proofs.Walks.{along_below, along_done, along_down, along_in, along_next, along_part, slot_fits, slot_small}
 use Rattle.radix_node.proofs.node.Node.+survey.Goals as goal
 use Rattle.radix_node.proofs.node.Node.+survey.Goals.{in-Own+else-not-is_free_for, in-Child+in_ok-below-in-Child}
 
@@ -34,9 +34,7 @@ slots-init g t c =
 
 pub overflow_mul-start : goal.overflow_mul-start
 overflow_mul-start g t c =
-    let l = c.slots.invariant.0 in
-    let small : c.slots.k * c.slot_pages-width.result + c.slot_pages-width.result ≤ 2 ^ 36 = rw l.width_is (slot_small l c.slots-test.true) in
-    omega (arith, small)
+    omega (arith, slot_fits c.slots.invariant.0 c.slots-test.true)
 
 pub index-requires : goal.index-requires
 index-requires g t c =
@@ -65,7 +63,7 @@ and-found-requires g t c =
     omega (arith, few, most, wide, last, one)
 
 pub part_in-part-requires-clause-small : goal.part_in-part-requires-clause-small
-part_in-part-requires-clause-small g t c = let w = c.slots.invariant.0.width_is in rw w (slot_small c.slots.invariant.0 c.slots-test.true)
+part_in-part-requires-clause-small g t c = slot_fits c.slots.invariant.0 c.slots-test.true
 
 pub survey-requires-in-Child : goal.survey-requires-in-Child
 survey-requires-in-Child g t c κs within =
