@@ -2,6 +2,7 @@ use Rattle.std.proofs.Common.{◌≡◌, ℕ, ◌/◌, ◌%◌, ◌<◌, ◌==�
 use Rattle.std.specs.Prelude.{option_and_then}
 use Rattle.std.proofs.Math.ListN.{set, length-set}
 use Rattle.std.proofs.lemmas.List.{set-get_or}
+use Rattle.std.proofs.lemmas.Result.{IfOk-from_err}
 use Rattle.mmu.specs.Tables.{in_table, with_last_table}
 use Rattle.mmu.proofs.Empty.{read_there, read_now}
 use Rattle.mmu.proofs.LastTable.{same_table, same_rest, on_any_err, made_rest, Below, one_more, none_more}
@@ -102,3 +103,9 @@ returns-in-Some-clause-err_tables g c = on_err c.install.result (λ same.
     none_more has P xs i (Some c.install.new.self) within
     (λ r. same r
     ∙ ap (in_table (λ b. has b r)) (sym there))) c.install.ensures.err_tables
+
+pub returns-in_err-table-in-None-clause-there : goal.returns-in_err-table-in-None-clause-there
+returns-in_err-table-in-None-clause-there g c = IfOk-from_err _ _ c.from_residual.ensures.0
+
+pub returns-in_err-table-in-None-clause-tables : goal.returns-in_err-table-in-None-clause-tables
+returns-in_err-table-in-None-clause-tables g c = IfOk-from_err _ _ c.from_residual.ensures.0
