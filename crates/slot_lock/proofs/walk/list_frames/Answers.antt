@@ -1,10 +1,38 @@
-use Rattle.slot_lock.proofs.Words.{◌+◌, ◌<◌, ◌++◌, ◌∷◌, [], sym, ◌∙◌, ap, subst, frame_of, get_or_default}
+use Rattle.slot_lock.proofs.Words.{arith, ◌+◌, ◌<◌, ◌++◌, ◌∷◌, [], sym, ◌∙◌, ap, subst, frame_of, get_or_default}
 use Rattle.slot_lock.specs.declared.slot.Slot.{Slot}
 use Rattle.slot_lock.specs.SlotList.{get_slot, empty_slot}
 use Rattle.slot_lock.proofs.Walks.{walk_more}
 use Rattle.slot_lock.proofs.Listing.{ListsTo, list_none, list_one, is_one}
 use Rattle.slot_lock.proofs.walk.list_frames.Goals.{in-Some+else-is_full, in_default}
 use Rattle.slot_lock.proofs.walk.list_frames.Goals as goal
+
+pub bounds-slots-i : goal.bounds-slots-i
+bounds-slots-i c = let within = c.slots.invariant.walk.within in omega (arith, within)
+
+pub bounds-slots-i-in-slots : goal.bounds-slots-i-in-slots
+bounds-slots-i-in-slots c = let within = c.slots.invariant.walk.within in omega (arith, within)
+
+pub bounds-slots-i-in-slots-2 : goal.bounds-slots-i-in-slots-2
+bounds-slots-i-in-slots-2 c = let within = c.slots.invariant.walk.within in omega (arith, within)
+
+pub bounds-slots-i-in-slots-3 : goal.bounds-slots-i-in-slots-3
+bounds-slots-i-in-slots-3 c = let within = c.slots.invariant.walk.within in omega (arith, within)
+
+pub bounds-slots-i-in-Some : goal.bounds-slots-i-in-Some
+bounds-slots-i-in-Some c = let within = c.slots.invariant.walk.within in omega (arith, within)
+
+pub bounds-slots-i-in-Some-2 : goal.bounds-slots-i-in-Some-2
+bounds-slots-i-in-Some-2 c = let within = c.slots.invariant.walk.within in omega (arith, within)
+
+pub returns-then-is_full-clause-high : goal.returns-then-is_full-clause-high
+returns-then-is_full-clause-high c =
+    let here = get_or_default c.args.slots.now c.slots.i c.index-slots-i.result empty_slot c.slots.invariant.walk.within in
+    let here_too = get_or_default c.args.slots.now c.slots.i c.index-slots-i-in-Some.result empty_slot c.slots.invariant.walk.within in
+    let below : (get_slot c.args.slots.now c.slots.i).start < c.args.end = rw here at c.slots-test.true in
+    rw here_too (omega (arith, below))
+
+pub slots-smaller : goal.slots-smaller
+slots-smaller c = let within = c.slots.invariant.walk.within in omega (arith, within)
 
 pub slots-preserved : goal.slots-preserved
 slots-preserved c =
