@@ -1,5 +1,5 @@
 //! A list of events, run on a new machine.
-ghost use Rattle.std.specs.Prelude.{◌≡◌, ◌≤◌, [], IfOk, IfErr, OnOk, length, vec_capacity};
+ghost use Rattle.std.specs.Prelude.{◌≡◌, ◌≤◌, ◌<◌, ◌⊎◌, [], IfOk, IfErr, OnOk, length, vec_capacity};
 ghost use Rattle.slot_lock.specs.Slots.{IsNew};
 ghost use Rattle.machine_model.specs.World.{new_world};
 ghost use Rattle.machine_model.specs.Step.{Run as RunsTo};
@@ -53,12 +53,32 @@ pub fn run<M: SlotMap + Drop, A: Allocator + Clone + Drop, L: Opening<A> + Drop>
         Ok(machine) => machine,
         Err(fault) => return Err(RunFault::Setup(fault)),
     };
-    let Ok(mut outcomes) = Vec::with_capacity(alloc, events.len()) else {
-        return Err(RunFault::NoMemory { at: events.len() });
-    };
-    match take_events(&mut machine, events, &mut outcomes) {
-        Ok(()) => Ok(Run { outcomes, machine }),
+    match outcomes_of(alloc, &mut machine, events) {
+        Ok(outcomes) => Ok(Run { outcomes, machine }),
         Err(at) => Err(RunFault::NoMemory { at }),
+    }
+}
+
+// The outcomes of all events, taken in order. Where one is refused for memory, its place is reported,
+// and where the list of outcomes finds no room, the number of events.
+fn outcomes_of<M: SlotMap, A: Allocator + Clone, L: Ledger>(
+    alloc: A,
+    machine: &mut Machine<M, A, L>,
+    events: &[Event],
+) -> Result<Vec<Outcome, A>, usize>
+    ensures run { IfOk result (λ outcomes. RunsTo (state machine.old) events.now outcomes.items (state machine.new)) }
+    ensures as_map { IfOk result (λ outcomes. RunsAsMap M.parts M.can_fold M.folds (state machine.old) events.now
+        outcomes.items (state machine.new)) }
+    ensures all { IfOk result (λ outcomes. length outcomes.items ≡ length events.now) }
+    ensures err { IfErr result (λ at. ((at ≡ length events.now) × (0 < length events.now))
+        ⊎ IsRefusedAt L.keeps (state machine.old) events.now at) }
+{
+    let Ok(mut outcomes) = Vec::with_capacity(alloc, events.len()) else {
+        return Err(events.len());
+    };
+    match take_events(machine, events, &mut outcomes) {
+        Ok(()) => Ok(outcomes),
+        Err(at) => Err(at),
     }
 }
 
