@@ -3,10 +3,12 @@ use Rattle.slot_lock.proofs.Words.{◌≡◌, ℕ, zero, suc, ◌+◌, ◌<◌, 
 use Rattle.slot_lock.proofs.Words.{Answers}
 use Rattle.std.proofs.Common.{slice_get}
 use Rattle.std.specs.Prelude.{get_or}
-use Rattle.vm_base.specs.Places.{PlaceRule}
+use Rattle.vm_base.specs.declared.replies.Reply.{Reply}
+use Rattle.vm_base.specs.Places.{IsFirstPlace, PlaceRule}
 use Rattle.audit.specs.declared.auditor.Call.{Call}
 use Rattle.audit.specs.declared.auditor.Wrong.{Wrong}
-use Rattle.audit.specs.Judging.{AreReplies, IsFirstWrong, IsGiven, IsWanting}
+use Rattle.audit.specs.declared.judging.ReplyVerdict.TheVariants.{Illegal}
+use Rattle.audit.specs.Judging.{AreReplies, IsFirstWrong, IsGiven, IsWanting, Judges}
 use Rattle.audit.specs.Placing.{rule_of}
 use Rattle.audit.proofs.Judged.{one_left}
 
@@ -36,6 +38,17 @@ wants_next rule t m u cs at c l is stays h given = record {
   is_call = call_at cs at c l is;
   before = subst (AreReplies rule t (take at cs)) (sym stays) h;
   given = subst (λ x. IsGiven rule x c.core c.request c.reply) (sym stays) given;
+}
+
+-- the next call's reply is wrong
+pub wrong_next : (rule : PlaceRule) (t m u : Plain) (cs : List Call) (at : ℕ) (c : Call) (due : Reply) → at < length cs → c ≡ get_or cs at c
+    → AreReplies rule t (take at cs) m → Judges rule m c.core c.request c.reply (Illegal due) u → IsFirstWrong rule t cs (record { at = at; due = due }) u
+wrong_next rule t m u cs at c due l is h judged = record {
+  call = c;
+  is_call = call_at cs at c l is;
+  before = subst (AreReplies rule t (take at cs)) (sym judged.2) h;
+  none = subst (λ x. (v : Plain) → ¬ Answers rule x c.core c.request c.reply v) (sym judged.2) judged.0;
+  due = subst (λ x. (v : Plain) × Answers IsFirstPlace x c.core c.request due v) (sym judged.2) judged.1;
 }
 
 -- the calls lead to one map
