@@ -6,3 +6,4 @@ pub mod Rows
 pub mod Lost
 pub mod Framing
 pub mod Writable
+pub mod Left

@@ -1,5 +1,26 @@
+use Rattle.core_steps.specs.State.{world}
 use Rattle.core_steps.proofs.at_once.AtOnce.{locks}
+use Rattle.core_steps.proofs.rows.Left.{left_valid}
 use Rattle.core_steps.proofs.engine.Engine.lock_slots.Goals as goal
+
+pub range-end-requires : goal.range-end-requires
+range-end-requires g c = c.requires.at.goal
+
+pub lock_run-run-requires-clause-ordered : goal.lock_run-run-requires-clause-ordered
+lock_run-run-requires-clause-ordered g c =
+    (left_valid (world g.M.SlotRead.slots c.args.self.now) c.args.core c.args.goal c.args.cursor c.range-end.result c.requires.at c.range-end.ensures.value
+    c.range-end.ensures.sound).0
+
+pub lock_run-run-requires-clause-valid : goal.lock_run-run-requires-clause-valid
+lock_run-run-requires-clause-valid g c =
+    (left_valid (world g.M.SlotRead.slots c.args.self.now) c.args.core c.args.goal c.args.cursor c.range-end.result c.requires.at c.range-end.ensures.value
+    c.range-end.ensures.sound).1
+
+pub locked_to-requires : goal.locked_to-requires
+locked_to-requires g c = c.requires.at.goal
+
+pub go_to-requires : goal.go_to-requires
+go_to-requires g c = c.requires.at.here
 
 pub returns : goal.returns
 returns g c =

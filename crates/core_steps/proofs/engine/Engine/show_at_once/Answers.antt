@@ -1,4 +1,4 @@
-use Rattle.machine_model.proofs.Words.{PageInfo, Some, ap, file_frame, subst, sym, translation_of, World, ◌∙◌}
+use Rattle.machine_model.proofs.Words.{PageInfo, Some, ap, file_frame, inr, subst, sym, translation_of, World, ◌∙◌}
 use Rattle.core_steps.specs.OnePage.{CanTake, cached_from}
 use Rattle.core_steps.specs.State.{world}
 use Rattle.core_steps.proofs.at_once.AtOnce.{passes_reached, stands}
@@ -7,6 +7,15 @@ use Rattle.core_steps.proofs.engine.Engine.show_at_once.Goals as goal
 
 pub cached_from-requires : goal.cached_from-requires
 cached_from-requires g c = reads_backing c.args.touch.access _ _ _ c.args.source c.requires.source
+
+pub show_with-requires-clause-here : goal.show_with-requires-clause-here
+show_with-requires-clause-here g c = c.requires.fault.here
+
+pub show_with-requires-clause-held : goal.show_with-requires-clause-held
+show_with-requires-clause-held g c = inr c.requires.fault.alone.free
+
+pub show_with-requires-clause-alone : goal.show_with-requires-clause-alone
+show_with-requires-clause-alone g c = c.requires.fault.alone.slot
 
 pub show_with-requires-clause-page : goal.show_with-requires-clause-page
 show_with-requires-clause-page g c =
