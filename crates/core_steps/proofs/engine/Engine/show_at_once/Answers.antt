@@ -1,5 +1,6 @@
-use Rattle.machine_model.proofs.Words.{PageInfo, Some, ap, file_frame, inr, subst, sym, translation_of, World, ◌∙◌}
-use Rattle.core_steps.specs.OnePage.{CanTake, cached_from}
+use Rattle.machine_model.proofs.Words.{PageInfo, Some, ap, arith, event_limit, file_frame, inr, length, subst, sym, translation_of, World, ◌+◌, ◌<◌, ◌∙◌}
+use Rattle.slot_lock.specs.Slots.{HasMeta}
+use Rattle.core_steps.specs.OnePage.{CanTake, HasRoom, cached_from}
 use Rattle.core_steps.specs.State.{world}
 use Rattle.core_steps.proofs.at_once.AtOnce.{passes_reached, stands}
 use Rattle.core_steps.proofs.at_once.FaultAtOnce.{can_take, ends, gets, reads_backing}
@@ -17,9 +18,24 @@ show_with-requires-clause-held g c = inr c.requires.fault.alone.free
 pub show_with-requires-clause-alone : goal.show_with-requires-clause-alone
 show_with-requires-clause-alone g c = c.requires.fault.alone.slot
 
+pub show_with-requires-clause-meta : goal.show_with-requires-clause-meta
+show_with-requires-clause-meta g c =
+    subst (λ o. HasMeta o c.shown-shown.result.meta) (sym c.requires.info) (ap (λ (i : PageInfo). i.meta) (sym c.shown-shown.ensures))
+
 pub show_with-requires-clause-page : goal.show_with-requires-clause-page
 show_with-requires-clause-page g c =
     (stands (world g.M.SlotRead.slots c.args.self.now) c.args.core _ c.requires.fault.here c.requires.fault.reached).goal.plan.page
+
+pub take_from-requires-clause-here : goal.take_from-requires-clause-here
+take_from-requires-clause-here g c = subst (λ calls. c.args.core < length calls.phases.items) (sym c.in-Ok.ensures.calls) c.requires.fault.here
+
+pub take_from-requires-clause-room : goal.take_from-requires-clause-room
+take_from-requires-clause-room g c =
+    subst (λ calls. HasRoom c.args.source (g.L.Ledger.limit calls.ledger) (g.L.Ledger.fits calls.ledger)) (sym c.in-Ok.ensures.calls) c.requires.log
+
+pub take_from-requires-clause-events : goal.take_from-requires-clause-events
+take_from-requires-clause-events g c =
+    let room = c.requires.fault.room in subst (λ calls. calls.events + 5 < event_limit) (sym c.in-Ok.ensures.calls) (omega (arith, room))
 
 pub take_from-requires-clause-page : goal.take_from-requires-clause-page
 take_from-requires-clause-page g c =
