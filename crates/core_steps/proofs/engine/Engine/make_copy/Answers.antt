@@ -1,5 +1,6 @@
-use Rattle.machine_model.proofs.Words.{refl, ap, inl, props, ◌∙◌, ∥∥₁_elim, frame_of, to}
+use Rattle.machine_model.proofs.Words.{refl, ap, inl, props, subst, sym, ◌<◌, ◌∙◌, ∥∥₁_elim, frame_of, to}
 use Rattle.machine_model.specs.declared.phase.Phase.TheVariants.{Install}
+use Rattle.slot_lock.specs.Slots.{HasMeta}
 use Rattle.core_steps.specs.State.{world}
 use Rattle.core_steps.proofs.rows.Framing.{copied_page, page_frame_used}
 use Rattle.core_steps.proofs.rows.Known.{order}
@@ -34,6 +35,12 @@ set_leaf-requires-clause-held g c = inl c.requires.at.page.held
 
 pub set_leaf-requires-clause-alone : goal.set_leaf-requires-clause-alone
 set_leaf-requires-clause-alone g c = c.requires.at.page.alone
+
+pub set_leaf-requires-clause-meta : goal.set_leaf-requires-clause-meta
+set_leaf-requires-clause-meta g c = subst (λ o. HasMeta o c.args.info.meta) (sym c.requires.page) refl
+
+pub go_to-requires : goal.go_to-requires
+go_to-requires g c = subst (λ n. c.args.core < n) (sym c.in_ok-log_detach.ensures.cores) c.requires.at.here
 
 pub returns-clause-err : goal.returns-clause-err
 returns-clause-err g c = tt
