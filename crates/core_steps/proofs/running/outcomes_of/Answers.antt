@@ -15,7 +15,12 @@ returns-in_default g c = record {
 }
 
 pub returns-in-Ok-take_events : goal.returns-in-Ok-take_events
-returns-in-Ok-take_events g c = record { run = c.in-Ok-take_events.ensures.run; as_map = c.in-Ok-take_events.ensures.as_map; all = c.in-Ok-take_events.ensures.all; err = tt }
+returns-in-Ok-take_events g c = record {
+  run = c.in-Ok-take_events.ensures.run;
+  as_map = c.in-Ok-take_events.ensures.as_map;
+  all = c.in-Ok-take_events.ensures.all;
+  err = tt;
+}
 
 pub returns-in-Err : goal.returns-in-Err
 returns-in-Err g c = record { run = tt; as_map = tt; all = tt; err = inr c.in-Err.ensures.err }

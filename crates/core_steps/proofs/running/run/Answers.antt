@@ -1,4 +1,4 @@
-use Rattle.machine_model.proofs.Words.{◌≡◌, ◌<◌, ◌⊎◌, length, refl, subst, new_world, Run}
+use Rattle.machine_model.proofs.Words.{◌≡◌, ◌<◌, ◌⊎◌, length, subst, new_world, Run}
 use Rattle.core_steps.specs.Running.{IsRefusedAt, RunsAsMap}
 use Rattle.machine_model.specs.Setups.{made_of}
 use Rattle.core_steps.specs.State.{world}

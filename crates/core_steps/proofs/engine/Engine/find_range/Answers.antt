@@ -1,4 +1,4 @@
-use Rattle.std.proofs.Common.{◌≡◌, ◌+◌, ◌*◌, ◌≤◌, ap, arith}
+use Rattle.std.proofs.Common.{◌+◌, ◌*◌, ◌≤◌, ap, arith}
 use Rattle.vm_base.specs.declared.page.PageRange.{PageRange}
 use Rattle.slot_lock.proofs.Changes.{sound_pages}
 use Rattle.slot_lock.proofs.Surveys.{survey_few}

@@ -66,7 +66,8 @@ fail_at_once-requires-clause-fails g c = λ m.
 pub show_at_once-requires-clause-fault : goal.show_at_once-requires-clause-fault
 show_at_once-requires-clause-fault g c =
     subst (λ w. IsFault (at_lock c.args.core c.args.touch w) c.args.core c.args.touch) (sym c.room_for.ensures.same)
-    (faulted (world g.M.SlotRead.slots c.args.self.now) c.args.core c.args.touch c.requires.here c.requires.reached c.in-Some.ensures.some.alone c.requires.room)
+    (faulted (world g.M.SlotRead.slots c.args.self.now) c.args.core c.args.touch c.requires.here c.requires.reached c.in-Some.ensures.some.alone
+    c.requires.room)
 
 pub show_at_once-requires-clause-untold : goal.show_at_once-requires-clause-untold
 show_at_once-requires-clause-untold g c = c.in-Some-source_of.ensures.untold

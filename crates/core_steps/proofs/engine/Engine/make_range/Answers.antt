@@ -1,4 +1,4 @@
-use Rattle.machine_model.proofs.Words.{◌+◌, ◌-◌, World, ap, arith, subst, sym}
+use Rattle.machine_model.proofs.Words.{◌-◌, World, ap, arith}
 use Rattle.refcache.specs.Parts.{counts_of}
 use Rattle.core_steps.specs.OnePage.{later}
 use Rattle.core_steps.specs.Parts.{parts}

@@ -1,5 +1,5 @@
 use Rattle.std.proofs.Common.{◌||◌, nat_lt}
-use Rattle.machine_model.proofs.Words.{◌≡◌, ℕ, ◌<◌, ◌≤◌, ◌^◌, Bool, true, false, None, Option, Some, arith, length, nat_tests, refl, if◌then◌else◌}
+use Rattle.machine_model.proofs.Words.{◌≡◌, ℕ, ◌≤◌, ◌^◌, Bool, true, false, None, Option, Some, arith, length, nat_tests, refl, if◌then◌else◌}
 use Rattle.machine_model.specs.declared.setup.CallLimit.TheVariants.{Long}
 use Rattle.machine_model.specs.declared.setup.Setup.{Setup}
 use Rattle.machine_model.specs.declared.setup.SetupFault.{SetupFault}
