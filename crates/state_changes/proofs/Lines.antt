@@ -24,7 +24,7 @@ use Rattle.trace.specs.Seen.{IsSeen, SeesAll}
 use Rattle.trace.specs.Stage.{CanOpen, Declared, Running, Stage, Start, new_machine}
 use Rattle.watched.specs.Watching.{GoesUntil, Watches}
 use Rattle.state_seen.specs.Shown.{Follows, Seen}
-use Rattle.state_text.specs.declared.counts.Form.TheVariants.{Text}
+use Rattle.state_text.specs.declared.form.Form.TheVariants.{Text}
 use Rattle.state_text.specs.Counts.{counts_text}
 use Rattle.state_text.proofs.New.{none_at_first}
 use Rattle.state_text.specs.Texts.{seen_text, state_text}
@@ -83,13 +83,13 @@ pub record FirstLines (n : ℕ) (lines : List (List ℕ)) (w : World) (ms : List
   pub run : Run w events outcomes to
   pub maps : List MapLine
   pub lists : ListsMaps to maps
-  pub shows : text_behind n lines ms text ≡ state_text (maps_text maps) to ++ counts_text Text to
+  pub shows : text_behind n lines ms text ≡ state_text Text (maps_text maps) to ++ counts_text Text to
 
 abbrev Knowing : Recorded → World → Type 0
 Knowing one w = Shows one w × Knows one.seen w
 
-at_once : (one : Recorded) (w : World) → one.seen.whole ≡ true → (k : Knowing one w) → one.text ≡ state_text (maps_text k.0.maps) w ++ counts_text Text w
-at_once one w whole k = k.0.is ∙ ap (λ l. l ++ counts_text Text w) (text_shown (maps_text k.0.maps) one.seen w (k.1 whole))
+at_once : (one : Recorded) (w : World) → one.seen.whole ≡ true → (k : Knowing one w) → one.text ≡ state_text Text (maps_text k.0.maps) w ++ counts_text Text w
+at_once one w whole k = k.0.is ∙ ap (λ l. l ++ counts_text Text w) (text_shown Text (maps_text k.0.maps) one.seen w (k.1 whole))
 
 same_front : (n : ℕ) (e : Event) (o : Outcome) → length (replicate n e) ≡ length (replicate n o)
 same_front zero e o = refl
@@ -203,8 +203,8 @@ unfolding maps_text
 begins_so one a fresh = record {
   maps = [];
   lists = none_mapped a;
-  is = fresh.text ∙ sym (append-nil (seen_text [] one.seen))
-      ∙ ap (λ l. seen_text [] one.seen ++ l) (sym (none_at_first Text (made_by a) new_tree));
+  is = fresh.text ∙ sym (append-nil (seen_text Text [] one.seen))
+      ∙ ap (λ l. seen_text Text [] one.seen ++ l) (sym (none_at_first Text (made_by a) new_tree));
 }
 
 still : (one r : Recorded) (w : World) (es : List Event) (os : List Outcome) → es ≡ [] → os ≡ [] → r ≡ one → Watches Records one w es os w r

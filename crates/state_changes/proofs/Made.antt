@@ -15,7 +15,7 @@ use Rattle.watched.specs.Watching.{GoesUntil, Watches}
 use Rattle.trace.specs.EventRuns.{Asks, AsksCall, AsksFinish}
 use Rattle.slot_lock.specs.declared.map_list.MapLine.{MapLine}
 use Rattle.core_steps.specs.MapLines.{ListsMaps}
-use Rattle.state_text.specs.declared.counts.Form.TheVariants.{Text}
+use Rattle.state_text.specs.declared.form.Form.TheVariants.{Text}
 use Rattle.state_text.specs.Counts.{counts_text}
 use Rattle.state_text.specs.Texts.{seen_text}
 use Rattle.trace_text.specs.Listing.{maps_text}
@@ -34,7 +34,7 @@ Marks (o ∷ os) [] = ⊥
 pub record Shows (r : Recorded) (w : World) : Type 0 where
   pub maps : List MapLine
   pub lists : ListsMaps w maps
-  pub is : r.text ≡ seen_text (maps_text maps) r.seen ++ counts_text Text w
+  pub is : r.text ≡ seen_text Text (maps_text maps) r.seen ++ counts_text Text w
 
 -- what was recorded of some steps, which led to this state
 pub record SinceOne (one : Recorded) (v : World) (other : Recorded) (os : List Outcome) : Type 0 where

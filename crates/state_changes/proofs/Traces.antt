@@ -12,8 +12,7 @@ use Rattle.trace_words.specs.Declarations.{DeclarationView, made_by}
 use Rattle.trace.specs.EventRuns.{AllAsk}
 use Rattle.trace.specs.Seen.{HasMachine, IsSeenWith, SeesAll}
 use Rattle.trace.specs.Stage.{CanOpen, Declared, Running, Stage, Start, new_machine}
-use Rattle.state_text.specs.declared.counts.Form.{Form}
-use Rattle.state_text.specs.declared.counts.Form.TheVariants.{Text}
+use Rattle.state_text.specs.declared.form.Form.{Form}
 use Rattle.state_text.specs.Counts.{counts_at, counts_text}
 use Rattle.state_text.proofs.New.{none_at_first}
 use Rattle.state_seen.specs.Shown.{Follows, IsNothing, IsShown, Seen}
@@ -26,28 +25,24 @@ use Rattle.state_text.proofs.Watched.{opening, run_of, text_shown, watched}
 no_steps : (w : World) (es : List Event) (os : List Outcome) → es ≡ [] → os ≡ [] → Run w es os w
 no_steps w es os e o = subst (λ x. Run w x os w) (sym e) (subst (λ x. Run w [] x w) (sym o) refl)
 
--- a state that the lines lead to, and its mappings, of which the text of what was seen and of the counts is this text
-abbrev Tells : Form → (List ℕ → Seen → List ℕ) → (List ℕ → World → List ℕ) → List (List ℕ) → List ℕ → Option World → Seen → Type 0
-Tells form seen state lines list machine r = (t : Told) × IsTold lines t
-    × (seen list r ++ counts_at form machine ≡ state (maps_text t.maps) t.world ++ counts_text form t.world)
+-- a state that the lines lead to, and its mappings, of which the text in this form is that of what was seen and of the counts
+abbrev Tells : Form → List (List ℕ) → List ℕ → Option World → Seen → Type 0
+Tells form lines list machine r = (t : Told) × IsTold lines t × (seen_text form list r ++ counts_at form machine ≡ told_text form t)
 
--- in any form in which what was seen of a state is written as the state
-pub seen_as : (form : Form) (seen : List ℕ → Seen → List ℕ) (state : List ℕ → World → List ℕ)
-    → ((maps : List ℕ) (r : Seen) (w : World) → IsShown r w → seen maps r ≡ state maps w)
-    → (one r : Seen) (machine : Option World) (input list : List ℕ) → IsNothing one
+pub seen_state : (form : Form) (one r : Seen) (machine : Option World) (input list : List ℕ) → IsNothing one
     → IsSeenWith Follows one r machine Maps input (Some []) (Some list)
-    → r.whole ≡ true → Tells form seen state (lines_of input) list machine r
-seen_as form seen state shown one r machine input list n s whole = go s.0 s.1 s.2.opens s.2.holds s.2.is
+    → r.whole ≡ true → Tells form (lines_of input) list machine r
+seen_state form one r machine input list n s whole = go s.0 s.1 s.2.opens s.2.holds s.2.is
   where
     start : (a : DeclarationView) → Knows one (new_machine a)
     start a = opening one (made_by a) new_tree new_tree_new n
 
-    both : (maps : List ℕ) (w : World) → seen list r ≡ state maps w → counts_at form machine ≡ counts_text form w
-        → seen list r ++ counts_at form machine ≡ state maps w ++ counts_text form w
-    both maps w e f = ap (λ l. l ++ counts_at form machine) e ∙ ap (λ l. state maps w ++ l) f
+    both : (maps : List ℕ) (w : World) → seen_text form list r ≡ state_text form maps w → counts_at form machine ≡ counts_text form w
+        → seen_text form list r ++ counts_at form machine ≡ state_text form maps w ++ counts_text form w
+    both maps w e f = ap (λ l. l ++ counts_at form machine) e ∙ ap (λ l. state_text form maps w ++ l) f
 
     go : (stage : Stage) → HasMachine stage machine → CanOpen stage → SeesAll Follows one stage (lines_of input) s.2.text r
-        → IsBehind Maps stage s.2.behind → Tells form seen state (lines_of input) list machine r
+        → IsBehind Maps stage s.2.behind → Tells form (lines_of input) list machine r
     go (Start limit) has can h behind = absurd can
     go (Declared limit a) has can (es, os, asks, l) (maps, lists, text) =
         let fresh : Knows r (new_machine a) = subst (λ x. Knows x (new_machine a)) (sym l.2) (start a) in (
@@ -59,7 +54,7 @@ seen_as form seen state shown one r machine input list n s whole = go s.0 s.1 s.
             maps = lists;
           },
           both (maps_text maps) (new_machine a)
-              (ap (λ t. seen t r) (s.2.appends ∙ text) ∙ shown (maps_text maps) r (new_machine a) (fresh whole))
+              (ap (λ t. seen_text form t r) (s.2.appends ∙ text) ∙ text_shown form (maps_text maps) r (new_machine a) (fresh whole))
               (ap (counts_at form) has ∙ sym (none_at_first form (made_by a) new_tree)),
         )
     go (Running w) has can (es, os, asks, l) (maps, lists, text) = (
@@ -78,11 +73,6 @@ seen_as form seen state shown one r machine input list n s whole = go s.0 s.1 s.
         maps = lists;
       },
       both (maps_text maps) w
-          (ap (λ t. seen t r) (s.2.appends ∙ text) ∙ shown (maps_text maps) r w (watched one (new_machine l.0) es os w r l.1 (start l.0) whole))
+          (ap (λ t. seen_text form t r) (s.2.appends ∙ text) ∙ text_shown form (maps_text maps) r w (watched one (new_machine l.0) es os w r l.1 (start l.0) whole))
           (ap (counts_at form) has),
     )
-
-pub seen_state : (one r : Seen) (machine : Option World) (input list : List ℕ) → IsNothing one
-    → IsSeenWith Follows one r machine Maps input (Some []) (Some list)
-    → r.whole ≡ true → (t : Told) × IsTold (lines_of input) t × (seen_text list r ++ counts_at Text machine ≡ told_text t)
-seen_state = seen_as Text seen_text state_text text_shown

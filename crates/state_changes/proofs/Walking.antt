@@ -3,6 +3,7 @@ use Rattle.std.proofs.Common.{◌≡◌, ℕ, zero, suc, ◌+◌, ◌<◌, List,
 use Rattle.std.specs.declared.alloc.Global.{Global}
 use Rattle.state_changes.specs.Applied.{Differs, applied}
 use Rattle.trace_io.specs.Lines.{lines_of}
+use Rattle.state_text.specs.declared.form.Form.TheVariants.{Text}
 use Rattle.state_text.specs.Traces.{told_text}
 use Rattle.state_changes.specs.Pages.{ShowsStates, all_changed, text_behind}
 use Rattle.state_changes.specs.Recorded.{MomentOf, Recorded}
@@ -98,7 +99,7 @@ changes_said lines r texts s h = record {
   behind = λ n. (s n).0;
   told = λ n. (s n).1;
   all = h.all;
-  says = λ n k. subst (λ t. SaysDifference (text_at n texts) t (told_text (s (suc n)).0)) (s n).2
+  says = λ n k. subst (λ t. SaysDifference (text_at n texts) t (told_text Text (s (suc n)).0)) (s n).2
       (subst (λ t. SaysDifference (text_at n texts) (text_behind n lines r.moments r.first) t) (s (suc n)).2 (h.says n k));
 }
 

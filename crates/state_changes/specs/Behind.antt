@@ -1,5 +1,6 @@
 -- What each line of a trace changes in the text of the state
 use Rattle.std.specs.Prelude.{◌≡◌, ℕ, suc, ◌<◌, List, length, take}
+use Rattle.state_text.specs.declared.form.Form.TheVariants.{Text}
 use Rattle.state_text.specs.Traces.{Told, told_text}
 use Rattle.state_changes.specs.Leads.{IsTold}
 use Rattle.state_changes.specs.Marks.{SaysDifference}
@@ -19,4 +20,4 @@ pub record SaysChanges (lines texts : List (List ℕ)) : Type 0 where
   pub behind : ℕ → Told
   pub told : (n : ℕ) → IsTold (take n lines) (behind n)
   pub all : length texts ≡ length lines
-  pub says : (n : ℕ) → n < length lines → SaysDifference (text_at n texts) (told_text (behind n)) (told_text (behind (suc n)))
+  pub says : (n : ℕ) → n < length lines → SaysDifference (text_at n texts) (told_text Text (behind n)) (told_text Text (behind (suc n)))

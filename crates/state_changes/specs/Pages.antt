@@ -1,5 +1,6 @@
 -- What a page shows
 use Rattle.std.specs.Prelude.{◌≡◌, ℕ, List, [], ◌∷◌, take, drop, zero, suc}
+use Rattle.state_text.specs.declared.form.Form.TheVariants.{Text}
 use Rattle.state_text.specs.Traces.{Told, told_text}
 use Rattle.state_changes.specs.Leads.{IsTold}
 use Rattle.state_changes.specs.Recorded.{MomentOf, Recorded, changed}
@@ -18,4 +19,4 @@ text_behind (suc n) (l ∷ ls) ms text = text_behind n ls (drop (span_of l ms) m
 
 -- behind each line that is the text of the state to which the lines up to there lead, and of its mappings, which `state --at` writes
 abbrev pub ShowsStates : List (List ℕ) → Recorded → Type 0
-ShowsStates lines r = (n : ℕ) → (t : Told) × IsTold (take n lines) t × (text_behind n lines r.moments r.first ≡ told_text t)
+ShowsStates lines r = (n : ℕ) → (t : Told) × IsTold (take n lines) t × (text_behind n lines r.moments r.first ≡ told_text Text t)

@@ -7,7 +7,7 @@ use Rattle.machine_model.specs.declared.event.Outcome.TheVariants.{Stepped}
 use Rattle.state_changes.specs.Applied.{Differs, applied}
 use Rattle.slot_lock.specs.declared.map_list.MapLine.{MapLine}
 use Rattle.core_steps.specs.MapLines.{ListsMaps}
-use Rattle.state_text.specs.declared.counts.Form.TheVariants.{Text}
+use Rattle.state_text.specs.declared.form.Form.TheVariants.{Text}
 use Rattle.state_text.specs.Counts.{counts_text}
 use Rattle.state_seen.specs.Shown.{Follows, IsNothing, Seen}
 use Rattle.state_text.specs.Texts.{seen_text}
@@ -36,8 +36,8 @@ pub record Recorded : Type 0 where
 pub record IsFresh (r : Recorded) : Type 0 where
   pub whole : r.whole ≡ true
   pub seen : IsNothing r.seen
-  pub first : r.first ≡ seen_text [] r.seen
-  pub text : r.text ≡ seen_text [] r.seen
+  pub first : r.first ≡ seen_text Text [] r.seen
+  pub text : r.text ≡ seen_text Text [] r.seen
   pub moments : r.moments ≡ []
 
 -- the text that this step makes of it
@@ -53,7 +53,7 @@ pub record HasAdded (goes : Bool) (v : World) (one other : Recorded) : Type 0 wh
   pub changes : changed one.text moment ≡ other.text
   pub maps : List MapLine
   pub lists : ListsMaps v maps
-  pub shows : other.text ≡ seen_text (maps_text maps) other.seen ++ counts_text Text v
+  pub shows : other.text ≡ seen_text Text (maps_text maps) other.seen ++ counts_text Text v
 
 -- what is recorded after the step, where there was memory
 pub record Records (one : Recorded) (w : World) (e : Event) (o : Outcome) (v : World) (other : Recorded) : Type 0 where

@@ -3,7 +3,7 @@ ghost use Rattle.std.specs.Prelude.{◌≡◌, ◌++◌, [], IfOk, true};
 ghost use Rattle.state_changes.specs.Applied.{Differs};
 ghost use Rattle.core_steps.specs.Machine.{state};
 ghost use Rattle.state_text.specs.Counts.{counts_text};
-ghost use Rattle.state_text.specs.declared.counts.Form.TheVariants.{Text};
+ghost use Rattle.state_text.specs.declared.form.Form.TheVariants.{Text};
 ghost use Rattle.state_text.specs.Texts.{seen_text};
 ghost use Rattle.state_changes.specs.Recorded.{Recorded, Records, HasAdded, IsFresh, MomentOf, goes_on};
 
@@ -93,10 +93,10 @@ fn goes_on(outcome: &Outcome) -> bool
 
 // The text of what was seen before the first step, when nothing was mapped and nothing counted.
 fn first_text(alloc: Global, mirror: &Mirror<Global>) -> Result<Vec<u8>, AllocError>
-    ensures { IfOk result (λ text. text.items ≡ seen_text [] mirror.now) }
+    ensures { IfOk result (λ text. text.items ≡ seen_text Text [] mirror.now) }
 {
     let mut text = Vec::new(alloc);
-    put_state(&mut text, mirror, b"")?;
+    put_state(&mut text, Form::Text, mirror, b"")?;
     Ok(text)
 }
 
@@ -107,10 +107,10 @@ fn text_of<M: SlotMap, A: Allocator + Clone, L: Ledger>(
     maps: &[u8],
     machine: &Machine<M, A, L>,
 ) -> Result<Vec<u8>, AllocError>
-    ensures { IfOk result (λ text. text.items ≡ seen_text maps.now mirror.now ++ counts_text Text (state machine.now)) }
+    ensures { IfOk result (λ text. text.items ≡ seen_text Text maps.now mirror.now ++ counts_text Text (state machine.now)) }
 {
     let mut text = Vec::new(alloc);
-    put_state(&mut text, mirror, maps)?;
+    put_state(&mut text, Form::Text, mirror, maps)?;
     put_counts(&mut text, Form::Text, machine)?;
     Ok(text)
 }

@@ -1,16 +1,15 @@
 -- The pages that are shown as held are those that a call holds, and these its core owns.
 use Rattle.machine_model.proofs.Words.{◌≡◌, ◌≢◌, ℕ, ◌+◌, ◌<◌, ◌≤◌, ◌==◌, ◌&&◌, Bool, true, false, refl, sym, ap, ◌∙◌, arith, nat_le, nat_lt, nat_tests}
-use Rattle.machine_model.proofs.Words.{Some, None, Option, has, PageRange, Touch, Goal, World, page_of_touch}
+use Rattle.machine_model.proofs.Words.{Some, has, PageRange, Touch, Goal, World, page_of_touch}
 use Rattle.machine_model.specs.declared.phase.Phase.{Phase}
 use Rattle.std.specs.Prelude.{if◌then◌else◌, ◌↔◌}
 use Rattle.slot_lock.specs.declared.plan.Goal.TheVariants as To
-use Rattle.slot_lock.specs.Plan.{goal_range, range_of, target_range}
+use Rattle.slot_lock.specs.Plan.{goal_range}
 use Rattle.machine_model.specs.Holding.{holds}
 use Rattle.machine_model.specs.declared.phase.Phase.TheVariants as At
 use Rattle.machine_model.specs.Sound.{IsReached}
 use Rattle.machine_model.proofs.SoundKept.{reached_fine}
-use Rattle.state_text.specs.declared.words.WorkPages.{WorkPages}
-use Rattle.state_text.specs.declared.words.WorkPages.TheVariants.{Nowhere, Page, Pages}
+use Rattle.state_text.specs.declared.words.WorkPages.TheVariants.{Nowhere, Pages}
 use Rattle.state_text.specs.Words.{goal_spot, held_spot, pages_if, spot_has}
 
 some_pages : (r : PageRange) (p : ℕ) → spot_has (pages_if r) p ≡ has r p

@@ -1,9 +1,6 @@
-pub mod CountJoined
 pub mod FrontLines
 pub mod Holding
 pub mod Joined
 pub mod Members
 pub mod New
-pub mod ObjectsShown
-pub mod PageJoined
 pub mod Watched

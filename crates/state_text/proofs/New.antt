@@ -3,9 +3,8 @@ use Rattle.std.proofs.Common.{◌≡◌, ℕ, ◌<◌, Bool, true, false, cond, 
 use Rattle.std.proofs.lemmas.Bool.Decides.{nat_tests}
 use Rattle.machine_model.specs.World.{Made, World, new_world}
 use Rattle.slot_lock.specs.Slots.{Slots}
-use Rattle.state_seen.specs.PageTexts.{texts_below}
 use Rattle.state_seen.proofs.PageTexts.{empty_below}
-use Rattle.state_text.specs.declared.counts.Form.{Form}
+use Rattle.state_text.specs.declared.form.Form.{Form}
 use Rattle.state_text.specs.Counts.{core_counts, counts_text, delta_text, frame_counts, used_text}
 
 abbrev new : Made → Slots → World

@@ -1,7 +1,7 @@
 -- Who watches each step from the first on knows the state.
 use Rattle.machine_model.proofs.Words.{◌≡◌, ◌≢◌, arith, core_of, nat_tests, Some, ℕ, ◌<◌, ◌==◌, Bool, true, false, cond, refl, sym, ap, subst, ◌∙◌, List, [], ◌∷◌, ◌++◌, nat_lt}
 use Rattle.machine_model.proofs.Words.{put, eq_true, has, None, Option, Translation, Message, asked, members}
-use Rattle.machine_model.proofs.Words.{PageRange, World, Made, Slots, new_world, Step, Run}
+use Rattle.machine_model.proofs.Words.{World, Made, Slots, new_world, Step, Run}
 use Rattle.machine_model.specs.declared.event.Event.{Event}
 use Rattle.machine_model.specs.declared.event.Outcome.{Outcome}
 use Rattle.machine_model.specs.declared.event.Outcome.TheVariants.{Stepped, Full, Idle, Wait, Answered}
@@ -28,10 +28,11 @@ use Rattle.state_seen.specs.Lists.{at_page}
 use Rattle.state_seen.specs.PageTexts.{pages_text, texts_below}
 use Rattle.state_seen.proofs.PageTexts.{pages_same, texts_same}
 use Rattle.state_seen.specs.declared.used.Used.{Used}
-use Rattle.state_text.specs.PageTexts.{used_line}
+use Rattle.state_text.specs.declared.form.Form.{Form}
+use Rattle.state_text.specs.PageTexts.{mappings_text, used_line}
 use Rattle.state_seen.specs.Used.{used_in, used_of}
 use Rattle.slot_lock.specs.Slots.{IsNew}
-use Rattle.state_text.specs.Texts.{core_text, epoch_line, message_line, seen_core, seen_text, state_text, table_line, table_text}
+use Rattle.state_text.specs.Texts.{core_text, epoch_line, message_line, seen_core, seen_text, state_text, table_line}
 use Rattle.state_text.specs.Texts.{tlb_line, work_text}
 use Rattle.state_seen.proofs.Phases.{step_stays}
 use Rattle.state_seen.proofs.Steps.{step_kept}
@@ -181,20 +182,23 @@ opening r made slots new n whole = record {
 
 -- ---- texts
 
-core_same : (c : ℕ) (phase : Phase) (h : Holds) (t u : ℕ → Option Translation) → ((p : ℕ) → t p ≡ u p) → core_text c phase h t ≡ core_text c phase h u
-core_same c phase h t u same =
-    ap (λ l. work_text c phase ++ flat_map (tlb_line c h.inbox) h.tlb ++ l ++ flat_map (message_line c) h.inbox)
-    (pages_same (table_line c h.inbox) t u same)
+core_same : (form : Form) (c : ℕ) (phase : Phase) (h : Holds) (t u : ℕ → Option Translation) → ((p : ℕ) → t p ≡ u p) → core_text form c phase h t ≡ core_text form c phase h u
+core_same form c phase h t u same =
+    ap (λ l. work_text form c phase ++ flat_map (tlb_line form c h.inbox) h.tlb ++ l ++ flat_map (message_line form c) h.inbox)
+    (pages_same (table_line form c h.inbox) t u same)
 
-pub text_shown : (maps : List ℕ) (r : Seen) (w : World) → IsShown r w → seen_text maps r ≡ state_text maps w
-text_shown maps r w k =
-    ap (λ n. epoch_line n ++ texts_below (seen_core r.phases r.cores r.tables) 64 ++ maps ++ pages_text used_line (at_page r.pages)) k.epoch
-    ∙ ap (λ l. epoch_line w.memory.counts.epoch ++ l ++ maps ++ pages_text used_line (at_page r.pages))
-    (texts_same (seen_core r.phases r.cores r.tables) (λ c. core_text c (phase_in w c) (holds_of w c) (w.hardware.table c)) 64 each)
-    ∙ ap (λ l. epoch_line w.memory.counts.epoch ++ texts_below (λ c. core_text c (phase_in w c) (holds_of w c) (w.hardware.table c)) 64
-    ++ maps ++ l) (pages_same used_line (at_page r.pages) (used_in w) k.pages)
+pub text_shown : (form : Form) (maps : List ℕ) (r : Seen) (w : World) → IsShown r w → seen_text form maps r ≡ state_text form maps w
+text_shown form maps r w k =
+    ap (λ n. epoch_line form n ++ texts_below (seen_core form r.phases r.cores r.tables) 64 ++ mapped ++ pages_text (used_line form) (at_page r.pages)) k.epoch
+    ∙ ap (λ l. epoch_line form w.memory.counts.epoch ++ l ++ mapped ++ pages_text (used_line form) (at_page r.pages))
+    (texts_same (seen_core form r.phases r.cores r.tables) (λ c. core_text form c (phase_in w c) (holds_of w c) (w.hardware.table c)) 64 each)
+    ∙ ap (λ l. epoch_line form w.memory.counts.epoch ++ texts_below (λ c. core_text form c (phase_in w c) (holds_of w c) (w.hardware.table c)) 64
+    ++ mapped ++ l) (pages_same (used_line form) (at_page r.pages) (used_in w) k.pages)
   where
-    each : (c : ℕ) → c < 64 → seen_core r.phases r.cores r.tables c ≡ core_text c (phase_in w c) (holds_of w c) (w.hardware.table c)
-    each c lt = ap (λ p. core_text c p (held r.cores c) (table_at r.tables c)) (k.phases c lt)
-        ∙ ap (λ h. core_text c (phase_in w c) h (table_at r.tables c)) (k.holds c lt)
-        ∙ core_same c (phase_in w c) (holds_of w c) (table_at r.tables c) (w.hardware.table c) (λ p. k.tables c p lt)
+    mapped : List ℕ
+    mapped = mappings_text form maps
+
+    each : (c : ℕ) → c < 64 → seen_core form r.phases r.cores r.tables c ≡ core_text form c (phase_in w c) (holds_of w c) (w.hardware.table c)
+    each c lt = ap (λ p. core_text form c p (held r.cores c) (table_at r.tables c)) (k.phases c lt)
+        ∙ ap (λ h. core_text form c (phase_in w c) h (table_at r.tables c)) (k.holds c lt)
+        ∙ core_same form c (phase_in w c) (holds_of w c) (table_at r.tables c) (w.hardware.table c) (λ p. k.tables c p lt)

@@ -5,8 +5,8 @@ use Rattle.refcache.specs.Counts.{true_count}
 use Rattle.refcache.specs.declared.reports.Queued.{Queued}
 use Rattle.machine_model.specs.World.{World}
 use Rattle.state_seen.specs.PageTexts.{texts_below}
-use Rattle.state_text.specs.declared.counts.Form.{Form}
-use Rattle.state_text.specs.declared.counts.Form.TheVariants.{Json, Text}
+use Rattle.state_text.specs.declared.form.Form.{Form}
+use Rattle.state_text.specs.declared.form.Form.TheVariants.{Json, Text}
 
 -- what stands before a number's digits, and the same where what is no less than 0 has a sign, too
 abbrev pub minus : ℤ → List ℕ
@@ -16,34 +16,22 @@ abbrev pub sign : ℤ → List ℕ
 sign z = cond (int_lt z (pos 0)) (codes "-") (codes "+")
 
 -- a core has this to add to the frame's global count
-unfoldable pub delta_words : ℕ → ℕ → ℤ → List ℕ
-delta_words c f z = concat (codes "core " ∷ decimal c ∷ codes " count frame " ∷ decimal f ∷ codes " " ∷ sign z
+unfoldable pub delta_line : Form → ℕ → ℕ → ℤ → List ℕ
+delta_line Text c f z = concat (codes "core " ∷ decimal c ∷ codes " count frame " ∷ decimal f ∷ codes " " ∷ sign z
     ∷ decimal (unsigned_abs z) ∷ codes "\n" ∷ [])
-
-unfoldable pub delta_object : ℕ → ℕ → ℤ → List ℕ
-delta_object c f z = concat (codes "{\"core\":" ∷ decimal c ∷ codes ",\"count\":" ∷ minus z ∷ decimal (unsigned_abs z)
+delta_line Json c f z = concat (codes "{\"core\":" ∷ decimal c ∷ codes ",\"count\":" ∷ minus z ∷ decimal (unsigned_abs z)
     ∷ codes ",\"frame\":" ∷ decimal f ∷ codes "}\n" ∷ [])
-
-abbrev pub delta_line : Form → ℕ → ℕ → ℤ → List ℕ
-delta_line Text = delta_words
-delta_line Json = delta_object
 
 abbrev pub delta_text : Form → ℕ → ℕ → Option ℤ → List ℕ
 delta_text form c f None = []
 delta_text form c f (Some z) = delta_line form c f z
 
 -- a core is to review the frame, which was put into its queue in this epoch
-unfoldable pub queue_words : ℕ → Queued → List ℕ
-queue_words c q = concat (codes "core " ∷ decimal c ∷ codes " queue frame " ∷ decimal q.object ∷ codes " epoch "
+unfoldable pub queue_line : Form → ℕ → Queued → List ℕ
+queue_line Text c q = concat (codes "core " ∷ decimal c ∷ codes " queue frame " ∷ decimal q.object ∷ codes " epoch "
     ∷ decimal q.epoch ∷ codes "\n" ∷ [])
-
-unfoldable pub queue_object : ℕ → Queued → List ℕ
-queue_object c q = concat (codes "{\"core\":" ∷ decimal c ∷ codes ",\"queue\":" ∷ decimal q.object ∷ codes ",\"epoch\":"
+queue_line Json c q = concat (codes "{\"core\":" ∷ decimal c ∷ codes ",\"queue\":" ∷ decimal q.object ∷ codes ",\"epoch\":"
     ∷ decimal q.epoch ∷ codes "}\n" ∷ [])
-
-abbrev pub queue_line : Form → ℕ → Queued → List ℕ
-queue_line Text = queue_words
-queue_line Json = queue_object
 
 -- a core has flushed all its counts in the present epoch
 unfoldable pub flushed_line : Form → ℕ → List ℕ

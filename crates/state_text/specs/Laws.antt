@@ -7,6 +7,7 @@ use Rattle.slot_lock.specs.Slots.{IsNew, Slots}
 use Rattle.machine_model.specs.Sound.{IsReached}
 use Rattle.watched.specs.Watching.{Watches}
 use Rattle.state_seen.specs.Shown.{Follows, IsNothing, IsShown, Seen}
+use Rattle.state_text.specs.declared.form.Form.{Form}
 use Rattle.state_text.specs.Texts.{seen_text, state_text}
 use Rattle.state_text.specs.Words.{held_spot, spot_has}
 
@@ -23,7 +24,7 @@ abbrev pub AllOpeningsAreKnown : Type 0
 AllOpeningsAreKnown = (r : Seen) (made : Made) (slots : Slots) → IsNew slots → IsNothing r → Knows r (new_world made slots)
 
 abbrev pub AllTextsAreTheStates : Type 0
-AllTextsAreTheStates = (maps : List ℕ) (r : Seen) (w : World) → IsShown r w → seen_text maps r ≡ state_text maps w
+AllTextsAreTheStates = (form : Form) (maps : List ℕ) (r : Seen) (w : World) → IsShown r w → seen_text form maps r ≡ state_text form maps w
 
 -- in a reached state a core owns just the pages that are shown of its call
 abbrev pub AllHeldAreOwned : Type 0

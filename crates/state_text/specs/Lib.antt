@@ -1,10 +1,8 @@
 pub mod CountLaws
 pub mod Counts
+pub mod Forms
 pub mod Fronts
-pub mod JsonLaws
 pub mod Laws
-pub mod Objects
-pub mod PageObjects
 pub mod PageTexts
 pub mod Texts
 pub mod Traces

@@ -3,9 +3,10 @@ ghost use Rattle.std.specs.Prelude.{◌≡◌, ◌<◌, ◌++◌, [], cond, opti
 ghost use Rattle.std.specs.List.{flat_map};
 ghost use Rattle.core_steps.specs.Machine.{state};
 ghost use Rattle.state_seen.specs.PageTexts.{texts_below};
-ghost use Rattle.state_text.specs.Counts.{core_counts, counts_at, counts_text, delta_line, delta_object, delta_text, delta_words, dirty_word, flushed_line};
-ghost use Rattle.state_text.specs.Counts.{flushed_text, frame_counts, frame_line, minus, queue_line, queue_object, queue_words, sign, used_text};
+ghost use Rattle.state_text.specs.Counts.{core_counts, counts_at, counts_text, delta_line, delta_text, dirty_word, flushed_line};
+ghost use Rattle.state_text.specs.Counts.{flushed_text, frame_counts, frame_line, minus, queue_line, sign, used_text};
 
+use crate::form::{Form, core_word, end_word};
 use core_steps::Machine;
 use machine_log::Ledger;
 use refcache::Queued;
@@ -13,15 +14,6 @@ use slot_lock::SlotMap;
 use std::alloc::{AllocError, Allocator};
 use trace_text::pieces::{Piece, put_all};
 use vm_base::CoreId;
-
-/// How the counts are written.
-#[derive(Clone, Copy)]
-pub enum Form {
-    /// A line of words for each.
-    Text,
-    /// A JSON object a line.
-    Json,
-}
 
 // What stands before a number's digits.
 fn minus(number: i64) -> &'static str
@@ -37,57 +29,8 @@ fn sign(number: i64) -> &'static str
     if number < 0 { "-" } else { "+" }
 }
 
-// Appends in words what a core has to add to the frame's global count.
-#[tactic(auto, unfolding(crate::specs::Counts::delta_words))]
-fn put_delta_words(
-    out: &mut Vec<u8>,
-    core: CoreId,
-    frame: u32,
-    delta: i64,
-) -> Result<(), AllocError>
-    ensures { OnOk result (out.new.items ≡ out.old.items ++ delta_words core frame delta) }
-{
-    put_all(
-        out,
-        &[
-            Piece::Words("core "),
-            Piece::Core(core),
-            Piece::Words(" count frame "),
-            Piece::Number(u64::from(frame)),
-            Piece::Words(" "),
-            Piece::Words(sign(delta)),
-            Piece::Number(delta.unsigned_abs()),
-            Piece::Words("\n"),
-        ],
-    )
-}
-
-// The same as an object.
-#[tactic(auto, unfolding(crate::specs::Counts::delta_object))]
-fn put_delta_object(
-    out: &mut Vec<u8>,
-    core: CoreId,
-    frame: u32,
-    delta: i64,
-) -> Result<(), AllocError>
-    ensures { OnOk result (out.new.items ≡ out.old.items ++ delta_object core frame delta) }
-{
-    put_all(
-        out,
-        &[
-            Piece::Words("{\"core\":"),
-            Piece::Core(core),
-            Piece::Words(",\"count\":"),
-            Piece::Words(minus(delta)),
-            Piece::Number(delta.unsigned_abs()),
-            Piece::Words(",\"frame\":"),
-            Piece::Number(u64::from(frame)),
-            Piece::Words("}\n"),
-        ],
-    )
-}
-
-// The same in this form.
+// Appends what a core has to add to the frame's global count.
+#[tactic(auto, unfolding(crate::specs::Counts::delta_line))]
 fn put_delta_line(
     out: &mut Vec<u8>,
     form: Form,
@@ -98,8 +41,32 @@ fn put_delta_line(
     ensures { OnOk result (out.new.items ≡ out.old.items ++ delta_line form core frame delta) }
 {
     match form {
-        Form::Text => put_delta_words(out, core, frame, delta),
-        Form::Json => put_delta_object(out, core, frame, delta),
+        Form::Text => put_all(
+            out,
+            &[
+                Piece::Words("core "),
+                Piece::Core(core),
+                Piece::Words(" count frame "),
+                Piece::Number(u64::from(frame)),
+                Piece::Words(" "),
+                Piece::Words(sign(delta)),
+                Piece::Number(delta.unsigned_abs()),
+                Piece::Words("\n"),
+            ],
+        ),
+        Form::Json => put_all(
+            out,
+            &[
+                Piece::Words("{\"core\":"),
+                Piece::Core(core),
+                Piece::Words(",\"count\":"),
+                Piece::Words(minus(delta)),
+                Piece::Number(delta.unsigned_abs()),
+                Piece::Words(",\"frame\":"),
+                Piece::Number(u64::from(frame)),
+                Piece::Words("}\n"),
+            ],
+        ),
     }
 }
 
@@ -155,45 +122,7 @@ fn put_deltas<M: SlotMap, A: Allocator + Clone, L: Ledger>(
     Ok(())
 }
 
-// Appends in words a frame that the core is to review.
-#[tactic(auto, unfolding(crate::specs::Counts::queue_words))]
-fn put_queued_words(out: &mut Vec<u8>, core: CoreId, queued: &Queued) -> Result<(), AllocError>
-    ensures { OnOk result (out.new.items ≡ out.old.items ++ queue_words core queued.now) }
-{
-    put_all(
-        out,
-        &[
-            Piece::Words("core "),
-            Piece::Core(core),
-            Piece::Words(" queue frame "),
-            Piece::Number(u64::from(queued.object)),
-            Piece::Words(" epoch "),
-            Piece::Number(queued.epoch),
-            Piece::Words("\n"),
-        ],
-    )
-}
-
-// The same as an object.
-#[tactic(auto, unfolding(crate::specs::Counts::queue_object))]
-fn put_queued_object(out: &mut Vec<u8>, core: CoreId, queued: &Queued) -> Result<(), AllocError>
-    ensures { OnOk result (out.new.items ≡ out.old.items ++ queue_object core queued.now) }
-{
-    put_all(
-        out,
-        &[
-            Piece::Words("{\"core\":"),
-            Piece::Core(core),
-            Piece::Words(",\"queue\":"),
-            Piece::Number(u64::from(queued.object)),
-            Piece::Words(",\"epoch\":"),
-            Piece::Number(queued.epoch),
-            Piece::Words("}\n"),
-        ],
-    )
-}
-
-// The same in this form.
+// Appends a frame that the core is to review.
 fn put_queued(
     out: &mut Vec<u8>,
     form: Form,
@@ -202,10 +131,22 @@ fn put_queued(
 ) -> Result<(), AllocError>
     ensures { OnOk result (out.new.items ≡ out.old.items ++ queue_line form core queued.now) }
 {
-    match form {
-        Form::Text => put_queued_words(out, core, queued),
-        Form::Json => put_queued_object(out, core, queued),
-    }
+    let (words, since) = match form {
+        Form::Text => (" queue frame ", " epoch "),
+        Form::Json => (",\"queue\":", ",\"epoch\":"),
+    };
+    put_all(
+        out,
+        &[
+            Piece::Words(core_word(form)),
+            Piece::Core(core),
+            Piece::Words(words),
+            Piece::Number(u64::from(queued.object)),
+            Piece::Words(since),
+            Piece::Number(queued.epoch),
+            Piece::Words(end_word(form)),
+        ],
+    )
 }
 
 // Appends frames that the core is to review.
@@ -255,24 +196,18 @@ fn put_flushed(
     if !has_flushed {
         return Ok(());
     }
-    match form {
-        Form::Text => put_all(
-            out,
-            &[
-                Piece::Words("core "),
-                Piece::Core(core),
-                Piece::Words(" flushed\n"),
-            ],
-        ),
-        Form::Json => put_all(
-            out,
-            &[
-                Piece::Words("{\"core\":"),
-                Piece::Core(core),
-                Piece::Words(",\"flushed\":true}\n"),
-            ],
-        ),
-    }
+    let flushed = match form {
+        Form::Text => " flushed\n",
+        Form::Json => ",\"flushed\":true}\n",
+    };
+    put_all(
+        out,
+        &[
+            Piece::Words(core_word(form)),
+            Piece::Core(core),
+            Piece::Words(flushed),
+        ],
+    )
 }
 
 // Appends the counts of a core.

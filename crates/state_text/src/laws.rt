@@ -2,7 +2,7 @@
 ghost use Rattle.state_text.specs.Laws.{AllHeldAreOwned, AllOpeningsAreKnown, AllTextsAreTheStates, AllWatchersKnow};
 
 /// A mirror that knows a state, and watches steps from there on, knows the state to which they lead, where it took all in. Before
-/// the first step it knows each new machine. The text of what it knows is the text of the state. The pages that are shown as held are
+/// the first step it knows each new machine. The text of what it knows, in either form, is the text of the state. The pages that are shown as held are
 /// those that the core owns.
 pub fn mirrors_know_states()
     ensures know { AllWatchersKnow }

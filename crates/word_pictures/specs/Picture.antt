@@ -24,9 +24,9 @@ use Rattle.trace_words.specs.declared.fault.TraceFault.TheVariants.{BadLine, Too
 use Rattle.trace_words.specs.declared.show.Show.TheVariants.{Outcomes}
 use Rattle.trace.specs.Ends.{Stops}
 use Rattle.trace.specs.Seen.{IsSeen}
+use Rattle.state_text.specs.declared.form.Form.TheVariants.{Json, Text}
 use Rattle.state_text.specs.Traces.{told_text}
 use Rattle.state_changes.specs.Leads.{IsTold}
-use Rattle.state_text.specs.Objects.{told_json}
 use Rattle.state_text.specs.Fronts.{lines_to}
 use Rattle.word_pictures.specs.Stepping.{Paged, lacking_page, page_written}
 use Rattle.word_pictures.specs.State.{FailsTo, lacking_state}
@@ -82,9 +82,9 @@ PictureEnds (Lines lines) input old new r = TextEnds (Lined lines input) (FailsU
 PictureEnds (Steps steps) input old new r = TextEnds (Watched (makes recorded) (nothing_recorded steps.first steps.last) input) (Fails Usual input)
     (lacking steps.first) (picture_of steps.first steps.last input) old new r
 PictureEnds (State at) input old new r = TextEnds (IsTold (lines_to at (lines_of input))) (FailsTo at input)
-    (lacking_state at (lines_of input)) told_text old new r
+    (lacking_state at (lines_of input)) (told_text Text) old new r
 PictureEnds (Objects at) input old new r = TextEnds (IsTold (lines_to at (lines_of input))) (FailsTo at input)
-    (lacking_state at (lines_of input)) told_json old new r
+    (lacking_state at (lines_of input)) (told_text Json) old new r
 PictureEnds Page input old new r = TextEnds (Paged input) (Fails Usual input) lacking_page (page_written input) old new r
 PictureEnds (Changed shows) input old new r = TextEnds (SaysStates shows input) (Fails Usual input) lacking_change as_it_is old new r
 PictureEnds Lives input old new r = TextEnds (Watched ChangesRecorded nothing_changed input) (Fails Long input) lacking_none (lives_of input) old new r

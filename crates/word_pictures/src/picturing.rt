@@ -19,7 +19,7 @@ ghost use Rattle.watched.specs.Watching.{makes};
 use crate::changing::draw_changes;
 use crate::lining::{draw_front, draw_lines};
 use crate::listing::list_named;
-use crate::stating::{Form, draw_state};
+use crate::stating::draw_state;
 use crate::stepping::draw_page;
 use crate::traced::traced;
 use draw_lives::drawing::draw_lives;
@@ -27,6 +27,7 @@ use draw_records::{ChangeRecorder, Recorder};
 use draw_steps::canvas::draw;
 use draw_steps::places::view_of;
 use machine_model::CallLimit;
+use state_text::Form;
 use std::alloc::{AllocError, Global};
 use std::io::Write;
 use trace::replay::replay_watched;
@@ -258,7 +259,7 @@ pub fn draw_text<W: Sink, E: Write>(
         Drawing::Steps(steps) => draw_steps(alloc, trace, out, errors, steps),
         Drawing::Lives => draw_all_lives(alloc, trace, out),
         Drawing::State(at) => draw_state(alloc, trace, out, at, Form::Text),
-        Drawing::Objects(at) => draw_state(alloc, trace, out, at, Form::Objects),
+        Drawing::Objects(at) => draw_state(alloc, trace, out, at, Form::Json),
         Drawing::Page => draw_page(alloc, trace, out),
         Drawing::Changes(shows) => draw_changes(alloc, trace, out, shows),
         Drawing::Listing(limit) => list_named(alloc, trace, out, limit),

@@ -2,8 +2,9 @@
 ghost use Rattle.std.specs.Prelude.{◌≡◌, ◌≢◌, ◌⊎◌, ◌++◌, Err, IfErr, IfOk, OnOk, true};
 ghost use Rattle.std.specs.Io.KnownBytes.{Keeps};
 ghost use Rattle.word_pictures.specs.Picture.{ShowsText, TextEnds};
-ghost use Rattle.word_pictures.specs.State.{FailsTo, SeesState, counts_form, lacking_state, seen_in, sight_text, told_in};
+ghost use Rattle.word_pictures.specs.State.{FailsTo, SeesState, lacking_state, sight_text};
 ghost use Rattle.state_text.specs.Fronts.{lines_to};
+ghost use Rattle.state_text.specs.Traces.{told_text};
 ghost use Rattle.state_changes.specs.Leads.{IsTold};
 ghost use Rattle.trace_words.specs.declared.fault.TraceFault.TheVariants as Of;
 ghost use Rattle.trace_io.specs.Lines.{lines_of};
@@ -12,25 +13,15 @@ ghost use Rattle.trace_io.specs.Sink.{AppendsFront};
 use crate::held::Held;
 use crate::picturing::in_memory;
 use state_seen::mirror::Mirror;
-use state_text::Form as Counts;
+use state_text::Form;
 use state_text::counts::put_counts_at;
 use state_text::fronts::{front_of, lacking_line};
-use state_text::objects::put_objects;
 use state_text::texts::put_state;
 use std::alloc::{AllocError, Global};
 use trace::standing::replay_standing;
 use trace_io::sink::{Sink, write_all};
 use trace_io::source::Counted;
 use trace_words::fault::TraceFault;
-
-/// The form in which a state is written.
-#[derive(Clone, Copy)]
-pub enum Form {
-    /// Lines of words.
-    Text,
-    /// JSON, an object a line.
-    Objects,
-}
 
 /// What is seen at the end of a trace.
 #[derive(Drop)]
@@ -43,36 +34,11 @@ pub(crate) struct Sight {
     pub(crate) counts: Vec<u8>,
 }
 
-// The same form of counts.
-fn counts_form(form: Form) -> Counts
-    ensures { result ≡ counts_form form }
-{
-    match form {
-        Form::Text => Counts::Text,
-        Form::Objects => Counts::Json,
-    }
-}
-
-// What the mirror saw, and these mappings, in this form.
-fn put_seen(
-    out: &mut Vec<u8>,
-    mirror: &Mirror<Global>,
-    maps: &[u8],
-    form: Form,
-) -> Result<(), AllocError>
-    ensures { OnOk result (out.new.items ≡ out.old.items ++ seen_in form maps.now mirror.now) }
-{
-    match form {
-        Form::Text => put_state(out, mirror, maps),
-        Form::Objects => put_objects(out, mirror, maps),
-    }
-}
-
 // All that was seen.
 fn put_sight(out: &mut Vec<u8>, sight: &Sight, form: Form) -> Result<(), AllocError>
     ensures { OnOk result (out.new.items ≡ out.old.items ++ sight_text form sight.now) }
 {
-    put_seen(out, &sight.mirror, sight.maps.as_slice(), form)?;
+    put_state(out, form, &sight.mirror, sight.maps.as_slice())?;
     out.extend_from_slice(sight.counts.as_slice())
 }
 
@@ -90,7 +56,7 @@ fn see(alloc: Global, trace: &[u8], mirror: Mirror<Global>, form: Form) -> Resul
         return Err(in_memory(fault));
     }
     let mut counts = Vec::new(alloc);
-    if put_counts_at(&mut counts, counts_form(form), &stood.machine).is_err() {
+    if put_counts_at(&mut counts, form, &stood.machine).is_err() {
         return Err(TraceFault::NoMemory);
     }
     Ok(Sight {
@@ -143,7 +109,7 @@ pub(crate) fn draw_state<W: Sink>(
     form: Form,
 ) -> Result<Option<u64>, TraceFault>
     ensures ends { TextEnds (IsTold (lines_to at (lines_of trace.now))) (FailsTo at trace.now)
-        (lacking_state at (lines_of trace.now)) (told_in form) (W.contents out.old) (W.contents out.new) result }
+        (lacking_state at (lines_of trace.now)) (told_text form) (W.contents out.old) (W.contents out.new) result }
     ensures read { result ≢ Err Of.ReadFailed }
     ensures write { result ≡ Err Of.WriteFailed → W.failed out.new ≡ true }
     ensures kept { (result ≡ Err Of.WriteFailed) ⊎ (W.failed out.new ≡ W.failed out.old) }

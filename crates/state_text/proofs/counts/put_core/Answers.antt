@@ -1,6 +1,6 @@
 use Rattle.std.proofs.Common.{ap, ◌∙◌, ◌++◌, ℕ, Bool}
 use Rattle.state_text.specs.Counts.{flushed_text}
-use Rattle.state_text.proofs.CountJoined.{three}
+use Rattle.state_seen.proofs.Lines.{three}
 use Rattle.state_text.proofs.counts.put_core.Goals as goal
 
 pub returns : goal.returns

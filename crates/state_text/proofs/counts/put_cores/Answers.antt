@@ -1,4 +1,4 @@
-use Rattle.std.proofs.Common.{ap, ◌∙◌, ◌++◌, [], cond, append-nil, sym, ℕ, List, ◌≡◌, arith}
+use Rattle.std.proofs.Common.{ap, ◌∙◌, ◌++◌, append-nil, sym, ◌≡◌, arith}
 use Rattle.core_steps.specs.Machine.{state}
 use Rattle.state_seen.specs.PageTexts.{texts_below}
 use Rattle.state_seen.proofs.PageTexts.{texts_more, texts_none}

@@ -1,4 +1,4 @@
-use Rattle.std.proofs.Common.{ap, ◌∙◌, ◌++◌, [], cond, append-nil, sym, ℕ, List}
+use Rattle.std.proofs.Common.{ap, ◌∙◌, ◌++◌, [], cond, append-nil, sym}
 use Rattle.core_steps.specs.Machine.{state}
 use Rattle.state_seen.proofs.PageTexts.{texts_more, texts_none}
 use Rattle.state_text.specs.Counts.{frame_counts}

@@ -1,4 +1,4 @@
-use Rattle.std.proofs.Common.{◌≡◌, ◌+◌, ◌-◌, ℕ, suc, arith}
+use Rattle.std.proofs.Common.{◌+◌, ◌-◌, arith}
 use Rattle.state_text.proofs.FrontLines.{after_letter, after_newline, first, is_front, no_byte_left, no_line_left}
 use Rattle.state_text.proofs.fronts.first_lines.Goals as goal
 use Rattle.state_text.proofs.fronts.first_lines.Goals.{then-text-at-eq10, else-text-at-eq10, then-bytes-test+else-left-gt0, else-bytes-test}

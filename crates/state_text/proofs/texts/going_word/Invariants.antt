@@ -5,7 +5,7 @@ use Rattle.state_text.proofs.texts.going_word.Given as goal
 abbrev pub invariant-messages : goal.invariant-messages
 invariant-messages l = record {
   within : l.at ≤ length l.inbox;
-  same : going_word l.inbox l.page ≡ going_word (drop l.at l.inbox) l.page;
+  same : going_word l.form l.inbox l.page ≡ going_word l.form (drop l.at l.inbox) l.page;
 }
 
 abbrev pub decreases-messages : goal.decreases-messages

@@ -6,7 +6,7 @@ use Rattle.state_text.proofs.texts.put_inbox.Given as goal
 abbrev pub invariant-messages : goal.invariant-messages
 invariant-messages l = record {
   within : l.at ≤ length l.inbox;
-  written : l.out.items ≡ l.initial.out.items ++ flat_map (message_line l.core) (take l.at l.inbox);
+  written : l.out.items ≡ l.initial.out.items ++ flat_map (message_line l.form l.core) (take l.at l.inbox);
 }
 
 abbrev pub decreases-messages : goal.decreases-messages

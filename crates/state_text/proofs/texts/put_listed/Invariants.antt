@@ -6,7 +6,7 @@ use Rattle.state_text.proofs.texts.put_listed.Given as goal
 abbrev pub invariant-listed : goal.invariant-listed
 invariant-listed l = record {
   within : l.at ≤ length l.entries;
-  written : l.out.items ≡ l.initial.out.items ++ flat_map (table_entry l.core l.inbox) (take l.at l.entries);
+  written : l.out.items ≡ l.initial.out.items ++ flat_map (table_entry l.form l.core l.inbox) (take l.at l.entries);
 }
 
 abbrev pub decreases-listed : goal.decreases-listed

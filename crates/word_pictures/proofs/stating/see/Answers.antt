@@ -5,7 +5,6 @@ use Rattle.core_steps.specs.Machine.{state}
 use Rattle.machine_model.specs.declared.setup.CallLimit.TheVariants.{Usual}
 use Rattle.state_text.specs.Counts.{counts_at}
 use Rattle.word_pictures.specs.Listing.{FailsToList}
-use Rattle.word_pictures.specs.State.{counts_form}
 use Rattle.word_pictures.proofs.PictureLemmas.{no_list_in_memory, was_not_listed}
 use Rattle.word_pictures.proofs.StateLemmas.{was_seen}
 use Rattle.word_pictures.proofs.stating.see.Goals as goal
@@ -22,8 +21,7 @@ returns-clause-ends c =
     let machine = option_map state stood.machine in
     let seen = was_seen _ _ c.args.mirror stood.watch machine c.args.trace.now _ _ _ stood.ended _ known none refl c.in_default.is
     c.replay_standing-stood.ensures.seen in
-    let put : c.put_counts_at.new.out.items ≡ counts_at c.counts_form.result machine = search rules in
-    let counts = put ∙ ap (λ f. counts_at f machine) c.counts_form.ensures in
+    let counts : c.put_counts_at.new.out.items ≡ counts_at c.args.form machine = search rules in
     elim c.match-stood-4.branch [ in-Some-3 w ↦ (machine, seen, counts) | in-None-3 w ↦ (machine, seen, counts) ]
 
 pub returns-in-Err-clause-ends : goal.returns-in-Err-clause-ends

@@ -1,9 +1,0 @@
-use Rattle.std.proofs.Common.{◌≡◌, ◌++◌}
-use Rattle.state_seen.specs.PageTexts.{texts_below}
-use Rattle.state_text.specs.Objects.{seen_object}
-use Rattle.state_text.proofs.objects.put_cores.Given as goal
-
-abbrev pub invariant-cores : goal.invariant-cores
-invariant-cores g l = record {
-  written : l.out.items ≡ l.initial.out.items ++ texts_below (seen_object l.phases l.cores l.tables) l.index;
-}

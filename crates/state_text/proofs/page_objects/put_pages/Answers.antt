@@ -1,8 +1,0 @@
-use Rattle.std.proofs.Common.{ap, ◌∙◌, ◌++◌, ℕ, List}
-use Rattle.state_seen.proofs.PageTexts.{listed}
-use Rattle.state_text.specs.PageObjects.{used_json}
-use Rattle.state_text.proofs.page_objects.put_pages.Goals as goal
-
-pub returns : goal.returns
-returns g c = (rw c.entries.ensures.value at c.in_ok-put_entries.ensures)
-    ∙ ap (λ (l : List ℕ). c.args.out.now.items ++ l) (listed used_json 0 c.args.list.now c.entries.ensures.order)
