@@ -1,6 +1,6 @@
 -- A picture of a trace, written and flushed
 use Rattle.std.proofs.Common.{◌≡◌, ℕ, ◌⊎◌, inl, inr, true, List, [], Option, None, Some, Result, Ok, Err}
-use Rattle.std.proofs.Common.{IfOk, IfErr, refl, sym, ◌∙◌, subst}
+use Rattle.std.proofs.Common.{IfOk, IfErr, refl, sym, ◌∙◌, subst, arith}
 use Rattle.std.proofs.KnownBytes.{Appends-kept, Keeps-refl, Keeps-trans}
 use Rattle.std.specs.Io.KnownBytes.{Consumes, Keeps}
 use Rattle.trace_io.proofs.IoLemmas.{front_kept, whole_front}
@@ -14,15 +14,16 @@ use Rattle.machine_model.specs.declared.event.Event.{Event}
 use Rattle.machine_model.specs.declared.event.Outcome.{Outcome}
 use Rattle.trace_words.specs.declared.fault.TraceFault.{TraceFault}
 use Rattle.trace_words.specs.declared.fault.TraceFault.TheVariants.{BadLine, TooLong, NoVmLine, Setup, NoMemory, ReadFailed, WriteFailed}
+use Rattle.trace_words.specs.declared.show.Show.{Show}
 use Rattle.trace_words.specs.declared.show.Show.TheVariants.{Maps, Outcomes}
-use Rattle.trace.specs.Ends.{Ends, Stops}
+use Rattle.trace.specs.Ends.{Completes, Ends, Stops, reading, unmade, wanting, overlong, refusing, unopened, writing, closing}
 use Rattle.trace_words.specs.Faults.{TellsFaults, fault_named}
 use Rattle.trace.specs.Seen.{IsSeen}
 use Rattle.word_parts.specs.declared.asked.Drawing.{Drawing}
 use Rattle.word_parts.specs.declared.asked.Drawing.TheVariants.{Lines, Steps, Lives, State, Objects, Page, Changes, Listing}
 use Rattle.word_pictures.specs.Listing.{FailsToList, Listed}
 use Rattle.machine_model.specs.declared.setup.CallLimit.{CallLimit}
-use Rattle.word_pictures.specs.Picture.{Fails, PictureEnds, Records, ShowsText, TextEnds, Watched, in_memory, pictured_text}
+use Rattle.word_pictures.specs.Picture.{Fails, PictureEnds, Records, RecordsShown, ShowsText, TextEnds, Watched, in_memory, pictured_text}
 
 -- what one who watches may be after each step
 abbrev After : Type 0 → Type 1
@@ -36,21 +37,36 @@ known_read old new P text is r = go new.coming refl (subst (λ o. Consumes o new
     go None e c = absurd c
     go (Some rest) e c = (rest, subst (λ xs. P xs rest) (sym c) (r.holds rest (subst (λ o. Keeps o (Some rest)) e refl)))
 
--- all lines were watched
-pub all_recorded : {S T : Type 0} (s t : Stream) (after : After S) (one r : S) (limit : CallLimit) (text : List ℕ) (ended : Result T TraceFault) (x : T)
-    → s.coming ≡ Some text → ended ≡ Ok x → IfOk ended (λ u. Reads s t (λ input unread. IsSeen after one r Outcomes input None None))
-    → Records after one limit text (Ok r)
-all_recorded s t after one r limit text (Ok y) x known is h = (known_read s t (λ input unread. IsSeen after one r Outcomes input None None) text known h).1
-all_recorded s t after one r limit text (Err f) x known is h = absurd (cc)
+-- all lines were watched, and what is shown of them was written
+pub all_recorded : {S T : Type 0} (s t : Stream) (after : After S) (one r : S) (show : Show) (limit : CallLimit) (text : List ℕ) (old new : Option (List ℕ))
+    (ended : Result T TraceFault) (x : T) → s.coming ≡ Some text → ended ≡ Ok x → Reads s t (λ input unread. Ends limit show input unread old new ended)
+    → IfOk ended (λ u. Reads s t (λ input unread. IsSeen after one r show input old new)) → RecordsShown after one show limit text old new (Ok r)
+all_recorded s t after one r show limit text old new (Ok y) x known is ends h = (
+  (known_read s t (λ input unread. IsSeen after one r show input old new) text known h).1,
+  (known_read s t (λ input unread. Completes limit show input old new) text known ends).1,
+)
+all_recorded s t after one r show limit text old new (Err f) x known is ends h = absurd (cc)
 
--- a fault of the trace
-pub none_recorded : {T : Type 0} (s t : Stream) (limit : CallLimit) (text : List ℕ) (ended : Result T TraceFault) (f : TraceFault) → s.coming ≡ Some text → ended ≡ Err f
-    → Reads s t (λ input unread. Ends limit Outcomes input unread None None ended) → Fails limit text f
-none_recorded {T} s t limit text ended f known e h = inl (known_read s t (λ input unread. Ends {T = T} limit Outcomes input unread None None (Err f)) text known
-    (subst (λ r. Reads s t (λ input unread. Ends limit Outcomes input unread None None r)) e h))
+-- by one who watches alone
+pub was_recorded : {S : Type 0} (after : After S) (one : S) (limit : CallLimit) (text : List ℕ) (ended : Result S TraceFault)
+    → RecordsShown after one Outcomes limit text None None ended → Records after one limit text ended
+was_recorded after one limit text (Ok r) h = h.0
+was_recorded after one limit text (Err f) h = h
+
+-- what stops a replay that shows something stops one that shows nothing, where memory isn't wanting
+fails_shown : (limit : CallLimit) (show : Show) (input unread : List ℕ) (old new : Option (List ℕ)) (f : TraceFault)
+    → Stops limit show input unread old new f → Fails limit input f
+fails_shown limit show input unread old new f (reading e p r held out) = inr (inr e)
+fails_shown limit show input unread old new f (unmade e all out) = inr (inl e)
+fails_shown limit show input unread old new f (wanting e p line others is r w out) = inr (inl e)
+fails_shown limit show input unread old new f (overlong p line others is long e out) = inl (unread, overlong p line others is long e tt)
+fails_shown limit show input unread old new f (refusing p line others is short fails out) = inl (unread, refusing p line others is short fails tt)
+fails_shown limit show input unread old new f (unopened p none fails out) = inl (unread, unopened p none fails tt)
+fails_shown limit show input unread old new f (writing e p out) = inl (unread, writing e p (0, omega arith, tt))
+fails_shown limit show input unread old new f (closing e p none can behind is out) = inl (unread, writing e p (0, omega arith, tt))
 
 -- the fault of a replay in memory
-pub fails_in_memory : (limit : CallLimit) (input : List ℕ) (f : TraceFault) → Fails limit input f → Fails limit input (in_memory f)
+fails_in_memory : (limit : CallLimit) (input : List ℕ) (f : TraceFault) → Fails limit input f → Fails limit input (in_memory f)
 fails_in_memory limit input (BadLine number) h = h
 fails_in_memory limit input (TooLong number) h = h
 fails_in_memory limit input NoVmLine h = h
@@ -58,6 +74,15 @@ fails_in_memory limit input (Setup fault) h = h
 fails_in_memory limit input ReadFailed h = inr (inl refl)
 fails_in_memory limit input NoMemory h = h
 fails_in_memory limit input WriteFailed h = inr (inl refl)
+
+-- a fault of the trace
+pub none_recorded : {T : Type 0} (s t : Stream) (show : Show) (limit : CallLimit) (text : List ℕ) (old new : Option (List ℕ)) (ended : Result T TraceFault)
+    (f : TraceFault) → s.coming ≡ Some text → ended ≡ Err f → Reads s t (λ input unread. Ends limit show input unread old new ended)
+    → Fails limit text (in_memory f)
+none_recorded {T} s t show limit text old new ended f known e h =
+    let stops = known_read s t (λ input unread. Ends {T = T} limit show input unread old new (Err f)) text known
+    (subst (λ r. Reads s t (λ input unread. Ends limit show input unread old new r)) e h) in
+    fails_in_memory limit text f (fails_shown limit show text stops.0 old new f stops.1)
 
 -- the text of what came of all lines was written, or wasn't
 pub text_drawn : {S : Type 0} (Comes : S → Type 0) (Faults : TraceFault → Type 0) (lacks : S → Option ℕ) (text : S → List ℕ) (old new : Option (List ℕ)) (r : S)

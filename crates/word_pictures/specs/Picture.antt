@@ -21,8 +21,9 @@ use Rattle.draw_records.specs.Looking.{recorded}
 use Rattle.draw_records.specs.Recording.{Recording, nothing_recorded}
 use Rattle.trace_words.specs.declared.fault.TraceFault.{TraceFault}
 use Rattle.trace_words.specs.declared.fault.TraceFault.TheVariants.{BadLine, TooLong, NoVmLine, Setup, NoMemory, ReadFailed, WriteFailed}
+use Rattle.trace_words.specs.declared.show.Show.{Show}
 use Rattle.trace_words.specs.declared.show.Show.TheVariants.{Outcomes}
-use Rattle.trace.specs.Ends.{Stops}
+use Rattle.trace.specs.Ends.{Completes, Stops}
 use Rattle.trace.specs.Seen.{IsSeen}
 use Rattle.state_text.specs.declared.form.Form.TheVariants.{Json, Text}
 use Rattle.state_text.specs.Traces.{told_text}
@@ -116,3 +117,9 @@ abbrev pub Records : {S : Type 0} → (S → World → Event → Outcome → Wor
     → Result S TraceFault → Type 0
 Records after one limit input (Ok r) = Watched after one input r
 Records after one limit input (Err f) = Fails limit input f
+
+-- the same of a replay that shows this
+abbrev pub RecordsShown : {S : Type 0} → (S → World → Event → Outcome → World → S → Type 0) → S → Show → CallLimit → List ℕ
+    → Option (List ℕ) → Option (List ℕ) → Result S TraceFault → Type 0
+RecordsShown after one show limit input old new (Ok r) = IsSeen after one r show input old new × Completes limit show input old new
+RecordsShown after one show limit input old new (Err f) = Fails limit input f

@@ -1,13 +1,9 @@
 -- The page that steps through a trace
-use Rattle.std.specs.Prelude.{◌≡◌, ℕ, ◌&&◌, ◌⊎◌, true, List, [], Option, None, Some, Result, Ok, Err}
-use Rattle.std.specs.Io.KnownBytes.{Appends, Keeps}
+use Rattle.std.specs.Prelude.{◌≡◌, ℕ, ◌&&◌, true, List, [], Option, None, Some}
 use Rattle.machine_model.specs.declared.setup.CallLimit.TheVariants.{Usual}
-use Rattle.trace_words.specs.declared.fault.TraceFault.{TraceFault}
-use Rattle.trace_words.specs.declared.fault.TraceFault.TheVariants.{NoMemory, WriteFailed}
 use Rattle.trace_words.specs.declared.show.Show.TheVariants.{OutcomesAndLog}
 use Rattle.trace.specs.Ends.{Completes}
 use Rattle.trace_io.specs.Lines.{lines_of}
-use Rattle.trace_io.specs.Sink.{AppendsFront}
 use Rattle.state_changes.specs.declared.template.TheConstants as Template
 use Rattle.state_changes.specs.Data.{page_text}
 use Rattle.state_changes.specs.Pages.{ShowsStates}
@@ -39,14 +35,3 @@ lacking_page p = None
 -- all was recorded
 abbrev pub is_whole : Recorded → Type 0
 is_whole r = (r.whole && r.seen.whole) ≡ true
-
--- all was, there are outcomes with a log, and this holds of the text that is made of both
-abbrev pub IsPaged : (List ℕ → PageOf → List ℕ) → List ℕ → Recorded → (List ℕ → Type 0) → Type 0
-IsPaged written input r Holds = (shown : List ℕ) × is_whole r × Logged input shown
-    × Holds (written input (record { recorded = r; shown = shown }))
-
--- that text was written, or none for want of memory, or a front of it
-abbrev pub PageEnds : (List ℕ → PageOf → List ℕ) → List ℕ → Recorded → Option (List ℕ) → Option (List ℕ) → Result (Option ℕ) TraceFault → Type 0
-PageEnds written input r old new (Ok x) = IsPaged written input r (λ text. (x ≡ None) × Appends old new text)
-PageEnds written input r old new (Err f) = ((f ≡ NoMemory) × Keeps old new)
-    ⊎ ((f ≡ WriteFailed) × IsPaged written input r (AppendsFront old new))

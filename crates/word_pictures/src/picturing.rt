@@ -1,12 +1,13 @@
 //! What the word `picture` does.
 ghost use Rattle.std.specs.Prelude.{◌≡◌, ◌≢◌, ◌≤◌, ◌⊎◌, Err, IfErr, IfOk, None, OnOk, true};
 ghost use Rattle.std.specs.Io.KnownBytes.{Appends, Keeps};
-ghost use Rattle.word_pictures.specs.Picture.{Fails, PictureEnds, Records, ShowsText, TextEnds, Watched};
+ghost use Rattle.word_pictures.specs.Picture.{Fails, PictureEnds, Records, RecordsShown, ShowsText, TextEnds, Watched};
 ghost use Rattle.word_pictures.specs.Picture.{in_memory, lacking, lacking_none, lives_of, picture_of, pictured_text};
 ghost use Rattle.word_pictures.specs.Words.{PicturesTrace};
 ghost use Rattle.draw_records.specs.Changes.{ChangesRecorded, nothing_changed};
 ghost use Rattle.draw_records.specs.Looking.{recorded};
 ghost use Rattle.draw_records.specs.Recording.{nothing_recorded};
+ghost use Rattle.trace.specs.Shown.{limit_for};
 ghost use Rattle.trace_words.specs.Faults.{fault_named};
 ghost use Rattle.word_pictures.specs.Words.{picture_status};
 ghost use Rattle.machine_model.specs.declared.setup.CallLimit.TheVariants.{Usual, Long};
@@ -57,7 +58,28 @@ pub(crate) fn in_memory(fault: TraceFault) -> TraceFault
     }
 }
 
-/// Replays the trace beside one who watches each step.
+/// Replays the trace beside one who watches each step, and writes this of it.
+pub(crate) fn record_shown<W: Sink, X: Watch + Drop>(
+    alloc: Global,
+    trace: &[u8],
+    out: &mut W,
+    show: Show,
+    limit: CallLimit,
+    watch: X,
+) -> Result<X, TraceFault>
+    ensures ends { RecordsShown X.after watch show (limit_for show limit) trace.now (W.contents out.old) (W.contents out.new) result }
+    ensures read { result ≢ Err Of.ReadFailed }
+    ensures unwritten { result ≢ Err Of.WriteFailed }
+{
+    let mut reader = Counted::new(trace);
+    let beside = replay_watched(alloc, &mut reader, out, show, limit, watch);
+    match beside.replayed.ended {
+        Ok(()) => Ok(beside.watch),
+        Err(fault) => Err(in_memory(fault)),
+    }
+}
+
+/// The same, and writes nothing.
 pub(crate) fn record<X: Watch + Drop>(
     alloc: Global,
     trace: &[u8],
@@ -68,20 +90,8 @@ pub(crate) fn record<X: Watch + Drop>(
     ensures read { result ≢ Err Of.ReadFailed }
     ensures unwritten { result ≢ Err Of.WriteFailed }
 {
-    let mut reader = Counted::new(trace);
     let mut unshown = Nowhere::new();
-    let beside = replay_watched(
-        alloc,
-        &mut reader,
-        &mut unshown,
-        Show::Outcomes,
-        limit,
-        watch,
-    );
-    match beside.replayed.ended {
-        Ok(()) => Ok(beside.watch),
-        Err(fault) => Err(in_memory(fault)),
-    }
+    record_shown(alloc, trace, &mut unshown, Show::Outcomes, limit, watch)
 }
 
 // Writes the picture of what was recorded in these steps of the trace.

@@ -1,58 +1,22 @@
 //! What the word `page` does: a trace is replayed, and a page that steps through it is written.
-ghost use Rattle.std.specs.Prelude.{◌≡◌, ◌≢◌, ◌⊎◌, Err, IfErr, IfOk, IfSome, None, true};
+ghost use Rattle.std.specs.Prelude.{◌≡◌, ◌≢◌, ◌⊎◌, Err, IfErr, IfOk, None, true};
 ghost use Rattle.std.specs.Io.KnownBytes.{Appends, Keeps};
-ghost use Rattle.word_pictures.specs.Stepping.{Logged, PageEnds, Paged, is_whole, lacking_page, made_of, page_written};
+ghost use Rattle.word_pictures.specs.Stepping.{Paged, is_whole, lacking_page, made_of, page_written};
 ghost use Rattle.word_pictures.specs.Picture.{Fails, TextEnds};
 ghost use Rattle.machine_model.specs.declared.setup.CallLimit.TheVariants.{Usual};
 ghost use Rattle.trace_words.specs.declared.fault.TraceFault.TheVariants as Of;
 ghost use Rattle.trace_io.specs.Sink.{AppendsFront};
 
 use crate::held::Held;
-use crate::picturing::record;
+use crate::picturing::record_shown;
 use machine_model::CallLimit;
 use state_changes::StateRecorder;
 use state_changes::data::page_of;
 use state_changes::template::{BACK, FRONT};
 use std::alloc::{AllocError, Global};
-use trace::replay::replay_telling;
 use trace_io::sink::{Sink, write_all};
-use trace_io::source::Counted;
 use trace_words::fault::TraceFault;
 use trace_words::show::Show;
-
-// What `run --log` writes of the trace, where there is memory for it.
-fn logged(alloc: Global, trace: &[u8]) -> Option<Vec<u8>>
-    ensures { IfSome result (λ text. Logged trace.now text.items) }
-{
-    let mut reader = Counted::new(trace);
-    let bytes = Vec::new(alloc);
-    let mut held = Held::new(bytes);
-    let replayed = replay_telling(
-        alloc,
-        &mut reader,
-        &mut held,
-        Show::OutcomesAndLog,
-        CallLimit::Usual,
-    );
-    match replayed.ended {
-        Ok(()) => Some(held.bytes),
-        Err(_) => None,
-    }
-}
-
-// The same, where all was recorded.
-fn shown_of(alloc: Global, trace: &[u8], recorder: &StateRecorder) -> Option<Vec<u8>>
-    ensures logged { IfSome result (λ text. Logged trace.now text.items) }
-    ensures whole { IfSome result (λ text. is_whole recorder.now) }
-{
-    if !recorder.is_whole() {
-        return None;
-    }
-    match logged(alloc, trace) {
-        Some(text) => Some(text),
-        None => None,
-    }
-}
 
 // The page of what was recorded and shown.
 #[tactic(auto, unfolding(crate::specs::Stepping::page_written))]
@@ -67,7 +31,7 @@ fn page_made(
     page_of(alloc, FRONT, BACK, trace, shown, recorder)
 }
 
-// Writes it. No line is lacking.
+// Writes it, where all was recorded. No line is lacking.
 fn write_page<W: Sink>(
     alloc: Global,
     trace: &[u8],
@@ -75,15 +39,18 @@ fn write_page<W: Sink>(
     shown: &[u8],
     out: &mut W,
 ) -> Result<Option<u64>, TraceFault>
-    ensures ok { IfOk result (λ x. (x ≡ None) × Appends (W.contents out.old) (W.contents out.new)
+    ensures ok { IfOk result (λ x. is_whole recorder.now × (x ≡ None) × Appends (W.contents out.old) (W.contents out.new)
         (page_written trace.now (made_of recorder.now shown.now))) }
     ensures err { IfErr result (λ f. ((f ≡ Of.NoMemory) × Keeps (W.contents out.old) (W.contents out.new))
-        ⊎ ((f ≡ Of.WriteFailed) × AppendsFront (W.contents out.old) (W.contents out.new)
+        ⊎ ((f ≡ Of.WriteFailed) × is_whole recorder.now × AppendsFront (W.contents out.old) (W.contents out.new)
         (page_written trace.now (made_of recorder.now shown.now)))) }
     ensures read { result ≢ Err Of.ReadFailed }
     ensures write { result ≡ Err Of.WriteFailed → W.failed out.new ≡ true }
     ensures kept { (result ≡ Err Of.WriteFailed) ⊎ (W.failed out.new ≡ W.failed out.old) }
 {
+    if !recorder.is_whole() {
+        return Err(TraceFault::NoMemory);
+    }
     let Ok(page) = page_made(alloc, trace, recorder, shown) else {
         return Err(TraceFault::NoMemory);
     };
@@ -93,25 +60,7 @@ fn write_page<W: Sink>(
     Ok(None)
 }
 
-// The same, with what the replay of the trace shows.
-fn show_page<W: Sink>(
-    alloc: Global,
-    trace: &[u8],
-    recorder: &StateRecorder,
-    out: &mut W,
-) -> Result<Option<u64>, TraceFault>
-    ensures ends { PageEnds page_written trace.now recorder.now (W.contents out.old) (W.contents out.new) result }
-    ensures read { result ≢ Err Of.ReadFailed }
-    ensures write { result ≡ Err Of.WriteFailed → W.failed out.new ≡ true }
-    ensures kept { (result ≡ Err Of.WriteFailed) ⊎ (W.failed out.new ≡ W.failed out.old) }
-{
-    match shown_of(alloc, trace, recorder) {
-        Some(shown) => write_page(alloc, trace, recorder, shown.as_slice(), out),
-        None => Err(TraceFault::NoMemory),
-    }
-}
-
-/// Replays the trace, and writes the page that steps through it.
+/// Replays the trace, and writes the page that steps through it, with what `run --log` writes of it.
 pub(crate) fn draw_page<W: Sink>(
     alloc: Global,
     trace: &[u8],
@@ -126,8 +75,11 @@ pub(crate) fn draw_page<W: Sink>(
     let Ok(recorder) = StateRecorder::new(alloc) else {
         return Err(TraceFault::NoMemory);
     };
-    match record(alloc, trace, CallLimit::Usual, recorder) {
-        Ok(recorder) => show_page(alloc, trace, &recorder, out),
+    let bytes = Vec::new(alloc);
+    let mut held = Held::new(bytes);
+    let show = Show::OutcomesAndLog;
+    match record_shown(alloc, trace, &mut held, show, CallLimit::Usual, recorder) {
+        Ok(recorder) => write_page(alloc, trace, &recorder, held.bytes.as_slice(), out),
         Err(fault) => Err(fault),
     }
 }

@@ -1,23 +1,5 @@
-use Rattle.std.proofs.Common.{Bool, List, ℕ, [], Some, ap, cond, sym, subst, ◌∙◌}
-use Rattle.word_pictures.specs.Picture.{Fails}
-use Rattle.word_pictures.proofs.PictureLemmas.{all_recorded, fails_in_memory, none_recorded}
+use Rattle.word_pictures.proofs.PictureLemmas.{was_recorded}
 use Rattle.word_pictures.proofs.picturing.record.Goals as goal
-use denote.Ref.{Bor}
 
-pub returns-in-Ok-clause-ends : goal.returns-in-Ok-clause-ends
-returns-in-Ok-clause-ends g c =
-    let r = c.new-reader.result in
-    let known = ap (λ (b : Bool). cond b (Some []) (Some r.reader.now)) c.new-reader.ensures.ended
-    ∙ ap (λ (s : Bor (List ℕ)). Some s.now) c.new-reader.ensures.reader in
-    all_recorded _ _ _ _ c.replay_watched-beside.result.watch c.args.limit c.args.trace.now c.replay_watched-beside.result.replayed.ended c.in-Ok.field-0 known
-    c.in-Ok.is c.replay_watched-beside.ensures.seen
-
-pub returns-in-Err-clause-ends : goal.returns-in-Err-clause-ends
-returns-in-Err-clause-ends g c =
-    let r = c.new-reader.result in
-    let known = ap (λ (b : Bool). cond b (Some []) (Some r.reader.now)) c.new-reader.ensures.ended
-    ∙ ap (λ (s : Bor (List ℕ)). Some s.now) c.new-reader.ensures.reader in
-    let fails = none_recorded _ _ c.args.limit c.args.trace.now c.replay_watched-beside.result.replayed.ended c.in-Err.fault known c.in-Err.is
-    c.replay_watched-beside.ensures.ends in
-    subst (Fails c.args.limit c.args.trace.now) (sym c.in_memory.ensures.value)
-    (fails_in_memory c.args.limit c.args.trace.now c.in-Err.fault fails)
+pub returns-clause-ends : goal.returns-clause-ends
+returns-clause-ends g c = was_recorded _ c.args.watch c.args.limit c.args.trace.now c.record_shown.result c.record_shown.ensures.ends
