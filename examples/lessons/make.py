@@ -56,7 +56,7 @@ def run(*words):
 
 
 def has_page():
-    return "radixvm page" in run("help")
+    return "\n  page " in run("help")
 
 
 def section(name, title, line, text, paged):
