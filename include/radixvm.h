@@ -331,10 +331,10 @@ static inline radixvm_done radixvm_log(const radixvm_machine *machine, radixvm_l
 
 /* ---- Shared machines. Each thread has a seat, which makes whole calls of one core, beside the other threads.
  * What is proved, for every schedule of any threads: the machine's log is that of a plain page map (POSIX.1-2017
- * mmap, munmap, mprotect). What a seat has seen is a beginning of that log. The seat's calls in it are just the
- * calls that it made, in its order, with the replies that it got. There is no certificate to check, and the log
- * need not be kept. A call finds the machine busy only where another seat is left, or was freed and not given back.
- * Not proved: that a call ever finds it free beside other seats, and in which order threads get it.
+ * mmap, munmap, mprotect). Seats have the machine by turns, in one order; a list of calls is one turn. A seat has
+ * seen the first turns and all of its own: just the calls that it made, with the replies that it got. The log need not
+ * be kept. A call finds the machine busy only where another seat is left, or was freed and not given back.
+ * Not proved: that a call ever finds it free beside other seats; that a last seat isn't told of another by RADIXVM_IN_USE.
  *
  *     radixvm_share(&machine, &seats[0]);
  *     for (i = 1; i < threads; i++) radixvm_seat_split(&seats[0], &seats[i]);

@@ -15,7 +15,7 @@ use Rattle.shared.specs.declared.space.ShareFault.TheVariants as Why
 use Rattle.shared.specs.declared.asides.Aside.{Aside}
 use Rattle.shared.specs.declared.series.SeriesEnd.{SeriesEnd}
 use Rattle.shared.specs.declared.series.SeriesEnd.TheVariants as For
-use Rattle.shared.specs.Cores.{CoreView, Answers, AnswersAll, Agrees, IsBeside, IsKept, Passes, new_core, told_of}
+use Rattle.shared.specs.Cores.{CoreView, Answers, AnswersAll, Agrees, IsBeside, IsKept, Passes, new_core, split_core, told_of}
 use Rattle.coded.specs.declared.codes.RawEvent.{RawEvent}
 use Rattle.coded.specs.declared.codes.RawOutcome.{RawOutcome}
 use Rattle.coded.specs.declared.held.AnyMachine.{AnyMachine}
@@ -103,10 +103,10 @@ TellsShare (Some held) None status held' chair' =
 
 -- ---- one more seat
 
--- the last core that had no seat yet, which made no call since the machine was shared
+-- the last core that had no seat yet, which made no call since the machine was shared, and knows what this one knows
 abbrev pub IsSplit : View → View → View → Type 0
 IsSplit v other w = (0 < v.spare) × (w ≡ record v { spare = v.spare - 1 })
-    × (other ≡ new_core placed_state v.space v.spare 0 v.first)
+    × (other ≡ split_core placed_state v)
 
 -- no memory, or all cores have a seat
 abbrev pub CannotSplit : View → ℕ → Type 0
@@ -204,9 +204,9 @@ abbrev pub AreBeside : Option View → Option View → Type 0
 AreBeside (Some v) (Some other) = other.space ≡ v.space
 AreBeside v other = Unit {0}
 
--- the first knows what the other knew
+-- the first knows what the other knew, and whom that one took in
 abbrev pub TakesIn : Option View → Option View → Option View → Type 0
-TakesIn (Some v) (Some other) w = w ≡ Some (record v { others = v.others ++ told_of other ∷ [] })
+TakesIn (Some v) (Some other) w = w ≡ Some (record v { others = v.others ++ told_of other ∷ other.others })
 TakesIn v other w = w ≡ v
 
 -- the other core was taken in, and its handle is empty; or one has no seat, and all is as it was
@@ -221,7 +221,7 @@ TellsReturn v other status w other' = (status ≡ empty_code) × (w ≡ v) × (c
 -- mprotect), and has of this core, and of each that it took in, just the calls that it made, in order,
 -- with the replies that it got. Or it is gone: only where a core has a seat that this one didn't take in
 abbrev pub Closes : View → Closed → Type 0
-Closes v (Comes.Back held) = Agrees placed_state (held_state held.value).world v
+Closes v (Comes.Back held) = Agrees placed_state (record { held = held }) v
 Closes v Comes.Beside = ⊥
 Closes v Comes.Gone = IsBeside placed_state v
 
@@ -233,7 +233,7 @@ ClosesChair None closed w = (closed ≡ Comes.Beside) × (w ≡ None)
 -- the handle has a machine that agrees with all that the seat knew
 abbrev pub HasBack : View → Option AnyMachine → Type 0
 HasBack v None = ⊥
-HasBack v (Some held) = Agrees placed_state (held_state held).world v
+HasBack v (Some held) = (placed : Placed) × (placed.held.value ≡ held) × Agrees placed_state placed v
 
 -- the machine came back, and the seat's handle is empty; or it is gone, only where a core has a seat that wasn't
 -- taken in; or another seat is left, or a handle is in use or empty, and all is as it was

@@ -1,5 +1,5 @@
 //! What a thread asks of its seat.
-ghost use Rattle.std.specs.Prelude.{◌≡◌, ◌≤◌, ◌++◌, ◌∷◌, [], IfSome, IfNone, length, map};
+ghost use Rattle.std.specs.Prelude.{◌≡◌, ◌≤◌, ◌++◌, ◌∷◌, IfSome, IfNone, length, map};
 ghost use Rattle.std.specs.Arc.{arc_value};
 ghost use Rattle.shared.specs.Cores.{Answers, AnswersAll, Passes, told_of};
 ghost use Rattle.coded.specs.Asked.{aside_of, asked_of};
@@ -247,7 +247,7 @@ pub fn call_chair(chair: &mut Chair, raws: &[RawEvent], told: &mut [RawOutcome])
 fn take_core(room: &Room, core: &mut CoreSeat<Placed>, other: CoreSeat<Placed>)
     requires here { IsIn (arc_value room.now) core.old }
     requires beside { other.space ≡ core.old.space }
-    ensures { core.new ≡ record core.old { others = core.old.others ++ told_of other ∷ [] } }
+    ensures { core.new ≡ record core.old { others = core.old.others ++ told_of other ∷ other.others } }
 {
     match &**room {
         Some(space) => space.take_in(core, other),
@@ -265,7 +265,7 @@ fn core_from(seat: HeldSeat) -> CoreSeat<Placed>
 
 fn take_seat(first: &mut HeldSeat, other: HeldSeat)
     requires { other.core.space ≡ first.old.core.space }
-    ensures { first.new.core ≡ record first.old.core { others = first.old.core.others ++ told_of other.core ∷ [] } }
+    ensures { first.new.core ≡ record first.old.core { others = first.old.core.others ++ told_of other.core ∷ other.core.others } }
 {
     take_core(&first.room, &mut first.core, core_from(other))
 }

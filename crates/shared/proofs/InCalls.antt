@@ -29,8 +29,8 @@ use Rattle.core_steps.specs.Machine.{IsLegal}
 use Rattle.core_steps.proofs.Keeping.{step_made}
 use Rattle.shared.specs.declared.history.SeenLog.{SeenLog}
 use Rattle.shared.specs.declared.history.Replied.{Replied}
-use Rattle.shared.specs.Histories.{Adds, history_of, replied, replied_by, replied_in}
-use Rattle.shared.specs.Calling.{CalmBelow, InCall, logged, reply_in}
+use Rattle.shared.specs.Histories.{Adds, history_of, logged, replied, replied_by, replied_in}
+use Rattle.shared.specs.Calling.{CalmBelow, InCall, reply_in}
 use Rattle.shared.proofs.Lists.{AllKnown, begins_more, begins_self, begins_through, copy_more, led_known, other_more, own_more, request_more}
 
 -- ---- where a call stands
@@ -328,8 +328,8 @@ call_made w c request finished v k = ⊎_elim
 -- ---- a call that is in flight
 
 pub calls_first : (w : World) (c : ℕ) (request : Request) (x : World) → InCall w c request x
-    → (added : List Replied) × Adds c added (history_of w) (history_of x)
-calls_first w c request x k = (logged request (reply_in (x.calls.phase c)), k.adds)
+    → (reply : Option Reply) × Adds c (logged request reply) (history_of w) (history_of x)
+calls_first w c request x k = (reply_in (x.calls.phase c), k.adds)
 
 -- finishing is refused memory
 pub refused_on : (kept : Bool) (w : World) (c : ℕ) (request : Request) (x v : World) → InCall w c request x → IsRefused kept x c v → InCall w c request v

@@ -1,7 +1,7 @@
 -- Each step keeps the rule of the one history
 use Rattle.std.proofs.Common.{◌≡◌, ◌≢◌, ℕ, ◌-◌, ◌<◌, ◌≤◌, eqb, cond, List, [], ◌∷◌, ◌++◌, length, set, refl}
 use Rattle.std.proofs.Common.{sym, ap, ◌∙◌, subst, ◌⊎◌, inl, inr, ⊎_elim, arith, eq-eqb, ne_eqb, append-nil}
-use Rattle.std.specs.Prelude.{MatchBool, Option, slice_index}
+use Rattle.std.specs.Prelude.{MatchBool, Option, None, slice_index}
 use mathlib.Core.Bool.{Bool, true, false}
 use mathlib.Core.Option.{some, none, some-ne-none, some-injective}
 use lib.ListN.{get_elem?}
@@ -19,8 +19,8 @@ use Rattle.machine_model.proofs.SoundKept.{reached_fine}
 use Rattle.machine_model.specs.World.{World, Made}
 use Rattle.machine_model.specs.Alone.{IsCalm}
 use Rattle.core_steps.specs.Machine.{IsLegal}
-use Rattle.shared.specs.declared.history.SeenLog.{SeenLog}
 use Rattle.shared.specs.declared.history.Replied.{Replied}
+use Rattle.shared.specs.declared.history.Turn.{Turn}
 use Rattle.shared.specs.declared.history.JoinedCore.{JoinedCore}
 use Rattle.shared.specs.declared.space.Answer.{Answer}
 use Rattle.shared.specs.declared.space.Answer.TheVariants as Tells
@@ -33,21 +33,18 @@ use Rattle.shared.specs.declared.space.Calls.TheVariants as Lists
 use Rattle.shared.specs.declared.series.Series.{Series}
 use Rattle.shared.specs.declared.series.SeriesEnd.{SeriesEnd}
 use Rattle.shared.specs.declared.series.SeriesEnd.TheVariants as For
-use Rattle.shared.specs.Serial.{AreTold, EndsSeries, LeavesFor}
+use Rattle.shared.specs.Serial.{AreTold, EndsSeries, LeftFor}
 use Rattle.shared.specs.declared.space.Known.{Known}
 use Rattle.shared.specs.declared.whole.CallEnd.{CallEnd}
 use Rattle.shared.specs.declared.whole.CallEnd.TheVariants as To
-use Rattle.shared.specs.Histories.{Adds, Begins, Ends, IsFull, IsOver, StepsAside, event_of, history_of, replied, replied_by}
-use Rattle.shared.specs.Cores.{Agrees, Answers, AnswersAll, Came, Extends, GoesFor, IsBeside, IsLater, IsTold, Passes, history_first, made_of}
-use Rattle.shared.specs.Rules.{CanGive, Fits, Gives, Holds, Home, Kept, Learns, Makes, Out, Takes, Took, after, answer_of, first_known}
-use Rattle.shared.specs.Rules.{history_carried, holding, padded, spent_core, split_known, view_of, with_other, word_after, word_of}
+use Rattle.shared.specs.Histories.{Adds, Ends, IsFull, IsOver, StepsAside, event_of, history_of, logged, replied, replied_by}
+use Rattle.shared.specs.Turns.{AreInOrder, HasSeen, IsTold, Leads, NoneOf, left_by, log_in, turn}
+use Rattle.shared.specs.Cores.{Agrees, Answers, AnswersAll, FindsOver, HasTurn, IsBeside, MadeAside, Passes, made_of}
+use Rattle.shared.specs.Rules.{CanGive, Fits, Gives, Holds, Home, Kept, Learns, Makes, Missed, Out, Takes, Took, after, answer_of, first_known}
+use Rattle.shared.specs.Rules.{given, holding, looked, padded, spent_core, split_known, view_of, with_other, word_after, word_of}
 use Rattle.shared.proofs.InCalls.{adds_nothing}
-use Rattle.shared.proofs.Limits.{over_full}
-use Rattle.shared.proofs.Lists.{begins_self, begins_through}
-use Rattle.shared.proofs.Views.{above_spare, as_elem, each_at, each_end, not_both, not_true, one_entry, set_there, still_at}
-
-pub begins_again : (h : SeenLog) → Begins h h
-begins_again h = (begins_self h.requests, begins_self h.entries)
+use Rattle.shared.proofs.TurnLemmas.{left_more, none_behind, none_more, order_more, others_keep, replied_on, sees_all, sees_more, told_on}
+use Rattle.shared.proofs.Views.{above_spare, as_elem, each_at, each_both, each_end, each_front, not_both, not_true, one_entry, set_there, still_at}
 
 module _ {S : Type 0} (state : S → World) (key : List S) where
   -- ---- the start
@@ -56,19 +53,19 @@ module _ {S : Type 0} (state : S → World) (key : List S) where
       → Kept state key (opening (padded 1) (d ∷ []) (first_known state key))
   opened d is legal calm some_core =
       let made : made_of state key ≡ (state d).made = ap (made_of state) is in
-      let first : history_first state key ≡ history_of (state d) = ap (history_first state) is in
       let cores : (made_of state key).cores ≡ (state d).made.cores = ap (λ (m : Made). m.cores) made in
       let v : Known S = first_known state key in
       record {
-        history = history_first state key;
+        turns = [];
         seat_of = λ _. 0;
         gone = λ _. false;
         left = (made_of state key).cores - 1;
         few = omega (arith, cores, some_core);
-        each = each_end (λ id u. Fits state key (history_first state key) (λ _. 0) (λ _. false) ((made_of state key).cores - 1) id u) [] v
+        order = tt;
+        each = each_end (λ id u. Fits state key [] (λ _. 0) (λ _. false) ((made_of state key).cores - 1) id u) [] v
             (λ k u e. absurd (some-ne-none u (sym e)))
             (record {
-              seen = begins_again (history_first state key);
+              seen = λ _. sees_all 0 [] [] refl;
               mine = λ _. refl;
               seat = λ _. refl;
               core = λ _. inl refl;
@@ -78,8 +75,7 @@ module _ {S : Type 0} (state : S → World) (key : List S) where
               spare = λ _. (refl, refl, refl);
               told = λ k t e. absurd (some-ne-none t (sym e));
             });
-        unborn = λ _ _ _. (refl, refl);
-        begun = begins_again (history_first state key);
+        unborn = λ _ _ _. (tt, refl);
         place = inl (record {
           machine = d;
           word = 1;
@@ -90,7 +86,7 @@ module _ {S : Type 0} (state : S → World) (key : List S) where
           over = λ ne. absurd (ne refl);
           legal = legal;
           made = sym made;
-          history = sym first;
+          last = is;
           none_holds = each_end (λ _ (u : Known S). u.holds ≡ false) [] v (λ k u e. absurd (some-ne-none u (sym e))) refl;
         });
       }
@@ -99,7 +95,7 @@ module _ {S : Type 0} (state : S → World) (key : List S) where
 
   -- a core that this one didn't take in has it
   beside : (space : TableId) (id : ℕ) (v : Known S) (s : State S (Known S)) (k : Kept state key s) → get_elem? s.views id ≡ some v
-      → Out state s k.history → v.live ≡ true → v.holds ≡ false → IsBeside state (view_of space v)
+      → Out state s k.turns → v.live ≡ true → v.holds ≡ false → IsBeside state (view_of space v)
   beside space id v s k at o lives idle =
       let fits = k.each id v at in
       let u : Known S = o.held.0 in
@@ -117,144 +113,194 @@ module _ {S : Type 0} (state : S → World) (key : List S) where
         },
       )
 
-  -- it wasn't there, or no call can begin
-  not_taken : (slots id : ℕ) (me : Me S (Known S)) (s : State S (Known S)) → Kept state key s → get_elem? s.views id ≡ some me.0 → (n : ℕ)
-      → s.words ≡ padded n → eqb n 1 ≡ false
-      → (n ≢ 0 → me.0.live ≡ true → (u : World) × IsLater state me.0.first me.0.seen u × IsOver u)
-      → (n ≡ 0 → me.0.live ≡ true → me.0.holds ≡ false → (space : TableId) → IsBeside state (view_of space me.0))
-      → (w : Known S) × (a : Act S) × Valid s.homes me.1 a
+  -- what a core learns that looks at the machine
+  learns : (id : ℕ) (v : Known S) (s : State S (Known S)) (k : Kept state key s) (at : get_elem? s.views id ≡ some v) (lives : v.live ≡ true)
+      → (f : Home state key s k.turns) → Learns state v ((k.each id v at).seen lives).rest f.machine
+  learns id v s k at lives f =
+      let fits = k.each id v at in
+      let sees = fits.seen lives in
+      let first = fits.first lives in
+      record {
+        others = sees.others;
+        order = subst (λ (p : List S × List (Turn S)). AreInOrder state p.0 p.1) (λ i. (sym first i, sees.goes i)) k.order;
+        last = (λ i. left_by (first i) (sym sees.goes i)) ∙ f.last;
+        legal = f.legal;
+        made = f.made ∙ ap (made_of state) (sym first);
+        here = subst (λ (m : Made). v.core < m.cores) (sym f.made) (fits.here lives);
+        mine = ap (λ l. replied_by v.core (log_in state l)) (sym f.last) ∙ fits.mine lives;
+        joined = λ n t e. subst (λ (p : List S × List (Turn S)). IsTold state p.0 p.1 t) (λ i. (sym first i, sees.goes i)) (fits.told n t e).0;
+      }
+
+  -- what is so of a core that learned of all turns
+  fits_looked : (left id : ℕ) (seat_of : ℕ → ℕ) (gone : ℕ → Bool) (turns : List (Turn S)) (v : Known S) (rest : List (Turn S)) → turns ≡ v.turns ++ rest
+      → Fits state key turns seat_of gone left id v → (b : Bool) → Fits state key turns seat_of gone left id (record (looked v rest) { holds = b })
+  fits_looked left id seat_of gone turns v rest goes fits b = record {
+    seen = λ _. sees_all v.core (v.turns ++ rest) turns (sym goes);
+    mine = fits.mine;
+    seat = fits.seat;
+    core = fits.core;
+    here = fits.here;
+    first = fits.first;
+    stays = fits.stays;
+    spare = fits.spare;
+    told = fits.told;
+  }
+
+  abbrev TakesSo : (slots id : ℕ) → Me S (Known S) → State S (Known S) → Type 0
+  TakesSo slots id me s = (w : Known S) × (a : Act S) × Valid s.homes me.1 a
       × Kept state key (stepped s 8 (either (eqb (slice_index s.words 8) 1) 0 (slice_index s.words 8)) id me.1 w a)
       × Takes state (step slots 8 1 0 none) me (slice_index s.words 8) (w, carried_after me.1 a)
-  not_taken slots id me s k at n is other over away =
-      let there : slice_index s.words 8 ≡ n = ap (λ ws. slice_index ws 8) is in
+
+  -- another core has it
+  busy : (slots id : ℕ) (me : Me S (Known S)) (s : State S (Known S)) (k : Kept state key s) → get_elem? s.views id ≡ some me.0 → me.0.live ≡ true
+      → Out state s k.turns → TakesSo slots id me s
+  busy slots id me s k at lives o =
+      let there : slice_index s.words 8 ≡ 0 = ap (λ ws. slice_index ws 8) o.words in
       let words : set s.words 8 (either (eqb (slice_index s.words 8) 1) 0 (slice_index s.words 8)) ≡ s.words =
-      ap (λ ws. set ws 8 (either (eqb (slice_index ws 8) 1) 0 (slice_index ws 8))) is ∙ (ap (λ b. padded (either b 0 n)) other ∙ sym is) in
+      ap (λ ws. set ws 8 (either (eqb (slice_index ws 8) 1) 0 (slice_index ws 8))) o.words ∙ sym o.words in
       let views : set s.views id me.0 ≡ s.views = set_again s.views id me.0 at in (
         me.0,
         keeps,
         tt,
         subst (λ (x : List ℕ × List (Known S)). Kept state key record { words = x.0; homes = s.homes; views = x.1 }) (λ i. (sym words i, sym views i)) k,
-        subst (λ m. Took state m me me) (sym there) (missed n other over away),
+        subst (λ m. Took state m me me) (sym there) (refl, λ idle space. beside space id me.0 s k at o lives idle),
       )
-    where
-      missed : (n : ℕ) → eqb n 1 ≡ false → (n ≢ 0 → me.0.live ≡ true → (u : World) × IsLater state me.0.first me.0.seen u × IsOver u)
-          → (n ≡ 0 → me.0.live ≡ true → me.0.holds ≡ false → (space : TableId) → IsBeside state (view_of space me.0)) → Took state n me me
-      missed n other over away = subst (λ b. MatchBool b ((d : S) × (me ≡ (holding me.0 (history_of (state d)), (0, d) ∷ me.1)) × Learns state me.0 d)
-          ((me ≡ me) × (n ≢ 0 → me.0.live ≡ true → (u : World) × IsLater state me.0.first me.0.seen u × IsOver u)
-          × (n ≡ 0 → me.0.live ≡ true → me.0.holds ≡ false → (space : TableId) → IsBeside state (view_of space me.0)))) (sym other) (refl, over, away)
 
-  taken : (slots id : ℕ) (me : Me S (Known S)) (s : State S (Known S)) (k : Kept state key s) → get_elem? s.views id ≡ some me.0 → me.0.live ≡ true
-      → (f : Home state key s k.history) → f.word ≡ 1
-      → (w : Known S) × (a : Act S) × Valid s.homes me.1 a
-      × Kept state key (stepped s 8 (either (eqb (slice_index s.words 8) 1) 0 (slice_index s.words 8)) id me.1 w a)
-      × Takes state (step slots 8 1 0 none) me (slice_index s.words 8) (w, carried_after me.1 a)
-  taken slots id me s k at live f home =
-      let d : S = f.machine in
-      let w : Known S = holding me.0 (history_of (state d)) in
-      let fits = k.each id me.0 at in
-      let me' : Me S (Known S) = (w, (0, d) ∷ me.1) in
-      let words : s.words ≡ padded 1 = f.words ∙ ap padded home in
-      let one : slice_index s.words 8 ≡ 1 = ap (λ ws. slice_index ws 8) words in
-      let seen : Begins me.0.seen (history_of (state d)) = subst (Begins me.0.seen) (sym f.history) fits.seen in
-      let learns : Learns state me.0 d = record {
-        seen = seen;
-        legal = f.legal;
-        calm = f.calm home;
-        made = λ live. f.made ∙ ap (made_of state) (sym (fits.first live));
-        here = λ live. subst (λ (m : Made). me.0.core < m.cores) (sym f.made) (fits.here live);
-        mine = λ live. ap (replied_by me.0.core) f.history ∙ fits.mine live;
-      } in (
+  -- no call can begin any more
+  spent : (slots id : ℕ) (me : Me S (Known S)) (s : State S (Known S)) (k : Kept state key s) → get_elem? s.views id ≡ some me.0 → me.0.live ≡ true
+      → (f : Home state key s k.turns) → eqb f.word 1 ≡ false → TakesSo slots id me s
+  spent slots id me s k at lives f differs =
+      let n : ℕ = f.word in
+      let there : slice_index s.words 8 ≡ n = ap (λ ws. slice_index ws 8) f.words in
+      let words : set s.words 8 (either (eqb (slice_index s.words 8) 1) 0 (slice_index s.words 8)) ≡ padded n =
+      ap (λ ws. set ws 8 (either (eqb (slice_index ws 8) 1) 0 (slice_index ws 8))) f.words ∙ ap (λ b. padded (either b 0 n)) differs in
+      let sees = (k.each id me.0 at).seen lives in
+      let w : Known S = looked me.0 sees.rest in
+      let not_zero : eqb n 0 ≡ false = ne_eqb n 0 f.in_place in (
         w,
-        takes 0 d,
-        ap (λ h. get_elem? h 0) f.homes,
+        keeps,
+        tt,
         record {
-          history = k.history;
+          turns = k.turns;
           seat_of = k.seat_of;
           gone = k.gone;
           left = k.left;
           few = k.few;
-          each = each_at (λ j v. Fits state key k.history k.seat_of k.gone k.left j v) s.views id w (λ j v _ e. k.each j v e)
-              (record {
-                seen = subst (λ h. Begins h k.history) (sym f.history) (begins_again k.history);
-                mine = fits.mine;
-                seat = fits.seat;
-                core = fits.core;
-                here = fits.here;
-                first = fits.first;
-                stays = fits.stays;
-                spare = fits.spare;
-                told = fits.told;
-              });
+          order = k.order;
+          each = each_at (λ j v. Fits state key k.turns k.seat_of k.gone k.left j v) s.views id w (λ j v _ e. k.each j v e)
+              (fits_looked k.left id k.seat_of k.gone k.turns me.0 sees.rest sees.goes (k.each id me.0 at) me.0.holds);
           unborn = k.unborn;
-          begun = k.begun;
+          place = inl (record {
+            machine = f.machine;
+            word = n;
+            words = words;
+            homes = f.homes;
+            in_place = f.in_place;
+            calm = f.calm;
+            over = f.over;
+            legal = f.legal;
+            made = f.made;
+            last = f.last;
+            none_holds = each_at (λ _ (v : Known S). v.holds ≡ false) s.views id w (λ j v _ e. f.none_holds j v e) (f.none_holds id me.0 at);
+          });
+        },
+        subst (λ m. Took state m me (w, me.1)) (sym there) (missed n (w, me.1) differs not_zero (
+          f.machine,
+          sees.rest,
+          refl,
+          learns id me.0 s k at lives f,
+          f.over (λ one. let z = sym (ap (λ n. eqb n 1) one) ∙ differs in cc),
+        )),
+      )
+    where
+      missed : (n : ℕ) (w : Me S (Known S)) → eqb n 1 ≡ false → eqb n 0 ≡ false
+          → (d : S) × (rest : List (Turn S)) × (w ≡ (looked me.0 rest, me.1)) × Learns state me.0 rest d × IsOver (state d) → Took state n me w
+      missed n w e f z = subst (λ b. MatchBool b ((d : S) × (rest : List (Turn S)) × (w ≡ (holding me.0 rest, (0, d) ∷ me.1)) × Learns state me.0 rest d
+          × IsCalm (state d)) (Missed state n me w)) (sym e)
+          (subst (λ b. MatchBool b ((w ≡ me) × (me.0.holds ≡ false → (space : TableId) → IsBeside state (view_of space me.0)))
+          ((d : S) × (rest : List (Turn S)) × (w ≡ (looked me.0 rest, me.1)) × Learns state me.0 rest d × IsOver (state d))) (sym f) z)
+
+  taken : (slots id : ℕ) (me : Me S (Known S)) (s : State S (Known S)) (k : Kept state key s) → get_elem? s.views id ≡ some me.0 → me.0.live ≡ true
+      → (f : Home state key s k.turns) → f.word ≡ 1 → TakesSo slots id me s
+  taken slots id me s k at live f home =
+      let d : S = f.machine in
+      let sees = (k.each id me.0 at).seen live in
+      let w : Known S = holding me.0 sees.rest in
+      let me' : Me S (Known S) = (w, (0, d) ∷ me.1) in
+      let words : s.words ≡ padded 1 = f.words ∙ ap padded home in
+      let one : slice_index s.words 8 ≡ 1 = ap (λ ws. slice_index ws 8) words in (
+        w,
+        takes 0 d,
+        ap (λ h. get_elem? h 0) f.homes,
+        record {
+          turns = k.turns;
+          seat_of = k.seat_of;
+          gone = k.gone;
+          left = k.left;
+          few = k.few;
+          order = k.order;
+          each = each_at (λ j v. Fits state key k.turns k.seat_of k.gone k.left j v) s.views id w (λ j v _ e. k.each j v e)
+              (fits_looked k.left id k.seat_of k.gone k.turns me.0 sees.rest sees.goes (k.each id me.0 at) true);
+          unborn = k.unborn;
           place = inr (record {
             holder = id;
             words = ap (λ ws. set ws 8 (either (eqb (slice_index ws 8) 1) 0 (slice_index ws 8))) words;
             homes = ap (λ h. set h 0 none) f.homes;
             held = (w, set_there s.views id me.0 w at, record { holds = refl; live = live });
-            one_holds = each_at (λ j (v : Known S). v.holds ≡ true → (j ≡ id) × (v.seen ≡ k.history)) s.views id w
-                (λ j v _ e yes. absurd (not_both v.holds (f.none_holds j v e) yes)) (λ _. (refl, f.history));
+            one_holds = each_at (λ j (v : Known S). v.holds ≡ true → (j ≡ id) × (v.turns ≡ k.turns)) s.views id w
+                (λ j v _ e yes. absurd (not_both v.holds (f.none_holds j v e) yes)) (λ _. (refl, sym sees.goes));
           });
         },
-        subst (λ m. Took state m me me') (sym one) (d, refl, learns),
+        subst (λ m. Took state m me me') (sym one) (d, sees.rest, refl, learns id me.0 s k at live f, f.calm home),
       )
 
   pub take_keeps : (slots id : ℕ) (me : Me S (Known S)) → me.0.live ≡ true
       → Allows (Kept state key) slots id me 8 (λ n. either (eqb n 1) 0 n) (Takes state (step slots 8 1 0 none) me)
   take_keeps slots id me live s k wide at small = ⊎_elim
-      (λ (f : Home state key s k.history). at_home f (eqb f.word 1) refl)
-      (λ (o : Out state s k.history). not_taken slots id me s k at 0 o.words refl (λ ne. absurd (ne refl))
-      (λ _ lives idle space. beside space id me.0 s k at o lives idle))
+      (λ (f : Home state key s k.turns). at_home f (eqb f.word 1) refl)
+      (λ (o : Out state s k.turns). busy slots id me s k at live o)
       k.place
     where
-      at_home : (f : Home state key s k.history) (b : Bool) → eqb f.word 1 ≡ b → (w : Known S) × (a : Act S) × Valid s.homes me.1 a
-          × Kept state key (stepped s 8 (either (eqb (slice_index s.words 8) 1) 0 (slice_index s.words 8)) id me.1 w a)
-          × Takes state (step slots 8 1 0 none) me (slice_index s.words 8) (w, carried_after me.1 a)
+      at_home : (f : Home state key s k.turns) (b : Bool) → eqb f.word 1 ≡ b → TakesSo slots id me s
       at_home f true e = taken slots id me s k at live f (eq_true f.word 1 e)
-      at_home f false e = not_taken slots id me s k at f.word f.words e (λ _ live.
-          let fits = k.each id me.0 at in (
-            state f.machine,
-            record {
-              legal = f.legal;
-              made = f.made ∙ ap (made_of state) (sym (fits.first live));
-              begun = subst (Begins me.0.seen) (sym f.history) fits.seen;
-            },
-            f.over (λ one. let z = sym (ap (λ n. eqb n 1) one) ∙ e in cc),
-          )) (λ zero. absurd (f.in_place zero))
+      at_home f false e = spent slots id me s k at live f e
 
   -- ---- the machine is given back
 
   pub give_keeps : (slots id : ℕ) (me : Me S (Known S)) (d : S) (word : ℕ) → me.1 ≡ (0, d) ∷ [] → CanGive state me.0 d word
       → Allows (Kept state key) slots id me 8 (λ _. word) (λ _. Gives state (step slots 8 word 0 none) me word)
   give_keeps slots id me d word has can s k wide at small = ⊎_elim
-      (λ (f : Home state key s k.history). absurd (not_both me.0.holds (f.none_holds id me.0 at) can.holds))
-      (λ (o : Out state s k.history).
+      (λ (f : Home state key s k.turns). absurd (not_both me.0.holds (f.none_holds id me.0 at) can.holds))
+      (λ (o : Out state s k.turns).
       let fits = k.each id me.0 at in
+      let first = fits.first can.live in
       let here = o.one_holds id me.0 at can.holds in
-      let h : SeenLog = history_of (state d) in
-      let w : Known S = after me.0 (history_carried state me.1) in
-      let first : history_carried state me.1 ≡ h = ap (history_carried state) has in
-      let adds : Adds me.0.core can.adds.0 k.history h = subst (λ x. Adds me.0.core can.adds.0 x h) here.1 can.adds.1 in
-      let further : (x : SeenLog) → Begins x k.history → Begins x h = λ x b. begins_through x k.history h b adds.begins in
-      let told_more : (t : JoinedCore) → IsTold k.history t × (k.gone t.core ≡ true) → IsTold h t × (k.gone t.core ≡ true) = λ t old.
-      let differ : t.core ≢ me.0.core = λ same. not_both (k.gone t.core) (ap k.gone same ∙ fits.stays can.live) old.1 in
-      ((further t.seen old.0.0, adds.others t.core differ ∙ old.0.1), old.1) in (
+      let mine : Turn S = turn me.0.core d in
+      let turns : List (Turn S) = k.turns ++ mine ∷ [] in
+      let x : S = can.leads.0 in
+      let last : left_by key k.turns ≡ x ∷ [] = (λ i. left_by (sym first i) (sym here.1 i)) ∙ can.leads.1 in
+      let leads : Leads state (state x) me.0.core (state d) = can.leads.2 in
+      let w : Known S = given state me.0 me.1 in
+      let gave : w ≡ after state me.0 d = ap (given state me.0) has in
+      let told_more : (t : JoinedCore S) → IsTold state key k.turns t × (k.gone t.core ≡ true) → IsTold state key turns t × (k.gone t.core ≡ true) = λ t old.
+      (told_on state key k.turns x mine t last leads (λ same. not_both (k.gone t.core) (ap k.gone same ∙ fits.stays can.live) old.1) old.0, old.1) in (
         w,
         gives,
         tt,
         record {
-          history = h;
+          turns = turns;
           seat_of = k.seat_of;
           gone = k.gone;
           left = k.left;
           few = k.few;
-          each = each_at (λ j v. Fits state key h k.seat_of k.gone k.left j v) s.views id w
+          order = order_more state key k.turns x mine k.order last leads;
+          each = each_at (λ j v. Fits state key turns k.seat_of k.gone k.left j v) s.views id w
               (λ j v other there.
               let old = k.each j v there in
               let differ : v.live ≡ true → v.core ≢ me.0.core = λ lives same. other (sym (old.seat lives) ∙ (ap k.seat_of same ∙ fits.seat can.live)) in
               record {
-                seen = further v.seen old.seen;
-                mine = λ lives. adds.others v.core (differ lives) ∙ old.mine lives;
+                seen = λ lives. sees_more v.core v.turns k.turns mine (old.seen lives) (λ same. differ lives (sym same));
+                mine = λ lives. replied_on state v.core key k.turns x mine last leads (differ lives) ∙ old.mine lives;
                 seat = old.seat;
                 core = old.core;
                 here = old.here;
@@ -263,9 +309,9 @@ module _ {S : Type 0} (state : S → World) (key : List S) where
                 spare = old.spare;
                 told = λ n t e. told_more t (old.told n t e);
               })
-              (record {
-                seen = subst (λ x. Begins x h) (sym first) (begins_again h);
-                mine = λ _. ap (replied_by me.0.core) (sym first);
+              (subst (λ (u : Known S). Fits state key turns k.seat_of k.gone k.left id u) (sym gave) (record {
+                seen = λ _. sees_all me.0.core (me.0.turns ++ mine ∷ []) turns (ap (λ l. l ++ mine ∷ []) here.1);
+                mine = λ _. ap (λ l. replied_by me.0.core (log_in state l)) (left_more key k.turns mine);
                 seat = fits.seat;
                 core = fits.core;
                 here = fits.here;
@@ -273,13 +319,12 @@ module _ {S : Type 0} (state : S → World) (key : List S) where
                 stays = fits.stays;
                 spare = fits.spare;
                 told = λ n t e. told_more t (fits.told n t e);
-              });
+              }));
           unborn = λ c low high.
-              let differ : c ≢ me.0.core = λ same. ⊎_elim (λ (z : me.0.core ≡ 0). absurd (omega (arith, same ∙ z)))
+              let differ : me.0.core ≢ c = λ same. ⊎_elim (λ (z : me.0.core ≡ 0). absurd (omega (arith, sym same ∙ z)))
               (λ (l : k.left < me.0.core). absurd (omega (arith, same)))
               (fits.core can.live) in
-              (adds.others c differ ∙ (k.unborn c low high).0, (k.unborn c low high).1);
-          begun = further (history_first state key) k.begun;
+              (none_more c k.turns mine (k.unborn c low high).0 differ, (k.unborn c low high).1);
           place = inl (record {
             machine = d;
             word = word;
@@ -288,11 +333,11 @@ module _ {S : Type 0} (state : S → World) (key : List S) where
             in_place = can.in_place;
             calm = can.calm;
             over = can.over;
-            legal = can.legal;
-            made = can.made ∙ ap (made_of state) (fits.first can.live);
-            history = refl;
+            legal = leads.legal;
+            made = can.made ∙ ap (made_of state) first;
+            last = left_more key k.turns mine;
             none_holds = each_at (λ _ (v : Known S). v.holds ≡ false) s.views id w
-                (λ j v other there. not_true v.holds (λ yes. other ((o.one_holds j v there yes).0 ∙ sym here.0))) refl;
+                (λ j v other there. not_true v.holds (λ yes. other ((o.one_holds j v there yes).0 ∙ sym here.0))) (ap (λ (u : Known S). u.holds) gave);
           });
         },
         refl,
@@ -311,7 +356,9 @@ module _ {S : Type 0} (state : S → World) (key : List S) where
       let seat_of : ℕ → ℕ = λ c. cond (eqb c v.spare) (length vs) (k.seat_of c) in
       let left : ℕ = k.left - 1 in
       let is_left : v.spare ≡ k.left = is.2 in
-      let key_first : history_first state v.first ≡ history_first state key = ap (history_first state) (fits.first is.0) in
+      let sees = fits.seen is.0 in
+      let first : v.first ≡ key = fits.first is.0 in
+      let order = subst (λ (p : List S × List (Turn S)). AreInOrder state p.0 p.1) (λ i. (sym first i, sees.goes i)) k.order in
       let apart : (c : ℕ) → (c ≡ 0) ⊎ (k.left < c)
       → c ≢ v.spare = λ c lies same. ⊎_elim (λ (z : c ≡ 0). absurd (omega (arith, some_spare, same, z)))
       (λ (m : k.left < c). absurd (omega (arith, same, is_left, m))) lies in
@@ -319,14 +366,16 @@ module _ {S : Type 0} (state : S → World) (key : List S) where
       → seat_of c ≡ k.seat_of c = λ c lies. ap (λ b. cond b (length vs) (k.seat_of c)) (ne_eqb c v.spare (apart c lies)) in
       let above : (c : ℕ) → (c ≡ 0) ⊎ (k.left < c) → (c ≡ 0) ⊎ (left < c) = λ c lies. ⊎_elim (λ z. inl z) (λ (m : k.left < c). inr (omega (arith, m))) lies in
       let unborn = k.unborn v.spare (omega (arith, some_spare)) (omega (arith, is_left)) in
+      let others : NoneOf v.spare sees.rest = none_behind v.spare v.turns sees.rest (subst (NoneOf v.spare) sees.goes unborn.0) in
       record {
-        history = k.history;
+        turns = k.turns;
         seat_of = seat_of;
         gone = k.gone;
         left = left;
         few = let few = k.few in omega (arith, few);
-        each = each_end (λ j u. Fits state key k.history seat_of k.gone left j u) vs r
-            (each_at (λ j u. Fits state key k.history seat_of k.gone left j u) s.views id l
+        order = k.order;
+        each = each_end (λ j u. Fits state key k.turns seat_of k.gone left j u) vs r
+            (each_at (λ j u. Fits state key k.turns seat_of k.gone left j u) s.views id l
             (λ j u other there.
             let old = k.each j u there in
             record {
@@ -352,8 +401,9 @@ module _ {S : Type 0} (state : S → World) (key : List S) where
               told = fits.told;
             }))
             (record {
-              seen = subst (λ x. Begins x k.history) (sym key_first) k.begun;
-              mine = λ _. unborn.0 ∙ ap (replied_by v.spare) (sym key_first);
+              seen = λ _. record { rest = sees.rest; goes = sees.goes; others = others };
+              mine = λ _. (λ i. replied_by v.spare (log_in state (left_by (sym first i) (sees.goes i))))
+                  ∙ others_keep state v.spare v.first v.turns sees.rest order others;
               seat = λ _. ap (λ b. cond b (length vs) (k.seat_of v.spare)) (eq-eqb v.spare v.spare refl);
               core = λ _. inr (omega (arith, is_left, some_spare));
               here = λ _. let few = k.few in omega (arith, is_left, few);
@@ -363,9 +413,8 @@ module _ {S : Type 0} (state : S → World) (key : List S) where
               told = λ n t here. absurd (some-ne-none t (sym here));
             });
         unborn = λ c low high. k.unborn c low (omega (arith, high));
-        begun = k.begun;
         place = ⊎_elim
-            (λ (f : Home state key s k.history). inl (record {
+            (λ (f : Home state key s k.turns). inl (record {
               machine = f.machine;
               word = f.word;
               words = f.words;
@@ -375,11 +424,11 @@ module _ {S : Type 0} (state : S → World) (key : List S) where
               over = f.over;
               legal = f.legal;
               made = f.made;
-              history = f.history;
+              last = f.last;
               none_holds = each_end (λ _ (u : Known S). u.holds ≡ false) vs r
                   (each_at (λ _ (u : Known S). u.holds ≡ false) s.views id l (λ j u _ e. f.none_holds j u e) (f.none_holds id v at)) refl;
             }))
-            (λ (o : Out state s k.history). inr (record {
+            (λ (o : Out state s k.turns). inr (record {
               holder = o.holder;
               words = o.words;
               homes = o.homes;
@@ -387,8 +436,8 @@ module _ {S : Type 0} (state : S → World) (key : List S) where
                   let stays = still_at Holds s.views id o.holder v o.held.0 l at o.held.1 o.held.2
                   (λ same. let h = subst Holds (one_entry s.views o.holder id o.held.0 v o.held.1 at same) o.held.2 in record { holds = h.holds; live = h.live }) in
                   (stays.0, at_longer vs (r ∷ []) o.holder stays.0 stays.1, stays.2);
-              one_holds = each_end (λ j (u : Known S). u.holds ≡ true → (j ≡ o.holder) × (u.seen ≡ k.history)) vs r
-                  (each_at (λ j (u : Known S). u.holds ≡ true → (j ≡ o.holder) × (u.seen ≡ k.history)) s.views id l (λ j u _ e. o.one_holds j u e)
+              one_holds = each_end (λ j (u : Known S). u.holds ≡ true → (j ≡ o.holder) × (u.turns ≡ k.turns)) vs r
+                  (each_at (λ j (u : Known S). u.holds ≡ true → (j ≡ o.holder) × (u.turns ≡ k.turns)) s.views id l (λ j u _ e. o.one_holds j u e)
                   (o.one_holds id v at))
                   (λ yes. absurd (cc yes));
             }))
@@ -413,17 +462,18 @@ module _ {S : Type 0} (state : S → World) (key : List S) where
       let last = k.each other w there in
       let gone : ℕ → Bool = λ c. cond (eqb c w.core) true (k.gone c) in
       let still_here : (c : ℕ) → c ≢ w.core → k.gone c ≡ false → gone c ≡ false = λ c not e. ap (λ y. cond y true (k.gone c)) (ne_eqb c w.core not) ∙ e in
-      let told_still : (t : JoinedCore) → IsTold k.history t × (k.gone t.core ≡ true) → IsTold k.history t × (gone t.core ≡ true) =
+      let told_still : (t : JoinedCore S) → IsTold state key k.turns t × (k.gone t.core ≡ true) → IsTold state key k.turns t × (gone t.core ≡ true) =
       λ t old. (old.0, still (eqb t.core w.core) (k.gone t.core) old.1) in
-      let new : JoinedCore = record { core = w.core; seen = w.seen; mine = w.mine } in
+      let new : JoinedCore S = record { core = w.core; turns = w.turns; mine = w.mine } in
       record {
-        history = k.history;
+        turns = k.turns;
         seat_of = k.seat_of;
         gone = gone;
         left = k.left;
         few = k.few;
-        each = each_at (λ j u. Fits state key k.history k.seat_of gone k.left j u) vs other spent_core
-            (λ j u far here. each_at (λ j u. j ≢ other → Fits state key k.history k.seat_of gone k.left j u) s.views id b
+        order = k.order;
+        each = each_at (λ j u. Fits state key k.turns k.seat_of gone k.left j u) vs other spent_core
+            (λ j u far here. each_at (λ j u. j ≢ other → Fits state key k.turns k.seat_of gone k.left j u) s.views id b
             (λ j u _ here far.
             let old = k.each j u here in
             record {
@@ -446,11 +496,13 @@ module _ {S : Type 0} (state : S → World) (key : List S) where
               first = fits.first;
               stays = λ _. still_here v.core (λ same. apart (sym (last.seat lives') ∙ (ap k.seat_of (sym same) ∙ fits.seat lives))) (fits.stays lives);
               spare = fits.spare;
-              told = each_end (λ _ t. IsTold k.history t × (gone t.core ≡ true)) v.others new (λ n t e. told_still t (fits.told n t e))
-                  ((last.seen, last.mine lives'), ap (λ y. cond y true (k.gone w.core)) (eq-eqb w.core w.core refl));
+              told = each_both (λ t. IsTold state key k.turns t × (gone t.core ≡ true)) v.others (new ∷ w.others) (λ n t e. told_still t (fits.told n t e))
+                  (each_front (λ t. IsTold state key k.turns t × (gone t.core ≡ true)) new w.others
+                  (record { seen = last.seen lives'; mine = last.mine lives' }, ap (λ y. cond y true (k.gone w.core)) (eq-eqb w.core w.core refl))
+                  (λ n t e. told_still t (last.told n t e)));
             }) j u here far)
             (record {
-              seen = (refl, refl);
+              seen = λ yes. absurd (cc yes);
               mine = λ yes. absurd (cc yes);
               seat = λ yes. absurd (cc yes);
               core = λ yes. absurd (cc yes);
@@ -466,9 +518,8 @@ module _ {S : Type 0} (state : S → World) (key : List S) where
               still_here c (λ same. ⊎_elim (λ (z : w.core ≡ 0). absurd (omega (arith, same ∙ z)))
                   (λ (m : k.left < w.core). absurd (omega (arith, same))) (last.core lives')) old.1,
             );
-        begun = k.begun;
         place = ⊎_elim
-            (λ (f : Home state key s k.history). inl (record {
+            (λ (f : Home state key s k.turns). inl (record {
               machine = f.machine;
               word = f.word;
               words = f.words;
@@ -478,11 +529,11 @@ module _ {S : Type 0} (state : S → World) (key : List S) where
               over = f.over;
               legal = f.legal;
               made = f.made;
-              history = f.history;
+              last = f.last;
               none_holds = each_at (λ _ (u : Known S). u.holds ≡ false) vs other spent_core
                   (λ j u _ e. each_at (λ _ (u : Known S). u.holds ≡ false) s.views id b (λ j u _ e. f.none_holds j u e) idle j u e) refl;
             }))
-            (λ (o : Out state s k.history). inr (record {
+            (λ (o : Out state s k.turns). inr (record {
               holder = o.holder;
               words = o.words;
               homes = o.homes;
@@ -492,8 +543,8 @@ module _ {S : Type 0} (state : S → World) (key : List S) where
                   still_at Holds vs other o.holder w first.0 spent_core there' first.1 first.2
                   (λ same. let h = subst Holds (one_entry vs o.holder other first.0 w first.1 there' same) first.2 in
                   absurd (not_both w.holds idle' h.holds));
-              one_holds = each_at (λ j (u : Known S). u.holds ≡ true → (j ≡ o.holder) × (u.seen ≡ k.history)) vs other spent_core
-                  (λ j u _ e. each_at (λ j (u : Known S). u.holds ≡ true → (j ≡ o.holder) × (u.seen ≡ k.history)) s.views id b (λ j u _ e. o.one_holds j u e)
+              one_holds = each_at (λ j (u : Known S). u.holds ≡ true → (j ≡ o.holder) × (u.turns ≡ k.turns)) vs other spent_core
+                  (λ j u _ e. each_at (λ j (u : Known S). u.holds ≡ true → (j ≡ o.holder) × (u.turns ≡ k.turns)) s.views id b (λ j u _ e. o.one_holds j u e)
                   (λ yes. absurd (not_both v.holds idle yes)) j u e)
                   (λ yes. absurd (cc yes));
             }))
@@ -502,28 +553,34 @@ module _ {S : Type 0} (state : S → World) (key : List S) where
 
   -- ---- the end
 
-  -- where the word isn't 0, the machine that was at home has the history
+  -- where the word isn't 0, the machine that was at home is as the last turn left it
   pub closes : (space : TableId) (id : ℕ) (v : Known S) (ws : List ℕ) (xs : List S) (d : S) (word : ℕ) → v.live ≡ true
       → Final (Seen (Kept state key) id v) ws xs
-      → get_elem? ws 8 ≡ some word → word ≢ 0 → get_elem? xs 0 ≡ some d → Agrees state (state d) (view_of space v)
+      → get_elem? ws 8 ≡ some word → word ≢ 0 → get_elem? xs 0 ≡ some d → Agrees state d (view_of space v)
   closes space id v ws xs d word lives end there home here =
       let s = end.0 in
       let k : Kept state key s = end.1.0 in
       let fits = k.each id v end.1.1 in
+      let first = fits.first lives in
       let words : s.words ≡ ws = end.2 in
       ⊎_elim
-      (λ (f : Home state key s k.history).
+      (λ (f : Home state key s k.turns).
       let same : f.machine ≡ d = sym (some-injective d f.machine (sym here ∙ end.4 0 f.machine (ap (λ h. get_elem? h 0) f.homes))) in
-      let back : k.history ≡ history_of (state d) = sym f.history ∙ ap (λ (x : S). history_of (state x)) same in
       record {
+        turns = k.turns;
+        order = subst (λ l. AreInOrder state l k.turns) (sym first) k.order;
+        last = ap (λ l. left_by l k.turns) first ∙ f.last ∙ ap (λ x. x ∷ []) same;
         legal = subst (λ (x : S). IsLegal (state x)) same f.legal;
-        made = sym (ap (λ (x : S). (state x).made) same) ∙ (f.made ∙ ap (made_of state) (sym (fits.first lives)));
-        own = (subst (Begins v.seen) back fits.seen, ap (replied_by v.core) (sym back) ∙ fits.mine lives);
-        others = λ n t e. subst (λ h. IsTold h t) back (fits.told n t (as_elem v.others n t e)).0;
+        made = sym (ap (λ (x : S). (state x).made) same) ∙ (f.made ∙ ap (made_of state) (sym first));
+        own = subst (λ l. IsTold state l k.turns (told v)) (sym first) (record { seen = fits.seen lives; mine = fits.mine lives });
+        others = λ n t e. subst (λ l. IsTold state l k.turns t) (sym first) (fits.told n t (as_elem v.others n t e)).0;
       })
-      (λ (o : Out state s k.history). absurd
+      (λ (o : Out state s k.turns). absurd
       (let e : some 0 ≡ some word = ap (λ l. get_elem? l 8) (sym o.words ∙ words) ∙ there in home (sym (some-injective 0 word e))))
       k.place
+    where
+      told : Known S → JoinedCore S
+      told v = record { core = v.core; turns = v.turns; mine = v.mine }
 
   -- where it is 0, a core that this one didn't take in has the machine
   pub loses : (space : TableId) (id : ℕ) (v : Known S) (ws : List ℕ) (xs : List S) (word : ℕ) → v.live ≡ true → v.holds ≡ false
@@ -533,36 +590,43 @@ module _ {S : Type 0} (state : S → World) (key : List S) where
       let k : Kept state key s = end.1.0 in
       let words : s.words ≡ ws = end.2 in
       ⊎_elim
-      (λ (f : Home state key s k.history). absurd
+      (λ (f : Home state key s k.turns). absurd
       (let e : some f.word ≡ some word = ap (λ l. get_elem? l 8) (sym f.words ∙ words) ∙ there in f.in_place (some-injective f.word word e ∙ out)))
-      (λ (o : Out state s k.history). beside space id v s k end.1.1 o lives idle)
+      (λ (o : Out state s k.turns). beside space id v s k end.1.1 o lives idle)
       k.place
 
   -- ---- a call
 
   -- the word was 1
   pub took_home : (n : ℕ) (m w : Me S (Known S)) → n ≡ 1 → Took state n m w
-      → (d : S) × (w ≡ (holding m.0 (history_of (state d)), (0, d) ∷ m.1)) × Learns state m.0 d
+      → (d : S) × (rest : List (Turn S)) × (w ≡ (holding m.0 rest, (0, d) ∷ m.1)) × Learns state m.0 rest d × IsCalm (state d)
   took_home n m w e t = subst (λ k. Took state k m w) e t
 
   -- it wasn't
-  pub took_none : (n : ℕ) (m w : Me S (Known S)) → n ≢ 1 → Took state n m w
-      → (w ≡ m) × (n ≢ 0 → m.0.live ≡ true → (u : World) × IsLater state m.0.first m.0.seen u × IsOver u)
-      × (n ≡ 0 → m.0.live ≡ true → m.0.holds ≡ false → (space : TableId) → IsBeside state (view_of space m.0))
-  took_none n m w ne t = subst (λ b. MatchBool b ((d : S) × (w ≡ (holding m.0 (history_of (state d)), (0, d) ∷ m.1)) × Learns state m.0 d)
-      ((w ≡ m) × (n ≢ 0 → m.0.live ≡ true → (u : World) × IsLater state m.0.first m.0.seen u × IsOver u)
-      × (n ≡ 0 → m.0.live ≡ true → m.0.holds ≡ false → (space : TableId) → IsBeside state (view_of space m.0)))) (ne_eqb n 1 ne) t
+  took_none : (n : ℕ) (m w : Me S (Known S)) → n ≢ 1 → Took state n m w → Missed state n m w
+  took_none n m w ne t = subst (λ b. MatchBool b ((d : S) × (rest : List (Turn S)) × (w ≡ (holding m.0 rest, (0, d) ∷ m.1)) × Learns state m.0 rest d
+      × IsCalm (state d)) (Missed state n m w)) (ne_eqb n 1 ne) t
 
-  -- where another core has it
-  pub busy_beside : (space : TableId) (n : ℕ) (m w : Me S (Known S)) → n ≢ 1 → n ≡ 0 → Took state n m w → m.0.live ≡ true → m.0.holds ≡ false
-      → IsBeside state (view_of space m.0)
-  busy_beside space n m w ne zero t live idle = (took_none n m w ne t).2 zero live idle space
+  zero_not_one : (n : ℕ) → n ≡ 0 → n ≢ 1
+  zero_not_one n e one = omega (arith, e, one)
+
+  -- it was 0
+  pub took_busy : (n : ℕ) (m w : Me S (Known S)) → n ≡ 0 → Took state n m w
+      → (w ≡ m) × (m.0.holds ≡ false → (space : TableId) → IsBeside state (view_of space m.0))
+  took_busy n m w e t = subst (λ k. Missed state k m w) e (took_none n m w (zero_not_one n e) t)
+
+  -- it was neither
+  took_spent : (n : ℕ) (m w : Me S (Known S)) → n ≢ 1 → n ≢ 0 → Took state n m w
+      → (d : S) × (rest : List (Turn S)) × (w ≡ (looked m.0 rest, m.1)) × Learns state m.0 rest d × IsOver (state d)
+  took_spent n m w ne out t = subst (λ b. MatchBool b ((w ≡ m) × (m.0.holds ≡ false → (space : TableId) → IsBeside state (view_of space m.0)))
+      ((d : S) × (rest : List (Turn S)) × (w ≡ (looked m.0 rest, m.1)) × Learns state m.0 rest d × IsOver (state d))) (ne_eqb n 0 out)
+      (took_none n m w ne t)
 
   what_added : (w : World) (core : ℕ) (request : Request) (ended : CallEnd) (v : World) → Ends w core request ended v
       → (added : List Replied) × Adds core added (history_of w) (history_of v)
   what_added w core request (To.Reply reply) v h = (replied request reply ∷ [], h.1)
   what_added w core request To.Refused v h = ([], h.1)
-  what_added w core request To.Spent v h = h.0
+  what_added w core request To.Spent v h = (logged request h.0.0, h.0.1)
 
   over_then : (w : World) (core : ℕ) (request : Request) (ended : CallEnd) (v : World) → Ends w core request ended v → word_of ended ≢ 1 → IsOver v
   over_then w core request (To.Reply reply) v h ne = absurd (ne refl)
@@ -580,12 +644,12 @@ module _ {S : Type 0} (state : S → World) (key : List S) where
   never_out To.Spent e = omega (arith, e)
 
   -- the machine that a core took, once it was used, can be given back
-  gives_back : (v now : Known S) (d : S) (Does : World → World → Type 0) (carried : List (ℕ × S)) (word : ℕ) → v.live ≡ true → Learns state v d
-      → (makes : Makes state d Does carried) → now ≡ holding v (history_of (state d)) → word ≢ 0 → (word ≡ 1 → IsCalm (state makes.machine))
+  gives_back : (v now : Known S) (rest : List (Turn S)) (d : S) (Does : World → World → Type 0) (carried : List (ℕ × S)) (word : ℕ) → v.live ≡ true
+      → Learns state v rest d → (makes : Makes state d Does carried) → now ≡ holding v rest → word ≢ 0 → (word ≡ 1 → IsCalm (state makes.machine))
       → (word ≢ 1 → IsOver (state makes.machine))
       → ((added : List Replied) × Adds v.core added (history_of (state d)) (history_of (state makes.machine)))
       → (x : S) × (carried ≡ (0, x) ∷ []) × CanGive state now x word
-  gives_back v now d Does carried word live learns makes same in_place calm over adds = (
+  gives_back v now rest d Does carried word live learns makes same in_place calm over adds = (
     makes.machine,
     makes.has,
     subst (λ (k : Known S). CanGive state k makes.machine word) (sym same) (record {
@@ -594,45 +658,36 @@ module _ {S : Type 0} (state : S → World) (key : List S) where
       in_place = in_place;
       calm = calm;
       over = over;
-      legal = makes.legal;
-      made = makes.made ∙ learns.made live;
-      adds = adds;
+      made = makes.made ∙ learns.made;
+      leads = (d, learns.last, record { legal = makes.legal; made = makes.made; adds = adds });
     }),
   )
 
   -- after a call
-  pub call_gives : (v now : Known S) (d : S) (number : ℕ) (request : Request) (ended : CallEnd) (carried : List (ℕ × S)) (word : ℕ) → v.live ≡ true
-      → number ≡ v.core → Learns state v d
-      → Makes state d (λ x y. Ends x number request ended y) carried → now ≡ holding v (history_of (state d)) → word ≡ word_of ended
+  pub call_gives : (v now : Known S) (rest : List (Turn S)) (d : S) (number : ℕ) (request : Request) (ended : CallEnd) (carried : List (ℕ × S)) (word : ℕ)
+      → v.live ≡ true → number ≡ v.core → Learns state v rest d
+      → Makes state d (λ x y. Ends x number request ended y) carried → now ≡ holding v rest → word ≡ word_of ended
       → (x : S) × (carried ≡ (0, x) ∷ []) × CanGive state now x word
-  call_gives v now d number request ended carried word live is learns makes same sent =
+  call_gives v now rest d number request ended carried word live is learns makes same sent =
       let e : World = state makes.machine in
       let ends : Ends (state d) v.core request ended e = subst (λ n. Ends (state d) n request ended e) is makes.does in
-      gives_back v now d _ carried word live learns makes same
+      gives_back v now rest d _ carried word live learns makes same
       (λ out. never_out ended (sym sent ∙ out))
       (λ home. is_calm_then (state d) v.core request ended e ends (sym sent ∙ home))
       (λ not. over_then (state d) v.core request ended e ends (λ home. not (sent ∙ home)))
       (what_added (state d) v.core request ended e ends)
 
   -- after calls one after another
-  series_added : (stop : SeriesEnd) (w : World) (core : ℕ) (added : List Replied) (v : World) → LeavesFor stop w core added v
-      → (all : List Replied) × Adds core all (history_of w) (history_of v)
-  series_added For.Done w core added v h = (added, h.1)
-  series_added For.NoCall w core added v h = (added, h.1)
-  series_added For.NoMemory w core added v h = (added, h.1)
-  series_added For.Refused w core added v h = (added, h.1)
-  series_added For.Spent w core added v h = (added ++ h.0.0, h.0.1)
+  series_over : (stop : SeriesEnd) (v : World) → LeftFor stop v → word_after stop ≢ 1 → IsOver v
+  series_over For.Spent v h ne = h
+  series_over _ v h ne = absurd (ne refl)
 
-  series_over : (stop : SeriesEnd) (w : World) (core : ℕ) (added : List Replied) (v : World) → LeavesFor stop w core added v → word_after stop ≢ 1 → IsOver v
-  series_over For.Spent w core added v h ne = h.1
-  series_over _ w core added v h ne = absurd (ne refl)
-
-  series_calm : (stop : SeriesEnd) (w : World) (core : ℕ) (added : List Replied) (v : World) → LeavesFor stop w core added v → word_after stop ≡ 1 → IsCalm v
-  series_calm For.Done w core added v h e = h.0
-  series_calm For.NoCall w core added v h e = h.0
-  series_calm For.NoMemory w core added v h e = h.0
-  series_calm For.Refused w core added v h e = h.0
-  series_calm For.Spent w core added v h e = absurd (omega (arith, e))
+  series_calm : (stop : SeriesEnd) (v : World) → LeftFor stop v → word_after stop ≡ 1 → IsCalm v
+  series_calm For.Done v h e = h
+  series_calm For.NoCall v h e = h
+  series_calm For.NoMemory v h e = h
+  series_calm For.Refused v h e = h.0
+  series_calm For.Spent v h e = absurd (omega (arith, e))
 
   never_out_after : (stop : SeriesEnd) → word_after stop ≢ 0
   never_out_after For.Spent e = omega (arith, e)
@@ -643,83 +698,83 @@ module _ {S : Type 0} (state : S → World) (key : List S) where
   DoesEach number asked told_of was series told x y = (added : List Replied) × AreTold told_of added was told × (series.made ≡ length added)
       × EndsSeries x number asked added series.stop y
 
-  pub all_gives : {T : Type 0} (v now : Known S) (d : S) (number : ℕ) (asked : List (Option Request)) (told_of : Reply → T) (was told : List T)
-      (series : Series) (carried : List (ℕ × S)) (word : ℕ) → v.live ≡ true → number ≡ v.core → Learns state v d
-      → Makes state d (DoesEach number asked told_of was series told) carried → now ≡ holding v (history_of (state d))
+  pub all_gives : {T : Type 0} (v now : Known S) (rest : List (Turn S)) (d : S) (number : ℕ) (asked : List (Option Request)) (told_of : Reply → T)
+      (was told : List T) (series : Series) (carried : List (ℕ × S)) (word : ℕ) → v.live ≡ true → number ≡ v.core → Learns state v rest d
+      → Makes state d (DoesEach number asked told_of was series told) carried → now ≡ holding v rest
       → word ≡ word_after series.stop → (x : S) × (carried ≡ (0, x) ∷ []) × CanGive state now x word
-  all_gives v now d number asked told_of was told series carried word live is learns makes same sent =
+  all_gives v now rest d number asked told_of was told series carried word live is learns makes same sent =
       let e : World = state makes.machine in
-      let leaves : LeavesFor series.stop (state d) v.core makes.does.0 e =
-      subst (λ n. LeavesFor series.stop (state d) n makes.does.0 e) is makes.does.3.leaves in
-      gives_back v now d _ carried word live learns makes same
+      let ends = makes.does.3 in
+      gives_back v now rest d _ carried word live learns makes same
       (λ out. never_out_after series.stop (sym sent ∙ out))
-      (λ home. series_calm series.stop (state d) v.core makes.does.0 e leaves (sym sent ∙ home))
-      (λ not. series_over series.stop (state d) v.core makes.does.0 e leaves (λ home. not (sent ∙ home)))
-      (series_added series.stop (state d) v.core makes.does.0 e leaves)
+      (λ home. series_calm series.stop e ends.left (sym sent ∙ home))
+      (λ not. series_over series.stop e ends.left (λ home. not (sent ∙ home)))
+      (makes.does.0 ++ ends.more, subst (λ n. Adds n (makes.does.0 ++ ends.more) (history_of (state d)) (history_of e)) is ends.adds)
 
   -- after an aside
-  pub aside_gives : (v now : Known S) (d : S) (event : Event) (outcome : Outcome) (carried : List (ℕ × S)) → v.live ≡ true → Learns state v d
-      → Makes state d (λ x y. StepsAside x event outcome y × IsCalm y) carried → now ≡ holding v (history_of (state d))
+  pub aside_gives : (v now : Known S) (rest : List (Turn S)) (d : S) (event : Event) (outcome : Outcome) (carried : List (ℕ × S)) → v.live ≡ true
+      → Learns state v rest d → Makes state d (λ x y. StepsAside x event outcome y × IsCalm y) carried → now ≡ holding v rest
       → (x : S) × (carried ≡ (0, x) ∷ []) × CanGive state now x 1
-  aside_gives v now d event outcome carried live learns makes same =
-      gives_back v now d _ carried 1 live learns makes same (λ e. omega (arith, e)) (λ _. makes.does.1) (λ ne. absurd (ne refl))
+  aside_gives v now rest d event outcome carried live learns makes same =
+      gives_back v now rest d _ carried 1 live learns makes same (λ e. omega (arith, e)) (λ _. makes.does.1) (λ ne. absurd (ne refl))
       ([], adds_nothing v.core (history_of (state d)) (history_of (state makes.machine)) makes.does.0.1)
 
   -- what a core has once it gave the machine back
   abbrev Idle : ℕ → ℕ → Me S (Known S) → Type 0
   Idle number left me = (me.1 ≡ []) × (me.0.holds ≡ false) × (me.0.live ≡ true) × (number ≡ me.0.core) × (left ≡ me.0.spare) × (left < 64)
 
-  pub is_idle : (number left : ℕ) (start held gave : Me S (Known S)) (h k : SeenLog) → Idle number left start → held.0 ≡ holding start.0 h
-      → gave ≡ (after held.0 k, []) → Idle number left gave
-  is_idle number left start held gave h k idle holds back =
-      subst (Idle number left) (sym (back ∙ ap (λ (u : Known S). (after u k, [])) holds)) (refl, refl, idle.2, idle.3, idle.4, idle.5)
+  pub is_idle : (number left : ℕ) (start held gave : Me S (Known S)) (rest : List (Turn S)) (d : S) → Idle number left start → held.0 ≡ holding start.0 rest
+      → gave ≡ (after state held.0 d, []) → Idle number left gave
+  is_idle number left start held gave rest d idle holds back =
+      subst (Idle number left) (sym (back ∙ ap (λ (u : Known S). (after state u d, [])) holds)) (refl, refl, idle.2, idle.3, idle.4, idle.5)
 
-  extends : (space : TableId) (v : Known S) (d e : S) (added : List Replied) → v.live ≡ true → Learns state v d
-      → Adds v.core added (history_of (state d)) (history_of (state e))
-      → (state e).made ≡ (state d).made → IsLegal (state e)
-      → Extends state (view_of space v) added (view_of space (after (holding v (history_of (state d))) (history_of (state e))))
-  extends space v d e added live learns adds made legal = record {
-    seen = begins_through v.seen (history_of (state d)) (history_of (state e)) learns.seen adds.begins;
-    mine = adds.own ∙ ap (λ l. l ++ added) (learns.mine live);
+  -- and where it only looked
+  pub idle_still : (number left n : ℕ) (start looks : Me S (Known S)) → Idle number left start → n ≢ 1 → n ≢ 0 → Took state n start looks
+      → Idle number left looks
+  idle_still number left n start looks idle ne out t = subst (Idle number left) (sym (took_spent n start looks ne out t).2) idle
+
+  has_turn : (space : TableId) (v : Known S) (rest : List (Turn S)) (d e : S) (added : List Replied) (Does : World → World → Type 0) → Learns state v rest d
+      → Adds v.core added (history_of (state d)) (history_of (state e)) → (state e).made ≡ (state d).made → IsLegal (state e) → Does (state d) (state e)
+      → HasTurn state (view_of space v) added Does (view_of space (after state (holding v rest) e))
+  has_turn space v rest d e added Does learns adds made legal does = record {
+    between = rest;
+    before = d;
+    after = e;
+    turns = refl;
+    others = learns.others;
+    order = order_more state v.first (v.turns ++ rest) d (turn v.core e) learns.order learns.last (record { legal = legal; made = made; adds = (added, adds) });
+    begun = learns.last;
+    legal = learns.legal;
+    joined = λ k t here. learns.joined k t (as_elem v.others k t here);
+    adds = adds;
+    does = does;
+    mine = adds.own ∙ ap (λ l. l ++ added) learns.mine;
     own = refl;
-    legal = (state e, legal, made ∙ learns.made live, refl);
     same = refl;
   }
 
-  -- the machine as it was given back is later than what the core has seen
-  later : (v : Known S) (d e : S) → v.live ≡ true → Learns state v d → (state e).made ≡ (state d).made → IsLegal (state e)
-      → IsLater state v.first (history_of (state e)) (state e)
-  later v d e live learns made legal = record { legal = legal; made = made ∙ learns.made live; begun = begins_again (history_of (state e)) }
-
-  pub call_answers : (space other : TableId) (v w : Known S) (d : S) (number : ℕ) (request : Request) (ended : CallEnd) (answer : Answer)
-      (carried : List (ℕ × S)) → other ≡ space → v.live ≡ true
-      → number ≡ v.core → Learns state v d → (makes : Makes state d (λ x y. Ends x number request ended y) carried)
-      → w ≡ after (holding v (history_of (state d))) (history_of (state makes.machine)) → answer ≡ answer_of ended
+  pub call_answers : (space other : TableId) (v w : Known S) (rest : List (Turn S)) (d : S) (number : ℕ) (request : Request) (ended : CallEnd) (answer : Answer)
+      (carried : List (ℕ × S)) → other ≡ space → number ≡ v.core → Learns state v rest d → (makes : Makes state d (λ x y. Ends x number request ended y) carried)
+      → w ≡ after state (holding v rest) makes.machine → answer ≡ answer_of ended
       → Answers state (view_of space v) request answer (view_of other w)
-  call_answers space other v w d number request ended answer carried there live is learns makes same told =
+  call_answers space other v w rest d number request ended answer carried there is learns makes same told =
       subst (λ (p : TableId × (Known S × Answer)). Answers state (view_of space v) request p.1.1 (view_of p.0 p.1.0))
       (λ i. (sym there i, (sym same i, sym told i)))
       (go ended (subst (λ n. Ends (state d) n request ended (state makes.machine)) is makes.does))
     where
-      e : S
-      e = makes.machine
-
-      full : IsFull (state e) → (u : World) × IsLater state v.first (history_of (state e)) u × IsFull u
-      full limit = (state e, later v d e live learns makes.made makes.legal, limit)
-
-      go : (ended : CallEnd) → Ends (state d) v.core request ended (state e)
-          → Answers state (view_of space v) request (answer_of ended) (view_of space (after (holding v (history_of (state d))) (history_of (state e))))
-      go (To.Reply reply) h = extends space v d e (replied request reply ∷ []) live learns h.1 makes.made makes.legal
-      go To.Refused h = (inr ([], extends space v d e [] live learns h.1 makes.made makes.legal), full h.2)
-      go To.Spent h = (inr (h.0.0, extends space v d e h.0.0 live learns h.0.1 makes.made makes.legal), full (inr h.1))
+      go : (ended : CallEnd) → Ends (state d) v.core request ended (state makes.machine)
+          → Answers state (view_of space v) request (answer_of ended) (view_of space (after state (holding v rest) makes.machine))
+      go (To.Reply reply) h = has_turn space v rest d makes.machine (replied request reply ∷ []) (λ x y. Unit {0}) learns h.1 makes.made makes.legal tt
+      go To.Refused h = inl (None, has_turn space v rest d makes.machine [] (λ x y. IsFull y) learns h.1 makes.made makes.legal h.2)
+      go To.Spent h = inl (h.0.0, has_turn space v rest d makes.machine (logged request h.0.0) (λ x y. IsFull y) learns h.0.1 makes.made makes.legal (inr h.1))
 
   -- calls one after another
-  pub all_answers : {T : Type 0} (space other : TableId) (v w : Known S) (d : S) (number : ℕ) (asked : List (Option Request)) (told_of : Reply → T)
-      (was told : List T) (series : Series) (carried : List (ℕ × S)) → other ≡ space → v.live ≡ true → number ≡ v.core → Learns state v d
+  pub all_answers : {T : Type 0} (space other : TableId) (v w : Known S) (rest : List (Turn S)) (d : S) (number : ℕ) (asked : List (Option Request))
+      (told_of : Reply → T) (was told : List T) (series : Series) (carried : List (ℕ × S)) → other ≡ space → number ≡ v.core → Learns state v rest d
       → (makes : Makes state d (DoesEach number asked told_of was series told) carried)
-      → w ≡ after (holding v (history_of (state d))) (history_of (state makes.machine))
+      → w ≡ after state (holding v rest) makes.machine
       → AnswersAll state (view_of space v) asked told_of was (Lists.Made series) told (view_of other w)
-  all_answers space other v w d number asked told_of was told series carried there live is learns makes same =
+  all_answers space other v w rest d number asked told_of was told series carried there is learns makes same =
       subst (λ (p : TableId × Known S). AnswersAll state (view_of space v) asked told_of was (Lists.Made series) told (view_of p.0 p.1))
       (λ i. (sym there i, sym same i)) (
         makes.does.0,
@@ -727,85 +782,62 @@ module _ {S : Type 0} (state : S → World) (key : List S) where
         makes.does.2,
         makes.does.3.first,
         makes.does.3.stops,
-        go series.stop (subst (λ n. LeavesFor series.stop (state d) n makes.does.0 (state e)) is makes.does.3.leaves),
+        inl (
+          makes.does.3.more,
+          makes.does.3.is_more,
+          has_turn space v rest d makes.machine (makes.does.0 ++ makes.does.3.more) (λ x y. LeftFor series.stop y) learns
+              (subst (λ n. Adds n (makes.does.0 ++ makes.does.3.more) (history_of (state d)) (history_of (state makes.machine))) is makes.does.3.adds)
+              makes.made makes.legal makes.does.3.left,
+        ),
       )
-    where
-      e : S
-      e = makes.machine
-
-      added : List Replied
-      added = makes.does.0
-
-      now : Known S
-      now = after (holding v (history_of (state d))) (history_of (state e))
-
-      on : (all : List Replied) → Adds v.core all (history_of (state d)) (history_of (state e)) → Extends state (view_of space v) all (view_of space now)
-      on all adds = extends space v d e all live learns adds makes.made makes.legal
-
-      full : IsFull (state e) → (u : World) × IsLater state v.first (history_of (state e)) u × IsFull u
-      full limit = (state e, later v d e live learns makes.made makes.legal, limit)
-
-      go : (stop : SeriesEnd) → LeavesFor stop (state d) v.core added (state e) → GoesFor state stop (view_of space v) added (view_of space now)
-      go For.Done h = on added h.1
-      go For.NoCall h = on added h.1
-      go For.NoMemory h = on added h.1
-      go For.Refused h = (inr ([], subst (λ l. Extends state (view_of space v) l (view_of space now)) (sym (append-nil added)) (on added h.1)), full h.2)
-      go For.Spent h = (inr (h.0.0, on (added ++ h.0.0) h.0.1), full (inr h.1))
 
   -- nothing was taken, and so nothing changed
-  pub same_view : (space other : TableId) (n : ℕ) (m w : Me S (Known S)) → n ≢ 1 → Took state n m w → other ≡ space → view_of other w.0 ≡ view_of space m.0
-  same_view space other n m w ne t there =
-      let same = (took_none n m w ne t).0 in ap (λ (p : TableId × Me S (Known S)). view_of p.0 p.1.0) (λ i. (there i, same i))
+  pub same_view : (space other : TableId) (n : ℕ) (m w : Me S (Known S)) → n ≡ 0 → Took state n m w → other ≡ space → view_of other w.0 ≡ view_of space m.0
+  same_view space other n m w e t there =
+      let same = (took_busy n m w e t).0 in ap (λ (p : TableId × Me S (Known S)). view_of p.0 p.1.0) (λ i. (there i, same i))
 
   -- where no call can begin any more
+  finds_over : (space other : TableId) (n : ℕ) (m w : Me S (Known S)) → n ≢ 1 → n ≢ 0 → Took state n m w → other ≡ space
+      → FindsOver state (view_of space m.0) (view_of other w.0)
+  finds_over space other n m w ne out t there =
+      let k = took_spent n m w ne out t in
+      subst (λ (p : TableId × Me S (Known S)). FindsOver state (view_of space m.0) (view_of p.0 p.1.0)) (λ i. (sym there i, sym k.2 i)) (record {
+        between = k.1;
+        machine = k.0;
+        others = k.3.others;
+        order = k.3.order;
+        here = k.3.last;
+        over = k.4;
+        same = refl;
+      })
+
   pub full_answers : (space other : TableId) (n : ℕ) (m w : Me S (Known S)) (request : Request) → n ≢ 1 → n ≢ 0 → Took state n m w → other ≡ space
-      → m.0.live ≡ true
       → Answers state (view_of space m.0) request Tells.Full (view_of other w.0)
-  full_answers space other n m w request ne out t there live =
-      let k = (took_none n m w ne t).1 out live in
-      subst (Answers state (view_of space m.0) request Tells.Full) (sym (same_view space other n m w ne t there)) (inl (refl, refl), (k.0, k.1, inr k.2))
+  full_answers space other n m w request ne out t there = inr (finds_over space other n m w ne out t there)
 
   pub full_all : {T : Type 0} (space other : TableId) (n : ℕ) (m w : Me S (Known S)) (asked : List (Option Request)) (told_of : Reply → T) (was : List T)
-      (series : Series) → n ≢ 1 → n ≢ 0 → Took state n m w → other ≡ space → m.0.live ≡ true → series ≡ record { made = 0; stop = For.Refused }
+      (series : Series) → n ≢ 1 → n ≢ 0 → Took state n m w → other ≡ space → series ≡ record { made = 0; stop = For.Refused }
       → AnswersAll state (view_of space m.0) asked told_of was (Lists.Made series) was (view_of other w.0)
-  full_all space other n m w asked told_of was series ne out t there live is =
-      let k = (took_none n m w ne t).1 out live in
+  full_all space other n m w asked told_of was series ne out t there is =
       subst (λ s. AnswersAll state (view_of space m.0) asked told_of was (Lists.Made s) was (view_of other w.0)) (sym is)
-      (subst (AnswersAll state (view_of space m.0) asked told_of was (Lists.Made (record { made = 0; stop = For.Refused })) was)
-      (sym (same_view space other n m w ne t there)) ([], refl, refl, refl, tt, (inl (refl, refl), (k.0, k.1, inr k.2))))
+      ([], refl, refl, refl, tt, inr (refl, refl, finds_over space other n m w ne out t there))
 
-  pub full_passes : (space other : TableId) (n : ℕ) (m w : Me S (Known S)) (aside : Aside) → n ≢ 1 → n ≢ 0 → Took state n m w → other ≡ space → m.0.live ≡ true
+  pub full_passes : (space other : TableId) (n : ℕ) (m w : Me S (Known S)) (aside : Aside) → n ≢ 1 → n ≢ 0 → Took state n m w → other ≡ space
       → Passes state (view_of space m.0) aside (By.Came Full) (view_of other w.0)
-  full_passes space other n m w aside ne out t there live =
-      let k = (took_none n m w ne t).1 out live in
-      subst (Passes state (view_of space m.0) aside (By.Came Full)) (sym (same_view space other n m w ne t there))
-      (record { before = k.0; after = k.0; later = k.1; steps = (over_full k.0 (event_of m.0.core aside) k.2, refl); extends = inl (refl, refl) })
+  full_passes space other n m w aside ne out t there = inr (refl, finds_over space other n m w ne out t there)
 
   -- an aside
-  pub aside_passes : (space other : TableId) (v w : Known S) (d : S) (number : ℕ) (aside : Aside) (outcome : Outcome) (carried : List (ℕ × S))
-      → other ≡ space → v.live ≡ true
-      → number ≡ v.core → Learns state v d → (makes : Makes state d (λ x y. StepsAside x (event_of number aside) outcome y × IsCalm y) carried)
-      → w ≡ after (holding v (history_of (state d))) (history_of (state makes.machine))
+  pub aside_passes : (space other : TableId) (v w : Known S) (rest : List (Turn S)) (d : S) (number : ℕ) (aside : Aside) (outcome : Outcome)
+      (carried : List (ℕ × S)) → other ≡ space
+      → number ≡ v.core → Learns state v rest d → (makes : Makes state d (λ x y. StepsAside x (event_of number aside) outcome y × IsCalm y) carried)
+      → w ≡ after state (holding v rest) makes.machine
       → Passes state (view_of space v) aside (By.Came outcome) (view_of other w)
-  aside_passes space other v w d number aside outcome carried there live is learns makes same =
-      subst (λ (p : TableId × Known S). Came state (view_of space v) aside outcome (view_of p.0 p.1)) (λ i. (sym there i, sym same i)) (record {
-        before = state d;
-        after = state e;
-        later = record {
-          legal = learns.legal;
-          made = learns.made live;
-          begun = subst (λ h. Begins h (history_of (state d))) (sym makes.does.0.1)
-              (begins_again (history_of (state d)));
-        };
-        steps = subst (λ n. StepsAside (state d) (event_of n aside) outcome (state e)) is makes.does.0;
-        extends = inr (
-          extends space v d e [] live learns (adds_nothing v.core (history_of (state d)) (history_of (state e)) makes.does.0.1) makes.made makes.legal,
-          sym makes.does.0.1,
-        );
-      })
-    where
-      e : S
-      e = makes.machine
+  aside_passes space other v w rest d number aside outcome carried there is learns makes same =
+      let e : S = makes.machine in
+      let Does : World → World → Type 0 = λ x y. StepsAside x (event_of v.core aside) outcome y × IsCalm y in
+      subst (λ (p : TableId × Known S). MadeAside state (view_of space v) aside outcome (view_of p.0 p.1)) (λ i. (sym there i, sym same i))
+      (inl (has_turn space v rest d e [] Does learns (adds_nothing v.core (history_of (state d)) (history_of (state e)) makes.does.0.1) makes.made makes.legal
+      (subst (λ n. StepsAside (state d) (event_of n aside) outcome (state e) × IsCalm (state e)) is makes.does)))
 
 -- a legal machine has 64 cores at the most
 pub few_cores : (w : World) → IsLegal w → w.made.cores ≤ 64

@@ -6,4 +6,5 @@ pub mod Beside
 pub mod Places
 pub mod Serials
 pub mod Views
+pub mod TurnLemmas
 pub mod Keeping

@@ -11,7 +11,7 @@ use Rattle.shared.specs.declared.series.SeriesEnd.{SeriesEnd}
 use Rattle.shared.specs.declared.series.SeriesEnd.TheVariants as For
 use Rattle.shared.specs.declared.whole.CallEnd.{CallEnd}
 use Rattle.shared.specs.declared.whole.CallEnd.TheVariants as To
-use Rattle.shared.specs.Histories.{Adds, Ends, IsFull, IsOver, history_of, replied, replied_by}
+use Rattle.shared.specs.Histories.{Adds, Ends, IsFull, IsOver, history_of, logged, replied, replied_by}
 use Rattle.shared.specs.Serial.{AllGranted, AreFirst, AreTold, EndsSeries, MakesOne, stop_after, stop_for, told_for}
 use Rattle.shared.proofs.Lists.{begins_through}
 use Rattle.shared.proofs.InCalls.{adds_nothing}
@@ -25,6 +25,10 @@ adds_more c a b h k l x y = record {
   own = y.own ∙ (ap (λ r. r ++ b) x.own ∙ append_assoc (replied_by c h) a b);
   others = λ d ne. y.others d ne ∙ x.others d ne;
 }
+
+-- nothing else stands in the log
+adds_just : (c : ℕ) (a : List Replied) (h k : SeenLog) → Adds c a h k → Adds c (a ++ []) h k
+adds_just c a h k x = subst (λ l. Adds c l h k) (sym (append-nil a)) x
 
 -- ---- replies that memory was refused
 
@@ -108,15 +112,15 @@ module _ {T : Type 0} (told_of : Reply → T) (m : World) (c : ℕ) where
       go To.Spent e s p = absurd cc
 
   one_spent : (o : Option Request) (was put : T) (v : World) → MakesOne told_of m c o was For.Spent put v
-      → (put ≡ was) × ((more : List Replied) × Adds c more (history_of m) (history_of v)) × IsOver v
+      → (put ≡ was) × (request : Request) × (reply : Option Reply) × (o ≡ Some request) × Adds c (logged request reply) (history_of m) (history_of v) × IsOver v
   one_spent None was put v k = absurd (let z = k.0 in cc)
   one_spent (Some request) was put v k = go k.0 k.1 k.2 k.3
     where
       go : (ended : CallEnd) → Ends m c request ended v → For.Spent ≡ stop_for ended → put ≡ told_for told_of ended was
-          → (put ≡ was) × ((more : List Replied) × Adds c more (history_of m) (history_of v)) × IsOver v
+          → (put ≡ was) × (r : Request) × (reply : Option Reply) × (Some request ≡ Some r) × Adds c (logged r reply) (history_of m) (history_of v) × IsOver v
       go (To.Reply reply) e s p = absurd (none_spent_after reply s)
       go To.Refused e s p = absurd cc
-      go To.Spent e s p = (p, e.0, e.1)
+      go To.Spent e s p = (p, request, e.0.0, refl, e.0.1, e.1)
 
 -- ---- the first of them
 
@@ -200,7 +204,11 @@ module _ {Q T : Type 0} (request_of : Q → Option Request) (told_of : Reply →
             first = subst (λ k. take k (map request_of asks) ≡ map (λ (call : Replied). Some call.request) (h.added ++ one.0 ∷ [])) (sym count)
                 (first_more one.0 one.1.asked);
             stops = (h.added, one.0.request, ap (λ x. h.added ++ x ∷ []) last, h.granted);
-            leaves = (one.1.calm, adds_more c h.added (one.0 ∷ []) (history_of w) (history_of m) (history_of v) h.adds one.1.adds);
+            more = [];
+            is_more = refl;
+            adds = adds_just c (h.added ++ one.0 ∷ []) (history_of w) (history_of v)
+                (adds_more c h.added (one.0 ∷ []) (history_of w) (history_of m) (history_of v) h.adds one.1.adds);
+            left = one.1.calm;
           },
         )
 
@@ -223,36 +231,46 @@ module _ {Q T : Type 0} (request_of : Q → Option Request) (told_of : Reply →
           record {
             first = first_still;
             stops = (subst (λ k. slice_get (map request_of asks) k ≡ Some None) (sym h.count) at, h.granted);
-            leaves = subst (λ x. IsCalm x × Adds c h.added (history_of w) (history_of x)) (sym one.2) (h.calm, h.adds);
+            more = [];
+            is_more = refl;
+            adds = subst (λ x. Adds c (h.added ++ []) (history_of w) (history_of x)) (sym one.2) (adds_just c h.added (history_of w) (history_of m) h.adds);
+            left = subst IsCalm (sym one.2) h.calm;
           },
         )
 
     pub ends_limited : (e put : T) (v : World) → MakesOne told_of m c (request_of d) (get_or now n e) For.Refused put v
         → SeriesEnds n was For.Refused (set now n put) v
     ends_limited e put v makes =
-        let one = one_limited told_of m c _ (get_or now n e) put v makes in
-        let grown = adds_more c h.added [] (history_of w) (history_of m) (history_of v) h.adds one.2 in (
+        let one = one_limited told_of m c _ (get_or now n e) put v makes in (
           h.added,
           told_still put e one.0,
           sym h.count,
           record {
             first = first_still;
             stops = h.granted;
-            leaves = (one.1, subst (λ l. Adds c l (history_of w) (history_of v)) (append-nil h.added) grown, one.3);
+            more = [];
+            is_more = refl;
+            adds = adds_more c h.added [] (history_of w) (history_of m) (history_of v) h.adds one.2;
+            left = (one.1, one.3);
           },
         )
 
     pub ends_spent : (e put : T) (v : World) → MakesOne told_of m c (request_of d) (get_or now n e) For.Spent put v
         → SeriesEnds n was For.Spent (set now n put) v
     ends_spent e put v makes =
-        let one = one_spent told_of m c _ (get_or now n e) put v makes in (
+        let one = one_spent told_of m c _ (get_or now n e) put v makes in
+        let at : slice_get (map request_of asks) n ≡ Some (Some one.1) =
+        slice_get-get_or (map request_of asks) n (request_of d) (asked_low n low) ∙ ap Some (asked_here ∙ one.3) in (
           h.added,
           told_still put e one.0,
           sym h.count,
           record {
             first = first_still;
             stops = h.granted;
-            leaves = ((one.1.0, adds_more c h.added one.1.0 (history_of w) (history_of m) (history_of v) h.adds one.1.1), one.2);
+            more = logged one.1 one.2;
+            is_more = (one.1, one.2, subst (λ k. slice_get (map request_of asks) k ≡ Some (Some one.1)) (sym h.count) at, refl);
+            adds = adds_more c h.added (logged one.1 one.2) (history_of w) (history_of m) (history_of v) h.adds one.4;
+            left = one.5;
           },
         )
 
@@ -265,6 +283,9 @@ module _ {Q T : Type 0} (request_of : Q → Option Request) (told_of : Reply →
     record {
       first = subst (λ k. take k (map request_of asks) ≡ map (λ (call : Replied). Some call.request) h.added) (sym h.count) h.first;
       stops = (h.count ∙ (all ∙ sym (length-map asks request_of)), h.granted);
-      leaves = (h.calm, h.adds);
+      more = [];
+      is_more = refl;
+      adds = adds_just c h.added (history_of w) (history_of v) h.adds;
+      left = h.calm;
     },
   )

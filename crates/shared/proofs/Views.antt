@@ -5,7 +5,6 @@ use mathlib.Core.Bool.{Bool, true, false}
 use mathlib.Core.Option.{some, some-ne-none, some-injective}
 use lib.ListN.{get_elem?}
 use Rattle.atomic_table.proofs.Lists.{at_set}
-use Rattle.shared.specs.declared.history.JoinedCore.{JoinedCore}
 
 module _ {A : Type 0} where
   pub each_at : (P : ℕ → A → Type 0) (l : List A) (i : ℕ) (w : A) → ((k : ℕ) (v : A) → k ≢ i → get_elem? l k ≡ some v → P k v) → P i w
@@ -41,10 +40,23 @@ module _ {A : Type 0} where
   pub one_entry : (l : List A) (i j : ℕ) (v w : A) → get_elem? l i ≡ some v → get_elem? l j ≡ some w → i ≡ j → v ≡ w
   one_entry l i j v w here there same = some-injective v w (sym here ∙ (ap (get_elem? l) same ∙ there))
 
-pub as_elem : (ts : List JoinedCore) (n : ℕ) (t : JoinedCore) → slice_get ts n ≡ Some t → get_elem? ts n ≡ some t
-as_elem [] n t e = absurd cc
-as_elem (x ∷ xs) zero t e = ap some cc
-as_elem (x ∷ xs) (suc n) t e = as_elem xs n t e
+  -- of both parts
+  pub each_both : (P : A → Type 0) (xs ys : List A) → ((k : ℕ) (v : A) → get_elem? xs k ≡ some v → P v) → ((k : ℕ) (v : A) → get_elem? ys k ≡ some v → P v)
+      → (k : ℕ) (v : A) → get_elem? (xs ++ ys) k ≡ some v → P v
+  each_both P [] ys old new k v e = new k v e
+  each_both P (x ∷ xs) ys old new zero v e = old zero v e
+  each_both P (x ∷ xs) ys old new (suc k) v e = each_both P xs ys (λ j u i. old (suc j) u i) new k v e
+
+  -- of the first, and of the others
+  pub each_front : (P : A → Type 0) (x : A) (xs : List A) → P x → ((k : ℕ) (v : A) → get_elem? xs k ≡ some v → P v)
+      → (k : ℕ) (v : A) → get_elem? (x ∷ xs) k ≡ some v → P v
+  each_front P x xs p old zero v e = subst P (some-injective x v e) p
+  each_front P x xs p old (suc k) v e = old k v e
+
+  pub as_elem : (ts : List A) (n : ℕ) (t : A) → slice_get ts n ≡ Some t → get_elem? ts n ≡ some t
+  as_elem [] n t e = absurd cc
+  as_elem (x ∷ xs) zero t e = ap some cc
+  as_elem (x ∷ xs) (suc n) t e = as_elem xs n t e
 
 pub above_spare : (spare left core : ℕ) → (0 < spare → spare ≡ left) → (core ≡ 0) ⊎ (left < core) → (core ≡ 0) ⊎ (spare < core)
 above_spare zero left zero e lies = inl refl

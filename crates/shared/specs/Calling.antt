@@ -14,20 +14,15 @@ use Rattle.machine_model.specs.World.{World}
 use Rattle.machine_model.specs.Sound.{IsReached}
 use Rattle.machine_model.specs.Alone.{IsWaiting, left_to}
 use Rattle.core_steps.specs.Moving.{MayWant}
-use Rattle.shared.specs.declared.history.Replied.{Replied}
 use Rattle.shared.specs.declared.whole.CallEnd.{CallEnd}
 use Rattle.shared.specs.declared.whole.CallEnd.TheVariants as To
-use Rattle.shared.specs.Histories.{Adds, Ends, IsOver, history_of, replied}
+use Rattle.shared.specs.Histories.{Adds, Ends, IsOver, history_of, logged}
 
 -- the reply that a call in this phase has in the log
 abbrev pub reply_in : Phase → Option Reply
 reply_in (Unlock held reply) = Some reply
 reply_in (Answer reply) = Some reply
 reply_in _ = None
-
-abbrev pub logged : Request → Option Reply → List Replied
-logged request None = []
-logged request (Some reply) = replied request reply ∷ []
 
 -- in x the call of the core, begun in w, isn't ended, and no other core has one
 pub record InCall (w : World) (core : ℕ) (request : Request) (x : World) : Type 0 where

@@ -11,6 +11,7 @@ use Rattle.core_steps.specs.Machine.{IsLegal}
 use Rattle.shared.specs.declared.asides.Aside.{Aside}
 use Rattle.shared.specs.declared.history.SeenLog.{SeenLog}
 use Rattle.shared.specs.declared.history.Replied.{Replied}
+use Rattle.shared.specs.declared.history.Turn.{Turn}
 use Rattle.shared.specs.declared.history.JoinedCore.{JoinedCore}
 use Rattle.shared.specs.declared.space.Answer.{Answer}
 use Rattle.shared.specs.declared.space.Answer.TheVariants as To
@@ -22,8 +23,9 @@ use Rattle.shared.specs.declared.series.SeriesEnd.{SeriesEnd}
 use Rattle.shared.specs.declared.series.SeriesEnd.TheVariants as For
 use Rattle.shared.specs.declared.space.Calls.{Calls}
 use Rattle.shared.specs.declared.space.Calls.TheVariants as Lists
-use Rattle.shared.specs.Serial.{AreFirst, AreTold, StopsFor}
-use Rattle.shared.specs.Histories.{Begins, IsFull, StepsAside, event_of, history_of, replied, replied_by}
+use Rattle.shared.specs.Serial.{AreFirst, AreTold, LeftFor, MoreFor, StopsFor}
+use Rattle.shared.specs.Turns.{AreInOrder, HasSeen, IsTold, NoneOf, left_by, log_in, turn}
+use Rattle.shared.specs.Histories.{Adds, IsFull, IsOver, StepsAside, event_of, history_of, logged, replied, replied_by}
 
 pub record CoreView (S : Type 0) : Type 0 where
   pub space : TableId
@@ -32,24 +34,20 @@ pub record CoreView (S : Type 0) : Type 0 where
   pub spare : ℕ
   -- the machine, as it was shared
   pub first : List S
-  -- the machine's history, as it was when this core's last call ended
-  pub seen : SeenLog
+  -- the turns so far that the core knows of, with all of its own
+  pub turns : List (Turn S)
   -- the calls of this core, each with the reply that it was told
   pub mine : List Replied
   -- what the cores knew that it took in
-  pub others : List JoinedCore
+  pub others : List (JoinedCore S)
 
-abbrev pub told_of : {S : Type 0} → CoreView S → JoinedCore
-told_of c = record { core = c.core; seen = c.seen; mine = c.mine }
+abbrev pub told_of : {S : Type 0} → CoreView S → JoinedCore S
+told_of c = record { core = c.core; turns = c.turns; mine = c.mine }
 
 -- why a machine stays with its owner: a core of it has a call, or it has none; else memory was refused
 abbrev pub IsKept : ShareFault → World → Type 0
 IsKept Why.NotCalm w = (w.made.cores ≡ 0) ⊎ (IsCalm w → ⊥)
 IsKept Why.NoMemory w = IsCalm w
-
--- the core's calls in the history are those of t, which saw how it began
-abbrev pub IsTold : SeenLog → JoinedCore → Type 0
-IsTold h t = Begins t.seen h × (replied_by t.core h ≡ t.mine)
 
 module _ {S : Type 0} (state : S → World) where
   -- what the machine was made with
@@ -57,43 +55,53 @@ module _ {S : Type 0} (state : S → World) where
   made_of [] = record { cores = 0; frames = 0; calls = 0; file = λ n. None }
   made_of (x ∷ xs) = (state x).made
 
-  -- its history when it was shared
-  abbrev pub history_first : List S → SeenLog
-  history_first [] = record { requests = []; entries = [] }
-  history_first (x ∷ xs) = history_of (state x)
+  -- the log as the core knows it
+  abbrev pub seen_by : CoreView S → SeenLog
+  seen_by v = log_in state (left_by v.first v.turns)
 
-  -- a core that has made no call since the machine was shared
+  -- core 0 of a machine that was just shared
   abbrev pub new_core : TableId → ℕ → ℕ → List S → CoreView S
   new_core space core spare first = record {
     space = space;
     core = core;
     spare = spare;
     first = first;
-    seen = history_first first;
-    mine = replied_by core (history_first first);
+    turns = [];
+    mine = replied_by core (log_in state first);
     others = [];
   }
 
-  -- calls of this core were replied: the history goes on from all that the core had seen, it is one
-  -- of the machine that was shared, and the core's calls in it are those that it made, in order
-  pub record Extends (v : CoreView S) (added : List Replied) (w : CoreView S) : Type 0 where
-    pub seen : Begins v.seen w.seen
+  -- a core that is split off from this one: it has made no call since the machine was shared, and knows what this one knows
+  abbrev pub split_core : CoreView S → CoreView S
+  split_core v = record v { core = v.spare; spare = 0; mine = replied_by v.spare (seen_by v); others = [] }
+
+  -- The core had a turn, in which these calls of it were replied, no other core was replied to, and the machine did this. Its own
+  -- turns are those that it knew and this one. What the cores did that it took in stands before.
+  pub record HasTurn (v : CoreView S) (added : List Replied) (Does : World → World → Type 0) (w : CoreView S) : Type 0 where
+    pub between : List (Turn S)
+    pub before : S
+    pub after : S
+    pub turns : w.turns ≡ (v.turns ++ between) ++ turn v.core after ∷ []
+    pub others : NoneOf v.core between
+    pub order : AreInOrder state v.first w.turns
+    pub begun : left_by v.first (v.turns ++ between) ≡ before ∷ []
+    pub legal : IsLegal (state before)
+    pub joined : (k : ℕ) (t : JoinedCore S) → slice_get v.others k ≡ Some t → IsTold state v.first (v.turns ++ between) t
+    pub adds : Adds v.core added (history_of (state before)) (history_of (state after))
+    pub does : Does (state before) (state after)
     pub mine : w.mine ≡ v.mine ++ added
-    pub own : replied_by w.core w.seen ≡ w.mine
-    pub legal : (u : World) × IsLegal u × (u.made ≡ made_of w.first) × (history_of u ≡ w.seen)
-    pub same : w ≡ record v { seen = w.seen; mine = w.mine }
+    pub own : replied_by v.core (history_of (state after)) ≡ w.mine
+    pub same : w ≡ record v { turns = w.turns; mine = w.mine }
 
-  -- a legal state of the machine that was shared, whose history began so
-  pub record IsLater (first : List S) (known : SeenLog) (u : World) : Type 0 where
-    pub legal : IsLegal u
-    pub made : u.made ≡ made_of first
-    pub begun : Begins known (history_of u)
-
-  -- these calls were made, and the machine is at a limit: that of calls or that of events, which may have stopped one more
-  -- call that stands in the log
-  abbrev pub IsLimited : CoreView S → List Replied → CoreView S → Type 0
-  IsLimited v added w = (((w ≡ v) × (added ≡ [])) ⊎ ((more : List Replied) × Extends v (added ++ more) w))
-      × ((u : World) × IsLater w.first w.seen u × IsFull u)
+  -- the core had no turn, but learned of those of other cores, after which the machine is at its limit of events
+  pub record FindsOver (v : CoreView S) (w : CoreView S) : Type 0 where
+    pub between : List (Turn S)
+    pub machine : S
+    pub others : NoneOf v.core between
+    pub order : AreInOrder state v.first (v.turns ++ between)
+    pub here : left_by v.first (v.turns ++ between) ≡ machine ∷ []
+    pub over : IsOver (state machine)
+    pub same : w ≡ record v { turns = v.turns ++ between }
 
   -- The core has a seat, which isn't this one's, and which this one didn't take in. The first core has
   -- one from the start, and those that could still be split off have none.
@@ -101,53 +109,50 @@ module _ {S : Type 0} (state : S → World) where
     pub here : core < (made_of c.first).cores
     pub other : core ≢ c.core
     pub split : (core ≡ 0) ⊎ (c.spare < core)
-    pub away : (k : ℕ) (t : JoinedCore) → slice_get c.others k ≡ Some t → t.core ≢ core
+    pub away : (k : ℕ) (t : JoinedCore S) → slice_get c.others k ≡ Some t → t.core ≢ core
 
   -- a core has such a seat
   abbrev pub IsBeside : CoreView S → Type 0
   IsBeside c = (core : ℕ) × IsLeftOut c core
 
-  -- The call was made and replied. Or another core was in a call, so that one is beside this one, and nothing was done. Or the machine
-  -- is at a limit, that of calls or that of events: no reply is told, but that of the last call may
-  -- stand in the log.
+  -- The call was made and replied, in a turn of the core. Or another core had its turn, so that one is beside this one, and nothing was
+  -- done. Or this machine is at its limit of calls or of events: no reply is told, but that of this call may stand in the log.
   abbrev pub Answers : CoreView S → Request → Answer → CoreView S → Type 0
-  Answers v request (To.Reply reply) w = Extends v (replied request reply ∷ []) w
+  Answers v request (To.Reply reply) w = HasTurn v (replied request reply ∷ []) (λ x y. Unit {0}) w
   Answers v request To.Busy w = (w ≡ v) × IsBeside v
-  Answers v request To.Full w = IsLimited v [] w
+  Answers v request To.Full w = ((reply : Option Reply) × HasTurn v (logged request reply) (λ x y. IsFull y) w) ⊎ FindsOver v w
 
-  -- The core's view goes on by these calls. At a limit it may not have looked, and the call that the limit of events
-  -- stopped may stand in the log too.
-  abbrev pub GoesFor : SeriesEnd → CoreView S → List Replied → CoreView S → Type 0
-  GoesFor For.Refused v added w = IsLimited v added w
-  GoesFor For.Spent v added w = IsLimited v added w
-  GoesFor _ v added w = Extends v added w
+  -- The core made these calls in one turn, up to what stopped it; or none, at the limit of events.
+  abbrev pub GoesFor : SeriesEnd → CoreView S → List (Option Request) → List Replied → CoreView S → Type 0
+  GoesFor stop v asked added w =
+      ((more : List Replied) × MoreFor stop asked added more × HasTurn v (added ++ more) (λ x y. LeftFor stop y) w)
+      ⊎ ((stop ≡ For.Refused) × (added ≡ []) × FindsOver v w)
 
-  -- So many calls were made, one after another, each with the reply in its place. Or another core was in a call, and nothing
+  -- So many calls were made, one after another, each with the reply in its place. Or another core had its turn, and nothing
   -- was done.
   abbrev pub AnswersAll : {T : Type 0} → CoreView S → List (Option Request) → (Reply → T) → List T → Calls → List T → CoreView S → Type 0
   AnswersAll v asked told_of was (Lists.Made series) told w = (added : List Replied)
       × AreTold told_of added was told × (series.made ≡ length added) × AreFirst asked added
-      × StopsFor series.stop asked added × GoesFor series.stop v added w
+      × StopsFor series.stop asked added × GoesFor series.stop v asked added w
   AnswersAll v asked told_of was Lists.Busy told w = (told ≡ was) × (w ≡ v) × IsBeside v
 
-  -- The machine made an aside, by a step of its own, from a legal state; it added nothing to the
-  -- history, of which the core has seen all so far. At the limit of events it may not have looked.
-  pub record Came (v : CoreView S) (aside : Aside) (outcome : Outcome) (w : CoreView S) : Type 0 where
-    pub before : World
-    pub after : World
-    pub later : IsLater w.first w.seen before
-    pub steps : StepsAside before (event_of v.core aside) outcome after
-    pub extends : ((w ≡ v) × (outcome ≡ Full)) ⊎ (Extends v [] w × (history_of before ≡ w.seen))
+  -- the core had a turn, in which the machine made the aside, by a step of its own that adds nothing to the log; or it is at its limit of events
+  abbrev pub MadeAside : CoreView S → Aside → Outcome → CoreView S → Type 0
+  MadeAside v aside outcome w =
+      HasTurn v [] (λ x y. StepsAside x (event_of v.core aside) outcome y × IsCalm y) w ⊎ ((outcome ≡ Full) × FindsOver v w)
 
-  -- or another core was in a call, so that one is beside this one, and nothing was done
+  -- or another core had its turn, so that one is beside this one, and nothing was done
   abbrev pub Passes : CoreView S → Aside → Passed → CoreView S → Type 0
-  Passes v aside (By.Came outcome) w = Came v aside outcome w
+  Passes v aside (By.Came outcome) w = MadeAside v aside outcome w
   Passes v aside By.Busy w = (w ≡ v) × IsBeside v
 
-  -- The machine is the one that was shared, in a legal state. The calls in its log of this core, and
-  -- of each that it took in, are those that the core made, in order, with the replies that it got.
-  pub record Agrees (u : World) (c : CoreView S) : Type 0 where
-    pub legal : IsLegal u
-    pub made : u.made ≡ made_of c.first
-    pub own : IsTold (history_of u) (told_of c)
-    pub others : (k : ℕ) (t : JoinedCore) → slice_get c.others k ≡ Some t → IsTold (history_of u) t
+  -- The machine is the one that was shared, as the last turn left it. In one order of all turns stand those of this core, and of
+  -- each that it took in; their calls in its log are those that they made, in order, with the replies that they got.
+  pub record Agrees (machine : S) (c : CoreView S) : Type 0 where
+    pub turns : List (Turn S)
+    pub order : AreInOrder state c.first turns
+    pub last : left_by c.first turns ≡ machine ∷ []
+    pub legal : IsLegal (state machine)
+    pub made : (state machine).made ≡ made_of c.first
+    pub own : IsTold state c.first turns (told_of c)
+    pub others : (k : ℕ) (t : JoinedCore S) → slice_get c.others k ≡ Some t → IsTold state c.first turns t

@@ -59,15 +59,20 @@ IsOver w = event_limit ≤ w.calls.events
 abbrev pub IsFull : World → Type 0
 IsFull w = (w.made.calls ≤ length w.calls.requests) ⊎ IsOver w
 
+-- the call with its reply, where it has one
+abbrev pub logged : Request → Option Reply → List Replied
+logged request None = []
+logged request (Some reply) = replied request reply ∷ []
+
 -- A whole call was replied, which left no call in flight. Or none could begin, and nothing was done;
--- or it couldn't be ended: only where a limit is reached.
+-- or it couldn't be ended, though it may have its reply in the log: only where a limit is reached.
 abbrev pub Ends : World → ℕ → Request → CallEnd → World → Type 0
 Ends w core request (To.Reply reply) v =
     IsCalm v × Adds core (replied request reply ∷ []) (history_of w) (history_of v)
 Ends w core request To.Refused v =
     IsCalm v × Adds core [] (history_of w) (history_of v) × IsFull v
 Ends w core request To.Spent v =
-    ((added : List Replied) × Adds core added (history_of w) (history_of v)) × IsOver v
+    ((reply : Option Reply) × Adds core (logged request reply) (history_of w) (history_of v)) × IsOver v
 
 -- the event that an aside of this core is
 abbrev pub event_of : ℕ → Aside → Event

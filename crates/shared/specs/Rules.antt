@@ -7,8 +7,8 @@ use Rattle.atomic_table.specs.Seated.{TableId}
 use Rattle.machine_model.specs.World.{World}
 use Rattle.machine_model.specs.Alone.{IsCalm}
 use Rattle.core_steps.specs.Machine.{IsLegal}
-use Rattle.shared.specs.declared.history.SeenLog.{SeenLog}
 use Rattle.shared.specs.declared.history.Replied.{Replied}
+use Rattle.shared.specs.declared.history.Turn.{Turn}
 use Rattle.shared.specs.declared.history.JoinedCore.{JoinedCore}
 use Rattle.shared.specs.declared.space.Answer.{Answer}
 use Rattle.shared.specs.declared.space.Answer.TheVariants as Tells
@@ -17,8 +17,9 @@ use Rattle.shared.specs.declared.series.SeriesEnd.{SeriesEnd}
 use Rattle.shared.specs.declared.series.SeriesEnd.TheVariants as For
 use Rattle.shared.specs.declared.whole.CallEnd.{CallEnd}
 use Rattle.shared.specs.declared.whole.CallEnd.TheVariants as To
-use Rattle.shared.specs.Histories.{Adds, Begins, IsOver, history_of, replied_by}
-use Rattle.shared.specs.Cores.{CoreView, IsBeside, IsLater, IsTold, history_first, made_of}
+use Rattle.shared.specs.Histories.{IsOver, history_of, replied_by}
+use Rattle.shared.specs.Turns.{AreInOrder, HasSeen, IsTold, Leads, NoneOf, left_by, log_in, turn}
+use Rattle.shared.specs.Cores.{CoreView, IsBeside, made_of}
 
 -- the word stands in the middle of a row of 17, so that nothing else lies in its cache line
 abbrev pub middle : ℕ
@@ -27,12 +28,12 @@ middle = 8
 abbrev pub padded : ℕ → List ℕ
 padded word = 1 ∷ 1 ∷ 1 ∷ 1 ∷ 1 ∷ 1 ∷ 1 ∷ 1 ∷ word ∷ 1 ∷ 1 ∷ 1 ∷ 1 ∷ 1 ∷ 1 ∷ 1 ∷ 1 ∷ []
 
-abbrev pub known : {S : Type 0} → ℕ → ℕ → List S → SeenLog → List Replied → Known S
-known core spare first seen mine = record {
+abbrev pub known : {S : Type 0} → ℕ → ℕ → List S → List (Turn S) → List Replied → Known S
+known core spare first turns mine = record {
   core = core;
   spare = spare;
   first = first;
-  seen = seen;
+  turns = turns;
   mine = mine;
   holds = false;
   live = true;
@@ -41,11 +42,12 @@ known core spare first seen mine = record {
 
 -- what is left of a core that was taken in
 abbrev pub spent_core : {S : Type 0} → Known S
-spent_core = record (known 0 0 [] (record { requests = []; entries = [] }) []) { live = false }
+spent_core = record (known 0 0 [] [] []) { live = false }
 
+-- the core knows what the other knew, and whom that one took in
 abbrev pub with_other : {S : Type 0} → Known S → Known S → Known S
 with_other v w =
-    record v { others = v.others ++ (record { core = w.core; seen = w.seen; mine = w.mine }) ∷ [] }
+    record v { others = v.others ++ (record { core = w.core; turns = w.turns; mine = w.mine }) ∷ w.others }
 
 abbrev pub view_of : {S : Type 0} → TableId → Known S → CoreView S
 view_of space v = record {
@@ -53,18 +55,18 @@ view_of space v = record {
   core = v.core;
   spare = v.spare;
   first = v.first;
-  seen = v.seen;
+  turns = v.turns;
   mine = v.mine;
   others = v.others;
 }
 
--- the core has the machine, and knows its history
-abbrev pub holding : {S : Type 0} → Known S → SeenLog → Known S
-holding v h = record v { seen = h; holds = true }
+-- the core learned of these turns of others
+abbrev pub looked : {S : Type 0} → Known S → List (Turn S) → Known S
+looked v rest = record v { turns = v.turns ++ rest }
 
--- the core gave it back with this history
-abbrev pub after : {S : Type 0} → Known S → SeenLog → Known S
-after v h = record v { seen = h; mine = replied_by v.core h; holds = false }
+-- and has the machine
+abbrev pub holding : {S : Type 0} → Known S → List (Turn S) → Known S
+holding v rest = record (looked v rest) { holds = true }
 
 -- a core that calls has the machine
 pub record Holds {S : Type 0} (v : Known S) : Type 0 where
@@ -72,33 +74,35 @@ pub record Holds {S : Type 0} (v : Known S) : Type 0 where
   pub live : v.live ≡ true
 
 module _ {S : Type 0} (state : S → World) where
+  -- the core gave the machine back as this one
+  abbrev pub after : Known S → S → Known S
+  after v d = record v { turns = v.turns ++ turn v.core d ∷ []; mine = replied_by v.core (history_of (state d)); holds = false }
+
   -- what the first core knows
   abbrev pub first_known : List S → Known S
-  first_known first = known 0 ((made_of state first).cores - 1) first (history_first state first)
-      (replied_by 0 (history_first state first))
+  first_known first = known 0 ((made_of state first).cores - 1) first [] (replied_by 0 (log_in state first))
 
   -- what a core knows that is split off
   abbrev pub split_known : Known S → Known S
-  split_known v = known v.spare 0 v.first (history_first state v.first)
-      (replied_by v.spare (history_first state v.first))
+  split_known v = known v.spare 0 v.first v.turns (replied_by v.spare (log_in state (left_by v.first v.turns)))
 
-  -- What a core knows is so, of the history h, of which core each seat has, and of the cores that are
+  -- What a core knows is so, where these are all turns, of which core each seat has, and of the cores that are
   -- gone and make no call any more. The cores from 1 to `left` have no seat yet.
-  pub record Fits (key : List S) (h : SeenLog) (seat_of : ℕ → ℕ) (gone : ℕ → Bool) (left id : ℕ)
+  pub record Fits (key : List S) (turns : List (Turn S)) (seat_of : ℕ → ℕ) (gone : ℕ → Bool) (left id : ℕ)
       (v : Known S) : Type 0 where
-    pub seen : Begins v.seen h
-    pub mine : v.live ≡ true → replied_by v.core h ≡ v.mine
+    pub seen : v.live ≡ true → HasSeen v.core v.turns turns
+    pub mine : v.live ≡ true → replied_by v.core (log_in state (left_by key turns)) ≡ v.mine
     pub seat : v.live ≡ true → seat_of v.core ≡ id
     pub core : v.live ≡ true → (v.core ≡ 0) ⊎ (left < v.core)
     pub here : v.live ≡ true → v.core < (made_of state key).cores
     pub first : v.live ≡ true → v.first ≡ key
     pub stays : v.live ≡ true → gone v.core ≡ false
     pub spare : 0 < v.spare → (v.live ≡ true) × (v.core ≡ 0) × (v.spare ≡ left)
-    pub told : (k : ℕ) (t : JoinedCore) → get_elem? v.others k ≡ some t → IsTold h t × (gone t.core ≡ true)
+    pub told : (k : ℕ) (t : JoinedCore S) → get_elem? v.others k ≡ some t → IsTold state key turns t × (gone t.core ≡ true)
 
   -- the machine is at home, and nobody has it; where the word is 1, a call can begin, and else the
   -- limit of events is reached
-  pub record Home (key : List S) (s : State S (Known S)) (h : SeenLog) : Type 0 where
+  pub record Home (key : List S) (s : State S (Known S)) (turns : List (Turn S)) : Type 0 where
     pub machine : S
     pub word : ℕ
     pub words : s.words ≡ padded word
@@ -108,58 +112,63 @@ module _ {S : Type 0} (state : S → World) where
     pub over : word ≢ 1 → IsOver (state machine)
     pub legal : IsLegal (state machine)
     pub made : (state machine).made ≡ made_of state key
-    pub history : history_of (state machine) ≡ h
+    pub last : left_by key turns ≡ machine ∷ []
     pub none_holds : (id : ℕ) (v : Known S) → get_elem? s.views id ≡ some v → v.holds ≡ false
 
-  -- one core has it, which knows the whole history
-  pub record Out (s : State S (Known S)) (h : SeenLog) : Type 0 where
+  -- one core has it, which knows all turns
+  pub record Out (s : State S (Known S)) (turns : List (Turn S)) : Type 0 where
     pub holder : ℕ
     pub words : s.words ≡ padded 0
     pub homes : s.homes ≡ none ∷ []
     pub held : (v : Known S) × (get_elem? s.views holder ≡ some v) × Holds v
     pub one_holds : (id : ℕ) (v : Known S) → get_elem? s.views id ≡ some v → v.holds ≡ true
-        → (id ≡ holder) × (v.seen ≡ h)
+        → (id ≡ holder) × (v.turns ≡ turns)
 
   pub record Kept (key : List S) (s : State S (Known S)) : Type 0 where
-    pub history : SeenLog
+    pub turns : List (Turn S)
     pub seat_of : ℕ → ℕ
     pub gone : ℕ → Bool
     pub left : ℕ
     pub few : left < (made_of state key).cores
+    pub order : AreInOrder state key turns
     pub each : (id : ℕ) (v : Known S) → get_elem? s.views id ≡ some v
-        → Fits key history seat_of gone left id v
-    pub unborn : (core : ℕ) → 1 ≤ core → core ≤ left
-        → (replied_by core history ≡ replied_by core (history_first state key))
-        × (gone core ≡ false)
-    pub begun : Begins (history_first state key) history
-    pub place : Home key s history ⊎ Out s history
+        → Fits key turns seat_of gone left id v
+    pub unborn : (core : ℕ) → 1 ≤ core → core ≤ left → NoneOf core turns × (gone core ≡ false)
+    pub place : Home key s turns ⊎ Out s turns
 
-  -- a core that takes the machine learns of it
-  pub record Learns (v : Known S) (d : S) : Type 0 where
-    pub seen : Begins v.seen (history_of (state d))
+  -- a core that looks at the machine learns of these turns of others, the last of which left it as d
+  pub record Learns (v : Known S) (rest : List (Turn S)) (d : S) : Type 0 where
+    pub others : NoneOf v.core rest
+    pub order : AreInOrder state v.first (v.turns ++ rest)
+    pub last : left_by v.first (v.turns ++ rest) ≡ d ∷ []
     pub legal : IsLegal (state d)
-    pub calm : IsCalm (state d)
-    pub made : v.live ≡ true → (state d).made ≡ made_of state v.first
-    pub here : v.live ≡ true → v.core < (state d).made.cores
-    pub mine : v.live ≡ true → replied_by v.core (history_of (state d)) ≡ v.mine
+    pub made : (state d).made ≡ made_of state v.first
+    pub here : v.core < (state d).made.cores
+    pub mine : replied_by v.core (history_of (state d)) ≡ v.mine
+    pub joined : (k : ℕ) (t : JoinedCore S) → get_elem? v.others k ≡ some t → IsTold state v.first (v.turns ++ rest) t
 
-  -- The machine was taken; or another core had it; or no call can begin any more.
+  -- another core had the machine; or no call can begin any more
+  abbrev pub Missed : ℕ → Me S (Known S) → Me S (Known S) → Type 0
+  Missed n m w = MatchBool (n == 0)
+      ((w ≡ m) × (m.0.holds ≡ false → (space : TableId) → IsBeside state (view_of space m.0)))
+      ((d : S) × (rest : List (Turn S)) × (w ≡ (looked m.0 rest, m.1)) × Learns m.0 rest d × IsOver (state d))
+
+  -- the machine was taken; or not
   abbrev pub Took : ℕ → Me S (Known S) → Me S (Known S) → Type 0
   Took n m w = MatchBool (n == 1)
-      ((d : S) × (w ≡ (holding m.0 (history_of (state d)), (0, d) ∷ m.1)) × Learns m.0 d)
-      ((w ≡ m) × (n ≢ 0 → m.0.live ≡ true
-      → (u : World) × IsLater state m.0.first m.0.seen u × IsOver u)
-      × (n ≡ 0 → m.0.live ≡ true → m.0.holds ≡ false → (space : TableId) → IsBeside state (view_of space m.0)))
+      ((d : S) × (rest : List (Turn S)) × (w ≡ (holding m.0 rest, (0, d) ∷ m.1)) × Learns m.0 rest d × IsCalm (state d))
+      (Missed n m w)
 
   abbrev pub Takes : Step S → Me S (Known S) → ℕ → Me S (Known S) → Type 0
   Takes st m n w = Took n m w
 
-  abbrev pub history_carried : List (ℕ × S) → SeenLog
-  history_carried [] = record { requests = []; entries = [] }
-  history_carried (x ∷ xs) = history_of (state x.1)
+  -- the core gave back what it carried first
+  abbrev pub given : Known S → List (ℕ × S) → Known S
+  given v [] = v
+  given v (x ∷ xs) = after v x.1
 
   abbrev pub Gives : Step S → Me S (Known S) → ℕ → Me S (Known S) → Type 0
-  Gives st m n w = w ≡ (after m.0 (history_carried m.1), rest m.1)
+  Gives st m n w = w ≡ (given m.0 m.1, rest m.1)
 
   -- the machine that a core has, once it was used, can be given back with this word
   pub record CanGive (v : Known S) (d : S) (word : ℕ) : Type 0 where
@@ -168,9 +177,8 @@ module _ {S : Type 0} (state : S → World) where
     pub in_place : word ≢ 0
     pub calm : word ≡ 1 → IsCalm (state d)
     pub over : word ≢ 1 → IsOver (state d)
-    pub legal : IsLegal (state d)
     pub made : (state d).made ≡ made_of state v.first
-    pub adds : (added : List Replied) × Adds v.core added v.seen (history_of (state d))
+    pub leads : (x : S) × (left_by v.first v.turns ≡ x ∷ []) × Leads state (state x) v.core (state d)
 
   -- the machine d that a core has did this, and is another now
   pub record Makes (d : S) (Does : World → World → Type 0) (carried : List (ℕ × S)) : Type 0 where

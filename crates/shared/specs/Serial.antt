@@ -10,7 +10,7 @@ use Rattle.shared.specs.declared.series.SeriesEnd.{SeriesEnd}
 use Rattle.shared.specs.declared.series.SeriesEnd.TheVariants as For
 use Rattle.shared.specs.declared.whole.CallEnd.{CallEnd}
 use Rattle.shared.specs.declared.whole.CallEnd.TheVariants as To
-use Rattle.shared.specs.Histories.{Adds, Ends, IsFull, IsOver, history_of, replied}
+use Rattle.shared.specs.Histories.{Adds, Ends, IsFull, IsOver, history_of, logged, replied}
 
 -- these are the first of the calls that were asked for, each with the reply that it got
 abbrev pub AreFirst : List (Option Request) → List Replied → Type 0
@@ -40,21 +40,27 @@ StopsFor For.NoMemory asked added = LastRefused added
 StopsFor For.Refused asked added = AllGranted added
 StopsFor For.Spent asked added = AllGranted added
 
--- The core's calls are all that the history grew by, and none is in flight; where the limit of events
--- stopped one, that one may stand there too.
-abbrev pub LeavesFor : SeriesEnd → World → ℕ → List Replied → World → Type 0
-LeavesFor For.Refused w core added v =
-    IsCalm v × Adds core added (history_of w) (history_of v) × IsFull v
-LeavesFor For.Spent w core added v =
-    ((more : List Replied) × Adds core (added ++ more) (history_of w) (history_of v)) × IsOver v
-LeavesFor _ w core added v = IsCalm v × Adds core added (history_of w) (history_of v)
+-- what else of the core's may stand in the log: where the limit of events stopped the next call, that one may have its reply there
+abbrev pub MoreFor : SeriesEnd → List (Option Request) → List Replied → List Replied → Type 0
+MoreFor For.Spent asked added more = (request : Request) × (reply : Option Reply)
+    × (slice_get asked (length added) ≡ Some (Some request)) × (more ≡ logged request reply)
+MoreFor _ asked added more = more ≡ []
 
--- whole calls, in order
+-- how the machine is left: no call is in flight, or a limit is reached
+abbrev pub LeftFor : SeriesEnd → World → Type 0
+LeftFor For.Refused v = IsCalm v × IsFull v
+LeftFor For.Spent v = IsOver v
+LeftFor _ v = IsCalm v
+
+-- whole calls, in order, which are all that the log grew by
 pub record EndsSeries (w : World) (core : ℕ) (asked : List (Option Request)) (added : List Replied)
     (stop : SeriesEnd) (v : World) : Type 0 where
   pub first : AreFirst asked added
   pub stops : StopsFor stop asked added
-  pub leaves : LeavesFor stop w core added v
+  pub more : List Replied
+  pub is_more : MoreFor stop asked added more
+  pub adds : Adds core (added ++ more) (history_of w) (history_of v)
+  pub left : LeftFor stop v
 
 -- ---- one of them
 

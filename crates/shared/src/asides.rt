@@ -1,14 +1,8 @@
 //! What a core does beside its calls.
 ghost use Rattle.std.specs.Prelude.{◌≡◌};
-ghost use Rattle.machine_model.specs.Alone.{IsCalm};
-ghost use Rattle.core_steps.specs.Machine.{state, IsLegal};
-ghost use Rattle.shared.specs.Histories.{StepsAside, event_of};
+ghost use Rattle.shared.specs.Histories.{event_of};
 
-use core_steps::Machine;
-use machine_log::Ledger;
-use machine_model::{Event, Outcome};
-use slot_lock::SlotMap;
-use std::alloc::Allocator;
+use machine_model::Event;
 use vm_base::CoreId;
 
 /// An event of a core that is no part of a call.
@@ -38,23 +32,5 @@ impl Aside {
             Aside::Review => Event::Review(core),
             Aside::Fold(page) => Event::Fold(*page),
         }
-    }
-}
-
-/// An aside of this core, where no core has a call. It takes no memory, and logs nothing.
-pub fn step_aside<M: SlotMap, A: Allocator + Clone, L: Ledger>(
-    machine: &mut Machine<M, A, L>,
-    core: CoreId,
-    aside: Aside,
-) -> Outcome
-    requires calm { IsCalm (state machine.old) }
-    ensures steps { StepsAside (state machine.old) (event_of core aside) result (state machine.new) }
-    ensures calm { IsCalm (state machine.new) }
-    ensures made { (state machine.new).made ≡ (state machine.old).made }
-    ensures legal { IsLegal (state machine.new) }
-{
-    match machine.step(aside.event(core)) {
-        Ok(outcome) => outcome,
-        Err(_) => unreachable!(),
     }
 }

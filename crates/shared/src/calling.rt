@@ -1,8 +1,6 @@
-//! A whole call of a machine: the caller makes the takes of the cores that it waits for.
+//! What ends a whole call of a machine: the caller makes the takes of the cores that it waits for.
 ghost use Rattle.std.specs.Prelude.{◌≡◌, ◌<◌};
-ghost use Rattle.machine_model.specs.Alone.{IsCalm};
 ghost use Rattle.core_steps.specs.Machine.{state, IsLegal};
-ghost use Rattle.shared.specs.Histories.{Ends};
 ghost use Rattle.shared.specs.Calling.{ComesTo, EndsFrom, Halts, HaltsTo, IsLetGo, LeavesHalted};
 ghost use Rattle.shared.specs.Calling.{TakesPast, Wants, ended_by, is_answered};
 
@@ -12,31 +10,11 @@ use machine_log::Ledger;
 use machine_model::{Event, Outcome};
 use slot_lock::SlotMap;
 use std::alloc::Allocator;
-use vm_base::{CoreId, CoreSet, Request};
-
-/// A call of this core, from its beginning to its reply. A call that is refused memory is given up:
-/// its reply is then that there was no memory.
-#[inline(always)]
-pub fn call_whole<M: SlotMap, A: Allocator + Clone, L: Ledger>(
-    machine: &mut Machine<M, A, L>,
-    core: CoreId,
-    request: Request,
-) -> CallEnd
-    requires here { core < (state machine.old).made.cores }
-    requires calm { IsCalm (state machine.old) }
-    ensures ends { Ends (state machine.old) core request result (state machine.new) }
-    ensures made { (state machine.new).made ≡ (state machine.old).made }
-    ensures legal { IsLegal (state machine.new) }
-{
-    match machine.call(core, request) {
-        Ok(finished) => call_settled(machine, core, finished),
-        Err(_) => call_given_up(machine, core),
-    }
-}
+use vm_base::{CoreId, CoreSet};
 
 // Ends a call that has come so far, if it isn't ended.
 #[inline(always)]
-fn call_settled<M: SlotMap, A: Allocator + Clone, L: Ledger>(
+pub(crate) fn call_settled<M: SlotMap, A: Allocator + Clone, L: Ledger>(
     machine: &mut Machine<M, A, L>,
     core: CoreId,
     finished: Finished,
@@ -84,7 +62,7 @@ fn call_waited<M: SlotMap, A: Allocator + Clone, L: Ledger>(
 
 // Ends a call that was refused memory: it lets go what it holds, which takes no memory.
 #[inline(never)]
-fn call_given_up<M: SlotMap, A: Allocator + Clone, L: Ledger>(
+pub(crate) fn call_given_up<M: SlotMap, A: Allocator + Clone, L: Ledger>(
     machine: &mut Machine<M, A, L>,
     core: CoreId,
 ) -> CallEnd

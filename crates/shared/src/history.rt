@@ -15,9 +15,15 @@ pub struct Replied {
     pub reply: Reply,
 }
 
-/// What a core that was taken in had seen, and the calls that it had made. No value of it is made.
-pub struct JoinedCore {
+/// A core's turn: it took the machine, used it, and gave it back as this one. No value of it is made.
+pub struct Turn<S> {
     pub core: u64,
-    pub seen: SeenLog,
+    pub machine: S,
+}
+
+/// What a core that was taken in knew: the turns so far, and the calls that it had made. No value of it is made.
+pub struct JoinedCore<S> {
+    pub core: u64,
+    pub turns: LinkedList<Turn<S>>,
     pub mine: LinkedList<Replied>,
 }

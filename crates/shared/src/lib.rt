@@ -21,7 +21,7 @@ pub mod space;
 pub mod whole;
 
 pub use asides::Aside;
-pub use history::{JoinedCore, Replied, SeenLog};
+pub use history::{JoinedCore, Replied, SeenLog, Turn};
 pub use series::{Ask, Series, SeriesEnd, Tell};
 pub use space::{Answer, Calls, CoreSeat, Known, Passed, ShareFault, SharedMachine, Unshared};
 pub use whole::{CallEnd, Whole};

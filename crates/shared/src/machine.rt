@@ -3,8 +3,8 @@ ghost use Rattle.std.specs.Prelude.{◌≡◌, ℕ, ◌<◌};
 ghost use Rattle.core_steps.specs.Machine.{state};
 ghost use Rattle.shared.specs.Calling.{CalmBelow};
 
-use crate::asides::{Aside, step_aside};
-use crate::calling::call_whole;
+use crate::asides::Aside;
+use crate::calling::{call_given_up, call_settled};
 use crate::whole::{CallEnd, Whole};
 use core_steps::Machine;
 use machine_log::Ledger;
@@ -34,10 +34,16 @@ impl<M: SlotMap, A: Allocator + Clone, L: Ledger> Whole for Machine<M, A, L> {
 
     #[inline(always)]
     fn call_whole(&mut self, core: CoreId, request: Request) -> CallEnd {
-        call_whole(self, core, request)
+        match self.call(core, request) {
+            Ok(finished) => call_settled(self, core, finished),
+            Err(_) => call_given_up(self, core),
+        }
     }
 
     fn step_aside(&mut self, core: CoreId, aside: Aside) -> Outcome {
-        step_aside(self, core, aside)
+        match self.step(aside.event(core)) {
+            Ok(outcome) => outcome,
+            Err(_) => unreachable!(),
+        }
     }
 }

@@ -1,15 +1,15 @@
 //! The space that threads share, and a core, with which one thread calls.
 ghost use Rattle.std.specs.Prelude.{◌≡◌, ◌≢◌, ◌-◌, ◌<◌, ◌≤◌, ◌==◌, true, List, [], ◌∷◌, ◌++◌, IfOk, IfErr, IfSome, IfNone, length, map};
 ghost use Rattle.shared.specs.declared.history.Replied.{Replied as RepliedOf};
-ghost use Rattle.shared.specs.Histories.{history_of, replied_by, event_of, Ends, StepsAside};
+ghost use Rattle.shared.specs.Histories.{event_of, Ends, StepsAside};
 ghost use Rattle.shared.specs.Serial.{AreTold, EndsSeries};
-ghost use Rattle.shared.specs.Cores.{Answers, AnswersAll, Agrees, IsBeside, IsKept, Passes, made_of, new_core, told_of};
+ghost use Rattle.shared.specs.Cores.{Answers, AnswersAll, Agrees, IsBeside, IsKept, Passes, new_core, split_core, told_of};
 ghost use Rattle.machine_model.specs.Alone.{IsCalm};
 ghost use Rattle.core_steps.specs.Machine.{IsLegal};
 ghost use Rattle.shared.specs.Rules.{CanGive, Makes, Took, after, answer_of, word_after, word_of};
 
 use crate::asides::Aside;
-use crate::history::{JoinedCore, Replied, SeenLog};
+use crate::history::{JoinedCore, Replied, Turn};
 use crate::series::{Ask, Series, SeriesEnd, Tell, call_each};
 use crate::whole::{CallEnd, Whole};
 use atomic_table::{Join, Play, Refused, Seat, Split, Table, TableRule};
@@ -41,11 +41,11 @@ pub struct Known<S> {
     pub core: u64,
     pub spare: u64,
     pub first: LinkedList<S>,
-    pub seen: SeenLog,
+    pub turns: LinkedList<Turn<S>>,
     pub mine: LinkedList<Replied>,
     pub holds: bool,
     pub live: bool,
-    pub others: LinkedList<JoinedCore>,
+    pub others: LinkedList<JoinedCore<S>>,
 }
 
 /// What a call is answered.
@@ -277,7 +277,7 @@ impl<S: Whole + Drop> SharedMachine<S> {
         requires can { (d : S) × (seat.old.me.1 ≡ (0, d) ∷ []) × CanGive S.state seat.old.me.0 d word }
         ensures same { seat.new.table_id ≡ seat.old.table_id }
         ensures gave { (d : S) → seat.old.me.1 ≡ (0, d) ∷ []
-            → seat.new.me ≡ (after seat.old.me.0 (history_of (S.state d)), []) }
+            → seat.new.me ≡ (after S.state seat.old.me.0 d, []) }
     {
         self.table.shared.store::<Give>(seat, MIDDLE, word);
     }
@@ -359,7 +359,7 @@ impl<S: Whole + Drop> SharedMachine<S> {
         requires here { core.old.space ≡ self.now.table.shared.table_id }
         ensures some { IfSome result (λ c. (0 < core.old.spare)
             × (core.new ≡ record core.old { spare = core.old.spare - 1 })
-            × (c ≡ new_core S.state core.old.space core.old.spare 0 core.old.first)) }
+            × (c ≡ split_core S.state core.old)) }
         ensures none { IfNone result ((core.old.spare ≡ 0) × (core.new ≡ core.old)) }
     {
         if core.left == 0 {
@@ -379,7 +379,7 @@ impl<S: Whole + Drop> SharedMachine<S> {
     pub fn take_in(&self, core: &mut CoreSeat<S>, other: CoreSeat<S>)
         requires here { (core.old.space ≡ self.now.table.shared.table_id)
             × (other.space ≡ self.now.table.shared.table_id) }
-        ensures { core.new ≡ record core.old { others = core.old.others ++ told_of other ∷ [] } }
+        ensures { core.new ≡ record core.old { others = core.old.others ++ told_of other ∷ other.others } }
     {
         self.table
             .shared
@@ -390,7 +390,7 @@ impl<S: Whole + Drop> SharedMachine<S> {
     /// itself and of those that it took in. `None`: a core had it that was let go amid a call, and so is none of these.
     pub fn close(self, core: CoreSeat<S>) -> Option<S>
         requires here { core.space ≡ self.table.shared.table_id }
-        ensures back { IfSome result (λ machine. Agrees S.state (S.state machine) core) }
+        ensures back { IfSome result (λ machine. Agrees S.state machine core) }
         ensures lost { IfNone result (IsBeside S.state core) }
     {
         let SharedMachine { table } = self;

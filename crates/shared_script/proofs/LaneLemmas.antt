@@ -5,23 +5,26 @@ use Rattle.std.proofs.lemmas.List.{drop_all, get_or-map, length-map, map-append,
 use Rattle.std.proofs.lemmas.Option.{slice_get-get_or}
 use Rattle.std.specs.Prelude.{Option, None, Some, IfNone, IfSome, Bool}
 use Rattle.atomic_table.specs.Seated.{TableId}
-use Rattle.machine_model.specs.World.{World, Made}
+use Rattle.machine_model.specs.World.{World}
 use Rattle.machine_model.specs.Setups.{first_fault_within}
 use Rattle.machine_model.specs.declared.setup.CallLimit.{CallLimit}
 use Rattle.machine_model.specs.declared.setup.CallLimit.TheVariants.{Usual}
 use Rattle.trace_words.specs.Declarations.{DeclarationView, asked_fault, has_long, made_by}
 use Rattle.trace_words.specs.Scripts.{Scripted}
 use Rattle.trace_words.specs.declared.script.Task.{Task}
-use Rattle.shared.specs.Cores.{Agrees, CoreView, IsTold, history_first, made_of, new_core, told_of}
+use Rattle.shared.specs.Turns.{AreInOrder, IsTold, NoneOf, left_by, log_in}
+use Rattle.shared.specs.Cores.{Agrees, CoreView, made_of, new_core, split_core, told_of}
 use Rattle.shared.specs.Histories.{history_of, replied_by, replied_in}
 use Rattle.shared.specs.declared.history.Replied.{Replied}
 use Rattle.shared.specs.declared.history.JoinedCore.{JoinedCore}
 use Rattle.shared_script.specs.Lanes.{AreCores, AreOf, EndEach, EndsAs, IsDone, IsFresh, last_stop}
 use Rattle.shared_script.specs.Runs.{Fails, IsRun}
-use Rattle.shared_script.specs.Tasks.{ArePassed, IsMade, asked_in, calls_of}
+use Rattle.shared_script.specs.Tasks.{DidTasks, DoesTasks, IsMade, Stops, asked_in, calls_of}
 use Rattle.shared_script.specs.declared.fault.SharedFault.{SharedFault}
+use Rattle.shared_script.specs.declared.fault.SharedFault.TheVariants.{Text, Full}
+use Rattle.trace_words.specs.declared.fault.TraceFault.TheVariants.{NoMemory}
 use Rattle.shared_script.specs.declared.lane.Lane.{Lane}
-use Rattle.shared_script.proofs.TaskLemmas.{still_passed}
+use Rattle.shared_script.proofs.TaskLemmas.{as_worlds, did_still, did_worlds, left_worlds, order_worlds}
 use Rattle.shared_script.proofs.EachLemmas.{Each, each_front, each_last, each_snoc}
 
 -- ---- a space is declared with some core
@@ -70,7 +73,7 @@ module _ {S : Type 0} (state : S → World) (space : TableId) (first : List S) (
         (each_snoc (λ at lane. IsFresh state space first (spare - at) lane) lanes lane s.each fresh)
 
     -- one more has one
-    pub splits_more : (new c : CoreView S) → 0 < now.spare → new ≡ record now { spare = now.spare - 1 } → c ≡ new_core state now.space now.spare 0 now.first
+    pub splits_more : (new c : CoreView S) → 0 < now.spare → new ≡ record now { spare = now.spare - 1 } → c ≡ split_core state now
         → IsLane number c lane → Splits all (number - 1) new
     splits_more new c pos e cs l =
         let less : new.spare ≡ now.spare - 1 = ap (λ (v : CoreView S). v.spare) e in
@@ -81,7 +84,7 @@ module _ {S : Type 0} (state : S → World) (space : TableId) (first : List S) (
           number_is = ap (λ k. k - 1) s.number_is ∙ sym less;
           each = with_lane (record {
             number = l.number_is ∙ s.number_is ∙ here;
-            core_is = l.core_is ∙ cs ∙ (λ i. new_core state (space_now i) (here i) 0 (first_now i));
+            core_is = l.core_is ∙ cs ∙ ap (split_core state) s.core_is ∙ ap (λ k. new_core state space k 0 first) here;
             told = l.told;
           });
         }
@@ -114,11 +117,11 @@ last_none last (None ∷ stops) e = let r = last_none last stops e in (r.0, none
     none f (suc k) = f k
 last_none last (Some stop ∷ stops) e = let r = last_none (Some stop) stops e in let clash = r.0 in absurd (cc)
 
-last_fails : (last : Option SharedFault) (stops : List (Option SharedFault)) → IfSome last Fails → ((k : ℕ) → IfSome (get_or stops k None) Fails)
-    → IfSome (last_stop last stops) Fails
-last_fails last [] p f = p
-last_fails last (None ∷ stops) p f = last_fails last stops p (λ k. f (suc k))
-last_fails last (Some stop ∷ stops) p f = last_fails (Some stop) stops (f zero) (λ k. f (suc k))
+last_fails : (P : SharedFault → Type 0) (last : Option SharedFault) (stops : List (Option SharedFault)) → IfSome last P
+    → ((k : ℕ) → IfSome (get_or stops k None) P) → IfSome (last_stop last stops) P
+last_fails P last [] p f = p
+last_fails P last (None ∷ stops) p f = last_fails P last stops p (λ k. f (suc k))
+last_fails P last (Some stop ∷ stops) p f = last_fails P (Some stop) stops (f zero) (λ k. f (suc k))
 
 -- one stop more is looked at
 pub last_more : (last : Option SharedFault) (stops : List (Option SharedFault)) (stop : Option SharedFault)
@@ -129,17 +132,17 @@ last_more last (Some found ∷ stops) stop = last_more (Some found) stops stop
 
 -- ---- the end
 
-module _ {S : Type 0} (state : S → World) (space : TableId) (first : List S) (tasks : List (List Task)) (new : (history_first state first).entries ≡ []) where
+module _ {S : Type 0} (state : S → World) (space : TableId) (first : List S) (tasks : List (List Task)) (new : (log_in state first).entries ≡ []) where
   -- a core that did not stop
   done_of : (core : ℕ) (before after : Lane S) → IsFresh state space first core before → EndsAs state tasks before after
-      → after.stop ≡ None → IsDone (made_of state first) tasks space first core after
+      → after.stop ≡ None → IsDone state tasks space first core after
   done_of core before after fresh ends none =
       let m = subst (λ o. IfNone o (IsMade before.core before.told.items (calls_of (get_or tasks before.number [])) after.core after.told.items)) none
       ends.made in
       let kept = m.kept ∙ ap (λ l. l ++ m.told) fresh.told in
       let first_of : before.core.first ≡ first = ap (λ (v : CoreView S). v.first) fresh.core_is in
       let core_of : before.core.core ≡ core = ap (λ (v : CoreView S). v.core) fresh.core_is in
-      let empty : before.core.mine ≡ [] = ap (λ (v : CoreView S). v.mine) fresh.core_is ∙ ap (replied_in core (history_first state first).requests) new in
+      let empty : before.core.mine ≡ [] = ap (λ (v : CoreView S). v.mine) fresh.core_is ∙ ap (replied_in core (log_in state first).requests) new in
       record {
         core_is = ap (λ (v : CoreView S). v.core) m.same ∙ core_of;
         space_is = ap (λ (v : CoreView S). v.space) m.same ∙ ap (λ (v : CoreView S). v.space) fresh.core_is;
@@ -147,16 +150,15 @@ module _ {S : Type 0} (state : S → World) (space : TableId) (first : List S) (
         others = ap (λ (v : CoreView S). v.others) m.same ∙ ap (λ (v : CoreView S). v.others) fresh.core_is;
         asked = ap asked_in kept ∙ m.asked ∙ ap (λ n. calls_of (get_or tasks n [])) fresh.number;
         mine = m.mine ∙ ap (λ l. l ++ m.told) empty ∙ sym kept;
-        passed = subst (λ (z : List S × (ℕ × (List Replied × ℕ))).
-            ArePassed (made_of state z.0) z.1.0 (asked_in z.1.1.0) (get_or tasks z.1.1.1 []) after.core.seen)
-            (λ i. (first_of i, (core_of i, (empty i, fresh.number i))))
-            (subst (λ o. IfNone o (ArePassed (made_of state before.core.first) before.core.core (asked_in before.core.mine)
-            (get_or tasks before.number []) after.core.seen)) none ends.passed);
+        did = subst (λ (z : CoreView S × ℕ). DidTasks state z.0.core z.0.first after.core.turns (get_or tasks z.1 []))
+            (λ i. (fresh.core_is i, fresh.number i))
+            (subst (λ o. IfNone o (DoesTasks state before.core (get_or tasks before.number []) after.core)) none ends.did []
+            (subst (λ (v : CoreView S). DidTasks state v.core v.first v.turns []) (sym fresh.core_is) refl));
       }
 
   -- where none did
   pub all_done : (left : ℕ) (before after : List (Lane S)) → AreCores left (IsFresh state space first) before → EndEach state tasks before after
-      → last_stop None (map (λ lane. lane.stop) after) ≡ None → AreCores left (IsDone (made_of state first) tasks space first) after
+      → last_stop None (map (λ lane. lane.stop) after) ≡ None → AreCores left (IsDone state tasks space first) after
   all_done left before after fresh ends none = record {
     count = ends.count ∙ fresh.count;
     each = λ at d le.
@@ -167,19 +169,38 @@ module _ {S : Type 0} (state : S → World) (space : TableId) (first : List S) (
   }
 
 -- why one stopped that did
-pub stop_fails : {S : Type 0} (state : S → World) (tasks : List (List Task)) (before after : List (Lane S)) → EndEach state tasks before after
-    → IfSome (last_stop None (map (λ lane. lane.stop) after)) Fails
-stop_fails {S = S} state tasks before after ends =
-    last_fails None (map (λ lane. lane.stop) after) tt (each after (λ at d lt. (ends.each at d d (omega (arith, lt, ends.count))).fails))
+pub stop_fails : {S : Type 0} (state : S → World) (tasks : List (List Task)) (before after : List (Lane S)) (space : TableId) (first : List S) (left : ℕ)
+    → AreCores left (IsFresh state space first) before → EndEach state tasks before after
+    → IfSome (last_stop None (map (λ lane. lane.stop) after)) (Stops state first)
+stop_fails {S = S} state tasks before after space first left fresh ends =
+    last_fails (Stops state first) None (map (λ lane. lane.stop) after) tt (each after (λ at d lt.
+    let within : at < length before = omega (arith, lt, ends.count) in
+    let core_is = (fresh.each at d (omega (arith, within, fresh.count))).core_is in
+    subst (λ l. IfSome (get_or after at d).stop (Stops state l)) (ap (λ (v : CoreView S). v.first) core_is) (ends.each at d d within).fails))
   where
-    each : (lanes : List (Lane S)) → Each (λ at (lane : Lane S). IfSome lane.stop Fails) lanes → (k : ℕ)
-        → IfSome (get_or (map (λ lane. lane.stop) lanes) k None) Fails
+    each : (lanes : List (Lane S)) → Each (λ at (lane : Lane S). IfSome lane.stop (Stops state first)) lanes → (k : ℕ)
+        → IfSome (get_or (map (λ lane. lane.stop) lanes) k None) (Stops state first)
     each [] f k = tt
     each (lane ∷ lanes) f zero = f zero lane (omega arith)
     each (lane ∷ lanes) f (suc k) = each lanes (λ at d lt. f (suc at) d (omega (arith, lt))) k
 
-pub some_fails : (o : Option SharedFault) (fault : SharedFault) → IfSome o Fails → o ≡ Some fault → Fails fault
-some_fails o fault p e = subst (λ (o : Option SharedFault). IfSome o Fails) e p
+-- and of what script: one that declares this machine
+pub stops_fail : {S : Type 0} (state : S → World) (asked : DeclarationView) (machine : S) → (state machine).made ≡ made_by asked
+    → (state machine).calls.log ≡ [] → (fault : SharedFault) → Stops state (machine ∷ []) fault → Fails asked fault
+stops_fail state asked machine made new (Text NoMemory) s = tt
+stops_fail state asked machine made new Full s = (
+  state machine,
+  made,
+  new,
+  record {
+    turns = as_worlds state s.turns;
+    machine = state s.machine;
+    order = order_worlds state (machine ∷ []) s.turns s.order;
+    last = left_worlds state (machine ∷ []) s.turns s.machine s.last;
+    full = s.full;
+  },
+)
+stops_fail state asked machine made new _ s = absurd s
 
 -- one lane more is looked at
 pub stop_next : {S : Type 0} (lanes : List (Lane S)) (n : ℕ) (d : Lane S) (last now : Option SharedFault) → n < length lanes
@@ -206,19 +227,21 @@ module _ {S : Type 0} (state : S → World) (items lent last seen : List (Lane S
   pub are_last : take n (last ++ drop (length last) items) ≡ last
   are_last = ap (λ l. take n (last ++ l)) none_left ∙ ap (take n) (append-nil last) ∙ take_all n last (omega (arith, ends.count, len))
 
-  pub seen_fails : (o : Option SharedFault) (fault : SharedFault) → o ≡ last_stop None (map (λ lane. lane.stop) seen) → o ≡ Some fault → Fails fault
-  seen_fails o fault e f =
-      let same : last_stop None (map (λ lane. lane.stop) last) ≡ o = ap (λ l. last_stop None (map (λ (lane : Lane S). lane.stop) l)) (sym (are ∙ are_last))
-      ∙ sym e in
-      some_fails o fault (subst (λ (o : Option SharedFault). IfSome o Fails) same (stop_fails state tasks lent last ends)) f
+  pub seen_fails : (space : TableId) (first : List S) (left : ℕ) (o : Option SharedFault) (fault : SharedFault)
+      → AreCores left (IsFresh state space first) items → o ≡ last_stop None (map (λ lane. lane.stop) seen) → o ≡ Some fault → Stops state first fault
+  seen_fails space first left o fault fresh e f =
+      let same_stop : last_stop None (map (λ lane. lane.stop) last) ≡ o = ap (λ l. last_stop None (map (λ (lane : Lane S). lane.stop) l))
+      (sym (are ∙ are_last)) ∙ sym e in
+      subst (λ (o : Option SharedFault). IfSome o (Stops state first)) (same_stop ∙ f)
+      (stop_fails state tasks lent last space first left (subst (λ l. AreCores left (IsFresh state space first) l) (sym same) fresh) ends)
 
-  pub seen_done : (space : TableId) (first : List S) (left : ℕ) (o : Option SharedFault) → (history_first state first).entries ≡ []
+  pub seen_done : (space : TableId) (first : List S) (left : ℕ) (o : Option SharedFault) → (log_in state first).entries ≡ []
       → AreCores left (IsFresh state space first) items → o ≡ last_stop None (map (λ lane. lane.stop) seen) → o ≡ None
-      → AreCores left (IsDone (made_of state first) tasks space first) (take n (last ++ drop (length last) items))
+      → AreCores left (IsDone state tasks space first) (take n (last ++ drop (length last) items))
   seen_done space first left o new fresh e none =
       let stops : last_stop None (map (λ lane. lane.stop) last) ≡ None = ap (λ l. last_stop None (map (λ (lane : Lane S). lane.stop) l))
       (sym (are ∙ are_last)) ∙ sym e ∙ none in
-      subst (λ l. AreCores left (IsDone (made_of state first) tasks space first) l) (sym are_last)
+      subst (λ l. AreCores left (IsDone state tasks space first) l) (sym are_last)
       (all_done state space first tasks new left lent last (subst (λ l. AreCores left (IsFresh state space first) l) (sym same) fresh) ends stops)
 
 -- lanes that were made for a core as it was then
@@ -231,136 +254,153 @@ fresh_at {S = S} state now space first k left lanes e is a =
 -- ---- cores that are taken in
 
 -- what is known of all cores that were taken in, and of the one that knows it
-abbrev known_by : {S : Type 0} → CoreView S → List JoinedCore
+abbrev known_by : {S : Type 0} → CoreView S → List (JoinedCore S)
 known_by v = told_of v ∷ v.others
 
-module _ {S : Type 0} (made : Made) (tasks : List (List Task)) (space : TableId) (first : List S) (left : ℕ) where
+module _ {S : Type 0} (state : S → World) (tasks : List (List Task)) (space : TableId) (first : List S) (left : ℕ) where
   pub record Gathers (lanes : List (Lane S)) (now : CoreView S) (told : List (List Replied)) : Type 0 where
     pub count : length lanes + length told ≡ suc left
-    pub each : Each (λ at lane. IsDone made tasks space first (left - at) lane) lanes
+    pub each : Each (λ at lane. IsDone state tasks space first (left - at) lane) lanes
     pub space_is : now.space ≡ space
     pub first_is : now.first ≡ first
-    pub cores : Each (λ k (t : JoinedCore). t.core ≡ k) (known_by now)
-    pub mine : map (λ (t : JoinedCore). t.mine) (known_by now) ≡ told
+    pub cores : Each (λ k (t : JoinedCore S). t.core ≡ k) (known_by now)
+    pub mine : map (λ (t : JoinedCore S). t.mine) (known_by now) ≡ told
     pub asked : Each (λ k (l : List Replied). asked_in l ≡ calls_of (get_or tasks k [])) told
-    pub passed : Each (λ k (t : JoinedCore). ArePassed made k [] (get_or tasks k []) t.seen) (known_by now)
+    pub did : Each (λ k (t : JoinedCore S). DidTasks state k first t.turns (get_or tasks k [])) (known_by now)
 
   -- core 0 is the last lane's
-  pub gathers_first : (all lanes : List (Lane S)) (lane : Lane S) → AreCores left (IsDone made tasks space first) all → all ≡ lanes ++ lane ∷ []
+  pub gathers_first : (all lanes : List (Lane S)) (lane : Lane S) → AreCores left (IsDone state tasks space first) all → all ≡ lanes ++ lane ∷ []
       → Gathers lanes lane.core (lane.told.items ∷ [])
   gathers_first all lanes lane a is =
       let count : length lanes ≡ left = omega (arith, a.count, ap length is, length-append lanes (lane ∷ [])) in
-      let P : ℕ → Lane S → Type 0 = λ at lane. IsDone made tasks space first (left - at) lane in
+      let P : ℕ → Lane S → Type 0 = λ at lane. IsDone state tasks space first (left - at) lane in
       let each : Each P (lanes ++ lane ∷ []) = subst (Each P) is (λ at d lt. a.each at d (omega (arith, lt, a.count))) in
-      let done : IsDone made tasks space first 0 lane = subst (λ n. IsDone made tasks space first n lane) (omega (arith, count)) (each_last P lanes lane each) in
+      let done : IsDone state tasks space first 0 lane = subst (λ n. IsDone state tasks space first n lane) (omega (arith, count)) (each_last P lanes lane each) in
       record {
         count = omega (arith, count);
         each = each_front P lanes (lane ∷ []) each;
         space_is = done.space_is;
         first_is = done.first_is;
-        cores = subst (λ l. Each (λ k (t : JoinedCore). t.core ≡ k) (told_of lane.core ∷ l)) (sym done.others)
-            (each_snoc (λ k (t : JoinedCore). t.core ≡ k) [] (told_of lane.core) (λ at d lt. absurd (omega (arith, lt))) done.core_is);
-        mine = (λ i. lane.core.mine ∷ map (λ (t : JoinedCore). t.mine) (done.others i)) ∙ ap (λ l. l ∷ []) done.mine;
+        cores = subst (λ l. Each (λ k (t : JoinedCore S). t.core ≡ k) (told_of lane.core ∷ l)) (sym done.others)
+            (each_snoc (λ k (t : JoinedCore S). t.core ≡ k) [] (told_of lane.core) (λ at d lt. absurd (omega (arith, lt))) done.core_is);
+        mine = (λ i. lane.core.mine ∷ map (λ (t : JoinedCore S). t.mine) (done.others i)) ∙ ap (λ l. l ∷ []) done.mine;
         asked = each_snoc (λ k (l : List Replied). asked_in l ≡ calls_of (get_or tasks k [])) [] lane.told.items
             (λ at d lt. absurd (omega (arith, lt))) done.asked;
-        passed = subst (λ l. Each (λ k (t : JoinedCore). ArePassed made k [] (get_or tasks k []) t.seen) (told_of lane.core ∷ l)) (sym done.others)
-            (each_snoc (λ k (t : JoinedCore). ArePassed made k [] (get_or tasks k []) t.seen) [] (told_of lane.core) (λ at d lt. absurd (omega (arith, lt)))
-            done.passed);
+        did = subst (λ l. Each (λ k (t : JoinedCore S). DidTasks state k first t.turns (get_or tasks k [])) (told_of lane.core ∷ l)) (sym done.others)
+            (each_snoc (λ k (t : JoinedCore S). DidTasks state k first t.turns (get_or tasks k [])) [] (told_of lane.core)
+            (λ at d lt. absurd (omega (arith, lt))) done.did);
       }
 
   -- one more is taken in
   pub gathers_more : (all lanes : List (Lane S)) (lane : Lane S) (now new : CoreView S) (told more : List (List Replied)) → Gathers all now told
-      → all ≡ lanes ++ lane ∷ [] → new ≡ record now { others = now.others ++ told_of lane.core ∷ [] } → more ≡ told ++ lane.told.items ∷ []
+      → all ≡ lanes ++ lane ∷ [] → new ≡ record now { others = now.others ++ told_of lane.core ∷ lane.core.others } → more ≡ told ++ lane.told.items ∷ []
       → Gathers lanes new more
   gathers_more all lanes lane now new told more g is e m =
       let size : length all ≡ length lanes + 1 = omega (arith, ap length is, length-append lanes (lane ∷ [])) in
-      let P : ℕ → Lane S → Type 0 = λ at lane. IsDone made tasks space first (left - at) lane in
+      let P : ℕ → Lane S → Type 0 = λ at lane. IsDone state tasks space first (left - at) lane in
       let each : Each P (lanes ++ lane ∷ []) = subst (Each P) is g.each in
       let here : left - length lanes ≡ length told = omega (arith, g.count, size) in
-      let done : IsDone made tasks space first (length told) lane = subst (λ n. IsDone made tasks space first n lane) here (each_last P lanes lane each) in
-      let knows : known_by new ≡ known_by now ++ told_of lane.core ∷ [] = ap known_by e in
-      let long : length (known_by now) ≡ length told = sym (length-map (known_by now) (λ (t : JoinedCore). t.mine)) ∙ ap length g.mine in
+      let done : IsDone state tasks space first (length told) lane = subst (λ n. IsDone state tasks space first n lane) here (each_last P lanes lane each) in
+      let knows : known_by new ≡ known_by now ++ told_of lane.core ∷ [] =
+      ap known_by e ∙ ap (λ l. known_by now ++ told_of lane.core ∷ l) done.others in
+      let long : length (known_by now) ≡ length told = sym (length-map (known_by now) (λ (t : JoinedCore S). t.mine)) ∙ ap length g.mine in
       record {
         count = omega (arith, g.count, size, ap length m, length-append told (lane.told.items ∷ []));
         each = each_front P lanes (lane ∷ []) each;
         space_is = ap (λ (v : CoreView S). v.space) e ∙ g.space_is;
         first_is = ap (λ (v : CoreView S). v.first) e ∙ g.first_is;
-        cores = subst (Each (λ k (t : JoinedCore). t.core ≡ k)) (sym knows)
-            (each_snoc (λ k (t : JoinedCore). t.core ≡ k) (known_by now) (told_of lane.core) g.cores (done.core_is ∙ sym long));
-        mine = ap (map (λ (t : JoinedCore). t.mine)) knows ∙ map-append (λ (t : JoinedCore). t.mine) (known_by now) (told_of lane.core ∷ [])
+        cores = subst (Each (λ k (t : JoinedCore S). t.core ≡ k)) (sym knows)
+            (each_snoc (λ k (t : JoinedCore S). t.core ≡ k) (known_by now) (told_of lane.core) g.cores (done.core_is ∙ sym long));
+        mine = ap (map (λ (t : JoinedCore S). t.mine)) knows ∙ map-append (λ (t : JoinedCore S). t.mine) (known_by now) (told_of lane.core ∷ [])
             ∙ (λ i. g.mine i ++ done.mine i ∷ []) ∙ sym m;
         asked = subst (Each (λ k (l : List Replied). asked_in l ≡ calls_of (get_or tasks k []))) (sym m)
             (each_snoc (λ k (l : List Replied). asked_in l ≡ calls_of (get_or tasks k [])) told lane.told.items g.asked done.asked);
-        passed = subst (Each (λ k (t : JoinedCore). ArePassed made k [] (get_or tasks k []) t.seen)) (sym knows)
-            (each_snoc (λ k (t : JoinedCore). ArePassed made k [] (get_or tasks k []) t.seen) (known_by now) (told_of lane.core) g.passed
-            (subst (λ k. ArePassed made k [] (get_or tasks k []) lane.core.seen) (sym long) done.passed));
+        did = subst (Each (λ k (t : JoinedCore S). DidTasks state k first t.turns (get_or tasks k []))) (sym knows)
+            (each_snoc (λ k (t : JoinedCore S). DidTasks state k first t.turns (get_or tasks k [])) (known_by now) (told_of lane.core) g.did
+            (subst (λ k. DidTasks state k first lane.core.turns (get_or tasks k [])) (sym long) done.did));
       }
 
 -- all were, and the machine agrees with what is known
 pub gathered : {S : Type 0} (state : S → World) (script : Scripted) (space : TableId) (first : List S) (left : ℕ) (lanes : List (Lane S)) (now : CoreView S)
-    (told : List (List Replied)) (w : World) → Gathers (made_of state first) script.tasks space first left lanes now told → length lanes ≡ 0 → suc left ≡ script.asked.cores
-    → made_of state first ≡ made_by script.asked → Agrees state w now → IsRun script told w
-gathered {S = S} state script space first left lanes now told w g none cores made a = record {
+    (told : List (List Replied)) (machine : S) → Gathers state script.tasks space first left lanes now told → length lanes ≡ 0 → suc left ≡ script.asked.cores
+    → made_of state first ≡ made_by script.asked → Agrees state machine now → IsRun script told (state machine)
+gathered {S = S} state script space first left lanes now told machine g none cores made a = record {
   legal = a.legal;
   made = a.made ∙ ap (made_of state) g.first_is ∙ made;
   count = count;
   asked = λ core lt. g.asked core [] (omega (arith, lt, count));
-  passed = λ core lt.
-      let within : core < length (known_by now) = omega (arith, lt, count, long) in
-      let t = get_or (known_by now) core (told_of now) in
-      subst (λ made. ArePassed made core [] (get_or script.tasks core []) (history_of w)) (sym (a.made ∙ ap (made_of state) g.first_is))
-      (still_passed (made_of state first) core [] (get_or script.tasks core []) t.seen (history_of w) (knows core within).0
-      (g.passed core (told_of now) within));
   logged = λ core lt.
-      let within : core < length (known_by now) = omega (arith, lt, count, long) in
       let t = get_or (known_by now) core (told_of now) in
-      ap (λ c. replied_by c (history_of w)) (sym (g.cores core (told_of now) within)) ∙ (knows core within).1
-      ∙ sym (get_or-map (λ (t : JoinedCore). t.mine) (known_by now) core (told_of now) [] within) ∙ ap (λ l. get_or l core []) g.mine;
+      ap (λ l. replied_by core (log_in state l)) (sym last)
+      ∙ ap (λ c. replied_by c (log_in state (left_by first a.turns))) (sym (g.cores core (told_of now) (within core lt)))
+      ∙ (knows core (within core lt)).mine
+      ∙ sym (get_or-map (λ (t : JoinedCore S). t.mine) (known_by now) core (told_of now) [] (within core lt)) ∙ ap (λ l. get_or l core []) g.mine;
+  first = map state first;
+  turns = as_worlds state a.turns;
+  order = order_worlds state first a.turns order;
+  last = left_worlds state first a.turns machine last;
+  did = λ core lt.
+      let t = get_or (known_by now) core (told_of now) in
+      let sees = (knows core (within core lt)).seen in
+      did_worlds state core first a.turns (get_or script.tasks core [])
+      (subst (λ ts. DidTasks state core first ts (get_or script.tasks core [])) (sym sees.goes)
+      (did_still state core first t.turns sees.rest (get_or script.tasks core []) (subst (AreInOrder state first) sees.goes order)
+      (subst (λ c. NoneOf c sees.rest) (g.cores core (told_of now) (within core lt)) sees.others) (g.did core (told_of now) (within core lt))));
 }
   where
     count : length told ≡ script.asked.cores
     count = omega (arith, g.count, none, cores)
 
     long : length (known_by now) ≡ length told
-    long = sym (length-map (known_by now) (λ (t : JoinedCore). t.mine)) ∙ ap length g.mine
+    long = sym (length-map (known_by now) (λ (t : JoinedCore S). t.mine)) ∙ ap length g.mine
 
-    knows : (k : ℕ) → k < length (known_by now) → IsTold (history_of w) (get_or (known_by now) k (told_of now))
-    knows zero lt = a.own
-    knows (suc k) lt = a.others k (get_or now.others k (told_of now)) (slice_get-get_or now.others k (told_of now) (omega (arith, lt)))
+    within : (core : ℕ) → core < script.asked.cores → core < length (known_by now)
+    within core lt = omega (arith, lt, count, long)
+
+    order : AreInOrder state first a.turns
+    order = subst (λ l. AreInOrder state l a.turns) g.first_is a.order
+
+    last : left_by first a.turns ≡ machine ∷ []
+    last = ap (λ l. left_by l a.turns) (sym g.first_is) ∙ a.last
+
+    knows : (k : ℕ) → k < length (known_by now) → IsTold state first a.turns (get_or (known_by now) k (told_of now))
+    knows zero lt = subst (λ l. IsTold state l a.turns (told_of now)) g.first_is a.own
+    knows (suc k) lt = subst (λ l. IsTold state l a.turns (get_or now.others k (told_of now))) g.first_is
+        (a.others k (get_or now.others k (told_of now)) (slice_get-get_or now.others k (told_of now) (omega (arith, lt))))
 
 -- the same of a machine that is as the script declares it
 pub record GathersSome {S : Type 0} (state : S → World) (script : Scripted) (space : TableId) (lanes : List (Lane S)) (now : CoreView S)
     (told : List (List Replied)) : Type 0 where
   pub first : List S
   pub made : made_of state first ≡ made_by script.asked
-  pub gathers : Gathers (made_of state first) script.tasks space first (script.asked.cores - 1) lanes now told
+  pub gathers : Gathers state script.tasks space first (script.asked.cores - 1) lanes now told
 
 module _ {S : Type 0} (state : S → World) (script : Scripted) (space : TableId) where
   pub some_first : (all lanes : List (Lane S)) (lane : Lane S) → (first : List S) × (made_of state first ≡ made_by script.asked)
-      × AreCores (script.asked.cores - 1) (IsDone (made_of state first) script.tasks space first) all → all ≡ lanes ++ lane ∷ []
+      × AreCores (script.asked.cores - 1) (IsDone state script.tasks space first) all → all ≡ lanes ++ lane ∷ []
       → GathersSome state script space lanes lane.core (lane.told.items ∷ [])
   some_first all lanes lane (first, made, are) is =
-      record { first = first; made = made; gathers = gathers_first (made_of state first) script.tasks space first (script.asked.cores - 1) all lanes lane are is }
+      record { first = first; made = made; gathers = gathers_first state script.tasks space first (script.asked.cores - 1) all lanes lane are is }
 
   pub some_more : (all lanes : List (Lane S)) (lane : Lane S) (now new : CoreView S) (told more : List (List Replied))
-      → GathersSome state script space all now told → all ≡ lanes ++ lane ∷ [] → new ≡ record now { others = now.others ++ told_of lane.core ∷ [] }
+      → GathersSome state script space all now told → all ≡ lanes ++ lane ∷ [] → new ≡ record now { others = now.others ++ told_of lane.core ∷ lane.core.others }
       → more ≡ told ++ lane.told.items ∷ [] → GathersSome state script space lanes new more
   some_more all lanes lane now new told more g is e m = record {
     first = g.first;
     made = g.made;
-    gathers = gathers_more (made_of state g.first) script.tasks space g.first (script.asked.cores - 1) all lanes lane now new told more g.gathers is e m;
+    gathers = gathers_more state script.tasks space g.first (script.asked.cores - 1) all lanes lane now new told more g.gathers is e m;
   }
 
-  pub some_run : (lanes : List (Lane S)) (now : CoreView S) (told : List (List Replied)) (w : World) → GathersSome state script space lanes now told
-      → 0 < script.asked.cores → length lanes ≡ 0 → Agrees state w now → IsRun script told w
-  some_run lanes now told w g pos none a =
-      gathered state script space g.first (script.asked.cores - 1) lanes now told w g.gathers none (omega (arith, pos)) g.made a
+  pub some_run : (lanes : List (Lane S)) (now : CoreView S) (told : List (List Replied)) (machine : S) → GathersSome state script space lanes now told
+      → 0 < script.asked.cores → length lanes ≡ 0 → Agrees state machine now → IsRun script told (state machine)
+  some_run lanes now told machine g pos none a =
+      gathered state script space g.first (script.asked.cores - 1) lanes now told machine g.gathers none (omega (arith, pos)) g.made a
 
   -- a lane that is taken off is one of the space
   pub last_space : (all lanes : List (Lane S)) (lane : Lane S) (now : CoreView S) (told : List (List Replied)) → GathersSome state script space all now told
       → all ≡ lanes ++ lane ∷ [] → lane.core.space ≡ space
   last_space all lanes lane now told g is =
-      let P : ℕ → Lane S → Type 0 = λ at lane. IsDone (made_of state g.first) script.tasks space g.first ((script.asked.cores - 1) - at) lane in
+      let P : ℕ → Lane S → Type 0 = λ at lane. IsDone state script.tasks space g.first ((script.asked.cores - 1) - at) lane in
       (each_last P lanes lane (subst (Each P) is g.gathers.each)).space_is
 
 -- ---- what is kept of what cores were told

@@ -1,35 +1,30 @@
--- What a core does of a script, call by call
-use Rattle.std.proofs.Common.{◌≡◌, ◌≢◌, ◌⊎◌, inl, inr, ℕ, ◌+◌, ◌<◌, List, [], ◌∷◌, ◌++◌, take, length, map, get_or, refl, sym, ap, ◌∙◌, subst, append-nil}
+-- What a core does of a script, task by task
+use Rattle.std.proofs.Common.{◌≡◌, ◌≢◌, ◌⊎◌, inl, inr, ⊎_elim, ℕ, ◌+◌, ◌<◌, List, [], ◌∷◌, ◌++◌, take, length, map, get_or, refl, sym, ap, ◌∙◌, subst, append-nil}
 use Rattle.std.proofs.lemmas.List.{append_assoc, map-append, take_more}
 use Rattle.vm_base.specs.declared.requests.Request.{Request}
 use Rattle.vm_base.specs.declared.replies.Reply.{Reply}
-use Rattle.machine_model.specs.World.{World, Made}
+use Rattle.machine_model.specs.World.{World}
 use Rattle.trace_words.specs.declared.script.Task.{Task}
 use Rattle.trace_words.specs.declared.script.Task.TheVariants.{Call, Flush, Review}
 use Rattle.machine_model.specs.declared.event.Outcome.{Outcome}
 use Rattle.machine_model.specs.declared.event.Outcome.TheVariants.{Full}
 use Rattle.shared.specs.declared.asides.Aside.{Aside}
 use Rattle.shared.specs.declared.asides.Aside.TheVariants as Does
-use Rattle.shared.specs.declared.history.SeenLog.{SeenLog}
-use Rattle.shared.specs.Cores.{Came, CoreView, Extends, made_of}
-use Rattle.shared.specs.Histories.{Begins, history_of, replied, replied_by}
-use Rattle.shared.proofs.Keeping.{begins_again}
-use Rattle.shared.proofs.Lists.{begins_through}
+use Rattle.shared.specs.declared.history.Turn.{Turn}
 use Rattle.shared.specs.declared.history.Replied.{Replied}
-use Rattle.shared_script.specs.Tasks.{ArePassed, IsMade, WasPassed, asked_in, calls_of}
-
-further : (made : Made) (core : ℕ) (aside : Aside) (calls : List Request) (h k : SeenLog) → Begins h k → WasPassed made core aside calls h
-    → WasPassed made core aside calls k
-further made core aside calls h k b p = record {
-  before = p.before;
-  after = p.after;
-  outcome = p.outcome;
-  legal = p.legal;
-  made_is = p.made_is;
-  steps = p.steps;
-  called = p.called;
-  begins = begins_through (history_of p.before) h k p.begins b;
-}
+use Rattle.shared.specs.Turns.{AreInOrder, NoneOf, left_by, turn}
+use Rattle.std.proofs.Math.Logic.{∥∥₁_elim}
+use Rattle.std.proofs.Props.{props}
+use Rattle.machine_model.proofs.SoundKept.{steps_sound}
+use Rattle.machine_model.specs.Possible.{IsFull as IsFullAt}
+use Rattle.machine_model.specs.Step.{Step}
+use Rattle.shared.specs.declared.space.Answer.TheVariants as Answer
+use Rattle.shared.specs.Cores.{Answers, CoreView, FindsOver, HasTurn, MadeAside}
+use Rattle.shared.specs.Histories.{IsFull, IsOver, event_of, logged, replied}
+use Rattle.shared.proofs.TurnLemmas.{left_more}
+use Rattle.shared_script.specs.declared.fault.SharedFault.{SharedFault}
+use Rattle.shared_script.specs.declared.fault.SharedFault.TheVariants as Stopped
+use Rattle.shared_script.specs.Tasks.{DidTasks, DoesTasks, IsAtLimit, IsMade, IsTask, Stops, asked_in, calls_of}
 
 calls_append : (ts us : List Task) → calls_of (ts ++ us) ≡ calls_of ts ++ calls_of us
 calls_append [] us = refl
@@ -37,71 +32,150 @@ calls_append (Call request ∷ ts) us = ap (λ l. request ∷ l) (calls_append t
 calls_append (Flush ∷ ts) us = calls_append ts us
 calls_append (Review ∷ ts) us = calls_append ts us
 
--- ---- flushes and reviews
+-- an aside is full at the limit of events alone
+over : (x : World) (core : ℕ) (aside : Aside) → IsFullAt x (event_of core aside) → IsOver x
+over x core (Does.Walk page) f = ⊎_elim (λ o. o) absurd f
+over x core (Does.Evict page) f = ⊎_elim (λ o. o) absurd f
+over x core Does.Flush f = ⊎_elim (λ o. o) absurd f
+over x core Does.Review f = ⊎_elim (λ o. o) absurd f
+over x core (Does.Fold page) f = ⊎_elim (λ o. o) absurd f
 
--- what was passed by then stays so
-pub still_passed : (made : Made) (core : ℕ) (calls : List Request) (ts : List Task) (h k : SeenLog) → Begins h k → ArePassed made core calls ts h
-    → ArePassed made core calls ts k
-still_passed made core calls [] h k b p = tt
-still_passed made core calls (Call request ∷ ts) h k b p = still_passed made core (calls ++ request ∷ []) ts h k b p
-still_passed made core calls (Flush ∷ ts) h k b p = (further made core Does.Flush calls h k b p.0, still_passed made core calls ts h k b p.1)
-still_passed made core calls (Review ∷ ts) h k b p = (further made core Does.Review calls h k b p.0, still_passed made core calls ts h k b p.1)
+-- ---- turns
 
--- and more behind them
-passed_more : (made : Made) (core : ℕ) (calls : List Request) (ts us : List Task) (h : SeenLog) → ArePassed made core calls ts h
-    → ArePassed made core (calls ++ calls_of ts) us h → ArePassed made core calls (ts ++ us) h
-passed_more made core calls [] us h p q = subst (λ cs. ArePassed made core cs us h) (append-nil calls) q
-passed_more made core calls (Call request ∷ ts) us h p q =
-    passed_more made core (calls ++ request ∷ []) ts us h p
-    (subst (λ cs. ArePassed made core cs us h) (sym (append_assoc calls (request ∷ []) (calls_of ts))) q)
-passed_more made core calls (Flush ∷ ts) us h p q = (p.0, passed_more made core calls ts us h p.1 q)
-passed_more made core calls (Review ∷ ts) us h p q = (p.0, passed_more made core calls ts us h p.1 q)
+module _ {S : Type 0} (state : S → World) (core : ℕ) where
+  -- the turns of others did nothing of the core's
+  others_none : (first : List S) (ts : List (Turn S)) → AreInOrder state first ts → NoneOf core ts → DidTasks state core first ts []
+  others_none first [] o n = refl
+  others_none [] (t ∷ ts) o n = absurd o
+  others_none (x ∷ xs) (t ∷ ts) o n = inr (n.0, others_none (t.machine ∷ []) ts o.1 n.1)
+
+  pub did_still : (first : List S) (ts rest : List (Turn S)) (tasks : List Task) → AreInOrder state first (ts ++ rest) → NoneOf core rest
+      → DidTasks state core first ts tasks → DidTasks state core first (ts ++ rest) tasks
+  did_still first [] rest tasks o n d = subst (DidTasks state core first rest) (sym d) (others_none first rest o n)
+  did_still [] (t ∷ ts) rest tasks o n d = absurd o
+  did_still (x ∷ xs) (t ∷ ts) rest tasks o n (inl d) =
+      inl (d.0, d.1, d.2, d.3, d.4, did_still (t.machine ∷ []) ts rest d.2 o.1 n d.5)
+  did_still (x ∷ xs) (t ∷ ts) rest tasks o n (inr d) = inr (d.0, did_still (t.machine ∷ []) ts rest tasks o.1 n d.1)
+
+  -- and the next turn of the core did the next task
+  did_more : (first : List S) (ts : List (Turn S)) (tasks : List Task) (task : Task) (x y : S) → left_by first ts ≡ x ∷ []
+      → IsTask (state x) core task (state y) → DidTasks state core first ts tasks → DidTasks state core first (ts ++ turn core y ∷ []) (tasks ++ task ∷ [])
+  did_more [] [] tasks task x y e k d = absurd cc
+  did_more (z ∷ zs) [] tasks task x y e k d =
+      let same : x ≡ z = cc in
+      inl (refl, task, [], ap (λ l. l ++ task ∷ []) d, subst (λ (z : S). IsTask (state z) core task (state y)) same k, refl)
+  did_more [] (t ∷ ts) tasks task x y e k d = absurd d
+  did_more (z ∷ zs) (t ∷ ts) tasks task x y e k (inl d) =
+      inl (d.0, d.1, d.2 ++ task ∷ [], ap (λ l. l ++ task ∷ []) d.3, d.4, did_more (t.machine ∷ []) ts d.2 task x y e k d.5)
+  did_more (z ∷ zs) (t ∷ ts) tasks task x y e k (inr d) = inr (d.0, did_more (t.machine ∷ []) ts tasks task x y e k d.1)
+
+-- the same turns of a machine's states
+module _ {S : Type 0} (state : S → World) where
+  abbrev pub as_worlds : List (Turn S) → List (Turn World)
+  as_worlds [] = []
+  as_worlds (t ∷ ts) = turn t.core (state t.machine) ∷ as_worlds ts
+
+  pub did_worlds : (core : ℕ) (first : List S) (ts : List (Turn S)) (tasks : List Task) → DidTasks state core first ts tasks
+      → DidTasks (λ w. w) core (map state first) (as_worlds ts) tasks
+  did_worlds core first [] tasks d = d
+  did_worlds core [] (t ∷ ts) tasks d = absurd d
+  did_worlds core (x ∷ xs) (t ∷ ts) tasks (inl d) = inl (d.0, d.1, d.2, d.3, d.4, did_worlds core (t.machine ∷ []) ts d.2 d.5)
+  did_worlds core (x ∷ xs) (t ∷ ts) tasks (inr d) = inr (d.0, did_worlds core (t.machine ∷ []) ts tasks d.1)
+
+  pub order_worlds : (first : List S) (ts : List (Turn S)) → AreInOrder state first ts → AreInOrder (λ w. w) (map state first) (as_worlds ts)
+  order_worlds first [] o = tt
+  order_worlds [] (t ∷ ts) o = absurd o
+  order_worlds (x ∷ xs) (t ∷ ts) o =
+      (record { legal = o.0.legal; made = o.0.made; adds = o.0.adds }, order_worlds (t.machine ∷ []) ts o.1)
+
+  pub left_worlds : (first : List S) (ts : List (Turn S)) (x : S) → left_by first ts ≡ x ∷ [] → left_by (map state first) (as_worlds ts) ≡ state x ∷ []
+  left_worlds first [] x e = ap (map state) e
+  left_worlds first (t ∷ ts) x e = left_worlds (t.machine ∷ []) ts x e
 
 module _ {S : Type 0} where
   pub none_made : (v : CoreView S) (kept : List Replied) → IsMade v kept [] v kept
-  none_made v kept = record { told = []; asked = refl; kept = sym (append-nil kept); mine = sym (append-nil v.mine); seen = begins_again v.seen; same = refl }
+  none_made v kept = record { told = []; asked = refl; kept = sym (append-nil kept); mine = sym (append-nil v.mine); same = refl }
+
+  pub none_did : (state : S → World) (v : CoreView S) → DoesTasks state v [] v
+  none_did state v done d = subst (DidTasks state v.core v.first v.turns) (sym (append-nil done)) d
+
+  -- the turns before the last
+  front : (state : S → World) (first : List S) (ts : List (Turn S)) (t : Turn S) → AreInOrder state first (ts ++ t ∷ []) → AreInOrder state first ts
+  front state first [] t o = tt
+  front state [] (s ∷ ts) t o = absurd o
+  front state (x ∷ xs) (s ∷ ts) t o = (o.0, front state (s.machine ∷ []) ts t o.1)
+
+  -- a turn did a task
+  turn_did : (state : S → World) (v w : CoreView S) (added : List Replied) (Do : World → World → Type 0) (task : Task) (h : HasTurn state v added Do w)
+      → IsTask (state h.before) v.core task (state h.after) → DoesTasks state v (task ∷ []) w
+  turn_did state v w added Do task h is done d =
+      subst (λ ts. DidTasks state v.core v.first ts (done ++ task ∷ [])) (sym h.turns)
+      (did_more state v.core v.first (v.turns ++ h.between) done task h.before h.after h.begun is
+      (did_still state v.core v.first v.turns h.between done (front state v.first (v.turns ++ h.between) (turn v.core h.after)
+      (subst (AreInOrder state v.first) h.turns h.order)) h.others d))
 
   pub one_made : (state : S → World) (v w : CoreView S) (before after : List Replied) (request : Request) (reply : Reply)
-      → Extends state v (replied request reply ∷ []) w → after ≡ before ++ replied request reply ∷ [] → IsMade v before (request ∷ []) w after
+      → HasTurn state v (replied request reply ∷ []) (λ x y. Unit {0}) w → after ≡ before ++ replied request reply ∷ [] → IsMade v before (request ∷ []) w after
   one_made state v w before after request reply x e =
-      record { told = replied request reply ∷ []; asked = refl; kept = e; mine = x.mine; seen = x.seen; same = x.same }
+      record { told = replied request reply ∷ []; asked = refl; kept = e; mine = x.mine; same = x.same }
+
+  pub one_did : (state : S → World) (v w : CoreView S) (request : Request) (reply : Reply)
+      → HasTurn state v (replied request reply ∷ []) (λ x y. Unit {0}) w → DoesTasks state v (Call request ∷ []) w
+  one_did state v w request reply h = turn_did state v w (replied request reply ∷ []) (λ x y. Unit {0}) (Call request) h (reply, h.adds)
 
   -- an aside is no call
-  pub aside_made : (state : S → World) (v w : CoreView S) (kept : List Replied) (aside : Aside) (outcome : Outcome)
-      → Came state v aside outcome w → IsMade v kept [] w kept
-  aside_made state v w kept aside outcome c = by c.extends
-    where
-      by : ((w ≡ v) × (outcome ≡ Full)) ⊎ (Extends state v [] w × (history_of c.before ≡ w.seen)) → IsMade v kept [] w kept
-      by (inl same) = subst (λ x. IsMade v kept [] x kept) (sym same.0) (none_made v kept)
-      by (inr x) = record { told = []; asked = refl; kept = sym (append-nil kept); mine = x.0.mine; seen = x.0.seen; same = x.0.same }
+  pub aside_made : (state : S → World) (v w : CoreView S) (kept : List Replied) (aside : Aside) (outcome : Outcome) → outcome ≢ Full
+      → MadeAside state v aside outcome w → IsMade v kept [] w kept
+  aside_made state v w kept aside outcome ne (inl h) = record { told = []; asked = refl; kept = sym (append-nil kept); mine = h.mine; same = h.same }
+  aside_made state v w kept aside outcome ne (inr h) = absurd (ne h.0)
 
-  -- and has its place between calls
-  pub aside_passed : (state : S → World) (v w : CoreView S) (aside : Aside) (outcome : Outcome) → outcome ≢ Full → Came state v aside outcome w
-      → WasPassed (made_of state v.first) v.core aside (asked_in v.mine) w.seen
-  aside_passed state v w aside outcome ne c = by c.extends
-    where
-      by : ((w ≡ v) × (outcome ≡ Full)) ⊎ (Extends state v [] w × (history_of c.before ≡ w.seen))
-          → WasPassed (made_of state v.first) v.core aside (asked_in v.mine) w.seen
-      by (inl same) = absurd (ne same.1)
-      by (inr x) = record {
-        before = c.before;
-        after = c.after;
-        outcome = outcome;
-        legal = c.later.legal;
-        made_is = c.later.made ∙ ap (λ (y : CoreView S). made_of state y.first) x.0.same;
-        steps = c.steps;
-        called = ap asked_in (ap (replied_by v.core) x.1 ∙ ap (λ (y : CoreView S). replied_by y.core w.seen) (sym x.0.same) ∙ x.0.own ∙ x.0.mine
-            ∙ append-nil v.mine);
-        begins = subst (λ h. Begins h w.seen) (sym x.1) (begins_again w.seen);
-      }
+  pub flush_did : (state : S → World) (v w : CoreView S) → (outcome : Outcome) × (outcome ≢ Full) × MadeAside state v Does.Flush outcome w
+      → DoesTasks state v (Flush ∷ []) w
+  flush_did state v w (outcome, ne, inl h) = turn_did state v w [] _ Flush h (outcome, ne, h.does.0)
+  flush_did state v w (outcome, ne, inr h) = absurd (ne h.0)
 
-  pub flush_passed : (state : S → World) (v w : CoreView S) → (outcome : Outcome) × (outcome ≢ Full) × Came state v Does.Flush outcome w
-      → ArePassed (made_of state v.first) v.core (asked_in v.mine) (Flush ∷ []) w.seen
-  flush_passed state v w c = (aside_passed state v w Does.Flush c.0 c.1 c.2, tt)
+  pub review_did : (state : S → World) (v w : CoreView S) → (outcome : Outcome) × (outcome ≢ Full) × MadeAside state v Does.Review outcome w
+      → DoesTasks state v (Review ∷ []) w
+  review_did state v w (outcome, ne, inl h) = turn_did state v w [] _ Review h (outcome, ne, h.does.0)
+  review_did state v w (outcome, ne, inr h) = absurd (ne h.0)
 
-  pub review_passed : (state : S → World) (v w : CoreView S) → (outcome : Outcome) × (outcome ≢ Full) × Came state v Does.Review outcome w
-      → ArePassed (made_of state v.first) v.core (asked_in v.mine) (Review ∷ []) w.seen
-  review_passed state v w c = (aside_passed state v w Does.Review c.0 c.1 c.2, tt)
+  -- ---- limits
+
+  -- after the turns that the core knows then the machine is at a limit
+  turn_full : (state : S → World) (v w : CoreView S) (added : List Replied) (h : HasTurn state v added (λ x y. IsFull y) w) → IsAtLimit state v.first
+  turn_full state v w added h = record {
+    turns = w.turns;
+    machine = h.after;
+    order = h.order;
+    last = ap (left_by v.first) h.turns ∙ left_more v.first (v.turns ++ h.between) (turn v.core h.after);
+    full = h.does;
+  }
+
+  finds_full : (state : S → World) (v w : CoreView S) → FindsOver state v w → IsAtLimit state v.first
+  finds_full state v w h = record { turns = v.turns ++ h.between; machine = h.machine; order = h.order; last = h.here; full = inr h.over }
+
+  pub call_full : (state : S → World) (v w : CoreView S) (request : Request) → Answers state v request Answer.Full w → IsAtLimit state v.first
+  call_full state v w request (inl h) = turn_full state v w (logged request h.0) h.1
+  call_full state v w request (inr h) = finds_full state v w h
+
+  -- an aside is full just there, and stops the core
+  pub aside_full : (state : S → World) (v w : CoreView S) (aside : Aside) (outcome : Outcome) → outcome ≡ Full → MadeAside state v aside outcome w
+      → Stops state v.first Stopped.Full
+  aside_full state v w aside outcome is (inl h) = record {
+    turns = v.turns ++ h.between;
+    machine = h.before;
+    order = front state v.first (v.turns ++ h.between) (turn v.core h.after) (subst (AreInOrder state v.first) h.turns h.order);
+    last = h.begun;
+    full = inr (∥∥₁_elim h.legal.reached (hlevel props) (λ r. over (state h.before) v.core aside
+        (steps_sound (state h.before) (state h.after) (event_of v.core aside) Full r
+        (subst (λ o. Step (state h.before) (event_of v.core aside) o (state h.after)) is h.does.0.0)).full));
+  }
+  aside_full state v w aside outcome is (inr h) = finds_full state v w h.1
+
+  -- a core stops later for the same reason
+  pub stops_made : (state : S → World) (v w : CoreView S) (a b : List Replied) (rs : List Request) (fault : SharedFault) → IsMade v a rs w b
+      → Stops state w.first fault → Stops state v.first fault
+  stops_made state v w a b rs fault m s = subst (λ l. Stops state l fault) (ap (λ (y : CoreView S). y.first) m.same) s
 
   more_made : (v w x : CoreView S) (a b c : List Replied) (rs ss : List Request) → IsMade v a rs w b → IsMade w b ss x c → IsMade v a (rs ++ ss) x c
   more_made v w x a b c rs ss m n = record {
@@ -109,8 +183,7 @@ module _ {S : Type 0} where
     asked = map-append (λ call. call.request) m.told n.told ∙ ap (λ (p : List Request × List Request). p.0 ++ p.1) (λ i. (m.asked i, n.asked i));
     kept = n.kept ∙ ap (λ l. l ++ n.told) m.kept ∙ append_assoc a m.told n.told;
     mine = n.mine ∙ ap (λ l. l ++ n.told) m.mine ∙ append_assoc v.mine m.told n.told;
-    seen = begins_through v.seen w.seen x.seen m.seen n.seen;
-    same = n.same ∙ ap (λ (y : CoreView S). record y { seen = x.seen; mine = x.mine }) m.same;
+    same = n.same ∙ ap (λ (y : CoreView S). record y { turns = x.turns; mine = x.mine }) m.same;
   }
 
   -- the task at n was done next
@@ -120,21 +193,14 @@ module _ {S : Type 0} where
       subst (λ rs. IsMade v a rs x c) (sym (ap calls_of (take_more tasks n d lt) ∙ calls_append (take n tasks) (get_or tasks n d ∷ [])))
       (more_made v w x a b c (calls_of (take n tasks)) (calls_of (get_or tasks n d ∷ [])) m k)
 
-  -- what the core knew of its calls before each
-  mine_then : (v w : CoreView S) (a b : List Replied) (rs : List Request) → IsMade v a rs w b → asked_in w.mine ≡ asked_in v.mine ++ rs
-  mine_then v w a b rs m = ap asked_in m.mine ∙ map-append (λ (call : Replied). call.request) v.mine m.told ∙ ap (λ l. asked_in v.mine ++ l) m.asked
-
-  pub next_passed : (state : S → World) (v w x : CoreView S) (a b c : List Replied) (tasks : List Task) (n : ℕ) (d : Task) → n < length tasks
-      → IsMade v a (calls_of (take n tasks)) w b → IsMade w b (calls_of (get_or tasks n d ∷ [])) x c
-      → ArePassed (made_of state v.first) v.core (asked_in v.mine) (take n tasks) w.seen
-      → ArePassed (made_of state w.first) w.core (asked_in w.mine) (get_or tasks n d ∷ []) x.seen
-      → ArePassed (made_of state v.first) v.core (asked_in v.mine) (take (n + 1) tasks) x.seen
-  next_passed state v w x a b c tasks n d lt m k p q =
-      let made = made_of state v.first in
+  pub next_did : (state : S → World) (v w x : CoreView S) (a b : List Replied) (tasks : List Task) (n : ℕ) (d : Task) → n < length tasks
+      → IsMade v a (calls_of (take n tasks)) w b → DoesTasks state v (take n tasks) w → DoesTasks state w (get_or tasks n d ∷ []) x
+      → DoesTasks state v (take (n + 1) tasks) x
+  next_did state v w x a b tasks n d lt m p q done did =
       let same : (w.first ≡ v.first) × (w.core ≡ v.core) = (ap (λ (y : CoreView S). y.first) m.same, ap (λ (y : CoreView S). y.core) m.same) in
-      let there : ArePassed made v.core (asked_in v.mine ++ calls_of (take n tasks)) (get_or tasks n d ∷ []) x.seen =
-      subst (λ (z : List S × (ℕ × List Request)). ArePassed (made_of state z.0) z.1.0 z.1.1 (get_or tasks n d ∷ []) x.seen)
-      (λ i. (same.0 i, (same.1 i, mine_then v w a b (calls_of (take n tasks)) m i))) q in
-      subst (λ ts. ArePassed made v.core (asked_in v.mine) ts x.seen) (sym (take_more tasks n d lt))
-      (passed_more made v.core (asked_in v.mine) (take n tasks) (get_or tasks n d ∷ []) x.seen
-      (still_passed made v.core (asked_in v.mine) (take n tasks) w.seen x.seen k.seen p) there)
+      let now : DidTasks state w.core w.first w.turns (done ++ take n tasks) =
+      subst (λ (z : List S × ℕ). DidTasks state z.1 z.0 w.turns (done ++ take n tasks)) (λ i. (sym same.0 i, sym same.1 i)) (p done did) in
+      subst (λ ts. DidTasks state v.core v.first x.turns ts) (append_assoc done (take n tasks) (get_or tasks n d ∷ [])
+      ∙ ap (λ l. done ++ l) (sym (take_more tasks n d lt)))
+      (subst (λ (z : List S × ℕ). DidTasks state z.1 z.0 x.turns ((done ++ take n tasks) ++ get_or tasks n d ∷ [])) (λ i. (same.0 i, same.1 i))
+      (q (done ++ take n tasks) now))

@@ -1,11 +1,10 @@
 -- The cores while a script is run, from the last to the first
 use Rattle.std.specs.Prelude.{◌≡◌, ℕ, suc, ◌-◌, ◌<◌, ◌≤◌, List, [], ◌∷◌, length, get_or, Option, None, Some, IfNone, IfSome}
 use Rattle.atomic_table.specs.Seated.{TableId}
-use Rattle.machine_model.specs.World.{World, Made}
+use Rattle.machine_model.specs.World.{World}
 use Rattle.trace_words.specs.declared.script.Task.{Task}
-use Rattle.shared.specs.Cores.{made_of, new_core}
-use Rattle.shared_script.specs.Runs.{Fails}
-use Rattle.shared_script.specs.Tasks.{ArePassed, IsMade, asked_in, calls_of}
+use Rattle.shared.specs.Cores.{new_core}
+use Rattle.shared_script.specs.Tasks.{DidTasks, DoesTasks, IsMade, Stops, asked_in, calls_of}
 use Rattle.shared_script.specs.declared.fault.SharedFault.{SharedFault}
 use Rattle.shared_script.specs.declared.lane.Lane.{Lane}
 
@@ -17,14 +16,14 @@ module _ {S : Type 0} where
     pub told : lane.told.items ≡ []
 
   -- this core did its tasks, in order, and what is kept of its calls is what it knows
-  pub record IsDone (made : Made) (tasks : List (List Task)) (space : TableId) (first : List S) (core : ℕ) (lane : Lane S) : Type 0 where
+  pub record IsDone (state : S → World) (tasks : List (List Task)) (space : TableId) (first : List S) (core : ℕ) (lane : Lane S) : Type 0 where
     pub core_is : lane.core.core ≡ core
     pub space_is : lane.core.space ≡ space
     pub first_is : lane.core.first ≡ first
     pub others : lane.core.others ≡ []
     pub asked : asked_in lane.told.items ≡ calls_of (get_or tasks core [])
     pub mine : lane.core.mine ≡ lane.told.items
-    pub passed : ArePassed made core [] (get_or tasks core []) lane.core.seen
+    pub did : DidTasks state core first lane.core.turns (get_or tasks core [])
 
   -- so many cores and core 0
   pub record AreCores (left : ℕ) (Is : ℕ → Lane S → Type 0) (lanes : List (Lane S)) : Type 0 where
@@ -40,9 +39,8 @@ module _ {S : Type 0} where
     pub number : after.number ≡ before.number
     pub made : IfNone after.stop
         (IsMade before.core before.told.items (calls_of (get_or tasks before.number [])) after.core after.told.items)
-    pub passed : IfNone after.stop
-        (ArePassed (made_of state before.core.first) before.core.core (asked_in before.core.mine) (get_or tasks before.number []) after.core.seen)
-    pub fails : IfSome after.stop Fails
+    pub did : IfNone after.stop (DoesTasks state before.core (get_or tasks before.number []) after.core)
+    pub fails : IfSome after.stop (Stops state before.core.first)
 
   -- each did so
   pub record EndEach (state : S → World) (tasks : List (List Task)) (before after : List (Lane S)) : Type 0 where

@@ -100,9 +100,9 @@ fn gather<S: Whole + Drop>(
 ) -> Result<RunMachine<S>, SharedFault>
     requires cores { 0 < script.now.asked.cores }
     requires done { (first : List S) × (made_of S.state first ≡ made_by script.now.asked)
-        × AreCores (script.now.asked.cores - 1) (IsDone (made_of S.state first) script.now.tasks space.table.shared.table_id first) lanes.items }
+        × AreCores (script.now.asked.cores - 1) (IsDone S.state script.now.tasks space.table.shared.table_id first) lanes.items }
     ensures ran { IfOk result (λ ran. IsRun script.now (map (λ told. told.items) ran.told.items) (S.state ran.machine)) }
-    ensures fails { IfErr result Fails }
+    ensures fails { IfErr result (Fails script.now.asked) }
 {
     let Ok(mut told) = Vec::with_capacity(alloc, lanes.len()) else {
         return Err(SharedFault::Text(TraceFault::NoMemory));
@@ -136,7 +136,7 @@ pub fn run_shared<S: Whole + Drop + Send, R: Threads + Wait + Sync>(
     requires made { (S.state machine).made ≡ made_by script.now.asked }
     requires new { (S.state machine).calls.log ≡ [] }
     ensures ran { IfOk result (λ ran. IsRun script.now (map (λ told. told.items) ran.told.items) (S.state ran.machine)) }
-    ensures fails { IfErr result Fails }
+    ensures fails { IfErr result (Fails script.now.asked) }
 {
     let left = machine.core_count() - 1;
     let Ok((space, first)) = SharedMachine::new(alloc, machine) else {

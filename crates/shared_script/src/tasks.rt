@@ -1,11 +1,11 @@
 //! What a core does of a script, on a machine that others share.
-ghost use Rattle.std.specs.Prelude.{◌≡◌, ◌≢◌, ◌∷◌, [], IfErr, IfSome, OnOk};
+ghost use Rattle.std.specs.Prelude.{◌≡◌, ◌≢◌, ◌∷◌, [], IfErr, IfNone, IfSome, OnOk};
 ghost use Rattle.shared.specs.Histories.{replied};
-ghost use Rattle.shared.specs.Cores.{Came, Extends, made_of};
+ghost use Rattle.shared.specs.Cores.{HasTurn, MadeAside};
 ghost use Rattle.machine_model.specs.declared.event.Outcome.TheVariants.{Full};
+ghost use Rattle.trace_words.specs.declared.script.Task.TheVariants as TaskOf;
 ghost use Rattle.shared_script.specs.Lanes.{EndsAs};
-ghost use Rattle.shared_script.specs.Runs.{Fails};
-ghost use Rattle.shared_script.specs.Tasks.{ArePassed, IsMade, asked_in, calls_of};
+ghost use Rattle.shared_script.specs.Tasks.{DoesTasks, IsAtLimit, IsMade, Stops, calls_of};
 
 use crate::fault::SharedFault;
 use crate::lane::Lane;
@@ -40,7 +40,8 @@ fn call<S: Whole + Drop, R: Wait>(
 ) -> Option<Reply>
     requires here { core.old.space ≡ space.now.table.shared.table_id }
     ensures here { core.new.space ≡ core.old.space }
-    ensures replied { IfSome result (λ reply. Extends S.state core.old (replied request reply ∷ []) core.new) }
+    ensures replied { IfSome result (λ reply. HasTurn S.state core.old (replied request reply ∷ []) (λ x y. Unit {0}) core.new) }
+    ensures full { IfNone result (IsAtLimit S.state core.old.first) }
 {
     let mut tries = 0u64;
     'tries: for _turn in rt.forever() {
@@ -63,7 +64,7 @@ fn pass<S: Whole + Drop, R: Wait>(
 ) -> Outcome
     requires here { core.old.space ≡ space.now.table.shared.table_id }
     ensures here { core.new.space ≡ core.old.space }
-    ensures came { Came S.state core.old aside result core.new }
+    ensures made { MadeAside S.state core.old aside result core.new }
 {
     let mut tries = 0u64;
     'tries: for _turn in rt.forever() {
@@ -84,9 +85,9 @@ fn step<S: Whole + Drop, R: Wait>(
     aside: Aside,
 ) -> Result<(), SharedFault>
     requires here { core.old.space ≡ space.now.table.shared.table_id }
-    ensures came { OnOk result ((outcome : Outcome) × (outcome ≢ Full) × Came S.state core.old aside outcome core.new) }
+    ensures made { OnOk result ((outcome : Outcome) × (outcome ≢ Full) × MadeAside S.state core.old aside outcome core.new) }
     ensures here { core.new.space ≡ core.old.space }
-    ensures fails { IfErr result Fails }
+    ensures fails { IfErr result (Stops S.state core.old.first) }
 {
     let outcome = pass(rt, space, core, aside);
     if outcome == Outcome::Full {
@@ -96,6 +97,7 @@ fn step<S: Whole + Drop, R: Wait>(
 }
 
 // Makes the call, and keeps it with the reply that it got. There is room for it.
+#[tactic(auto, using(crate::proofs::TaskLemmas::one_did))]
 fn make<S: Whole + Drop, R: Wait>(
     rt: &R,
     space: &SharedMachine<S>,
@@ -106,7 +108,8 @@ fn make<S: Whole + Drop, R: Wait>(
     requires here { core.old.space ≡ space.now.table.shared.table_id }
     ensures here { core.new.space ≡ core.old.space }
     ensures made { OnOk result (IsMade core.old told.old.items (request ∷ []) core.new told.new.items) }
-    ensures fails { IfErr result Fails }
+    ensures did { OnOk result (DoesTasks S.state core.old (TaskOf.Call request ∷ []) core.new) }
+    ensures fails { IfErr result (Stops S.state core.old.first) }
 {
     if let Err(_) = told.reserve(1) {
         return Err(SharedFault::Text(TraceFault::NoMemory));
@@ -119,7 +122,7 @@ fn make<S: Whole + Drop, R: Wait>(
 }
 
 // Does one task.
-#[tactic(auto, using(crate::proofs::TaskLemmas::flush_passed, crate::proofs::TaskLemmas::review_passed))]
+#[tactic(auto, using(crate::proofs::TaskLemmas::flush_did, crate::proofs::TaskLemmas::review_did))]
 fn run_task<S: Whole + Drop, R: Wait>(
     rt: &R,
     space: &SharedMachine<S>,
@@ -130,8 +133,8 @@ fn run_task<S: Whole + Drop, R: Wait>(
     requires here { core.old.space ≡ space.now.table.shared.table_id }
     ensures here { core.new.space ≡ core.old.space }
     ensures made { OnOk result (IsMade core.old told.old.items (calls_of (task.now ∷ [])) core.new told.new.items) }
-    ensures passed { OnOk result (ArePassed (made_of S.state core.old.first) core.old.core (asked_in core.old.mine) (task.now ∷ []) core.new.seen) }
-    ensures fails { IfErr result Fails }
+    ensures did { OnOk result (DoesTasks S.state core.old (task.now ∷ []) core.new) }
+    ensures fails { IfErr result (Stops S.state core.old.first) }
 {
     match task {
         Task::Call(request) => make(rt, space, core, told, *request),
@@ -157,8 +160,8 @@ fn run_tasks<S: Whole + Drop, R: Wait>(
     requires here { core.old.space ≡ space.now.table.shared.table_id }
     ensures here { core.new.space ≡ core.old.space }
     ensures made { OnOk result (IsMade core.old told.old.items (calls_of tasks.now) core.new told.new.items) }
-    ensures passed { OnOk result (ArePassed (made_of S.state core.old.first) core.old.core (asked_in core.old.mine) tasks.now core.new.seen) }
-    ensures fails { IfErr result Fails }
+    ensures did { OnOk result (DoesTasks S.state core.old tasks.now core.new) }
+    ensures fails { IfErr result (Stops S.state core.old.first) }
 {
     'tasks: for at in 0..tasks.len() {
         run_task(rt, space, core, told, &tasks[at])?;

@@ -9,6 +9,6 @@ returns-then-word-eq-OUT-clause-lost g c = subst (IsBeside g.S.Whole.state) c.co
     c.close_with-closed.ensures.values.2 c.word-word.ensures c.if-word-eq-OUT.true)
 
 pub returns-else-word-eq-OUT-clause-back : goal.returns-else-word-eq-OUT-clause-back
-returns-else-word-eq-OUT-clause-back g c = subst (Agrees g.S.Whole.state (g.S.Whole.state c.take-machine.result)) c.core.view_is
+returns-else-word-eq-OUT-clause-back g c = subst (Agrees g.S.Whole.state c.take-machine.result) c.core.view_is
     (closes g.S.Whole.state _ c.core.inside.seat.table_id _ c.core.inside.seat.me.0 _ _ c.take-machine.result c.word-word.result c.core.invariant.2
     c.close_with-closed.ensures.values.2 c.word-word.ensures c.if-word-eq-OUT.false c.take-machine.ensures.value)
