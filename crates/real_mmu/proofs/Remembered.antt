@@ -1,9 +1,11 @@
 -- Coherence holds also with TLBs of any size, which take in what the tables have and lose only what their cores drop.
 use Rattle.machine_model.proofs.Words.{◌≡◌, ℕ, Bool, true, false, not, refl, sym, ap, subst, ◌∙◌, Some, None, Option, List, [], ◌∷◌, ◌==◌}
-use Rattle.machine_model.proofs.Words.{if◌then◌else◌, PageInfo, PageRange, NoMemory, put, over, has, frame_of, put_all, put_both, put_same, put_other, inl, eq_false, eq_true}
+use Rattle.machine_model.proofs.Words.{if◌then◌else◌, PageInfo, PageRange, NoMemory, put, over, has, frame_of, put_all, put_both, put_same, put_other}
+use Rattle.machine_model.proofs.Words.{inl, eq_false, eq_true}
 use Rattle.machine_model.proofs.Words.{Slots, Translation, TlbEntry, tlb_without, Message, message_of, asked, remaining}
 use Rattle.machine_model.proofs.Words.{reply_of, taken_for, let_go, awaits_in, can_give_up, still_held, some_has}
-use Rattle.machine_model.proofs.Words.{page_of_touch, range_of, locking, locked_to, trying, with_inbox, tables_cleared, tlb_invalidated, World, Hardware, with_event, Step}
+use Rattle.machine_model.proofs.Words.{page_of_touch, range_of, locking, locked_to, trying, with_inbox, tables_cleared, tlb_invalidated, World}
+use Rattle.machine_model.proofs.Words.{Hardware, with_event, Step}
 use Rattle.machine_model.specs.declared.event.Event.{Event}
 use Rattle.machine_model.specs.declared.event.Event.TheVariants.{Go}
 use Rattle.machine_model.specs.declared.event.Outcome.{Outcome}
@@ -24,7 +26,8 @@ use Rattle.machine_model.specs.Translations.Translates.{by_tlb}
 use Rattle.machine_model.specs.Translations.IsNamed.{by_translation}
 use Rattle.machine_model.proofs.Shapes.{GoesBy, moves, divides, cuts, fits, owns, lets_go, answers, posts, commits, takes, zeroes, first_copies, caches, shares}
 use Rattle.machine_model.proofs.Shapes.{posts_copy, copies, installs, accesses, faults, Works, clears, invalidates, walks, evicts, flushes, reviews, frees}
-use Rattle.machine_model.proofs.Shapes.{Shape, rests, begins, ends, goes, aims, gives_up, works, joins, IsUnawaited, IsGoing, going, picking, Comes, stopped, acts as happens, comes}
+use Rattle.machine_model.proofs.Shapes.{Shape, rests, begins, ends, goes, aims, gives_up, works, joins, IsUnawaited, IsGoing, going, picking, Comes}
+use Rattle.machine_model.proofs.Shapes.{stopped, acts as happens, comes}
 use Rattle.machine_model.proofs.Effects.{moves_quiet, replies_quiet, locked_quiet, let_go_still, lets_go_still, taken_asked}
 use Rattle.machine_model.proofs.Lists.{none_sent}
 use Rattle.machine_model.proofs.Cores.{IsCore, core_of, of_cores, drops as core_drops, clears as core_clears, invalidates as core_invalidates}

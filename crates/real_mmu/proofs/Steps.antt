@@ -1,10 +1,13 @@
 -- A step of the library doesn't look at bytes.
 use Rattle.real_mmu.proofs.Words.{CopyAcks, Event, Fill, Outcome, Phase, Try}
 use Rattle.machine_model.proofs.Words.{◌≡◌, ◌≢◌, ℕ, ◌⊎◌, inl, inr, refl, sym, ap, subst, ◌∙◌, Bool, true, false, Some, None, Option, Result, Ok, if◌then◌else◌}
-use Rattle.machine_model.proofs.Words.{Back, Anon, Shared, Private, PageInfo, PageRange, Access, Reply, Byte, Done, Request, Mmap, Munmap, Mprotect, Bytes, File, Plain}
-use Rattle.machine_model.proofs.Words.{put, put_all, frame_of, info_with_frame, info_with_copy, info_with_core, byte_reply, is_access, refusal, meta_of, mode_of, pages_of}
+use Rattle.machine_model.proofs.Words.{Back, Anon, Shared, Private, PageInfo, PageRange, Access, Reply, Byte, Done, Request, Mmap, Munmap, Mprotect}
+use Rattle.machine_model.proofs.Words.{Bytes, File, Plain}
+use Rattle.machine_model.proofs.Words.{put, put_all, frame_of, info_with_frame, info_with_copy, info_with_core, byte_reply, is_access, refusal}
+use Rattle.machine_model.proofs.Words.{meta_of, mode_of, pages_of}
 use Rattle.machine_model.proofs.Words.{Put, Plan, Touch, goal_range, Slots, plan_of, place_of, passed, World, Step}
-use Rattle.machine_model.proofs.Words.{with_event, after_access, with_hardware, after_translating, reply_of, answer_entry, back_of, file_frame, shows_file, taken_in}
+use Rattle.machine_model.proofs.Words.{with_event, after_access, with_hardware, after_translating, reply_of, answer_entry, back_of, file_frame}
+use Rattle.machine_model.proofs.Words.{shows_file, taken_in}
 use Rattle.machine_model.proofs.Words.{after_zeros, after_first_copy, after_caching, after_copy, after_commit, after_install}
 use Rattle.slot_lock.specs.declared.plan.Plan.TheVariants as PlanOf
 use Rattle.vm_base.specs.declared.rights.Access.TheVariants.{Load, Store, Fetch}
@@ -23,7 +26,8 @@ use Rattle.machine_model.proofs.Shapes.{Moves, locks, tries, hints, seeks, guess
 use Rattle.machine_model.proofs.Shapes.{Replies, refuses, no_place, declines, fails, no_frame, GoesBy, moves, divides, cuts, fits, owns, lets_go}
 use Rattle.machine_model.proofs.Shapes.{answers, posts, commits, takes, zeroes, first_copies, caches, shares, posts_copy, copies, installs, accesses}
 use Rattle.machine_model.proofs.Shapes.{faults, Works, clears, invalidates, walks, evicts, flushes, reviews, frees, Shape, rests, begins, ends, goes}
-use Rattle.machine_model.proofs.Shapes.{aims, gives_up, works, joins, Rests, absent, busy, full, free, cannot, waits, awaits, Comes, stopped, acts as happens, comes}
+use Rattle.machine_model.proofs.Shapes.{aims, gives_up, works, joins, Rests, absent, busy, full, free, cannot, waits, awaits, Comes, stopped}
+use Rattle.machine_model.proofs.Shapes.{acts as happens, comes}
 use Rattle.real_mmu.proofs.Told.{Told, old_frames, same_pages, nothing_new, one_new, framed_now, copied_now, shown_told, copy_told}
 use Rattle.real_mmu.specs.Fills.{Fills, Filled, bytes_from, source_of}
 use Rattle.real_mmu.specs.Steps.{IsServed, EntriesLead, ShowsWith}
@@ -212,7 +216,8 @@ its_access w c touch reply p order is =
     let k = call_at w c (Try touch) p order in (
       k.asked.request,
       k.asked.number,
-      touches c k.asked.request touch (passed (refusal (λ n. mode_of (w.made.file n)) k.asked.request) (plan_of c k.asked.request) (PlanOf.Touch touch) k.asked.passed).1,
+      touches c k.asked.request touch
+          (passed (refusal (λ n. mode_of (w.made.file n)) k.asked.request) (plan_of c k.asked.request) (PlanOf.Touch touch) k.asked.passed).1,
       is,
     )
 

@@ -2,7 +2,8 @@
 use Rattle.real_mmu.proofs.Words.{Event, Go}
 use Rattle.machine_model.proofs.Words.{◌≡◌, ◌≢◌, ℕ, ◌≤◌, Bool, true, false, zero, suc, refl, sym, ap, subst, ◌∙◌, inl, Some, None, Option, List, [], ◌∷◌, ◌++◌}
 use Rattle.machine_model.proofs.Words.{◌&&◌, ◌==◌, not, if◌then◌else◌, slice_get, PageRange, put, has, put_all, put_same, Bytes, File}
-use Rattle.machine_model.proofs.Words.{Plain, nothing_mapped, Slots, IsNew, Translation, TlbEntry, tlb_without, Message, message_of, asked, some_has, World, Made}
+use Rattle.machine_model.proofs.Words.{Plain, nothing_mapped, Slots, IsNew, Translation, TlbEntry, tlb_without, Message, message_of, asked, some_has}
+use Rattle.machine_model.proofs.Words.{World, Made}
 use Rattle.machine_model.proofs.Words.{new_world, byte_reply, eq_true, eq_false, put_other}
 use Rattle.vm_calls.specs.Plainly.{EntryAnswers, touched_by}
 use Rattle.machine_model.specs.World.{new_memory}

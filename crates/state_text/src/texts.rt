@@ -3,8 +3,10 @@ ghost use Rattle.std.specs.Prelude.{◌≡◌, ◌+◌, ◌≤◌, ◌++◌, OnO
 ghost use Rattle.state_seen.specs.Lists.{at_page};
 ghost use Rattle.state_seen.specs.PageTexts.{pages_text, texts_below};
 ghost use Rattle.std.specs.List.{flat_map};
-ghost use Rattle.state_text.specs.Texts.{call_front, call_line, call_text, core_text, due_word, entry_line, epoch_line, going_word, gone_word};
-ghost use Rattle.state_text.specs.Texts.{holds_front, holds_line, holds_text, message_line, rights_of, seen_core, seen_text, spot_text, table_entry};
+ghost use Rattle.state_text.specs.Texts.{call_front, call_line, call_text, core_text, due_word, entry_line, epoch_line};
+ghost use Rattle.state_text.specs.Texts.{going_word, gone_word};
+ghost use Rattle.state_text.specs.Texts.{holds_front, holds_line, holds_text, message_line, rights_of, seen_core};
+ghost use Rattle.state_text.specs.Texts.{seen_text, spot_text, table_entry};
 ghost use Rattle.state_text.specs.Texts.{table_line, tlb_line, took_line, took_text, work_text};
 ghost use Rattle.state_text.specs.Words.{held_spot};
 ghost use Rattle.machine_model.specs.Holding.{taken_in};
@@ -46,7 +48,8 @@ fn gone_word(form: Form, is_cleared: bool) -> &'static str
     }
 }
 
-// Whether a translation of the page is going: a message of the inbox has the page, and the oldest such says how far it has come.
+// Whether a translation of the page is going: a message of the inbox has the page, and the oldest such says how far
+// it has come.
 fn going_word(form: Form, inbox: &[Message], page: u64) -> &'static str
     ensures { result.now ≡ going_word form inbox.now page }
 {
@@ -117,7 +120,8 @@ fn put_entries(
     inbox: &[Message],
     entries: &[TlbEntry],
 ) -> Result<(), AllocError>
-    ensures { OnOk result (out.new.items ≡ out.old.items ++ flat_map (entry_line form place.now core inbox.now) entries.now) }
+    ensures { OnOk result
+        (out.new.items ≡ out.old.items ++ flat_map (entry_line form place.now core inbox.now) entries.now) }
 {
     let mut at = 0;
     'entries: while at < entries.len() {
@@ -129,7 +133,8 @@ fn put_entries(
 
 // Appends the lines of a TLB.
 fn put_tlb(out: &mut Vec<u8>, form: Form, core: CoreId, held: &CoreHeld) -> Result<(), AllocError>
-    ensures { OnOk result (out.new.items ≡ out.old.items ++ flat_map (tlb_line form core held.now.inbox) held.now.tlb) }
+    ensures { OnOk result
+        (out.new.items ≡ out.old.items ++ flat_map (tlb_line form core held.now.inbox) held.now.tlb) }
 {
     put_entries(out, form, "tlb", core, held.inbox(), held.tlb())
 }
@@ -164,7 +169,8 @@ fn put_table<A: Allocator>(
     inbox: &[Message],
     table: &PageList<Translation, A>,
 ) -> Result<(), AllocError>
-    ensures { OnOk result (out.new.items ≡ out.old.items ++ pages_text (table_line form core inbox.now) (at_page table.now)) }
+    ensures { OnOk result
+        (out.new.items ≡ out.old.items ++ pages_text (table_line form core inbox.now) (at_page table.now)) }
 {
     put_listed(out, form, core, inbox, table.entries())?;
     Ok(())
@@ -411,7 +417,8 @@ fn put_core<A: Allocator>(
     held: &CoreHeld,
     table: &PageList<Translation, A>,
 ) -> Result<(), AllocError>
-    ensures { OnOk result (out.new.items ≡ out.old.items ++ core_text form core phase.now held.now (at_page table.now)) }
+    ensures { OnOk result
+        (out.new.items ≡ out.old.items ++ core_text form core phase.now held.now (at_page table.now)) }
 {
     put_work(out, form, core, phase)?;
     put_tlb(out, form, core, held)?;
@@ -431,7 +438,8 @@ fn put_cores<A: Allocator>(
     requires phases { length phases.now ≡ 64 }
     requires cores { length cores.now ≡ 64 }
     requires tables { length tables.now ≡ 64 }
-    ensures { OnOk result (out.new.items ≡ out.old.items ++ texts_below (seen_core form phases.now cores.now tables.now) 64) }
+    ensures { OnOk result
+        (out.new.items ≡ out.old.items ++ texts_below (seen_core form phases.now cores.now tables.now) 64) }
 {
     'cores: for index in 0..64u8 {
         let at = usize::from(index);
