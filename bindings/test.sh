@@ -5,7 +5,7 @@
 # range and memory that is refused, the worked rows of crates/test_words, examples/, random traces and their logs beside the program where it
 # is built, and the Rust crate's tests and its walkers where there is cargo. 1 to 64 threads share a machine: each one's notes beside the log,
 # the log beside a new machine and beside `audit`, with memory refused, under valgrind where that is here, and under ThreadSanitizer where
-# bindings/tsan.py left an instrumented library. SEEDS, 20 where it isn't given, is how many walks, and how many random traces of each kind,
+# bindings/tsan.py left an instrumented library. A program is recorded by bindings/preload.c, also one that is killed half-way. SEEDS, 20 where it isn't given, is how many walks, and how many random traces of each kind,
 # are made.
 # Usage: bindings/test.sh [--skip-without-compiler] [SEEDS]
 set -euo pipefail
@@ -115,6 +115,31 @@ if [ -x "$program" ]; then
 else
     echo "random traces: not compared, since the program isn't built ($program)"
 fi
+# The preload recorder: a program of threads that forks, and one that is killed. What isn't true of it isn't legal.
+for compiler in ${compilers:-cc}; do
+    $compiler -std=c11 -O2 -fPIC -shared -fvisibility=hidden -ftls-model=initial-exec ${warnings/-Wpedantic/} -I "$include" \
+        "$top/bindings/preload.c" -o "$work/recorder.so"
+    $compiler -std=c11 -O2 $warnings -I "$include" "$top/bindings/radixvm-record.c" -o "$work/read"
+    $compiler -std=c11 -O2 -pthread $warnings "$top/bindings/c/recorded.c" -o "$work/recorded"
+done
+LD_PRELOAD=$work/recorder.so RADIXVM_RECORD=$work/calls "$work/recorded" 1 100 300 > "$work/number"
+LD_PRELOAD=$work/recorder.so RADIXVM_RECORD=$work/killed "$work/recorded" 2 0 300 &
+until [ "$(cat "$work"/killed.* 2> /dev/null | wc -c)" -gt 2000000 ]; do sleep 0.1; done
+kill -KILL $!
+wait $! 2> /dev/null || true
+for record in "$work"/calls.* "$work"/killed.*; do "$work/read" "$record" > "$record.text"; done
+[ "$(ls "$work"/calls.*.text "$work"/killed.*.text | wc -l)" = 3 ] || { echo "bindings/test.sh: not three records" >&2; exit 1; }
+if [ -x "$program" ]; then
+    for text in "$work"/*.text; do "$program" audit --overlapping --any-place "$text" > "$work/out" || { cat "$work/out"; exit 1; }; done
+    # its first mapping is mapped a second time
+    text=$(ls "$work"/calls.*.text | head -n 1)
+    sed -n '/! mmap/{h;s/^[0-9]* [0-9]*/98 99/p;g;s/^[0-9]* [0-9]*/96 97/p;q}' "$text" | cat <(echo "vm 64 16") - > "$work/twice"
+    if "$program" audit --overlapping --any-place "$work/twice" > "$work/out"; then
+        echo "bindings/test.sh: an address that is given twice is legal" >&2
+        exit 1
+    fi
+fi
+echo "recorder: threads, a fork, and a program that was killed"
 if command -v valgrind > /dev/null; then
     ${CC:-cc} -std=c11 -O1 -g -pthread -I "$include" "$top/bindings/c/threads.c" "$library/libradixvm.a" -o "$work/plain"
     valgrind -q --error-exitcode=1 --leak-check=full --fair-sched=yes "$work/plain" 1 8 200

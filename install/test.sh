@@ -1,5 +1,5 @@
 #!/usr/bin/env bash
-# Makes a release, installs it from its tar, and tries what was installed, without the kit: README's first run in a root of its own, the shared library
+# Makes a release, installs it from its tar, and tries what was installed, without the kit: README's first run in a root of its own, the recorder, the shared library
 # by its names, through ctypes, and from C and C++ by pkg-config, man pages, completions, each command and path of the documents (bench/docs.py), and
 # bindings/test.sh over the installed files.
 # Usage: install/test.sh [SEEDS], over what `./radixvm --build` and `./radixvm --build-library` made, or what RADIXVM_PROGRAM and RADIXVM_ARCHIVE name.
@@ -70,6 +70,9 @@ shown=$(nm -D --defined-only "$prefix/lib/libradixvm.so" | awk '{ print $3 }' | 
 objdump -p "$prefix/lib/libradixvm.so" | grep -q "SONAME *libradixvm.so.[0-9]" || fail "the shared library has no soname"
 echo "shared library: $(echo "$shown" | wc -l) names, those of the header"
 python3 "$top/install/from_python.py" "$prefix/lib/libradixvm.so" "$prefix/include/radixvm.h"
+LD_PRELOAD=$prefix/lib/libradixvm-record.so RADIXVM_RECORD=$work/calls python3 -c 'import mmap; [mmap.mmap(-1, 5000).close() for i in range(99)]'
+for record in "$work"/calls.*; do "$prefix/bin/radixvm-record" "$record" | "$prefix/bin/radixvm" audit --overlapping --any-place > "$work/said" || fail "a record: $(cat "$work/said")"; done
+echo "recorder: python's calls are $(cat "$work/said")"
 if command -v pkg-config > /dev/null; then
     export PKG_CONFIG_PATH=$prefix/lib/pkgconfig
     printf '#include <radixvm.h>\nint main(void) { radixvm_machine m = {0}; return radixvm_version() != RADIXVM_VERSION || radixvm_cores(&m) != 0; }\n' > "$work/use.c"

@@ -1,8 +1,9 @@
 /* Records what the kernel that it runs on answers to calls of threads that overlap, as a history on standard output. The threads map,
    unmap and protect a few pages, and load, store and fetch bytes there. At the repository's root:
    cc -O2 -pthread -I include -o /tmp/kernel examples/kernel/kernel.c && /tmp/kernel 4 100000 | ./radixvm audit --overlapping
-   usage: kernel [THREADS [CALLS [PAGES [MOST [SEED]]]]]: each thread makes so many calls, on at most MOST pages of PAGES at once (4, 100000,
-   8, 0 and 1 where they are left out). 0 stands for single pages, which are mapped anew and protected, but never unmapped, nor given one
+   usage: kernel [THREADS [CALLS [PAGES [MOST [SEED [FILE]]]]]]: each thread makes so many calls, on at most MOST pages of PAGES at once (4,
+   100000, 8, 0 and 1 where they are left out). It is pinned to a processor. The record is kept in FILE, too: if the program is killed,
+   bindings/radixvm-record.c writes its history. For MOST 0 stands for single pages, which are mapped anew and protected, but never unmapped, nor given one
    right while another is taken. POSIX allows a kernel what no page map does, and Linux does it: where MOST is above 1 it shows a range half
    changed. Where it is 1, it serves one thread's access to a page that is being unmapped after another's was refused, once in a million
    calls or two: faults are told by the list of mappings, which munmap shortens first, and other accesses by page tables and TLBs, which it
@@ -77,6 +78,7 @@ static void change(struct core *core) {
 
 static void *run(void *argument) {
     struct core *core = (struct core *)argument;
+    if (rv_pin(core->ring)) fputs("kernel: a thread isn't pinned\n", stderr);
     __atomic_sub_fetch(&waiting, 1, __ATOMIC_SEQ_CST);
     while (__atomic_load_n(&waiting, __ATOMIC_SEQ_CST)) {}
     for (uint64_t i = 0; i < calls; i++) {
@@ -110,9 +112,12 @@ static int make_file(void) {
 int main(int argc, char **argv) {
     uint64_t threads = 4, *numbers[] = {&threads, &calls, &pages, &most, &seed};
     static struct core cores[64];
+    char file[64];
     for (int i = 1; i < argc && i < 6; i++) *numbers[i - 1] = strtoull(argv[i], NULL, 10);
     if (threads < 1 || threads > 64 || calls < 1 || pages < 1 || most > pages) return 2;
     if (make_file() || find_base() || rv_start()) return 3;
+    snprintf(file, sizeof file, "file 0 rw %d %d", FILE_PAGES * PAGE, FILE_FIRST);
+    if (argc > 6 && (rv_keep(argv[6]) || rv_say(file))) return 3;
     waiting = (int)threads;
     for (uint64_t i = 0; i < threads; i++) {
         cores[i].state = seed * 1000003 + i * 7919;
@@ -122,6 +127,6 @@ int main(int argc, char **argv) {
         if (pthread_create(&cores[i].thread, NULL, run, &cores[i])) return 3;
     for (uint64_t i = 0; i < threads; i++) pthread_join(cores[i].thread, NULL);
     rv_head(stdout, (int)threads);
-    printf("file 0 rw %d %d\n", FILE_PAGES * PAGE, FILE_FIRST);
+    puts(file);
     return rv_write(stdout) ? 1 : 0;
 }

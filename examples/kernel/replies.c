@@ -5,9 +5,8 @@
 #endif
 #include "radixvm_record.h"
 #include <pthread.h>
-#include <unistd.h>
 
-enum { PAGE = 4096, ROOM = 60 };
+enum { PAGE = 4096, ROOM = 70 };
 
 static void need(int is_so, const char *what) {
     if (is_so) return;
@@ -56,6 +55,34 @@ static void touch_file(struct rv_ring *ring, uint8_t *at, int fd) {
     need(rv_mmap(ring, at, PAGE, PROT_READ, MAP_PRIVATE | MAP_FIXED, -1, 0, 7) == MAP_FAILED && errno == EBADF, "mmap, ebadf");
 }
 
+/* How the last call of the ring is told. */
+static unsigned last_told(const struct rv_ring *ring) { return ring->calls[ring->count - 1].told; }
+
+/* What a plain page map lacks: limits, an error of its own, a flag and execute-only pages. */
+static void touch_beyond(struct rv_ring *ring, uint8_t *at) {
+    enum { VALIDATE = 3, NOREPLACE = 0x100000 };
+    struct rlimit all;
+    uint8_t byte;
+    /* Linux refuses it to what is no file */
+    need(rv_mmap(ring, at, PAGE, PROT_READ, VALIDATE | MAP_FIXED | MAP_ANONYMOUS, -1, 0, 0) == at || last_told(ring) == RV_OTHER, "validate");
+    need(rv_mmap(ring, at, PAGE, PROT_EXEC, MAP_PRIVATE | MAP_FIXED | MAP_ANONYMOUS, -1, 0, 0) == at, "mmap, execute-only");
+    enum rv_told told = rv_load(ring, at, &byte);
+    need((told == RV_BYTE && byte == 0) || told == RV_KEY, "load, execute-only");
+    need(rv_mmap(ring, at, PAGE, PROT_READ, NOREPLACE | MAP_PRIVATE | MAP_ANONYMOUS, -1, 0, 0) != at, "noreplace");
+    need(last_told(ring) == RV_OTHER || last_told(ring) == RV_ADDRESS, "noreplace, told");
+    need(!getrlimit(RLIMIT_AS, &all), "getrlimit");
+    rlim_t before = all.rlim_cur;
+    all.rlim_cur = 1;
+    need(!setrlimit(RLIMIT_AS, &all), "setrlimit");
+    need(rv_mmap(ring, at + PAGE, PAGE, PROT_READ, MAP_PRIVATE | MAP_FIXED | MAP_ANONYMOUS, -1, 0, 0) == MAP_FAILED, "mmap, a limit");
+    need(last_told(ring) == RV_NOMEMORY, "mmap, nomemory");
+    need(rv_mprotect(ring, at, 3 * PAGE, PROT_READ) == -1 && last_told(ring) == RV_ENOMEM, "mprotect of a gap under a limit");
+    all.rlim_cur = before;
+    need(!setrlimit(RLIMIT_AS, &all), "setrlimit back");
+    need(rv_mmap(ring, NULL, (size_t)1 << 48, PROT_READ, MAP_PRIVATE | MAP_ANONYMOUS, -1, 0, 0) == MAP_FAILED, "mmap of too much");
+    need(last_told(ring) == RV_ENOMEM, "mmap of too much, enomem");
+}
+
 int main(void) {
     struct rv_ring *mine = rv_thread(0, ROOM), *other = rv_thread(1, 1000000);
     pthread_t thread;
@@ -68,6 +95,7 @@ int main(void) {
     need(probe != MAP_FAILED && !munmap(probe, 2 * PAGE), "the place");
     uint8_t *at = (uint8_t *)((uintptr_t)probe - ((uintptr_t)64 << 30));
     touch(mine, at);
+    touch_beyond(mine, at);
     touch_file(mine, at, fd);
     need(mine->count < ROOM, "the room");
     need(!pthread_create(&thread, NULL, go_on, other), "the thread");

@@ -2,7 +2,7 @@
 # Tests the recorder's header include/radixvm_record.h: it is compiled by gcc and clang as C11 and as C++17, with all warnings as errors, with the
 # counter and with time stamps, optimised, and with the sanitizers of addresses, of undefined behaviour and of threads; each reply is made once, a
 # ring is filled, and what one thread recorded of the kernel here is judged by `audit`, which knows no stamps. Then 4 threads are recorded, and judged by
-# `audit --overlapping` where the program has that.
+# `audit --overlapping`; a record in a file gives the same text, and that of a program that is killed half-way is judged, too.
 # Usage: examples/kernel/test.sh [CALLS]: so many calls of each thread, 20000 if none is given
 set -euo pipefail
 top=$(cd "$(dirname "$0")/../.." && pwd)
@@ -34,5 +34,16 @@ for compiler in "gcc -std=c11" "clang -std=c11" "g++ -std=c++17 -x c++" "clang++
     done
 done
 gcc -std=c11 -O2 $warnings -pthread -I "$top/include" "$top/examples/kernel/kernel.c" -o "$work/kernel"
-"$work/kernel" 4 "$calls" 8 0 > "$work/history"
-if "$program" help audit | grep -q overlapping; then "$program" audit --overlapping "$work/history"; fi
+gcc -std=c11 -O2 $warnings -I "$top/include" "$top/bindings/radixvm-record.c" -o "$work/read"
+"$work/kernel" 4 "$calls" 8 0 1 "$work/ring" > "$work/history"
+"$program" audit --overlapping "$work/history"
+"$work/read" "$work/ring" | sort | diff - <(sort "$work/history")
+echo "a record in a file: the same text"
+for seed in 1 2 3; do
+    "$work/kernel" 4 1000000 8 0 "$seed" "$work/ring" > /dev/null &
+    until [ "$("$work/read" "$work/ring" 2> /dev/null | wc -l)" -gt 1000 ]; do sleep 0.2; done
+    kill -KILL $!
+    wait $! 2> /dev/null || true
+    "$work/read" "$work/ring" > "$work/history"
+    echo "killed: $("$program" audit --overlapping "$work/history"), $(grep -c 'under way' "$work/history") has calls that were under way"
+done
