@@ -2,21 +2,25 @@
 
 /// What stands in front of the files.
 pub const FRONT: &str = "\
-// A litmus test as a program for a kernel with POSIX threads: one thread a core. Build it with cc -O2 -pthread.
-// Usage: a.out [RUNS]. It writes COUNT: OUTCOME, a line for each outcome that came about, for radixvm litmus --observed.
+// A litmus test as a program for a kernel with POSIX threads: one thread a core. Build it with cc -O2 -pthread, or c++.
+// Usage: a.out [ROUNDS] [-s ROUNDS] [-r RUNS] [--cpus LIST]: RUNS runs of ROUNDS rounds each, 1 and 10000 if left out. Core N is on the Nth
+// processor of LIST, as 0,2,4-7, or of those that the program may use. It writes COUNT: OUTCOME, a line for each outcome that came about, for
+// radixvm litmus --observed, and every ten seconds so far, on standard error. At SIGINT it ends after the round, with its counts.
+#ifndef _GNU_SOURCE
 #define _GNU_SOURCE
+#endif
 #include <errno.h>
 #include <fcntl.h>
 #include <pthread.h>
 #include <sched.h>
 #include <setjmp.h>
 #include <signal.h>
-#include <stdatomic.h>
 #include <stdint.h>
 #include <stdio.h>
 #include <stdlib.h>
 #include <string.h>
 #include <sys/mman.h>
+#include <time.h>
 #include <unistd.h>
 
 struct file { const char *mode; unsigned long len; int seed; };
@@ -30,10 +34,16 @@ static int many[2], fds[16], own[16], file_count, uses[CORES], threads, final_co
 static const struct file *all_files;
 static const unsigned long *all_finals;
 static char replies[CALLS][24], shown[CALLS][24], *ways[WAYS];
-static long counts[WAYS], way_count, runs = 10000;
-static atomic_int turn, arrived[3];
-static atomic_long round_of[3];
-static _Thread_local sigjmp_buf back;
+static long counts[WAYS], way_count, rounds = 10000, runs = 1, last_round, rounds_done;
+static int cpus[CORES], cpu_count, asked_to_end;
+static int turn, arrived[3];
+static long round_of[3];
+static time_t shown_at;
+static __thread sigjmp_buf back;
+
+// What threads share is read and written in one order.
+#define GET(place) __atomic_load_n(place, __ATOMIC_SEQ_CST)
+#define SET(place, value) __atomic_store_n(place, value, __ATOMIC_SEQ_CST)
 
 static void stop(const char *why) { fprintf(stderr, \"%s\\n\", why); exit(2); }
 
@@ -46,26 +56,40 @@ static int rights(const char *word) {
     return (strchr(word, 'r') ? PROT_READ : 0) | (strchr(word, 'w') ? PROT_WRITE : 0) | (strchr(word, 'x') ? PROT_EXEC : 0);
 }
 
+static void on_interrupt(int number) {
+    (void)number;
+    SET(&asked_to_end, 1);
+}
+
+static struct op op_of(int core, int kind, unsigned long addr, unsigned long len, int prot) {
+    struct op o;
+    memset(&o, 0, sizeof o);
+    o.core = core, o.kind = kind, o.addr = addr, o.len = len, o.prot = prot;
+    return o;
+}
+
 static struct op read_call(const struct call *call) {
-    struct op o = {.core = call->core};
+    struct op o;
     char name[16], prot[8], flags[8];
     unsigned long a = 0, b = 0, c = 0;
     int file = 0;
     const char *words = call->request;
     sscanf(words, \"%15s\", name);
     if (!strcmp(name, \"mmap\") && sscanf(words, \"%*s %lx %lx %7s %7s %d %lx\", &a, &b, prot, flags, &file, &c) == 6) {
-        o = (struct op){call->core, MMAP, rights(prot), 0, strchr(flags, 'a') ? -1 : file, a, b, c};
+        o = op_of(call->core, MMAP, a, b, rights(prot));
+        o.file = strchr(flags, 'a') ? -1 : file, o.off = c;
         o.flags = (strchr(flags, 'p') ? MAP_PRIVATE : 0) | (strchr(flags, 's') ? MAP_SHARED : 0)
             | (strchr(flags, 'f') ? MAP_FIXED : 0) | (strchr(flags, 'a') ? MAP_ANONYMOUS : 0);
     } else if (!strcmp(name, \"munmap\") && sscanf(words, \"%*s %lx %lx\", &a, &b) == 2) {
-        o = (struct op){call->core, MUNMAP, 0, 0, 0, a, b, 0};
+        o = op_of(call->core, MUNMAP, a, b, 0);
     } else if (!strcmp(name, \"mprotect\") && sscanf(words, \"%*s %lx %lx %7s\", &a, &b, prot) == 3) {
-        o = (struct op){call->core, MPROTECT, rights(prot), 0, 0, a, b, 0};
+        o = op_of(call->core, MPROTECT, a, b, rights(prot));
     } else if (!strcmp(name, \"load\") && sscanf(words, \"%*s %lx\", &a) == 1) {
-        o = (struct op){call->core, LOAD, 0, 0, 0, a, 1, 0};
+        o = op_of(call->core, LOAD, a, 1, 0);
     } else if (!strcmp(name, \"store\") && sscanf(words, \"%*s %lx %lu\", &a, &b) == 2) {
-        o = (struct op){call->core, STORE, (int)b, 0, 0, a, 1, 0};
+        o = op_of(call->core, STORE, a, 1, (int)b);
     } else {
+        o = op_of(call->core, LOAD, 0, 0, 0);
         stop(\"a request that this program can't make\");
     }
     if (o.addr + o.len > 1ul << 31) stop(\"an address above 2 GiB, where the program itself may be\");
@@ -107,15 +131,15 @@ static void make_call(const struct op *o, char *reply) {
     strcpy(reply, done ? refusal(errno) : \"done\");
 }
 
-static void wait_until(atomic_long *number, long least) {
-    for (long tries = 0; atomic_load(number) < least; tries++) if (tries > 20000) sched_yield();
+static void wait_until(long *number, long least) {
+    for (long tries = 0; GET(number) < least; tries++) if (tries > 20000) sched_yield();
 }
 
 // All threads meet.
 static void meet(int place, long round) {
-    if (atomic_fetch_add(&arrived[place], 1) + 1 == threads) {
-        atomic_store(&arrived[place], 0);
-        atomic_store(&round_of[place], round);
+    if (__atomic_add_fetch(&arrived[place], 1, __ATOMIC_SEQ_CST) == threads) {
+        SET(&arrived[place], 0);
+        SET(&round_of[place], round);
     }
     wait_until(&round_of[place], round);
 }
@@ -150,37 +174,53 @@ static void count_outcome(void) {
     counts[way]++;
 }
 
+static void show_counts(FILE *file) {
+    for (long way = 0; way < way_count; way++) fprintf(file, \"%ld: %s\\n\", counts[way], ways[way]);
+}
+
+// Between two rounds, when no other thread runs.
+static void end_round(long round) {
+    time_t now = time(0);
+    rounds_done++;
+    if (GET(&asked_to_end)) SET(&last_round, round), runs = 0;
+    if (now - shown_at < 10) return;
+    fprintf(stderr, \"after %ld rounds:\\n\", rounds_done);
+    show_counts(stderr);
+    shown_at = now;
+}
+
 static void *run_core(void *argument) {
     int core = (int)(intptr_t)argument;
     int leads = 0;
     uint64_t seed = 88172645463325252u + 7919u * (unsigned)core;
-    cpu_set_t cpus;
-    CPU_ZERO(&cpus);
-    CPU_SET(core % (int)sysconf(_SC_NPROCESSORS_ONLN), &cpus);
-    pthread_setaffinity_np(pthread_self(), sizeof cpus, &cpus);
+    cpu_set_t cpu;
+    CPU_ZERO(&cpu);
+    CPU_SET((size_t)cpus[core % cpu_count], &cpu);
+    if (pthread_setaffinity_np(pthread_self(), sizeof cpu, &cpu)) stop(\"a processor that this program may not use\");
     while (!uses[leads]) leads++;
-    for (long round = 1; round <= runs; round++) {
+    for (long round = 1; round <= GET(&last_round); round++) {
         char reply[24];
         for (int k = 0; k < many[0]; k++)
             if (ops[0][k].core == core) {
-                for (long tries = 0; atomic_load(&turn) != k; tries++) if (tries > 20000) sched_yield();
+                for (long tries = 0; GET(&turn) != k; tries++) if (tries > 20000) sched_yield();
                 make_call(&ops[0][k], reply);
-                atomic_store(&turn, k + 1);
+                SET(&turn, k + 1);
             }
         meet(0, round);
         seed ^= seed << 13, seed ^= seed >> 7, seed ^= seed << 17;
-        for (volatile long wait = (long)(seed >> 20) & ((1l << seed % 19) - 1); wait; wait--) {}
+        for (long wait = (long)(seed >> 20) & ((1l << seed % 19) - 1); wait; wait--) __asm__ volatile(\"\" : : : \"memory\");
         for (int k = 0; k < many[1]; k++) if (ops[1][k].core == core) make_call(&ops[1][k], replies[k]);
         meet(1, round);
         if (core == leads) {
             for (int k = 0; k < final_count; k++) {
-                struct op load = {.kind = LOAD, .addr = all_finals[k]};
+                struct op load = op_of(core, LOAD, all_finals[k], 1, 0);
                 make_call(&load, shown[k]);
             }
             count_outcome();
             unmap_all();
             restore_files();
-            atomic_store(&turn, 0);
+            SET(&turn, 0);
+            end_round(round);
         }
         meet(2, round);
     }
@@ -209,22 +249,66 @@ static void open_files(const struct file *files) {
     restore_files();
 }
 
-static int run_all(int words, char **word, const struct file *files, const struct call *opening, const struct call *lists, const unsigned long *finals) {
-    pthread_t thread[CORES];
-    struct sigaction act = {0};
+// The processors of a list as 0,2,4-7; those that the program may use, where it is null.
+static void read_cpus(const char *list) {
+    cpu_set_t may;
+    if (!list && sched_getaffinity(0, sizeof may, &may)) stop(\"processors that can't be asked for\");
+    for (int cpu = 0; !list && cpu < CPU_SETSIZE && cpu_count < CORES; cpu++)
+        if (CPU_ISSET((size_t)cpu, &may)) cpus[cpu_count++] = cpu;
+    while (list && *list) {
+        char *end;
+        long first = strtol(list, &end, 10), last = first;
+        if (end == list) stop(\"a list of processors is as 0,2,4-7\");
+        if (*end == '-') list = end + 1, last = strtol(list, &end, 10);
+        if (end == list || (*end && *end != ',') || first < 0 || last >= CPU_SETSIZE) stop(\"a list of processors is as 0,2,4-7\");
+        for (; first <= last && cpu_count < CORES; first++) cpus[cpu_count++] = (int)first;
+        list = *end ? end + 1 : end;
+    }
+    if (!cpu_count) stop(\"no processor\");
+}
+
+static void read_words(int words, char **word) {
+    const char *list = 0;
+    for (int k = 1; k < words; k++) {
+        int has_next = k + 1 < words;
+        if (!strcmp(word[k], \"-s\") && has_next) rounds = atol(word[++k]);
+        else if (!strcmp(word[k], \"-r\") && has_next) runs = atol(word[++k]);
+        else if (!strcmp(word[k], \"--cpus\") && has_next) list = word[++k];
+        else if (*word[k] >= '0' && *word[k] <= '9') rounds = atol(word[k]);
+        else stop(\"usage: a.out [ROUNDS] [-s ROUNDS] [-r RUNS] [--cpus LIST]\");
+    }
+    read_cpus(list);
+}
+
+static void catch_signals(void) {
+    struct sigaction act;
+    memset(&act, 0, sizeof act);
     act.sa_sigaction = on_fault;
     act.sa_flags = SA_SIGINFO | SA_NODEFER;
     sigaction(SIGSEGV, &act, 0);
     sigaction(SIGBUS, &act, 0);
-    if (words > 1) runs = atol(word[1]);
+    act.sa_flags = SA_RESTART | (int)SA_RESETHAND;
+    act.sa_handler = on_interrupt;
+    sigaction(SIGINT, &act, 0);
+}
+
+static int run_all(int words, char **word, const struct file *files, const struct call *opening, const struct call *lists, const unsigned long *finals) {
+    pthread_t thread[CORES];
+    read_words(words, word);
+    catch_signals();
     open_files(files);
     read_calls(0, opening);
     read_calls(1, lists);
     for (all_finals = finals; finals[final_count] != ~0ul; final_count++) {}
-    for (int core = 0; core < CORES; core++)
-        if (uses[core] && pthread_create(&thread[core], 0, run_core, (void *)(intptr_t)core)) stop(\"a thread that can't be made\");
-    for (int core = 0; core < CORES; core++) if (uses[core]) pthread_join(thread[core], 0);
-    for (long way = 0; way < way_count; way++) printf(\"%ld: %s\\n\", counts[way], ways[way]);
+    shown_at = time(0);
+    while (runs-- > 0) {
+        last_round = rounds;
+        memset(round_of, 0, sizeof round_of);
+        for (int core = 0; core < CORES; core++)
+            if (uses[core] && pthread_create(&thread[core], 0, run_core, (void *)(intptr_t)core)) stop(\"a thread that can't be made\");
+        for (int core = 0; core < CORES; core++) if (uses[core]) pthread_join(thread[core], 0);
+    }
+    show_counts(stdout);
     return 0;
 }
 
