@@ -14,7 +14,7 @@ use Rattle.loose_orders.specs.Loose.{with_entry}
 
 -- ---- what a read may be answered
 
-abbrev IsRead : Reply → Type 0
+abbrev pub IsRead : Reply → Type 0
 IsRead (Byte b) = Unit {0}
 IsRead (Segv code) = Unit {0}
 IsRead Bus = Unit {0}
@@ -32,12 +32,12 @@ allowed : (b : Bool) (x : Option Reply) (y : Reply) → (x ≡ Some y → IsRead
 allowed true x y h e = h e
 allowed false x y h e = let same : Segv AccErr ≡ y = cc in subst IsRead same tt
 
-load_kind : (files : ℕ → Option File) (o : Option PageEntry) (i : ℕ) (y : Reply) → entry_reply files o By.Load i ≡ Some y → IsRead y
+pub load_kind : (files : ℕ → Option File) (o : Option PageEntry) (i : ℕ) (y : Reply) → entry_reply files o By.Load i ≡ Some y → IsRead y
 load_kind files None i y e = let same : Segv MapErr ≡ y = cc in subst IsRead same tt
 load_kind files (Some x) i y e =
     allowed (is_allowed x.prot By.Load) (bytes_reply false (bytes_of files x.back x.own) By.Load i) y (of_bytes (bytes_of files x.back x.own) i y) e
 
-fetch_kind : (files : ℕ → Option File) (o : Option PageEntry) (i : ℕ) (y : Reply) → entry_reply files o By.Fetch i ≡ Some y → IsRead y
+pub fetch_kind : (files : ℕ → Option File) (o : Option PageEntry) (i : ℕ) (y : Reply) → entry_reply files o By.Fetch i ≡ Some y → IsRead y
 fetch_kind files None i y e = let same : Segv MapErr ≡ y = cc in subst IsRead same tt
 fetch_kind files (Some x) i y e =
     allowed (is_allowed x.prot By.Fetch) (bytes_reply false (bytes_of files x.back x.own) By.Fetch i) y (of_fetched (bytes_of files x.back x.own) i y) e

@@ -27,7 +27,7 @@ use Rattle.loose_orders.proofs.Maps.{entries_back, entry_back, put_back}
 
 -- ---- one that changes nothing
 
-same_old : (old : Olds) (call page : ℕ) (e : Option PageEntry) (f : ℕ → Option PageEntry) → old call page ≡ Some e
+pub same_old : (old : Olds) (call page : ℕ) (e : Option PageEntry) (f : ℕ → Option PageEntry) → old call page ≡ Some e
     → old ≡ put old call (put (old call) page (Some (put f page e page)))
 same_old old call page e f is =
     sym (put_back old call (put (old call) page (Some (put f page e page)))
@@ -48,18 +48,18 @@ stays rule s c call page e accesses is r = record {
 }
 
 -- what is kept speaks of the page and the offset of the access
-abbrev HasOf : Kept → List Kept → Type 0
+abbrev pub HasOf : Kept → List Kept → Type 0
 HasOf k kept = (old : Olds) → AllKept old kept → IsKept old k
 
 -- the entry's page and reply, in a state of which this is kept
-record Found (s : Loose) (k : Kept) (addr : ℕ) (a : Access) (y : Reply) : Type 0 where
-  entry : Option PageEntry
-  is_old : s.old k.call (page_of addr) ≡ Some entry
-  valid : is_page (page_of addr) ≡ true
-  was : IsWas entry (offset_of addr) k.was
-  reply : entry_reply s.plain.file entry a (offset_of addr) ≡ Some y
+pub record Found (s : Loose) (k : Kept) (addr : ℕ) (a : Access) (y : Reply) : Type 0 where
+  pub entry : Option PageEntry
+  pub is_old : s.old k.call (page_of addr) ≡ Some entry
+  pub valid : is_page (page_of addr) ≡ true
+  pub was : IsWas entry (offset_of addr) k.was
+  pub reply : entry_reply s.plain.file entry a (offset_of addr) ≡ Some y
 
-found : (s : Loose) (t : Plain) (k : Kept) (kept : List Kept) (addr : ℕ) (a : Access) (y : Reply) → s.plain ≡ t → k.page ≡ page_of addr
+pub found : (s : Loose) (t : Plain) (k : Kept) (kept : List Kept) (addr : ℕ) (a : Access) (y : Reply) → s.plain ≡ t → k.page ≡ page_of addr
     → k.offset ≡ offset_of addr → HasOf k kept → AllKept s.old kept → FindsDue t.file (offset_of addr) k.was a y → Found s k addr a y
 found s t k kept addr a y e at off has all due =
     let kk = has s.old all in
@@ -101,11 +101,11 @@ fetch_goes t c addr k kept is at off has due any_place s e all =
 -- ---- a store to bytes of the page's own
 
 -- an entry with bytes of its own
-abbrev owned : Back → Prot → Bytes → PageEntry
+abbrev pub owned : Back → Prot → Bytes → PageEntry
 owned back prot own = record { back = back; prot = prot; own = Some own }
 
 -- one that shows a file's
-abbrev shown : Back → Prot → PageEntry
+abbrev pub shown : Back → Prot → PageEntry
 shown back prot = record { back = back; prot = prot; own = None }
 
 owned_not_shown : (back : Back) (prot : Prot) (own : Bytes) (b : Back) (p : Prot) → Some (owned back prot own) ≡ Some (shown b p) → ⊥
@@ -144,7 +144,7 @@ was_after e back prot own i j byte (Own p known) is w false t =
     known_still (Some b) h same = put_other own i byte j (eq_false j i t) ∙ (ap (λ (f : Bytes). f j) same ∙ h)
 
 -- so does all that is kept
-kept_after : (old : Olds) (call page i byte : ℕ) (back : Back) (prot : Prot) (own : Bytes) → old call page ≡ Some (Some (owned back prot own))
+pub kept_after : (old : Olds) (call page i byte : ℕ) (back : Back) (prot : Prot) (own : Bytes) → old call page ≡ Some (Some (owned back prot own))
     → (k : Kept) → IsKept old k
     → IsKept (put old call (put (old call) page (Some (Some (owned back prot (put own i byte)))))) (kept_stored call page i byte k)
 kept_after old call page i byte back prot own is k kk = by_call (k.call == call) refl

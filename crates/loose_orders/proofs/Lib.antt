@@ -5,5 +5,8 @@ pub mod StepLemmas
 pub mod StepLists
 pub mod KeptLemmas
 pub mod FoundLemmas
+pub mod BetweenLemmas
+pub mod BehindLemmas
+pub mod MoveLemmas
 pub mod AtomicLemmas
 mod Examples

@@ -3,3 +3,5 @@ pub mod Kept
 pub mod Late
 pub mod Following
 pub mod Laws
+pub mod Kernel
+pub mod Moved

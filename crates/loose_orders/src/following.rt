@@ -15,7 +15,7 @@ use std::alloc::Allocator;
 use vm_base::NoMemory;
 
 /// Tells whether the items have each call of a history once.
-fn has_each<A: Allocator + Clone + Drop>(
+pub(crate) fn has_each<A: Allocator + Clone + Drop>(
     alloc: &A,
     history: &[Timed],
     items: &[Item],

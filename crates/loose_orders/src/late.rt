@@ -93,7 +93,7 @@ fn fits<M: SlotMap, A: Allocator>(
 }
 
 /// Tells whether with what is kept of an entry an access of this address has this reply.
-fn is_match<M: SlotMap, A: Allocator>(
+pub(crate) fn is_match<M: SlotMap, A: Allocator>(
     auditor: &Auditor<M, A>,
     one: Kept,
     addr: u64,
@@ -163,7 +163,13 @@ fn kept_stored(call: u32, page: u64, offset: u64, byte: u8, one: Kept) -> Kept
 }
 
 /// The same of all that is kept.
-fn store<A: Allocator>(kept: &mut Vec<Kept, A>, call: u32, page: u64, offset: u64, byte: u8)
+pub(crate) fn store<A: Allocator>(
+    kept: &mut Vec<Kept, A>,
+    call: u32,
+    page: u64,
+    offset: u64,
+    byte: u8,
+)
     ensures { kept.new.items ≡ map (kept_stored call page offset byte) kept.old.items }
 {
     'kept: for at in 0..kept.len() {

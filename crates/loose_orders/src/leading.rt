@@ -1,5 +1,5 @@
 //! Whether steps, one after another, lead from one state to another.
-ghost use Rattle.std.specs.Prelude.{◌≡◌, ◌↔◌, Bool, IsTrue, List, Ok, true};
+ghost use Rattle.std.specs.Prelude.{◌≡◌, ◌↔◌, Bool, IsTrue, List, Ok, false, true};
 ghost use Rattle.vm_base.specs.Log.{RepliesBy};
 ghost use Rattle.vm_base.specs.Plain.{Plain};
 ghost use Rattle.orders.specs.declared.history.Timed.{Timed};
@@ -7,6 +7,7 @@ ghost use Rattle.orders.specs.Orders.{CopiesFor};
 ghost use Rattle.audit.specs.Auditor.{plain_of};
 ghost use Rattle.audit.specs.Placing.{rule_of};
 ghost use Rattle.loose_orders.specs.Following.{StepsOn};
+ghost use Rattle.loose_orders.specs.Kernel.{IsReady};
 ghost use Rattle.loose_orders.specs.Loose.{LeadAll, Loose, begun};
 ghost use Rattle.loose_orders.specs.declared.steps.Step.TheVariants as StepOf;
 
@@ -34,7 +35,7 @@ fn wants_frame(reply: Reply) -> bool
 }
 
 /// Tells whether a call's reply is the plain page map's, which goes on from there.
-fn is_plain<M: SlotMap, A: Allocator>(
+pub(crate) fn is_plain<M: SlotMap, A: Allocator>(
     auditor: &mut Auditor<M, A>,
     call: Call,
 ) -> Result<bool, NoMemory>
@@ -55,11 +56,13 @@ fn is_plain<M: SlotMap, A: Allocator>(
 }
 
 /// Tells whether the page that the request stores to gets a copy here, and makes it.
-fn is_copied<M: SlotMap, A: Allocator>(
+pub(crate) fn is_copied<M: SlotMap, A: Allocator>(
     auditor: &mut Auditor<M, A>,
     request: Request,
 ) -> Result<bool, NoMemory>
     ensures yes { result ≡ Ok true → CopiesFor (plain_of auditor.old) request (plain_of auditor.new) }
+    ensures no { result ≡ Ok false → IsReady (plain_of auditor.old) request }
+    ensures same { result ≡ Ok false → plain_of auditor.new ≡ plain_of auditor.old }
     ensures any_place { auditor.new.any_place ≡ auditor.old.any_place }
 {
     match request {
@@ -73,7 +76,7 @@ fn is_copied<M: SlotMap, A: Allocator>(
 }
 
 /// Tells whether a call has its reply in the plain page map, and lets it take effect.
-fn replies<M: SlotMap, A: Allocator>(
+pub(crate) fn replies<M: SlotMap, A: Allocator>(
     auditor: &mut Auditor<M, A>,
     kept: &mut Vec<Kept, A>,
     history: &[Timed],
@@ -94,7 +97,7 @@ fn replies<M: SlotMap, A: Allocator>(
 }
 
 /// Tells whether the page that a call stores to gets a copy here, and makes it.
-fn copies<M: SlotMap, A: Allocator>(
+pub(crate) fn copies<M: SlotMap, A: Allocator>(
     auditor: &mut Auditor<M, A>,
     kept: &[Kept],
     history: &[Timed],

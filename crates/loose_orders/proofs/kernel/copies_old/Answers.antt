@@ -1,0 +1,13 @@
+use Rattle.std.proofs.Common.{Ok, ap, ◌∙◌}
+use Rattle.audit.specs.Auditor.{plain_of}
+use Rattle.loose_orders.proofs.MoveLemmas.{copies_by}
+use Rattle.loose_orders.proofs.kernel.copies_old.Goals as goal
+
+pub returns-clause-yes : goal.returns-clause-yes
+returns-clause-yes g c = λ e.
+    copies_by c.args.auditor.now.any_place c.is_copied.new.auditor.any_place c.args.of c.args.page
+    (plain_of c.args.auditor.now) (plain_of c.protect.new.auditor) (plain_of c.is_copied.new.auditor)
+    (plain_of c.protect-2.new.auditor) c.args.kept.now c.in-Some.old c.args.new c.args.call.now
+    (c.in_ok-goes.ensures.any_place ∙ c.in_ok-is_old.ensures.any_place)
+    c.in-Some.ensures (c.in_ok-is_old.ensures.yes (ap Ok c.if-not-is_old.false))
+    (c.in_ok-goes.ensures.yes (ap Ok c.if-not-goes.false)) (c.in_ok-is_new.ensures.yes e)
