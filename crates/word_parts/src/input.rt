@@ -1,7 +1,6 @@
 //! What a trace is read from: standard input, or a file. And where an order is written to.
-ghost use Rattle.std.specs.Prelude.{◌≡◌, ℕ, List, Ok, Some, IfOk, option_map, ⊤};
-ghost use Rattle.either.specs.declared.Either.{Either};
-ghost use Rattle.word_parts.specs.Input.{NamesStandard};
+ghost use Rattle.std.specs.Prelude.{ℕ, List, IfOk, IsSome, OnErr, option_map, ⊤};
+ghost use Rattle.word_parts.specs.Input.{IsInput, IsList, NamesStandard};
 
 use either::Either;
 use std::fs::File;
@@ -62,10 +61,9 @@ pub fn input<I: Read + Drop, F: Files>(
     standard: I,
     name: Option<&str>,
 ) -> io::Result<Either<I, F::Open>>
-    ensures standard { NamesStandard (option_map (λ n. n.now) name.entry) → result ≡ Ok (Either.Left standard) }
-    ensures file { (path : List ℕ) → option_map (λ n. n.now) name.entry ≡ Some path
-        → (NamesStandard (Some path) → ⊥)
-        → IfOk result (λ i. (file : F.Open) × (i ≡ Either.Right file) × F.opens files.now path file) }
+    ensures ok { IfOk result (λ i. IsInput standard (λ path file. F.opens files.now path file)
+        (option_map (λ n. n.now) name.entry) i) }
+    ensures err { OnErr result (NamesStandard (option_map (λ n. n.now) name.entry) → ⊥) }
 {
     match name {
         None | Some("-") => Ok(Either::Left(standard)),
@@ -78,9 +76,9 @@ pub fn input<I: Read + Drop, F: Files>(
 
 /// The list of mappings that is named, or an empty one where none is. An `Err` is the file's: it can't be opened.
 pub fn list<F: Files>(files: &F, name: Option<&str>) -> io::Result<Either<Empty, F::Open>>
-    ensures none { name.entry ≡ None → IfOk result (λ i. (empty : Empty) × (i ≡ Either.Left empty)) }
-    ensures file { (path : List ℕ) → option_map (λ n. n.now) name.entry ≡ Some path
-        → IfOk result (λ i. (file : F.Open) × (i ≡ Either.Right file) × F.opens files.now path file) }
+    ensures ok { IfOk result (λ i. IsList {E = Empty} (λ path file. F.opens files.now path file)
+        (option_map (λ n. n.now) name.entry) i) }
+    ensures err { OnErr result (IsSome name.entry) }
 {
     match name {
         None => Ok(Either::Left(io::empty())),
