@@ -19,7 +19,6 @@ MOST_CODE = 1_500
 LARGER = {
     "core_steps": "steps made at once are methods of the engine, which another crate can't give it",
     "live_pages": "20 lines too many, until the set of free frames goes to frames",
-    "test_machine": "all of its tests share one way to make machines",
     "order_search": "a search whose insides are to be planned anew",
     "page_orders": "a judge whose insides are to be planned anew",
 }

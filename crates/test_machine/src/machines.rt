@@ -1,4 +1,4 @@
-//! Machines over both slot maps, moved event by event, and what a trace gives over each and by the program's replay.
+//! Machines over both slot maps, moved event by event, and what a trace gives over each.
 ghost use Rattle.std.specs.Prelude.{◌<◌};
 ghost use Rattle.slot_lock.specs.Slots.{IsNew};
 ghost use Rattle.core_steps.specs.Machine.{state};
@@ -11,15 +11,11 @@ use radix_range::RadixMap;
 use slot_lock::{MapLine, SlotList, SlotMap};
 use std::alloc::{Allocator, Global};
 use test_support::setups::declared;
-use trace::replay::replay;
-use trace_io::sink::TrackedSink;
-use trace_io::source::Counted;
 use trace_text::{
     LineText, address_text, number_text, read_line, write_answer, write_detach, write_map_line,
 };
 use trace_words::declaration::Declaration;
 use trace_words::outcome_text::write_outcome;
-use trace_words::show::Show;
 use vm_base::{CoreId, Entry, NoMemory};
 
 /// A machine as the program has it. It is named here alone.
@@ -200,17 +196,5 @@ pub fn lines_from(alloc: Global, text: &str, begin: &str) -> Result<String<Globa
             out.push_str("\n")?;
         }
     }
-    Ok(out)
-}
-
-/// What the program's replay gives.
-pub fn replayed(alloc: Global, trace: &str, show: Show) -> Result<String<Global>, NoMemory> {
-    let mut reader = Counted::new(trace.as_bytes());
-    let mut writer = TrackedSink::unbuffered(alloc, Vec::new(alloc));
-    if replay(alloc, &mut reader, &mut writer, show).is_err() {
-        return Err(NoMemory);
-    }
-    let text = str::from_utf8(writer.writer.get_ref()).unwrap_or("not UTF-8");
-    let out = String::from_str(alloc, text)?;
     Ok(out)
 }

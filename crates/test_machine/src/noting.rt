@@ -8,7 +8,6 @@ use radix_range::RadixMap;
 use seats::Noted;
 use slot_lock::SlotMap;
 use std::alloc::{Allocator, Global};
-use test_support::random::Random;
 use test_support::setups::declared;
 use trace_text::read_line;
 use vm_base::NoMemory;
@@ -70,14 +69,4 @@ fn noted_over<M: SlotMap + Drop, A: Allocator + Clone + Drop>(
 /// What a machine over the tree notes of a trace's steps.
 pub fn notes_of_lines(alloc: Global, trace: &str) -> Result<Vec<Noted, Global>, NoMemory> {
     noted_over(alloc, alloc, RadixMap::new(alloc)?, trace)
-}
-
-/// Puts notes in an order that looks random.
-pub fn shuffle(notes: &mut [Noted], random: &mut Random) {
-    for at in 1..notes.len() {
-        let other = (random.next() % (at as u64 + 1)) as usize;
-        let note = notes[at];
-        notes[at] = notes[other];
-        notes[other] = note;
-    }
 }
