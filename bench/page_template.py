@@ -7,22 +7,38 @@ import sys
 
 CRATE = pathlib.Path(__file__).resolve().parent.parent / "crates/state_changes"
 TEMPLATE = CRATE / "src/template.rt"
+# Bytes of a line of the file at the most.
+MOST = 150
+
+
+def bare(text):
+    """A style's or a script's lines, without comments that have lines of their own, empty lines and what lines are set in by."""
+    lines = (line.strip() for line in text.split("\n"))
+    return "".join(line + "\n" for line in lines if line and not line.startswith("//") and not (line.startswith("/*") and line.endswith("*/")))
 
 
 def constant(name, says, text):
-    """A constant with this text."""
-    escaped = text.replace("\\", "\\\\").replace('"', '\\"')
-    if not text.isascii() or max(map(len, escaped.split("\n"))) > 160:
-        sys.exit(f"bench/page_template.py: {name} has other letters than ASCII's, or a line of more than 160")
-    return f'/// {says}\npub const {name}: &str = "\\\n{escaped}";\n'
+    """A constant with this text. A line of the file goes on behind its backslash, where no space comes first."""
+    if not text.isascii():
+        sys.exit(f"bench/page_template.py: {name} has other letters than ASCII's")
+    rows, row = [], ""
+    for letter in text:
+        escaped = {"\\": "\\\\", '"': '\\"', "\n": "\\n"}.get(letter, letter)
+        if len(row) + len(escaped) > MOST and letter != " ":
+            rows.append(row)
+            row = ""
+        row += escaped
+    inner = "\\\n".join([*rows, row])
+    return f'/// {says}\npub const {name}: &str = "\\\n{inner}";\n'
 
 
 def template():
     """The file's text."""
-    front = (CRATE / "page.html").read_text().replace("/*page.css*/\n", (CRATE / "page.css").read_text())
-    back = f"</script>\n<script>\n{(CRATE / 'page.js').read_text()}</script>\n</body>\n</html>\n"
+    style = bare((CRATE / "page.css").read_text())
+    front = (CRATE / "page.html").read_text().replace("/*page.css*/\n", style)
+    back = f"</script>\n<script>\n{bare((CRATE / 'page.js').read_text())}</script>\n</body>\n</html>\n"
     return ("//! The page around its data, as bench/page_template.py makes it of page.html, page.css and page.js.\n\n"
-            + constant("FRONT", "What stands before the data.", front) + "\n" + constant("BACK", "What stands behind it.", back))
+            + constant("FRONT", "What comes before the data.", front) + "\n" + constant("BACK", "What comes after it.", back))
 
 
 def main():
