@@ -1,5 +1,5 @@
 -- What is so at each place between two
-use Rattle.slot_lock.proofs.Words.{◌≡◌, ◌≢◌, ◌==◌, ◌∙◌, ℕ, ◌+◌, ◌<◌, ◌≤◌, Bool, true, false, List, Option, None, Some, refl, subst, sym, eq_true, eq_false, arith}
+use Rattle.slot_lock.proofs.Words.{◌≡◌, ◌≢◌, ◌==◌, ◌∙◌, ℕ, ◌+◌, ◌<◌, ◌≤◌, Bool, true, false, List, Option, None, Some, ap, refl, subst, sym, eq_true, eq_false, arith}
 use Rattle.vm_base.specs.declared.replies.Reply.TheVariants.{Segv}
 use Rattle.vm_base.specs.declared.replies.SegvCode.{SegvCode}
 use Rattle.vm_base.specs.declared.replies.SegvCode.TheVariants.{AccErr}
@@ -55,28 +55,57 @@ pub none_more : {A : Type 0} (P : ℕ → A → Type 0) (a at : ℕ) (o : Option
     → ((c : A) → P at c → o ≡ Some c) → o ≡ None → (x : ℕ) → a < x → x < at + 1 → (c : A) → ¬ P x c
 none_more {A} P a at o before all is = one_more (λ (x : ℕ). (c : A) → ¬ P x c) a at before (λ c p. let amiss : Some c ≡ None = sym (all c p) ∙ is in absurd cc)
 
--- a refusal there would bind the access
-abbrev pub Free : List Timed → List Move → ℕ → Call → ℕ → Type 0
-Free h moves page call x = (c : Timed) → Sees h moves x page c → (code : SegvCode) → c.call.core ≡ call.core
-    → kind_of c.call.request ≡ kind_of call.request → ¬ (c.call.reply ≡ Segv code)
+-- something had ended at or behind place a, before place x, when a call began
+abbrev pub Ended : List Timed → List Move → ℕ → ℕ → ℕ → Type 0
+Ended h moves a x begin = (e : ℕ) × (d : Timed) × (a ≤ e) × (e < x) × IsAt h moves e d × (d.end < begin)
 
-pub free_none : (h : List Timed) (moves : List Move) (a at page : ℕ) (call : Call) (o : Option Timed) → ((x : ℕ) → a < x → x < at → Free h moves page call x)
-    → ((c : Timed) → Sees h moves at page c → o ≡ Some c) → o ≡ None → (x : ℕ) → a < x → x < at + 1 → Free h moves page call x
-free_none h moves a at page call o before all is =
-    one_more (Free h moves page call) a at before (λ c s code x y z. let amiss : Some c ≡ None = sym (all c s) ∙ is in absurd cc)
+-- no refusal there binds the access
+abbrev pub Free : List Timed → List Move → ℕ → ℕ → Call → ℕ → Type 0
+Free h moves a page call x = (c : Timed) → Sees h moves x page c → (code : SegvCode) → c.call.core ≡ call.core
+    → kind_of c.call.request ≡ kind_of call.request → c.call.reply ≡ Segv code → ¬ Ended h moves a x c.begin
 
-pub free_one : (h : List Timed) (moves : List Move) (a at page : ℕ) (call : Call) (by : Timed) (o : Option Timed) (b : Bool)
-    → ((x : ℕ) → a < x → x < at → Free h moves page call x) → ((c : Timed) → Sees h moves at page c → o ≡ Some c) → o ≡ Some by
+-- nothing at or behind place a had ended before this time
+abbrev pub Lasts : List Timed → List Move → ℕ → ℕ → ℕ → Type 0
+Lasts h moves a ended e = (d : Timed) → a ≤ e → IsAt h moves e d → ended ≤ d.end
+
+pub binds_not : (h : List Timed) (moves : List Move) (place page ended : ℕ) (call : Call) (by : Timed) (o : Option Timed) (b : Bool)
+    → ((c : Timed) → Sees h moves place page c → o ≡ Some c) → o ≡ Some by
     → ((code : SegvCode) → by.call.core ≡ call.core → kind_of by.call.request ≡ kind_of call.request → by.call.reply ≡ Segv code → b ≡ true)
-    → b ≡ false → (x : ℕ) → a < x → x < at + 1 → Free h moves page call x
-free_one h moves a at page call by o b before all is binds not =
-    one_more (Free h moves page call) a at before (λ c s. subst there (same_one o by c is (all c s)) here)
-  where
-    there : Timed → Type 0
-    there d = (code : SegvCode) → d.call.core ≡ call.core → kind_of d.call.request ≡ kind_of call.request → ¬ (d.call.reply ≡ Segv code)
+    → b ≡ false → (c : Timed) (code : SegvCode) → Sees h moves place page c → c.call.core ≡ call.core
+    → kind_of c.call.request ≡ kind_of call.request → c.call.reply ≡ Segv code → c.begin ≤ ended
+binds_not h moves place page ended call by o b all is binds not c code s =
+    subst (λ (d : Timed). d.call.core ≡ call.core → kind_of d.call.request ≡ kind_of call.request → d.call.reply ≡ Segv code → d.begin ≤ ended)
+    (same_one o by c is (all c s)) (λ x y z. let yes : b ≡ true = binds code x y z in absurd cc)
 
-    here : there by
-    here code x y z = let yes : b ≡ true = binds code x y z in absurd cc
+pub begun_before : (h : List Timed) (moves : List Move) (place page ended : ℕ) (by : Timed) (o : Option Timed)
+    → ((c : Timed) → Sees h moves place page c → o ≡ Some c) → o ≡ Some by → by.begin ≤ ended → (c : Timed) → Sees h moves place page c → c.begin ≤ ended
+begun_before h moves place page ended by o all is l c s = subst (λ (d : Timed). d.begin ≤ ended) (same_one o by c is (all c s)) l
+
+pub free_more : (h : List Timed) (moves : List Move) (a at page ended : ℕ) (call : Call) → ((x : ℕ) → a < x → x < at → Free h moves a page call x)
+    → ((e : ℕ) → e < at → Lasts h moves a ended e)
+    → ((c : Timed) (code : SegvCode) → Sees h moves at page c → c.call.core ≡ call.core → kind_of c.call.request ≡ kind_of call.request
+    → c.call.reply ≡ Segv code → c.begin ≤ ended)
+    → (x : ℕ) → a < x → x < at + 1 → Free h moves a page call x
+free_more h moves a at page ended call before lasts here =
+    one_more (Free h moves a page call) a at before (λ c s code x y z w.
+    let begun : c.begin ≤ ended = here c code s x y z in
+    let end : ended ≤ w.1.end = lasts w.0 w.3 w.1 w.2 w.4 in
+    let over : w.1.end < c.begin = w.5 in omega (arith, begun, end, over))
+
+pub lasts_more : (h : List Timed) (moves : List Move) (a at ended end now : ℕ) → ((e : ℕ) → e < at → Lasts h moves a ended e)
+    → ((c : Timed) → IsAt h moves at c → end ≤ c.end) → now ≤ ended → now ≤ end → (e : ℕ) → e < at + 1 → Lasts h moves a now e
+lasts_more h moves a at ended end now before here f g e less = go (e == at) refl
+  where
+    go : (b : Bool) → (e == at) ≡ b → Lasts h moves a now e
+    go true same d above it =
+        let l : end ≤ d.end = here d (subst (λ (x : ℕ). IsAt h moves x d) (eq_true e at same) it) in omega (arith, l, g)
+    go false same d above it =
+        let ne : e ≢ at = eq_false e at same in
+        let l : ended ≤ d.end = before e (omega (arith, less, ne)) d above it in omega (arith, l, f)
+
+pub lasts_first : (h : List Timed) (moves : List Move) (a end : ℕ) → ((c : Timed) → IsAt h moves a c → end ≤ c.end) → (e : ℕ) → e < a + 1 → Lasts h moves a end e
+lasts_first h moves a end here e less d above it =
+    let same : e ≡ a = omega (arith, less, above) in here d (subst (λ (x : ℕ). IsAt h moves x d) same it)
 
 -- the place from which the page is new isn't before the change
 from_change : (h : List Timed) (moves : List Move) (a page m : ℕ) (request : Request) → IsNew h moves a page request m → a ≤ m
@@ -88,12 +117,13 @@ from_change h moves a page m (Store addr byte) e = omega (arith, e)
 from_change h moves a page m (Fetch addr) e = omega (arith, e)
 
 pub unbound : (h : List Timed) (moves : List Move) (a now at page : ℕ) (request : Request) (call : Call) → now ≤ at
-    → ((x : ℕ) → a < x → x < at → Free h moves page call x) → ¬ IsBound h moves a now page request call
+    → ((x : ℕ) → a < x → x < at → Free h moves a page call x) → ¬ IsBound h moves a now page request call
 unbound h moves a now at page request call end free b =
     let new : a ≤ b.new = from_change h moves a page b.new request b.is_new in
-    let above : a < b.refused = omega (arith, new, b.first, b.second) in
+    let past : a ≤ b.ended = omega (arith, new, b.first) in
+    let above : a < b.refused = omega (arith, past, b.second) in
     let below : b.refused < at = omega (arith, b.third, end) in
-    free b.refused above below b.by b.sees b.code b.core b.kind b.segv
+    free b.refused above below b.by b.sees b.code b.core b.kind b.segv (b.ended, b.past, past, b.second, b.is_past, b.began)
 
 -- ---- a fetch that was refused
 
@@ -108,3 +138,13 @@ is_fetch (Fetch addr) e = (addr, refl)
 pub fetch_lags : (moving : Bool) (h : List Timed) (moves : List Move) (a k page : ℕ) (request : Request) (c : Call) → kind_of c.request ≡ Some By.Fetch
     → c.reply ≡ Segv AccErr → MayLag moving h moves a k page request c
 fetch_lags moving h moves a k page request c kind code = let f = is_fetch c.request kind in fetch f.0 f.1 code
+
+-- ---- of one place
+
+pub ends_there : (o : Option Timed) (one c : Timed) → o ≡ Some one → o ≡ Some c → one.end ≤ c.end
+ends_there o one c e f =
+    let same : one ≡ c = same_one o one c e f in
+    let ends : one.end ≡ c.end = ap (λ (d : Timed). d.end) same in omega (arith, ends)
+
+pub none_there : {A : Type 0} (o : Option Timed) (c : Timed) → o ≡ None → o ≡ Some c → A
+none_there o c e f = let amiss : Some c ≡ None = sym f ∙ e in absurd cc

@@ -7,6 +7,7 @@ pub mod KeptLemmas
 pub mod FoundLemmas
 pub mod BetweenLemmas
 pub mod BehindLemmas
+pub mod KernelLemmas
 pub mod MoveLemmas
 pub mod AtomicLemmas
 mod Examples

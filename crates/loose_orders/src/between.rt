@@ -1,5 +1,5 @@
 //! What comes between a change and an access of an order that may be late to it.
-ghost use Rattle.std.specs.Prelude.{◌≡◌, ◌<◌, ◌^◌, IfSome, Some, true};
+ghost use Rattle.std.specs.Prelude.{◌≡◌, ◌<◌, ◌≤◌, ◌^◌, IfSome, Some, false, true};
 ghost use Rattle.vm_base.specs.declared.replies.Reply.TheVariants as ReplyOf;
 ghost use Rattle.vm_base.specs.declared.replies.SegvCode.{SegvCode as Code};
 ghost use Rattle.vm_base.specs.declared.requests.Request.{Request as RequestType};
@@ -193,7 +193,51 @@ fn binds(by: &Call, call: &Call) -> bool
     is_kind && is_refused && by.core == call.core
 }
 
-/// Tells whether between two places nothing binds an access of the page. `false` says nothing: what was refused may have begun too early to bind.
+/// A time at which nothing at this place had ended, if something is there.
+fn end_at(history: &[Timed], moves: &[Move], place: usize) -> u64
+    ensures { (c : TimedType) → IsAt history.now moves.now place c → result ≤ c.end }
+{
+    match timed_at(history, moves, place) {
+        Some(one) => one.end,
+        None => u64::MAX,
+    }
+}
+
+/// The earlier one of two times.
+fn earlier(a: u64, b: u64) -> u64
+    ensures first { result ≤ a }
+    ensures second { result ≤ b }
+{
+    a.min(b)
+}
+
+/// Tells whether at this place the list refuses an access that binds another one, where something ended at this time.
+fn binds_at(
+    history: &[Timed],
+    moves: &[Move],
+    place: usize,
+    page: u64,
+    call: &Call,
+    ended: u64,
+) -> bool
+    ensures { (c : TimedType) (code : Code) → result ≡ false → Sees history.now moves.now place page c → c.call.core ≡ call.now.core
+        → kind_of c.call.request ≡ kind_of call.now.request → c.call.reply ≡ ReplyOf.Segv code → c.begin ≤ ended }
+{
+    let Some(by) = seen_by(history, moves, place, page) else {
+        return false;
+    };
+    if !binds(&by.call, call) {
+        return false;
+    }
+    let begun = by.begin;
+    if begun <= ended {
+        return false;
+    }
+    true
+}
+
+/// Tells whether between two places nothing binds an access of the page. `false` says nothing of one behind `mprotect`: a refusal may have begun
+/// before the page was seen new.
 pub(crate) fn is_free(
     history: &[Timed],
     moves: &[Move],
@@ -207,12 +251,13 @@ pub(crate) fn is_free(
     if place >= now {
         return true;
     }
+    let mut ended = end_at(history, moves, place);
     'between: for at in place + 1..now {
-        if let Some(by) = seen_by(history, moves, at, page) {
-            if binds(&by.call, call) {
-                return false;
-            }
+        if binds_at(history, moves, at, page, call, ended) {
+            return false;
         }
+        let end = end_at(history, moves, at);
+        ended = earlier(ended, end);
     }
     true
 }

@@ -7,7 +7,7 @@
 //! - `moves`, `kernel`, `between`, `behind`: the same by the rule that kernels keep (specs/Kernel.antt).
 //!
 //! It exists for `following::follow` and `obeying::obey`, whether given steps or moves are such an order, and
-//! `laws::orders_are_loose`. It searches nothing.
+//! `laws`. It searches nothing.
 #![tactic(auto)]
 
 mod behind;

@@ -45,8 +45,8 @@ fn uses_of<A: Allocator + Clone + Drop>(
 }
 
 /// Tells whether the moves are an order of the history's calls by the kernels' rule, from the auditor's plain page map on; with `moving`, threads
-/// may move between cores. `false` says nothing: an access isn't followed behind a refusal that may bind its core, nor behind an `mprotect` that was
-/// refused. `Err` says that memory was refused. The auditor is used up.
+/// may move between cores. `false` says nothing: behind `mprotect` a refusal is taken to bind its core though it may have begun before the page was
+/// seen new, and no access is followed behind an `mprotect` that was refused. `Err` says that memory was refused. The auditor is used up.
 pub fn obey<M: SlotMap, A: Allocator + Clone + Drop>(
     alloc: A,
     auditor: &mut Auditor<M, A>,
