@@ -87,4 +87,5 @@ def main():
     print(f"{CRATE / 'out/tsan'} and {CRATE / 'out/relaxed'}: {exchanges} exchanges and {stores} stores are relaxed in the second")
 
 
-main()
+if __name__ == "__main__":
+    main()

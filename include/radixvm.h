@@ -26,6 +26,16 @@
  * RADIXVM_IDLE. With one core RADIXVM_FLUSH is never RADIXVM_IDLE, since one that finds no count ends an epoch: make
  * it once for each frame that was unmapped and three times more, and then RADIXVM_REVIEW until it is RADIXVM_IDLE.
  *
+ * Kernels: libradixvm-kernel.a is the same library for code without a C library. It uses no register of floating point, MMX
+ * or SSE, and no red zone. Its names are those of the functions below that aren't inline. It calls memcpy, memmove, memset and
+ * three functions of memory, which you write. In other programs you may write these three too: otherwise those of
+ * libradixvm.a are linked, which call malloc, realloc and free.
+ *     struct piece { uint64_t is_there; void *at; };       is_there: 1, or 0 if there is no memory; `at` is never null
+ *     struct piece rattle_alloc(size_t size, size_t align);     align: 16 at the most
+ *     struct piece rattle_realloc(void *at, size_t old_size, size_t size, size_t align);     0: the old piece stays
+ *     void rattle_dealloc(void *at);
+ * A call uses at most 6400 bytes of stack, and radixvm_new 21000: so much was measured, and none of it is proved.
+ *
  * Threads: the library has no static state. Threads may call it at the same time if each has its own buffers,
  * machines and seats. You may hand a machine or a seat to another thread as you hand over any plain object:
  * through a lock, or when a thread starts or ends. Only one call at a time may use a machine or a seat.
@@ -43,7 +53,7 @@
 #include <stdint.h>
 #ifdef _WIN32
 #include <windows.h>
-#else
+#elif !defined __STDC_HOSTED__ || __STDC_HOSTED__
 #include <sched.h>
 #endif
 
@@ -395,7 +405,7 @@ static inline void radixvm_relax(uint32_t tries) {
 #endif
 #ifdef _WIN32
     SwitchToThread();
-#else
+#elif !defined __STDC_HOSTED__ || __STDC_HOSTED__
     sched_yield();
 #endif
 }
