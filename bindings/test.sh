@@ -2,7 +2,8 @@
 # Compiles the header and the examples of bindings/ over libradixvm.a (`./radixvm --build-library`), the C side with the
 # sanitizers of addresses and of undefined behaviour, by gcc and by clang, and runs them: a page-table walker beside batches and beside a
 # machine that is kept, kept machines beside batches, logs beside what was told, a shadow checker with and without a bug, what is out of
-# range and memory that is refused, the worked rows of crates/test_words, examples/, random traces and their logs beside the program where it
+# range and memory that is refused, cores whose MMU obeys the library (random ones, examples/mmu, and examples/kernel-on-radixvm where QEMU is),
+# how much stack a call takes, the worked rows of crates/test_words, examples/, random traces and their logs beside the program where it
 # is built, and the Rust crate's tests and its walkers where there is cargo. 1 to 64 threads share a machine: each one's notes beside the log,
 # the log beside a new machine and beside `audit`, with memory refused, under valgrind where that is here, and under ThreadSanitizer where
 # bindings/tsan.py left an instrumented library. A program is recorded by bindings/preload.c, also one that is killed half-way. SEEDS, 20 where it isn't given, is how many walks, and how many random traces of each kind,
@@ -61,13 +62,21 @@ walk() { # NAME
 
 try_with() { # COMPILER
     echo "-- C programs by $1"
-    for name in walker beside kept log shadow bad trace seats threads; do compile "$1" $name $name; done
+    for name in walker beside kept log shadow bad trace seats threads outside; do compile "$1" $name $name; done
     compile "$1" bad refused -DREFUSE -Wno-pedantic -Wl,--wrap=malloc,--wrap=realloc
     compile "$1" refused_threads refused_threads -Wno-pedantic -Wl,--wrap=malloc,--wrap=realloc
     walk walker
     walk beside
     walk kept
     walk log
+    walk outside
+    for bug in 1 2 3; do
+        if "$work/outside" 1 $bug > "$work/out"; then
+            echo "bindings/test.sh: error $bug of a real MMU's handler wasn't found" >&2
+            exit 1
+        fi
+    done
+    echo "outside: each of 3 errors of a handler was found"
     "$work/shadow"
     if "$work/shadow" bug > "$work/out"; then
         echo "bindings/test.sh: the shadow checker didn't find the bug" >&2
@@ -92,6 +101,9 @@ share() { # NAME
     "$work/$1" 1 8 20000
     echo "$1: $seeds seeds, 1 to 64 threads of 300 calls; each log has what the threads noted, and is replied again"
 }
+# How much stack a call takes, which is that of the library without a sanitizer.
+${CC:-cc} -std=c11 -O1 -pthread -I "$include" "$top/bindings/c/stack.c" "$library/libradixvm.a" -o "$work/stack"
+"$work/stack"
 compilers=${CC:-$(for compiler in clang gcc; do command -v $compiler > /dev/null && echo $compiler; done)}
 for compiler in ${compilers:-cc}; do try_with $compiler; done
 for way in "" kept; do
@@ -140,6 +152,8 @@ if [ -x "$program" ]; then
     fi
 fi
 echo "recorder: threads, a fork, and a program that was killed"
+RADIXVM_LIBRARY=$library RADIXVM_PROGRAM=$program RADIXVM_INCLUDE=$include "$top/examples/mmu/try.sh" 5000
+RADIXVM_LIBRARY=$library RADIXVM_PROGRAM=$program RADIXVM_INCLUDE=$include "$top/examples/kernel-on-radixvm/try.sh" 1000
 if command -v valgrind > /dev/null; then
     ${CC:-cc} -std=c11 -O1 -g -pthread -I "$include" "$top/bindings/c/threads.c" "$library/libradixvm.a" -o "$work/plain"
     valgrind -q --error-exitcode=1 --leak-check=full --fair-sched=yes "$work/plain" 1 8 200
