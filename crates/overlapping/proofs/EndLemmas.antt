@@ -17,13 +17,13 @@ use Rattle.overlapping.specs.Rulings.{IsRuling}
 use Rattle.overlapping.specs.declared.judging.Ruled.{Ruled}
 
 pub judges_all : {A : Type 0} (any_place : Bool) (input text : List ℕ) (old new : Option (List ℕ)) (ruled : Ruled A)
-    → IsRuling any_place (lines_of input) ruled.ruling → IsExplained any_place (lines_of input) ruled.explanation.items
+    → IsRuling any_place (lines_of input) ruled.ruling → IsExplained any_place (lines_of input) ruled.ruling ruled.explanation.items
     → text ≡ ruling_text ruled.ruling ++ ruled.explanation.items → Appends old new text → JudgementEnds any_place input old new (Ok ruled)
 judges_all any_place input text old new ruled v x e w =
     record { is = v; explanation = ruled.explanation.items; explained = x; written = subst (Appends old new) e w }
 
 pub breaks_off : {A : Type 0} (any_place : Bool) (input text : List ℕ) (old new : Option (List ℕ)) (ruled : Ruled A) (f : HistoryFault)
-    → f ≡ Io WriteFailed → IsRuling any_place (lines_of input) ruled.ruling → IsExplained any_place (lines_of input) ruled.explanation.items
+    → f ≡ Io WriteFailed → IsRuling any_place (lines_of input) ruled.ruling → IsExplained any_place (lines_of input) ruled.ruling ruled.explanation.items
     → text ≡ ruling_text ruled.ruling ++ ruled.explanation.items → AppendsFront old new text
     → JudgementEnds {A = A} any_place input old new (Err f)
 breaks_off {A} any_place input text old new ruled f is v x e w =

@@ -1,5 +1,5 @@
 -- What an order that was checked says of a history
-use Rattle.std.proofs.Common.{◌≡◌, ◌∙◌, ℕ, zero, suc, ◌+◌, ◌⊎◌, inl, inr, Bool, true, false, List, [], ◌∷◌, ◌++◌, Option, None, Some, append-nil, ap, arith, length, refl, slice_get, subst, sym}
+use Rattle.std.proofs.Common.{◌≡◌, ◌∙◌, ℕ, zero, suc, ◌+◌, ◌<◌, ◌⊎◌, inl, inr, Bool, true, false, List, [], ◌∷◌, ◌++◌, Option, None, Some, append-nil, ap, arith, length, refl, slice_get, subst, sym}
 use Rattle.vm_base.specs.declared.replies.Reply.{Reply}
 use Rattle.vm_base.specs.Plain.{Plain, nothing_mapped}
 use Rattle.vm_base.specs.Places.{PlaceRule}
@@ -15,6 +15,7 @@ use Rattle.orders_text.specs.History.{IsHistory, Read, all_open, completed, repl
 use Rattle.orders_text.specs.declared.clock.PendingCall.{PendingCall}
 use Rattle.orders_text.specs.Steps.{read_of}
 use Rattle.orders_text.specs.declared.reading.History.{History}
+use Rattle.cores.specs.Cores.{IsCore}
 use Rattle.cores.specs.Shown.{IsShown}
 use Rattle.cores.specs.declared.finding.Core.{Core}
 use Rattle.core_text.specs.Told.{core_text}
@@ -24,7 +25,7 @@ use Rattle.overlapping.specs.declared.judging.Ruling.TheVariants.{Legal, NoOrder
 use Rattle.overlapping.specs.declared.judging.Told.{Told}
 use Rattle.overlapping.specs.declared.judging.Shown.{Shown}
 use Rattle.overlapping.specs.declared.judging.Shown.TheVariants as By
-use Rattle.overlapping.specs.Explained.{IsDisorder, IsExplanation, IsTold, IsWhole, ShowsNone}
+use Rattle.overlapping.specs.Explained.{Explains, IsDisorder, IsTold, IsWhole, IsWholeOrLong, ShowsNone}
 use Rattle.overlapping.specs.Rulings.{HasNone, IsLegal, IsRuling, IsUnordered}
 use Rattle.overlapping.specs.Waiting.{NoneWaits}
 
@@ -84,68 +85,76 @@ unordered_there any_place lines r number line c none at is h =
 
 -- ---- what is told
 
-bare_told : {A : Type 0} (any_place : Bool) (lines : List (List ℕ)) (r : Read) (told : Told A) (ruling : Ruling) → told.ruling ≡ ruling
-    → told.explanation.items ≡ [] → ((ls : List (List ℕ)) → IsHistory ls r → IsRuling any_place ls ruling) → IsTold any_place lines r told
-bare_told any_place lines r told ruling e f h = record {
-  ruling = λ ls is. subst (λ (x : Ruling). IsRuling any_place ls x) (sym e) (h ls is);
-  explained = inl f;
+told_so : {A : Type 0} (any_place : Bool) (lines : List (List ℕ)) (r : Read) (told : Told A) (ruling : Ruling) → told.ruling ≡ ruling
+    → Explains any_place lines r ruling told.explanation.items → ((ls : List (List ℕ)) → IsHistory ls r → IsRuling any_place ls ruling)
+    → IsTold any_place lines r told
+told_so any_place lines r told ruling e x h = record {
+  ruling = λ ls is. subst (λ (y : Ruling). IsRuling any_place ls y) (sym e) (h ls is);
+  explained = subst (λ (y : Ruling). Explains any_place lines r y told.explanation.items) (sym e) x;
 }
 
 pub undecided_bare : {A : Type 0} (any_place : Bool) (lines : List (List ℕ)) (r : Read) (told : Told A) (line : ℕ)
     → (told.ruling ≡ Undecided line) × (told.explanation.items ≡ []) → IsTold any_place lines r told
-undecided_bare any_place lines r told line e = bare_told any_place lines r told (Undecided line) e.0 e.1 (λ ls is. (r, is))
+undecided_bare any_place lines r told line e = told_so any_place lines r told (Undecided line) e.0 e.1 (λ ls is. (r, is))
 
 pub legal_bare : {A : Type 0} (any_place : Bool) (lines : List (List ℕ)) (r : Read) (told : Told A) (replies : ℕ → Reply) (n : ℕ)
     → (told.ruling ≡ Legal n) × (told.explanation.items ≡ []) → n ≡ length r.calls
     → HasOrder (rule_of any_place) (first_map r.declared) (completed replies r) → IsTold any_place lines r told
 legal_bare any_place lines r told replies n e count order =
-    bare_told any_place lines r told (Legal n) e.0 e.1 (λ ls is. legal_there any_place ls r replies n count order is)
+    told_so any_place lines r told (Legal n) e.0 e.1 (λ ls is. legal_there any_place ls r replies n count order is)
 
 pub whole_there : {A : Type 0} (history : History A) (any_place : Bool) (files : List (FileSpec A)) (calls : List Timed) (numbers : List ℕ)
     (lines : List (List ℕ)) (told : List ℕ) → files ≡ history.declaration.files.items → calls ≡ history.calls.items → numbers ≡ history.lines.items
-    → IsStory (rule_of any_place) (nothing_mapped (given_files files)) calls lines numbers told → IsWhole any_place lines (read_of history) told
+    → IsStory (rule_of any_place) (nothing_mapped (given_files files)) calls lines numbers told → IsWholeOrLong any_place lines (read_of history) told
 whole_there {A} history any_place files calls numbers lines told e f g is =
     let first : nothing_mapped (given_files files) ≡ first_map (read_of history).declared =
     ap (λ (fs : List (FileSpec A)). nothing_mapped (given_files fs)) e ∙ ap nothing_mapped (same_files history.declaration.files.items) in
-    subst (λ (t : Plain). IsStory (rule_of any_place) t history.calls.items lines history.lines.items told) first
+    inl (subst (λ (t : Plain). IsStory (rule_of any_place) t history.calls.items lines history.lines.items told) first
     (subst (λ (cs : List Timed). IsStory (rule_of any_place) (nothing_mapped (given_files files)) cs lines history.lines.items told) f
-    (subst (λ (ns : List ℕ). IsStory (rule_of any_place) (nothing_mapped (given_files files)) calls lines ns told) g is))
+    (subst (λ (ns : List ℕ). IsStory (rule_of any_place) (nothing_mapped (given_files files)) calls lines ns told) g is)))
+
+pub long_there : {A : Type 0} (history : History A) (any_place : Bool) (numbers : List ℕ) (lines : List (List ℕ)) (told : List ℕ)
+    → numbers ≡ history.lines.items → told ≡ [] → 12 < length numbers → IsWholeOrLong any_place lines (read_of history) told
+long_there history any_place numbers lines told e none long = inr (none, subst (λ (ns : List ℕ). 12 < length ns) e long)
+
+pub whole_or_nothing : (any_place : Bool) (lines : List (List ℕ)) (r : Read) (told : List ℕ) → IsWholeOrLong any_place lines r told
+    → (told ≡ []) ⊎ IsWhole any_place lines r told
+whole_or_nothing any_place lines r told (inl whole) = inr whole
+whole_or_nothing any_place lines r told (inr long) = inl long.0
 
 pub unordered_whole : {A : Type 0} (any_place : Bool) (lines : List (List ℕ)) (r : Read) (told : Told A) (number line : ℕ) (c : Timed)
-    → told.ruling ≡ NoOrder line c.call.reply → (told.explanation.items ≡ []) ⊎ IsWhole any_place lines r told.explanation.items → HasNone any_place r
+    → told.ruling ≡ NoOrder line c.call.reply → IsWholeOrLong any_place lines r told.explanation.items → HasNone any_place r
     → slice_get r.lines number ≡ Some line → slice_get r.calls number ≡ Some c → IsTold any_place lines r told
-unordered_whole any_place lines r told number line c e x none at is = record {
-  ruling = λ ls h. subst (λ (y : Ruling). IsRuling any_place ls y) (sym e) (unordered_there any_place ls r number line c none at is h);
-  explained = by x;
-}
-  where
-    by : (told.explanation.items ≡ []) ⊎ IsWhole any_place lines r told.explanation.items
-        → (told.explanation.items ≡ []) ⊎ (IsWhole any_place lines r told.explanation.items ⊎ IsExplanation any_place lines r told.explanation.items)
-    by (inl none_told) = inl none_told
-    by (inr all) = inr (inl all)
+unordered_whole any_place lines r told number line c e x none at is = told_so any_place lines r told (NoOrder line c.call.reply) e
+    (record { number = number; call = c; is_call = is; is_line = at; explains = inr x })
+    (λ ls h. unordered_there any_place ls r number line c none at is h)
 
 pub unordered_by : {A : Type 0} (any_place : Bool) (lines : List (List ℕ)) (r : Read) (told : Told A) (number line : ℕ) (c : Timed) (core : Core A)
-    → told.ruling ≡ NoOrder line c.call.reply → told.explanation.items ≡ core_text lines r.lines core.number core.kept.items
+    → told.ruling ≡ NoOrder line c.call.reply → core.cut ≡ c.end → told.explanation.items ≡ core_text lines r.lines core.number core.kept.items
     → HasNone any_place r × IsShown any_place r.calls core → slice_get r.lines number ≡ Some line → slice_get r.calls number ≡ Some c
     → IsTold any_place lines r told
-unordered_by any_place lines r told number line c core e text shown at is = record {
-  ruling = λ ls h. subst (λ (x : Ruling). IsRuling any_place ls x) (sym e) (unordered_there any_place ls r number line c shown.0 at is h);
-  explained = inr (inr (record {
-    pages = core.pages;
-    number = core.number;
-    first = core.first;
-    start = core.start;
-    built = core.built;
-    cut = core.cut;
-    kept = core.kept.items;
-    seen = shown.1.seen;
-    sees = shown.1.sees;
-    is = shown.1.shown.is;
-    files = shown.1.shown.files;
-    alone = shown.1.shown.alone;
-    text = text;
-  }));
-}
+unordered_by any_place lines r told number line c core e until text shown at is = told_so any_place lines r told (NoOrder line c.call.reply) e
+    (record {
+      number = number;
+      call = c;
+      is_call = is;
+      is_line = at;
+      explains = inl (record {
+        pages = core.pages;
+        number = core.number;
+        first = core.first;
+        start = core.start;
+        built = core.built;
+        kept = core.kept.items;
+        seen = shown.1.seen;
+        sees = shown.1.sees;
+        is = subst (λ (cut : ℕ). IsCore shown.1.seen core.pages core.number core.first core.start core.built cut core.kept.items) until shown.1.shown.is;
+        files = shown.1.shown.files;
+        alone = shown.1.shown.alone;
+        text = text;
+      });
+    })
+    (λ ls h. unordered_there any_place ls r number line c shown.0 at is h)
 
 -- where none waits, and a core shows that they have none
 pub core_there : {A : Type 0} (history : History A) (any_place : Bool) (calls : List Timed) (core : Core A)

@@ -25,7 +25,7 @@ ruling_text (Undecided line) = codes "undecided " ++ decimal line ++ codes "\n"
 pub record Judges (any_place : Bool) (input : List ℕ) (old new : Option (List ℕ)) (ruling : Ruling) : Type 0 where
   pub is : IsRuling any_place (lines_of input) ruling
   pub explanation : List ℕ
-  pub explained : IsExplained any_place (lines_of input) explanation
+  pub explained : IsExplained any_place (lines_of input) ruling explanation
   pub written : Appends old new (ruling_text ruling ++ explanation)
 
 -- a front of it was
@@ -33,7 +33,7 @@ pub record Breaks (any_place : Bool) (input : List ℕ) (old new : Option (List 
   pub ruling : Ruling
   pub is : IsRuling any_place (lines_of input) ruling
   pub explanation : List ℕ
-  pub explained : IsExplained any_place (lines_of input) explanation
+  pub explained : IsExplained any_place (lines_of input) ruling explanation
   pub written : AppendsFront old new (ruling_text ruling ++ explanation)
 
 -- after a fault nothing was written, but after a failed write

@@ -11,7 +11,7 @@ ghost use Rattle.orders_text.specs.Faults.{IsAtFault};
 ghost use Rattle.orders_text.specs.History.{IsHistory, completed, replies_in};
 ghost use Rattle.orders_text.specs.Steps.{HasPlaces, read_of};
 ghost use Rattle.overlapping.specs.Rulings.{HasNone, IsRuling};
-ghost use Rattle.overlapping.specs.Explained.{IsDisorder, IsExplained, IsTold, IsWhole, ShowsNone};
+ghost use Rattle.overlapping.specs.Explained.{IsDisorder, IsExplained, IsTold, IsWhole, IsWholeOrLong, ShowsNone};
 
 use crate::found::{Order, search, waiting_core};
 use crate::given::given_order;
@@ -218,8 +218,28 @@ pub fn bare<A: Allocator + Clone + Drop>(alloc: &A, ruling: Ruling) -> Result<To
     })
 }
 
-/// What explains that a history has no order as a whole: its mappings and its lines, or nothing, where these aren't few.
-#[tactic(auto, using(crate::proofs::RuleLemmas::whole_there))]
+// What explains that a history has no order as a whole: its mappings and its lines, or nothing, where these are more than 12.
+#[tactic(auto, using(crate::proofs::RuleLemmas::whole_there, crate::proofs::RuleLemmas::long_there))]
+fn whole_text<A: Allocator + Clone + Drop>(
+    alloc: &A,
+    text: &[u8],
+    history: &History<A>,
+    any_place: bool,
+) -> Result<Vec<u8, A>, NoMemory>
+    requires { length history.now.declaration.files.items ≤ 16 }
+    ensures { IfOk result (λ told. IsWholeOrLong any_place (lines_of text.now) (read_of history.now) told.items) }
+{
+    let files = history.declaration.files.as_slice();
+    let calls = history.calls.as_slice();
+    let numbers = history.lines.as_slice();
+    match story(alloc, files, any_place, text, calls, numbers, FEW)? {
+        Some(explanation) => Ok(explanation),
+        None => Ok(Vec::new(alloc.clone()?)),
+    }
+}
+
+/// The same for other rules: its mappings and its lines, or nothing, where these aren't few.
+#[tactic(auto, using(crate::proofs::RuleLemmas::whole_or_nothing))]
 pub fn explain_whole<A: Allocator + Clone + Drop>(
     alloc: &A,
     text: &[u8],
@@ -230,13 +250,8 @@ pub fn explain_whole<A: Allocator + Clone + Drop>(
     ensures { IfOk result (λ told.
         (told.items ≡ []) ⊎ IsWhole any_place (lines_of text.now) (read_of history.now) told.items) }
 {
-    let files = history.declaration.files.as_slice();
-    let calls = history.calls.as_slice();
-    let numbers = history.lines.as_slice();
-    match story(alloc, files, any_place, text, calls, numbers, FEW)? {
-        Some(explanation) => Ok(explanation),
-        None => Ok(Vec::new(alloc.clone()?)),
-    }
+    let told = whole_text(alloc, text, history, any_place)?;
+    Ok(told)
 }
 
 // The ruling where no order was found by the end of this line's call.
@@ -261,13 +276,17 @@ fn rule_without<A: Allocator + Clone + Drop>(
     match show_disorder(alloc, history, any_place, place)? {
         Shown::Nothing => bare(alloc, Ruling::Undecided(line)),
         Shown::All => {
-            let explanation = explain_whole(alloc, text, history, any_place)?;
+            let explanation = whole_text(alloc, text, history, any_place)?;
             Ok(Told {
                 ruling: Ruling::NoOrder { line, reply },
                 explanation,
             })
         }
         Shown::Few(core) => {
+            // (so it is: calls are looked at until then)
+            if core.cut != timed.end {
+                return bare(alloc, Ruling::Undecided(line));
+            }
             let explanation = core_text(alloc, text, history.lines.as_slice(), &core)?;
             Ok(Told {
                 ruling: Ruling::NoOrder { line, reply },
@@ -327,7 +346,7 @@ fn rule<M: SlotMap + Drop, A: Allocator + Clone + Drop>(
     requires places { HasPlaces history }
     requires text { IsHistory (lines_of text.now) (read_of history) }
     ensures ruling { IfOk result (λ ruled. IsRuling any_place (lines_of text.now) ruled.ruling) }
-    ensures explained { IfOk result (λ ruled. IsExplained any_place (lines_of text.now) ruled.explanation.items) }
+    ensures explained { IfOk result (λ ruled. IsExplained any_place (lines_of text.now) ruled.ruling ruled.explanation.items) }
 {
     let order = match by {
         By::Search => search(alloc, &history, any_place)?,
@@ -359,7 +378,7 @@ pub fn judge_text<M: SlotMap + Drop, A: Allocator + Clone + Drop>(
 ) -> Result<Ruled<A>, HistoryFault>
     requires new { IsNew (M.slots map) }
     ensures ok { IfOk result (λ ruled. IsRuling any_place (lines_of text.now) ruled.ruling) }
-    ensures explained { IfOk result (λ ruled. IsExplained any_place (lines_of text.now) ruled.explanation.items) }
+    ensures explained { IfOk result (λ ruled. IsExplained any_place (lines_of text.now) ruled.ruling ruled.explanation.items) }
     ensures err { IfErr result (λ f. IsAtFault (lines_of text.now) f) }
 {
     let history = match read_history(alloc, text) {

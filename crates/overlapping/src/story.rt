@@ -1,11 +1,11 @@
 //! A history as a text: the mappings that its first calls leave, and the lines of the others.
-ghost use Rattle.std.specs.Prelude.{◌≡◌, ◌≤◌, ◌++◌, IfOk, IfSome, OnOk, length, true};
+ghost use Rattle.std.specs.Prelude.{◌≡◌, ◌<◌, ◌≤◌, ◌⊎◌, ◌++◌, IfNone, IfOk, IfSome, OnOk, length, take};
 ghost use Rattle.trace_io.specs.Lines.{lines_of};
 ghost use Rattle.vm_base.specs.Plain.{nothing_mapped};
 ghost use Rattle.frames.specs.Given.{given_files};
 ghost use Rattle.audit.specs.Auditor.{plain_of};
 ghost use Rattle.audit.specs.Placing.{rule_of};
-ghost use Rattle.overlapping.specs.Story.{BeganAfter, HasMappings, IsFront, IsStory, mappings_text, without_times};
+ghost use Rattle.overlapping.specs.Story.{AreWrong, HasMappings, IsStory, are_behind, first_mapped, is_mapped, mappings_text, most_first, without_times};
 ghost use Rattle.core_text.specs.Told.{numbered_text};
 
 use audit::{Auditor, Call};
@@ -21,40 +21,32 @@ use vm_base::{NoMemory, Reply};
 
 // Tells whether each of these calls began after this time.
 fn are_behind(end: u64, calls: &[Timed]) -> bool
-    ensures { result ≡ true → BeganAfter end calls.now }
+    ensures { result ≡ are_behind end calls.now }
 {
     let [first, rest @ ..] = calls else {
         return true;
     };
-    if first.begin <= end {
-        return false;
-    }
-    are_behind(end, rest)
+    end < first.begin && are_behind(end, rest)
+}
+
+fn is_mapped(reply: Reply) -> bool
+    ensures { result ≡ is_mapped reply }
+{
+    matches!(reply, Reply::Mapped(_))
 }
 
 // How many first calls there are that mapped pages, and each ended before all behind it began.
-fn count_first(calls: &[Timed]) -> usize {
-    for at in 0..calls.len() {
+fn first_mapped(calls: &[Timed]) -> usize
+    ensures { result ≡ first_mapped calls.now }
+{
+    'calls: for at in 0..calls.len() {
         let timed = calls[at];
-        let maps = matches!(timed.call.reply, Reply::Mapped(_));
-        if !maps || !are_behind(timed.end, &calls[at + 1..]) {
+        let is_first = is_mapped(timed.call.reply) && are_behind(timed.end, &calls[at + 1..]);
+        if !is_first {
             return at;
         }
     }
     calls.len()
-}
-
-// Tells whether each of the first calls ended before all behind it began, those of the rest too.
-fn is_front(first: &[Timed], rest: &[Timed]) -> bool
-    ensures { result ≡ true → IsFront first.now rest.now }
-{
-    let [timed, more @ ..] = first else {
-        return true;
-    };
-    if !are_behind(timed.end, more) || !are_behind(timed.end, rest) {
-        return false;
-    }
-    is_front(more, rest)
 }
 
 // Appends these calls, without their times.
@@ -75,8 +67,10 @@ fn mappings_behind<M: SlotMap, A: Allocator + Clone>(
     auditor: &mut Auditor<M, A>,
     first: &[Call],
 ) -> Result<Option<Vec<MapLine, A>>, NoMemory>
-    ensures { IfOk result (λ found. IfSome found (λ mappings.
+    ensures mapped { IfOk result (λ found. IfSome found (λ mappings.
         HasMappings (rule_of auditor.old.any_place) (plain_of auditor.old) first.now mappings.items)) }
+    ensures wrong { IfOk result (λ found. IfNone found
+        (AreWrong (rule_of auditor.old.any_place) (plain_of auditor.old) first.now)) }
 {
     match auditor.judge_all(first)? {
         Some(_) => Ok(None),
@@ -95,8 +89,10 @@ fn mappings_left<A: Allocator + Clone + Drop>(
     first: &[Call],
 ) -> Result<Option<Vec<MapLine, A>>, NoMemory>
     requires { length files.now ≤ 16 }
-    ensures { IfOk result (λ found. IfSome found (λ mappings.
+    ensures mapped { IfOk result (λ found. IfSome found (λ mappings.
         HasMappings (rule_of any_place) (nothing_mapped (given_files files.now)) first.now mappings.items)) }
+    ensures wrong { IfOk result (λ found. IfNone found
+        (AreWrong (rule_of any_place) (nothing_mapped (given_files files.now)) first.now)) }
 {
     let map = RadixMap::new(alloc.clone()?)?;
     let again = files_again(alloc, files)?;
@@ -119,8 +115,9 @@ fn push_mappings<A: Allocator>(out: &mut Vec<u8, A>, mappings: &[MapLine]) -> Re
     push_mappings(out, rest)
 }
 
-// Tells a history of a space with these files: the mappings that so many first calls leave, and the lines of the others, if each of these ended
-// before all behind it began, and their replies are the plain page map's.
+// Tells a history of a space with these files: the mappings that so many first calls leave, and the lines of the others, if the replies of these
+// are the plain page map's.
+#[tactic(auto, using(crate::proofs::StoryLemmas::few_first))]
 fn story_behind<A: Allocator + Clone + Drop>(
     alloc: &A,
     files: &[FileSpec<A>],
@@ -130,17 +127,17 @@ fn story_behind<A: Allocator + Clone + Drop>(
     numbers: &[u64],
     count: usize,
 ) -> Result<Option<Vec<u8, A>>, NoMemory>
-    requires { length files.now ≤ 16 }
-    ensures { IfOk result (λ found. IfSome found (λ told.
+    requires files { length files.now ≤ 16 }
+    requires few { count ≤ most_first calls.now numbers.now }
+    requires most { (count ≡ most_first calls.now numbers.now)
+        ⊎ AreWrong (rule_of any_place) (nothing_mapped (given_files files.now))
+        (without_times (take (most_first calls.now numbers.now) calls.now)) }
+    ensures told { IfOk result (λ found. IfSome found (λ told.
         IsStory (rule_of any_place) (nothing_mapped (given_files files.now)) calls.now
         (lines_of text.now) numbers.now told.items)) }
+    ensures wrong { IfOk result (λ found. IfNone found
+        (AreWrong (rule_of any_place) (nothing_mapped (given_files files.now)) (without_times (take count calls.now)))) }
 {
-    if count > calls.len() || count > numbers.len() {
-        return Ok(None);
-    }
-    if !is_front(&calls[..count], &calls[count..]) {
-        return Ok(None);
-    }
     let mut first = Vec::new(alloc.clone()?);
     push_calls(&mut first, &calls[..count])?;
     let Some(mappings) = mappings_left(alloc, files, any_place, first.as_slice())? else {
@@ -164,19 +161,25 @@ pub(crate) fn story<A: Allocator + Clone + Drop>(
     most: usize,
 ) -> Result<Option<Vec<u8, A>>, NoMemory>
     requires { length files.now ≤ 16 }
-    ensures { IfOk result (λ found. IfSome found (λ told.
+    ensures told { IfOk result (λ found. IfSome found (λ told.
         IsStory (rule_of any_place) (nothing_mapped (given_files files.now)) calls.now
         (lines_of text.now) numbers.now told.items)) }
+    ensures long { IfOk result (λ found. IfNone found (most < length numbers.now)) }
 {
-    let most_first = count_first(calls);
-    'counts: for less in 0..most_first.saturating_add(1) {
-        let count = most_first.saturating_sub(less);
-        if numbers.len().saturating_sub(count) > most {
+    let mut count = first_mapped(calls).min(numbers.len());
+    'counts: loop {
+        if numbers.len() - count > most {
             return Ok(None);
         }
-        if let Some(told) = story_behind(alloc, files, any_place, text, calls, numbers, count)? {
-            return Ok(Some(told));
+        let found = story_behind(alloc, files, any_place, text, calls, numbers, count)?;
+        let is_told = found.is_some();
+        if is_told {
+            return Ok(found);
         }
+        // (the replies of no calls aren't wrong)
+        if count == 0 {
+            return Ok(found);
+        }
+        count -= 1;
     }
-    Ok(None)
 }

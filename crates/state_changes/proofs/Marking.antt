@@ -1,10 +1,10 @@
 -- Lines that are passed, one after another
-use Rattle.std.proofs.Common.{◌≡◌, ◌≢◌, ℕ, Bool, true, false, bytes_eq, List, [], ◌∷◌, ◌++◌, arith, length, refl, sym, ap, subst, ◌∙◌, append_assoc, append-nil, codes}
+use Rattle.std.proofs.Common.{◌≡◌, ◌≢◌, ℕ, Bool, true, false, bytes_eq, List, [], ◌∷◌, ◌++◌, arith, length, refl, sym, ap, subst, ◌∙◌, append_assoc, append-nil, codes, Some, slice_get}
 use Rattle.std.specs.List.{flat_map}
 use Rattle.std.proofs.lemmas.Grind.{flat_map-append}
 use Rattle.std.proofs.lemmas.Slice.Eq.{bytes_eq-Decides}
 use Rattle.trace_io.specs.Lines.{lines_of}
-use Rattle.state_changes.specs.Marks.{Comes, Goes, LineMark, LinesDiffer, PassesLines, PassesOn, SaysDifference, mark_text}
+use Rattle.state_changes.specs.Marks.{Comes, Goes, IsOther, LineMark, LinesDiffer, PassesLines, PassesOn, SaysDifference, mark_text}
 
 -- nothing was passed yet
 pub passed_none : (out old new : List ℕ) → PassesOn out out old old new new
@@ -13,8 +13,8 @@ passed_none out old new = ([], sym (append-nil out), record { marks = []; says =
 -- a line that stays before lines that differ so
 stays : (line : List ℕ) (marks : List LineMark) (old new : List (List ℕ)) → LinesDiffer marks old new → LinesDiffer marks (line ∷ old) (line ∷ new)
 stays line [] old new h = ap (λ ls. line ∷ ls) h
-stays line (Goes l ∷ marks) old new (stay, rest, more, o, n, h) = (line ∷ stay, rest, more, ap (λ ls. line ∷ ls) o, ap (λ ls. line ∷ ls) n, h)
-stays line (Comes l ∷ marks) old new (stay, rest, more, o, n, h) = (line ∷ stay, rest, more, ap (λ ls. line ∷ ls) o, ap (λ ls. line ∷ ls) n, h)
+stays line (Goes l ∷ marks) old new (stay, rest, more, o, n, a, h) = (line ∷ stay, rest, more, ap (λ ls. line ∷ ls) o, ap (λ ls. line ∷ ls) n, a, h)
+stays line (Comes l ∷ marks) old new (stay, rest, more, o, n, a, h) = (line ∷ stay, rest, more, ap (λ ls. line ∷ ls) o, ap (λ ls. line ∷ ls) n, a, h)
 
 pub passed_same : (out old rest new more line other : List ℕ) → lines_of old ≡ line ∷ lines_of rest → lines_of new ≡ other ∷ lines_of more → line ≡ other
     → PassesOn out out old rest new more
@@ -34,28 +34,40 @@ joined : (out sign line end : List ℕ) → ((out ++ sign) ++ line) ++ end ≡ o
 joined out sign line end = ap (λ t. t ++ end) (append_assoc out sign line) ∙ append_assoc out (sign ++ line) end
 
 pub passed_gone : (before after old rest new line : List ℕ) → lines_of old ≡ line ∷ lines_of rest
-    → after ≡ ((before ++ codes "- ") ++ line) ++ codes "\n" → PassesOn before after old rest new new
-passed_gone before after old rest new line o out = (
+    → after ≡ ((before ++ codes "- ") ++ line) ++ codes "\n" → IsOther old new → PassesOn before after old rest new new
+passed_gone before after old rest new line o out apart = (
   mark_text (Goes line),
   out ∙ joined before (codes "- ") line (codes "\n"),
   record {
     marks = Goes line ∷ [];
     says = sym (append-nil (mark_text (Goes line)));
-    on = λ later h. ([], lines_of rest, lines_of new, o, refl, h);
+    on = λ later h. ([], lines_of rest, lines_of new, o, refl, apart line (lines_of rest) o, h);
   },
 )
 
 pub passed_come : (before after old new more line : List ℕ) → lines_of new ≡ line ∷ lines_of more
-    → after ≡ ((before ++ codes "+ ") ++ line) ++ codes "\n" → PassesOn before after old old new more
-passed_come before after old new more line n out = (
+    → after ≡ ((before ++ codes "+ ") ++ line) ++ codes "\n" → IsOther new old → PassesOn before after old old new more
+passed_come before after old new more line n out apart = (
   mark_text (Comes line),
   out ∙ joined before (codes "+ ") line (codes "\n"),
   record {
     marks = Comes line ∷ [];
     says = sym (append-nil (mark_text (Comes line)));
-    on = λ later h. ([], lines_of old, lines_of more, refl, n, h);
+    on = λ later h. ([], lines_of old, lines_of more, refl, n, apart line (lines_of more) n, h);
   },
 )
+
+-- first lines that differ
+pub other_lines : (one two line other : List ℕ) (rest more : List (List ℕ)) → lines_of one ≡ line ∷ rest → lines_of two ≡ other ∷ more → line ≢ other
+    → IsOther one two
+other_lines one two line other rest more o t differ first others is e =
+    let same : line ∷ rest ≡ first ∷ others = sym o ∙ is in
+    let got : Some other ≡ Some first = sym (ap (λ ls. slice_get ls 0) t) ∙ e in
+    differ cc
+
+-- no text is no line
+pub other_than_none : (text : List ℕ) → IsOther text []
+other_than_none text line more is e = absurd cc
 
 -- none is left
 empty : (xs : List ℕ) → length xs ≡ 0 → xs ≡ []

@@ -1,5 +1,5 @@
 -- The lines by which one text differs from another
-use Rattle.std.specs.Prelude.{◌≡◌, ℕ, List, [], ◌∷◌, ◌++◌, codes}
+use Rattle.std.specs.Prelude.{◌≡◌, ◌≢◌, ℕ, List, [], ◌∷◌, ◌++◌, Some, codes, slice_get}
 use Rattle.std.specs.List.{flat_map}
 use Rattle.trace_io.specs.Lines.{lines_of}
 
@@ -8,13 +8,14 @@ pub data LineMark : Type 0 where
   Goes : List ℕ → LineMark
   Comes : List ℕ → LineMark
 
--- Some lines stay, then the first of these goes or comes, and so on. Behind the last of them all stay.
+-- Some lines stay, then the first of these goes or comes, and so on. Behind the last of them all stay. A line that is the next of both texts
+-- stays: none that goes is the next that the new text has there, and none that comes is the next of the old one.
 abbrev pub LinesDiffer : List LineMark → List (List ℕ) → List (List ℕ) → Type 0
 LinesDiffer [] old new = old ≡ new
 LinesDiffer (Goes line ∷ marks) old new = (stay : List (List ℕ)) × (rest : List (List ℕ)) × (more : List (List ℕ))
-    × (old ≡ stay ++ line ∷ rest) × (new ≡ stay ++ more) × LinesDiffer marks rest more
+    × (old ≡ stay ++ line ∷ rest) × (new ≡ stay ++ more) × (slice_get more 0 ≢ Some line) × LinesDiffer marks rest more
 LinesDiffer (Comes line ∷ marks) old new = (stay : List (List ℕ)) × (rest : List (List ℕ)) × (more : List (List ℕ))
-    × (old ≡ stay ++ rest) × (new ≡ stay ++ line ∷ more) × LinesDiffer marks rest more
+    × (old ≡ stay ++ rest) × (new ≡ stay ++ line ∷ more) × (slice_get rest 0 ≢ Some line) × LinesDiffer marks rest more
 
 -- `- LINE` and `+ LINE`
 abbrev pub mark_text : LineMark → List ℕ
@@ -30,6 +31,10 @@ pub record SaysDifference (text old new : List ℕ) : Type 0 where
   pub same : old ≡ new → text ≡ []
 
 -- ---- on the way
+
+-- the first line of the one text isn't that of the other
+abbrev pub IsOther : List ℕ → List ℕ → Type 0
+IsOther text other = (line : List ℕ) (more : List (List ℕ)) → lines_of text ≡ line ∷ more → slice_get (lines_of other) 0 ≢ Some line
 
 -- The first lines of both were passed: where marks say how the rest differ, these before them say how all do.
 pub record PassesLines (said old rest new more : List ℕ) : Type 0 where

@@ -1,6 +1,6 @@
 //! The lines by which one text differs from another.
 ghost use Rattle.std.specs.Prelude.{◌≡◌, ◌++◌, ◌+◌, ◌<◌, [], IfOk, List, OnOk, codes, length, ℕ};
-ghost use Rattle.state_changes.specs.Marks.{PassesOn, SaysDifference};
+ghost use Rattle.state_changes.specs.Marks.{IsOther, PassesOn, SaysDifference};
 
 use std::alloc::{AllocError, Global};
 use trace_io::lines::front_line;
@@ -27,10 +27,10 @@ fn stands_in(line: &[u8], text: &[u8]) -> bool {
     false
 }
 
-// Puts that the first line of the old text goes, and answers what follows it.
+// Puts that the first line of the old text goes, which isn't that of the new one, and answers what follows it.
 fn put_gone<'a>(out: &mut Vec<u8>, old: &'a [u8]) -> Result<&'a [u8], AllocError>
     requires { 0 < length old.now }
-    ensures passes { IfOk result (λ rest. (new : List ℕ) → PassesOn out.old.items out.new.items old.now rest.now new new) }
+    ensures passes { IfOk result (λ rest. (new : List ℕ) → IsOther old.now new → PassesOn out.old.items out.new.items old.now rest.now new new) }
     ensures less { IfOk result (λ rest. length rest.now < length old.now) }
 {
     let (line, rest) = front_line(old);
@@ -38,10 +38,10 @@ fn put_gone<'a>(out: &mut Vec<u8>, old: &'a [u8]) -> Result<&'a [u8], AllocError
     Ok(rest)
 }
 
-// Puts that the first line of the new text comes, and answers what follows it.
+// Puts that the first line of the new text comes, which isn't that of the old one, and answers what follows it.
 fn put_come<'a>(out: &mut Vec<u8>, new: &'a [u8]) -> Result<&'a [u8], AllocError>
     requires { 0 < length new.now }
-    ensures passes { IfOk result (λ more. (old : List ℕ) → PassesOn out.old.items out.new.items old old new.now more.now) }
+    ensures passes { IfOk result (λ more. (old : List ℕ) → IsOther new.now old → PassesOn out.old.items out.new.items old old new.now more.now) }
     ensures less { IfOk result (λ more. length more.now < length new.now) }
 {
     let (line, more) = front_line(new);
@@ -72,9 +72,9 @@ fn pass<'a>(
     Ok((put_gone(out, old)?, new))
 }
 
-// Puts that all lines of the old text go.
+// Puts that all lines of the old text go, where none is left of the new one.
 fn put_all_gone(out: &mut Vec<u8>, old: &[u8]) -> Result<(), AllocError>
-    ensures { OnOk result ((new : List ℕ) → PassesOn out.old.items out.new.items old.now [] new new) }
+    ensures { OnOk result (PassesOn out.old.items out.new.items old.now [] [] []) }
 {
     let mut rest = old;
     'lines: while !rest.is_empty() {
@@ -83,9 +83,9 @@ fn put_all_gone(out: &mut Vec<u8>, old: &[u8]) -> Result<(), AllocError>
     Ok(())
 }
 
-// Puts that all lines of the new text come.
+// Puts that all lines of the new text come, where none is left of the old one.
 fn put_all_come(out: &mut Vec<u8>, new: &[u8]) -> Result<(), AllocError>
-    ensures { OnOk result ((old : List ℕ) → PassesOn out.old.items out.new.items old old new.now []) }
+    ensures { OnOk result (PassesOn out.old.items out.new.items [] [] new.now []) }
 {
     let mut rest = new;
     'lines: while !rest.is_empty() {
@@ -100,14 +100,21 @@ fn put_marks(out: &mut Vec<u8>, before: &[u8], after: &[u8]) -> Result<(), Alloc
 {
     let mut old = before;
     let mut new = after;
-    'both: while !old.is_empty() && !new.is_empty() {
+    'both: loop {
+        let no_old = old.is_empty();
+        if no_old {
+            put_all_come(out, new)?;
+            return Ok(());
+        }
+        let no_new = new.is_empty();
+        if no_new {
+            put_all_gone(out, old)?;
+            return Ok(());
+        }
         let (rest, more) = pass(out, old, new)?;
         old = rest;
         new = more;
     }
-    put_all_gone(out, old)?;
-    put_all_come(out, new)?;
-    Ok(())
 }
 
 /// The lines by which the text before differs from that after: a line `- LINE` for each that goes, `+ LINE` for each that comes.

@@ -1,15 +1,15 @@
-use Rattle.std.proofs.Common.{arith}
+use Rattle.std.proofs.Common.{[], arith}
 use Rattle.std.proofs.lemmas.Bool.Decides.{nat_tests}
-use Rattle.state_changes.proofs.Marking.{passed_none, passed_old, passed_then}
+use Rattle.state_changes.proofs.Marking.{other_than_none, passed_none, passed_old, passed_then}
 use Rattle.state_changes.proofs.marks.put_all_gone.Goals as goal
 
 pub lines-init : goal.lines-init
-lines-init c = record { passes = λ new. passed_none _ _ new }
+lines-init c = record { passes = passed_none _ _ [] }
 
 pub lines-preserved : goal.lines-preserved
 lines-preserved c = record {
-  passes = λ new. passed_then _ _ _ _ _ _ new new new (c.lines.invariant.passes new) (c.in_ok-rest.ensures.passes new);
+  passes = passed_then _ _ _ _ _ _ [] [] [] c.lines.invariant.passes (c.in_ok-rest.ensures.passes [] (other_than_none c.lines.rest.now));
 }
 
 pub returns : goal.returns
-returns c = λ new. passed_old _ _ _ _ new new (grind (arith, nat_tests, c.is_empty.ensures, c.lines-test.false)) (c.lines.invariant.passes new)
+returns c = passed_old _ _ _ _ [] [] (grind (arith, nat_tests, c.is_empty.ensures, c.lines-test.false)) c.lines.invariant.passes
