@@ -3,9 +3,9 @@
 /// What stands in front of the files.
 pub const FRONT: &str = "\
 // A litmus test as a program for a kernel with POSIX threads: one thread a core. Build it with cc -O2 -pthread, or c++.
-// Usage: a.out [ROUNDS] [-s ROUNDS] [-r RUNS] [--cpus LIST]: RUNS runs of ROUNDS rounds each, 1 and 10000 if left out. Core N is on the Nth
-// processor of LIST, as 0,2,4-7, or of those that the program may use. It writes COUNT: OUTCOME, a line for each outcome that came about, for
-// radixvm litmus --observed, and every ten seconds so far, on standard error. At SIGINT it ends after the round, with its counts.
+// Usage: a.out [ROUNDS] [-s ROUNDS] [-r RUNS] [--cpus LIST]: RUNS runs of ROUNDS rounds, 1 and 10000 if left out. Core N is on the Nth processor
+// of LIST, as 0,2,3, or of those that the program may use. It writes COUNT: OUTCOME, a line for each outcome that came about, for radixvm litmus
+// --observed: at its end, or at SIGINT; and on standard error, those so far, every ten seconds.
 #ifndef _GNU_SOURCE
 #define _GNU_SOURCE
 #endif
@@ -37,11 +37,8 @@ static char replies[CALLS][24], shown[CALLS][24], *ways[WAYS];
 static long counts[WAYS], way_count, rounds = 10000, runs = 1, last_round, rounds_done;
 static int cpus[CORES], cpu_count, asked_to_end;
 static int turn, arrived[3];
-static long round_of[3];
-static time_t shown_at;
+static long round_of[3], shown_at;
 static __thread sigjmp_buf back;
-
-// What threads share is read and written in one order.
 #define GET(place) __atomic_load_n(place, __ATOMIC_SEQ_CST)
 #define SET(place, value) __atomic_store_n(place, value, __ATOMIC_SEQ_CST)
 
@@ -56,20 +53,15 @@ static int rights(const char *word) {
     return (strchr(word, 'r') ? PROT_READ : 0) | (strchr(word, 'w') ? PROT_WRITE : 0) | (strchr(word, 'x') ? PROT_EXEC : 0);
 }
 
-static void on_interrupt(int number) {
-    (void)number;
-    SET(&asked_to_end, 1);
-}
+static void on_interrupt(int number) { SET(&asked_to_end, number); }
 
 static struct op op_of(int core, int kind, unsigned long addr, unsigned long len, int prot) {
-    struct op o;
-    memset(&o, 0, sizeof o);
-    o.core = core, o.kind = kind, o.addr = addr, o.len = len, o.prot = prot;
+    struct op o = {core, kind, prot, 0, 0, addr, len, 0};
     return o;
 }
 
 static struct op read_call(const struct call *call) {
-    struct op o;
+    struct op o = op_of(call->core, LOAD, 0, 0, 0);
     char name[16], prot[8], flags[8];
     unsigned long a = 0, b = 0, c = 0;
     int file = 0;
@@ -80,31 +72,18 @@ static struct op read_call(const struct call *call) {
         o.file = strchr(flags, 'a') ? -1 : file, o.off = c;
         o.flags = (strchr(flags, 'p') ? MAP_PRIVATE : 0) | (strchr(flags, 's') ? MAP_SHARED : 0)
             | (strchr(flags, 'f') ? MAP_FIXED : 0) | (strchr(flags, 'a') ? MAP_ANONYMOUS : 0);
-    } else if (!strcmp(name, \"munmap\") && sscanf(words, \"%*s %lx %lx\", &a, &b) == 2) {
-        o = op_of(call->core, MUNMAP, a, b, 0);
-    } else if (!strcmp(name, \"mprotect\") && sscanf(words, \"%*s %lx %lx %7s\", &a, &b, prot) == 3) {
-        o = op_of(call->core, MPROTECT, a, b, rights(prot));
-    } else if (!strcmp(name, \"load\") && sscanf(words, \"%*s %lx\", &a) == 1) {
-        o = op_of(call->core, LOAD, a, 1, 0);
-    } else if (!strcmp(name, \"store\") && sscanf(words, \"%*s %lx %lu\", &a, &b) == 2) {
-        o = op_of(call->core, STORE, a, 1, (int)b);
-    } else {
-        o = op_of(call->core, LOAD, 0, 0, 0);
-        stop(\"a request that this program can't make\");
-    }
+    } else if (!strcmp(name, \"munmap\") && sscanf(words, \"%*s %lx %lx\", &a, &b) == 2) o = op_of(call->core, MUNMAP, a, b, 0);
+    else if (!strcmp(name, \"mprotect\") && sscanf(words, \"%*s %lx %lx %7s\", &a, &b, prot) == 3) o = op_of(call->core, MPROTECT, a, b, rights(prot));
+    else if (!strcmp(name, \"load\") && sscanf(words, \"%*s %lx\", &a) == 1) o = op_of(call->core, LOAD, a, 1, 0);
+    else if (!strcmp(name, \"store\") && sscanf(words, \"%*s %lx %lu\", &a, &b) == 2) o = op_of(call->core, STORE, a, 1, (int)b);
+    else stop(\"a request that this program can't make\");
     if (o.addr + o.len > 1ul << 31) stop(\"an address above 2 GiB, where the program itself may be\");
     return o;
 }
 
 static const char *refusal(int error) {
-    switch (error) {
-    case EINVAL: return \"einval\";
-    case ENOMEM: return \"enomem\";
-    case EACCES: return \"eacces\";
-    case EBADF: return \"ebadf\";
-    case EOVERFLOW: return \"eoverflow\";
-    default: return \"another error\";
-    }
+    return error == EINVAL ? \"einval\" : error == ENOMEM ? \"enomem\" : error == EACCES ? \"eacces\" : error == EBADF ? \"ebadf\"
+        : error == EOVERFLOW ? \"eoverflow\" : \"another error\";
 }
 
 // Makes a call, and writes its reply.
@@ -174,19 +153,14 @@ static void count_outcome(void) {
     counts[way]++;
 }
 
-static void show_counts(FILE *file) {
-    for (long way = 0; way < way_count; way++) fprintf(file, \"%ld: %s\\n\", counts[way], ways[way]);
-}
+static void show_counts(FILE *file) { for (long way = 0; way < way_count; way++) fprintf(file, \"%ld: %s\\n\", counts[way], ways[way]); }
 
 // Between two rounds, when no other thread runs.
 static void end_round(long round) {
-    time_t now = time(0);
+    long now = (long)time(0);
     rounds_done++;
     if (GET(&asked_to_end)) SET(&last_round, round), runs = 0;
-    if (now - shown_at < 10) return;
-    fprintf(stderr, \"after %ld rounds:\\n\", rounds_done);
-    show_counts(stderr);
-    shown_at = now;
+    if (now >= shown_at + 10) fprintf(stderr, \"after %ld rounds:\\n\", rounds_done), show_counts(stderr), shown_at = now;
 }
 
 static void *run_core(void *argument) {
@@ -249,58 +223,44 @@ static void open_files(const struct file *files) {
     restore_files();
 }
 
-// The processors of a list as 0,2,4-7; those that the program may use, where it is null.
 static void read_cpus(const char *list) {
     cpu_set_t may;
     if (!list && sched_getaffinity(0, sizeof may, &may)) stop(\"processors that can't be asked for\");
-    for (int cpu = 0; !list && cpu < CPU_SETSIZE && cpu_count < CORES; cpu++)
-        if (CPU_ISSET((size_t)cpu, &may)) cpus[cpu_count++] = cpu;
-    while (list && *list) {
-        char *end;
-        long first = strtol(list, &end, 10), last = first;
-        if (end == list) stop(\"a list of processors is as 0,2,4-7\");
-        if (*end == '-') list = end + 1, last = strtol(list, &end, 10);
-        if (end == list || (*end && *end != ',') || first < 0 || last >= CPU_SETSIZE) stop(\"a list of processors is as 0,2,4-7\");
-        for (; first <= last && cpu_count < CORES; first++) cpus[cpu_count++] = (int)first;
-        list = *end ? end + 1 : end;
+    for (int cpu = 0; !list && cpu < CPU_SETSIZE; cpu++) if (CPU_ISSET((size_t)cpu, &may) && cpu_count < CORES) cpus[cpu_count++] = cpu;
+    for (char *end; list && *list; list = *end ? end + 1 : end) {
+        if (cpu_count < CORES) cpus[cpu_count++] = (int)strtol(list, &end, 10);
+        if (cpu_count == CORES || end == list || (*end && *end != ',')) stop(\"a list of processors is as 0,2,3\");
     }
-    if (!cpu_count) stop(\"no processor\");
 }
 
 static void read_words(int words, char **word) {
     const char *list = 0;
     for (int k = 1; k < words; k++) {
-        int has_next = k + 1 < words;
-        if (!strcmp(word[k], \"-s\") && has_next) rounds = atol(word[++k]);
-        else if (!strcmp(word[k], \"-r\") && has_next) runs = atol(word[++k]);
-        else if (!strcmp(word[k], \"--cpus\") && has_next) list = word[++k];
-        else if (*word[k] >= '0' && *word[k] <= '9') rounds = atol(word[k]);
+        if (*word[k] >= '0' && *word[k] <= '9') rounds = atol(word[k]);
+        else if (k + 1 == words) stop(\"an option without its value\");
+        else if (!strcmp(word[k++], \"-s\")) rounds = atol(word[k]);
+        else if (!strcmp(word[k - 1], \"-r\")) runs = atol(word[k]);
+        else if (!strcmp(word[k - 1], \"--cpus\")) list = word[k];
         else stop(\"usage: a.out [ROUNDS] [-s ROUNDS] [-r RUNS] [--cpus LIST]\");
     }
     read_cpus(list);
 }
 
-static void catch_signals(void) {
+static int run_all(int words, char **word, const struct file *files, const struct call *opening, const struct call *lists, const unsigned long *finals) {
+    pthread_t thread[CORES];
     struct sigaction act;
     memset(&act, 0, sizeof act);
     act.sa_sigaction = on_fault;
     act.sa_flags = SA_SIGINFO | SA_NODEFER;
     sigaction(SIGSEGV, &act, 0);
     sigaction(SIGBUS, &act, 0);
-    act.sa_flags = SA_RESTART | (int)SA_RESETHAND;
-    act.sa_handler = on_interrupt;
-    sigaction(SIGINT, &act, 0);
-}
-
-static int run_all(int words, char **word, const struct file *files, const struct call *opening, const struct call *lists, const unsigned long *finals) {
-    pthread_t thread[CORES];
+    signal(SIGINT, on_interrupt);
     read_words(words, word);
-    catch_signals();
     open_files(files);
     read_calls(0, opening);
     read_calls(1, lists);
     for (all_finals = finals; finals[final_count] != ~0ul; final_count++) {}
-    shown_at = time(0);
+    shown_at = (long)time(0);
     while (runs-- > 0) {
         last_round = rounds;
         memset(round_of, 0, sizeof round_of);
