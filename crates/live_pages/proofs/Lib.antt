@@ -1,3 +1,4 @@
+pub mod Acking
 pub mod Ending
 pub mod FilePages
 pub mod FreeFrames

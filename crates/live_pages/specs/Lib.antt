@@ -1,3 +1,4 @@
+pub mod Acking
 pub mod Bytes
 pub mod Cached
 pub mod Counts

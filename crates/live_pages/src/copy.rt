@@ -4,11 +4,14 @@ ghost use Rattle.std.specs.Prelude.{◌≡◌, ◌≢◌, All, false, neg_ℤ, p
 ghost use Rattle.live_levels.specs.declared.act.Act.TheVariants.{Copy};
 ghost use Rattle.seats.specs.Notes.{CanNote};
 ghost use Rattle.live_tree.specs.Held.{CanTake};
+ghost use Rattle.live_tree.specs.Shown.{shown};
+ghost use Rattle.live_pages.specs.Acking.{OthersHaveAcked};
 ghost use Rattle.live_pages.specs.HeldFrames.{CanMakeWay, CountsCopied, IsHeld};
 ghost use Rattle.live_pages.specs.Steps.{Stays, StepsWith};
 
 use crate::frames_held::{FramesHeld, lock_these};
 use crate::pieces::{CoreState, Pieces, lock_core, number_of};
+use crate::telling::Acked;
 use live_levels::act::Act;
 use live_levels::level::Stepper;
 use live_tree::held::Held;
@@ -16,30 +19,33 @@ use seats::Seat;
 use std::alloc::Allocator;
 use std::sync::Wait;
 
-/// The held page, which has the frame `shown`, gets a copy of it in the frame that the call took,
+/// The held page, which has the frame `from`, gets a copy of it in the frame that the call took,
 /// and no core is recorded on it any more; the old frame is counted down by the core. It is one
-/// step, under the locks of the core and of the frames, taken once all cores that were told have
-/// acknowledged. False, and then nothing was noted and the slots stay, where a frame is missing or
+/// step, under the locks of the core and of the frames, taken once all other cores that are recorded
+/// on the page have acknowledged. False, and then nothing was noted and the slots stay, where a frame is missing or
 /// a count can't be taken, which never comes.
 pub fn copy_page<R: Wait, A: Allocator + Clone>(
     rt: &R,
     pieces: &Pieces<'_, A>,
     seat: &mut Seat<A>,
     held: &mut Held<'_, A>,
-    shown: u32,
+    _page: u64,
+    _acked: &Acked,
+    from: u32,
     own: u32,
 ) -> bool
-    requires { CanNote seat.old }
+    requires step { CanNote seat.old }
+    requires acked { OthersHaveAcked seat.old.core _page ((shown held.old.slots).info _page) _acked.now }
     ensures done { result ≡ true → StepsWith (Copy own) seat.old held.old seat.new held.new }
     ensures not { result ≡ false → Stays seat.old held.old seat.new held.new }
 {
-    if shown == own {
+    if from == own {
         return false;
     }
     let Some(mut core) = lock_core(rt, pieces.cores, seat.core()) else {
         return false;
     };
-    copy_by(rt, pieces, seat, held, &mut core, shown, own)
+    copy_by(rt, pieces, seat, held, &mut core, from, own)
 }
 
 // The same under the lock of the core.

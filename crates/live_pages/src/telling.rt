@@ -1,19 +1,22 @@
 //! Cores that are told to drop their translations of a range, and their takes.
 ghost use Rattle.std.specs.Prelude.{◌≡◌, ◌+◌, ◌*◌, ◌≤◌, [], ◌∷◌, ◌++◌, ℕ, cond, false, map, true, All, Some};
 ghost use Rattle.std.specs.Prelude.{◌⊎◌, IfSome, IsSome, IsTrue, is_some, length};
-ghost use Rattle.vm_base.specs.Cores.{members};
+ghost use Rattle.vm_base.specs.Cores.{members, with_member};
+ghost use Rattle.vm_base.specs.Functions.{put};
 ghost use Rattle.vm_base.specs.Pages.{are_pages};
 ghost use Rattle.machine_model.specs.Translating.{after_shot};
 ghost use Rattle.machine_model.specs.declared.event.Event.TheVariants.{Take};
 ghost use Rattle.machine_model.specs.declared.event.Outcome.TheVariants.{Stepped};
 ghost use Rattle.mmu.specs.Messages.{asked, message_of, oldest_of};
 ghost use Rattle.live_pages.specs.OneCore.{after_on, after_take, one_core};
+ghost use Rattle.live_pages.specs.Acking.{AcksIn, HaveAcked};
 ghost use Rattle.live_pages.specs.Posting.{AreLocked, CanBeTold, IsTold, LocksCore, core_of, inbox_of, number_of, told};
 ghost use Rattle.live_pages.specs.Targets.{count_below};
+ghost use Rattle.live_pages.specs.Steps.{StepsOnce};
 ghost use Rattle.seats.specs.Growing.{Grew, Steps};
 ghost use Rattle.seats.specs.Notes.{CanNote, noted, with_note};
 
-use crate::pieces::CoreState;
+use crate::pieces::{CoreState, lock_core};
 use crossbeam_utils::CachePadded;
 use live_levels::level::Stepper;
 use machine_model::{Event, Outcome};
@@ -98,18 +101,54 @@ impl<'a, A: Allocator + Clone> ShootdownTargets<'a, A> {
     }
 
     /// The core drops its own translations of the range, and each other one is told to drop its
-    /// own: one step, under the locks of all of them. Answers its ticket.
-    pub fn post(self, seat: &mut Seat<A>) -> u64
+    /// own: one step, under the locks of all of them.
+    pub fn post(self, seat: &mut Seat<A>) -> Posted
         requires { CanNote seat.old }
-        ensures { Steps seat.old result seat.new }
+        ensures step { StepsOnce seat.old seat.new }
+        ensures posted { result ≡ record { core = self.entry.core; set = self.entry.set; range = self.entry.range } }
     {
         let ShootdownTargets {
             mut places,
             core,
+            set,
             range,
-            ..
         } = self;
-        post_to(&mut places, seat, core, range)
+        let _ticket = post_to(&mut places, seat, core, range);
+        Posted { core, set, range }
+    }
+}
+
+/// A post that was made: by which core, to which cores, itself among them, and of which range. It may
+/// not be dropped: it ends by `take_all`.
+pub struct Posted {
+    core: CoreId,
+    set: CoreSet,
+    range: PageRange,
+}
+
+/// A core that made its takes. Only `take_each` makes one.
+#[derive(Clone, Copy)]
+pub struct Told {
+    core: CoreId,
+}
+
+/// The cores that made their takes after a post of a range. Only `take_all` makes one.
+#[derive(Clone, Copy)]
+pub struct Acked {
+    set: CoreSet,
+    range: PageRange,
+}
+
+impl Acked {
+    // One core more.
+    fn with(self, told: Told) -> Acked
+        ensures set { members result.set ≡ put (members self.set) told.core true }
+        ensures range { result.range ≡ self.range }
+    {
+        Acked {
+            set: self.set.with(told.core),
+            range: self.range,
+        }
     }
 }
 
@@ -149,12 +188,12 @@ fn lock_member<'a, R: Wait, A: Allocator + Clone>(
     if !set.contains(number) {
         return true;
     }
-    lock_core(rt, cores, places, core, number)
+    lock_target(rt, cores, places, core, number)
 }
 
 // Locks the core of that number. False where it isn't there or can't be told by the other one, or
 // memory is refused.
-fn lock_core<'a, R: Wait, A: Allocator + Clone>(
+fn lock_target<'a, R: Wait, A: Allocator + Clone>(
     rt: &R,
     cores: &'a [CachePadded<Mutex<CoreState<A>>>],
     places: &mut Places<'a, A>,
@@ -163,10 +202,9 @@ fn lock_core<'a, R: Wait, A: Allocator + Clone>(
 ) -> bool
     ensures { result ≡ true → LocksCore core number places.old.items places.new.items }
 {
-    let Some(place) = cores.get(number.index() as usize) else {
+    let Some(state) = lock_core(rt, cores, number) else {
         return false;
     };
-    let state = place.lock(rt);
     if !can_be_told(&state.inbox, core, number) {
         return false;
     }
@@ -185,11 +223,12 @@ fn push<'a, A: Allocator + Clone>(
     places.push(Some(LockedCore { number, state })).is_ok()
 }
 
-// Tells whether the inbox is that of the core of that number, and has no message of the core.
-fn can_be_told(inbox: &Inbox, core: CoreId, number: CoreId) -> bool
-    ensures { result ≡ true → CanBeTold core (record { number = number; inbox = inbox.now }) }
+// Tells whether the inbox, which is that of the core of that number, has no message of the core.
+fn can_be_told(inbox: &Inbox, core: CoreId, _number: CoreId) -> bool
+    requires { inbox.now.core ≡ _number }
+    ensures { result ≡ true → CanBeTold core (record { number = _number; inbox = inbox.now }) }
 {
-    inbox.core().index() == number.index() && !inbox.has_of(core)
+    !inbox.has_of(core)
 }
 
 // The step of a post: it is noted, and each locked core drops its translations of the range or is
@@ -291,63 +330,88 @@ pub fn count_of(set: CoreSet) -> usize
     count
 }
 
-/// The takes of each core of the set, ascending, until it has acknowledged the core's message, as
-/// `take_until_told` makes them.
+/// The takes of each core of the set, ascending, until it has acknowledged the core's message: of all
+/// others that the post told. None where one isn't there, which never comes.
 pub fn take_all<R: Wait, A: Allocator + Clone>(
     rt: &R,
     cores: &[CachePadded<Mutex<CoreState<A>>>],
     seat: &mut Seat<A>,
+    posted: Posted,
     set: CoreSet,
-)
+) -> Option<Acked>
+    requires told { posted.set ≡ with_member set posted.core }
+    requires own { posted.core ≡ seat.old.core }
     requires room { 126 * count_below set 64 ≤ seat.old.room }
     ensures grew { Grew seat.old seat.new }
     ensures room { seat.old.room ≤ seat.new.room + 126 * count_below set 64 }
+    ensures acked { IfSome result (HaveAcked set posted.range) }
 {
+    let Posted {
+        core: _,
+        set: _,
+        range,
+    } = posted;
+    let mut acked = Acked {
+        set: CoreSet::empty(),
+        range,
+    };
     'cores: for index in 0..CORES {
-        take_of(rt, cores, seat, set, CoreId::new(index));
+        let Some(more) = take_of(rt, cores, seat, acked, set, CoreId::new(index)) else {
+            return None;
+        };
+        acked = more;
     }
+    Some(acked)
 }
 
-// The takes of one core, where it is in the set.
+// The takes of one core, where it is in the set. None where it isn't there.
 fn take_of<R: Wait, A: Allocator + Clone>(
     rt: &R,
     cores: &[CachePadded<Mutex<CoreState<A>>>],
     seat: &mut Seat<A>,
+    acked: Acked,
     set: CoreSet,
     target: CoreId,
-)
+) -> Option<Acked>
     requires room { 126 * cond (members set target) 1 0 ≤ seat.old.room }
     ensures grew { Grew seat.old seat.new }
     ensures room { seat.old.room ≤ seat.new.room + 126 * cond (members set target) 1 0 }
+    ensures acked { IfSome result (AcksIn set target acked) }
 {
     if !set.contains(target) {
-        return;
+        return Some(acked);
     }
-    if let Some(place) = cores.get(target.index() as usize) {
-        take_until_told(rt, place, seat, target);
-    }
+    let told = take_until_told(rt, cores, seat, target)?;
+    Some(acked.with(told))
 }
 
-/// The takes of a target, under its lock, until it has acknowledged the core's message. Each is a
-/// step of its own.
-pub(crate) fn take_until_told<R: Wait, A: Allocator + Clone>(
+// The takes of a target, under its lock, until it has acknowledged the core's message. Each is a step
+// of its own. None where it isn't there.
+fn take_until_told<R: Wait, A: Allocator + Clone>(
     rt: &R,
-    place: &CachePadded<Mutex<CoreState<A>>>,
+    cores: &[CachePadded<Mutex<CoreState<A>>>],
     seat: &mut Seat<A>,
     target: CoreId,
-)
+) -> Option<Told>
     requires room { 126 ≤ seat.old.room }
     ensures grew { Grew seat.old seat.new }
     ensures room { seat.old.room ≤ seat.new.room + 126 }
+    ensures told { IfSome result (λ told. told.core ≡ target) }
 {
-    let mut state = place.lock(rt);
-    take_each(&mut state, seat, target);
+    let mut state = lock_core(rt, cores, target)?;
+    Some(take_each(&mut state, seat, target))
 }
 
 // The takes of a target, which is locked: until it has acknowledged the core's message, or the most
 // that there may be.
-fn take_each<A: Allocator + Clone>(state: &mut CoreState<A>, seat: &mut Seat<A>, target: CoreId)
+fn take_each<A: Allocator + Clone>(
+    state: &mut CoreState<A>,
+    seat: &mut Seat<A>,
+    target: CoreId,
+) -> Told
+    requires own { state.old.inbox.core ≡ target }
     requires room { 126 ≤ seat.old.room }
+    ensures target { result.core ≡ target }
     ensures grew { Grew seat.old seat.new }
     ensures room { seat.old.room ≤ seat.new.room + 126 }
     ensures told { IsTold seat.old.core state.new.inbox.messages
@@ -356,10 +420,11 @@ fn take_each<A: Allocator + Clone>(state: &mut CoreState<A>, seat: &mut Seat<A>,
     let core = seat.core();
     'takes: for _turn in 0..TAKES {
         if !is_awaited(&state.inbox, core) {
-            return;
+            return Told { core: target };
         }
         take_one(state, seat, target);
     }
+    Told { core: target }
 }
 
 // Tells whether a message of the core is there, and the oldest one is of pages.

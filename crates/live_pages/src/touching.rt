@@ -14,7 +14,7 @@ ghost use Rattle.live_pages.specs.Steps.{StepsAndAnswers, Tries};
 
 use crate::answering::answer;
 use crate::frames_held::{Place, lock_frame};
-use crate::pieces::{CoreState, FrameState, Pieces};
+use crate::pieces::{CoreState, FrameState, Pieces, lock_core};
 use frames::FrameCell;
 use live_levels::level::Stepper;
 use machine_model::answers::byte_reply;
@@ -50,10 +50,9 @@ pub fn try_touch<R: Wait, A: Allocator + Clone>(
     requires touch { IsSoundTouch touch }
     ensures { Tries touch seat.old seat.new result }
 {
-    let Some(place) = pieces.cores.get(seat.core().index() as usize) else {
+    let Some(mut core) = lock_core(rt, pieces.cores, seat.core()) else {
         return Tried::Lost;
     };
-    let mut core = place.lock(rt);
     match translate(&mut core.cpu, touch) {
         Some(number) => touch_frame(rt, pieces, seat, &core, touch, number),
         None => {
@@ -79,7 +78,8 @@ fn translate<H: Hardware>(cpu: &mut H, touch: Touch) -> Option<u32>
     }
 }
 
-// Reads or writes the byte in the frame, under its lock. The core is locked, and reaches the frame.
+// Reads or writes the byte in the frame, under its lock. The seat's core is locked, and reaches the
+// frame.
 fn touch_frame<R: Wait, A: Allocator + Clone>(
     rt: &R,
     pieces: &Pieces<'_, A>,
@@ -90,6 +90,7 @@ fn touch_frame<R: Wait, A: Allocator + Clone>(
 ) -> Tried
     requires room { 2 ≤ seat.old.room }
     requires touch { IsSoundTouch touch }
+    requires own { core.now.inbox.core ≡ seat.old.core }
     requires reaches { Reaches (⟦<Cpu<A> as Hardware>⟧.table core.now.cpu)
         (⟦<Cpu<A> as Hardware>⟧.tlb core.now.cpu) touch number }
     ensures { Tries touch seat.old seat.new result }

@@ -12,3 +12,4 @@ pub mod Own
 pub mod Places
 pub mod Replies
 pub mod Spent
+pub mod Telling

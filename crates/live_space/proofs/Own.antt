@@ -33,6 +33,16 @@ still_own l s t h same = record {
   plain = same.plain ∙ (h.plain ∙ ap Go (sym same.core));
 }
 
+-- room was made
+pub kept_own : (l : LiveView) (s t : SeatView) → IsOf l s → t ≡ record s { room = t.room } → IsOf l t
+kept_own l s t h made =
+    let core : t.core ≡ s.core = ap (λ (v : SeatView). v.core) made in
+    record {
+      word = ap (λ (v : SeatView). v.word) made ∙ h.word;
+      core = subst (λ n. n < l.cores) (sym core) h.core;
+      plain = ap (λ (v : SeatView). v.plain) made ∙ (h.plain ∙ ap Go (sym core));
+    }
+
 -- its plain steps are its core's
 own_steps : (l : LiveView) (s : SeatView) → IsOf l s → is_step s.core s.plain Stepped ≡ true
 own_steps l s h = subst (λ (e : Event). is_step s.core e Stepped ≡ true) (sym h.plain) (own_core s.core s.core refl)

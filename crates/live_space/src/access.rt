@@ -2,6 +2,9 @@
 //! and an entry in the core's tables; then it is tried again.
 ghost use Rattle.std.specs.Prelude.{◌≡◌, ◌+◌, ◌*◌, [], Some, IfNone, IfSome};
 ghost use Rattle.vm_base.specs.Pages.{pages_from};
+ghost use Rattle.vm_base.specs.Cores.{with_member};
+ghost use Rattle.live_tree.specs.Shown.{shown};
+ghost use Rattle.live_pages.specs.Acking.{HasOthers};
 ghost use Rattle.live_pages.specs.Targets.{count_below};
 ghost use Rattle.slot_lock.specs.Plan.{IsSoundTouch};
 ghost use Rattle.live_space.specs.declared.ending.Ending.TheVariants.{GiveUp};
@@ -14,6 +17,7 @@ ghost use Rattle.live_space.specs.Faulting.{ActsOn, Gets, GetsCopy, GetsFrame, G
 ghost use Rattle.live_space.specs.Spending.{Spends, UsesCopy, UsesFrame, UsesNew};
 ghost use Rattle.live_space.specs.Planned.{AnswersTouch, EndsIn, RanIn};
 
+use crate::changing::tell_others;
 use crate::ending::{Ending, Ran, given_up_with};
 use crate::gate::{Gate, Point};
 use crate::in_call::InCall;
@@ -22,7 +26,7 @@ use live_pages::filling::fill;
 use live_pages::frame::{FrameSearch, want};
 use live_pages::installing::install;
 use live_pages::settling::settle_page;
-use live_pages::telling::{ShootdownTargets, TAKES, count_of, take_all};
+use live_pages::telling::{Posted, ShootdownTargets, TAKES, count_of, take_all};
 use live_pages::touching::{Tried, try_touch};
 use machine_model::answers::page_of_touch;
 use slot_lock::Touch;
@@ -210,16 +214,24 @@ impl<'c, R: Wait, G: Gate, A: Allocator + Clone> InCall<'c, '_, '_, '_, R, G, A>
             range,
         ) {
             Some(telling) => {
-                let _posted = telling.post(self.seat);
-                self.copy_told(touch, frames, targets)
+                let posted = tell_others(telling, self.seat, range, targets);
+                self.copy_told(touch, frames, targets, posted)
             }
             None => Some(Ending::GiveBack(frames.own)),
         }
     }
 
-    // All cores that were told acknowledge. Then the page gets its copy, since no core translates it by
-    // the old frame any more.
-    fn copy_told(&mut self, touch: Touch, frames: Copying, targets: CoreSet) -> Option<Ending>
+    // All other cores that are recorded on the page were told, and acknowledge. Then the page gets its
+    // copy, since no core translates it by the old frame any more.
+    fn copy_told(
+        &mut self,
+        touch: Touch,
+        frames: Copying,
+        targets: CoreSet,
+        posted: Posted,
+    ) -> Option<Ending>
+        requires others { HasOthers self.old.seat.now.core ((shown self.old.held.slots).info touch.page) targets }
+        requires posted { posted ≡ record { core = self.old.seat.now.core; set = with_member targets self.old.seat.now.core; range = pages_from touch.page 1 } }
         requires sound { IsSoundTouch touch }
         requires room { HasStepsLeft (1 + 126 * count_below targets 64) self.old.held self.old.seat.now }
         ensures goes { GoesOn self.old.seat self.new.seat }
@@ -227,10 +239,22 @@ impl<'c, R: Wait, G: Gate, A: Allocator + Clone> InCall<'c, '_, '_, '_, R, G, A>
         ensures own { Spends (Some frames.own) (UsesCopy frames.own self.old.held) result }
     {
         let space = self.space;
-        let Copying { shown, own } = frames;
-        take_all(self.rt, &space.cores, self.seat, targets);
+        let Copying { shown: from, own } = frames;
+        let Some(acked) = take_all(self.rt, &space.cores, self.seat, posted, targets) else {
+            return Some(Ending::GiveBack(own));
+        };
         let pieces = space.pieces();
-        if copy_page(self.rt, &pieces, self.seat, &mut self.held, shown, own) {
+        let page = touch.page;
+        if copy_page(
+            self.rt,
+            &pieces,
+            self.seat,
+            &mut self.held,
+            page,
+            &acked,
+            from,
+            own,
+        ) {
             self.install(touch)
         } else {
             Some(Ending::GiveBack(own))

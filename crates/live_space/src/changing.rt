@@ -1,11 +1,13 @@
 //! A change of the pages that its request names: a mapping with `MAP_FIXED`, an munmap or an mprotect.
 ghost use Rattle.std.specs.Prelude.{◌≡◌, ◌+◌, ◌*◌, length, IfSome, IsTrue};
+ghost use Rattle.std.specs.Sync.Mutex.{mutex_guard_value};
 ghost use Rattle.slot_lock.specs.Plan.{IsSoundChange, range_of};
 ghost use Rattle.frames.specs.Files.{files_of};
 ghost use Rattle.live_tree.specs.Deciding.{Loses};
 ghost use Rattle.live_tree.specs.Held.{AreAlike, Covers};
 ghost use Rattle.live_tree.specs.Losing.{AreUsers};
 ghost use Rattle.live_tree.specs.Shown.{shown};
+ghost use Rattle.live_pages.specs.Acking.{HaveAcked};
 ghost use Rattle.live_pages.specs.Targets.{count_below};
 ghost use Rattle.live_space.specs.Changing.{AreOthers, Changes, ChangesJust, IsReady, Made, MadeIn};
 ghost use Rattle.live_space.specs.InFlight.{GoesOn, HasStepsLeft};
@@ -20,8 +22,8 @@ use crate::gate::{Gate, Point};
 use crate::in_call::InCall;
 use crate::space::Live;
 use live_levels::level::Stepper;
-use live_pages::pieces::CoreState;
-use live_pages::telling::{ShootdownTargets, TAKES, count_of, take_all};
+use live_pages::pieces::lock_core;
+use live_pages::telling::{Acked, Posted, ShootdownTargets, TAKES, count_of, take_all};
 use live_tree::decide_held::{Decided, decide_held};
 use live_tree::held::Held;
 use live_tree::held::losses::{Frames, FramesLost};
@@ -29,7 +31,7 @@ use machine_model::answers::reply_to;
 use seats::Seat;
 use slot_lock::Change;
 use std::alloc::Allocator;
-use std::sync::{Mutex, Wait};
+use std::sync::Wait;
 use vm_base::{CoreId, CoreSet, PageRange, Reply};
 
 impl<A: Allocator + Clone> Live<A> {
@@ -41,9 +43,10 @@ impl<A: Allocator + Clone> Live<A> {
         core: CoreId,
         lost: Frames<'a, A>,
     ) -> Option<Locks<'a, A>>
-        ensures { IfSome result (λ locks. locks.lost.items ≡ lost.entry.items) }
+        ensures lost { IfSome result (λ locks. locks.lost.items ≡ lost.entry.items) }
+        ensures own { IfSome result (λ locks. (mutex_guard_value locks.core).inbox.core ≡ core) }
     {
-        let state = self.core(core)?.lock(rt);
+        let state = lock_core(rt, &self.cores, core)?;
         let counting = Counting::by(&state, self.tree.alloc(), lost)?;
         let locks = Locks::of(rt, state, counting, &self.frames, &self.epochs);
         if locks.are_there { Some(locks) } else { None }
@@ -56,19 +59,14 @@ impl<A: Allocator + Clone> Live<A> {
         core: CoreId,
         lost: Frames<'a, A>,
     ) -> Option<Counting<'a, A>>
-        ensures { IfSome result (λ counting. counting.lost.items ≡ lost.entry.items) }
+        ensures lost { IfSome result (λ counting. counting.lost.items ≡ lost.entry.items) }
+        ensures own { IfSome result (λ counting. counting.core ≡ core) }
     {
         if lost.is_empty() {
-            return Counting::nothing(self.tree.alloc());
+            return Counting::nothing(self.tree.alloc(), core);
         }
-        let state = self.core(core)?.lock(rt);
+        let state = lock_core(rt, self.cores.as_slice(), core)?;
         Counting::by(&state, self.tree.alloc(), lost)
-    }
-
-    // What lies under the lock of a core.
-    fn core(&self, core: CoreId) -> Option<&Mutex<CoreState<A>>> {
-        let place = self.cores.get(core.index() as usize)?;
-        Some(place)
     }
 }
 
@@ -155,8 +153,8 @@ impl<'c, R: Wait, G: Gate, A: Allocator + Clone> InCall<'c, '_, '_, '_, R, G, A>
         }
         self.at(Point::Commit);
         match self.space.locked_for(self.rt, self.seat.core(), lost) {
-            Some(locks) => {
-                self.decide_and_commit(locks, change);
+            Some(mut locks) => {
+                self.decide_and_commit(&mut locks, change);
                 true
             }
             None => false,
@@ -193,53 +191,85 @@ impl<'c, R: Wait, G: Gate, A: Allocator + Clone> InCall<'c, '_, '_, '_, R, G, A>
         ) {
             Some(telling) => {
                 let _decided = self.seat.step();
-                tell_others(telling, self.seat, change.range(), targets);
-                self.take_and_commit(change, targets, counting);
-                true
+                let posted = tell_others(telling, self.seat, change.range(), targets);
+                self.take_and_commit(change, targets, counting, posted)
             }
             None => false,
         }
     }
 
-    // The other cores take what they were told, and the change is made.
-    fn take_and_commit(&mut self, change: Change, targets: CoreSet, counting: Counting<'c, A>)
+    // The other cores take what they were told, and the change is made. False where a core isn't there,
+    // which never comes.
+    fn take_and_commit(
+        &mut self,
+        change: Change,
+        targets: CoreSet,
+        counting: Counting<'c, A>,
+        posted: Posted,
+    ) -> bool
+        requires own { counting.core ≡ self.old.seat.now.core }
+        requires posted { posted ≡ record { core = self.old.seat.now.core; set = with_member targets self.old.seat.now.core; range = range_of change } }
         requires ready { IsReady self.old.held change }
         requires others { AreOthers (shown self.old.held.slots) (range_of change) self.old.seat.now.core targets }
         requires lost { Loses (shown self.old.held.slots) change counting.lost.items }
         requires room { HasStepsLeft (1 + 126 * count_below targets 64) self.old.held self.old.seat.now }
         ensures goes { GoesOn self.old.seat self.new.seat }
-        ensures made { Made change self.old.held self.new.seat.now self.new.held }
+        ensures made { IsTrue result → Made change self.old.held self.new.seat.now self.new.held }
     {
         let space = self.space;
-        take_all(self.rt, &space.cores, self.seat, targets);
+        let Some(acked) = take_all(self.rt, &space.cores, self.seat, posted, targets) else {
+            return false;
+        };
         self.at(Point::Commit);
+        self.commit_acked(&acked, change, targets, counting)
+    }
+
+    // The change is made, once the other cores have acknowledged. False where the core isn't there,
+    // which never comes.
+    fn commit_acked(
+        &mut self,
+        _acked: &Acked,
+        change: Change,
+        _targets: CoreSet,
+        counting: Counting<'c, A>,
+    ) -> bool
+        requires own { counting.core ≡ self.old.seat.now.core }
+        requires acked { HaveAcked _targets (range_of change) _acked.now }
+        requires ready { IsReady self.old.held change }
+        requires others { AreOthers (shown self.old.held.slots) (range_of change) self.old.seat.now.core _targets }
+        requires lost { Loses (shown self.old.held.slots) change counting.lost.items }
+        requires room { HasStepsLeft 1 self.old.held self.old.seat.now }
+        ensures goes { GoesOn self.old.seat self.new.seat }
+        ensures made { IsTrue result → Made change self.old.held self.new.seat.now self.new.held }
+    {
         if counting.is_empty() {
             self.commit_frameless(change);
-            return;
+            return true;
         }
-        match space.core(self.seat.core()) {
-            Some(core) => {
-                let state = core.lock(self.rt);
-                let locks = Locks::of(self.rt, state, counting, &space.frames, &space.epochs);
-                self.commit(locks, change);
-            }
-            None => self.commit_slots(change),
-        }
+        let space = self.space;
+        let Some(state) = lock_core(self.rt, &space.cores, self.seat.core()) else {
+            return false;
+        };
+        let mut locks = Locks::of(self.rt, state, counting, &space.frames, &space.epochs);
+        self.commit(&mut locks, change);
+        true
     }
 }
 
-// The step that posts to these other cores, which are locked: they are to drop their translations of the range.
-fn tell_others<A: Allocator + Clone>(
+/// The step that posts to these other cores, which are locked: they are to drop their translations of
+/// the range.
+pub(crate) fn tell_others<A: Allocator + Clone>(
     telling: ShootdownTargets<'_, A>,
     seat: &mut Seat<A>,
     _range: PageRange,
     _others: CoreSet,
-)
+) -> Posted
     requires step { CanNote seat.old }
     requires told { telling ≡ record { core = seat.old.core; set = with_member _others seat.old.core; range = _range } }
-    ensures { StepsOnce seat.old seat.new }
+    ensures step { StepsOnce seat.old seat.new }
+    ensures posted { result ≡ record { core = seat.old.core; set = with_member _others seat.old.core; range = _range } }
 {
-    let _ticket = telling.post(seat);
+    telling.post(seat)
 }
 
 // Makes room for the change in the histories of its slots, and tells whether it can be made in them.

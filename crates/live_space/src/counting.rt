@@ -17,7 +17,7 @@ use crate::fault::{LiveFault, reserve_notes};
 use crate::space::Live;
 use live_pages::frame::give_reviewed;
 use live_pages::free_frames::FreeFrames;
-use live_pages::pieces::{CoreState, FrameState};
+use live_pages::pieces::{CoreState, FrameState, lock_core};
 use machine_model::{Event, Outcome};
 use refcache::{Epochs, Flush, Review};
 use seats::Seat;
@@ -39,8 +39,10 @@ impl<A: Allocator + Clone> Live<A> {
         ensures idle { IfErr result (λ fault. IsIdle seat.old seat.new) }
     {
         reserve_notes(seat, 1)?;
-        let core = &self.cores[usize::from(seat.core().index())];
-        let is_noted = flush_core(rt, core, self.frames.as_slice(), &self.epochs, seat);
+        let Some(mut core) = lock_core(rt, &self.cores, seat.core()) else {
+            return Ok(false);
+        };
+        let is_noted = flush_core(rt, &mut core, self.frames.as_slice(), &self.epochs, seat);
         Ok(is_noted)
     }
 
@@ -58,28 +60,31 @@ impl<A: Allocator + Clone> Live<A> {
         ensures idle { IfErr result (λ fault. IsIdle seat.old seat.new) }
     {
         reserve_notes(seat, 1)?;
-        let core = &self.cores[usize::from(seat.core().index())];
         let frames = self.frames.as_slice();
-        let is_noted = review_core(rt, core, &self.free, frames, &self.epochs, seat);
+        let Some(mut core) = lock_core(rt, self.cores.as_slice(), seat.core()) else {
+            return Ok(false);
+        };
+        let is_noted = review_core(rt, &mut core, &self.free, frames, &self.epochs, seat);
         Ok(is_noted)
     }
 }
 
-// Evicts the core's entry of the least object, or marks a core without entries for the epoch.
+// Evicts the entry of the least object of the seat's core, which is locked, or marks a core without
+// entries for the epoch.
 fn flush_core<R: Wait, A: Allocator + Clone>(
     rt: &R,
-    core: &Mutex<CoreState<A>>,
+    core: &mut CoreState<A>,
     frames: &[Mutex<FrameState<A>>],
     epochs: &Mutex<Epochs>,
     seat: &mut Seat<A>,
 ) -> bool
-    requires { CanNote seat.old }
+    requires own { core.old.inbox.core ≡ seat.old.core }
+    requires step { CanNote seat.old }
     ensures { NotesIf seat.old (EventOf.Flush seat.old.core) result seat.new }
 {
-    let mut core = core.lock(rt);
     match core.counts.least() {
-        Some(object) => flush_entry(rt, &mut core, object, frames, epochs, seat),
-        None => mark(rt, &core, epochs, seat),
+        Some(object) => flush_entry(rt, core, object, frames, epochs, seat),
+        None => mark(rt, core, epochs, seat),
     }
 }
 
@@ -170,19 +175,20 @@ fn has_flushed(flush: &Flush) -> bool
     }
 }
 
-// Reviews the front of the core's queue. False where there is none, or where it isn't due.
+// Reviews the front of the queue of the seat's core, which is locked. False where there is none, or
+// where it isn't due.
 fn review_core<R: Wait, A: Allocator + Clone>(
     rt: &R,
-    core: &Mutex<CoreState<A>>,
+    core: &mut CoreState<A>,
     free: &Mutex<FreeFrames<A>>,
     frames: &[Mutex<FrameState<A>>],
     epochs: &Mutex<Epochs>,
     seat: &mut Seat<A>,
 ) -> bool
-    requires { CanNote seat.old }
+    requires own { core.old.inbox.core ≡ seat.old.core }
+    requires step { CanNote seat.old }
     ensures { NotesIf seat.old (EventOf.Review seat.old.core) result seat.new }
 {
-    let mut core = core.lock(rt);
     let Some(front) = core.counts.front() else {
         return false;
     };
@@ -192,7 +198,7 @@ fn review_core<R: Wait, A: Allocator + Clone>(
     };
     let mut frame = frame.lock(rt);
     let epochs = epochs.lock(rt);
-    has_reviewed(&review_front(&mut core, &mut free, &mut frame, &epochs, seat))
+    has_reviewed(&review_front(core, &mut free, &mut frame, &epochs, seat))
 }
 
 // The step: the front of the core's queue is reviewed, whose frame is locked as the free frames and the epoch are.

@@ -1,10 +1,14 @@
 //! The making of a space: the word and the seats, the files and their pages, the frames and the cores.
-ghost use Rattle.std.specs.Prelude.{◌≡◌, ◌<◌, ◌≤◌, [], None, IfOk, IfErr, length, All};
+ghost use Rattle.std.specs.Prelude.{◌≡◌, ℕ, ◌+◌, ◌<◌, ◌≤◌, [], None, IfOk, IfErr, length, All, false, true, nat_lt, pos, vec_capacity, vec_len};
 ghost use Rattle.std.specs.Arc.{arc_value};
 ghost use Rattle.seats.specs.Gathered.{AreAll};
 ghost use Rattle.seats.specs.Tickets.{IsNew};
 ghost use Rattle.frames.specs.Files.{files_of};
 ghost use Rattle.frames.specs.Given.{given_files};
+ghost use Rattle.frames.specs.Parts.{cell_bytes};
+ghost use Rattle.refcache.specs.Pieces.{IsNewCore};
+ghost use Rattle.vm_base.specs.Plain.{zeros};
+ghost use Rattle.live_pages.specs.Free.{free_frames};
 ghost use Rattle.vm_base.specs.Pages.{page_count};
 ghost use Rattle.machine_model.specs.Setups.{IsFirstFault, fault_of};
 ghost use Rattle.live_space.specs.Space.{AreFresh, IsMade, IsOf};
@@ -16,7 +20,7 @@ use live_pages::free_frames::FreeFrames;
 use live_pages::pieces::{CoreState, FrameState};
 use live_tree::tree::SharedTree;
 use machine_model::{Setup, SetupFault};
-use mmu::{Cpu, Inbox};
+use mmu::{Cpu, Hardware, Inbox};
 use refcache::{CoreCounts, Epochs, ObjectCount};
 use seats::{Seat, Ticketer, Tickets};
 use std::alloc::Allocator;
@@ -65,7 +69,7 @@ fn make<A: Allocator + Clone>(
     let seating = new_seating(&alloc, count)?;
     let states = new_cores(&alloc, count, number)?;
     let cells = new_frames(&alloc, number)?;
-    let free = FreeFrames::all(alloc.clone()?, number)?;
+    let free = behind_lock(FreeFrames::all(alloc.clone()?, number)?, number);
     let Opened { objects, pages } = opened;
     let Seating { tree, seats } = seating;
     let live = Live {
@@ -73,7 +77,7 @@ fn make<A: Allocator + Clone>(
         objects,
         pages,
         cores: states,
-        free: CachePadded::new(Mutex::new(free)),
+        free,
         frames: cells,
         epochs: CachePadded::new(Mutex::new(Epochs::new(count))),
         share,
@@ -195,12 +199,29 @@ fn new_frames<A: Allocator + Clone>(
     let mut frames = Vec::with_capacity(alloc.clone()?, count as usize)?;
     'frames: for _frame in 0..count {
         let cell = FrameCell::new(alloc.clone()?)?;
-        frames.push_reserved(Mutex::new(FrameState {
-            cell,
-            count: ObjectCount::new(),
-        }));
+        let count = ObjectCount::new();
+        put_frame(&mut frames, FrameState { cell, count });
     }
     Ok(frames)
+}
+
+// One frame more, under a lock: it is free, has zeros, and nothing counts it.
+fn put_frame<A: Allocator + Clone>(frames: &mut Vec<Mutex<FrameState<A>>, A>, frame: FrameState<A>)
+    requires room { vec_len frames.old < vec_capacity frames.old }
+    requires free { frame.cell.is_free ≡ true }
+    requires bytes { cell_bytes frame.cell ≡ zeros }
+    requires count { frame.count ≡ record { global = pos 0; is_queued = false; is_dirty = false } }
+    ensures count { vec_len frames.new ≡ vec_len frames.old + 1 }
+    ensures room { vec_capacity frames.new ≡ vec_capacity frames.old }
+{
+    frames.push_reserved(Mutex::new(frame));
+}
+
+// The free frames, which are all that there are, under their lock.
+fn behind_lock<A: Allocator>(free: FreeFrames<A>, _frames: u32) -> CachePadded<Mutex<FreeFrames<A>>>
+    requires { free_frames free ≡ (λ f. nat_lt f _frames) }
+{
+    CachePadded::new(Mutex::new(free))
 }
 
 // This many cores without entries, messages and translations.
@@ -217,7 +238,25 @@ fn new_cores<A: Allocator + Clone>(
         let counts = CoreCounts::new(alloc.clone()?, frames)?;
         let inbox = Inbox::new(CoreId::new(core));
         let cpu = Cpu::new(alloc.clone()?)?;
-        cores.push_reserved(CachePadded::new(Mutex::new(CoreState { counts, inbox, cpu })));
+        put_core(&mut cores, CoreState { counts, inbox, cpu }, frames);
     }
     Ok(cores)
+}
+
+// One core more, under its own number and a lock: it has no entries, messages and translations.
+fn put_core<A: Allocator + Clone>(
+    cores: &mut Vec<CachePadded<Mutex<CoreState<A>>>, A>,
+    state: CoreState<A>,
+    _frames: u32,
+)
+    requires room { vec_len cores.old < vec_capacity cores.old }
+    requires own { state.inbox.core ≡ vec_len cores.old }
+    requires messages { state.inbox.messages ≡ [] }
+    requires counts { IsNewCore (_frames + 1) state.counts }
+    requires table { (p : ℕ) → ⟦<Cpu<A> as Hardware>⟧.table state.cpu p ≡ None }
+    requires tlb { ⟦<Cpu<A> as Hardware>⟧.tlb state.cpu ≡ [] }
+    ensures count { vec_len cores.new ≡ vec_len cores.old + 1 }
+    ensures room { vec_capacity cores.new ≡ vec_capacity cores.old }
+{
+    cores.push_reserved(CachePadded::new(Mutex::new(state)));
 }

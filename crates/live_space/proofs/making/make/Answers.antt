@@ -7,8 +7,8 @@ use Rattle.live_space.proofs.making.make.Goals as goal
 pub new_cores-requires : goal.new_cores-requires
 new_cores-requires g c = few_cores_within Usual c.args.setup c.requires
 
-pub new-requires-3 : goal.new-requires-3
-new-requires-3 g c = few_cores_within Usual c.args.setup c.requires
+pub new-requires : goal.new-requires
+new-requires g c = few_cores_within Usual c.args.setup c.requires
 
 pub returns-clause-made : goal.returns-clause-made
 returns-clause-made g c = record {
