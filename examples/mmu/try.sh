@@ -1,6 +1,7 @@
 #!/usr/bin/env bash
-# Builds mmu.c over libradixvm.a, and judges what 1, 2, 4 and 3 processes record by `radixvm audit --overlapping`: every history has to be legal,
-# and each error of the glue that is planted has to give `no order`, by one of three seeds. An ordinary program sorts in the space at last.
+# Builds mmu.c over libradixvm.a, and judges what 1, 2, 4 and 3 processes record by `radixvm audit --overlapping`. Every history has to be legal, and no
+# call may lack a frame, for the library brings frames back. Each planted error of the glue has to give `no order`, by one of three seeds. At last an
+# ordinary program sorts in the space.
 # Usage: examples/mmu/try.sh [CALLS]: so many calls of each of the 3 processes, 20000 if none is given. RADIXVM_LIBRARY, RADIXVM_INCLUDE and RADIXVM_PROGRAM
 # name the library's folder, that of its headers, and the program; else they are those that are built here. Status: 0 if each verdict is as asked.
 set -euo pipefail
@@ -28,9 +29,10 @@ must_be_legal() { # WORDS..
     local said
     said=$(judge "$@")
     case $said in
-        legal\ *) ;;
-        *) echo "examples/mmu: mmu $*: $said" >&2; cp "$work/history" "${TMPDIR:-/tmp}/mmu.history"; exit 1 ;;
+        legal\ *) grep -q noframe "$work/history" || return 0 ;;
     esac
+    echo "examples/mmu: mmu $*: $said, $(grep -c noframe "$work/history") without a frame" >&2
+    exit 1
 }
 
 must_be_found() { # BUG WORDS..
