@@ -193,6 +193,25 @@ fn refusal<A: Allocator>(objects: &Objects<A>, runs: &[Run], change: Change) -> 
     None
 }
 
+// The first page of a range that may not be protected so, where this is the first that isn't mapped, and its error.
+fn first_stop<A: Allocator>(
+    objects: &Objects<A>,
+    runs: &[Run],
+    range: PageRange,
+    prot: Prot,
+    hole: u64,
+) -> (u64, Errno) {
+    if prot.write {
+        for run in runs {
+            let first = run.first.max(range.first);
+            if first < run.end && first < hole && is_read_only(objects, run.meta.back) {
+                return (first, Errno::EACCES);
+            }
+        }
+    }
+    (hole, Errno::ENOMEM)
+}
+
 // Tells whether a mapping may be at this page, or nowhere.
 fn is_allowed(runs: &[Run], any_place: bool, place: &Place, found: Option<u64>) -> bool {
     if any_place {
@@ -444,6 +463,34 @@ impl<A: Allocator + Clone + Drop> Arena<A> {
             end: hole,
         };
         let count = (hole.wrapping_sub(range.first) & 0xffff_ffff) as u32;
+        let new = self.change(spot, Change::Protect { range: front, prot })?;
+        Ok(Some((new, count)))
+    }
+
+    /// The map after the pages of a range were protected in front of the first that may not be, and how many these are, where the error is
+    /// that page's.
+    pub fn protect_to(
+        &mut self,
+        objects: &Objects<A>,
+        spot: &Spot,
+        range: PageRange,
+        prot: Prot,
+        error: Errno,
+    ) -> Result<Option<(Spot, u64)>, NoMemory> {
+        let runs = runs_in(self.runs.as_slice(), spot.runs);
+        let hole = first_hole(runs, range).min(range.end);
+        let (stop, due) = first_stop(objects, runs, range, prot, hole);
+        if stop >= range.end || stop < range.first || due != error {
+            return Ok(None);
+        }
+        let front = PageRange {
+            first: range.first,
+            end: stop,
+        };
+        let count = stop.saturating_sub(range.first);
+        if count == 0 {
+            return Ok(Some((*spot, 0)));
+        }
         let new = self.change(spot, Change::Protect { range: front, prot })?;
         Ok(Some((new, count)))
     }

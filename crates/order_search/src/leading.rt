@@ -8,7 +8,7 @@ use crate::under::Under;
 use frames::Objects;
 use std::alloc::Allocator;
 use std::mem::swap;
-use vm_base::{NoMemory, PageRange};
+use vm_base::{NoMemory, PageRange, Reply};
 
 /// How many configurations may come into question at one end of a call.
 pub const LIMIT: usize = 300_000;
@@ -122,6 +122,13 @@ impl<'a, A: Allocator + Clone + Drop> Ways<'a, A> {
 
     // How a call, which changes nothing, takes effect in a map, if it can.
     fn mark_of(&self, calls: &[Under], spot: &Spot, done: u64, under: &Under) -> Option<Mark> {
+        let access = under.number;
+        if under.by_kernel {
+            // (late where it may be, since that marks nothing)
+            if let Some(behind) = self.behind(calls, spot, done, under) {
+                return Some(Mark::Late { access, behind });
+            }
+        }
         if self.holds(spot, under) {
             return Some(Mark::Reply(under.number));
         }
@@ -129,7 +136,6 @@ impl<'a, A: Allocator + Clone + Drop> Ways<'a, A> {
             return None;
         }
         let behind = self.behind(calls, spot, done, under)?;
-        let access = under.number;
         Some(Mark::Late { access, behind })
     }
 
@@ -309,6 +315,11 @@ impl<'a, A: Allocator + Clone + Drop> Ways<'a, A> {
         let Some(spot) = self.replied(from, under)? else {
             return Ok(());
         };
+        let spot = if under.by_kernel && under.changes && under.touch().is_none() {
+            self.arena.drop_met(&spot, ending.under, under)?
+        } else {
+            spot
+        };
         let is_refused = under.count > 1 && !under.changes;
         let step = Step {
             mark: Mark::Reply(under.number),
@@ -484,6 +495,42 @@ impl<'a, A: Allocator + Clone + Drop> Ways<'a, A> {
         Ok(())
     }
 
+    // The same by the kernels' rule: in front of the page that has the error.
+    fn refuse_front(
+        &mut self,
+        ending: Ending<'_>,
+        from: &Config,
+        under: &Under,
+    ) -> Result<(), NoMemory> {
+        let (Some((range, prot)), Reply::Refused(error)) = (under.front_range(), under.reply) else {
+            return Ok(());
+        };
+        let ends = self.arena.ends();
+        let Some((spot, count)) = self
+            .arena
+            .protect_to(self.objects, &from.spot, range, prot, error)?
+        else {
+            return Ok(());
+        };
+        let spot = self.arena.drop_met(&spot, ending.under, under)?;
+        let step = Step {
+            mark: Mark::Front {
+                call: under.number,
+                count,
+            },
+            count: 1,
+            lost: 0,
+            spot,
+            done: from.done | under.bit,
+            may: under.rivals,
+            hides: None,
+        };
+        if !self.add(ending, from, &step)? {
+            self.arena.cut(ends);
+        }
+        Ok(())
+    }
+
     // Adds all that the calls under way lead to from a configuration, one of them more.
     fn expand(&mut self, ending: Ending<'_>, from: &Config) -> Result<(), NoMemory> {
         let before = ending.before(from.done);
@@ -494,6 +541,7 @@ impl<'a, A: Allocator + Clone + Drop> Ways<'a, A> {
                 self.copy(ending, from, under)?;
                 self.lose(ending, from, under)?;
                 self.refuse(ending, from, under)?;
+                self.refuse_front(ending, from, under)?;
             }
         }
         Ok(())

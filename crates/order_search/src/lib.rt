@@ -3,7 +3,7 @@
 //! It goes through begins and ends, and keeps all maps that the calls so far can have led to (G. Lowe, Testing for
 //! linearizability, 2017).
 //!
-//! - `search` (`find_order`, `find_whole`, `find_choice`, `find_lagging`): its face.
+//! - `search` (`find_order`, `find_whole`, `find_choice`, `find_lagging`, `find_by_kernel`): its face.
 //! - `configs`: a map and which calls took effect; `arena`, `runs`, `pages`: the maps, kept small; `seen`: which were
 //!   there already.
 //! - `under`, `leading`, `trail`, `olds`: calls under way, what they lead to, in which order, and what they replaced.
@@ -23,4 +23,7 @@ mod trail;
 mod under;
 
 pub use leading::LIMIT;
-pub use search::{Found, Lag, Wholes, find_choice, find_lagging, find_order, find_whole};
+pub use search::{
+    Found, Front, Kernel, Lag, Wholes, find_by_kernel, find_choice, find_lagging, find_order,
+    find_whole,
+};

@@ -1,14 +1,14 @@
 //! What calls have replaced, for accesses that go as before them: pages far from all others stand for it until the call has ended.
 
 use crate::arena::{Arena, Spot, access_due, cells_in, runs_in};
-use crate::pages::{own_key, place_of};
-use crate::runs::{meta_at, none_mapped};
+use crate::pages::{is_copied, own_key, place_of};
+use crate::runs::{Run, meta_at, none_mapped};
 use crate::under::Under;
 use frames::Objects;
 use slot_lock::{Change, Touch};
 use std::alloc::Allocator;
 use vm_base::page::PAGE_SIZE;
-use vm_base::{Back, Meta, NoMemory, PageRange, Prot, Reply, SegvCode};
+use vm_base::{Access, Back, Meta, NoMemory, PageRange, Prot, Reply, SegvCode};
 
 /// How far the pages that stand for those that a call has replaced are behind these: so many pages for each bit below that of the call, and for
 /// its own.
@@ -129,6 +129,9 @@ impl<A: Allocator + Clone + Drop> Arena<A> {
         let old = old_page(behind, touch.page);
         let runs = runs_in(self.runs.as_slice(), spot.runs);
         let cells = cells_in(self.cells.as_slice(), spot.cells);
+        if behind.by_kernel {
+            return self.kernel_holds(objects, spot, access, behind, touch);
+        }
         match meta_at(runs, old) {
             None => false,
             Some(meta) if meta == UNMAPPED => access.reply == Reply::Segv(SegvCode::MapErr),
@@ -138,6 +141,64 @@ impl<A: Allocator + Clone + Drop> Arena<A> {
                     && access_due(objects, runs, cells, touch) == access.reply
             }
         }
+    }
+
+    // The same by the kernels' rule. Behind `mprotect` the page has its frame of now, and its old rights; a refusal is of one that wasn't seen new.
+    fn kernel_holds(
+        &self,
+        objects: &Objects<A>,
+        spot: &Spot,
+        access: &Under,
+        behind: &Under,
+        touch: Touch,
+    ) -> bool {
+        let runs = runs_in(self.runs.as_slice(), spot.runs);
+        let cells = cells_in(self.cells.as_slice(), spot.cells);
+        let Some(meta) = meta_at(runs, old_page(behind, touch.page)) else {
+            return false;
+        };
+        if meta == UNMAPPED {
+            return false;
+        }
+        let at = if behind.protects() {
+            touch.page
+        } else {
+            old_page(behind, touch.page)
+        };
+        let run = Run {
+            first: at,
+            end: at.saturating_add(1),
+            meta,
+        };
+        let is_uncopied = matches!(meta.back, Back::Private { .. }) && !is_copied(cells, at);
+        if is_uncopied && (access.changes || !behind.protects()) {
+            return false;
+        }
+        let is_fetch = matches!(touch.access, Access::Fetch);
+        let may = match access.reply {
+            Reply::Byte(_) | Reply::Done => true,
+            Reply::Segv(SegvCode::AccErr) => is_fetch || behind.protects(),
+            _ => behind.protects(),
+        };
+        let touch = Touch { page: at, ..touch };
+        may && access_due(objects, &[run], cells, touch) == access.reply
+    }
+
+    /// The map in which nothing stands any more for what other calls have replaced that have a page of this one.
+    pub fn drop_met(
+        &mut self,
+        spot: &Spot,
+        calls: &[Under],
+        under: &Under,
+    ) -> Result<Spot, NoMemory> {
+        let mut new = *spot;
+        for other in calls {
+            let meets = other.pages.first < under.pages.end && under.pages.first < other.pages.end;
+            if other.bit != under.bit && meets {
+                new = self.drop_olds(&new, other)?;
+            }
+        }
+        Ok(new)
     }
 
     /// The map after such an access: a store that is done changes what was replaced.
@@ -153,7 +214,11 @@ impl<A: Allocator + Clone + Drop> Arena<A> {
         }
         match access.touch() {
             Some(touch) if access.changes => {
-                let page = old_page(behind, touch.page);
+                let page = if behind.by_kernel && behind.protects() {
+                    touch.page
+                } else {
+                    old_page(behind, touch.page)
+                };
                 self.store(objects, spot, Touch { page, ..touch })
             }
             _ => Ok(Some(*spot)),

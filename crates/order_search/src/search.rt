@@ -32,6 +32,33 @@ pub struct Lag {
     pub access: u32,
 }
 
+/// An `mprotect` that was refused, and has changed so many pages.
+#[derive(Clone, Copy)]
+pub struct Front {
+    /// The call.
+    pub call: u32,
+    /// How many pages, from the first on.
+    pub count: u64,
+}
+
+/// What an order has by the kernels' rule besides.
+#[derive(Drop)]
+pub struct Kernel<A: Allocator> {
+    /// Which accesses go as before which calls.
+    pub lags: Vec<Lag, A>,
+    /// Which calls have changed a part of their range.
+    pub fronts: Vec<Front, A>,
+}
+
+impl<A: Allocator + Clone> Kernel<A> {
+    /// Nothing.
+    pub fn new(alloc: &A) -> Result<Kernel<A>, NoMemory> {
+        let lags = Vec::new(alloc.clone()?);
+        let fronts = Vec::new(alloc.clone()?);
+        Ok(Kernel { lags, fronts })
+    }
+}
+
 /// Calls, each of which takes effect as a whole, as though its parts did one behind another.
 #[derive(Drop)]
 pub struct Wholes<A: Allocator> {
@@ -66,12 +93,14 @@ struct Search<'a, A: Allocator> {
     answered: usize,
     unsure: &'a [bool],
     parts: Parts<'a>,
-    // Whether all accesses may lag, and which of the calls may where not all do.
+    // Whether all accesses may lag, whether that goes by the kernels' rule, and which of the calls may where not all do.
     may_lag: bool,
+    by_kernel: bool,
     late: &'a [bool],
     // So many calls that no order gets to are passed over, and which ones were.
     may_pass: usize,
     passed: Vec<usize, A>,
+    fronts: Vec<Front, A>,
     ways: Ways<'a, A>,
     under: Vec<Under, A>,
     configs: Vec<Config, A>,
@@ -127,6 +156,7 @@ impl<'a, A: Allocator + Clone + Drop> Search<'a, A> {
         let mut configs = Vec::new(alloc.clone()?);
         configs.push(Config::first())?;
         let passed = Vec::new(alloc.clone()?);
+        let fronts = Vec::new(alloc.clone()?);
         let under = Vec::new(alloc.clone()?);
         let ways = Ways::new(alloc, objects, any_place, history.len())?;
         Ok(Search {
@@ -136,9 +166,11 @@ impl<'a, A: Allocator + Clone + Drop> Search<'a, A> {
             unsure,
             parts,
             may_lag: false,
+            by_kernel: false,
             late: &[],
             may_pass: 0,
             passed,
+            fronts,
             ways,
             under,
             configs,
@@ -177,6 +209,9 @@ impl<'a, A: Allocator + Clone + Drop> Search<'a, A> {
         under.bit = bit;
         under.is_unsure = matches!(self.unsure.get(call), Some(true));
         under.may_lag = self.may_lag || matches!(self.late.get(call), Some(true));
+        if self.by_kernel {
+            under = under.by_kernel();
+        }
         if !under.is_late {
             let calls = self.under.as_slice();
             self.ways.settle(calls, &mut self.configs, &under)?;
@@ -330,7 +365,7 @@ impl<'a, A: Allocator + Clone + Drop> Search<'a, A> {
     }
 
     // The order of the first configuration, and the cores whose open calls haven't taken effect in it: these stand
-    // last. What lags is told.
+    // last. What lags is told, and noted what of their range refused calls have changed.
     fn order(
         &mut self,
         alloc: &A,
@@ -339,7 +374,14 @@ impl<'a, A: Allocator + Clone + Drop> Search<'a, A> {
         let Some(config) = self.configs.get(0).copied() else {
             return Ok((Vec::new(alloc.clone()?), CoreSet::empty()));
         };
-        let mut order = items_of(alloc, self.ways.order_of(alloc, &config)?, lags)?;
+        let mut fronts = Vec::new(alloc.clone()?);
+        let mut order = items_of(
+            alloc,
+            self.ways.order_of(alloc, &config)?,
+            lags,
+            &mut fronts,
+        )?;
+        self.fronts = fronts;
         self.push_lost(&config, &mut order)?;
         Ok((order, self.lost_cores(&config)))
     }
@@ -392,6 +434,7 @@ fn items_of<A: Allocator + Clone + Drop>(
     alloc: &A,
     marks: &[Mark],
     lags: &mut Vec<Lag, A>,
+    fronts: &mut Vec<Front, A>,
 ) -> Result<Vec<Item, A>, NoMemory> {
     let done = done_in(alloc, marks)?;
     let mut items = Vec::with_capacity(alloc.clone()?, marks.len())?;
@@ -402,6 +445,9 @@ fn items_of<A: Allocator + Clone + Drop>(
         if let Mark::Late { access, behind } = *mark {
             lags.push(Lag { behind, access })?;
         }
+        if let Mark::Front { call, count } = *mark {
+            fronts.push(Front { call, count })?;
+        }
     }
     Ok(items)
 }
@@ -411,7 +457,14 @@ fn done_in<A: Allocator + Clone + Drop>(
     alloc: &A,
     marks: &[Mark],
 ) -> Result<Vec<bool, A>, NoMemory> {
-    let mut done = vec![in alloc.clone()?; false; marks.len()]?;
+    // (an open call that is lost has no mark, so that a number may be greater than their count)
+    let mut count = marks.len();
+    for mark in marks {
+        if let Mark::Reply(call) = *mark {
+            count = count.max((call as usize).saturating_add(1));
+        }
+    }
+    let mut done = vec![in alloc.clone()?; false; count]?;
     for at in 0..marks.len() {
         if let Mark::Reply(call) = marks[at] {
             if let Some(is_done) = done.get_mut(call as usize) {
@@ -593,6 +646,33 @@ pub fn find_whole<'w, A: Allocator + Clone + Drop>(
     search.late = wholes.late.as_slice();
     search.may_pass = MOST_STUCK;
     let found = search.find_passing(alloc, calls, count, lags, stuck);
+    drop(search);
+    found
+}
+
+/// Searches an order of the calls by the kernels' rule: each takes effect as a whole, and accesses may lag behind `munmap` and `mprotect`. `kernel`
+/// tells which do. Which accesses have seen a page new isn't looked at: whether the items are an order is the caller's to judge.
+pub fn find_by_kernel<A: Allocator + Clone + Drop>(
+    alloc: &A,
+    objects: &Objects<A>,
+    any_place: bool,
+    history: &[Timed],
+    kernel: &mut Kernel<A>,
+) -> Result<Found<A>, NoMemory>
+    ensures { IfOk result (λ found. IsFound (length history.now) found) }
+{
+    kernel.lags.clear();
+    kernel.fronts.clear();
+    if history.is_empty() {
+        return found_none(alloc, history.len());
+    }
+    let count = history.len();
+    let parts = each_alone(count);
+    let mut search = Search::new(alloc, objects, any_place, history, count, &[], parts)?;
+    search.may_lag = true;
+    search.by_kernel = true;
+    let found = search.find(alloc, history, count, &mut kernel.lags);
+    kernel.fronts.extend_from_slice(search.fronts.as_slice())?;
     drop(search);
     found
 }

@@ -19,6 +19,8 @@ pub(crate) enum Mark {
     Maybe(u32),
     /// This access, as before a call that hadn't ended.
     Late { access: u32, behind: u32 },
+    /// This call, an `mprotect` that was refused, which has changed so many pages.
+    Front { call: u32, count: u64 },
 }
 
 impl Mark {
@@ -28,6 +30,7 @@ impl Mark {
             Mark::Reply(call) | Mark::Maybe(call) => Item::Reply(call),
             Mark::Copy(call) => Item::Copy(call),
             Mark::Late { access, .. } => Item::Reply(access),
+            Mark::Front { call, .. } => Item::Reply(call),
         }
     }
 
@@ -37,7 +40,7 @@ impl Mark {
             Mark::Reply(call) => Mark::Reply(call.wrapping_add(by)),
             Mark::Copy(call) => Mark::Copy(call.wrapping_add(by)),
             Mark::Maybe(call) => Mark::Maybe(call.wrapping_add(by)),
-            Mark::Late { .. } => self,
+            Mark::Late { .. } | Mark::Front { .. } => self,
         }
     }
 }

@@ -39,6 +39,8 @@ pub(crate) struct Under {
     pub is_unsure: bool,
     /// Whether it may go as before a call that hasn't ended, if it is an access; or accesses as before it.
     pub may_lag: bool,
+    /// Whether that goes by the kernels' rule.
+    pub by_kernel: bool,
     /// Whether its reply says that it changed something. A call that is answered at its check changes nothing.
     pub changes: bool,
     /// Whether something may be lost where it takes effect as soon as it can: it changes something, or its page may get a copy before.
@@ -91,6 +93,7 @@ impl Under {
             is_open,
             is_unsure: false,
             may_lag: false,
+            by_kernel: false,
             changes,
             is_late: changes || stores_to.is_some(),
             pages: pages_of(plan),
@@ -126,7 +129,41 @@ impl Under {
 
     /// Tells whether accesses may go as before it: it changes pages.
     pub fn keeps_old(&self) -> bool {
-        self.may_lag && self.changes && self.touch().is_none()
+        self.may_lag && self.changes && self.touch().is_none() && !(self.by_kernel && self.maps())
+    }
+
+    // Tells whether it maps pages anew: by the kernels' rule nothing lags behind that.
+    fn maps(&self) -> bool {
+        matches!(
+            self.plan,
+            Ok(Plan::Place(_) | Plan::Change(Change::Put { .. }))
+        )
+    }
+
+    /// Tells whether it is an `mprotect`: by the kernels' rule a page keeps its frame and bytes.
+    pub fn protects(&self) -> bool {
+        matches!(self.plan, Ok(Plan::Change(Change::Protect { .. })))
+    }
+
+    /// The call, by the kernels' rule.
+    pub fn by_kernel(self) -> Under {
+        let mut under = Under {
+            by_kernel: true,
+            ..self
+        };
+        under.is_late = under.is_late || under.front_range().is_some();
+        under
+    }
+
+    /// The range and the protection of an `mprotect` that was refused, and may have changed the pages in front by the kernels' rule.
+    pub fn front_range(&self) -> Option<(PageRange, Prot)> {
+        match (self.reply, self.plan) {
+            (
+                Reply::Refused(Errno::ENOMEM | Errno::EACCES),
+                Ok(Plan::Change(Change::Protect { range, prot })),
+            ) if self.by_kernel => { Some((range, prot)) }
+            _ => None,
+        }
     }
 
     /// The number of its part that changes a page.
