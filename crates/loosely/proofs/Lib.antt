@@ -1,3 +1,4 @@
+pub mod KernelLemmas
 pub mod Alike
 pub mod Calm
 pub mod Eased
