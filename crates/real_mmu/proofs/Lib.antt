@@ -1,5 +1,6 @@
 mod Words
 mod Told
+pub mod Due
 mod Remembered
 mod Uses
 mod Steps

@@ -12,6 +12,7 @@
 #![tactic(auto)]
 
 ghost use Rattle.real_mmu.specs.Driven.{AllDrivenRunsArePlain};
+ghost use Rattle.real_mmu.specs.Fills.{AllFillsAreDue};
 ghost use Rattle.real_mmu.specs.Remembered.{AllRememberedAreGood};
 ghost use Rattle.real_mmu.specs.Steps.{AllStepsLead};
 ghost use Rattle.real_mmu.specs.Uses.{AllUsesArePlain};
@@ -37,6 +38,13 @@ pub fn uses_are_plain()
 /// step's log entry leads, if it made one. An access that the library serves leads to nothing.
 pub fn steps_lead()
     ensures { AllStepsLead }
+{}
+
+/// A step of the library gives a page a new frame just where the page's call has taken the frame for it, and the page
+/// has the frame after the step. So whoever sees where a call stands, and the page's frame after its step, knows the
+/// fill.
+pub fn fills_are_due()
+    ensures { AllFillsAreDue }
 {}
 
 /// In every run, of any schedule, of the library's steps, of translations that cores' hardware takes in from the
