@@ -14,3 +14,4 @@ pub mod RangeChange
 pub mod Running
 pub mod State
 pub mod Taking
+pub mod Telling

@@ -3,6 +3,7 @@ ghost use Rattle.machine_model.specs.Sound.{IsReached};
 ghost use Rattle.core_steps.specs.State.{world};
 
 mod counted;
+mod told;
 
 use crate::at_once::starting::Started;
 use crate::engine::Engine;

@@ -1,29 +1,10 @@
-use Rattle.machine_model.proofs.Words.{refl, sym, ap, ◌∙◌, tables_cleared, tlb_invalidated}
-use Rattle.core_steps.specs.State.{world}
-use Rattle.core_steps.proofs.rows.Known.{message_pages}
-use Rattle.core_steps.proofs.rows.Rows.{none_left}
 use Rattle.core_steps.proofs.engine.Engine.take.Goals as goal
 
-pub clear_tables-requires-clause-pages : goal.clear_tables-requires-clause-pages
-clear_tables-requires-clause-pages g c = message_pages (world g.M.SlotRead.slots c.args.self.now) c.args.core c.requires.well _ c.in-Clear.ensures.took
-
 pub returns-in-Clear : goal.returns-in-Clear
-returns-in-Clear g c =
-    rw (← c.in-Clear.ensures.took) (
-      refl,
-      ap (λ h. record (world g.M.SlotRead.slots c.args.self.now) { hardware = h })
-          (c.clear_tables.ensures.after ∙ ap (λ h. tables_cleared h c.args.core c.in-Clear.range) c.take.ensures.after),
-    )
+returns-in-Clear g c = rw (← c.in-Clear.ensures.asked) c.in-Clear.ensures.acts
 
 pub returns-in-Invalidate : goal.returns-in-Invalidate
-returns-in-Invalidate g c =
-    rw (← c.in-Invalidate.ensures.took) (
-      refl,
-      ap (λ h. record (world g.M.SlotRead.slots c.args.self.now) { hardware = h })
-          (c.invalidate.ensures.after ∙ ap (λ h. tlb_invalidated h c.args.core c.in-Invalidate.range) c.take.ensures.after),
-    )
+returns-in-Invalidate g c = rw (← c.in-Invalidate.ensures.asked) c.in-Invalidate.ensures.acts
 
 pub returns-in-Idle : goal.returns-in-Idle
-returns-in-Idle g c =
-    rw (← c.in-Idle.ensures.took)
-    (refl, rw (c.take.ensures.after, none_left (world g.M.SlotRead.slots c.args.self.now).hardware c.args.core (sym c.in-Idle.ensures.took)) refl)
+returns-in-Idle g c = rw (← c.in-Idle.ensures.asked) c.in-Idle.ensures.acts
