@@ -62,7 +62,7 @@ walk() { # NAME
 
 try_with() { # COMPILER
     echo "-- C programs by $1"
-    for name in walker beside kept log shadow bad trace seats threads outside; do compile "$1" $name $name; done
+    for name in walker beside kept log shadow bad trace seats threads outside driven; do compile "$1" $name $name; done
     compile "$1" bad refused -DREFUSE -Wno-pedantic -Wl,--wrap=malloc,--wrap=realloc
     compile "$1" refused_threads refused_threads -Wno-pedantic -Wl,--wrap=malloc,--wrap=realloc
     walk walker
@@ -70,6 +70,7 @@ try_with() { # COMPILER
     walk kept
     walk log
     walk outside
+    walk driven
     for bug in 1 2 3; do
         if "$work/outside" 1 $bug > "$work/out"; then
             echo "bindings/test.sh: error $bug of a real MMU's handler wasn't found" >&2

@@ -57,7 +57,7 @@
 #include <sched.h>
 #endif
 
-#define RADIXVM_VERSION 4 /* radixvm_version() returns this if the library fits this header */
+#define RADIXVM_VERSION 5 /* radixvm_version() returns this if the library fits this header */
 
 /* The size of a machine. */
 typedef struct {
@@ -161,6 +161,33 @@ typedef struct {
 } radixvm_log_entry;
 enum { RADIXVM_ENTRY_REPLY = 1, RADIXVM_ENTRY_COPY };
 
+/* What a touch comes to, as a handler of page faults needs it. */
+typedef struct {
+    uint64_t word;        /* the core's entry of the page now, as radixvm_entry tells it; 0 if there is none */
+    uint64_t page;        /* the page of the touch; 0 if the address has none */
+    uint32_t frame, fill; /* the page's frame, 0 if it has none; RADIXVM_FILL_.. */
+    uint64_t from;        /* RADIXVM_FILL_FRAME: the frame to copy. RADIXVM_FILL_FILE: the page of the file. Otherwise 0 */
+    uint32_t file;        /* RADIXVM_FILL_FILE: the file's number. Otherwise 0 */
+} radixvm_filled;
+enum {
+    RADIXVM_FILL_NONE = 0, /* the page's frame has its bytes already, or the page has no frame */
+    RADIXVM_FILL_ZERO,     /* the frame is new: make its 4096 bytes 0 */
+    RADIXVM_FILL_FRAME,    /* the frame is new: copy the 4096 bytes of frame `from` into it */
+    RADIXVM_FILL_FILE      /* the frame is new: copy page `from` of file `file` into it, with 0 after the file's end */
+};
+
+/* Pages first to end - 1, of which a core is to drop its real translations. */
+typedef struct {
+    uint64_t first, end; /* the first page, and the page after the last; both 0 with RADIXVM_DROP_NONE */
+    uint32_t what, from; /* RADIXVM_DROP_..; the core whose call asks for it */
+} radixvm_drop;
+enum {
+    RADIXVM_DROP_NONE = 0, /* nothing */
+    RADIXVM_DROP_TABLES,   /* clear the words of these pages and flush the real TLB of them, now */
+    RADIXVM_DROP_TLB,      /* this take was the acknowledgement: the core must have no word and no TLB entry of them */
+    RADIXVM_DROP_OWN       /* clear the words and flush, before the core runs an instruction of its program again */
+};
+
 /* How a batch ended. The first `count` events were taken, and outcomes[0] to outcomes[count - 1] are theirs; all
  * other outcomes are unchanged. With RADIXVM_NO_ROOM or a later status, except RADIXVM_AT_LIMIT, no event was taken. */
 typedef struct {
@@ -248,6 +275,13 @@ uint64_t radixvm_cores_held(radixvm_machine *machine);
 uint32_t radixvm_entry_held(radixvm_machine *machine, uint32_t core, uint64_t page, uint64_t *word);
 radixvm_done radixvm_maps_held(radixvm_machine *machine, radixvm_line *lines, size_t room);
 radixvm_done radixvm_log_held(radixvm_machine *machine, radixvm_log_entry *entries, size_t room);
+uint32_t radixvm_touch_held(radixvm_machine *machine, uint32_t core, uint64_t at, uint32_t kind,
+    radixvm_outcome *outcome, radixvm_filled *filled);
+uint32_t radixvm_change_held(radixvm_machine *machine, const radixvm_event *event, radixvm_outcome *outcome,
+    radixvm_drop *own);
+uint32_t radixvm_go_on_held(radixvm_machine *machine, uint32_t core, radixvm_outcome *outcome, radixvm_filled *filled,
+    radixvm_drop *own);
+uint32_t radixvm_take_held(radixvm_machine *machine, uint32_t core, radixvm_drop *drop);
 
 /* Makes a machine in an empty place, and copies the bytes of the files. With a log, it takes the memory of the
  * whole log at once: about 100 bytes for each call that may begin. */
@@ -337,6 +371,114 @@ static inline radixvm_done radixvm_log(const radixvm_machine *machine, radixvm_l
         return null;
     }
     return radixvm_log_held((radixvm_machine *)machine, entries ? entries : &no_entry, room);
+}
+
+/* ---- A real MMU: your page tables, or a TLB of your own, do the accesses, and a kept machine decides what they may
+ * translate. Frame f of the machine is a page of your memory, number f, which has the bytes. The machine's own bytes stay
+ * 0: it is told of faults, and not of accesses.
+ *
+ * A core's loop:
+ *   - Page fault: lock; radixvm_touch. RADIXVM_DONE or RADIXVM_BYTE: drop the page's old translation, make the fill,
+ *     install `word`; unlock; run the instruction again. A signal: unlock, and deliver it. RADIXVM_NO_FRAME: radixvm_reclaim,
+ *     and try once more. A wait: drop the page's old translation; unlock; send interrupts to the cores of
+ *     RADIXVM_WAIT_ACKS; serve your own inbox; lock; radixvm_go_on, until the outcome is a reply. (RADIXVM_STEPPED is no
+ *     reply either: a call that would have a second thing to tell stops before it, and goes on by radixvm_go_on.)
+ *   - System call: lock; radixvm_change; drop `own`; a wait as above.
+ *   - Interrupt: lock; radixvm_take until it tells RADIXVM_DROP_NONE, and do at once what each take tells; unlock.
+ *
+ * When an entry changes. A core's entry of a page, as radixvm_entry tells it, changes at three places only: a touch of that
+ * core and page gives it `word`; the core's own change or copy drops it, where `own` or the touch tells so; and a take of
+ * that core that tells RADIXVM_DROP_TABLES drops it. No other call changes it, and none of another core does.
+ *
+ * If you do your duties, each access of each core has the reply of a plain page map (POSIX.1-2017 mmap, munmap, mprotect) at
+ * its moment, with its core's waiting stores made. What is proved of hardware is the law driven_runs_are_plain of
+ * crates/real_mmu. That your code does its duties is proved nowhere. They are, by number, in the words of Intel SDM volume 3A:
+ *   1. One lock is held over each call of the library on this machine, and from a touch until its fill is made and its word is
+ *      installed. It is taken by a locked instruction, which empties the core's store buffer (8.2.2).
+ *   2. Core c's paging-structure entry of a page is made present by core c alone, as `word` tells it, in the locked section of
+ *      that touch. Between a take that tells RADIXVM_DROP_TABLES and its next take the core clears the entries of the range, each
+ *      by one 8-byte store, and then invalidates them by INVLPG or MOV to CR3 (4.10.4.1). INVLPG is for the current PCID alone.
+ *   3. After its own change or copy a core runs no instruction of its program until it has cleared and invalidated `own`, or
+ *      the page of its touch. Its handlers make no access by the program's translations.
+ *   4. A fill is made before the word is installed. A fill by non-temporal stores ends with SFENCE.
+ *   5. All mappings of frames are of memory type write-back. An access of n bytes is n accesses of one byte.
+ *   6. Your entries may differ from `word` in the physical address of frame 0, and in the accessed and dirty flags (4.8). There are
+ *      no global pages, each page has 4 KBytes, paging is 4-level, and each core has one PCID.
+ *   7. The processor walks your paging structures alone, which lie in no frame of the machine. One is freed or moved only after the
+ *      core has cleared what leads to it and invalidated its paging-structure caches (4.10.3). Upper entries permit everything.
+ *   8. CR0.WP and IA32_EFER.NXE are 1. Before its first touch a core has no translation of the space.
+ *   9. Bytes of frames change by fills and by the program's accesses alone: by no device, no other mapping and no system call. The
+ *      bytes of files, from which RADIXVM_FILL_FILE copies, never change.
+ *  10. On this machine you make calls by the five functions below alone. RADIXVM_FLUSH, RADIXVM_REVIEW and RADIXVM_FOLD by
+ *      radixvm_step are allowed, and so is each function that changes nothing.
+ *
+ * Seats can't drive a real MMU: a seat's call makes the takes of the other cores itself, before their real TLBs are flushed.
+ * A kept machine under your lock serves one thread at a time too. A handler of faults or interrupts may call the library if
+ * it didn't interrupt a call of the library.
+ */
+
+/* A page fault of the core at an address; `kind` is RADIXVM_LOAD, RADIXVM_STORE or RADIXVM_FETCH. It makes RADIXVM_EVICT of
+ * the page, as a page fault does (Intel SDM volume 3A, 4.10.4.1), and then the access, which stores 0. `filled` tells what
+ * the page has now, and the fill that is due. It is written with RADIXVM_OUT_OF_MEMORY too: make its fill, and go on
+ * later. RADIXVM_EMPTY: there is no machine. RADIXVM_ABSENT: no such core. RADIXVM_BAD_EVENT: another kind. RADIXVM_IN_FLIGHT: the
+ * core has a call that hasn't ended. */
+static inline uint32_t radixvm_touch(radixvm_machine *machine, uint32_t core, uint64_t at, uint32_t kind,
+    radixvm_outcome *outcome, radixvm_filled *filled) {
+    if (!machine || !outcome || !filled) return RADIXVM_NULL;
+    return radixvm_touch_held(machine, core, at, kind, outcome, filled);
+}
+/* A call RADIXVM_MMAP, RADIXVM_MUNMAP or RADIXVM_MPROTECT of event->core, until it ends or waits. `own` is RADIXVM_DROP_OWN
+ * where the call dropped its own core's translations, and otherwise RADIXVM_DROP_NONE. It is told once: here, or by the
+ * radixvm_go_on that does it. It is written with RADIXVM_OUT_OF_MEMORY too. Other statuses as above. */
+static inline uint32_t radixvm_change(radixvm_machine *machine, const radixvm_event *event, radixvm_outcome *outcome,
+    radixvm_drop *own) {
+    if (!machine || !event || !outcome || !own) return RADIXVM_NULL;
+    return radixvm_change_held(machine, event, outcome, own);
+}
+/* Goes on with the core's touch or change until it ends or waits, as radixvm_finish does, and tells `filled` of a touch and
+ * `own` as above. With no touch `filled` is all 0. RADIXVM_IDLE: the core has no call. */
+static inline uint32_t radixvm_go_on(radixvm_machine *machine, uint32_t core, radixvm_outcome *outcome,
+    radixvm_filled *filled, radixvm_drop *own) {
+    if (!machine || !outcome || !filled || !own) return RADIXVM_NULL;
+    return radixvm_go_on_held(machine, core, outcome, filled, own);
+}
+/* The core does what the oldest message of its inbox asks, as by RADIXVM_TAKE. Each message is told twice: as
+ * RADIXVM_DROP_TABLES, and then, by the take that acknowledges it, as RADIXVM_DROP_TLB. RADIXVM_DROP_NONE: there is none. */
+static inline uint32_t radixvm_take(radixvm_machine *machine, uint32_t core, radixvm_drop *drop) {
+    if (!machine || !drop) return RADIXVM_NULL;
+    return radixvm_take_held(machine, core, drop);
+}
+/* Brings back frames that no page has any more: rounds over all cores, each of which makes RADIXVM_FLUSH, and then
+ * RADIXVM_REVIEW until it is no step, until two rounds review nothing, eight at the most. `reviews` is how many reviews were
+ * made: at least as many as frames came back. Each is a step of the machine; that all free frames are back isn't proved. */
+static inline uint32_t radixvm_reclaim(radixvm_machine *machine, uint64_t *reviews) {
+    radixvm_event event = {0, 0, 0, 0, 0, 0, 0, 0, 0};
+    radixvm_outcome outcome;
+    uint32_t status = RADIXVM_OK, quiet = 0;
+    if (!machine || !reviews) return RADIXVM_NULL;
+    const uint32_t cores = (uint32_t)radixvm_cores(machine);
+    *reviews = 0;
+    if (!cores) return RADIXVM_EMPTY;
+    for (uint32_t round = 0; round < 8 && quiet < 2; round++) {
+        const uint64_t before = *reviews;
+        event.kind = RADIXVM_FLUSH; /* a core has at most 64 counts to flush, and then ends its part of the epoch */
+        for (event.core = 0; event.core < cores; event.core++)
+            for (uint32_t flush = 0; flush < 65; flush++) {
+                status = radixvm_step(machine, &event, &outcome);
+                if (status != RADIXVM_OK) return status;
+                if (outcome.kind != RADIXVM_STEPPED) break;
+            }
+        event.kind = RADIXVM_REVIEW;
+        for (event.core = 0; event.core < cores; event.core++)
+            for (;;) {
+                status = radixvm_step(machine, &event, &outcome);
+                if (status != RADIXVM_OK) return status;
+                if (outcome.kind != RADIXVM_STEPPED) break;
+                ++*reviews;
+            }
+        quiet = *reviews == before ? quiet + 1 : 0;
+    }
+    return RADIXVM_OK;
 }
 
 /* ---- Shared machines. Each thread has a seat, which makes whole calls of one core, beside the other threads.

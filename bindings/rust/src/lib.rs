@@ -302,6 +302,53 @@ impl fmt::Display for Stopped {
 
 impl std::error::Error for Stopped {}
 
+/// An access.
+#[derive(Clone, Copy, Debug, PartialEq, Eq)]
+pub enum Access {
+    Load,
+    Store,
+    Fetch,
+}
+
+/// Where the bytes of a touched page's frame are to come from, before the page's entry is installed.
+#[derive(Clone, Copy, Debug, PartialEq, Eq)]
+pub enum Filled {
+    /// The frame has them already, or the page has no frame.
+    Ready,
+    /// They are all 0.
+    Zero,
+    /// They are copied from this frame.
+    Frame(u32),
+    /// They are copied from this page of a file, as it was opened, with 0 after the file's end.
+    File { file: u32, page: u64 },
+}
+
+/// What a page fault comes to.
+#[derive(Clone, Copy, Debug, PartialEq, Eq)]
+pub struct Touched {
+    /// The outcome of its call; none where memory was refused to a step. Then make the fill, and go on by [`Machine::go_on`].
+    pub outcome: Option<Outcome>,
+    /// The core's entry of the page, as [`Machine::entry`] tells it; 0 where it has none.
+    pub word: u64,
+    /// The page.
+    pub page: u64,
+    /// Its frame; 0 where it has none.
+    pub frame: u32,
+    /// The fill that is due.
+    pub fill: Filled,
+}
+
+/// Pages of which a core is to drop its real translations.
+#[derive(Clone, Debug, PartialEq, Eq)]
+pub enum Drop {
+    /// Clear their words and flush the real TLB, now. The call of the core `from` asks for it.
+    Tables { pages: Range<u64>, from: u32 },
+    /// This take was the acknowledgement: nothing of them may be left.
+    Tlb { pages: Range<u64>, from: u32 },
+    /// Clear and flush, before the core runs its program again. Its own call drops them.
+    Own { pages: Range<u64> },
+}
+
 /// The version of the library's codes and structs.
 pub fn version() -> u32 {
     raw::version()

@@ -1,6 +1,6 @@
 //! A machine that is kept.
 use crate::raw::{of_ask, of_event, Place, Way};
-use crate::{Ask, Entry, Error, Event, Line, Outcome, Request, Setup, Stopped};
+use crate::{Access, Ask, Drop, Entry, Error, Event, Line, Outcome, Request, Setup, Stopped, Touched};
 use std::fmt;
 
 /// A machine that takes events and calls as they come, and is freed when it is dropped. It may go to another thread, and isn't
@@ -120,6 +120,110 @@ impl Machine {
     pub fn calls(&mut self, asks: &[Ask]) -> Result<Vec<Outcome>, Stopped> {
         let raws: Vec<_> = asks.iter().map(of_ask).collect();
         self.place.many(&raws, Way::Calls)
+    }
+
+    /// A page fault of the core, whose accesses real page tables translate: what the page has now, and the fill that is due. The
+    /// duties of the caller are in `include/radixvm.h`, under "A real MMU".
+    ///
+    /// ```
+    /// use radixvm::{Access, Drop, Filled, Flags, Machine, Outcome, Prot, Reply, Request, Setup};
+    /// use std::collections::HashMap;
+    ///
+    /// // two cores' page tables, and the bytes of frames
+    /// let mut words = [HashMap::new(), HashMap::new()];
+    /// let mut frames = vec![[1u8; 4096]; 4];
+    /// let mut machine = Machine::new(&Setup::new(2, 4, 100))?;
+    /// let flags = Flags { private: true, fixed: true, anonymous: true, ..Flags::default() };
+    /// let prot = Prot { read: true, write: true, exec: false };
+    /// let mmap = Request::Mmap { addr: 0x10000, len: 4096, prot, flags, file: 0, off: 0 };
+    /// assert_eq!(machine.change(0, mmap)?.0, Some(Outcome::Replied(Reply::Mapped(0x10000))));
+    ///
+    /// // a core's fault: the fill is made, and then the word is installed
+    /// for core in [0, 1] {
+    ///     let touched = machine.touch(core, 0x10004, Access::Store)?;
+    ///     assert_eq!(touched.outcome, Some(Outcome::Replied(Reply::Done)));
+    ///     assert_eq!(touched.fill, if core == 0 { Filled::Zero } else { Filled::Ready });
+    ///     if touched.fill == Filled::Zero {
+    ///         frames[touched.frame as usize] = [0; 4096];
+    ///     }
+    ///     words[core as usize].insert(touched.page, touched.word);
+    /// }
+    ///
+    /// // a change drops its own core's words at once, and waits for the other's
+    /// let (outcome, own) = machine.change(0, Request::Munmap { addr: 0x10000, len: 4096 })?;
+    /// assert_eq!(outcome, Some(Outcome::WaitsForAcks(2)));
+    /// assert_eq!(own, Some(Drop::Own { pages: 16..17 }));
+    /// words[0].remove(&16);
+    ///
+    /// // the other core's interrupt: it clears and flushes between the two takes
+    /// assert_eq!(machine.take(1)?, Some(Drop::Tables { pages: 16..17, from: 0 }));
+    /// words[1].remove(&16);
+    /// assert_eq!(machine.take(1)?, Some(Drop::Tlb { pages: 16..17, from: 0 }));
+    /// assert_eq!(machine.take(1)?, None);
+    /// let (ended, own) = machine.go_on(0)?;
+    /// assert_eq!((ended.outcome, own), (Some(Outcome::Replied(Reply::Done)), None));
+    /// # Ok::<(), radixvm::Error>(())
+    /// ```
+    pub fn touch(&mut self, core: u32, at: u64, access: Access) -> Result<Touched, Error> {
+        self.place.touch(core, at, access)
+    }
+
+    /// An mmap, a munmap or an mprotect of the core, to its end or until it waits, and the pages that the core itself is to drop.
+    /// The outcome is none where memory was refused to a step.
+    pub fn change(&mut self, core: u32, request: Request) -> Result<(Option<Outcome>, Option<Drop>), Error> {
+        self.place.change(core, &request)
+    }
+
+    /// Goes on with the core's touch or change, to its end or until it waits.
+    pub fn go_on(&mut self, core: u32) -> Result<(Touched, Option<Drop>), Error> {
+        self.place.go_on(core)
+    }
+
+    /// The core does what the oldest message of its inbox asks, which is told; none where there is no message.
+    pub fn take(&mut self, core: u32) -> Result<Option<Drop>, Error> {
+        self.place.take(core)
+    }
+
+    /// Brings back frames that no page has any more, as `radixvm_reclaim` does in C: how many reviews were made, at least as many as
+    /// frames came back.
+    ///
+    /// ```
+    /// use radixvm::{Access, Flags, Machine, Outcome, Prot, Reply, Request, Setup};
+    ///
+    /// let mut machine = Machine::new(&Setup::new(1, 1, 100))?;
+    /// let flags = Flags { private: true, fixed: true, anonymous: true, ..Flags::default() };
+    /// let prot = Prot { read: true, write: true, exec: false };
+    /// for _ in 0..3 {
+    ///     machine.change(0, Request::Mmap { addr: 0x10000, len: 4096, prot, flags, file: 0, off: 0 })?;
+    ///     assert_eq!(machine.touch(0, 0x10000, Access::Store)?.outcome, Some(Outcome::Replied(Reply::Done)));
+    ///     machine.change(0, Request::Munmap { addr: 0x10000, len: 4096 })?;
+    ///     assert_eq!(machine.reclaim()?, 1);
+    /// }
+    /// # Ok::<(), radixvm::Error>(())
+    /// ```
+    pub fn reclaim(&mut self) -> Result<u64, Error> {
+        let (cores, mut reviews, mut quiet) = (self.cores() as u32, 0, 0);
+        for _round in 0..8 {
+            let before = reviews;
+            for core in 0..cores {
+                // a core has at most 64 counts to flush, and then ends its part of the epoch
+                for _flush in 0..65 {
+                    if self.step(&Event::Flush(core))? != Outcome::Stepped {
+                        break;
+                    }
+                }
+            }
+            for core in 0..cores {
+                while self.step(&Event::Review(core))? == Outcome::Stepped {
+                    reviews += 1;
+                }
+            }
+            quiet = if reviews == before { quiet + 1 } else { 0 };
+            if quiet == 2 {
+                break;
+            }
+        }
+        Ok(reviews)
     }
 
     /// How many cores it has.

@@ -1,5 +1,5 @@
 //! The structs and codes of `include/radixvm.h`.
-use crate::{Aside, Ask, Back, Entry, Errno, Error, Event, Flags, Line, Mode, Outcome, Prot, Reply, Request, Setup, Stopped, StoppedCalls};
+use crate::{Access, Aside, Ask, Back, Drop, Entry, Filled, Errno, Error, Event, Flags, Line, Mode, Outcome, Prot, Reply, Request, Setup, Stopped, StoppedCalls, Touched};
 use std::ptr;
 
 #[repr(C)]
@@ -85,6 +85,26 @@ struct RawEntry {
     reply: RawOutcome,
 }
 
+#[repr(C)]
+#[derive(Clone, Copy, Default)]
+struct RawFilled {
+    word: u64,
+    page: u64,
+    frame: u32,
+    fill: u32,
+    from: u64,
+    file: u32,
+}
+
+#[repr(C)]
+#[derive(Clone, Copy, Default)]
+struct RawDrop {
+    first: u64,
+    end: u64,
+    what: u32,
+    from: u32,
+}
+
 type Batch = unsafe extern "C" fn(
     *const RawSetup, *const RawFile, usize, *const u8, usize, *const RawEvent, usize, *mut RawOutcome, usize,
 ) -> RawDone;
@@ -115,6 +135,14 @@ extern "C" {
     fn radixvm_entry_held(machine: *const Place, core: u32, page: u64, word: *mut u64) -> u32;
     fn radixvm_maps_held(machine: *const Place, lines: *mut RawLine, room: usize) -> RawDone;
     fn radixvm_log_held(machine: *const Place, entries: *mut RawEntry, room: usize) -> RawDone;
+    fn radixvm_touch_held(
+        machine: *mut Place, core: u32, at: u64, kind: u32, outcome: *mut RawOutcome, filled: *mut RawFilled,
+    ) -> u32;
+    fn radixvm_change_held(machine: *mut Place, event: *const RawEvent, outcome: *mut RawOutcome, own: *mut RawDrop) -> u32;
+    fn radixvm_go_on_held(
+        machine: *mut Place, core: u32, outcome: *mut RawOutcome, filled: *mut RawFilled, own: *mut RawDrop,
+    ) -> u32;
+    fn radixvm_take_held(machine: *mut Place, core: u32, told: *mut RawDrop) -> u32;
     fn radixvm_share_held(machine: *mut Place, seat: *mut SeatPlace) -> u32;
     fn radixvm_split_seat(first: *mut SeatPlace, other: *mut SeatPlace) -> u32;
     fn radixvm_try_seat(seat: *mut SeatPlace, event: *const RawEvent, outcome: *mut RawOutcome) -> u32;
@@ -308,7 +336,80 @@ pub fn batch(setup: &Setup, raws: &[RawEvent], way: Way) -> Result<Vec<Outcome>,
     ended(&done, &told)
 }
 
+fn filled_of(raw: &RawFilled) -> Option<Filled> {
+    Some(match raw.fill {
+        0 => Filled::Ready,
+        1 => Filled::Zero,
+        2 => Filled::Frame(raw.from as u32),
+        3 => Filled::File { file: raw.file, page: raw.from },
+        _ => return None,
+    })
+}
+
+fn drop_of(raw: &RawDrop) -> Option<Drop> {
+    let pages = raw.first..raw.end;
+    match raw.what {
+        1 => Some(Drop::Tables { pages, from: raw.from }),
+        2 => Some(Drop::Tlb { pages, from: raw.from }),
+        3 => Some(Drop::Own { pages }),
+        _ => None,
+    }
+}
+
+/// The outcome of a call that memory wasn't refused to, and none of one that it was.
+fn outcome_with(status: u32, told: &RawOutcome) -> Result<Option<Outcome>, Error> {
+    match (status, outcome_of(told)) {
+        (0, Some(outcome)) => Ok(Some(outcome)),
+        (2, _) => Ok(None),
+        (0, None) => Err(Error::UnknownCode(told.kind)),
+        (status, _) => Err(error_of(status, 0)),
+    }
+}
+
+fn touched_of(status: u32, told: &RawOutcome, raw: &RawFilled) -> Result<Touched, Error> {
+    let outcome = outcome_with(status, told)?;
+    let fill = filled_of(raw).ok_or(Error::UnknownCode(raw.fill))?;
+    Ok(Touched { outcome, word: raw.word, page: raw.page, frame: raw.frame, fill })
+}
+
 impl Place {
+    pub fn touch(&mut self, core: u32, at: u64, access: Access) -> Result<Touched, Error> {
+        let kind = match access {
+            Access::Load => 4,
+            Access::Store => 5,
+            Access::Fetch => 6,
+        };
+        let (mut told, mut raw) = (RawOutcome::default(), RawFilled::default());
+        // SAFETY: the place is the library's own, and all are references.
+        let status = unsafe { radixvm_touch_held(self, core, at, kind, &mut told, &mut raw) };
+        touched_of(status, &told, &raw)
+    }
+
+    pub fn change(&mut self, core: u32, request: &Request) -> Result<(Option<Outcome>, Option<Drop>), Error> {
+        let (mut told, mut own) = (RawOutcome::default(), RawDrop::default());
+        // SAFETY: as above.
+        let status = unsafe { radixvm_change_held(self, &of_request(core, request), &mut told, &mut own) };
+        Ok((outcome_with(status, &told)?, drop_of(&own)))
+    }
+
+    pub fn go_on(&mut self, core: u32) -> Result<(Touched, Option<Drop>), Error> {
+        let (mut told, mut raw, mut own) = (RawOutcome::default(), RawFilled::default(), RawDrop::default());
+        // SAFETY: as above.
+        let status = unsafe { radixvm_go_on_held(self, core, &mut told, &mut raw, &mut own) };
+        Ok((touched_of(status, &told, &raw)?, drop_of(&own)))
+    }
+
+    pub fn take(&mut self, core: u32) -> Result<Option<Drop>, Error> {
+        let mut told = RawDrop::default();
+        // SAFETY: as above.
+        let status = unsafe { radixvm_take_held(self, core, &mut told) };
+        if status == 0 {
+            Ok(drop_of(&told))
+        } else {
+            Err(error_of(status, 0))
+        }
+    }
+
     pub fn new(setup: &Setup) -> Result<Place, Error> {
         let (raw_setup, files, bytes) = of_setup(setup);
         let mut place = Place { at: ptr::null_mut() };
@@ -393,7 +494,7 @@ impl Place {
     }
 }
 
-impl Drop for Place {
+impl std::ops::Drop for Place {
     fn drop(&mut self) {
         // SAFETY: as above; nothing has a copy of it.
         unsafe { radixvm_free_held(self) }
@@ -477,7 +578,7 @@ impl SeatPlace {
     }
 }
 
-impl Drop for SeatPlace {
+impl std::ops::Drop for SeatPlace {
     fn drop(&mut self) {
         // SAFETY: as above; nothing has a copy of it.
         unsafe { radixvm_free_seat(self) }

@@ -1,7 +1,7 @@
 //! The static library for C: batches, machines that C holds, and seats of shared ones.
 //!
-//! - The root has the functions of batches and of held machines; `threads`: those of shared ones. Their names begin
-//!   with `radixvm_`.
+//! - The root has the functions of batches and of held machines; `tables`: those for real page tables; `threads`: those of
+//!   shared machines. Their names begin with `radixvm_`.
 //! - `handle`, `placed`, `loose`, `making`: what C keeps, and how it is made; `chair_handle`, `chair`, `seats`,
 //!   `sharing`: a seat.
 //!
@@ -25,6 +25,7 @@ pub mod making;
 pub mod placed;
 pub mod seats;
 pub mod sharing;
+pub mod tables;
 pub mod threads;
 
 use crate::handle::Handle;
@@ -40,10 +41,10 @@ use coded::opening::{RawFile, RawSetup, Refusal};
 use std::alloc::Global;
 
 /// The version that include/radixvm.h has.
-const VERSION: u32 = 4;
+const VERSION: u32 = 5;
 
 /// The code of an empty handle, where no `Done` is told.
-const EMPTY: u32 = 7;
+pub(crate) const EMPTY: u32 = 7;
 
 /// The code of a core or a page that isn't there.
 const ABSENT: u32 = 9;
@@ -51,7 +52,7 @@ const ABSENT: u32 = 9;
 /// The version of the codes and structs of `include/radixvm.h`.
 #[unsafe(no_mangle)]
 pub extern "C" fn radixvm_version() -> u32
-    ensures { result ≡ 4 }
+    ensures { result ≡ 5 }
 {
     VERSION
 }

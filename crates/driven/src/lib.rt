@@ -1,0 +1,12 @@
+//! A machine that C holds and that decides what real page tables may translate.
+//!
+//! - `telling`: steps of a core's call, and what they tell: the range that the core drops, and the frame that a page gets.
+//! - `driving`: touches, changes and takes, as numbers and structs of C.
+//!
+//! It exists for `driving::touch`: a page fault is made as steps of the machine, and all that they owe to real page tables
+//! and to frames' bytes outside is told, by the definitions of `real_mmu`. There is no export here: those stand in
+//! `radixvm_c`.
+#![tactic(auto)]
+
+pub mod driving;
+pub mod telling;
