@@ -3,7 +3,7 @@
  * Each access, by whatever translation hardware may still have, is compared with a plain page map of one's own.
  * Usage: outside [SEED [BUG]]; status 1 at a difference. BUG plants an error of the handler: 1, a core acknowledges a message with translations
  * left in its TLB; 2, it keeps those of its own change; 3, a new frame keeps its old bytes. */
-#include "../../examples/mmu/calls.h"
+#include "radixvm.h"
 #include <stdio.h>
 #include <stdlib.h>
 #include <string.h>
@@ -13,8 +13,6 @@ enum { NO_FLUSH = 1, OWN_KEPT, NO_ZEROS };
 static const uint64_t FIRST = 0x10000;
 static const uint64_t offsets[PLACES] = {0, 1, 2047, 4095}; /* the bytes of a page that are looked at */
 
-static struct known all_known;
-static struct known *known(void) { return &all_known; }
 
 static uint64_t seed = 1;
 static int bug;
@@ -87,7 +85,7 @@ static struct core {
     uint64_t words[PAGES], tlb[PAGES][MOST];
     int count[PAGES], in_call;
     radixvm_event asked;        /* the touch or change that waits */
-    mmu_drop message, owed; /* what is to be dropped before the next take, and before the program goes on */
+    radixvm_drop message, owed; /* what is to be dropped before the next take, and before the program goes on */
 } cores[CORES];
 
 static int permits(uint64_t word, uint32_t kind) {
@@ -105,33 +103,33 @@ static void lose(struct core *core, uint64_t page) {
 }
 
 /* Clears the words, and flushes, where the handler does that. */
-static void drop(struct core *core, mmu_drop *pages_told, int flushes) {
+static void drop(struct core *core, radixvm_drop *pages_told, int flushes) {
     for (uint64_t p = pages_told->first; p < pages_told->end; p++) {
         core->words[p - FIRST] = 0;
         if (flushes) core->count[p - FIRST] = 0;
     }
-    pages_told->what = MMU_DROP_NONE;
+    pages_told->what = RADIXVM_DROP_NONE;
 }
 
-static void fill(const mmu_filled *filled) {
+static void fill(const radixvm_filled *filled) {
     uint8_t *to = outside[filled->frame];
-    for (uint64_t place = 0; place < PLACES && filled->fill != MMU_FILL_NONE; place++) {
-        if (filled->fill == MMU_FILL_FRAME) to[place] = outside[filled->from][place];
-        else if (filled->fill == MMU_FILL_FILE) to[place] = file[filled->from * 4096 + offsets[place]];
+    for (uint64_t place = 0; place < PLACES && filled->fill != RADIXVM_FILL_NONE; place++) {
+        if (filled->fill == RADIXVM_FILL_FRAME) to[place] = outside[filled->from][place];
+        else if (filled->fill == RADIXVM_FILL_FILE) to[place] = file[filled->from * 4096 + offsets[place]];
         else if (bug != NO_ZEROS) to[place] = 0;
     }
 }
 
 /* What a touch or change has come to: its fill is made, its own range is owed, and where it ended the map changes, or the word is installed. */
-static void come_to(uint32_t c, const radixvm_outcome *told, const mmu_filled *filled, const mmu_drop *own) {
+static void come_to(uint32_t c, const radixvm_outcome *told, const radixvm_filled *filled, const radixvm_drop *own) {
     struct core *core = &cores[c];
     uint64_t value, back, page = core->asked.at / 4096 - FIRST;
     fill(filled);
-    if (core->asked.kind == RADIXVM_STORE && filled->fill != MMU_FILL_NONE) copy_own(&pages[page]);
-    if (own->what == MMU_DROP_OWN && bug != OWN_KEPT) core->owed = *own;
+    if (core->asked.kind == RADIXVM_STORE && filled->fill != RADIXVM_FILL_NONE) copy_own(&pages[page]);
+    if (own->what == RADIXVM_DROP_OWN && bug != OWN_KEPT) core->owed = *own;
     core->in_call = told->kind <= RADIXVM_WAIT_ACKS;
     if (core->in_call) return;
-    if (told->kind == RADIXVM_NO_FRAME) must(mmu_reclaim(&machine, &back));
+    if (told->kind == RADIXVM_NO_FRAME) must(radixvm_reclaim(&machine, &back));
     else if (core->asked.kind <= RADIXVM_MPROTECT) change_map(&core->asked, told);
     else if (told->kind != due(&pages[page], core->asked.kind, 0, &value)) fail("a fault comes to another reply", c, page);
     if (core->asked.kind <= RADIXVM_MPROTECT) return;
@@ -152,11 +150,11 @@ static void access_byte(uint32_t c) {
     uint64_t word = core->count[page] ? core->tlb[page][below((uint64_t)core->count[page])] : 0;
     if (!permits(word, kind)) {
         radixvm_outcome told = {0, 0};
-        mmu_filled filled = {0, 0, 0, 0, 0, 0};
-        mmu_drop own = {0, 0, 0, 0};
+        radixvm_filled filled = {0, 0, 0, 0, 0, 0};
+        radixvm_drop own = {0, 0, 0, 0};
         radixvm_event asked = {kind, c, (FIRST + page) * 4096 + offsets[place], 0, 0, 0, 0, 0, 0};
         core->asked = asked, faults++;
-        must(mmu_touch(&machine, c, asked.at, kind, &told, &filled));
+        must(radixvm_touch(&machine, c, asked.at, kind, &told, &filled));
         come_to(c, &told, &filled, &own);
         return;
     }
@@ -170,8 +168,8 @@ static void access_byte(uint32_t c) {
 
 static void change(uint32_t c) {
     radixvm_outcome told = {0, 0};
-    mmu_filled none = {0, 0, 0, 0, 0, 0};
-    mmu_drop own = {0, 0, 0, 0};
+    radixvm_filled none = {0, 0, 0, 0, 0, 0};
+    radixvm_drop own = {0, 0, 0, 0};
     uint64_t page = below(PAGES), how = below(8), count = 1 + below(PAGES - page > 3 ? 3 : PAGES - page);
     radixvm_event asked = {RADIXVM_MMAP, c, (FIRST + page) * 4096, count * 4096, 0, below(FILE_PAGES + 1) * 4096, (uint32_t)below(8), RADIXVM_MAP_FIXED, 0};
     if (below(2)) asked.prot |= RADIXVM_PROT_READ | RADIXVM_PROT_WRITE;
@@ -179,24 +177,24 @@ static void change(uint32_t c) {
     if (how < 2) asked.kind = how ? RADIXVM_MUNMAP : RADIXVM_MPROTECT;
     else if (how < 4) asked.flags |= RADIXVM_MAP_ANONYMOUS;
     cores[c].asked = asked;
-    must(mmu_change(&machine, &asked, &told, &own));
+    must(radixvm_change(&machine, &asked, &told, &own));
     come_to(c, &told, &none, &own);
 }
 
 /* The handler's part of a step: a message, or what the core's call waits for. A message's words and translations stay until the next take. */
 static void take(uint32_t c) {
     struct core *core = &cores[c];
-    mmu_drop told = {0, 0, 0, 0};
-    if (core->message.what == MMU_DROP_TABLES) drop(core, &core->message, bug != NO_FLUSH);
-    must(mmu_take(&machine, c, &told));
-    if (told.what == MMU_DROP_TABLES) core->message = told;
+    radixvm_drop told = {0, 0, 0, 0};
+    if (core->message.what == RADIXVM_DROP_TABLES) drop(core, &core->message, bug != NO_FLUSH);
+    must(radixvm_take(&machine, c, &told));
+    if (told.what == RADIXVM_DROP_TABLES) core->message = told;
 }
 
 static void go_on(uint32_t c) {
     radixvm_outcome told = {0, 0};
-    mmu_filled filled = {0, 0, 0, 0, 0, 0};
-    mmu_drop own = {0, 0, 0, 0};
-    must(mmu_go_on(&machine, c, &told, &filled, &own));
+    radixvm_filled filled = {0, 0, 0, 0, 0, 0};
+    radixvm_drop own = {0, 0, 0, 0};
+    must(radixvm_go_on(&machine, c, &told, &filled, &own));
     waits++;
     come_to(c, &told, &filled, &own);
 }
@@ -208,10 +206,10 @@ static void step(void) {
     if (what < 6) take(c);
     else if (what == 6) walk(core, page);
     else if (what == 7) lose(core, page);
-    else if (what == 8 && !below(16)) must(mmu_reclaim(&machine, &back));
+    else if (what == 8 && !below(16)) must(radixvm_reclaim(&machine, &back));
     else if (core->in_call) go_on(c);
     else {
-        if (core->owed.what == MMU_DROP_OWN) drop(core, &core->owed, 1);
+        if (core->owed.what == RADIXVM_DROP_OWN) drop(core, &core->owed, 1);
         if (what == 9) change(c);
         else access_byte(c);
     }
@@ -225,7 +223,6 @@ int main(int argc, char **argv) {
     for (int i = 0; i < FILE_LENGTH; i++) file[i] = (uint8_t)(i * 7 + i / 256);
     for (uint64_t i = 0; i < FILE_PAGES * PLACES; i++) shared[i / PLACES][i % PLACES] = file[i / PLACES * 4096 + offsets[i % PLACES]];
     memset(outside, 0x55, sizeof outside);
-    all_known.first = FIRST;
     must(radixvm_new(&setup, &kept, 1, file, FILE_LENGTH, &machine).status);
     for (int i = 0; i < STEPS; i++) step();
     radixvm_free(&machine);

@@ -23,7 +23,6 @@ static struct processor {
 
 static radixvm_machine the_machine;
 static struct store the_store;
-static struct known all_known;
 static uint8_t file[FILE_PAGES * PAGE];
 static int guard, ready, running, met;
 static uint32_t cores;
@@ -88,7 +87,6 @@ static void stop(uint8_t status) {
 
 static radixvm_machine *machine(void) { return &the_machine; }
 static struct store *store(void) { return &the_store; }
-static struct known *known(void) { return &all_known; }
 static uint32_t this_core(void) { return self()->number; }
 static uint8_t *frame_bytes(uint64_t frame) { return (uint8_t *)(FRAME_0 + frame * PAGE); }
 static const uint8_t *file_bytes(uint32_t number, uint64_t page) { return file + (number + page) * PAGE; }
@@ -301,7 +299,6 @@ static void set_up(void) {
     radixvm_setup setup = {cores, FRAMES, (uint64_t)1 << 40, 0};
     radixvm_file kept = {RADIXVM_O_RDWR, 0, FILE_LENGTH};
     must(radixvm_new(&setup, &kept, 1, file, FILE_LENGTH, machine()).status);
-    all_known.first = FIRST;
     running = (int)cores;
 }
 

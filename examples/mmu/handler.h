@@ -3,7 +3,7 @@
    translated, and hardware translates. The numbers of duties are those of README.md, and each stands where it is kept. */
 #ifndef HANDLER_H
 #define HANDLER_H
-#include "calls.h"
+#include "radixvm.h"
 
 /* Errors of this loop, each planted by its number, to see what a judge says of it. */
 enum { NO_CLEAR = 1, NO_FLUSH, OWN_KEPT, NO_ZEROS, LATE_COPY, STALE_WORD, RIGHTS, BUGS = RIGHTS };
@@ -40,17 +40,17 @@ static void drop(uint64_t first, uint64_t end) {
 }
 
 /* Duty 3: the program runs no instruction between its own change and this. */
-static void drop_own(const mmu_drop *own) {
-    if (own->what == MMU_DROP_OWN && bug != OWN_KEPT) drop(own->first, own->end);
+static void drop_own(const radixvm_drop *own) {
+    if (own->what == RADIXVM_DROP_OWN && bug != OWN_KEPT) drop(own->first, own->end);
 }
 
 /* Takes this core's messages. The first take of one says what to drop; the next one acknowledges that. */
 static void serve(void) {
-    mmu_drop asked;
+    radixvm_drop asked;
     do {
-        must(mmu_take(machine(), this_core(), &asked));
-        if (asked.what == MMU_DROP_TABLES) drop(asked.first, asked.end);
-    } while (asked.what != MMU_DROP_NONE);
+        must(radixvm_take(machine(), this_core(), &asked));
+        if (asked.what == RADIXVM_DROP_TABLES) drop(asked.first, asked.end);
+    } while (asked.what != RADIXVM_DROP_NONE);
 }
 
 static void let_others_run(void) {
@@ -60,17 +60,17 @@ static void let_others_run(void) {
 }
 
 /* Gives a new frame its bytes, before any core has a word for it. Duty 1: under the lock under which the library told it. */
-static void fill(const mmu_filled *filled) {
+static void fill(const radixvm_filled *filled) {
     uint8_t *to = frame_bytes(filled->frame);
-    if (bug == LATE_COPY && filled->fill == MMU_FILL_FRAME) let_others_run();
-    if (filled->fill == MMU_FILL_ZERO && bug != NO_ZEROS) copy_page(to, 0);
-    if (filled->fill == MMU_FILL_FRAME) copy_page(to, frame_bytes(filled->from));
-    if (filled->fill == MMU_FILL_FILE) copy_page(to, file_bytes(filled->file, filled->from));
+    if (bug == LATE_COPY && filled->fill == RADIXVM_FILL_FRAME) let_others_run();
+    if (filled->fill == RADIXVM_FILL_ZERO && bug != NO_ZEROS) copy_page(to, 0);
+    if (filled->fill == RADIXVM_FILL_FRAME) copy_page(to, frame_bytes(filled->from));
+    if (filled->fill == RADIXVM_FILL_FILE) copy_page(to, file_bytes(filled->file, filled->from));
 }
 
 /* Goes on with this core's call until it has its reply, and does at once what each part of it tells. Other cores run while it waits for them, and so it
    serves them too. */
-static void finish(radixvm_outcome *told, mmu_filled *filled, mmu_drop *own) {
+static void finish(radixvm_outcome *told, radixvm_filled *filled, radixvm_drop *own) {
     uint64_t asked = 0;
     fill(filled);
     drop_own(own);
@@ -80,7 +80,7 @@ static void finish(radixvm_outcome *told, mmu_filled *filled, mmu_drop *own) {
         asked |= awaited;
         let_others_run();
         serve();
-        must(mmu_go_on(machine(), this_core(), told, filled, own));
+        must(radixvm_go_on(machine(), this_core(), told, filled, own));
         fill(filled);
         drop_own(own);
     }
@@ -88,9 +88,9 @@ static void finish(radixvm_outcome *told, mmu_filled *filled, mmu_drop *own) {
 
 static int is_served(const radixvm_outcome *told) { return told->kind == RADIXVM_DONE || told->kind == RADIXVM_BYTE; }
 
-static void touch_once(uint64_t at, uint32_t kind, radixvm_outcome *told, mmu_filled *filled) {
-    mmu_drop own = {0, 0, MMU_DROP_NONE, 0};
-    must(mmu_touch(machine(), this_core(), at, kind, told, filled));
+static void touch_once(uint64_t at, uint32_t kind, radixvm_outcome *told, radixvm_filled *filled) {
+    radixvm_drop own = {0, 0, RADIXVM_DROP_NONE, 0};
+    must(radixvm_touch(machine(), this_core(), at, kind, told, filled));
     finish(told, filled, &own);
 }
 
@@ -98,12 +98,12 @@ static void touch_once(uint64_t at, uint32_t kind, radixvm_outcome *told, mmu_fi
    after the fill, and duty 1, under the same lock. If it is refused, its page may have a copy all the same, so the old translation goes. */
 static radixvm_outcome touch(uint64_t at, uint32_t kind) {
     radixvm_outcome told = {0, 0};
-    mmu_filled filled = {0, 0, 0, 0, 0, 0};
+    radixvm_filled filled = {0, 0, 0, 0, 0, 0};
     uint64_t back;
     lock();
     touch_once(at, kind, &told, &filled);
     if (told.kind == RADIXVM_NO_FRAME) {
-        must(mmu_reclaim(machine(), &back));
+        must(radixvm_reclaim(machine(), &back));
         touch_once(at, kind, &told, &filled);
     }
     if (bug == STALE_WORD) let_others_run(), serve();
@@ -116,10 +116,10 @@ static radixvm_outcome touch(uint64_t at, uint32_t kind) {
 /* An mmap, munmap or mprotect, with interrupts off. */
 static radixvm_outcome change(const radixvm_event *event) {
     radixvm_outcome told = {0, 0};
-    mmu_filled none = {0, 0, 0, 0, 0, 0};
-    mmu_drop own = {0, 0, MMU_DROP_NONE, 0};
+    radixvm_filled none = {0, 0, 0, 0, 0, 0};
+    radixvm_drop own = {0, 0, RADIXVM_DROP_NONE, 0};
     lock();
-    must(mmu_change(machine(), event, &told, &own));
+    must(radixvm_change(machine(), event, &told, &own));
     finish(&told, &none, &own);
     unlock();
     return told;

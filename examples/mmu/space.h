@@ -20,7 +20,6 @@ static const uint64_t FIRST = 0x100000000; /* the space's first page */
 static struct shared {
     radixvm_machine machine;
     struct store store;
-    struct known known;
     int lock, ready, met, running;
     pid_t process[CORES];
     uint64_t stamps;
@@ -34,7 +33,6 @@ static uint64_t words[PAGES];
 
 static radixvm_machine *machine(void) { return &shared->machine; }
 static struct store *store(void) { return &shared->store; }
-static struct known *known(void) { return &shared->known; }
 static uint32_t this_core(void) { return core; }
 static uint8_t *frame_bytes(uint64_t frame) { return frames + frame * PAGE; }
 static const uint8_t *file_bytes(uint32_t number, uint64_t page) { return file + (number + page) * PAGE; }
@@ -145,7 +143,7 @@ static void open_space(uint32_t cores, uint64_t count) {
     radixvm_setup setup = {cores, count, (uint64_t)1 << 40, 0};
     radixvm_file kept = {RADIXVM_O_RDWR, 0, FILE_LENGTH};
     shared = shared_memory(sizeof *shared);
-    shared->running = (int)cores, shared->known.first = FIRST;
+    shared->running = (int)cores;
     shared->store.heap = shared_memory(HEAP), shared->store.heap_end = shared->store.heap + HEAP;
     clock_of_all = &shared->stamps;
     file = shared_memory(FILE_PAGES * PAGE);
