@@ -25,6 +25,7 @@
  * each make RADIXVM_FLUSH until it is RADIXVM_IDLE, then each once more, and then each RADIXVM_REVIEW until it is
  * RADIXVM_IDLE. With one core RADIXVM_FLUSH is never RADIXVM_IDLE, since one that finds no count ends an epoch: make
  * it once for each frame that was unmapped and three times more, and then RADIXVM_REVIEW until it is RADIXVM_IDLE.
+ * radixvm_reclaim does that for any number of cores.
  *
  * Kernels: libradixvm-kernel.a is the same library for code without a C library. It uses no register of floating point, MMX
  * or SSE, and no red zone. Its names are those of the functions below that aren't inline. It calls memcpy, memmove, memset and

@@ -50,6 +50,33 @@ static void expect_status(const char *what, uint32_t is, uint32_t status) {
     expect(what, (radixvm_done){is, 0}, status, 0);
 }
 
+/* Calls for real page tables that are refused: nothing is told, and nothing changes. */
+static void driven(radixvm_machine *place) {
+    radixvm_outcome told = {77, 77};
+    radixvm_filled filled = {77, 77, 77, 77, 77, 77};
+    radixvm_drop drop = {77, 77, 77, 77};
+    radixvm_event event = {RADIXVM_MUNMAP, 64, 0x10000, 4096, 0, 0, 0, 0, 0};
+    expect_status("a touch of core 64", radixvm_touch(place, 64, 0x10000, RADIXVM_LOAD, &told, &filled), RADIXVM_ABSENT);
+    expect_status("a touch that is no access", radixvm_touch(place, 0, 0x10000, RADIXVM_MUNMAP, &told, &filled), RADIXVM_BAD_EVENT);
+    expect_status("a change of core 64", radixvm_change(place, &event, &told, &drop), RADIXVM_ABSENT);
+    event.core = 0, event.kind = RADIXVM_LOAD;
+    expect_status("a change that is an access", radixvm_change(place, &event, &told, &drop), RADIXVM_BAD_EVENT);
+    expect_status("core 64 goes on", radixvm_go_on(place, 64, &told, &filled, &drop), RADIXVM_ABSENT);
+    expect_status("core 64 takes", radixvm_take(place, 64, &drop), RADIXVM_ABSENT);
+    expect_status("a touch, null", radixvm_touch(place, 0, 0x10000, RADIXVM_LOAD, &told, NULL), RADIXVM_NULL);
+    expect("nothing is told", (radixvm_done){told.kind, filled.word + drop.first}, 77, 154);
+    expect_status("no message", radixvm_take(place, 0, &drop), RADIXVM_OK);
+    expect("it is none", (radixvm_done){drop.what, drop.first + drop.end}, RADIXVM_DROP_NONE, 0);
+    expect_status("no call", radixvm_go_on(place, 0, &told, &filled, &drop), RADIXVM_OK);
+    expect("it is idle", (radixvm_done){told.kind, filled.word + filled.page}, RADIXVM_IDLE, 0);
+    event.kind = RADIXVM_MUNMAP;
+    expect_status("a call begins", radixvm_begin(place, &event, &told), RADIXVM_OK);
+    expect_status("a touch in a call", radixvm_touch(place, 0, 0x10000, RADIXVM_LOAD, &told, &filled), RADIXVM_IN_FLIGHT);
+    expect_status("a change in a call", radixvm_change(place, &event, &told, &drop), RADIXVM_IN_FLIGHT);
+    expect_status("the call goes on", radixvm_go_on(place, 0, &told, &filled, &drop), RADIXVM_OK);
+    expect("it drops its own", (radixvm_done){told.kind, drop.what + drop.first}, RADIXVM_DONE, RADIXVM_DROP_OWN + 16);
+}
+
 /* What each function says of this place, in which there is no machine, or that is null. */
 static void try_none(radixvm_machine *place, uint32_t status) {
     const radixvm_event event = load(RADIXVM_LOAD, 0);
@@ -67,6 +94,14 @@ static void try_none(radixvm_machine *place, uint32_t status) {
     expect("calls on none", radixvm_calls_on(place, &event, 1, &told, 1), status, 0);
     expect("maps of none", radixvm_maps(place, &line, 1), status, 0);
     expect_status("entry of none", radixvm_entry(place, 0, 16, &word), status);
+    radixvm_filled filled;
+    radixvm_drop drop;
+    uint64_t reviews;
+    expect_status("touch of none", radixvm_touch(place, 0, 0x10000, RADIXVM_LOAD, &told, &filled), status);
+    expect_status("change of none", radixvm_change(place, &event, &told, &drop), status);
+    expect_status("go on with none", radixvm_go_on(place, 0, &told, &filled, &drop), status);
+    expect_status("take of none", radixvm_take(place, 0, &drop), status);
+    expect_status("reclaim of none", radixvm_reclaim(place, &reviews), status);
     expect_status("cores of none", (uint32_t)radixvm_cores(place), 0);
     radixvm_free(place);
     tried++;
@@ -93,6 +128,7 @@ static void keep_one(void) {
     expect_status("no event", radixvm_call(&place, NULL, &told), RADIXVM_NULL);
     expect_status("no outcome", radixvm_step(&place, &map, NULL), RADIXVM_NULL);
     expect_status("no word", radixvm_entry(&place, 0, 16, NULL), RADIXVM_NULL);
+    driven(&place);
     const radixvm_event go = load(RADIXVM_GO, 1);
     expect_status("no call is begun by a step", radixvm_begin(&place, &go, &told), RADIXVM_BAD_EVENT);
     expect_status("begun", radixvm_begin(&place, &map, &told), RADIXVM_OK);
