@@ -1,5 +1,5 @@
 /* Cores whose MMU obeys the library, in random order, in one thread: tables that lag behind the library's entries until the last moment that the
- * duties of examples/mmu/README.md allow, TLBs that take words in at any time and keep them without bound, and bytes of frames that lie here, outside the library.
+ * duties of radixvm.h allow, TLBs that take words in at any time and keep them without bound, and bytes of frames that lie here, outside the library.
  * Each access, by whatever translation hardware may still have, is compared with a plain page map of one's own.
  * Usage: outside [SEED [BUG]]; status 1 at a difference. BUG plants an error of the handler: 1, a core acknowledges a message with translations
  * left in its TLB; 2, it keeps those of its own change; 3, a new frame keeps its old bytes. */
@@ -12,7 +12,6 @@ enum { CORES = 3, PAGES = 6, FRAMES = 24, FILE_PAGES = 3, FILE_LENGTH = 10000, P
 enum { NO_FLUSH = 1, OWN_KEPT, NO_ZEROS };
 static const uint64_t FIRST = 0x10000;
 static const uint64_t offsets[PLACES] = {0, 1, 2047, 4095}; /* the bytes of a page that are looked at */
-
 
 static uint64_t seed = 1;
 static int bug;

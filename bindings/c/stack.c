@@ -22,6 +22,8 @@ static uint64_t below(uint64_t n) {
 /* What a call of the library is made with. */
 static radixvm_event event;
 static radixvm_outcome told;
+static radixvm_filled filled;
+static radixvm_drop drop;
 static uint64_t number;
 static uint32_t status;
 
@@ -33,7 +35,11 @@ static void new(void) {
 }
 static void call(void) { status = radixvm_call(&machine, &event, &told); }
 static void step(void) { status = radixvm_step(&machine, &event, &told); }
-static void finish(void) { status = radixvm_finish(&machine, event.core, &told); }
+static void touch(void) { status = radixvm_touch(&machine, event.core, event.at, event.kind, &told, &filled); }
+static void change(void) { status = radixvm_change(&machine, &event, &told, &drop); }
+static void go_on(void) { status = radixvm_go_on(&machine, event.core, &told, &filled, &drop); }
+static void take(void) { status = radixvm_take(&machine, event.core, &drop); }
+static void reclaim(void) { status = radixvm_reclaim(&machine, &number); }
 static void entry(void) { status = radixvm_entry(&machine, event.core, event.at / 4096 + 1, &number); }
 static void end(void) { radixvm_free(&machine); }
 
@@ -62,17 +68,19 @@ static void *run(void *nothing) {
     most_new = most, most = 0;
     for (int i = 0; i < CALLS; i++) {
         random_event();
-        measure("radixvm_call", call);
+        if (below(3) == 0) measure("radixvm_call", call);
+        else if (event.kind >= RADIXVM_LOAD) measure("radixvm_touch", touch);
+        else measure("radixvm_change", change);
         while (told.kind <= RADIXVM_WAIT_ACKS) {
             uint32_t core = event.core;
-            event.kind = RADIXVM_TAKE;
-            for (event.core = 0; event.core < CORES; event.core++) measure("radixvm_step", step);
+            for (event.core = 0; event.core < CORES; event.core++) measure("radixvm_take", take);
             event.core = core;
-            measure("radixvm_finish", finish);
+            measure("radixvm_go_on", go_on);
         }
         measure("radixvm_entry", entry);
-        event.kind = below(2) ? RADIXVM_FOLD : below(2) ? RADIXVM_FLUSH : RADIXVM_REVIEW, event.at = event.at / 4096;
-        measure("radixvm_step", step);
+        if (told.kind == RADIXVM_NO_FRAME) measure("radixvm_reclaim", reclaim);
+        event.kind = RADIXVM_FOLD, event.at = event.at / 4096;
+        if (below(20) == 0) measure("radixvm_step", step);
     }
     measure("radixvm_free", end);
     return nothing;

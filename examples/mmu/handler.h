@@ -1,6 +1,6 @@
 /* A core's loop over the library: page faults, changes and messages, for any MMU. The platform's file defines the functions declared here, and
    includes this one; space.h does it for Linux processes, and ../kernel-on-radixvm/kernel.c for processors. The library decides what may be
-   translated, and hardware translates. The numbers of duties are those of README.md, and each stands where it is kept. */
+   translated, and hardware translates. The numbers of duties are those of include/radixvm.h, and each stands where it is kept. */
 #ifndef HANDLER_H
 #define HANDLER_H
 #include "radixvm.h"
