@@ -39,6 +39,7 @@ cp "$work/header.c" "$work/header.cpp"
 for compiler in gcc clang; do
     command -v $compiler > /dev/null || continue
     $compiler -std=c11 $warnings -I "$include" "$work/header.c" "$library/libradixvm.a" -o "$work/header" && "$work/header"
+    $compiler -std=c11 -ffreestanding $warnings -I "$include" -c "$work/header.c" -o "$work/header.o"
     echo "header, C11: $compiler"
 done
 for compiler in g++ clang++; do
