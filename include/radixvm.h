@@ -450,8 +450,9 @@ static inline uint32_t radixvm_take(radixvm_machine *machine, uint32_t core, rad
     return radixvm_take_held(machine, core, drop);
 }
 /* Brings back frames that no page has any more: rounds over all cores, each of which makes RADIXVM_FLUSH, and then
- * RADIXVM_REVIEW until it is no step, until two rounds review nothing, eight at the most. `reviews` is how many reviews were
- * made: at least as many as frames came back. Each is a step of the machine; that all free frames are back isn't proved. */
+ * RADIXVM_REVIEW until it is no step, until three rounds review nothing, eight at the most. A round ends an epoch, and a
+ * count that became 0 is reviewed two epochs later. `reviews` is how many reviews were made: at least as many as frames
+ * came back. Each is a step of the machine; that all free frames are back isn't proved. */
 static inline uint32_t radixvm_reclaim(radixvm_machine *machine, uint64_t *reviews) {
     radixvm_event event = {0, 0, 0, 0, 0, 0, 0, 0, 0};
     radixvm_outcome outcome;
@@ -460,7 +461,7 @@ static inline uint32_t radixvm_reclaim(radixvm_machine *machine, uint64_t *revie
     const uint32_t cores = (uint32_t)radixvm_cores(machine);
     *reviews = 0;
     if (!cores) return RADIXVM_EMPTY;
-    for (uint32_t round = 0; round < 8 && quiet < 2; round++) {
+    for (uint32_t round = 0; round < 8 && quiet < 3; round++) {
         const uint64_t before = *reviews;
         event.kind = RADIXVM_FLUSH; /* a core has at most 64 counts to flush, and then ends its part of the epoch */
         for (event.core = 0; event.core < cores; event.core++)

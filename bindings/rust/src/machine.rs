@@ -219,7 +219,7 @@ impl Machine {
                 }
             }
             quiet = if reviews == before { quiet + 1 } else { 0 };
-            if quiet == 2 {
+            if quiet == 3 {
                 break;
             }
         }
