@@ -4,3 +4,4 @@ pub mod LiveLemmas
 pub mod ReadLemmas
 pub mod RunLemmas
 pub mod StepLemmas
+pub mod ShownLemmas

@@ -1,6 +1,5 @@
 -- Litmus tests that are run on threads
-use Rattle.std.proofs.Common.{◌≡◌, ℕ, Bool, true, false, not, refl, List, inl, inr, Ok, subst}
-use Rattle.std.specs.Prelude.{◌&&◌}
+use Rattle.std.proofs.Common.{◌≡◌, ℕ, false, List, inl, inr, Ok, subst}
 use Rattle.std.specs.declared.alloc.Global.{Global}
 use Rattle.trace_io.specs.Lines.{lines_of}
 use Rattle.litmus_text.specs.Scripts.{Read, litmus_of}
@@ -15,11 +14,6 @@ pub unrun : (lines : List (List ℕ)) (r : Read) (fault : TestFault) → litmus_
 unrun lines r fault is (inl want) = inl (inl want)
 unrun lines r fault is (inr (inl untold)) = inr (inr (inl (r, is, untold)))
 unrun lines r fault is (inr (inr none)) = inr (inr (inr none))
-
--- what is told with all that is asked for leaves nothing out
-pub told_whole : (maps : Bool) → (maps && not maps) ≡ false
-told_whole true = refl
-told_whole false = refl
 
 -- these counts were judged
 pub told : (limit runs : ℕ) (lines : List (List ℕ)) (r : Read) (found : Outcomes Global) (counts bytes text : List ℕ) (status : ℕ)

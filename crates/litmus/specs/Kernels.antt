@@ -1,5 +1,5 @@
 -- A litmus test beside what another system does.
-use Rattle.std.specs.Prelude.{◌≡◌, ◌⊎◌, ◌&&◌, ℕ, Bool, true, false, not, List, Some, Ok, Err}
+use Rattle.std.specs.Prelude.{◌≡◌, ◌⊎◌, ℕ, Bool, true, false, List, Some, Ok, Err}
 use Rattle.std.specs.List.{flat_map, list_all}
 use Rattle.trace_words.specs.Declarations.{DeclarationView}
 use Rattle.trace_io.specs.declared.fault.IoFault.TheVariants as IoOf
@@ -8,10 +8,9 @@ use Rattle.litmus_text.specs.declared.faults.LitmusFault.{LitmusFault}
 use Rattle.litmus_text.specs.declared.faults.LitmusFault.TheVariants as TextOf
 use Rattle.litmus_report.specs.Counts.{bad_line, counts_status, counts_text}
 use Rattle.litmus_report.specs.Program.{program_text}
-use Rattle.litmus_report.specs.declared.reporting.Searched.{Searched}
 use Rattle.litmus_outcomes.specs.declared.outcome.Outcomes.{Outcomes}
 use Rattle.litmus.specs.Opening.{calls_of, is_called}
-use Rattle.litmus.specs.Tells.{IsLate, Lists, known_with}
+use Rattle.litmus.specs.Tells.{IsLate, Lists, known_with, searched_by}
 use Rattle.litmus.specs.declared.faults.TestFault.{TestFault}
 use Rattle.litmus.specs.declared.faults.TestFault.TheVariants as Why
 
@@ -57,11 +56,7 @@ FailsProgram lines fault = IsWant fault ⊎ IsUnread lines fault
 -- The counts are judged by the test's outcomes, with the mappings or without; it is told where these are asked for and left out.
 pub record Judges {A : Type 0} (r : Read) (maps : Bool) (found : Outcomes A) (limit : ℕ) (counts : List (List ℕ)) (text : List ℕ)
     (status : ℕ) : Type 0 where
-  pub searched : Searched
-  pub whole : searched.whole ≡ found.whole
-  pub lacks : searched.lacks_maps ≡ (r.maps && not maps)
-  pub limit_is : searched.limit ≡ limit
-  pub text_is : text ≡ counts_text (known_with maps r found) searched counts
+  pub text_is : text ≡ counts_text (known_with maps r found) (searched_by r maps found limit) counts
   pub status_is : status ≡ counts_status (known_with maps r found) found.whole counts
 
 -- want of memory, or a line that is no count

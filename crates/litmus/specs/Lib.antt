@@ -1,6 +1,7 @@
 pub mod Asked
 pub mod Counts
 pub mod Kernels
+pub mod Lacking
 pub mod Lists
 pub mod Live
 pub mod Opening

@@ -1,9 +1,10 @@
 //! What is told of a litmus test.
-ghost use Rattle.std.specs.Prelude.{◌≡◌, ◌&&◌, IfErr, IfOk, not};
+ghost use Rattle.std.specs.Prelude.{◌≡◌, IfErr, IfOk};
 ghost use Rattle.trace_io.specs.Lines.{lines_of};
 ghost use Rattle.litmus_text.specs.Scripts.{read_of};
 ghost use Rattle.litmus_report.specs.Reports.{AreSorted, texts_of};
-ghost use Rattle.litmus.specs.Tells.{Fails, IsLate, IsUnshown, Lists, Reports, Shows, Tells, Witnesses, known_of, status_at};
+ghost use Rattle.litmus.specs.Lacking.{frames_of};
+ghost use Rattle.litmus.specs.Tells.{Fails, IsLate, IsUnshown, Lists, Reports, Shows, Tells, Witnesses, known_of, searched_by, status_at};
 ghost use Rattle.litmus.specs.Asked.{FailsAs, TellsAs};
 ghost use Rattle.litmus.specs.Kernels.{FailsObserved, FailsProgram, IsUncalled, IsUncounted, IsWant, Judges, MakesCalls, TellsObserved, TellsProgram};
 ghost use Rattle.litmus.specs.Live.{CountsLive, FailsLive, IsUnrun, TellsLive};
@@ -94,7 +95,9 @@ fn outcomes_of<A: Allocator + Clone + Drop>(
 }
 
 // How many frames are declared.
-fn frames_of<A: Allocator>(script: &LitmusTest<A>) -> u64 {
+fn frames_of<A: Allocator>(script: &LitmusTest<A>) -> u64
+    ensures { result ≡ frames_of (read_of script.now).asked }
+{
     match &script.declaration {
         Some(declaration) => declaration.frames(),
         None => 0,
@@ -111,7 +114,7 @@ fn witness_text<A: Allocator + Clone>(
 ) -> Result<Vec<u8, A>, TestFault>
     requires order { AreSorted (texts_of (known_of (read_of script.now) found.now)) rows.now }
     ensures ok { IfOk result (λ text. Witnesses (read_of script.now) found.now number text.items) }
-    ensures err { IfErr result (IsUnshown (ViewOf.Witness number)) }
+    ensures err { IfErr result (IsUnshown (ViewOf.Witness number) (read_of script.now) found.now) }
 {
     if number == 0 {
         return Err(TestFault::NoOutcome(number));
@@ -143,9 +146,7 @@ fn searched_of<A: Allocator>(
     maps: bool,
     limit: usize,
 ) -> Searched
-    ensures whole { result.whole ≡ found.now.whole }
-    ensures lacks { result.lacks_maps ≡ ((read_of script.now).maps && not maps) }
-    ensures limit { result.limit ≡ limit }
+    ensures { result ≡ searched_by (read_of script.now) maps found.now limit }
 {
     let lacks_frames = may_lack(
         frames_of(script),
@@ -328,7 +329,7 @@ fn show_test<A: Allocator + Clone + Drop>(
     limit: usize,
 ) -> Result<Vec<u8, A>, TestFault>
     ensures ok { IfOk result (λ text. Shows view name.now (read_of script.now) found.now limit text.items) }
-    ensures err { IfErr result (IsUnshown view) }
+    ensures err { IfErr result (IsUnshown view (read_of script.now) found.now) }
 {
     let named = Named {
         calls: script.calls.as_slice(),
@@ -353,8 +354,13 @@ fn show_test<A: Allocator + Clone + Drop>(
 }
 
 // The status of what is shown: of a witness 0.
-fn status_at<A: Allocator>(script: &LitmusTest<A>, found: &Outcomes<A>, view: Listing) -> u8
-    ensures { result ≡ status_at view (read_of script.now) found.now }
+fn status_at<A: Allocator>(
+    script: &LitmusTest<A>,
+    found: &Outcomes<A>,
+    view: Listing,
+    limit: usize,
+) -> u8
+    ensures { result ≡ status_at view (read_of script.now) found.now limit }
 {
     let named = Named {
         calls: script.calls.as_slice(),
@@ -365,7 +371,7 @@ fn status_at<A: Allocator>(script: &LitmusTest<A>, found: &Outcomes<A>, view: Li
         Listing::Report | Listing::List => status_of(
             &named,
             found.list.as_slice(),
-            found.whole,
+            searched_of(script, found, script.maps, limit),
             script.clauses.as_slice(),
         ),
         Listing::Witness(_) => 0,
@@ -383,7 +389,7 @@ pub fn tell_litmus<A: Allocator + Clone + Drop>(
     limit: usize,
 ) -> Result<Output<A>, TestFault>
     ensures ok { IfOk result (λ told. Tells A name.now view limit (lines_of text.now) told.text.items told.status) }
-    ensures err { IfErr result (Fails view (lines_of text.now)) }
+    ensures err { IfErr result (Fails A view (lines_of text.now)) }
 {
     let script = match read_litmus(alloc, text) {
         Ok(script) => script,
@@ -397,7 +403,7 @@ pub fn tell_litmus<A: Allocator + Clone + Drop>(
         Ok(text) => text,
         Err(fault) => return Err(fault),
     };
-    let status = status_at(&script, &found, view);
+    let status = status_at(&script, &found, view, limit);
     Ok(Output { text, status })
 }
 
@@ -490,7 +496,7 @@ pub fn tell<R: Threads + Wait + Sync>(
     limit: usize,
 ) -> Result<Output<Global>, TestFault>
     ensures ok { IfOk result (λ told. TellsAs GlobalOf name.now wanted limit (lines_of counts.now) (lines_of text.now) told.text.items told.status) }
-    ensures err { IfErr result (FailsAs wanted (lines_of counts.now) (lines_of text.now)) }
+    ensures err { IfErr result (FailsAs GlobalOf wanted (lines_of counts.now) (lines_of text.now)) }
 {
     match wanted {
         LitmusAsk::Outcomes(view) => tell_litmus(alloc, name, text, view, limit),

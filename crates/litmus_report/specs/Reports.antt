@@ -8,7 +8,7 @@ use Rattle.std.specs.Cmp.Lexicographic.{slice_cmp}
 use Rattle.litmus_merges.specs.declared.asked.Asked.{Asked}
 use Rattle.litmus_text.specs.Scripts.{Claim}
 use Rattle.litmus_report.specs.Texts.{clause_text, observation_text, outcome_text, verdict_text}
-use Rattle.litmus_report.specs.Verdicts.{Outcome, condition_holds, count_so, is_so, judged}
+use Rattle.litmus_report.specs.Verdicts.{Outcome, condition_holds, count_so, is_so, judged, names_lack}
 use Rattle.litmus_report.specs.declared.reporting.Searched.{Searched}
 use Rattle.litmus_report.specs.declared.verdict.Named.{Named}
 use Rattle.litmus_report.specs.declared.verdict.ClauseVerdict.{ClauseVerdict}
@@ -63,12 +63,14 @@ known named outcomes = record { calls = named.calls.now; addrs = named.addrs.now
 abbrev pub texts_of : Known → List (List ℕ)
 texts_of k = map (outcome_text k.calls k.addrs k.maps) k.outcomes
 
-abbrev pub verdict_on : Known → Bool → Claim → ClauseVerdict
-verdict_on k whole c = judged c.quantifier (condition_holds k.calls k.addrs c.terms) k.outcomes whole
+-- Where outcomes without a frame are left out, a clause that names want of a frame or of memory is open.
+abbrev pub verdict_on : Known → Searched → Claim → ClauseVerdict
+verdict_on k s c = if s.lacks_frames && list_any (λ t. names_lack t.fact) c.terms then Open
+    else judged c.quantifier (condition_holds k.calls k.addrs c.terms) k.outcomes s.whole
 
 -- a clause, and what it comes to
-abbrev pub judgement_text : Known → Bool → Claim → List ℕ
-judgement_text k whole c = clause_text c ++ verdict_text (verdict_on k whole c)
+abbrev pub judgement_text : Known → Searched → Claim → List ℕ
+judgement_text k s c = clause_text c ++ verdict_text (verdict_on k s c)
 
 -- of how many outcomes that are known to come about its condition holds, or doesn't, as is wanted
 abbrev pub count_on : Known → Bool → Claim → ℕ
@@ -83,7 +85,7 @@ are_reached outcomes = list_all (λ o. o.reached) outcomes
 abbrev pub report_text : List ℕ → Known → Searched → List Claim → List (List ℕ) → List ℕ
 report_text name k searched claims texts = codes "outcomes " ++ decimal (length k.outcomes) ++ codes "\n" ++ numbered 1 texts
     ++ end_text searched (are_reached k.outcomes)
-    ++ flat_map (judgement_text k searched.whole) claims ++ flat_map (count_text name k) claims
+    ++ flat_map (judgement_text k searched) claims ++ flat_map (count_text name k) claims
 
 -- ---- the status
 
@@ -96,6 +98,6 @@ is_open Open = true
 is_open verdict = false
 
 -- 1 where a clause fails; 3 where one is open, or not all outcomes are known; and else 0
-abbrev pub status_of : Known → Bool → List Claim → ℕ
-status_of k whole claims = if list_any (λ c. is_failed (verdict_on k whole c)) claims then 1
-    else if not whole || list_any (λ c. is_open (verdict_on k whole c)) claims then 3 else 0
+abbrev pub status_of : Known → Searched → List Claim → ℕ
+status_of k s claims = if list_any (λ c. is_failed (verdict_on k s c)) claims then 1
+    else if not s.whole || list_any (λ c. is_open (verdict_on k s c)) claims then 3 else 0

@@ -9,6 +9,7 @@ use Rattle.vm_base.specs.declared.replies.SegvCode.TheVariants.{MapErr, AccErr}
 use Rattle.vm_base.specs.declared.replies.Reply.{Reply}
 use Rattle.slot_lock.specs.declared.map_list.MapLine.{MapLine}
 use Rattle.vm_base.specs.declared.replies.Reply.TheVariants.{Mapped, Done, Byte, Refused, Segv, Bus, NoFrame, NoMemory}
+use Rattle.audit_text.specs.Allowed.{is_lacking}
 use Rattle.litmus_merges.specs.declared.asked.Asked.{Asked}
 use Rattle.litmus_text.specs.Places.{call_at}
 use Rattle.litmus_text.specs.declared.facts.Fact.{Fact}
@@ -81,6 +82,12 @@ abbrev pub fact_holds : List Asked → List ℕ → Outcome → Fact → Bool
 fact_holds calls addrs o (Has core number reply) = is_given (reply_to calls o.replies core number) reply
 fact_holds calls addrs o (Lacks core number reply) = not (is_given (reply_to calls o.replies core number) reply)
 fact_holds calls addrs o (Shows addr shown) = is_given (at_place o.finals (place_of addrs addr)) (Byte shown)
+
+-- it names a reply for want of a frame or of memory
+abbrev pub names_lack : Fact → Bool
+names_lack (Has core number reply) = is_lacking reply
+names_lack (Lacks core number reply) = is_lacking reply
+names_lack (Shows addr shown) = false
 
 abbrev pub is_or : Connective → Bool
 is_or And = false

@@ -2,10 +2,11 @@
 ghost use Rattle.std.specs.Prelude.{◌≡◌, ◌&&◌, ◌≤◌, Bool, List, filter, length, map, not};
 ghost use Rattle.std.specs.List.{list_any};
 ghost use Rattle.litmus_merges.specs.declared.asked.Asked.{Asked as AskedOf};
-ghost use Rattle.litmus_report.specs.Verdicts.{Outcome, at_place, condition_holds, count_so, existence, fact_holds, is_code, is_errno, is_given, is_reply};
+ghost use Rattle.litmus_report.specs.Verdicts.{Outcome, at_place, condition_holds, count_so, existence, fact_holds, is_code, is_errno, is_given, is_reply, names_lack};
 ghost use Rattle.litmus_report.specs.Verdicts.{is_or, is_so, judged, opposite, place_of, reply_to};
 ghost use Rattle.litmus_text.specs.declared.facts.Term.{Term as TermOf};
 
+use audit_text::allowing::is_lacking;
 use litmus_merges::Asked;
 use litmus_text::facts::{Connective, Fact, Term};
 use litmus_text::kinds::Quantifier;
@@ -163,6 +164,29 @@ pub fn fact_holds<T: HasOutcome>(named: &Named<'_>, outcome: &T, fact: Fact) -> 
             Reply::Byte(byte),
         ),
     }
+}
+
+// Tells whether a fact names a reply for want of a frame or of memory.
+fn names_lack(fact: Fact) -> bool
+    ensures { result ≡ names_lack fact }
+{
+    match fact {
+        Fact::Has(_, _, reply) => is_lacking(reply),
+        Fact::Lacks(_, _, reply) => is_lacking(reply),
+        Fact::Shows(..) => false,
+    }
+}
+
+/// Tells whether one of the facts names a reply for want of a frame or of memory.
+pub(crate) fn name_lack(terms: &[Term]) -> bool
+    ensures { result ≡ list_any (λ t. names_lack t.fact) terms.now }
+{
+    for term in terms {
+        if names_lack(term.fact) {
+            return true;
+        }
+    }
+    false
 }
 
 fn is_or(joint: Connective) -> bool

@@ -438,9 +438,10 @@ found that has it. Then comes one of these:
 
 Outcomes with nomemory aren't listed either, and only runs count in which every
 call is answered. Then each clause is written again with : holds, : fails or
-: open. For each clause there is also a line as herd7 prints it: Observation
-NAME, then Always, Sometimes or Never, then how many outcomes satisfy COND and
-how many don't.
+: open. If noframe is left out, a clause that names noframe or nomemory is open.
+For each clause there is also a line as herd7 prints it: Observation NAME, then
+Always, Sometimes or Never, then how many outcomes satisfy COND and how many
+don't.
 
 --observed reads lines N: OUTCOME, how often each outcome came, in the words of
 the list, as in 12: c0 done; c1 1, 2. Empty lines and lines with # in front are
