@@ -32,7 +32,7 @@ pub record TellsAll (test : Test) (counts input : List ℕ) (old new : Option (L
 -- nothing was written, for this fault
 pub record TellsNone (test : Test) (counts input : List ℕ) (old new : Option (List ℕ)) (n : ℕ) : Type 0 where
   pub fault : TestFault
-  pub fails : FailsAs Global test.wanted (lines_of counts) (lines_of input) fault
+  pub fails : FailsAs test.wanted (lines_of counts) (lines_of input) fault
   pub same : new ≡ old
   pub status_is : n ≡ litmus_status fault
 

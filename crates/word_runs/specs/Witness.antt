@@ -29,7 +29,7 @@ pub record IsPictured (asked : WitnessPicture) (input : List ℕ) (out : Written
 -- nothing was written, for a fault for which no witness is told
 pub record IsUnpictured (asked : WitnessPicture) (input : List ℕ) (out : WrittenTo) (n : ℕ) : Type 0 where
   pub fault : TestFault
-  pub fails : Fails Global (Witness asked.number) (lines_of input) fault
+  pub fails : Fails (Witness asked.number) (lines_of input) fault
   pub same : out.after ≡ out.before
   pub status_is : n ≡ litmus_status fault
 

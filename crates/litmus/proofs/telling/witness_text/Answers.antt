@@ -25,8 +25,15 @@ returns-in-Ok-clause-ok g c = record {
 pub returns-in_default-clause-err : goal.returns-in_default-clause-err
 returns-in_default-clause-err g c =
     let some : 0 < c.args.number = omega (arith, c.if-number-eq0.false) in
-    inr (c.args.number, refl, inl (refl, inr (few_rows (read_of c.args.script.now) c.args.found.now c.args.rows.now c.args.number c.requires.order
-    c.in_default.ensures.lookup.3 some)))
+    inr (
+      c.args.number,
+      refl,
+      inl (
+        refl,
+        inr (few_rows (read_of c.args.script.now) c.args.found.now c.args.rows.now c.args.number c.requires.order
+            c.in_default.ensures.lookup.3 some),
+      ),
+    )
 
 pub returns-in_default-get-clause-err : goal.returns-in_default-get-clause-err
 returns-in_default-get-clause-err g c =
@@ -40,13 +47,21 @@ pub returns-in_default-witness-clause-err : goal.returns-in_default-witness-clau
 returns-in_default-witness-clause-err g c = inr (
   c.args.number,
   refl,
-  inr (refl, (c.in-Some.row.now, c.in-Some-get.outcome.now, record {
-    rows = c.args.rows.now;
-    order = c.requires.order;
-    place = c.args.number - 1;
-    numbered = omega (arith, c.if-number-eq0.false, c.ranges.number.fits);
-    is_row = get_here c.args.rows.now (c.args.number - 1) c.in-Some.row.now c.in-Some.ensures.lookup.3.0 ∙ ap Some (sym c.in-Some.ensures.lookup.1);
-    is_outcome = rw (sym c.as_slice.ensures.value) (get_here c.as_slice.result.now c.in-Some.row.now.1 c.in-Some-get.outcome.now c.in-Some-get.ensures.lookup.3.0
-        ∙ ap Some (sym c.in-Some-get.ensures.lookup.1));
-  }, search rules)),
+  inr (
+    refl,
+    (
+      c.in-Some.row.now,
+      c.in-Some-get.outcome.now,
+      record {
+        rows = c.args.rows.now;
+        order = c.requires.order;
+        place = c.args.number - 1;
+        numbered = omega (arith, c.if-number-eq0.false, c.ranges.number.fits);
+        is_row = get_here c.args.rows.now (c.args.number - 1) c.in-Some.row.now c.in-Some.ensures.lookup.3.0 ∙ ap Some (sym c.in-Some.ensures.lookup.1);
+        is_outcome = rw (sym c.as_slice.ensures.value) (get_here c.as_slice.result.now c.in-Some.row.now.1 c.in-Some-get.outcome.now c.in-Some-get.ensures.lookup.3.0
+            ∙ ap Some (sym c.in-Some-get.ensures.lookup.1));
+      },
+      search rules,
+    ),
+  ),
 )
