@@ -2,7 +2,8 @@
 # Compiles the header and the examples of bindings/ over libradixvm.a (`./radixvm --build-library`), the C side with the
 # sanitizers of addresses and of undefined behaviour, by gcc and by clang, and runs them: a page-table walker beside batches and beside a
 # machine that is kept, kept machines beside batches, logs beside what was told, a shadow checker with and without a bug, what is out of
-# range and memory that is refused, cores whose MMU obeys the library (random ones, examples/mmu, and examples/kernel-on-radixvm where QEMU is),
+# range and memory that is refused, entries that change as told, cores whose MMU obeys the library (random ones, examples/mmu, and
+# examples/kernel-on-radixvm where QEMU is),
 # how much stack a call takes, the worked rows of crates/test_words, examples/, random traces and their logs beside the program where it
 # is built, and the Rust crate's tests and its walkers where there is cargo. 1 to 64 threads share a machine: each one's notes beside the log,
 # the log beside a new machine and beside `audit`, with memory refused, under valgrind where that is here, and under ThreadSanitizer where
