@@ -35,6 +35,7 @@ static void new(void) {
 }
 static void call(void) { status = radixvm_call(&machine, &event, &told); }
 static void step(void) { status = radixvm_step(&machine, &event, &told); }
+static void finish(void) { status = radixvm_finish(&machine, event.core, &told); }
 static void touch(void) { status = radixvm_touch(&machine, event.core, event.at, event.kind, &told, &filled); }
 static void change(void) { status = radixvm_change(&machine, &event, &told, &drop); }
 static void go_on(void) { status = radixvm_go_on(&machine, event.core, &told, &filled, &drop); }
@@ -68,14 +69,16 @@ static void *run(void *nothing) {
     most_new = most, most = 0;
     for (int i = 0; i < CALLS; i++) {
         random_event();
-        if (below(3) == 0) measure("radixvm_call", call);
+        int is_call = below(3) == 0;
+        if (is_call) measure("radixvm_call", call);
         else if (event.kind >= RADIXVM_LOAD) measure("radixvm_touch", touch);
         else measure("radixvm_change", change);
         while (told.kind <= RADIXVM_WAIT_ACKS) {
             uint32_t core = event.core;
             for (event.core = 0; event.core < CORES; event.core++) measure("radixvm_take", take);
             event.core = core;
-            measure("radixvm_go_on", go_on);
+            if (is_call) measure("radixvm_finish", finish);
+            else measure("radixvm_go_on", go_on);
         }
         measure("radixvm_entry", entry);
         if (told.kind == RADIXVM_NO_FRAME) measure("radixvm_reclaim", reclaim);
