@@ -392,8 +392,10 @@ static inline radixvm_done radixvm_log(const radixvm_machine *machine, radixvm_l
  * that core that tells RADIXVM_DROP_TABLES drops it. No other call changes it, and none of another core does.
  *
  * If you do your duties, each access of each core has the reply of a plain page map (POSIX.1-2017 mmap, munmap, mprotect) at
- * its moment, with its core's waiting stores made. What is proved of hardware is the law driven_runs_are_plain of
- * crates/real_mmu. That your code does its duties is proved nowhere. They are, by number, in the words of Intel SDM volume 3A:
+ * its moment, with its core's waiting stores made. Proved are the law of hardware, driven_runs_are_plain of crates/real_mmu,
+ * and of each call below that it makes steps of the machine, and writes all that they drop and fill as that law has it
+ * (crates/radixvm_c/src/tables.rt). That a program's calls together are a run of the law isn't one theorem, and that your
+ * code does its duties is proved nowhere. They are, by number, in the words of Intel SDM volume 3A:
  *   1. One lock is held over each call of the library on this machine, and from a touch until its fill is made and its word is
  *      installed. It is taken by a locked instruction, which empties the core's store buffer (8.2.2).
  *   2. Core c's paging-structure entry of a page is made present by core c alone, as `word` tells it, in the locked section of
