@@ -1,9 +1,8 @@
 -- Tokens, from the gaps before them and after them.
-use Rattle.std.proofs.Common.{◌≡◌, ℕ, zero, suc, ◌+◌, ◌<◌, List, [], ◌∷◌, length, take, drop, get_or, arith, refl, sym, ap, ◌∙◌, subst}
+use Rattle.std.proofs.Common.{◌≡◌, ℕ, zero, suc, ◌+◌, ◌<◌, List, [], ◌∷◌, length, take, drop, get_or, arith, refl, ap, ◌∙◌, subst}
 use Rattle.std.proofs.Common.{true, false, Bool, not, eqb, Some, None}
 use Rattle.std.proofs.lemmas.Bool.Decides.{nat_tests}
-use Rattle.std.proofs.lemmas.List.{drop_more}
-use Rattle.import_forms.specs.Tokens.{is_gap, from_token, up_to_gap, from_gap, cut_token, split_at_last, divided_at, begins_by, occurs}
+use Rattle.import_forms.specs.Tokens.{cut_token, split_at_last, divided_at, occurs}
 
 pub cut_none : (bs : List ℕ) → length bs ≡ 0 → cut_token bs ≡ None
 cut_none [] p = refl

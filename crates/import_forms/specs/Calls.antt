@@ -1,5 +1,5 @@
 -- What logs of strace and of lackey have in common: the calls by their names, and bits as Linux numbers them.
-use Rattle.std.specs.Prelude.{ℕ, ◌/◌, ◌%◌, ◌^◌, Bool, true, false, not, ◌||◌, Option, None, Some, if◌then◌else◌, ◌==◌, codes, option_map}
+use Rattle.std.specs.Prelude.{ℕ, ◌/◌, ◌%◌, Bool, true, false, not, ◌||◌, Option, None, Some, if◌then◌else◌, ◌==◌, codes, option_map}
 use Rattle.std.specs.Str.{bytes_eq}
 use Rattle.vm_base.specs.declared.rights.Prot.{Prot}
 use Rattle.vm_base.specs.declared.requests.Flags.{Flags}
@@ -58,9 +58,13 @@ abbrev pub is_plain : Flags → Option Lost → Bool
 is_plain flags None = has_kind flags
 is_plain flags (Some lost) = false
 
--- advice that drops the bytes of pages: MADV_DONTNEED is 4, MADV_FREE 8, MADV_REMOVE 9, and MADV_DONTNEED_LOCKED 24
+-- advice that takes the pages of a range away at once: MADV_DONTNEED is 4, and MADV_DONTNEED_LOCKED 24
+abbrev pub clears : ℕ → Bool
+clears advice = (advice == 4) || (advice == 24)
+
+-- advice that drops bytes at a moment that no log has, or of a file: MADV_FREE is 8, and MADV_REMOVE 9
 abbrev pub drops : ℕ → Bool
-drops advice = (advice == 4) || (advice == 8) || (advice == 9) || (advice == 24)
+drops advice = (advice == 8) || (advice == 9)
 
 -- ---- what is said
 

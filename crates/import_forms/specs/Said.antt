@@ -9,7 +9,7 @@ use Rattle.vm_base.specs.declared.rights.Prot.{Prot}
 use Rattle.vm_base.specs.declared.requests.Flags.{Flags}
 use Rattle.vm_base.specs.declared.requests.Request.{Request}
 use Rattle.vm_base.specs.declared.requests.Request.TheVariants.{Mmap, Munmap, Mprotect}
-use Rattle.import_forms.specs.Calls.{asked, call_named, drops, flags_of, has_bit, is_plain, keyed, lost_of, lost_or_unread, rights_of}
+use Rattle.import_forms.specs.Calls.{asked, call_named, clears, drops, flags_of, has_bit, is_plain, keyed, lost_of, lost_or_unread, rights_of}
 use Rattle.import_forms.specs.Stamps.{front_thread}
 use Rattle.import_forms.specs.Tokens.{Token, at_end, begins_by, front_count, front_token, from_token, occurs, only_count, split_at_last}
 use Rattle.import_forms.specs.declared.calls.Call.{Call}
@@ -195,13 +195,27 @@ abbrev pub mapping_said : List ℕ → Option Request → Said
 mapping_said before (Some request) = Says.Asks request
 mapping_said before None = lost_or_unread (lost_mmap before)
 
+abbrev pub clears_in : Token → Option ℕ → Bool
+clears_in token (Some advice) = clears advice
+clears_in token None = begins_by (codes "MADV_DONTNEED") token
+
+-- advice that takes the pages of a range away at once
+abbrev pub clears_pages : Token → Bool
+clears_pages token = clears_in token (number_of token)
+
 abbrev pub drops_in : Token → Option ℕ → Bool
 drops_in token (Some advice) = drops advice
-drops_in token None = begins_by (codes "MADV_DONTNEED") token || bytes_eq token (codes "MADV_FREE") || bytes_eq token (codes "MADV_REMOVE")
+drops_in token None = bytes_eq token (codes "MADV_FREE") || bytes_eq token (codes "MADV_REMOVE")
 
 -- advice that drops the bytes of pages
 abbrev pub drops_bytes : Token → Bool
 drops_bytes token = drops_in token (number_of token)
+
+-- what advice says about a range
+abbrev pub advice_of : ℕ → ℕ → Token → Said
+advice_of addr len advice = if clears_pages advice then Says.Clears addr len
+    else if drops_bytes advice then Says.Loses Lose.Drops
+    else Says.Other
 
 -- `ADDR, LEN, ADVICE`
 unfoldable pub advice_said : List ℕ → Option Said
@@ -209,7 +223,7 @@ advice_said before = do
   addr ← front_count before
   len ← front_count addr.1
   advice ← front_token len.1
-  if drops_bytes advice.0 then Some (Says.Loses Lose.Drops) else Some Says.Other
+  Some (advice_of addr.0 len.0 advice.0)
 
 -- `KEY, LEN, FLAGS`: shared memory of this number; of a length of 0 its size was said before
 unfoldable pub size_said : List ℕ → ℕ → Option Said
@@ -255,15 +269,14 @@ mprotect_said before gave = do
   prot ← front_token len.1
   if gave == 0 then (if is_for_growing prot.0 then None else Some (Mprotect addr.0 len.0 (prot_named prot.0))) else None
 
--- `FROM, OLD, NEW, FLAGS`: a mapping that is moved to the address that the kernel gave
+-- `FROM, OLD, NEW, FLAGS`: a mapping that is moved to the address that the kernel gave, and with MREMAP_DONTUNMAP, 4, stays without its pages
 unfoldable pub mremap_said : List ℕ → ℕ → Option Said
 mremap_said before to = do
   from ← front_count before
   old ← front_count from.1
   new ← front_count old.1
   flags ← front_token new.1
-  if old.0 == 0 then None else if has_flag (codes "MREMAP_DONTUNMAP") 4 flags.0 then None
-      else Some (Says.Moves from.0 old.0 to new.0)
+  if old.0 == 0 then None else Some (Says.Moves from.0 old.0 to new.0 (has_flag (codes "MREMAP_DONTUNMAP") 4 flags.0))
 
 -- what a call says that gave this number, from what stands before the sign of equality
 abbrev pub done_said : Call → List ℕ → ℕ → Said
@@ -308,9 +321,13 @@ known_by (Some said) = true
 abbrev pub is_known : List ℕ → Bool
 is_known text = known_by (known_said text)
 
+-- a thread's last line, `+++ exited with STATUS +++` or the like
+abbrev pub said_else : List ℕ → Said
+said_else text = if begins_by (codes "+++ ") text then Says.Ends else Says.Other
+
 -- what the text of a call says
 abbrev pub said_of : List ℕ → Said
-said_of text = unwrap_or (known_said text) Says.Other
+said_of text = unwrap_or (known_said text) (said_else text)
 
 -- the bytes from the first `<` on; `all` where there is none
 abbrev pub from_sign : List ℕ → List ℕ → List ℕ

@@ -1,9 +1,10 @@
 -- Which thread a line of strace is about, and what it says of it.
-use Rattle.std.specs.Prelude.{ℕ, ◌-◌, ◌&&◌, List, Option, None, Some, if◌then◌else◌, codes, length, take, drop, unwrap_or}
+use Rattle.std.specs.Prelude.{ℕ, ◌-◌, Bool, ◌&&◌, ◌||◌, List, Option, None, Some, if◌then◌else◌, codes, length, take, drop, unwrap_or}
 use Rattle.std.specs.Str.{bytes_eq}
 use Rattle.trace_text.specs.Request.{◌>>=◌}
+use Rattle.import_forms.specs.Said.{behind}
 use Rattle.import_forms.specs.Stamps.{call_text, front_thread}
-use Rattle.import_forms.specs.Tokens.{Token, begins_by, front_token}
+use Rattle.import_forms.specs.Tokens.{Token, begins_by, front_count, front_token}
 use Rattle.import_forms.specs.declared.speech.Speech.{Speech}
 
 -- a thread's number, and what is said of it
@@ -28,6 +29,21 @@ speech_in s = (s.0, call_text s.1)
 -- a line that names no thread is about thread 0
 abbrev pub speech_of : List ℕ → Spoken
 speech_of line = speech_in (unwrap_or (numbered line) (0, line))
+
+abbrev pub ends_message : List ℕ → Bool
+ends_message line =
+    let back = drop (length line - 8) line in
+    bytes_eq back (codes "attached") || bytes_eq back (codes "detached")
+
+unfoldable pub message_of : List ℕ → Option (List ℕ × ℕ)
+message_of line = do
+  rest ← behind (codes "strace: Process ") line
+  number ← front_count rest
+  Some (take (length line - length rest - 16) line, number.0)
+
+-- what stands before strace's own message `strace: Process PID attached`, or `detached`, where a line ends with one, and its number
+abbrev pub broken_of : List ℕ → Option (List ℕ × ℕ)
+broken_of line = if ends_message line then message_of line else None
 
 -- what stands before `<unfinished ...>` at the end
 abbrev pub begun_of : List ℕ → Option (List ℕ)

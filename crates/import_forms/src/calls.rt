@@ -1,6 +1,6 @@
 //! What logs of strace and of lackey have in common: the calls by their names, how one ended, and bits as Linux numbers them.
 ghost use Rattle.std.specs.Prelude.{◌≡◌, ◌<◌};
-ghost use Rattle.import_forms.specs.Calls.{asked, call_named, drops, flags_of, has_bit, has_kind, is_plain, keyed, lost_named, lost_of, lost_or_unread, rights_of};
+ghost use Rattle.import_forms.specs.Calls.{asked, call_named, clears, drops, flags_of, has_bit, has_kind, is_plain, keyed, lost_named, lost_of, lost_or_unread, rights_of};
 
 use crate::said::{Lost, Said};
 use vm_base::{Flags, Prot, Request};
@@ -155,11 +155,18 @@ pub fn is_plain(flags: Flags, lost: Option<Lost>) -> bool
     }
 }
 
-/// Tells whether the advice of this number drops the bytes of pages.
+/// Tells whether the advice of this number takes the pages of a range away at once.
+pub fn clears(advice: u64) -> bool
+    ensures { result ≡ clears advice }
+{
+    advice == 4 || advice == 24
+}
+
+/// Tells whether the advice of this number drops the bytes of pages in a way that no trace has.
 pub fn drops(advice: u64) -> bool
     ensures { result ≡ drops advice }
 {
-    advice == 4 || advice == 8 || advice == 9 || advice == 24
+    advice == 8 || advice == 9
 }
 
 /// A request, where one was read.

@@ -8,8 +8,8 @@ use crate::said::Said;
 use crate::tokens::{begins, has, next_token, split_last};
 use trace_text::number::read_number;
 
-// What stands after the first such name.
-fn behind<'a>(bytes: &'a [u8], name: &[u8]) -> Option<&'a [u8]>
+/// What stands after the first such name.
+pub(crate) fn behind<'a>(bytes: &'a [u8], name: &[u8]) -> Option<&'a [u8]>
     ensures { option_map (λ f. f.now) result ≡ behind name.now bytes.now }
 {
     let mut at = 0;

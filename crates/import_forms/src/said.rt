@@ -1,13 +1,13 @@
 //! What the text of a call says.
 ghost use Rattle.std.specs.Prelude.{◌≡◌, ◌≤◌, ◌<◌, None, codes, option_map};
 ghost use Rattle.import_forms.specs.Tokens.{begins_by, occurs, split_at_last};
-ghost use Rattle.import_forms.specs.Said.{advice_said, attach_said, comment_end, detach_said, done_said, drops_bytes, drops_in, file_named, file_said, flags_named, from_sign};
+ghost use Rattle.import_forms.specs.Said.{advice_of, advice_said, attach_said, clears_pages, comment_end, detach_said, done_said, drops_bytes, drops_in, file_named, file_said, flags_named, from_sign};
 ghost use Rattle.import_forms.specs.Said.{has_flag, is_for_growing, is_known, known_said, lost_by, lost_in, lost_mmap, mapping_said, memory_named, mmap_said, mmap_words, mprotect_said};
-ghost use Rattle.import_forms.specs.Said.{mremap_said, munmap_said, only_thread, outcome_else, outcome_of, outcome_said, past_comment, prot_attached, prot_named};
+ghost use Rattle.import_forms.specs.Said.{mremap_said, munmap_said, only_thread, outcome_else, outcome_of, outcome_said, past_comment, prot_attached, prot_named, said_else};
 ghost use Rattle.import_forms.specs.Said.{said_named, said_of, size_said, strace_named};
 
 use crate::calls::{
-    Call, Outcome, asked, call_named, drops, flags_of, has_bit, is_plain, keyed, lost_of,
+    Call, Outcome, asked, call_named, clears, drops, flags_of, has_bit, is_plain, keyed, lost_of,
     lost_or_unread, rights_of,
 };
 use crate::making::read_making;
@@ -23,7 +23,7 @@ pub enum Lost {
     Attach,
     /// `shmdt`: such memory is detached.
     Detach,
-    /// `madvise` with `MADV_DONTNEED`, `MADV_FREE` or `MADV_REMOVE`: bytes of pages are dropped.
+    /// `madvise` with `MADV_FREE` or `MADV_REMOVE`: bytes of pages are dropped.
     Drops,
     /// `remap_file_pages`: a mapping's pages are another part of its file.
     Remaps,
@@ -54,6 +54,15 @@ pub enum Said {
         to: u64,
         /// How many bytes it has.
         new: u64,
+        /// Whether its old place stays mapped, without its pages (`MREMAP_DONTUNMAP`).
+        stays: bool,
+    },
+    /// `madvise` with `MADV_DONTNEED`: the pages of a range go, and it stays mapped.
+    Clears {
+        /// Where the range begins.
+        addr: u64,
+        /// How many bytes it has.
+        len: u64,
     },
     /// `clone`, `clone3`, `fork` or `vfork`: a thread was made.
     Makes {
@@ -88,6 +97,8 @@ pub enum Said {
     Detaches(u64),
     /// A call that changes the address space in a way that no trace has.
     Loses(Lost),
+    /// A thread ended.
+    Ends,
     /// One of these calls failed.
     Fails,
     /// One of these calls in a form that isn't read.
@@ -335,13 +346,21 @@ fn read_mapping(before: &[u8], addr: u64) -> Said
     }
 }
 
+// Tells whether this advice takes the pages of a range away at once.
+fn clears_pages(token: &[u8]) -> bool
+    ensures { result ≡ clears_pages token.now }
+{
+    match read_number(token) {
+        Some(advice) => clears(advice),
+        None => begins(token, b"MADV_DONTNEED".as_slice()),
+    }
+}
+
 // Tells whether the advice of this name drops the bytes of pages.
 fn drops_named(token: &[u8]) -> bool
     ensures { result ≡ drops_in token.now None }
 {
-    begins(token, b"MADV_DONTNEED".as_slice())
-        || token == b"MADV_FREE".as_slice()
-        || token == b"MADV_REMOVE".as_slice()
+    token == b"MADV_FREE".as_slice() || token == b"MADV_REMOVE".as_slice()
 }
 
 // Tells whether this advice drops the bytes of pages.
@@ -354,19 +373,28 @@ fn drops_bytes(token: &[u8]) -> bool
     }
 }
 
+// What this advice changes of a range.
+fn advice_of(addr: u64, len: u64, advice: &[u8]) -> Said
+    ensures { result ≡ advice_of addr len advice.now }
+{
+    if clears_pages(advice) {
+        Said::Clears { addr, len }
+    } else if drops_bytes(advice) {
+        Said::Loses(Lost::Drops)
+    } else {
+        Said::Other
+    }
+}
+
 // `ADDR, LEN, ADVICE`: what the advice changes.
 #[tactic(auto, unfolding(crate::specs::Said::advice_said))]
 fn read_advice(before: &[u8]) -> Option<Said>
     ensures { result ≡ advice_said before.now }
 {
-    let (_, rest) = next_count(before)?;
-    let (_, rest) = next_count(rest)?;
+    let (addr, rest) = next_count(before)?;
+    let (len, rest) = next_count(rest)?;
     let (advice, _) = next_token(rest)?;
-    if drops_bytes(advice) {
-        Some(Said::Loses(Lost::Drops))
-    } else {
-        Some(Said::Other)
-    }
+    Some(advice_of(addr, len, advice))
 }
 
 // `KEY, LEN, FLAGS`, which gave the number of shared memory; of a length of 0 it has one already.
@@ -470,10 +498,13 @@ fn read_mremap(before: &[u8], to: u64) -> Option<Said>
     if old == 0 {
         return None;
     }
-    if is_left(flags) {
-        return None;
-    }
-    Some(Said::Moves { from, old, to, new })
+    Some(Said::Moves {
+        from,
+        old,
+        to,
+        new,
+        stays: is_left(flags),
+    })
 }
 
 // What is said by a call that gave this number, from what stands before it.
@@ -551,13 +582,24 @@ pub fn is_known(text: &[u8]) -> bool
     }
 }
 
+// What a text says that is of none of these calls: that its thread ended, or nothing.
+fn said_else(text: &[u8]) -> Said
+    ensures { result ≡ said_else text.now }
+{
+    if begins(text, b"+++ ".as_slice()) {
+        Said::Ends
+    } else {
+        Said::Other
+    }
+}
+
 /// What the text of a call says.
 pub fn read_call(text: &[u8]) -> Said
     ensures { result ≡ said_of text.now }
 {
     match read_known(text) {
         Some(said) => said,
-        None => Said::Other,
+        None => said_else(text),
     }
 }
 

@@ -1,10 +1,12 @@
 //! Which thread a line of strace is about, and what it says of it.
-ghost use Rattle.std.specs.Prelude.{◌≡◌, ◌<◌, IfOk, map, option_map};
+ghost use Rattle.std.specs.Prelude.{◌≡◌, ◌<◌, IfOk, codes, map, option_map};
 ghost use Rattle.trace_io.specs.Lines.{lines_of};
-ghost use Rattle.import_forms.specs.Speech.{begun_of, numbered, returned_of, spoken, speech_of};
+ghost use Rattle.import_forms.specs.Said.{behind};
+ghost use Rattle.import_forms.specs.Speech.{begun_of, broken_of, ends_message, message_of, numbered, returned_of, spoken, speech_of};
 
+use crate::making::behind;
 use crate::stamps::{call_text, front_thread};
-use crate::tokens::{begins, next_token};
+use crate::tokens::{begins, next_count, next_token};
 use std::alloc::{AllocError, Global};
 use trace_io::lines::front_line;
 
@@ -60,6 +62,45 @@ pub fn read_speeches<'a>(alloc: Global, log: &'a [u8]) -> Result<Vec<Speech<'a>>
         rest = more;
     }
     Ok(all)
+}
+
+// Tells whether the line ends as a message does of a thread that is attached or let go of.
+fn ends_message(line: &[u8]) -> bool
+    ensures { result ≡ ends_message line.now }
+{
+    let (_, back) = line.split_at(line.len().saturating_sub(8));
+    back == b"attached".as_slice() || back == b"detached".as_slice()
+}
+
+// What stands after the words with which a message about a thread begins, `strace: Process`.
+fn past_mark(line: &[u8]) -> Option<&[u8]>
+    ensures { option_map (λ f. f.now) result ≡ behind (codes "strace: Process ") line.now }
+{
+    behind(line, b"strace: Process ".as_slice())
+}
+
+// What stands before the message `strace: Process PID attached`, and its number, of a line that ends so.
+#[tactic(auto, unfolding(crate::specs::Speech::message_of))]
+fn message_of(line: &[u8]) -> Option<(&[u8], u64)>
+    ensures { option_map (λ f. (f.0.now, f.1)) result ≡ message_of line.now }
+{
+    let rest = past_mark(line)?;
+    let (number, _) = next_count(rest)?;
+    let before = line.len().saturating_sub(rest.len()).saturating_sub(16);
+    let (front, _) = line.split_at(before);
+    Some((front, number))
+}
+
+/// What stands before strace's own message about a thread, `strace: Process PID attached`, where a line ends with it, and the thread.
+/// The line goes on after it.
+pub fn broken(line: &[u8]) -> Option<(&[u8], u64)>
+    ensures { option_map (λ f. (f.0.now, f.1)) result ≡ broken_of line.now }
+{
+    if ends_message(line) {
+        message_of(line)
+    } else {
+        None
+    }
 }
 
 /// What stands before `<unfinished ...>`, where a text ends with it.

@@ -6,7 +6,7 @@ use Rattle.trace_text.specs.Request.{◌>>=◌}
 use Rattle.trace_text.specs.Words.{byte}
 use Rattle.vm_base.specs.declared.requests.Request.{Request}
 use Rattle.vm_base.specs.declared.requests.Request.TheVariants.{Mmap, Munmap, Mprotect}
-use Rattle.import_forms.specs.Calls.{asked, call_named, drops, flags_of, is_plain, keyed, lost_of, lost_or_unread, rights_of}
+use Rattle.import_forms.specs.Calls.{asked, call_named, clears, drops, flags_of, has_bit, is_plain, keyed, lost_of, lost_or_unread, rights_of}
 use Rattle.import_forms.specs.Tokens.{Token, front_count, front_token, hexadecimal, only_count, split_at_last, stripped}
 use Rattle.import_forms.specs.declared.calls.Call.{Call}
 use Rattle.import_forms.specs.declared.calls.Call.TheVariants as Of
@@ -119,7 +119,7 @@ mremap_heard args to = do
   old ← front_count from.1
   new ← front_count old.1
   bits ← front_count new.1
-  if old.0 == 0 then None else if nat_lt 3 bits.0 then None else Some (Says.Moves from.0 old.0 to new.0)
+  if old.0 == 0 then None else if nat_lt 7 bits.0 then None else Some (Says.Moves from.0 old.0 to new.0 (has_bit 4 bits.0))
 
 -- `ADDR, LEN, ADVICE`
 unfoldable pub advice_heard : List ℕ → Option Said
@@ -127,7 +127,9 @@ advice_heard args = do
   addr ← front_count args
   len ← front_count addr.1
   advice ← front_count len.1
-  if drops advice.0 then Some (Says.Loses Lose.Drops) else Some Says.Other
+  if clears advice.0 then Some (Says.Clears addr.0 len.0)
+      else if drops advice.0 then Some (Says.Loses Lose.Drops)
+      else Some Says.Other
 
 -- What a call says whose end stands in another line. What changes the address space as no trace has is told where it begins:
 -- whether it fails then isn't looked for.

@@ -5,7 +5,7 @@ use Rattle.import_log.specs.Ends.{MakesText, MakeStops}
 use Rattle.import_steps.specs.Taking.{SoFar}
 use Rattle.import_steps.specs.Texts.{imported_text}
 use Rattle.import_log.specs.declared.import.Ending.{Ending}
-use Rattle.import_log.specs.declared.import.Ending.TheVariants.{Written, Nothing, Absent}
+use Rattle.import_log.specs.declared.import.Ending.TheVariants.{Written, Nothing, Absent, Refused}
 use Rattle.import_lackey.specs.Tracing.{State, trace_of}
 use Rattle.import_lackey.specs.declared.traced.LackeyReport.{LackeyReport}
 
@@ -21,6 +21,7 @@ abbrev pub ended_text : Ending → SoFar → List ℕ
 ended_text Written s = imported_text 65536 s
 ended_text Nothing s = []
 ended_text Absent s = []
+ended_text (Refused refusal) s = []
 
 -- the trace of what is taken of the log; nothing where no request would be in it
 abbrev pub traced_text : List ℕ → List ℕ

@@ -103,14 +103,16 @@ placed end (Says.Asks (Of.Store addr value)) = None
 placed end (Says.Asks (Of.Fetch addr)) = None
 placed (Some old) (Says.Breaks to) = Some (record { addr = old; len = to - old })
 placed None (Says.Breaks to) = None
-placed end (Says.Moves from old to new) = Some (record { addr = to; len = new })
+placed end (Says.Moves from old to new stays) = Some (record { addr = to; len = new })
 placed end (Says.Makes child shares joins) = None
 placed end Says.Begins = None
 placed end (Says.Keyed request) = None
 placed end (Says.Sizes number len) = None
 placed end (Says.Attaches number addr prot) = None
 placed end (Says.Detaches addr) = None
+placed end (Says.Clears addr len) = None
 placed end (Says.Loses lost) = None
+placed end Says.Ends = None
 placed end Says.Fails = None
 placed end Says.Unread = None
 placed end Says.Other = None
@@ -130,13 +132,15 @@ call_taken s (Says.Asks (Of.Load addr)) = (asked_by s 1 (Of.Load addr), Kept)
 call_taken s (Says.Asks (Of.Store addr value)) = (asked_by s 1 (Of.Store addr value), Kept)
 call_taken s (Says.Asks (Of.Fetch addr)) = (asked_by s 1 (Of.Fetch addr), Kept)
 call_taken s (Says.Breaks to) = after_said nothing_taken s 1 [] (Says.Breaks to)
-call_taken s (Says.Moves from old to new) = after_said nothing_taken s 1 [] (Says.Moves from old to new)
+call_taken s (Says.Moves from old to new stays) = after_said nothing_taken s 1 [] (Says.Moves from old to new stays)
 call_taken s (Says.Makes child shares joins) = (s, Left For.Other)
 call_taken s Says.Begins = (s, Left For.Other)
 call_taken s (Says.Keyed request) = after_said nothing_taken s 1 [] (Says.Keyed request)
 call_taken s (Says.Sizes number len) = after_said nothing_taken s 1 [] (Says.Sizes number len)
 call_taken s (Says.Attaches number addr prot) = after_said nothing_taken s 1 [] (Says.Attaches number addr prot)
 call_taken s (Says.Detaches addr) = after_said nothing_taken s 1 [] (Says.Detaches addr)
+call_taken s (Says.Clears addr len) = after_said nothing_taken s 1 [] (Says.Clears addr len)
+call_taken s Says.Ends = (s, Left For.Other)
 call_taken s (Says.Loses lost) = (s, Left (For.Lost lost))
 call_taken s Says.Fails = (s, Left For.Failed)
 call_taken s Says.Unread = (s, Left For.Unread)

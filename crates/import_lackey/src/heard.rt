@@ -5,8 +5,8 @@ ghost use Rattle.import_lackey.specs.Heard.{heard_of, known_heard, lost_mmap, ma
 ghost use Rattle.import_lackey.specs.Heard.{munmap_heard, named_behind, outcome_heard, outcome_of, touch_heard};
 
 use import_forms::calls::{
-    Call, Outcome, asked, call_named, drops, flags_of, is_plain, keyed, lost_of, lost_or_unread,
-    rights_of,
+    Call, Outcome, asked, call_named, clears, drops, flags_of, has_bit, is_plain, keyed, lost_of,
+    lost_or_unread, rights_of,
 };
 use import_forms::said::{Lost, Said};
 use import_forms::tokens::{
@@ -219,7 +219,7 @@ fn read_mprotect(args: &[u8]) -> Option<Request>
     })
 }
 
-// `FROM, OLD, NEW, FLAGS`, moved to this address; what stays where it was too (4 among the flags) isn't read.
+// `FROM, OLD, NEW, FLAGS`, moved to this address. With 4 among the flags it stays where it was too, without its pages.
 #[tactic(auto, unfolding(crate::specs::Heard::mremap_heard))]
 fn read_mremap(args: &[u8], to: u64) -> Option<Said>
     ensures { result ≡ mremap_heard args.now to }
@@ -231,10 +231,16 @@ fn read_mremap(args: &[u8], to: u64) -> Option<Said>
     if old == 0 {
         return None;
     }
-    if bits > 3 {
+    if bits > 7 {
         return None;
     }
-    Some(Said::Moves { from, old, to, new })
+    Some(Said::Moves {
+        from,
+        old,
+        to,
+        new,
+        stays: has_bit(bits, 4),
+    })
 }
 
 // `ADDR, LEN, ADVICE`: what the advice changes.
@@ -242,10 +248,12 @@ fn read_mremap(args: &[u8], to: u64) -> Option<Said>
 fn read_advice(args: &[u8]) -> Option<Said>
     ensures { result ≡ advice_heard args.now }
 {
-    let (_, rest) = next_count(args)?;
-    let (_, rest) = next_count(rest)?;
+    let (addr, rest) = next_count(args)?;
+    let (len, rest) = next_count(rest)?;
     let (advice, _) = next_count(rest)?;
-    if drops(advice) {
+    if clears(advice) {
+        Some(Said::Clears { addr, len })
+    } else if drops(advice) {
         Some(Said::Loses(Lost::Drops))
     } else {
         Some(Said::Other)

@@ -46,7 +46,7 @@ fn write_ended(alloc: Global, ending: Ending, taken: &Taken) -> Result<Vec<u8>, 
 {
     match ending {
         Ending::Written => write_taken(alloc, taken, FRAMES),
-        Ending::Nothing | Ending::Absent => Ok(Vec::new(alloc)),
+        Ending::Nothing | Ending::Absent | Ending::Refused(_) => Ok(Vec::new(alloc)),
     }
 }
 

@@ -203,7 +203,9 @@ fn placed(heap_end: Option<u64>, said: Said) -> Option<Mapped>
         | Said::Sizes { .. }
         | Said::Attaches { .. }
         | Said::Detaches(_)
+        | Said::Clears { .. }
         | Said::Loses(_)
+        | Said::Ends
         | Said::Fails
         | Said::Unread
         | Said::Other => None,
@@ -269,7 +271,9 @@ fn take_said(alloc: Global, taken: &mut Taken, said: Said) -> Result<Fate, Alloc
         | Said::Sizes { .. }
         | Said::Attaches { .. }
         | Said::Detaches(_)
+        | Said::Clears { .. }
         | Said::Loses(_)
+        | Said::Ends
         | Said::Fails
         | Said::Unread
         | Said::Other => {

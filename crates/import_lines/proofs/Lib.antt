@@ -3,5 +3,7 @@ pub mod JoinLemmas
 pub mod LineLemmas
 mod ReadingLemmas
 pub mod UnreadLemmas
-mod TimeLemmas
-mod JoinedLemmas
+pub mod MadeLemmas
+mod ToldLemmas
+mod ThreadLemmas
+mod TornLemmas

@@ -16,7 +16,7 @@ use Rattle.import_lines.specs.Lines.{AreKept, IsEntry, IsNamed, IsPlace, Kept, e
 use Rattle.import_steps.specs.Taking.{last_name, with_name}
 use Rattle.import_lines.specs.declared.lines.Entry.{Entry}
 use Rattle.import_lines.specs.declared.lines.Kind.{Kind}
-use Rattle.import_lines.specs.declared.lines.Kind.TheVariants.{Pages, Unmap, Protect, Breaks, Fails, Unread, Other, Rare}
+use Rattle.import_lines.specs.declared.lines.Kind.TheVariants.{Pages, Unmap, Protect, Breaks, Clears, Ends, Fails, Unread, Other, Rare}
 use Rattle.import_steps.specs.declared.names.Name.{Name}
 use Rattle.import_lines.specs.declared.rares.Seldom.{Seldom}
 
@@ -122,6 +122,8 @@ kept_more Pages first second prot flags rares r p = refl
 kept_more Unmap first second prot flags rares r p = refl
 kept_more Protect first second prot flags rares r p = refl
 kept_more Breaks first second prot flags rares r p = refl
+kept_more Clears first second prot flags rares r p = refl
+kept_more Ends first second prot flags rares r p = refl
 kept_more Fails first second prot flags rares r p = refl
 kept_more Unread first second prot flags rares r p = refl
 kept_more Other first second prot flags rares r p = refl
@@ -132,6 +134,8 @@ within_more Pages first size p = tt
 within_more Unmap first size p = tt
 within_more Protect first size p = tt
 within_more Breaks first size p = tt
+within_more Clears first size p = tt
+within_more Ends first size p = tt
 within_more Fails first size p = tt
 within_more Unread first size p = tt
 within_more Other first size p = tt

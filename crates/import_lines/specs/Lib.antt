@@ -1,7 +1,10 @@
 pub mod Joining
+pub mod Threads
 pub mod Quotes
 pub mod Lines
 pub mod LogLines
 pub mod Reading
-pub mod Times
-pub mod Joined
+pub mod Made
+pub mod Told
+pub mod Torn
+pub mod Listed

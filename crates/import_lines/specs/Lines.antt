@@ -13,7 +13,7 @@ use Rattle.import_lines.specs.Joining.{call_at}
 use Rattle.import_lines.specs.Quotes.{quoted}
 use Rattle.import_lines.specs.declared.lines.Entry.{Entry}
 use Rattle.import_lines.specs.declared.lines.Kind.{Kind}
-use Rattle.import_lines.specs.declared.lines.Kind.TheVariants.{Pages, Unmap, Protect, Breaks, Fails, Unread, Other, Rare}
+use Rattle.import_lines.specs.declared.lines.Kind.TheVariants.{Pages, Unmap, Protect, Breaks, Clears, Ends, Fails, Unread, Other, Rare}
 use Rattle.import_lines.specs.declared.line.Line.{Line}
 use Rattle.import_lines.specs.declared.lines.Saying.{Saying}
 use Rattle.import_lines.specs.declared.rares.Seldom.{Seldom}
@@ -36,14 +36,16 @@ asked_name (Asks.Fetch addr) text = []
 abbrev pub name_in : Said → List ℕ → List ℕ
 name_in (Says.Asks request) text = asked_name request text
 name_in (Says.Breaks to) text = []
-name_in (Says.Moves from old to new) text = []
+name_in (Says.Moves from old to new stays) text = []
 name_in (Says.Makes thread shares joins) text = []
 name_in Says.Begins text = quoted text
 name_in (Says.Keyed request) text = []
 name_in (Says.Sizes number len) text = []
 name_in (Says.Attaches number addr prot) text = []
 name_in (Says.Detaches addr) text = []
+name_in (Says.Clears addr len) text = []
 name_in (Says.Loses lost) text = []
+name_in Says.Ends text = []
 name_in Says.Fails text = []
 name_in Says.Unread text = []
 name_in Says.Other text = []
@@ -95,6 +97,8 @@ kept_by Pages first second prot flags rares = kept_said (Says.Asks (Asks.Mmap fi
 kept_by Unmap first second prot flags rares = kept_said (Says.Asks (Asks.Munmap first second)) []
 kept_by Protect first second prot flags rares = kept_said (Says.Asks (Asks.Mprotect first second prot)) []
 kept_by Breaks first second prot flags rares = kept_said (Says.Breaks first) []
+kept_by Clears first second prot flags rares = kept_said (Says.Clears first second) []
+kept_by Ends first second prot flags rares = kept_said Says.Ends []
 kept_by Fails first second prot flags rares = kept_said Says.Fails []
 kept_by Unread first second prot flags rares = kept_said Says.Unread []
 kept_by Other first second prot flags rares = kept_said Says.Other []
@@ -113,6 +117,8 @@ is_within size Pages first = ⊤
 is_within size Unmap first = ⊤
 is_within size Protect first = ⊤
 is_within size Breaks first = ⊤
+is_within size Clears first = ⊤
+is_within size Ends first = ⊤
 is_within size Fails first = ⊤
 is_within size Unread first = ⊤
 is_within size Other first = ⊤

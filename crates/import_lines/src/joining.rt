@@ -6,14 +6,14 @@ ghost use Rattle.import_lines.specs.Lines.{is_half, told_at, told_by};
 ghost use Rattle.import_forms.specs.Speech.{begun_of, returned_of};
 
 use crate::line::name_in;
-use crate::lines::KeptLines;
+use crate::threads::ThreadLines;
 use import_forms::said::{Said, read_call};
 use import_forms::speech::{begun, returned};
 use import_forms::tokens::next_token;
 use std::alloc::{AllocError, Global};
 
-// Tells whether the call has this name.
-fn is_named(text: &[u8], name: &[u8]) -> bool
+/// Tells whether the call has this name.
+pub(crate) fn is_named(text: &[u8], name: &[u8]) -> bool
     ensures { result ≡ is_named name.now text.now }
 {
     match next_token(text) {
@@ -24,7 +24,7 @@ fn is_named(text: &[u8], name: &[u8]) -> bool
 
 /// Of half of a call its text, and else nothing: either tells whether a call begins or returns here, and how.
 #[tactic(auto, using(crate::proofs::HalfLemmas::whole_returned))]
-pub fn half_text(lines: &KeptLines, place: usize) -> &[u8]
+pub fn half_text(lines: &ThreadLines, place: usize) -> &[u8]
     requires { place < length lines.now }
     ensures begun { begun_of result.now ≡ begun_of (speech_at lines.now place).1 }
     ensures returned { returned_of result.now ≡ returned_of (speech_at lines.now place).1 }
@@ -34,7 +34,7 @@ pub fn half_text(lines: &KeptLines, place: usize) -> &[u8]
 }
 
 // How the thread's last line before this place began a call, if it did.
-fn last_of(lines: &KeptLines, place: usize, thread: u64) -> &[u8]
+fn last_of(lines: &ThreadLines, place: usize, thread: u64) -> &[u8]
     requires { place ≤ length lines.now }
     ensures { begun_of result.now ≡ begun_of (last_of thread lines.now place) }
 {
@@ -49,7 +49,7 @@ fn last_of(lines: &KeptLines, place: usize, thread: u64) -> &[u8]
 }
 
 /// How the thread's next line behind this place returns from a call, if it does.
-pub fn next_of(lines: &KeptLines, place: usize, thread: u64) -> &[u8]
+pub fn next_of(lines: &ThreadLines, place: usize, thread: u64) -> &[u8]
     requires { place < length lines.now }
     ensures { returned_of result.now ≡ returned_of (next_of thread (drop (place + 1) lines.now)) }
 {
@@ -133,7 +133,7 @@ fn put_returned(
 // lines acts where it returns; `munmap` acts where it begins, since its pages are gone before it returns. What begins in a line
 // that isn't there is its name.
 fn put_half(
-    lines: &KeptLines,
+    lines: &ThreadLines,
     place: usize,
     half: &[u8],
     text: &mut Vec<u8>,
@@ -179,7 +179,7 @@ impl Room {
 
 // What the call says that acts at this line, of half of a call, and the name that it shows.
 fn told_half(
-    lines: &KeptLines,
+    lines: &ThreadLines,
     place: usize,
     half: &[u8],
     room: &mut Room,
@@ -200,8 +200,12 @@ fn told_half(
 }
 
 /// What the call says that acts at this line, if one does, and the name that it shows.
-#[tactic(auto, using(crate::proofs::HalfLemmas::told_whole))]
-pub fn told_at(lines: &KeptLines, place: usize, room: &mut Room) -> Result<Option<Said>, AllocError>
+#[tactic(auto, using(crate::proofs::HalfLemmas::told_whole, crate::proofs::HalfLemmas::half_kept, crate::proofs::HalfLemmas::half_is))]
+pub fn told_at(
+    lines: &ThreadLines,
+    place: usize,
+    room: &mut Room,
+) -> Result<Option<Said>, AllocError>
     requires { place < length lines.now }
     ensures { IfOk result (λ said. told_by said room.new.name.items ≡ told_at lines.now place) }
 {

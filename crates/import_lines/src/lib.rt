@@ -1,20 +1,25 @@
-//! The lines of a log of strace, or of several by their times: read, kept small, and joined from halves.
+//! The lines of a log of strace: read, kept small, and joined from halves.
 //!
 //! - `reading` (`read_lines`), `log_lines`: lines as they are read; `lines`, `line`, `rares`, `quotes`: what is kept of
 //!   them.
 //! - `joining` (`told_at`): the text of a call that stands in two lines.
-//! - `joined` (`join_logs`), `times`: the logs of several threads, as `strace -ff` writes them, made one.
+//! - `threads`: whose lines they are that name no thread; `told`, `made`: which threads were made, and by whom.
+//! - `torn`: calls whose halves don't belong together.
+//! - `listed`: what a line of /proc/PID/maps says.
 //!
-//! It exists for `joining::told_at`: what is kept of a log tells each call, where it acts. It doesn't know whose lines
-//! they are.
+//! It exists for `joining::told_at`: what is kept of a log tells each call, where it acts. It doesn't know what becomes
+//! of them.
 #![tactic(auto)]
 
-pub mod joined;
 pub mod joining;
 pub mod line;
 pub mod lines;
+pub mod listed;
 pub mod log_lines;
+pub mod made;
 pub mod quotes;
 pub mod rares;
 pub mod reading;
-pub mod times;
+pub mod threads;
+pub mod told;
+pub mod torn;

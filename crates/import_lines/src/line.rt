@@ -59,7 +59,9 @@ pub(crate) fn name_in(said: Said, text: &[u8]) -> &[u8]
         | Said::Sizes { .. }
         | Said::Attaches { .. }
         | Said::Detaches(_)
+        | Said::Clears { .. }
         | Said::Loses(_)
+        | Said::Ends
         | Said::Fails
         | Said::Unread
         | Said::Other => b"".as_slice(),

@@ -26,6 +26,10 @@ pub(crate) enum Kind {
     Protect,
     /// `brk`: the address.
     Breaks,
+    /// `madvise` that takes pages away: address and length.
+    Clears,
+    /// Nothing.
+    Ends,
     /// Nothing.
     Fails,
     /// Nothing.
@@ -172,6 +176,8 @@ fn short_said(thread: u64, said: Said) -> Option<Entry>
         | Said::Attaches { .. }
         | Said::Detaches(_)
         | Said::Loses(_) => None,
+        Said::Clears { addr, len } => Some(numbered(thread, Kind::Clears, addr, len)),
+        Said::Ends => Some(bare(thread, Kind::Ends)),
     }
 }
 
@@ -226,7 +232,9 @@ fn says_other<'a>(line: Line<'a>) -> bool
         | Said::Sizes { .. }
         | Said::Attaches { .. }
         | Said::Detaches(_)
+        | Said::Clears { .. }
         | Said::Loses(_)
+        | Said::Ends
         | Said::Fails
         | Said::Unread => false,
     }
@@ -242,6 +250,8 @@ fn is_other(entry: Entry, thread: u64) -> bool
         | Kind::Unmap
         | Kind::Protect
         | Kind::Breaks
+        | Kind::Clears
+        | Kind::Ends
         | Kind::Fails
         | Kind::Unread
         | Kind::Rare => false,
@@ -338,6 +348,11 @@ fn line_of(rares: &Rares, entry: Entry) -> Line<'_>
             prot: entry.prot,
         }),
         Kind::Breaks => Said::Breaks(entry.first),
+        Kind::Clears => Said::Clears {
+            addr: entry.first,
+            len: entry.second,
+        },
+        Kind::Ends => Said::Ends,
         Kind::Fails => Said::Fails,
         Kind::Unread => Said::Unread,
         Kind::Other => Said::Other,

@@ -4,14 +4,15 @@ use Rattle.std.proofs.lemmas.List.{map_more}
 use Rattle.std.proofs.lemmas.List.Elements.{All-append}
 use Rattle.std.specs.Prelude.{All}
 use Rattle.import_forms.specs.Speech.{Spoken}
-use Rattle.import_log.specs.Imported.{chosen_all, ending_all, ending_by, import_all, imported, processes_all}
-use Rattle.import_log.specs.Made.{all_makings}
+use Rattle.import_log.specs.Imported.{asked_any, chosen_all, ending_all, ending_by, import_all, imported, is_known_start, is_unfollowed, processes_all, refusal_by, stray_of}
+use Rattle.import_lines.specs.Torn.{is_torn}
+use Rattle.import_lines.specs.Made.{all_makings}
 use Rattle.import_log.specs.Processes.{chosen, is_there, processes}
 use Rattle.import_log.specs.Programs.{begins_at, last_begun, programs_all, programs_for}
 use Rattle.import_steps.specs.Taking.{SoFar}
 use Rattle.import_steps.specs.declared.counts.LineCounts.{LineCounts}
 use Rattle.import_log.specs.declared.import.Ending.{Ending}
-use Rattle.import_log.specs.declared.made.Making.{Making}
+use Rattle.import_lines.specs.declared.made.Making.{Making}
 use Rattle.import_log.specs.declared.processes.Choice.{Choice}
 use Rattle.import_log.specs.declared.processes.Process.{Process}
 
@@ -71,9 +72,17 @@ taken_known start choice all made p x is known e =
     e ∙ ap (λ m. imported start all m p (length all)) is
     ∙ ap (λ q. imported start all (all_makings choice.joined all) q (length all)) known
 
-pub ending_known : (start : SoFar) (choice : Choice) (all : List Spoken) (x : SoFar × LineCounts) (there : Bool) (n : ℕ) (ending : Ending)
-    → x ≡ import_all start choice all → there ≡ is_there choice.thread all → n ≡ length x.0.steps → ending ≡ ending_by there n
-    → ending ≡ ending_all start choice all
-ending_known start choice all x there n ending taken t l e =
-    e ∙ ap (λ b. ending_by b n) t
-    ∙ ap (ending_by (is_there choice.thread all)) (l ∙ ap (λ (y : SoFar × LineCounts). length y.0.steps) taken)
+abbrev pub ending_parts : Bool → SoFar → Choice → List Spoken → List Making → List Process → ℕ → SoFar × LineCounts → Ending
+ending_parts unclear start choice all made ps p x = ending_by
+    (refusal_by (is_torn all (length all)) unclear (is_unfollowed all made) choice.from_empty (stray_of all made p ps) (is_known_start (length start.steps) x.1.begins))
+    (is_there choice.thread all) (asked_any ps) (length x.0.steps)
+
+-- how an import ends is known of its parts
+pub ending_known : (unclear : Bool) (start : SoFar) (choice : Choice) (all : List Spoken) (made : List Making) (ps : List Process) (p : ℕ)
+    (x : SoFar × LineCounts) → made ≡ all_makings choice.joined all → ps ≡ processes_all choice.joined all → p ≡ chosen_all choice all
+    → x ≡ import_all start choice all → ending_parts unclear start choice all made ps p x ≡ ending_all unclear start choice all
+ending_known unclear start choice all made ps p x is listed known taken =
+    ap (λ m. ending_parts unclear start choice all m ps p x) is
+    ∙ ap (λ q. ending_parts unclear start choice all (all_makings choice.joined all) q p x) listed
+    ∙ ap (λ n. ending_parts unclear start choice all (all_makings choice.joined all) (processes_all choice.joined all) n x) known
+    ∙ ap (ending_parts unclear start choice all (all_makings choice.joined all) (processes_all choice.joined all) (chosen_all choice all)) taken

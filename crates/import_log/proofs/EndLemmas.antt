@@ -7,7 +7,6 @@ use Rattle.trace_io.specs.declared.fault.IoFault.{IoFault}
 use Rattle.trace_io.specs.declared.fault.IoFault.TheVariants.{ReadFailed, NoMemory, WriteFailed}
 use Rattle.trace_io.proofs.IoLemmas.{keeps_same}
 use Rattle.trace_io.proofs.LineLemmas.{reads_map}
-use Rattle.import_steps.specs.Counts.{total}
 use Rattle.import_log.specs.Ends.{ImportsAll, IsImported, MakeStops, ended_text, made_text}
 use Rattle.import_log.specs.Imported.{ending_of, import_of}
 use Rattle.import_steps.specs.Taking.{SoFar}

@@ -1,5 +1,6 @@
 mod EachLemmas
-mod MadeLemmas
 mod ProcessLemmas
 mod ToldLemmas
 pub mod EndLemmas
+mod RefusingLemmas
+mod OwnedLemmas

@@ -1,13 +1,12 @@
 -- The processes of a log.
 use Rattle.std.proofs.Common.{◌≡◌, ℕ, zero, suc, ◌+◌, ◌<◌, Bool, true, false, List, [], ◌∷◌, ◌++◌, Option, None, Some, if◌then◌else◌, length, drop, get_or, set, arith, refl, sym, ap, ◌∙◌, eqb}
-use Rattle.std.proofs.lemmas.Bool.Decides.{nat_tests}
 use Rattle.std.proofs.lemmas.List.{drop_more}
 use Rattle.import_forms.specs.Speech.{Spoken}
 use Rattle.import_lines.specs.Joining.{speech_at}
-use Rattle.import_log.proofs.MadeLemmas.{apart}
-use Rattle.import_log.specs.Made.{process_of, said_at}
+use Rattle.import_lines.proofs.MadeLemmas.{apart}
+use Rattle.import_lines.specs.Made.{process_of, said_at}
 use Rattle.import_log.specs.Processes.{asks, is_there, one_later, place_of, processes, with_line, with_request}
-use Rattle.import_log.specs.declared.made.Making.{Making}
+use Rattle.import_lines.specs.declared.made.Making.{Making}
 use Rattle.import_log.specs.declared.processes.Process.{Process}
 
 -- a process keeps its number

@@ -18,26 +18,22 @@ use Rattle.import_steps.specs.declared.taking.Fate.TheVariants.{Left}
 use Rattle.import_steps.specs.declared.taking.Reason.{Reason}
 use Rattle.import_steps.specs.Counts.{counted}
 use Rattle.import_steps.specs.declared.counts.LineCounts.{LineCounts}
-use Rattle.import_log.specs.declared.made.Making.{Making}
+use Rattle.import_lines.specs.declared.made.Making.{Making}
 use Rattle.import_steps.specs.declared.taking.Fate.{Fate}
-
-pub said_told : (call : Option (List ℕ)) (said : Option Said) (name : List ℕ) → told_by said name ≡ option_map told_of call → said ≡ option_map said_of call
-said_told None None name h = refl
-said_told None (Some said) name h = absurd cc
-said_told (Some text) None name h = absurd cc
-said_told (Some text) (Some said) name h = let e : (said, name) ≡ told_of text = cc in ap (λ (p : Said × List ℕ). Some p.0) e
 
 begun_named : (said : Said) (text : List ℕ) → (if begins said then Some (quoted text) else None) ≡ (if begins said then Some (name_in said text) else None)
 begun_named (Says.Asks request) text = refl
 begun_named (Says.Breaks to) text = refl
-begun_named (Says.Moves from old to new) text = refl
+begun_named (Says.Moves from old to new stays) text = refl
 begun_named (Says.Makes thread shares joins) text = refl
 begun_named Says.Begins text = refl
 begun_named (Says.Keyed request) text = refl
 begun_named (Says.Sizes number len) text = refl
 begun_named (Says.Attaches number addr prot) text = refl
 begun_named (Says.Detaches addr) text = refl
+begun_named (Says.Clears addr len) text = refl
 begun_named (Says.Loses lost) text = refl
+begun_named Says.Ends text = refl
 begun_named Says.Fails text = refl
 begun_named Says.Unread text = refl
 begun_named Says.Other text = refl
@@ -75,14 +71,16 @@ taken_same : (start s : SoFar) (thread : ℕ) (text : List ℕ) (said : Said)
     → after_said start s thread (file_named text) said ≡ after_said start s thread (name_in said text) said
 taken_same start s thread text (Says.Asks request) = asked_same start s thread text request
 taken_same start s thread text (Says.Breaks to) = refl
-taken_same start s thread text (Says.Moves from old to new) = refl
+taken_same start s thread text (Says.Moves from old to new stays) = refl
 taken_same start s thread text (Says.Makes child shares joins) = refl
 taken_same start s thread text Says.Begins = refl
 taken_same start s thread text (Says.Keyed request) = refl
 taken_same start s thread text (Says.Sizes number len) = refl
 taken_same start s thread text (Says.Attaches number addr prot) = refl
 taken_same start s thread text (Says.Detaches addr) = refl
+taken_same start s thread text (Says.Clears addr len) = refl
 taken_same start s thread text (Says.Loses lost) = refl
+taken_same start s thread text Says.Ends = refl
 taken_same start s thread text Says.Fails = refl
 taken_same start s thread text Says.Unread = refl
 taken_same start s thread text Says.Other = refl

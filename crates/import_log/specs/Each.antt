@@ -1,9 +1,9 @@
 -- One trace for each process of a log.
-use Rattle.std.specs.Prelude.{◌≡◌, ℕ, false, List, Some, Result, Ok, Err, Vec, map, ⊤}
+use Rattle.std.specs.Prelude.{◌≡◌, ℕ, Bool, false, List, Some, Result, Ok, Err, Vec, map, ⊤}
 use Rattle.import_forms.specs.Speech.{Spoken}
 use Rattle.import_log.specs.Ends.{ended_text, made_text}
 use Rattle.import_log.specs.Imported.{ending_all, ending_of, import_all, import_of, processes_of, speeches_of}
-use Rattle.import_log.specs.Made.{all_makings}
+use Rattle.import_lines.specs.Made.{all_makings}
 use Rattle.import_log.specs.Programs.{owners, program_name, program_of}
 use Rattle.import_steps.specs.Taking.{SoFar, nothing_taken}
 use Rattle.trace_io.specs.declared.fault.IoFault.{IoFault}
@@ -15,7 +15,7 @@ use Rattle.import_log.specs.declared.processes.Process.{Process}
 
 -- the process of this thread alone
 abbrev pub only : ℕ → Choice
-only number = record { thread = Some number; joined = false }
+only number = record { thread = Some number; joined = false; from_empty = false }
 
 -- a process, the program that it began last, how its import ends, what becomes of the lines of the log, and its trace
 abbrev pub Parted : Type 0
@@ -29,16 +29,16 @@ abbrev pub program_all : List Spoken → ℕ → List ℕ
 program_all all number = program_of all (owners (all_makings false all) all) number
 
 -- what comes of the lines for one process
-abbrev pub part_all : SoFar → List Spoken → Process → Parted
-part_all start all p = (
+abbrev pub part_all : Bool → SoFar → List Spoken → Process → Parted
+part_all unclear start all p = (
   p,
   (
     program_all all p.number,
     (
-      ending_all start (only p.number) all,
+      ending_all unclear start (only p.number) all,
       (
         (import_all start (only p.number) all).1,
-        ended_text (ending_all start (only p.number) all) (import_all start (only p.number) all).0,
+        ended_text (ending_all unclear start (only p.number) all) (import_all start (only p.number) all).0,
       ),
     ),
   ),

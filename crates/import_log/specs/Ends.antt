@@ -12,7 +12,7 @@ use Rattle.import_steps.specs.Taking.{SoFar}
 use Rattle.import_steps.specs.Texts.{imported_text}
 use Rattle.import_steps.specs.declared.counts.LineCounts.{LineCounts}
 use Rattle.import_log.specs.declared.import.Ending.{Ending}
-use Rattle.import_log.specs.declared.import.Ending.TheVariants.{Written, Nothing, Absent}
+use Rattle.import_log.specs.declared.import.Ending.TheVariants.{Written, Nothing, Absent, Refused}
 use Rattle.import_log.specs.declared.import.Report.{Report}
 use Rattle.import_log.specs.declared.processes.Choice.{Choice}
 
@@ -38,9 +38,10 @@ abbrev pub ended_text : Ending → SoFar → List ℕ
 ended_text Written s = imported_text 256 s
 ended_text Nothing s = []
 ended_text Absent s = []
+ended_text (Refused refusal) s = []
 
--- the trace of what is there at the start and of what is taken of a log; nothing where no line is about the thread that was named, or no
--- request would be in it
+-- the trace of what is there at the start and of what is taken of a log; nothing where no line is about the thread that was named, no
+-- request would be in it, or the log is refused
 abbrev pub made_text : SoFar → Choice → List ℕ → List ℕ
 made_text start choice input = ended_text (ending_of start choice input) (import_of start choice input).0
 

@@ -1,11 +1,9 @@
-pub mod Made
+pub mod Owned
 pub mod Processes
-pub mod Told
 pub mod Imported
 pub mod Programs
 pub mod Ends
 pub mod Each
-pub mod Listed
 pub mod Entries
 pub mod Starting
 pub mod Mapped

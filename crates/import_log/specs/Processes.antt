@@ -1,9 +1,9 @@
 -- The processes of a log, and how much each asks of its address space.
-use Rattle.std.specs.Prelude.{ℕ, zero, suc, ◌+◌, ◌-◌, ◌^◌, Bool, true, false, List, [], ◌∷◌, ◌++◌, Option, None, Some, if◌then◌else◌, ◌==◌, length, min, nat_lt, slice_get}
+use Rattle.std.specs.Prelude.{ℕ, zero, suc, ◌+◌, ◌-◌, ◌^◌, Bool, true, false, List, [], ◌∷◌, Option, None, Some, if◌then◌else◌, ◌==◌, min, nat_lt, slice_get}
 use Rattle.import_forms.specs.Speech.{Spoken}
 use Rattle.import_lines.specs.Joining.{speech_at}
-use Rattle.import_log.specs.Made.{process_of, said_at}
-use Rattle.import_log.specs.declared.made.Making.{Making}
+use Rattle.import_lines.specs.Made.{process_of, said_at}
+use Rattle.import_lines.specs.declared.made.Making.{Making}
 use Rattle.import_log.specs.declared.processes.Process.{Process}
 use Rattle.import_forms.specs.declared.said.Said.{Said}
 use Rattle.import_forms.specs.declared.said.Said.TheVariants as Says
@@ -13,14 +13,16 @@ abbrev pub asks : Option Said → Bool
 asks None = false
 asks (Some (Says.Asks request)) = true
 asks (Some (Says.Breaks to)) = true
-asks (Some (Says.Moves from old to new)) = true
+asks (Some (Says.Moves from old to new stays)) = true
 asks (Some (Says.Makes thread shares joins)) = false
 asks (Some Says.Begins) = false
 asks (Some (Says.Keyed request)) = true
 asks (Some (Says.Sizes number len)) = false
 asks (Some (Says.Attaches number addr prot)) = true
 asks (Some (Says.Detaches addr)) = true
+asks (Some (Says.Clears addr len)) = false
 asks (Some (Says.Loses lost)) = false
+asks (Some Says.Ends) = false
 asks (Some Says.Fails) = false
 asks (Some Says.Unread) = false
 asks (Some Says.Other) = false

@@ -6,10 +6,10 @@ use Rattle.import_forms.specs.declared.said.Said.{Said}
 use Rattle.import_forms.specs.declared.said.Said.TheVariants as Says
 use Rattle.import_log.specs.Imported.{processes_all, speeches_of}
 use Rattle.import_lines.specs.Joining.{call_at}
-use Rattle.import_log.specs.Made.{all_makings, process_of}
+use Rattle.import_lines.specs.Made.{all_makings, process_of}
 use Rattle.import_steps.specs.Names.{name_shown}
 use Rattle.import_lines.specs.Quotes.{quoted}
-use Rattle.import_log.specs.declared.made.Making.{Making}
+use Rattle.import_lines.specs.declared.made.Making.{Making}
 use Rattle.import_log.specs.declared.processes.Process.{Process}
 use Rattle.import_log.specs.declared.programs.ProgramFile.{ProgramFile}
 
@@ -17,14 +17,16 @@ use Rattle.import_log.specs.declared.programs.ProgramFile.{ProgramFile}
 abbrev pub begins : Said → Bool
 begins (Says.Asks request) = false
 begins (Says.Breaks to) = false
-begins (Says.Moves from old to new) = false
+begins (Says.Moves from old to new stays) = false
 begins (Says.Makes thread shares joins) = false
 begins Says.Begins = true
 begins (Says.Keyed request) = false
 begins (Says.Sizes number len) = false
 begins (Says.Attaches number addr prot) = false
 begins (Says.Detaches addr) = false
+begins (Says.Clears addr len) = false
 begins (Says.Loses lost) = false
+begins Says.Ends = false
 begins Says.Fails = false
 begins Says.Unread = false
 begins Says.Other = false

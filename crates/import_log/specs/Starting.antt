@@ -1,5 +1,5 @@
 -- What is mapped where a trace begins, by a list of mappings.
-use Rattle.std.specs.Prelude.{ℕ, ◌+◌, ◌-◌, ◌^◌, Bool, true, false, not, ◌||◌, List, [], ◌∷◌, ◌++◌, Option, None, Some, if◌then◌else◌, nat_lt, nat_le, codes}
+use Rattle.std.specs.Prelude.{ℕ, ◌+◌, ◌-◌, ◌^◌, Bool, true, false, not, List, [], ◌∷◌, ◌++◌, Option, None, Some, if◌then◌else◌, nat_lt, nat_le, codes}
 use Rattle.std.specs.Str.{bytes_eq}
 use Rattle.trace_io.specs.Lines.{lines_of}
 use Rattle.vm_base.specs.declared.requests.Flags.{Flags}
@@ -9,12 +9,12 @@ use Rattle.import_steps.specs.Taking.{SoFar, file_place, files_with, last_name, 
 use Rattle.import_steps.specs.Taking.{with_files, with_heap_end, with_name, with_names}
 use Rattle.import_steps.specs.declared.names.Name.{Name}
 use Rattle.import_log.specs.Entries.{counted, no_entries}
-use Rattle.import_log.specs.Listed.{Entry, entry_said, kind_named}
+use Rattle.import_lines.specs.Listed.{Entry, entry_said, kind_named}
 use Rattle.import_log.specs.declared.entries.Entries.{Entries}
 use Rattle.import_log.specs.declared.entries.Entered.{Entered}
 use Rattle.import_log.specs.declared.entries.Entered.TheVariants as Is
-use Rattle.import_log.specs.declared.listed.MappingKind.{MappingKind}
-use Rattle.import_log.specs.declared.listed.MappingKind.TheVariants.{Kernel, Anonymous, File}
+use Rattle.import_lines.specs.declared.listed.MappingKind.{MappingKind}
+use Rattle.import_lines.specs.declared.listed.MappingKind.TheVariants.{Kernel, Anonymous, File}
 
 -- core 0's request, of pages whose file's name stands here
 abbrev pub with_request : SoFar → Name → Request → SoFar

@@ -3,23 +3,26 @@ ghost use Rattle.std.specs.Prelude.{◌≡◌, ◌<◌, ◌^◌, ℕ, All, List,
 ghost use Rattle.std.specs.HashMap.{get};
 ghost use Rattle.import_steps.specs.Counts.{total};
 ghost use Rattle.import_log.specs.Each.{EachEnds, only, part_all, parted};
-ghost use Rattle.import_log.specs.Imported.{import_all, processes_all};
-ghost use Rattle.import_log.specs.Made.{all_makings};
+ghost use Rattle.import_log.specs.Imported.{processes_all};
+ghost use Rattle.import_log.specs.Owned.{is_unclear, owned};
+ghost use Rattle.import_lines.specs.Made.{all_makings};
 ghost use Rattle.import_log.specs.Programs.{last_begun, owners};
 ghost use Rattle.import_steps.specs.Taking.{nothing_taken, so_far};
 ghost use Rattle.import_lines.specs.LogLines.{IsRead};
 ghost use Rattle.trace_io.specs.Lines.{lines_of};
 ghost use Rattle.trace_io.specs.Source.{HasStopped, Reads};
 
-use crate::import::{Ending, Imported, ending_by, take_lines};
+use crate::import::{Ending, take_ended};
 use crate::log::write_ended;
-use crate::made::{Made, all_makings, process_of};
-use crate::processes::{Choice, Process, is_there, read_processes};
+use crate::owned::own_lines;
+use crate::processes::{Choice, Process, read_processes};
 use crate::programs::{ProgramFile, owners_of, program_of, read_begun};
 use import_lines::joining::Room;
 use import_lines::lines::KeptLines;
 use import_lines::log_lines::StraceLog;
+use import_lines::made::{Made, all_makings, process_of};
 use import_lines::reading::read_lines;
+use import_lines::threads::ThreadLines;
 use import_steps::counts::LineCounts;
 use import_steps::meter::Meter;
 use import_steps::taking::Taken;
@@ -50,35 +53,18 @@ fn only(number: u64) -> Choice
     Choice {
         thread: Some(number),
         joined: false,
+        from_empty: false,
     }
-}
-
-// What is taken of the lines for the process of this thread.
-fn take_process<M: Meter>(
-    alloc: Global,
-    start: &Taken,
-    lines: &KeptLines,
-    made: &Made,
-    number: u64,
-    room: &mut Room,
-    meter: &mut M,
-) -> Result<Imported, AllocError>
-    requires { made.now ≡ all_makings false lines.now }
-    ensures value { IfOk result (λ i. (so_far i.taken, i.counts)
-        ≡ import_all (so_far start.now) (only number) lines.now) }
-    ensures few { IfOk result (λ i. total i.counts < 2 ^ 64) }
-{
-    let process = process_of(made, number);
-    let imported = take_lines(alloc, start, lines, made, process, room, meter)?;
-    Ok(imported)
 }
 
 // What comes of the lines for this process.
 fn part_for<M: Meter>(
     alloc: Global,
     start: &Taken,
-    lines: &KeptLines,
+    lines: &ThreadLines,
+    unclear: bool,
     made: &Made,
+    processes: &[Process],
     owned: &[u64],
     begun: &HashMap<u64, usize>,
     process: Process,
@@ -86,15 +72,25 @@ fn part_for<M: Meter>(
     meter: &mut M,
 ) -> Result<ProcessTrace, AllocError>
     requires made { made.now ≡ all_makings false lines.now }
+    requires processes { processes.now ≡ processes_all false lines.now }
     requires owned { owned.now ≡ owners made.now lines.now }
     requires begun { (q : ℕ) → get nat_eq begun.now q ≡ last_begun lines.now owned.now (length lines.now) q }
-    ensures value { IfOk result (λ p. parted p ≡ part_all (so_far start.now) lines.now process) }
+    ensures value { IfOk result (λ p. parted p ≡ part_all unclear (so_far start.now) lines.now process) }
     ensures few { IfOk result (λ p. total p.counts < 2 ^ 64) }
 {
     let program = program_of(alloc, lines, owned, begun, process.number, room)?;
-    let imported = take_process(alloc, start, lines, made, process.number, room, meter)?;
-    let there = is_there(only(process.number), lines);
-    let ending = ending_by(there, imported.taken.steps.len());
+    let (imported, ending) = take_ended(
+        alloc,
+        start,
+        lines,
+        unclear,
+        only(process.number),
+        made,
+        processes,
+        process_of(made, process.number),
+        room,
+        meter,
+    )?;
     let counts = imported.counts;
     let written = write_ended(alloc, ending, &imported.taken);
     drop(imported);
@@ -112,15 +108,17 @@ fn part_for<M: Meter>(
 fn parts_for<M: Meter>(
     alloc: Global,
     start: &Taken,
-    lines: &KeptLines,
+    lines: &ThreadLines,
+    unclear: bool,
     made: &Made,
     processes: &[Process],
     room: &mut Room,
     meter: &mut M,
 ) -> Result<Vec<ProcessTrace>, AllocError>
     requires made { made.now ≡ all_makings false lines.now }
+    requires processes { processes.now ≡ processes_all false lines.now }
     ensures value { IfOk result (λ parts. map parted parts.items
-        ≡ map (part_all (so_far start.now) lines.now) processes.now) }
+        ≡ map (part_all unclear (so_far start.now) lines.now) processes.now) }
     ensures few { IfOk result (λ parts. All (λ p. total p.counts < 2 ^ 64) parts.items) }
 {
     let owned = owners_of(alloc, lines, made)?;
@@ -133,7 +131,9 @@ fn parts_for<M: Meter>(
             alloc,
             start,
             lines,
+            unclear,
             made,
+            processes,
             owned.as_slice(),
             &begun,
             process,
@@ -151,11 +151,12 @@ fn parts_for<M: Meter>(
 fn import_each<M: Meter>(
     alloc: Global,
     start: &Taken,
-    lines: &KeptLines,
+    lines: &ThreadLines,
+    unclear: bool,
     meter: &mut M,
 ) -> Result<Vec<ProcessTrace>, AllocError>
     ensures value { IfOk result (λ parts. map parted parts.items
-        ≡ map (part_all (so_far start.now) lines.now) (processes_all false lines.now)) }
+        ≡ map (part_all unclear (so_far start.now) lines.now) (processes_all false lines.now)) }
     ensures few { IfOk result (λ parts. All (λ p. total p.counts < 2 ^ 64) parts.items) }
 {
     let mut room = Room::new(alloc);
@@ -165,6 +166,7 @@ fn import_each<M: Meter>(
         alloc,
         start,
         lines,
+        unclear,
         &made,
         processes.as_slice(),
         &mut room,
@@ -176,18 +178,40 @@ fn import_each<M: Meter>(
     parts
 }
 
+// What comes of the lines of a log for each process, beside nothing at the start.
+fn parts_of_log<M: Meter>(
+    alloc: Global,
+    lines: KeptLines,
+    meter: &mut M,
+) -> Result<Vec<ProcessTrace>, AllocError>
+    ensures value { IfOk result (λ parts. map parted parts.items
+        ≡ map (part_all (is_unclear lines) nothing_taken (owned lines)) (processes_all false (owned lines))) }
+    ensures few { IfOk result (λ parts. All (λ p. total p.counts < 2 ^ 64) parts.items) }
+{
+    let owned = own_lines(alloc, lines, meter)?;
+    let parts = import_each(
+        alloc,
+        &Taken::new(alloc),
+        &owned.lines,
+        owned.unclear,
+        meter,
+    );
+    drop(owned);
+    parts
+}
+
 // What comes of a log, beside nothing at the start.
 fn parts_in<M: Meter>(
     alloc: Global,
-    log: &StraceLog,
+    log: StraceLog,
     meter: &mut M,
 ) -> Result<Vec<ProcessTrace>, IoFault>
-    ensures value { (input : List ℕ) → IsRead (lines_of input) log.now → EachEnds input result }
+    ensures value { (input : List ℕ) → IsRead (lines_of input) log → EachEnds input result }
     ensures few { IfOk result (λ parts. All (λ p. total p.counts < 2 ^ 64) parts.items) }
     ensures read { result ≡ Err IoFault.ReadFailed → ⊥ }
     ensures write { result ≡ Err IoFault.WriteFailed → ⊥ }
 {
-    match import_each(alloc, &Taken::new(alloc), &log.lines, meter) {
+    match parts_of_log(alloc, log.lines, meter) {
         Ok(parts) => Ok(parts),
         Err(_) => Err(IoFault::NoMemory),
     }
@@ -207,7 +231,7 @@ pub fn import_log_each<S: Source, M: Meter>(
 {
     let mut log = StraceLog::new(alloc);
     match read_lines(alloc, reader, &mut log) {
-        Ok(()) => parts_in(alloc, &log, meter),
+        Ok(()) => parts_in(alloc, log, meter),
         Err(fault) => Err(fault),
     }
 }

@@ -1,33 +1,53 @@
 //! A log of strace, line by line, to what is taken of it.
 ghost use Rattle.std.specs.Prelude.{◌≡◌, ◌<◌, ◌^◌, IfOk, length, map};
+ghost use Rattle.import_lines.specs.Made.{all_makings, fork_of, maker_of, process_of};
 ghost use Rattle.import_steps.specs.Counts.{total};
 ghost use Rattle.import_log.specs.Imported.{chosen_all, ending_all, import_all, processes_all};
-ghost use Rattle.import_log.specs.Imported.{ending_by, half_at, half_begun, imported, taken_if, unread_shown};
-ghost use Rattle.import_log.specs.Processes.{is_there};
+ghost use Rattle.import_log.specs.Imported.{end_of, ending_by, ending_from, half_at, half_begun, imported, is_ours, taken_if, unread_shown};
 ghost use Rattle.import_log.specs.Programs.{program_name, programs_all};
 ghost use Rattle.import_steps.specs.Taking.{so_far};
 
-use crate::made::{Made, all_makings, fork_of, past_of};
-use crate::processes::{Choice, Process, chosen, is_there, look, read_processes, recall, space_at};
+use crate::processes::{
+    Choice, Known, Process, chosen, is_there, look, read_processes, recall, space_at,
+};
 use crate::programs::{ProgramFile, read_programs};
+use crate::refusing::{asked_any, refusal_for, stray_of};
 use import_forms::said::is_known;
 use import_forms::speech::begun;
 use import_lines::joining::{Room, half_text, next_of, returns_by, told_at};
-use import_lines::lines::KeptLines;
+use import_lines::made::{Made, Making, all_makings, fork_of, past_of, process_of};
+use import_lines::threads::ThreadLines;
 use import_steps::counts::LineCounts;
 use import_steps::meter::{Meter, tell_of};
 use import_steps::taking::{Fate, Reason, Taken, take};
 use std::alloc::{AllocError, Global};
+
+/// Why a log is refused.
+#[derive(Clone, Copy)]
+pub enum Refusal {
+    /// Neither a list nor the log says what was mapped when the process began.
+    Unstarted,
+    /// The log doesn't say it of this other process, which may be a thread of the one that is imported.
+    Stray(u64),
+    /// A call began that never returned, or returned that never began: `strace -z` and `-Z` write such logs, out of order.
+    Torn,
+    /// Whose lines they are that name no thread can't be told.
+    Unnumbered,
+    /// No line names a thread, though one was made that has the same address space.
+    Unfollowed,
+}
 
 /// How an import of a log ended.
 #[derive(Clone, Copy)]
 pub enum Ending {
     /// There is a trace.
     Written,
-    /// There would be no request in it.
+    /// Nothing is asked for in the log, or there would be no request in the trace.
     Nothing,
     /// No line is about the thread whose process was asked for.
     Absent,
+    /// The log is refused.
+    Refused(Refusal),
 }
 
 /// What is said about an import of a log.
@@ -70,7 +90,7 @@ fn half_begun(front: &[u8], later: &[u8]) -> Reason
 }
 
 // Why the line is left out, if no call acts at it.
-fn half_at(lines: &KeptLines, place: usize) -> Reason
+fn half_at(lines: &ThreadLines, place: usize) -> Reason
     requires { place < length lines.now }
     ensures { result ≡ half_at lines.now place }
 {
@@ -80,13 +100,48 @@ fn half_at(lines: &KeptLines, place: usize) -> Reason
     }
 }
 
+// Where the lines of the process end: behind the last that is of one of its threads.
+fn end_of(lines: &ThreadLines, made: &Made, process: u64) -> usize
+    ensures { result ≡ end_of made.now process lines.now (length lines.now) }
+{
+    let mut end = lines.len();
+    'lines: while end > 0 {
+        if process_of(made, lines.thread(end - 1)) == process {
+            return end;
+        }
+        end -= 1;
+    }
+    0
+}
+
+// Tells whether this line is about the process, of which it is known how it was made and where it ends.
+fn is_ours(
+    made: &Made,
+    known: Known,
+    line: usize,
+    process: u64,
+    own: Option<Making>,
+    end: usize,
+) -> bool
+    requires known { known.process ≡ process_of made.now known.thread }
+    requires made { known.own ≡ fork_of (maker_of made.now (process_of made.now known.thread)) }
+    requires own { own ≡ fork_of (maker_of made.now process) }
+    ensures { result ≡ is_ours made.now process end known.thread line }
+{
+    if line < end {
+        space_at(made, known, line) == past_of(made, line, process, own)
+    } else {
+        false
+    }
+}
+
 // Takes what this line says, if it is of the process that is imported.
 #[tactic(auto, using(crate::proofs::ToldLemmas::taken_told, crate::proofs::ToldLemmas::taken_none))]
 fn take_line(
     alloc: Global,
     start: &Taken,
     taken: &mut Taken,
-    lines: &KeptLines,
+    lines: &ThreadLines,
     is_ours: bool,
     place: usize,
     room: &mut Room,
@@ -110,7 +165,7 @@ fn take_each<M: Meter>(
     alloc: Global,
     start: &Taken,
     taken: &mut Taken,
-    lines: &KeptLines,
+    lines: &ThreadLines,
     made: &Made,
     process: u64,
     room: &mut Room,
@@ -125,11 +180,12 @@ fn take_each<M: Meter>(
     let mut counts = LineCounts::new();
     let mut known = look(made, 0);
     let own = fork_of(made, process);
+    let end = end_of(lines, made, process);
     let mut at = 0;
     'lines: while at < lines.len() {
         tell_of(meter, 3, at, lines.len());
         known = recall(made, known, lines.thread(at));
-        let is_ours = space_at(made, known, at) == past_of(made, at, process, own);
+        let is_ours = is_ours(made, known, at, process, own, end);
         let fate = take_line(alloc, start, taken, lines, is_ours, at, room)?;
         counts = counts.and(fate);
         at += 1;
@@ -137,11 +193,11 @@ fn take_each<M: Meter>(
     Ok(counts)
 }
 
-/// Takes what all lines of this process say.
-pub(crate) fn take_lines<M: Meter>(
+// Takes what all lines of this process say.
+fn take_lines<M: Meter>(
     alloc: Global,
     start: &Taken,
-    lines: &KeptLines,
+    lines: &ThreadLines,
     made: &Made,
     process: u64,
     room: &mut Room,
@@ -168,20 +224,100 @@ fn copy_unread(alloc: Global, unread: &[u8], ending: Ending) -> Result<Vec<u8>, 
 {
     match ending {
         Ending::Written => Ok(Vec::new(alloc)),
-        Ending::Nothing | Ending::Absent => Vec::from_slice(alloc, unread),
+        Ending::Nothing | Ending::Absent | Ending::Refused(_) => Vec::from_slice(alloc, unread),
     }
 }
 
-/// How an import ended of which this is taken, of a log that has lines of the thread or not.
-pub(crate) fn ending_by(is_there: bool, steps: usize) -> Ending
-    ensures { result ≡ ending_by is_there steps }
+// How an import ended with so many requests, of a log that is refused or not.
+fn ending_from(refusal: Option<Refusal>, steps: usize) -> Ending
+    ensures { result ≡ ending_from refusal steps }
+{
+    match refusal {
+        Some(refusal) => Ending::Refused(refusal),
+        None => {
+            if steps == 0 {
+                Ending::Nothing
+            } else {
+                Ending::Written
+            }
+        }
+    }
+}
+
+// How an import ended with so many requests, of a log that is refused or not, has lines of the thread or not, and asks for something
+// or not.
+fn ending_by(refusal: Option<Refusal>, is_there: bool, is_asked: bool, steps: usize) -> Ending
+    ensures { result ≡ ending_by refusal is_there is_asked steps }
 {
     if !is_there {
         Ending::Absent
-    } else if steps == 0 {
+    } else if !is_asked {
         Ending::Nothing
     } else {
-        Ending::Written
+        ending_from(refusal, steps)
+    }
+}
+
+// How an import ends of which this is taken.
+fn ending_for(
+    start: &Taken,
+    lines: &ThreadLines,
+    unclear: bool,
+    choice: Choice,
+    made: &Made,
+    processes: &[Process],
+    process: u64,
+    imported: &Imported,
+    room: &mut Room,
+) -> Result<Ending, AllocError>
+    requires made { made.now ≡ all_makings choice.joined lines.now }
+    requires processes { processes.now ≡ processes_all choice.joined lines.now }
+    requires process { process ≡ chosen_all choice lines.now }
+    requires taken { (so_far imported.now.taken, imported.now.counts) ≡ import_all (so_far start.now) choice lines.now }
+    ensures { IfOk result (λ ending. ending ≡ ending_all unclear (so_far start.now) choice lines.now) }
+{
+    let stray = stray_of(lines, made, process, processes, room)?;
+    let begins = imported.counts.begins;
+    let refusal = refusal_for(lines, made, unclear, choice, stray, start, begins);
+    let steps = imported.taken.steps.len();
+    Ok(ending_by(
+        refusal,
+        is_there(choice, lines),
+        asked_any(processes),
+        steps,
+    ))
+}
+
+/// Takes what all lines of the chosen process say, and tells how the import ends.
+pub(crate) fn take_ended<M: Meter>(
+    alloc: Global,
+    start: &Taken,
+    lines: &ThreadLines,
+    unclear: bool,
+    choice: Choice,
+    made: &Made,
+    processes: &[Process],
+    process: u64,
+    room: &mut Room,
+    meter: &mut M,
+) -> Result<(Imported, Ending), AllocError>
+    requires made { made.now ≡ all_makings choice.joined lines.now }
+    requires processes { processes.now ≡ processes_all choice.joined lines.now }
+    requires process { process ≡ chosen_all choice lines.now }
+    ensures value { IfOk result (λ i. (so_far i.0.taken, i.0.counts) ≡ import_all (so_far start.now) choice lines.now) }
+    ensures ending { IfOk result (λ i. i.1 ≡ ending_all unclear (so_far start.now) choice lines.now) }
+    ensures total { IfOk result (λ i. total i.0.counts ≡ length lines.now) }
+    ensures few { IfOk result (λ i. total i.0.counts < 2 ^ 64) }
+{
+    let imported = take_lines(alloc, start, lines, made, process, room, meter)?;
+    match ending_for(
+        start, lines, unclear, choice, made, processes, process, &imported, room,
+    ) {
+        Ok(ending) => Ok((imported, ending)),
+        Err(fault) => {
+            drop(imported);
+            Err(fault)
+        }
     }
 }
 
@@ -191,12 +327,13 @@ pub(crate) fn import_lines<M: Meter>(
     alloc: Global,
     start: &Taken,
     unread: &[u8],
-    lines: &KeptLines,
+    lines: &ThreadLines,
+    unclear: bool,
     choice: Choice,
     meter: &mut M,
 ) -> Result<(Taken, Report), AllocError>
     ensures value { IfOk result (λ i. (so_far i.0, i.1.counts) ≡ import_all (so_far start.now) choice lines.now) }
-    ensures ending { IfOk result (λ i. i.1.ending ≡ ending_all (so_far start.now) choice lines.now) }
+    ensures ending { IfOk result (λ i. i.1.ending ≡ ending_all unclear (so_far start.now) choice lines.now) }
     ensures processes { IfOk result (λ i. i.1.processes.items ≡ processes_all choice.joined lines.now) }
     ensures programs { IfOk result (λ i. map program_name i.1.programs.items ≡ programs_all choice.joined lines.now) }
     ensures process { IfOk result (λ i. i.1.process ≡ chosen_all choice lines.now) }
@@ -209,11 +346,21 @@ pub(crate) fn import_lines<M: Meter>(
     let processes = read_processes(alloc, lines, &made, &mut room, meter)?;
     let programs = read_programs(alloc, lines, &made, processes.as_slice(), &mut room)?;
     let process = chosen(choice, &made, processes.as_slice());
-    let taken = take_lines(alloc, start, lines, &made, process, &mut room, meter);
+    let taken = take_ended(
+        alloc,
+        start,
+        lines,
+        unclear,
+        choice,
+        &made,
+        processes.as_slice(),
+        process,
+        &mut room,
+        meter,
+    );
     drop(made);
     drop(room);
-    let imported = taken?;
-    let ending = ending_by(is_there(choice, lines), imported.taken.steps.len());
+    let (imported, ending) = taken?;
     let Ok(unread) = copy_unread(alloc, unread, ending) else {
         drop(imported);
         drop(programs);

@@ -9,6 +9,7 @@ ghost use Rattle.trace_io.specs.Lines.{lines_of};
 ghost use Rattle.trace_io.specs.Source.{Reads};
 
 use crate::import::{Ending, Report, import_lines};
+use crate::owned::own_lines;
 use crate::processes::Choice;
 use import_lines::log_lines::StraceLog;
 use import_lines::reading::read_lines;
@@ -30,7 +31,7 @@ pub(crate) fn write_ended(
 {
     match ending {
         Ending::Written => write_taken(alloc, taken, FRAMES),
-        Ending::Nothing | Ending::Absent => Ok(Vec::new(alloc)),
+        Ending::Nothing | Ending::Absent | Ending::Refused(_) => Ok(Vec::new(alloc)),
     }
 }
 
@@ -46,11 +47,14 @@ fn import_whole<M: Meter>(
         → IsImported (so_far start.now) choice input (so_far i.0) i.1) }
     ensures few { IfOk result (λ i. total i.1.counts < 2 ^ 64) }
 {
+    let StraceLog { lines, unread, .. } = log;
+    let owned = own_lines(alloc, lines, meter)?;
     let imported = import_lines(
         alloc,
         start,
-        log.unread.as_slice(),
-        &log.lines,
+        unread.as_slice(),
+        &owned.lines,
+        owned.unclear,
         choice,
         meter,
     )?;
@@ -88,7 +92,7 @@ fn write_import<W: Sink, M: Meter>(
 
 /// Reads a log of strace to its end, and writes its trace: what is there at the start, and what the chosen process asked of its
 /// address space. Answers what is said about that. Nothing is written before all is read and found its memory; and nothing at all
-/// where no request would be in the trace, or no line is about the thread that was named.
+/// where no request would be in the trace, no line is about the thread that was named, or the log is refused.
 pub fn import_log<S: Source, W: Sink, M: Meter>(
     alloc: Global,
     start: &Taken,

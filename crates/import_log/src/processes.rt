@@ -1,14 +1,14 @@
 //! The processes of a log, and how much each asks of its address space.
 ghost use Rattle.std.specs.Prelude.{◌≡◌, ◌<◌, ◌++◌, ◌∷◌, [], ℕ, IfOk, OnOk, Some, length, nat_eq, slice_get};
 ghost use Rattle.std.specs.HashMap.{get};
-ghost use Rattle.import_log.specs.Made.{fork_of, maker_of, process_of, said_at, space_of};
+ghost use Rattle.import_lines.specs.Made.{fork_of, maker_of, process_of, said_at, space_of};
 ghost use Rattle.import_log.specs.Processes.{asks, best_of, busiest, chosen, is_there, place_of, process_at, processes, with_request, with_line};
 
-use crate::made::{Made, Making, fork_of, process_of, space_of};
-use crate::told::said_at;
 use import_forms::said::Said;
 use import_lines::joining::Room;
-use import_lines::lines::KeptLines;
+use import_lines::made::{Made, Making, fork_of, process_of, space_of};
+use import_lines::threads::ThreadLines;
+use import_lines::told::said_at;
 use import_steps::meter::{Meter, tell_of};
 use std::alloc::{AllocError, Global};
 use std::collections::HashMap;
@@ -30,6 +30,8 @@ pub struct Choice {
     pub thread: Option<u64>,
     /// Whether all threads of which no line says who made them are of one process.
     pub joined: bool,
+    /// Whether a process began with nothing mapped where the log doesn't say with what.
+    pub from_empty: bool,
 }
 
 /// A thread, and its process.
@@ -93,7 +95,9 @@ fn asks(said: Said) -> bool
         Said::Makes { .. }
         | Said::Begins
         | Said::Sizes { .. }
+        | Said::Clears { .. }
         | Said::Loses(_)
+        | Said::Ends
         | Said::Fails
         | Said::Unread
         | Said::Other => false,
@@ -101,7 +105,7 @@ fn asks(said: Said) -> bool
 }
 
 // Tells whether the call that acts at this line, if one does, asks for something of the address space.
-fn line_asks(lines: &KeptLines, place: usize, room: &mut Room) -> Result<bool, AllocError>
+fn line_asks(lines: &ThreadLines, place: usize, room: &mut Room) -> Result<bool, AllocError>
     requires { place < length lines.now }
     ensures { IfOk result (λ b. b ≡ asks (said_at lines.now place)) }
 {
@@ -209,7 +213,7 @@ fn count_line(counted: &mut Counted, number: u64, asks: bool) -> Result<(), Allo
 // Counts each line for its process, where none is counted yet.
 fn count_lines<M: Meter>(
     counted: &mut Counted,
-    lines: &KeptLines,
+    lines: &ThreadLines,
     made: &Made,
     room: &mut Room,
     meter: &mut M,
@@ -232,7 +236,7 @@ fn count_lines<M: Meter>(
 /// The processes of the lines, in the order of their first lines.
 pub(crate) fn read_processes<M: Meter>(
     alloc: Global,
-    lines: &KeptLines,
+    lines: &ThreadLines,
     made: &Made,
     room: &mut Room,
     meter: &mut M,
@@ -292,7 +296,7 @@ pub(crate) fn chosen(choice: Choice, made: &Made, processes: &[Process]) -> u64
 }
 
 // Tells whether a line is about the thread.
-fn has_thread(lines: &KeptLines, thread: u64) -> bool
+fn has_thread(lines: &ThreadLines, thread: u64) -> bool
     ensures { result ≡ is_there (Some thread) lines.now }
 {
     let mut at = 0;
@@ -306,7 +310,7 @@ fn has_thread(lines: &KeptLines, thread: u64) -> bool
 }
 
 /// Tells whether a line is about the thread that was named, if one was.
-pub(crate) fn is_there(choice: Choice, lines: &KeptLines) -> bool
+pub(crate) fn is_there(choice: Choice, lines: &ThreadLines) -> bool
     ensures { result ≡ is_there choice.thread lines.now }
 {
     match choice.thread {

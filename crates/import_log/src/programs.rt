@@ -5,11 +5,11 @@ ghost use Rattle.import_lines.specs.Joining.{call_at};
 ghost use Rattle.import_steps.specs.Names.{name_shown};
 ghost use Rattle.import_log.specs.Programs.{begins, begins_at, last_begun, owners, program_at, program_in, program_name, program_of, programs_for, programs_of};
 
-use crate::made::Made;
 use crate::processes::{Process, look, recall};
 use import_forms::said::Said;
 use import_lines::joining::{Room, told_at};
-use import_lines::lines::KeptLines;
+use import_lines::made::Made;
+use import_lines::threads::ThreadLines;
 use import_steps::names::push_name;
 use std::alloc::{AllocError, Global};
 use std::collections::HashMap;
@@ -38,7 +38,9 @@ fn begins(said: Said) -> bool
         | Said::Sizes { .. }
         | Said::Attaches { .. }
         | Said::Detaches(_)
+        | Said::Clears { .. }
         | Said::Loses(_)
+        | Said::Ends
         | Said::Fails
         | Said::Unread
         | Said::Other => false,
@@ -47,7 +49,7 @@ fn begins(said: Said) -> bool
 
 // Puts the name that the call shows which acts at this line, and tells whether a program begins by it.
 #[tactic(auto, using(crate::proofs::ToldLemmas::program_told, crate::proofs::ToldLemmas::program_none))]
-fn put_begin(lines: &KeptLines, place: usize, room: &mut Room) -> Result<bool, AllocError>
+fn put_begin(lines: &ThreadLines, place: usize, room: &mut Room) -> Result<bool, AllocError>
     requires { place < length lines.now }
     ensures { IfOk result (λ b. program_in (call_at lines.now place)
         ≡ (if b then Some room.new.name.items else None)) }
@@ -70,7 +72,7 @@ fn shown_in(alloc: Global, name: &[u8]) -> Result<ProgramFile, AllocError>
 /// Of which process each line's thread is.
 pub(crate) fn owners_of(
     alloc: Global,
-    lines: &KeptLines,
+    lines: &ThreadLines,
     made: &Made,
 ) -> Result<Vec<u64>, AllocError>
     ensures { IfOk result (λ owned. owned.items ≡ owners made.now lines.now) }
@@ -97,7 +99,7 @@ fn note_begun(begun: &mut HashMap<u64, usize>, number: u64, place: usize) -> Res
 // Notes whether a process begins a program at this line.
 fn hear_begun(
     begun: &mut HashMap<u64, usize>,
-    lines: &KeptLines,
+    lines: &ThreadLines,
     owned: &[u64],
     place: usize,
     room: &mut Room,
@@ -117,7 +119,7 @@ fn hear_begun(
 /// The line at which each process began its last program.
 pub(crate) fn read_begun(
     alloc: Global,
-    lines: &KeptLines,
+    lines: &ThreadLines,
     owned: &[u64],
     room: &mut Room,
 ) -> Result<HashMap<u64, usize>, AllocError>
@@ -137,7 +139,7 @@ pub(crate) fn read_begun(
 // What is shown of the program that begins at this line.
 fn shown_at(
     alloc: Global,
-    lines: &KeptLines,
+    lines: &ThreadLines,
     place: usize,
     room: &mut Room,
 ) -> Result<ProgramFile, AllocError>
@@ -154,7 +156,7 @@ fn shown_at(
 /// The program that the process of this number began last, as it is known where each did.
 pub(crate) fn program_of(
     alloc: Global,
-    lines: &KeptLines,
+    lines: &ThreadLines,
     owned: &[u64],
     begun: &HashMap<u64, usize>,
     number: u64,
@@ -172,7 +174,7 @@ pub(crate) fn program_of(
 // The programs of these processes.
 fn programs_of(
     alloc: Global,
-    lines: &KeptLines,
+    lines: &ThreadLines,
     owned: &[u64],
     begun: &HashMap<u64, usize>,
     processes: &[Process],
@@ -194,7 +196,7 @@ fn programs_of(
 /// The programs that the processes began last, in 80 bytes each, where there are several processes; none where there is one.
 pub(crate) fn read_programs(
     alloc: Global,
-    lines: &KeptLines,
+    lines: &ThreadLines,
     made: &Made,
     processes: &[Process],
     room: &mut Room,

@@ -3,12 +3,12 @@ ghost use Rattle.std.specs.Prelude.{◌≡◌, ◌-◌, ◌<◌, ◌≤◌, ◌^
 ghost use Rattle.trace_io.specs.Lines.{lines_of};
 ghost use Rattle.import_steps.specs.Taking.{so_far};
 ghost use Rattle.import_log.specs.Entries.{total};
-ghost use Rattle.import_log.specs.Listed.{entry_of, entry_said};
+ghost use Rattle.import_lines.specs.Listed.{entry_of, entry_said};
 ghost use Rattle.import_log.specs.Starting.{entry_listed, file_listed, flags_of, heap_with, in_place_of_file, is_inside, line_listed};
 ghost use Rattle.import_log.specs.Starting.{shown_name, start_of, with_request, without_file};
 
 use crate::entries::{Entered, Entries};
-use crate::listed::{Listed, MappingKind, kind_of, read_listed};
+use import_lines::listed::{Listed, MappingKind, kind_of, read_listed};
 use import_steps::names::{NO_NAME, Name, note_name};
 use import_steps::steps::TraceRequest;
 use import_steps::taking::{ADDRESS_END, Taken, reaches, use_file};

@@ -22,6 +22,7 @@ no_counts = record {
   unread = 0;
   still = 0;
   lost = no_losses;
+  begins = 0;
   other = 0;
 }
 
@@ -31,7 +32,7 @@ changed_lines c = c.heap + c.moves + c.files + c.keyed + c.shared
 
 -- how many lines are left out, whatever the reason
 abbrev pub left_lines : LineCounts → ℕ
-left_lines c = c.half + c.failed + c.elsewhere + c.before + c.unread + c.still + lost_lines c.lost + c.other
+left_lines c = c.half + c.failed + c.elsewhere + c.before + c.unread + c.still + lost_lines c.lost + c.begins + c.other
 
 -- kept, changed and left out
 abbrev pub total : LineCounts → ℕ
@@ -53,7 +54,8 @@ begun_anew c = record {
   unread = c.unread;
   still = c.still;
   lost = no_losses;
-  other = c.other + 1;
+  begins = c.begins + 1;
+  other = c.other;
 }
 
 -- one line more, with this fate

@@ -207,15 +207,20 @@ resized s thread addr old new = if nat_lt old new then (asked_by s thread (in_pl
     else if nat_lt new old then (asked_by s thread (Munmap (addr + new) (old - new)), Changed Move)
     else (s, Left For.Still)
 
+-- its old place has new pages
+abbrev pub left_behind : SoFar → ℕ → ℕ → ℕ → ℕ → ℕ → SoFar × Fate
+left_behind s thread from old to new = (asked_by (asked_by s thread (in_place from old)) thread (in_place to new), Changed Move)
+
 -- it stays at its place, or goes to another
 abbrev pub moved : SoFar → ℕ → ℕ → ℕ → ℕ → ℕ → SoFar × Fate
 moved s thread from old to new = if from == to then resized s thread from old new
     else (asked_by (asked_by s thread (Munmap from old)) thread (in_place to new), Changed Move)
 
--- mremap is an unmapping and a mapping
-abbrev pub after_move : SoFar → ℕ → ℕ → ℕ → ℕ → ℕ → SoFar × Fate
-after_move s thread from old to new =
+-- mremap is an unmapping and a mapping, or two mappings, where the old place stays mapped
+abbrev pub after_move : SoFar → ℕ → ℕ → ℕ → ℕ → ℕ → Bool → SoFar × Fate
+after_move s thread from old to new stays =
     if nat_lt (2 ^ 47) from || nat_lt (2 ^ 47) old || nat_lt (2 ^ 47) to || nat_lt (2 ^ 47) new then (s, Left For.Unread)
+    else if stays then left_behind s thread from (rounded old) to (rounded new)
     else moved s thread from (rounded old) to (rounded new)
 
 -- ---- shared memory
@@ -292,7 +297,8 @@ after_request s thread name (Fetch addr) = (asked_by s thread (Fetch addr), Kept
 abbrev pub after_said : SoFar → SoFar → ℕ → List ℕ → Said → SoFar × Fate
 after_said start s thread name (Says.Asks request) = after_request s thread name request
 after_said start s thread name (Says.Breaks to) = after_break s thread to
-after_said start s thread name (Says.Moves from old to new) = after_move s thread from old to new
+after_said start s thread name (Says.Moves from old to new stays) = after_move s thread from old to new stays
+after_said start s thread name (Says.Clears addr len) = (s, Left (For.Lost Lose.Drops))
 after_said start s thread name (Says.Makes child shares joins) = (s, Left For.Other)
 after_said start s thread name Says.Begins = (start, Left For.Begins)
 after_said start s thread name (Says.Keyed request) = keyed_with s thread request
@@ -300,6 +306,7 @@ after_said start s thread name (Says.Sizes number len) = sized_with s number len
 after_said start s thread name (Says.Attaches number addr prot) = attached_with s thread number addr prot (len_of number s.pieces)
 after_said start s thread name (Says.Detaches addr) = detached_with s thread addr (len_of addr s.attached)
 after_said start s thread name (Says.Loses lost) = (s, Left (For.Lost lost))
+after_said start s thread name Says.Ends = (s, Left For.Other)
 after_said start s thread name Says.Fails = (s, Left For.Failed)
 after_said start s thread name Says.Unread = (s, Left For.Unread)
 after_said start s thread name Says.Other = (s, Left For.Other)

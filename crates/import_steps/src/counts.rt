@@ -34,6 +34,8 @@ pub struct LineCounts {
     pub still: u64,
     /// Calls that change the address space in a way that no trace has.
     pub lost: Losses,
+    /// Programs that began.
+    pub begins: u64,
     /// Other calls, events, and lines that say nothing.
     pub other: u64,
 }
@@ -57,6 +59,7 @@ impl LineCounts {
             unread: 0,
             still: 0,
             lost: Losses::new(),
+            begins: 0,
             other: 0,
         }
     }
@@ -81,6 +84,7 @@ impl LineCounts {
             + self.unread
             + self.still
             + self.lost.total()
+            + self.begins
             + self.other
     }
 
@@ -98,7 +102,8 @@ impl LineCounts {
             elsewhere: self.elsewhere,
             unread: self.unread,
             still: self.still,
-            other: self.other + 1,
+            begins: self.begins + 1,
+            other: self.other,
             ..LineCounts::new()
         }
     }

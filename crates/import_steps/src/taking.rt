@@ -5,7 +5,7 @@ ghost use Rattle.import_steps.specs.Taking.{after_break, after_file, after_mappi
 ghost use Rattle.import_steps.specs.Taking.{asked_named, asked_of};
 ghost use Rattle.import_steps.specs.Taking.{file_place, files_with, heap_moved, in_place, nothing_taken, place_named, place_of};
 ghost use Rattle.import_steps.specs.Shared.{len_of};
-ghost use Rattle.import_steps.specs.Taking.{as_shared, attached_with, detached_with, in_shared, reaches, resized, rounded, so_far, use_of, widened};
+ghost use Rattle.import_steps.specs.Taking.{as_shared, attached_with, detached_with, in_shared, left_behind, reaches, resized, rounded, so_far, use_of, widened};
 ghost use Rattle.import_steps.specs.Taking.{keyed_with, sized_with};
 
 use crate::names::{NO_NAME, Name, note_name};
@@ -459,6 +459,22 @@ fn take_resized(
     Ok(Fate::Left(Reason::Still))
 }
 
+// Adds what became of pages of which new ones have the place, and which are at another one now.
+fn take_left(
+    taken: &mut Taken,
+    thread: u64,
+    from: u64,
+    old: u64,
+    to: u64,
+    new: u64,
+) -> Result<Fate, AllocError>
+    ensures { IfOk result (λ fate. (so_far taken.new, fate) ≡ left_behind (so_far taken.old) thread from old to new) }
+{
+    ask_pages(taken, thread, from, old)?;
+    ask_pages(taken, thread, to, new)?;
+    Ok(Fate::Changed(LineChange::Move))
+}
+
 // Adds what became of pages that were moved, or grew or shrank.
 fn take_move(
     taken: &mut Taken,
@@ -467,14 +483,18 @@ fn take_move(
     old: u64,
     to: u64,
     new: u64,
+    stays: bool,
 ) -> Result<Fate, AllocError>
-    ensures { IfOk result (λ fate. (so_far taken.new, fate) ≡ after_move (so_far taken.old) thread from old to new) }
+    ensures { IfOk result (λ fate. (so_far taken.new, fate) ≡ after_move (so_far taken.old) thread from old to new stays) }
 {
     if from > ADDRESS_END || old > ADDRESS_END || to > ADDRESS_END || new > ADDRESS_END {
         return Ok(Fate::Left(Reason::Unread));
     }
     let old = rounded(old);
     let new = rounded(new);
+    if stays {
+        return take_left(taken, thread, from, old, to, new);
+    }
     if from == to {
         return take_resized(taken, thread, from, old, new);
     }
@@ -634,12 +654,19 @@ pub fn take(
     match said {
         Said::Asks(request) => take_request(alloc, taken, thread, name, request),
         Said::Breaks(to) => take_break(taken, thread, to),
-        Said::Moves { from, old, to, new } => take_move(taken, thread, from, old, to, new),
+        Said::Moves {
+            from,
+            old,
+            to,
+            new,
+            stays,
+        } => take_move(taken, thread, from, old, to, new, stays),
         Said::Begins => {
             *taken = start.copy(alloc)?;
             Ok(Fate::Left(Reason::Begins))
         }
-        Said::Makes { .. } | Said::Other => Ok(Fate::Left(Reason::Other)),
+        Said::Makes { .. } | Said::Ends | Said::Other => Ok(Fate::Left(Reason::Other)),
+        Said::Clears { .. } => Ok(Fate::Left(Reason::Lost(Lost::Drops))),
         Said::Keyed(request) => take_keyed(taken, thread, request),
         Said::Sizes { number, len } => take_size(taken, number, len),
         Said::Attaches { number, addr, prot } => {

@@ -54,6 +54,7 @@ fn imported(
     let choice = Choice {
         thread,
         joined: false,
+        from_empty: false,
     };
     match import_mapped(alloc, &mut list, &mut log, &mut out, choice, &mut Unmetered) {
         Ok(told) => Some((out.writer.into_parts().0, told)),
@@ -130,7 +131,8 @@ fn tell_entries<W: Write>(out: &mut W, name: &str, entries: &Entries) {
 fn tell_counts<W: Write>(out: &mut W, name: &str, counts: &LineCounts) {
     let (kept, heap, moves, files) = (counts.kept, counts.heap, counts.moves, counts.files);
     let (half, failed, elsewhere) = (counts.half, counts.failed, counts.elsewhere);
-    let (before, unread, still, other) = (counts.before, counts.unread, counts.still, counts.other);
+    let (before, unread, still) = (counts.before, counts.unread, counts.still);
+    let other = counts.other.saturating_add(counts.begins);
     let drops = counts.lost.drops;
     let _ = writeln!(
         out,

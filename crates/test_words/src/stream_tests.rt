@@ -42,7 +42,7 @@ vm 1 1; c0! load 0
 radixvm live --shared
 vm 1 1; c0! load 0
 
-radixvm import
+radixvm import --from-empty
 10  mmap(NULL, 8192, PROT_READ, MAP_PRIVATE|MAP_ANONYMOUS, -1, 0) = 0x7f0000000000; 10  brk(NULL) = 0x5568290e4000
 
 radixvm import --lackey

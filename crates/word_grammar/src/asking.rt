@@ -222,6 +222,7 @@ fn importing<'a>(words: &ArgMatches<'a>) -> Command<'a>
         work: Work::Import(Choice {
             thread: words.get_one("pid"),
             joined: words.get_flag("one-process"),
+            from_empty: words.get_flag("from-empty"),
         }),
         file: words.get_str("FILE"),
         maps: words.get_str("maps"),

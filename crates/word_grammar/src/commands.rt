@@ -138,7 +138,7 @@ const LIVE_USAGE: &str =
     "radixvm live [[--certify | --history] [--summary] | --shared] [--explain] [FILE]";
 
 const IMPORT_USAGE: &str =
-    "radixvm import [--lackey | --all DIR | [--pid N] [--one-process] [--maps FILE]] [--explain] [FILE..]";
+    "radixvm import [--lackey | --all DIR | [--pid N] [--one-process] [--maps FILE] [--from-empty]] [--explain] [FILE..]";
 
 const AUDIT_USAGE: &str =
     "radixvm audit [--overlapping [--loose | [--given IN | --by-pages] [--order OUT]] | [--strict] [--all]] [--any-place] [--explain] [FILE]";
@@ -205,8 +205,9 @@ fn import_word<'a>(alloc: Global) -> Result<Command<'a>, AllocError>
         number("pid"),
         flag("one-process"),
         name("maps"),
-        name("all").without(&["pid", "one-process", "maps"]),
-        flag("lackey").without(&["pid", "one-process", "maps", "all"]),
+        flag("from-empty"),
+        name("all").without(&["pid", "one-process", "maps", "from-empty"]),
+        flag("lackey").without(&["pid", "one-process", "maps", "from-empty", "all"]),
     ];
     reading_from(
         alloc,

@@ -28,8 +28,8 @@ radixvm run [--summary | [--echo] [--state] [--log]] [--long]
        radixvm live [[--certify | --history] [--summary] | --shared]
                     [--explain] [FILE]
        radixvm import [--lackey | --all DIR |
-                      [--pid N] [--one-process] [--maps FILE]]
-                      [--explain] [FILE..]
+                      [--pid N] [--one-process] [--maps FILE]
+                      [--from-empty]] [--explain] [FILE..]
        radixvm audit [--overlapping [--loose |
                        [--given IN | --by-pages] [--order OUT]] |
                      [--strict] [--all]] [--any-place] [--explain] [FILE]

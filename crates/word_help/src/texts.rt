@@ -134,8 +134,8 @@ import reads a log that strace wrote of a program, and writes a trace of what
 the program asked of its address space.
 
 Usage: radixvm import [--lackey | --all DIR |
-                      [--pid N] [--one-process] [--maps FILE]]
-                      [--explain] [FILE..]
+                      [--pid N] [--one-process] [--maps FILE]
+                      [--from-empty]] [--explain] [FILE..]
 
   strace -f -tt -T -y -o LOG -e trace=memory,process PROGRAM
   radixvm import LOG | radixvm run
@@ -152,11 +152,14 @@ Options:
   --maps FILE    a copy of /proc/PID/maps, as it was where the trace begins: at
                  the log's first line or, if the log has an execve of the
                  process, right after it
+  --from-empty   nothing is mapped where the trace begins, if neither --maps
+                 nor an execve says what is
   --lackey       LOG is one of valgrind's lackey. It has all accesses of memory
                  (below). With none of the other options
   --explain      says which file couldn't be read, and why
 
-Logs. Give strace -o FILE: on a terminal it breaks lines where a thread begins.
+Logs. Give strace -o FILE: a terminal's lines have no number while one thread
+is followed. They are read if that shows its number later, or is alone.
 Lines with -t, -tt, -ttt, -r, -T, -i, -n, -Y, -X raw and -X verbose are read.
 
 Several FILEs are one log. strace -ff writes one for each thread, LOG.NUMBER:
@@ -166,9 +169,14 @@ those at which calls began. In a file no time goes back: at midnight -tt begins
 anew, and -ttt doesn't. Lines before the first time of their file come first,
 in the order of the FILEs, and standard error says how many there are.
 
+Refused, with status 2: a log that asks for nothing; one that doesn't say what
+was mapped when the process began, or how another process began, which may be a
+thread of it; one of strace -z or -Z, whose calls are out of order; and one
+with lines without a number that may be of several threads.
+
 Processes. A forked process begins with its parent's mappings. One of vfork, or
 of clone with CLONE_VM, maps and unmaps for its parent, too, until it begins a
-program.
+program. A process has its last line as its end.
 
 Calls. A line of mmap, munmap or mprotect is kept with its numbers. A mapping
 is put where the kernel placed it, so it has the flag f, and its address is the
@@ -183,8 +191,9 @@ the log isn't read.
 Changed, since a trace has no such lines:
   brk            mmap or munmap of the pages between the heap's old end and
                  new; the first brk only says where the heap ends
-  mremap         munmap and mmap, or one of them if it stays in place: the new
-                 pages may be read and written, and their bytes are zero
+  mremap         munmap and mmap, or one of them if it stays in place, or with
+                 MREMAP_DONTUNMAP two mmaps: the new pages may be read and
+                 written, and their bytes are zero
   a file         the first 16 files are files of the trace, by their paths, or
                  without -y by their descriptors. A mapping of another file, or
                  past a file's first 1048576 bytes, is one of zero bytes. What

@@ -1,6 +1,6 @@
 -- Several files that an import reads as one log, and the files that it writes.
 use Rattle.std.specs.Prelude.{◌≡◌, ℕ, List, ◌++◌, All, Option, codes, decimal, map}
-use Rattle.import_lines.specs.Joined.{IsJoined, all_lines, thread_in, untimed}
+use Rattle.word_import.specs.Joined.{IsJoined, all_lines, thread_in, untimed}
 use Rattle.import_log.specs.declared.each.ProcessTrace.{ProcessTrace}
 use Rattle.import_log.specs.declared.import.Ending.TheVariants.{Written}
 use denote.Ref.{Bor}

@@ -1,3 +1,5 @@
 pub mod Gathered
 pub mod Status
 pub mod Words
+pub mod Joined
+pub mod Times

@@ -4,14 +4,16 @@ use Rattle.import_lackey.specs.declared.traced.LackeyReport.{LackeyReport}
 use Rattle.import_log.specs.declared.mapped.MapsReport.{MapsReport}
 use Rattle.import_log.specs.declared.each.ProcessTrace.{ProcessTrace}
 use Rattle.import_log.specs.declared.import.Ending.{Ending}
-use Rattle.import_log.specs.declared.import.Ending.TheVariants.{Written, Nothing, Absent}
+use Rattle.import_log.specs.declared.import.Ending.TheVariants.{Written, Nothing, Absent, Refused}
 use Rattle.trace_io.specs.declared.fault.IoFault.{IoFault}
 
--- of a log of strace: 2 where there is no trace, since no request would be in it, or no line is about the thread that was named
+-- of a log of strace: 2 where there is no trace, since no request would be in it, no line is about the thread that was named, or the log
+-- is refused
 abbrev pub ending_status : Ending → ℕ
 ending_status Written = 0
 ending_status Nothing = 2
 ending_status Absent = 2
+ending_status (Refused refusal) = 2
 
 abbrev pub log_status : Result MapsReport IoFault → ℕ
 log_status (Ok told) = ending_status told.report.ending

@@ -2,7 +2,7 @@
 ghost use Rattle.std.specs.Prelude.{◌≡◌, IfOk, OnOk, map, string_bytes};
 ghost use Rattle.word_import.specs.Gathered.{AreSaved, IsGathered, IsSaved, path_in, thread_of};
 
-use import_lines::joined::{JoinedLog, TimedLog, join_logs, thread_in};
+use crate::joined::{JoinedLog, TimedLog, join_logs, thread_in};
 use import_log::each::ProcessTrace;
 use import_log::import::Ending;
 use std::alloc::{AllocError, Global};
@@ -136,7 +136,7 @@ fn save_part<F: Files>(
             };
             files.save(path.as_str(), part.text.as_slice())
         }
-        Ending::Nothing | Ending::Absent => Ok(()),
+        Ending::Nothing | Ending::Absent | Ending::Refused(_) => Ok(()),
     }
 }
 

@@ -14,7 +14,7 @@ use import_forms::looks::{Looks, looks_of};
 use import_lackey::traced::{LackeyReport, trace_log};
 use import_log::each::{ProcessTrace, import_log_each};
 use import_log::entries::Entries;
-use import_log::import::{Ending, Report};
+use import_log::import::{Ending, Refusal, Report};
 use import_log::mapped::import_mapped;
 use import_log::processes::{Choice, Process};
 use import_log::programs::ProgramFile;
@@ -94,7 +94,8 @@ fn tell_lost<E: Write>(lost: &Losses, errors: &mut E) {
 
 // Prints how many lines were left out, and why.
 fn tell_left<E: Write>(counts: &LineCounts, errors: &mut E) {
-    tell_count(counts.other, "left out: other calls, and events", errors);
+    let other = counts.other.saturating_add(counts.begins);
+    tell_count(other, "left out: other calls, and events", errors);
     tell_count(
         counts.half,
         "left out: the other half of a call that stands in two lines",
@@ -202,6 +203,10 @@ fn tell_part<E: Write>(part: &ProcessTrace, errors: &mut E)
         Ending::Nothing | Ending::Absent => {
             let _ = writeln!(errors, ", no trace");
         }
+        Ending::Refused(refusal) => {
+            let _ = writeln!(errors, ", no trace");
+            tell_refusal(part.process.number, refusal, errors);
+        }
     }
     tell_counts(&part.counts, errors);
 }
@@ -268,6 +273,40 @@ fn tell_absent<E: Write>(report: &Report, choice: Choice, errors: &mut E) {
     tell_processes(report, errors);
 }
 
+// Says why a log is refused of which this process would be imported.
+fn tell_refusal<E: Write>(process: u64, refusal: Refusal, errors: &mut E) {
+    let _ = match refusal {
+        Refusal::Unstarted => writeln!(
+            errors,
+            "radixvm: the log doesn't say what was mapped when process {process} began: record execve, clone, clone3, fork and vfork too; give --maps FILE, or --from-empty"
+        ),
+        Refusal::Stray(number) => writeln!(
+            errors,
+            "radixvm: no line says how {number} began, a process or a thread: record execve, clone, clone3, fork and vfork too; or give --one-process, or --from-empty"
+        ),
+        Refusal::Torn => writeln!(
+            errors,
+            "radixvm: a call's beginning has no end, or its end no beginning: strace -z and -Z write calls out of order, so record without them"
+        ),
+        Refusal::Unfollowed => writeln!(
+            errors,
+            "radixvm: the calls of threads that process {process} made aren't in the log: record with strace -f -o FILE"
+        ),
+        Refusal::Unnumbered => writeln!(
+            errors,
+            "radixvm: it can't be told whose lines these are that have no number: record with strace -f -o FILE"
+        ),
+    };
+}
+
+// Says why the log is refused, and which processes there are.
+fn tell_refused<E: Write>(report: &Report, refusal: Refusal, errors: &mut E) {
+    tell_refusal(report.process, refusal, errors);
+    if report.processes.len() > 1 {
+        tell_processes(report, errors);
+    }
+}
+
 // Prints what is said about an import.
 fn tell_report<E: Write>(report: &Report, choice: Choice, errors: &mut E)
     requires { total report.now.counts < 2 ^ 64 }
@@ -282,6 +321,10 @@ fn tell_report<E: Write>(report: &Report, choice: Choice, errors: &mut E)
             tell_absent(report, choice, errors);
             return;
         }
+        Ending::Refused(refusal) => {
+            tell_refused(report, refusal, errors);
+            return;
+        }
     }
     tell_counts(&report.counts, errors);
 }
@@ -294,7 +337,7 @@ fn tell_accesses<E: Write>(told: &LackeyReport, errors: &mut E)
         Ending::Nothing => {
             let _ = writeln!(errors, "radixvm: nothing was kept");
         }
-        Ending::Written | Ending::Absent => {}
+        Ending::Written | Ending::Absent | Ending::Refused(_) => {}
     }
     tell_counts(&told.counts, errors);
 }
@@ -307,6 +350,7 @@ fn status_of(ending: Ending) -> u8
         Ending::Written => 0,
         Ending::Nothing => 2,
         Ending::Absent => 2,
+        Ending::Refused(_) => 2,
     }
 }
 
@@ -338,7 +382,7 @@ fn tell_fault<E: Write>(fault: IoFault, errors: &mut E) -> Ended
 
 /// Makes a trace of a list of mappings and of a log of strace, of the process that is chosen, prints what became of the lines of
 /// both on `errors`, or a fault as `radixvm: ` and its text, and answers the status: 0; 2 where there is no trace, since no request
-/// would be in it, or no line is about the thread that was named; or 3 for a fault. Where that is wanted, `errors` shows how far a
+/// would be in it, no line is about the thread that was named, or the log is refused; or 3 for a fault. Where that is wanted, `errors` shows how far a
 /// long import has come.
 pub fn import<L: Source, S: Source, W: Sink, E: Write>(
     alloc: Global,

@@ -11,7 +11,7 @@ processes-preserved g c =
     let all = c.args.lines.now in
     record {
       within = omega (arith, c.processes-test.true);
-      value = ap (map parted) c.in_ok-push.ensures.items ∙ told_more parted (part_all (so_far c.args.start.now) all)
+      value = ap (map parted) c.in_ok-push.ensures.items ∙ told_more parted (part_all c.args.unclear (so_far c.args.start.now) all)
           c.args.processes.now c.processes.at _ _ _ c.processes-test.true c.processes.invariant.value
           c.in_ok-part.ensures.value;
       few = subst (All (λ p. total p.counts < 2 ^ 64)) (sym c.in_ok-push.ensures.items)

@@ -8,7 +8,7 @@ use Rattle.import_log.proofs.each.parts_for.Given as goal
 abbrev pub invariant-processes : goal.invariant-processes
 invariant-processes g l = record {
   within : l.at ≤ length l.processes;
-  value : map parted l.parts.items ≡ map (part_all (so_far l.start) l.lines) (take l.at l.processes);
+  value : map parted l.parts.items ≡ map (part_all l.unclear (so_far l.start) l.lines) (take l.at l.processes);
   few : All (λ p. total p.counts < 2 ^ 64) l.parts.items;
 }
 

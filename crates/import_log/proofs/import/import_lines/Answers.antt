@@ -1,7 +1,6 @@
 use Rattle.std.proofs.Common.{length, refl, ap, ◌∙◌}
 use Rattle.import_log.specs.Processes.{processes}
-use Rattle.import_steps.specs.Taking.{so_far}
-use Rattle.import_log.proofs.EachLemmas.{ending_known, process_known, programs_known, taken_known}
+use Rattle.import_log.proofs.EachLemmas.{process_known, programs_known}
 use Rattle.import_log.proofs.import.import_lines.Goals as goal
 
 pub returns-clause-process : goal.returns-clause-process
@@ -10,14 +9,10 @@ returns-clause-process g c =
     (c.as_slice-2.ensures.value ∙ c.in_ok-processes.ensures) c.chosen-process.ensures
 
 pub returns-clause-value : goal.returns-clause-value
-returns-clause-value g c =
-    taken_known (so_far c.args.start.now) c.args.choice c.args.lines.now _ _ _ c.in_ok-made.ensures (returns-clause-process g c)
-    c.in_ok-imported.ensures.value
+returns-clause-value g c = c.in_ok-imported.ensures.value
 
 pub returns-clause-ending : goal.returns-clause-ending
-returns-clause-ending g c =
-    ending_known (so_far c.args.start.now) c.args.choice c.args.lines.now _ _ _ _ (returns-clause-value g c) c.is_there.ensures c.len.ensures
-    c.ending_by-ending.ensures
+returns-clause-ending g c = c.in_ok-imported.ensures.ending
 
 pub returns-clause-processes : goal.returns-clause-processes
 returns-clause-processes g c =

@@ -1,6 +1,6 @@
-use Rattle.std.proofs.Common.{arith, ap, sym, ◌∙◌, eqb}
-use Rattle.import_log.specs.Imported.{is_ours, taken_if}
-use Rattle.import_log.specs.Made.{fork_of, maker_of, past_of, process_of}
+use Rattle.std.proofs.Common.{length, arith, ap, sym, ◌∙◌}
+use Rattle.import_log.specs.Imported.{end_of, is_ours, taken_if}
+use Rattle.import_lines.specs.Made.{fork_of, maker_of, process_of}
 use Rattle.import_steps.specs.Taking.{so_far}
 use Rattle.import_log.proofs.ToldLemmas.{taken_more}
 use Rattle.import_log.proofs.import.take_each.Goals as goal
@@ -8,15 +8,17 @@ use Rattle.import_log.proofs.import.take_each.Goals as goal
 pub lines-preserved : goal.lines-preserved
 lines-preserved g c =
     let all = c.args.lines.now in
-    let ours = ap (λ h. eqb c.space_at.result h) c.past_of.ensures
-    ∙ ap (λ p. eqb p (past_of c.args.made.now c.lines.at c.args.process)) c.space_at.ensures
-    ∙ ap (λ t. is_ours c.args.made.now c.args.process t c.lines.at) (c.recall-known.ensures.thread ∙ c.thread.ensures) in
+    let ours = c.is_ours-is_ours.ensures
+    ∙ ap (λ e. is_ours c.args.made.now c.args.process e c.recall-known.result.thread c.lines.at) c.lines.invariant.end
+    ∙ ap (λ t. is_ours c.args.made.now c.args.process (end_of c.args.made.now c.args.process all (length all)) t c.lines.at)
+    (c.recall-known.ensures.thread ∙ c.thread.ensures) in
     record {
       within = omega (arith, c.lines-test.true, c.len.ensures);
       value = taken_more (so_far c.args.start.now) all c.args.made.now c.args.process c.lines.at _ _ _ _ _ c.lines.invariant.value
           (c.in_ok-fate.ensures ∙ ap (λ b. taken_if b (so_far c.args.start.now) (so_far c.lines.taken) all c.lines.at) ours) c.and-counts.ensures.value;
       known = c.recall-known.ensures.known ∙ ap (process_of c.args.made.now) (sym c.recall-known.ensures.thread);
       own = c.recall-known.ensures.own ∙ ap (λ t. fork_of (maker_of c.args.made.now (process_of c.args.made.now t))) (sym c.recall-known.ensures.thread);
+      end = c.lines.invariant.end;
       first = c.lines.invariant.first;
       total = omega (arith, c.and-counts.ensures.total, c.lines.invariant.total);
     }

@@ -1,7 +1,7 @@
 use Rattle.std.proofs.Common.{◌≡◌, ◌≤◌, ◌-◌, length}
 use Rattle.import_steps.specs.Counts.{total}
-use Rattle.import_log.specs.Imported.{imported}
-use Rattle.import_log.specs.Made.{fork_of, maker_of, process_of}
+use Rattle.import_log.specs.Imported.{end_of, imported}
+use Rattle.import_lines.specs.Made.{fork_of, maker_of, process_of}
 use Rattle.import_steps.specs.Taking.{so_far}
 use Rattle.import_log.proofs.import.take_each.Given as goal
 
@@ -11,6 +11,7 @@ invariant-lines g l = record {
   value : (so_far l.taken, l.counts) ≡ imported (so_far l.start) l.lines l.made l.process l.at;
   known : l.known.process ≡ process_of l.made l.known.thread;
   own : l.known.own ≡ fork_of (maker_of l.made (process_of l.made l.known.thread));
+  end : l.end ≡ end_of l.made l.process l.lines (length l.lines);
   first : l.own ≡ fork_of (maker_of l.made l.process);
   total : total l.counts ≡ l.at;
 }

@@ -1,5 +1,5 @@
 use Rattle.std.proofs.Common.{◌≡◌, ◌≤◌, ◌-◌, length}
-use Rattle.import_log.specs.Made.{fork_of, maker_of, process_of}
+use Rattle.import_lines.specs.Made.{fork_of, maker_of, process_of}
 use Rattle.import_log.specs.Processes.{processes}
 use Rattle.import_log.proofs.processes.count_lines.Given as goal
 

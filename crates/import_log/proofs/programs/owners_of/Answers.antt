@@ -1,5 +1,5 @@
 use Rattle.std.proofs.Common.{◌<◌, [], length, arith, ap, sym, ◌∙◌}
-use Rattle.import_log.specs.Made.{fork_of, maker_of, process_of}
+use Rattle.import_lines.specs.Made.{fork_of, maker_of, process_of}
 use Rattle.import_log.proofs.EachLemmas.{mapped_more}
 use Rattle.import_log.proofs.programs.owners_of.Goals as goal
 

@@ -1,5 +1,5 @@
 use Rattle.std.proofs.Common.{◌≡◌, ◌≤◌, ◌-◌, length, take}
-use Rattle.import_log.specs.Made.{fork_of, maker_of, process_of}
+use Rattle.import_lines.specs.Made.{fork_of, maker_of, process_of}
 use Rattle.import_log.specs.Programs.{owners}
 use Rattle.import_log.proofs.programs.owners_of.Given as goal
 

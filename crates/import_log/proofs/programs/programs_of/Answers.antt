@@ -1,4 +1,4 @@
-use Rattle.std.proofs.Common.{arith, map, ap, sym, ◌∙◌}
+use Rattle.std.proofs.Common.{arith, map, ap, ◌∙◌}
 use Rattle.import_log.specs.Programs.{program_name, program_of}
 use Rattle.import_log.proofs.EachLemmas.{told_more}
 use Rattle.import_log.proofs.programs.programs_of.Goals as goal

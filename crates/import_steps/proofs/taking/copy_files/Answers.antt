@@ -1,4 +1,4 @@
-use Rattle.std.proofs.Common.{◌<◌, List, [], ℕ, length, map, arith, sym, ap, ◌∙◌}
+use Rattle.std.proofs.Common.{◌<◌, [], length, map, arith, sym, ap, ◌∙◌}
 use Rattle.import_steps.specs.Taking.{use_of}
 use Rattle.import_steps.proofs.TakingLemmas.{map-at, map-size, copied_more}
 use Rattle.import_steps.proofs.taking.copy_files.Goals as goal

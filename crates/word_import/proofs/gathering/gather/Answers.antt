@@ -1,6 +1,6 @@
 use Rattle.std.proofs.Common.{◌≡◌, ℕ, List, [], ◌∷◌, Option, map, refl, ap, ◌∙◌}
-use Rattle.import_lines.specs.Joined.{log_of}
-use Rattle.import_lines.specs.declared.joined.TimedLog.{TimedLog}
+use Rattle.word_import.specs.Joined.{log_of}
+use Rattle.word_import.specs.declared.joined.TimedLog.{TimedLog}
 use Rattle.word_import.proofs.gathering.gather.Goals as goal
 
 -- the logs' threads

@@ -1,9 +1,0 @@
-use Rattle.std.proofs.Common.{◌≡◌, ◌≤◌, ◌-◌, length, drop}
-use Rattle.import_log.specs.Listed.{from_name}
-use Rattle.import_log.proofs.listed.without_spaces.Given as goal
-
-abbrev pub invariant-spaces : goal.invariant-spaces
-invariant-spaces l = record { within : l.count ≤ length l.bytes; same : from_name (drop l.count l.bytes) ≡ from_name l.bytes }
-
-abbrev pub decreases-spaces : goal.decreases-spaces
-decreases-spaces l = length l.bytes - l.count

@@ -1,9 +1,0 @@
-use Rattle.std.proofs.Common.{◌≡◌, ◌≤◌, ◌-◌, length}
-use Rattle.import_log.specs.Told.{Hears}
-use Rattle.import_log.proofs.told.hear_all.Given as goal
-
-abbrev pub invariant-lines : goal.invariant-lines
-invariant-lines g l = record { within : l.at ≤ length l.lines; heard : Hears l.lines l.at l.heard }
-
-abbrev pub decreases-lines : goal.decreases-lines
-decreases-lines g l = length l.lines - l.at
