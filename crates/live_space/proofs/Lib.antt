@@ -1,4 +1,5 @@
 pub mod Counted
+pub mod Done
 pub mod Ended
 pub mod Faulted
 mod Few

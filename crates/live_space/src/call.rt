@@ -4,11 +4,12 @@ ghost use Rattle.vm_base.specs.declared.replies.Reply.TheVariants.{NoMemory};
 ghost use Rattle.vm_base.specs.Plain.{mode_of};
 ghost use Rattle.slot_lock.specs.Plan.{IsSoundPlan};
 ghost use Rattle.frames.specs.Files.{files_of};
+ghost use Rattle.vm_calls.specs.Checks.{checked};
 ghost use Rattle.seats.specs.Growing.{OneCall};
 ghost use Rattle.live_pages.specs.Ending.{Ends};
 ghost use Rattle.live_space.specs.Answering.{AnswersFor};
 ghost use Rattle.live_space.specs.Calls.{IsIdle, LacksCall, MayBegin};
-ghost use Rattle.live_space.specs.Doing.{Did};
+ghost use Rattle.live_space.specs.Doing.{Did, Done, DoneIf};
 ghost use Rattle.live_space.specs.Endings.{HoldsNone, RunsTo};
 ghost use Rattle.live_space.specs.Planned.{AnswersDecided, AnswersPlan, RanIn};
 ghost use Rattle.live_space.specs.Space.{IsOf};
@@ -52,6 +53,8 @@ impl<A: Allocator + Clone> Live<A> {
         ensures own { IsOf self.now seat.new }
         ensures noted { IfOk result (λ reply. OneCall seat.old request reply seat.new) }
         ensures answers { IfOk result (AnswersFor (λ file. mode_of (files_of self.now.files file)) seat.old.core request) }
+        ensures did { IfOk result (DoneIf (files_of self.now.files)
+            (checked (λ file. mode_of (files_of self.now.files file)) seat.old.core request) seat.new) }
         ensures begun { OnOk result (seat.new.begun ≡ seat.old.begun + 1) }
         ensures may { OnOk result (MayBegin self.now.share seat.old) }
         ensures fault { IfErr result (λ fault. LacksCall self.now.share seat.old fault) }
@@ -82,6 +85,7 @@ impl<A: Allocator + Clone> Live<A> {
         requires never { IfErr checked (λ reply. reply ≢ NoMemory) }
         ensures ended { Ends seat.old result seat.new }
         ensures answers { (result ≡ NoMemory) ⊎ AnswersDecided checked result }
+        ensures did { DoneIf (files_of self.now.files) checked seat.new result }
     {
         match checked {
             Ok(plan) => self.go_on(rt, seat, plan, gate),
@@ -100,6 +104,7 @@ impl<A: Allocator + Clone> Live<A> {
         requires room { 2 ≤ seat.old.room }
         ensures ended { Ends seat.old result seat.new }
         ensures answers { (result ≡ NoMemory) ⊎ AnswersPlan plan result }
+        ensures did { (result ≡ NoMemory) ⊎ Done (files_of self.now.files) plan seat.new result }
     {
         let mut call = InCall {
             seat,

@@ -1,9 +1,12 @@
-use Rattle.std.proofs.Common.{◌≡◌, ◌+◌, ℕ, Option, ap, subst, ◌∙◌, rules}
+use Rattle.std.proofs.Common.{◌≡◌, ◌+◌, ℕ, Option, Result, ap, subst, ◌∙◌, rules}
 use Rattle.vm_base.specs.Plain.{mode_of}
 use Rattle.vm_base.specs.declared.rights.Mode.{Mode}
 use Rattle.frames.specs.Files.{files_of}
 use Rattle.vm_calls.specs.Checks.{checked}
+use Rattle.slot_lock.specs.declared.plan.Plan.{Plan}
+use Rattle.vm_base.specs.declared.replies.Reply.{Reply}
 use Rattle.seats.specs.Notes.{SeatView}
+use Rattle.live_space.specs.Doing.{DoneIf}
 use Rattle.live_space.specs.Answering.{AnswersFor}
 use Rattle.live_pages.proofs.Ending.{begun_once}
 use Rattle.live_space.proofs.Never.{checked_never}
@@ -26,6 +29,15 @@ returns-clause-answers g c =
     let is : c.check-checked.result ≡ checked modes c.reserve_notes.new.seat.core c.args.request = search rules in
     subst (λ n. AnswersFor modes n c.args.request c.run-reply.result) same
     (answers_checked modes c.reserve_notes.new.seat.core c.args.request c.check-checked.result c.run-reply.result is c.run-reply.ensures.answers)
+
+pub returns-clause-did : goal.returns-clause-did
+returns-clause-did g c =
+    let same = ap (λ (s : SeatView). s.core) c.in_ok-reserve_notes.ensures.same in
+    let files = files_of c.args.self.now.files in
+    let modes : ℕ → Option Mode = λ file. mode_of (files file) in
+    let is : c.check-checked.result ≡ checked modes c.reserve_notes.new.seat.core c.args.request = search rules in
+    subst (λ n. DoneIf files (checked modes n c.args.request) c.run-reply.new.seat c.run-reply.result) same
+    (subst (λ (r : Result Plan Reply). DoneIf files r c.run-reply.new.seat c.run-reply.result) is c.run-reply.ensures.did)
 
 pub returns-clause-begun : goal.returns-clause-begun
 returns-clause-begun g c = begun_once _ _ _ c.run-reply.ensures.ended ∙ (ap (λ (s : SeatView). s.begun) c.begin-begun.ensures
