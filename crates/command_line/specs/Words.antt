@@ -9,7 +9,7 @@ use Rattle.trace_io.specs.Io.{ReadFrom, WrittenTo}
 use Rattle.vm_base.specs.declared.page.PageRange.{PageRange}
 use Rattle.word_runs.specs.Words.{ReplaysTrace, EchoesTrace, CertifiesNotes, RunsScript, WritesHistory, CertifiesRun, SharesScript}
 use Rattle.word_import.specs.Words.{ImportsLog, ImportsEach, ImportsAccesses}
-use Rattle.word_audit.specs.Words.{AuditsReplies, ReviewsReplies, JudgesOrGivesUp, JudgesByPages, JudgesLoosely}
+use Rattle.word_audit.specs.Words.{AuditsReplies, ReviewsReplies, JudgesOrGivesUp, JudgesByKernel, JudgesByPages, JudgesLoosely}
 use Rattle.word_pictures.specs.Words.{PicturesTrace}
 
 -- what the words ask for: an import reads a list besides, a litmus test counts, and the others nothing
@@ -30,6 +30,7 @@ DoesWork A parts CanFold Folds (For.AuditAll terms) list text out n = ReviewsRep
 DoesWork A parts CanFold Folds (For.Overlapping overlaps) list text out n = JudgesOrGivesUp A overlaps.any_place text out n
 DoesWork A parts CanFold Folds (For.ByPages overlaps) list text out n = JudgesByPages A overlaps.any_place text out n
 DoesWork A parts CanFold Folds (For.Loosely any_place) list text out n = JudgesLoosely A any_place text out n
+DoesWork A parts CanFold Folds (For.ByKernel any_place moving) list text out n = JudgesByKernel A any_place moving text out n
 DoesWork A parts CanFold Folds (For.Picture drawing) list text out n = PicturesTrace drawing text out n
 DoesWork A parts CanFold Folds (For.Litmus wanted limit) list text out n = TellsTest (record { wanted = wanted; limit = limit }) list text out n
 DoesWork A parts CanFold Folds (For.PictureWitness asked) list text out n = PicturesWitness asked text out n

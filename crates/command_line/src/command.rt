@@ -26,6 +26,7 @@ use trace_words::fault::{TraceFault, status_of_fault};
 use trace_words::show::Show;
 use word_audit::auditing::{audit, audit_each, audit_overlapping};
 use word_audit::loosening::audit_loosely;
+use word_audit::obeying::audit_by_kernel;
 use word_audit::paging::audit_by_pages;
 use word_faults::explain::{Manner, explain};
 use word_faults::forms::TextKind;
@@ -193,6 +194,9 @@ fn act<T: Threads + Wait + Sync, R: Runner<Global>, L: Source, S: Source, W: Sin
                 &mut aside.order,
             ),
             Work::Loosely(any_place) => audit_loosely(alloc, reader, out, errors, any_place),
+            Work::ByKernel { any_place, moving } => {
+                audit_by_kernel(alloc, reader, out, errors, any_place, moving)
+            }
             Work::Picture(drawing) => picture(alloc, reader, out, errors, drawing),
             Work::Litmus { wanted, limit } => {
                 let test = Test { wanted, limit };
@@ -249,7 +253,8 @@ fn manner_of(work: Work, coloured: bool) -> Manner {
         | Work::AuditAll(_)
         | Work::Overlapping(_)
         | Work::ByPages(_)
-        | Work::Loosely(_) => { (TextKind::Replies, CallLimit::Usual, false) }
+        | Work::Loosely(_)
+        | Work::ByKernel { .. } => { (TextKind::Replies, CallLimit::Usual, false) }
         Work::Picture(Drawing::Listing(limit)) => (
             TextKind::Trace,
             limit,
@@ -290,7 +295,8 @@ fn example_of(work: Work) -> &'static str {
         | Work::AuditAll(_)
         | Work::Overlapping(_)
         | Work::ByPages(_)
-        | Work::Loosely(_) => "vm 1 4",
+        | Work::Loosely(_)
+        | Work::ByKernel { .. } => "vm 1 4",
     }
 }
 
@@ -298,8 +304,12 @@ fn example_of(work: Work) -> &'static str {
 fn keeps_of(work: Work, explains: bool) -> Keeps {
     match work {
         Work::Audit(_) | Work::AuditAll(_) => Keeps::All,
-        Work::Overlapping(_) | Work::ByPages(_) | Work::Loosely(_) | Work::Picture(_) if explains =>
-            Keeps::All,
+        Work::Overlapping(_)
+        | Work::ByPages(_)
+        | Work::Loosely(_)
+        | Work::ByKernel { .. }
+        | Work::Picture(_)
+            if explains => Keeps::All,
         Work::Import(_) | Work::ImportEach | Work::ImportAccesses => Keeps::Nothing,
         _ if explains => Keeps::End,
         _ => Keeps::Nothing,

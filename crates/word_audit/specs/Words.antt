@@ -4,6 +4,7 @@ use Rattle.std.specs.Io.KnownBytes.{Keeps}
 use Rattle.overlapping.specs.Ends.{JudgementEnds, TellsJudgement}
 use Rattle.overlapping.specs.Replies.{AuditEnds}
 use Rattle.page_orders.specs.Ends.{EndsByPages}
+use Rattle.loosely.specs.Kernel.{EndsByKernel}
 use Rattle.loosely.specs.Loosely.{EndsLoosely}
 use Rattle.audit_text.specs.Ends.{TellsAudit}
 use Rattle.audit_text.specs.Reviewed.{ReviewEnds}
@@ -38,3 +39,8 @@ JudgesByPages A any_place text out n =
 abbrev pub JudgesLoosely : Type 0 → Bool → ReadFrom → WrittenTo → ℕ → Type 0
 JudgesLoosely A any_place text out n =
     EndsInOneWay judgement_status (λ input unread. EndsLoosely {A = A} any_place input) TellsJudgement text out n
+
+-- by the rule that kernels keep
+abbrev pub JudgesByKernel : Type 0 → Bool → Bool → ReadFrom → WrittenTo → ℕ → Type 0
+JudgesByKernel A any_place moving text out n =
+    EndsInOneWay judgement_status (λ input unread. EndsByKernel {A = A} any_place moving input) TellsJudgement text out n

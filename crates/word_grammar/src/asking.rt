@@ -62,6 +62,11 @@ pub enum Work {
     ByPages(Overlaps),
     /// The same, where an access may go as before a call that hasn't ended; whether a mapping may have any place.
     Loosely(bool),
+    /// The same, by the rule that kernels keep; whether a mapping may have any place, and threads may move between cores.
+    ByKernel {
+        any_place: bool,
+        moving: bool,
+    },
     /// A picture of a trace, of its steps or of lives, the state at its end or behind a line, or each line with what it changes in it.
     Picture(Drawing),
     /// What is told of a litmus test, of whose orders so many points are looked at, at most.
@@ -325,7 +330,12 @@ fn overlapping<'a>(words: &ArgMatches<'a>) -> Command<'a> {
         is_wanted: words.get_str("order").is_some(),
     };
     Command {
-        work: if words.get_flag("loose") {
+        work: if words.get_flag("kernel") {
+            Work::ByKernel {
+                any_place: overlaps.any_place,
+                moving: words.get_flag("moving"),
+            }
+        } else if words.get_flag("loose") {
             Work::Loosely(overlaps.any_place)
         } else if words.get_flag("by-pages") {
             Work::ByPages(overlaps)

@@ -141,7 +141,7 @@ const IMPORT_USAGE: &str =
     "radixvm import [--lackey | --all DIR | [--pid N] [--one-process] [--maps FILE] [--from-empty]] [--explain] [FILE..]";
 
 const AUDIT_USAGE: &str =
-    "radixvm audit [--overlapping [--loose | [--given IN | --by-pages] [--order OUT]] | [--strict] [--all]] [--any-place] [--explain] [FILE]";
+    "radixvm audit [--overlapping [--kernel [--moving] | --loose | [--given IN | --by-pages] [--order OUT]] | [--strict] [--all]] [--any-place] [--explain] [FILE]";
 
 const LITMUS_USAGE: &str =
     "radixvm litmus [--to-c | [--limit N] [--list | --witness N | --picture N | --observed COUNTS | --live N]] [--explain] [FILE]";
@@ -236,6 +236,13 @@ fn audit_word<'a>(alloc: Global) -> Result<Command<'a>, AllocError>
             flag("loose"),
             &["strict", "all", "by-pages", "given", "order"],
         ),
+        of_orders(
+            flag("kernel"),
+            &["strict", "all", "by-pages", "given", "order", "loose"],
+        ),
+        flag("moving")
+            .beside("kernel")
+            .without(&["strict", "all", "by-pages", "given", "order", "loose"]),
     ];
     reading(alloc, "audit", Topic::Audit, AUDIT_USAGE, &choices)
 }

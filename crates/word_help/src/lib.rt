@@ -30,7 +30,7 @@ radixvm run [--summary | [--echo] [--state] [--log]] [--long]
        radixvm import [--lackey | --all DIR |
                       [--pid N] [--one-process] [--maps FILE]
                       [--from-empty]] [--explain] [FILE..]
-       radixvm audit [--overlapping [--loose |
+       radixvm audit [--overlapping [--kernel [--moving] | --loose |
                        [--given IN | --by-pages] [--order OUT]] |
                      [--strict] [--all]] [--any-place] [--explain] [FILE]
        radixvm picture [--lives | [--steps] [--from N] [--to N]]

@@ -256,7 +256,7 @@ pub const AUDIT: &str = "\
 audit judges the replies of another address space, a kernel's or a simulator's:
 whether a plain page map gives them.
 
-Usage: radixvm audit [--overlapping [--loose |
+Usage: radixvm audit [--overlapping [--kernel [--moving] | --loose |
                        [--given IN | --by-pages] [--order OUT]] |
                      [--strict] [--all]] [--any-place] [--explain] [FILE]
 
@@ -267,6 +267,9 @@ Options:
   --all          goes on after a wrong reply, and writes each
   --overlapping  the text is a history: calls with the times of their begin and
                  end (invocation and response)
+  --kernel       by the rule that kernels keep: changes are whole, and accesses
+                 may use stale translations of the same frame
+  --moving       threads may move between cores
   --by-pages     calls on ranges may change their pages one after another
   --loose        accesses may also use stale translations
   --order OUT    writes the order that was found to the file OUT
@@ -355,6 +358,19 @@ An order is a text for audit: a line cC copy ADDR says that a store's page gets
 its copy there, before the store. What is found or given is checked, so legal
 rests on no search. If the order of --given isn't one, the verdict is
 undecided.
+
+--kernel. Each mmap, munmap and mprotect takes effect whole, at one moment: the
+list of mappings has a lock. Until a munmap or mprotect ends, or another call
+changes one of its pages, an access may still use the old translation. It is
+served by the old rights, on the old frame. After mprotect a store stays there;
+after munmap it is lost, but for a file's bytes. Refusals come from the list. A
+fetch may also be refused by an old translation, where the processor decides.
+mprotect may come to a page later than to others, until an access sees it new.
+A refused mprotect may have changed the pages before the first that it may not
+change; its error is that of some page. Once the list has refused a core such
+an access, later ones of that kind aren't late on that core. --moving permits
+them. legal is printed only if an order was found and checked, and else
+undecided: --kernel never says no order.
 
 --by-pages. A mmap, munmap or mprotect that was done is one call for each of
 its pages, all with its times, and each takes effect at a moment of its own. A
