@@ -463,7 +463,7 @@ found that has it. Then comes one of these:
 
 Outcomes with nomemory aren't listed either, and only runs count in which every
 call is answered. Then each clause is written again with : holds, : fails or
-: open. If noframe is left out, a clause that names noframe or nomemory is open.
+: open. If noframe is left out, a clause that names it or nomemory is open.
 For each clause there is also a line as herd7 prints it: Observation NAME, then
 Always, Sometimes or Never, then how many outcomes satisfy COND and how many
 don't.
