@@ -8,7 +8,7 @@ import sys
 CRATE = pathlib.Path(__file__).resolve().parent.parent / "crates/state_changes"
 TEMPLATE = CRATE / "src/template.rt"
 # Bytes of a line of the file at the most.
-MOST = 150
+MOST = 112
 
 
 def bare(text):
